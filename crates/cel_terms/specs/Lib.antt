@@ -1,0 +1,3 @@
+pub mod Predicate
+pub mod Meaning
+pub mod Answers

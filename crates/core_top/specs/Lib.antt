@@ -1,2 +1,6 @@
 pub mod FirstForm
 pub mod Plan
+pub mod Command
+pub mod Causes
+pub mod Output
+pub mod Notes

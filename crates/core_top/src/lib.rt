@@ -1,5 +1,10 @@
 //! The program, from the words of its command line to the bytes that it writes.
+//!
+//! Promised: with status 0 the output is exactly the answers of the query file over the event
+//! file, each once; any other status names its one cause.
 #![tactic(auto)]
+
+use cer_base::Place;
 
 mod first_form;
 
@@ -15,4 +20,44 @@ pub enum QueryFault {
 pub enum EventFault {
     /// The file is not of the one form that is read so far.
     NotYet,
+}
+
+/// One of the two files of a run.
+#[derive(Debug, Clone, Copy, PartialEq, Eq)]
+pub enum File {
+    Queries,
+    Events,
+}
+
+/// Why the program ended.
+#[derive(Debug, Clone, Copy, PartialEq, Eq)]
+pub enum Cause {
+    /// All was read and all answers were written: status 0.
+    Fine,
+    /// The words ask for nothing that the program does: status 2.
+    Usage,
+    /// The query text was refused, at this place: status 3.
+    Queries { fault: QueryFault, place: Place },
+    /// The event file was refused, at this line, from 1: status 4.
+    Event { line: u64, fault: EventFault },
+    /// The file could not be opened. The host's count of faults for its name rose in the call,
+    /// from `before` to `after`: status 5.
+    OpenFault { file: File, before: u64, after: u64 },
+    /// The file could not be read. The source's count of faults rose from 0 to `after`: status 5.
+    ReadFault { file: File, after: u64 },
+    /// The output could not be written. Its count of faults rose in the call, from `before` to
+    /// `after`: status 6.
+    WriteFault { before: u64, after: u64 },
+    /// Memory ran out: status 7.
+    Memory,
+}
+
+/// How a call of the program ended.
+#[derive(Drop, Debug)]
+pub struct Done<S> {
+    /// The exit status, from 0 to 7.
+    pub status: u8,
+    pub cause: Cause,
+    /// The source that failed, where the cause is a `ReadFault`.
+    pub failed: Option<S>,
 }

@@ -1,0 +1,96 @@
+-- How a call of the program ended, and when each answer may come.
+-- This project's profile.
+use Rattle.std.specs.Prelude.{◌≡◌, ℕ, ◌⊎◌, List, ◌++◌, Option, Some, None, IfSome}
+use Rattle.cer_base.specs.declared.Place.{Place}
+use Rattle.stream_schema.specs.declared.Event.{Event}
+use Rattle.cer_outside.specs.Causes.{Rose}
+use Rattle.core_top.specs.declared.QueryFault.{QueryFault}
+use Rattle.core_top.specs.declared.QueryFault.TheVariants as query_fault
+use Rattle.core_top.specs.declared.EventFault.{EventFault}
+use Rattle.core_top.specs.declared.EventFault.TheVariants as event_fault
+use Rattle.core_top.specs.declared.File.{File}
+use Rattle.core_top.specs.declared.File.TheVariants as file
+use Rattle.core_top.specs.declared.Cause.{Cause}
+use Rattle.core_top.specs.declared.Cause.TheVariants as cause
+use Rattle.core_top.specs.FirstForm.{Names, IsQueryFile, IsEventFile}
+use Rattle.core_top.specs.Command.{IsRun}
+
+-- the exit status of each cause
+abbrev pub status_of : Cause → ℕ
+status_of cause.Fine = 0
+status_of cause.Usage = 2
+status_of (cause.Queries fault place) = 3
+status_of (cause.Event line fault) = 4
+status_of (cause.OpenFault opened before after) = 5
+status_of (cause.ReadFault read after) = 5
+status_of (cause.WriteFault before after) = 6
+status_of cause.Memory = 7
+
+-- memory ran out, or the outside failed
+abbrev pub IsFromOutside : Cause → Type 0
+IsFromOutside cause.Memory = Unit {0}
+IsFromOutside (cause.OpenFault opened before after) = Unit {0}
+IsFromOutside (cause.ReadFault read after) = Unit {0}
+IsFromOutside (cause.WriteFault before after) = Unit {0}
+IsFromOutside cause.Fine = ⊥
+IsFromOutside cause.Usage = ⊥
+IsFromOutside (cause.Queries fault place) = ⊥
+IsFromOutside (cause.Event line fault) = ⊥
+
+-- The answer comes only where the fact holds; and where it holds, in each call that memory or the outside did not end.
+pub record Exactly (given answer : Cause) (fact : Type 0) : Type 0 where
+  pub only : given ≡ answer → fact
+  pub whenever : fact → (given ≡ answer) ⊎ IsFromOutside given
+
+-- the query text is of the form that is read
+abbrev pub IsAccepted : List ℕ → Type 0
+IsAccepted text = (names : Names) × IsQueryFile text names
+
+-- The query text is of another form.
+pub record IsRefused (text : List ℕ) (fault : QueryFault) (place : Place) : Type 0 where
+  pub not_yet : fault ≡ query_fault.NotYet
+  pub at_start : place ≡ record { line = 1; col = 1 }
+  pub other : (names : Names) → IsQueryFile text names → ⊥
+
+-- The query text is accepted, and the event file is of another form.
+pub record IsStopped (text lines : List ℕ) (line : ℕ) (fault : EventFault) : Type 0 where
+  pub not_yet : fault ≡ event_fault.NotYet
+  pub at_start : line ≡ 1
+  pub accepted : IsAccepted text
+  pub other : (names : Names) → IsQueryFile text names → (events : List Event) → IsEventFile names lines events → ⊥
+
+-- the name of the file on the command line
+abbrev pub name_of : File → List ℕ → List ℕ → List ℕ
+name_of file.Queries queries events = queries
+name_of file.Events queries events = events
+
+-- the event file is opened only where the query text, where it is told, is accepted
+abbrev pub ComesInTurn : File → Option (List ℕ) → Type 0
+ComesInTurn file.Queries text = Unit {0}
+ComesInTurn file.Events text = IfSome text IsAccepted
+
+-- The host's count for the file's name rose in the call, from before to after.
+pub record HasOpenFault (words : List (List ℕ)) (content : List ℕ → Option (List ℕ)) (old new : List ℕ → ℕ) (opened : File) (before after : ℕ) : Type 0 where
+  pub queries : List ℕ
+  pub events : List ℕ
+  pub asked : IsRun words queries events
+  pub turn : ComesInTurn opened (content queries)
+  pub from : before ≡ old (name_of opened queries events)
+  pub to : after ≡ new (name_of opened queries events)
+  pub rose : Rose before after
+
+-- what is left is the last part of what there was, where both are told
+abbrev pub IsRest : Option (List ℕ) → Option (List ℕ) → Type 0
+IsRest None left = Unit {0}
+IsRest (Some whole) None = ⊥
+IsRest (Some whole) (Some left) = (front : List ℕ) × (whole ≡ front ++ left)
+
+-- The count of the source that failed rose from 0 to after, and it has left the last part of the host's bytes under the file's name.
+pub record HasReadFault (words : List (List ℕ)) (content : List ℕ → Option (List ℕ)) (read : File) (after : ℕ) (faults : ℕ) (left : Option (List ℕ)) : Type 0 where
+  pub queries : List ℕ
+  pub events : List ℕ
+  pub asked : IsRun words queries events
+  pub turn : ComesInTurn read (content queries)
+  pub told : faults ≡ after
+  pub rose : Rose 0 after
+  pub rest : IsRest (content (name_of read queries events)) left

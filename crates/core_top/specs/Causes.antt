@@ -14,6 +14,7 @@ use Rattle.core_top.specs.declared.Cause.{Cause}
 use Rattle.core_top.specs.declared.Cause.TheVariants as cause
 use Rattle.core_top.specs.FirstForm.{Names, IsQueryFile, IsEventFile}
 use Rattle.core_top.specs.Command.{IsRun}
+use Rattle.core_top.specs.Reading.{IsRest}
 
 -- the exit status of each cause
 abbrev pub status_of : Cause → ℕ
@@ -78,12 +79,6 @@ pub record HasOpenFault (words : List (List ℕ)) (content : List ℕ → Option
   pub from : before ≡ old (name_of opened queries events)
   pub to : after ≡ new (name_of opened queries events)
   pub rose : Rose before after
-
--- what is left is the last part of what there was, where both are told
-abbrev pub IsRest : Option (List ℕ) → Option (List ℕ) → Type 0
-IsRest None left = Unit {0}
-IsRest (Some whole) None = ⊥
-IsRest (Some whole) (Some left) = (front : List ℕ) × (whole ≡ front ++ left)
 
 -- The count of the source that failed rose from 0 to after, and it has left the last part of the host's bytes under the file's name.
 pub record HasReadFault (words : List (List ℕ)) (content : List ℕ → Option (List ℕ)) (read : File) (after : ℕ) (faults : ℕ) (left : Option (List ℕ)) : Type 0 where

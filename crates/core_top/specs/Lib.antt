@@ -1,6 +1,7 @@
 pub mod FirstForm
 pub mod Plan
 pub mod Command
+pub mod Reading
 pub mod Causes
 pub mod Output
 pub mod Notes

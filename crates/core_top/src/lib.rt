@@ -6,7 +6,10 @@
 
 use cer_base::Place;
 
+mod command;
 mod first_form;
+mod notes;
+mod reading;
 
 /// Why a query text was refused.
 #[derive(Debug, Clone, Copy, PartialEq, Eq)]

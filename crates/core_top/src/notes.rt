@@ -1,0 +1,38 @@
+//! The notes on standard error.
+
+ghost use Rattle.std.specs.Prelude.{◌≡◌};
+ghost use Rattle.core_top.specs.Notes.{note_of};
+
+use super::{Cause, File};
+
+/// The note of the cause, a line or nothing.
+fn note(cause: &Cause) -> &'static [u8]
+    ensures { result.now ≡ note_of cause.now }
+{
+    match cause {
+        Cause::Fine => b"",
+        Cause::Usage => {
+            b"core: usage: core_cli run QUERIES EVENTS [--order walk|sorted] [--compact-every N] [--max-bytes N], core_cli sample SEED COUNT\n"
+        }
+        Cause::Queries { .. } => b"core: queries 1:1: not yet\n",
+        Cause::Event { .. } => b"core: events line 1: not yet\n",
+        Cause::OpenFault {
+            file: File::Queries,
+            ..
+        } => b"core: cannot open queries\n",
+        Cause::OpenFault {
+            file: File::Events,
+            ..
+        } => b"core: cannot open events\n",
+        Cause::ReadFault {
+            file: File::Queries,
+            ..
+        } => b"core: cannot read queries\n",
+        Cause::ReadFault {
+            file: File::Events,
+            ..
+        } => b"core: cannot read events\n",
+        Cause::WriteFault { .. } => b"core: cannot write\n",
+        Cause::Memory => b"core: out of memory\n",
+    }
+}

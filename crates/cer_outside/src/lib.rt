@@ -12,6 +12,8 @@ ghost use Rattle.cer_outside.specs.Bytes.{Reads, Takes};
 
 use std::alloc::Global;
 
+pub mod writing;
+
 /// The call failed, and the object's count of faults has risen.
 #[derive(Clone, Copy, Debug, PartialEq, Eq)]
 pub struct Failed;

@@ -1,8 +1,8 @@
 -- A part taken after a part is a longer part.
 use Rattle.std.proofs.Common.{◌≡◌, ℕ, ◌+◌, ◌-◌, ◌<◌, ◌≤◌, List, [], ◌++◌, length, take, drop, Option, Some, None, Ok, Err, refl, sym, ◌∙◌, ap, append_assoc, arith, append-nil}
-use Rattle.std.proofs.Math.Seq.{take-add}
-use Rattle.std.proofs.lemmas.List.{take_all, length-drop}
-use Rattle.cer_outside.specs.Bytes.{Takes, TookAll, TookPart}
+use Rattle.std.proofs.Math.Seq.{take-add, take-append_seam}
+use Rattle.std.proofs.lemmas.List.{take_all, length-drop, length-take, length-append, take-append-drop, drop-drop}
+use Rattle.cer_outside.specs.Bytes.{Moves, Takes, TookAll, TookPart}
 
 pub took_nothing : (now : Option (List ℕ)) → TookAll now now []
 took_nothing None = refl
@@ -59,3 +59,20 @@ took_all (Some first) last bytes done beyond before =
     let whole = take_all done bytes beyond in
     let had : last ≡ Some (first ++ take done bytes) = before in
     cc
+
+-- What is copied from the front of what is left, and what is left after it, are what was left.
+pub moved_front : (bytes before into copied : List ℕ) (given count : ℕ) →
+    before ≡ drop given bytes →
+    given ≤ length bytes →
+    count ≤ length bytes - given →
+    count ≤ length into →
+    copied ≡ take count (take (length bytes - given) (drop given bytes)) →
+    Moves before (drop (given + count) bytes) (copied ++ drop count into) count
+moved_front bytes before into copied given count was within left fits same =
+    let rest : take (length bytes - given) (drop given bytes) ≡ drop given bytes = take_all _ _ (omega (arith, length-drop given bytes)) in
+    let front : copied ≡ take count (drop given bytes) = cc in
+    let long : length copied ≡ count = omega (arith, ap length front, length-take count (drop given bytes), length-drop given bytes) in
+    let first : take count (copied ++ drop count into) ≡ copied = rw (← long, take-append_seam) refl in
+    let later : drop (given + count) bytes ≡ drop count (drop given bytes) = sym (drop-drop count given bytes) in
+    let whole = take-append-drop count (drop given bytes) in
+    (omega (arith, length-append copied (drop count into)), cc)

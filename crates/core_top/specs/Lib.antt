@@ -5,3 +5,4 @@ pub mod Reading
 pub mod Causes
 pub mod Output
 pub mod Notes
+pub mod Run

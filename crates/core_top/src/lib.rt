@@ -9,6 +9,7 @@ use cer_base::Place;
 mod command;
 mod first_form;
 mod notes;
+mod opening;
 mod reading;
 
 /// Why a query text was refused.

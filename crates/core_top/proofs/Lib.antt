@@ -1,2 +1,5 @@
 mod Words
 mod WholeFiles
+mod Ends
+mod Clauses
+mod TopClauses

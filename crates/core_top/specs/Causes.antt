@@ -89,3 +89,31 @@ pub record HasReadFault (words : List (List ℕ)) (content : List ℕ → Option
   pub told : faults ≡ after
   pub rose : Rose 0 after
   pub rest : IsRest (content (name_of read queries events)) left
+
+-- all was well, or memory or the outside ended the call
+abbrev pub IsFineOrOutside : Cause → Type 0
+IsFineOrOutside cause.Fine = Unit {0}
+IsFineOrOutside cause.Memory = Unit {0}
+IsFineOrOutside (cause.OpenFault opened before after) = Unit {0}
+IsFineOrOutside (cause.ReadFault read after) = Unit {0}
+IsFineOrOutside (cause.WriteFault before after) = Unit {0}
+IsFineOrOutside cause.Usage = ⊥
+IsFineOrOutside (cause.Queries fault place) = ⊥
+IsFineOrOutside (cause.Event line fault) = ⊥
+
+-- a file could not be read
+abbrev pub IsReading : Cause → Type 0
+IsReading cause.Fine = ⊥
+IsReading cause.Usage = ⊥
+IsReading (cause.Queries fault place) = ⊥
+IsReading (cause.Event line fault) = ⊥
+IsReading (cause.OpenFault opened before after) = ⊥
+IsReading (cause.ReadFault read after) = Unit {0}
+IsReading (cause.WriteFault before after) = ⊥
+IsReading cause.Memory = ⊥
+
+-- The output's count of faults rose in the call, from before to after.
+pub record HasWriteFault (old new before after : ℕ) : Type 0 where
+  pub from : before ≡ old
+  pub to : after ≡ new
+  pub rose : Rose before after

@@ -5,4 +5,5 @@ pub mod Reading
 pub mod Causes
 pub mod Output
 pub mod Notes
+pub mod Pairs
 pub mod Run

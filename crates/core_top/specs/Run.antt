@@ -8,6 +8,7 @@ use Rattle.core_top.specs.declared.Cause.TheVariants as cause
 use Rattle.core_top.specs.Causes.{IsAccepted, IsRefused, IsStopped, ComesInTurn, name_of}
 use Rattle.core_top.specs.Output.{AreAnswers, TookPrefix}
 use Rattle.core_top.specs.Reading.{IsRest}
+use Rattle.core_top.specs.Command.{IsRun, AskNothing}
 
 -- what the outside says of a source that failed: its count of faults, and what it has left
 pub record Sources (S : Type 0) : Type 0 where
@@ -51,7 +52,7 @@ HasAnswers o bytes = (text lines : List ℕ) → o.content o.queries ≡ Some te
 abbrev pub WroteNothing : Outside → Type 0
 WroteNothing o = o.after ≡ o.before
 
--- how the run ends, by its cause
+-- what holds at the end of a run, by its cause
 abbrev pub RunEnds : {S : Type 0} → Sources S → Outside → Cause → Option S → Type 0
 RunEnds sources o cause.Fine failed = (failed ≡ None) × HasAccepted o × ((bytes : List ℕ) × HasAnswers o bytes × TookAll o.before o.after bytes)
 RunEnds sources o cause.Usage failed = ⊥
@@ -61,3 +62,12 @@ RunEnds sources o (cause.OpenFault opened from to) failed = (failed ≡ None) ×
 RunEnds sources o (cause.ReadFault read to) failed = WroteNothing o × ComesInTurn read (o.content o.queries) × IsSomeAnd failed (FailedWith sources (o.content (name_of read o.queries o.events)) to)
 RunEnds sources o (cause.WriteFault from to) failed = (failed ≡ None) × HasAccepted o × (from ≡ o.out_old) × (to ≡ o.out_new) × Rose from to × ((bytes : List ℕ) × HasAnswers o bytes × TookPart o.before o.after bytes)
 RunEnds sources o cause.Memory failed = (failed ≡ None) × (WroteNothing o ⊎ ((bytes : List ℕ) × HasAnswers o bytes × TookPrefix o.before o.after bytes))
+
+-- The run ended by this cause, with this source that failed.
+pub record Ended {S : Type 0} (sources : Sources S) (o : Outside) (given : Cause) (failed : Option S) : Type 0 where
+  pub holds : RunEnds sources o given failed
+
+-- The call ended: after a run that the words ask for, or because they ask for nothing. The names in o are those of the run.
+pub record Finished {S : Type 0} (sources : Sources S) (words : List (List ℕ)) (o : Outside) (given : Cause) (failed : Option S) : Type 0 where
+  pub way : ((queries : List ℕ) × (events : List ℕ) × IsRun words queries events × Ended sources (record o { queries = queries; events = events }) given failed)
+    ⊎ (AskNothing words × (given ≡ cause.Usage) × (failed ≡ None) × WroteNothing o)

@@ -6,11 +6,16 @@
 
 use cer_base::Place;
 
+pub use top::core_main;
+
 mod command;
+mod engine;
 mod first_form;
 mod notes;
 mod opening;
 mod reading;
+mod run;
+mod top;
 
 /// Why a query text was refused.
 #[derive(Debug, Clone, Copy, PartialEq, Eq)]

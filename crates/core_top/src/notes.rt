@@ -1,9 +1,11 @@
 //! The notes on standard error.
 
 ghost use Rattle.std.specs.Prelude.{◌≡◌};
-ghost use Rattle.core_top.specs.Notes.{note_of};
+ghost use Rattle.core_top.specs.Notes.{note_of, TookNote};
 
 use super::{Cause, File};
+use cer_outside::Sink;
+use cer_outside::writing::put_all;
 
 /// The note of the cause, a line or nothing.
 fn note(cause: &Cause) -> &'static [u8]
@@ -35,4 +37,11 @@ fn note(cause: &Cause) -> &'static [u8]
         Cause::WriteFault { .. } => b"core: cannot write\n",
         Cause::Memory => b"core: out of memory\n",
     }
+}
+
+/// Writes the note of the cause. A fault of the notes is told by their count alone.
+pub fn write_note<N: Sink>(notes: &mut N, cause: &Cause)
+    ensures { TookNote (N.taken notes.old) (N.taken notes.new) (N.faults notes.old) (N.faults notes.new) (note_of cause.now) }
+{
+    let _ = put_all(notes, note(cause));
 }

@@ -2,6 +2,7 @@
 #![tactic(auto)]
 
 mod first_form;
+mod spelled;
 
 /// Why a query text was refused.
 #[derive(Debug, Clone, Copy, PartialEq, Eq)]

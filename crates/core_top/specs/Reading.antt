@@ -1,9 +1,10 @@
 -- How the first form is read from the left: each function gives what it read and the bytes after it, or nothing.
 -- This project's profile.
-use Rattle.std.specs.Prelude.{◌≡◌, ℕ, ◌<◌, ◌≤◌, Bool, true, false, ◌&&◌, ◌||◌, if◌then◌else◌, List, [], ◌∷◌, ◌++◌, length, take, drop, nat_lt, nat_le, Option, Some, None, option_and_then, bytes_eq, codes}
+use Rattle.std.specs.Prelude.{◌≡◌, ℕ, ◌<◌, ◌≤◌, Bool, true, false, ◌&&◌, ◌||◌, ◌==◌, if◌then◌else◌, not, List, [], ◌∷◌, ◌++◌, length, take, drop, nat_lt, nat_le, Option, Some, None, option_and_then, bytes_eq, codes}
 use Rattle.std.specs.Char.{is_ascii_digit}
 use Rattle.std.specs.Str.Parse.{digits_value}
 use Rattle.std.specs.List.{prefix_len}
+use Rattle.core_top.specs.declared.query_lines.NamesOfQuery.{NamesOfQuery}
 use Rattle.core_top.specs.FirstForm.{Names, continues_name, is_name, most_bytes}
 
 -- What a call returned, seen by view, is what reading gives.
@@ -25,3 +26,74 @@ unfoldable pub run_then : (ℕ → Bool) → List ℕ → List ℕ → Option (L
 run_then test literal text = do
   rest ← after literal (drop (prefix_len test text) text)
   Some (take (prefix_len test text) text, rest)
+
+-- the type, the attribute and what stands behind the declaration
+unfoldable pub event_declaration_at : List ℕ → Option (List ℕ × List ℕ × List ℕ)
+event_declaration_at text = do
+  rest ← after (codes "DECLARE EVENT ") text
+  type ← run_then continues_name (codes "(") rest
+  attribute ← run_then continues_name (codes " INT)" ++ 10 ∷ []) type.1
+  Some (type.0, attribute.0, attribute.1)
+
+-- the stream of these two types and what stands behind the declaration
+unfoldable pub stream_declaration_at : List ℕ → List ℕ → List ℕ → Option (List ℕ × List ℕ)
+stream_declaration_at first second text = do
+  front ← after (codes "DECLARE STREAM ") text
+  stream ← run_then continues_name (codes "(") front
+  behind_first ← after first stream.1
+  behind_comma ← after (codes ", ") behind_first
+  behind_second ← after second behind_comma
+  rest ← after (codes ")" ++ 10 ∷ []) behind_second
+  Some (stream.0, rest)
+
+-- the two types of the sequence and what stands behind their line
+unfoldable pub sequence_at : List ℕ → Option (List ℕ × List ℕ × List ℕ)
+sequence_at text = do
+  before ← run_then continues_name (codes " ; ") text
+  later ← run_then continues_name (10 ∷ []) before.1
+  Some (before.0, later.0, later.1)
+
+-- the two types of the sequence over this stream and what stands behind the selection
+unfoldable pub selection_at : List ℕ → List ℕ → Option (List ℕ × List ℕ × List ℕ)
+selection_at stream text = do
+  front ← after (codes "SELECT * FROM ") text
+  behind_stream ← after stream front
+  behind_where ← after (codes " WHERE ") behind_stream
+  sequence_at behind_where
+
+-- the names of the four lines, where nothing stands behind them
+unfoldable pub names_at : List ℕ → Option Names
+names_at text = do
+  first ← event_declaration_at text
+  second ← event_declaration_at first.2
+  stream ← stream_declaration_at first.0 second.0 second.2
+  chosen ← selection_at stream.0 stream.1
+  if length chosen.2 == 0 then Some (record { first_type = first.0; first_attribute = first.1; second_type = second.0; second_attribute = second.1; stream = stream.0; before = chosen.0; after = chosen.1 }) else None
+
+-- each of the five that are declared is a name
+abbrev pub are_named : Names → Bool
+are_named n =
+    is_name n.first_type && is_name n.first_attribute && is_name n.second_type && is_name n.second_attribute && is_name n.stream
+
+-- types and stream have different names
+abbrev pub are_apart : Names → Bool
+are_apart n =
+    not (bytes_eq n.first_type n.second_type) && not (bytes_eq n.first_type n.stream) && not (bytes_eq n.second_type n.stream)
+
+-- which of the two types has the name
+abbrev pub type_number : List ℕ → List ℕ → List ℕ → Option ℕ
+type_number first second name =
+    if bytes_eq first name then Some 0 else if bytes_eq second name then Some 1 else None
+
+-- the names and the numbers of the two types of the sequence
+unfoldable pub query_at : List ℕ → Option (Names × ℕ × ℕ)
+query_at text = do
+  n ← names_at text
+  before ← type_number n.first_type n.second_type n.before
+  later ← type_number n.first_type n.second_type n.after
+  if are_named n && are_apart n then Some (n, before, later) else None
+
+-- the names of a query file, seen as bytes
+abbrev pub names_of : NamesOfQuery → Names
+names_of n =
+    record { first_type = n.first_type.now; first_attribute = n.first_attribute.now; second_type = n.second_type.now; second_attribute = n.second_attribute.now; stream = n.stream.now; before = n.before.now; after = n.after.now }

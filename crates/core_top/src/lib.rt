@@ -2,6 +2,7 @@
 #![tactic(auto)]
 
 mod first_form;
+mod query_lines;
 mod spelled;
 
 /// Why a query text was refused.

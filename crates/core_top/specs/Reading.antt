@@ -97,3 +97,9 @@ query_at text = do
 abbrev pub names_of : NamesOfQuery → Names
 names_of n =
     record { first_type = n.first_type.now; first_attribute = n.first_attribute.now; second_type = n.second_type.now; second_attribute = n.second_attribute.now; stream = n.stream.now; before = n.before.now; after = n.after.now }
+
+-- The texts are those of the stream and of the two types of the sequence.
+pub record AreParts (n : Names) (stream_text before_text after_text : List ℕ) : Type 0 where
+  pub stream_is : stream_text ≡ n.stream
+  pub before_is : before_text ≡ n.before
+  pub after_is : after_text ≡ n.after

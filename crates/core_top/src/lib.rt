@@ -3,6 +3,7 @@
 
 mod first_form;
 mod query_lines;
+mod query_plan;
 mod spelled;
 
 /// Why a query text was refused.

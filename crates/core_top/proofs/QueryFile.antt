@@ -1,6 +1,6 @@
 -- What is read as a query file of the first form is one, and each such file is read.
 use Rattle.std.proofs.Common.{◌≡◌, ℕ, ◌+◌, ◌<◌, ◌≤◌, ◌⊎◌, Bool, true, false, ◌&&◌, ◌||◌, not, cond, eqb, List, [], ◌∷◌, ◌++◌, length, get_or, Option, Some, None, sym, refl, ap, ◌∙◌, subst, inl, inr, append_assoc, arith, rules, Contains, ⊎_elim, zero, suc}
-use Rattle.std.specs.Prelude.{codes, bytes_eq, slice_get}
+use Rattle.std.specs.Prelude.{codes, bytes_eq, slice_get, IfSome}
 use Rattle.std.specs.List.{list_all}
 use Rattle.std.proofs.lemmas.Grind.{common_steps}
 use Rattle.std.proofs.lemmas.Bool.{false≢true, and_parts}
@@ -10,7 +10,7 @@ use Rattle.std.proofs.lemmas.Bool.Decides.{nat_tests}
 use Rattle.std.specs.Str.{IsAscii}
 use Rattle.std.proofs.lemmas.Str.Ascii.{IsAscii-nil, IsAscii-cons}
 use Rattle.core_top.specs.FirstForm.{Names, AreNames, begins_name, continues_name, is_word, is_keyword, is_name, event_declaration, stream_declaration, selection, query_text, type_names}
-use Rattle.core_top.specs.Reading.{◌>>=◌, event_declaration_at, stream_declaration_at, selection_at, names_at, are_named, are_apart, type_number, query_at}
+use Rattle.core_top.specs.Reading.{◌>>=◌, event_declaration_at, stream_declaration_at, selection_at, names_at, are_named, are_apart, type_number, query_at, IsQueryText, Gives}
 use Rattle.core_top.proofs.Reading.{bind_some, event_takes, event_again, stream_takes, stream_again, selection_takes, selection_again}
 
 empty_from_length : (xs : List ℕ) → eqb (length xs) 0 ≡ true → xs ≡ []
@@ -149,17 +149,6 @@ tests_pass : (n : Names) → AreNames n → (are_named n && are_apart n) ≡ tru
 tests_pass n h =
     rw (h.first_type, h.first_attribute, h.second_type, h.second_attribute, h.stream, h.types_differ, h.first_differs, h.second_differs) refl
 
--- The numbers are those of the two types of the sequence.
-pub record AreNumbers (n : Names) (before later : ℕ) : Type 0 where
-  pub before_is : slice_get (type_names n) before ≡ Some n.before
-  pub after_is : slice_get (type_names n) later ≡ Some n.after
-
--- What is read has the names and the numbers.
-pub record IsQueryText (text : List ℕ) (n : Names) (before later : ℕ) : Type 0 where
-  pub spelled : text ≡ query_text n
-  pub named : AreNames n
-  pub numbered : AreNumbers n before later
-
 pub query_takes : (text : List ℕ) (x : Names × ℕ × ℕ) → query_at text ≡ Some x → IsQueryText text x.0 x.1 x.2
 unfolding query_at
 query_takes text x e =
@@ -175,7 +164,7 @@ query_takes text x e =
     let b = number_takes n.first_type n.second_type n.before before is2 in
     let a = number_takes n.first_type n.second_type n.after later is3 in
     subst (λ (y : Names × ℕ × ℕ). IsQueryText text y.0 y.1 y.2) h.1
-        (record { spelled = names_takes text n is1; named = are_names n both.0 both.1 (contains_from_slice_get _ _ _ before b) (contains_from_slice_get _ _ _ later a); numbered = record { before_is = b; after_is = a } }))))
+        (record { spelled = names_takes text n is1; named = are_names n both.0 both.1 (contains_from_slice_get _ _ _ before b) (contains_from_slice_get _ _ _ later a); before_is = b; after_is = a }))))
 
 pub query_again : (n : Names) → AreNames n → (before : ℕ) × (later : ℕ) × (query_at (query_text n) ≡ Some (n, before, later))
 unfolding query_at
@@ -187,3 +176,16 @@ query_again n h =
         (bind_some _ _ _ b.1
         (bind_some _ _ _ a.1
         (ap (λ t. cond t (Some (n, b.0, a.0)) None) (tests_pass n h)))))
+
+pub query_none : (text : List ℕ) → query_at text ≡ None → (n : Names) → AreNames n → text ≡ query_text n → ⊥
+query_none text e n h spelled =
+    let again = query_again n h in
+    none-some (n, again.0, again.1) (sym e ∙ ap query_at spelled ∙ again.2)
+
+pub query_found : {X : Type 0} (view : X → Names × ℕ × ℕ) (r : Option X) (text : List ℕ) → Gives view r (query_at text) → IfSome r (λ x. IsQueryText text (view x).0 (view x).1 (view x).2)
+query_found view None text h = tt
+query_found view (Some x) text h = query_takes text (view x) h
+
+pub query_only : {X : Type 0} (view : X → Names × ℕ × ℕ) (r : Option X) (text : List ℕ) → Gives view r (query_at text) → r ≡ None → (n : Names) → AreNames n → text ≡ query_text n → ⊥
+query_only view None text h e = query_none text h
+query_only view (Some x) text h e = absurd (none-some x (sym e))

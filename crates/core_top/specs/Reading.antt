@@ -1,11 +1,11 @@
 -- How the first form is read from the left: each function gives what it read and the bytes after it, or nothing.
 -- This project's profile.
-use Rattle.std.specs.Prelude.{◌≡◌, ℕ, ◌<◌, ◌≤◌, Bool, true, false, ◌&&◌, ◌||◌, ◌==◌, if◌then◌else◌, not, List, [], ◌∷◌, ◌++◌, length, take, drop, nat_lt, nat_le, Option, Some, None, option_and_then, bytes_eq, codes}
+use Rattle.std.specs.Prelude.{◌≡◌, ℕ, ◌<◌, ◌≤◌, Bool, true, false, ◌&&◌, ◌||◌, ◌==◌, if◌then◌else◌, not, List, [], ◌∷◌, ◌++◌, length, take, drop, nat_lt, nat_le, Option, Some, None, option_and_then, bytes_eq, slice_get, codes}
 use Rattle.std.specs.Char.{is_ascii_digit}
 use Rattle.std.specs.Str.Parse.{digits_value}
 use Rattle.std.specs.List.{prefix_len}
 use Rattle.core_top.specs.declared.query_lines.NamesOfQuery.{NamesOfQuery}
-use Rattle.core_top.specs.FirstForm.{Names, continues_name, is_name, most_bytes}
+use Rattle.core_top.specs.FirstForm.{Names, AreNames, continues_name, is_name, query_text, type_names}
 
 -- What a call returned, seen by view, is what reading gives.
 abbrev pub Gives : {X Y : Type 0} → (X → Y) → Option X → Option Y → Type 0
@@ -103,3 +103,10 @@ pub record AreParts (n : Names) (stream_text before_text after_text : List ℕ) 
   pub stream_is : stream_text ≡ n.stream
   pub before_is : before_text ≡ n.before
   pub after_is : after_text ≡ n.after
+
+-- The text is that of a query file with these names, and the numbers are those of the two types of its sequence.
+pub record IsQueryText (text : List ℕ) (n : Names) (before later : ℕ) : Type 0 where
+  pub spelled : text ≡ query_text n
+  pub named : AreNames n
+  pub before_is : slice_get (type_names n) before ≡ Some n.before
+  pub after_is : slice_get (type_names n) later ≡ Some n.after

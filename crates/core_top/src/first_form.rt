@@ -1,8 +1,19 @@
 //! The readers of the one form of query file and event file that is read so far.
 
+use crate::QueryFault;
+use crate::query_lines::query_lines;
+use crate::query_plan::plan_of;
 use cel_terms::Query;
-use cer_base::Text;
+use cer_base::{OrMemory, Text};
+use std::alloc::Global;
 use stream_schema::TypeId;
+
+ghost use Rattle.core_top.specs.FirstForm.{IsQueryFile, Names};
+ghost use Rattle.core_top.specs.Plan.{IsPlanOf};
+ghost use Rattle.std.specs.Prelude.{◌≡◌, IfOk};
+
+/// The most bytes that a query file or an event file may have.
+const MOST_BYTES: usize = 1_048_576;
 
 /// What is kept of a query file: the names of the types 0 and 1, the numbers of the two types of
 /// the sequence, and the query's term.
@@ -13,4 +24,18 @@ pub struct Plan {
     pub before: TypeId,
     pub after: TypeId,
     pub query: Query,
+}
+
+/// The plan of a query file of the first form, or `NotYet` exactly where it is of another form.
+pub fn read_query(alloc: Global, text: &[u8]) -> Result<Plan, OrMemory<QueryFault>>
+    ensures ok { IfOk result (λ plan. (n : Names) × IsQueryFile text.now n × IsPlanOf n plan) }
+    ensures refused { result ≡ Err (OrMemory.Fault QueryFault.NotYet) → (n : Names) → IsQueryFile text.now n → ⊥ }
+{
+    if text.len() > MOST_BYTES {
+        return Err(OrMemory::Fault(QueryFault::NotYet));
+    }
+    match query_lines(text) {
+        None => Err(OrMemory::Fault(QueryFault::NotYet)),
+        Some((n, before, after)) => Ok(plan_of(alloc, &n, before, after)?),
+    }
 }

@@ -3,8 +3,9 @@
 use crate::spelled::{after_literal, may_be_name, word_then};
 use stream_schema::TypeId;
 
-ghost use Rattle.core_top.specs.Reading.{Gives, are_apart, are_named, event_declaration_at, names_at, names_of, query_at, selection_at, sequence_at, stream_declaration_at, type_number};
-ghost use Rattle.std.specs.Prelude.{◌≡◌};
+ghost use Rattle.core_top.specs.FirstForm.{AreNames, Names, query_text};
+ghost use Rattle.core_top.specs.Reading.{Gives, IsQueryText, are_apart, are_named, event_declaration_at, names_at, names_of, query_at, selection_at, sequence_at, stream_declaration_at, type_number};
+ghost use Rattle.std.specs.Prelude.{◌≡◌, IfSome};
 
 /// The names that a query file gives, as they stand in its text.
 #[derive(Debug, Clone, Copy)]
@@ -110,9 +111,9 @@ pub fn number_of_type(first: &[u8], second: &[u8], name: &[u8]) -> Option<TypeId
     }
 }
 
-/// The names of a query file of the first form, and the numbers of the two types of its sequence.
+/// The names of the four lines, and the numbers of the two types of the sequence.
 #[tactic(auto, unfolding(crate::specs::Reading::query_at))]
-pub fn query_lines(text: &[u8]) -> Option<(NamesOfQuery<'_>, TypeId, TypeId)>
+fn numbered(text: &[u8]) -> Option<(NamesOfQuery<'_>, TypeId, TypeId)>
     ensures { Gives (λ x. (names_of x.0, x.1, x.2)) result (query_at text.now) }
 {
     let n = names(text)?;
@@ -123,4 +124,13 @@ pub fn query_lines(text: &[u8]) -> Option<(NamesOfQuery<'_>, TypeId, TypeId)>
     } else {
         None
     }
+}
+
+/// The names of a query file of the first form of any length, and the numbers of the two types
+/// of its sequence.
+pub fn query_lines(text: &[u8]) -> Option<(NamesOfQuery<'_>, TypeId, TypeId)>
+    ensures found { IfSome result (λ x. IsQueryText text.now (names_of x.0) x.1 x.2) }
+    ensures only { result ≡ None → (n : Names) → AreNames n → text.now ≡ query_text n → ⊥ }
+{
+    numbered(text)
 }

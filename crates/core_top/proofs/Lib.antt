@@ -1,3 +1,5 @@
 pub mod Reading
 pub mod QueryFile
 pub mod Sequence
+pub mod EventFile
+pub mod Numeral

@@ -1,9 +1,12 @@
 -- How the first form is read from the left: each function gives what it read and the bytes after it, or nothing.
 -- This project's profile.
-use Rattle.std.specs.Prelude.{◌≡◌, ℕ, ◌<◌, ◌≤◌, Bool, true, false, ◌&&◌, ◌||◌, ◌==◌, if◌then◌else◌, not, List, [], ◌∷◌, ◌++◌, length, take, drop, nat_lt, nat_le, Option, Some, None, option_and_then, bytes_eq, slice_get, codes}
-use Rattle.std.specs.Char.{is_ascii_digit}
+use Rattle.std.specs.Prelude.{◌≡◌, ℕ, ◌<◌, ◌≤◌, Bool, true, false, ◌&&◌, ◌||◌, ◌==◌, if◌then◌else◌, not, List, [], ◌∷◌, ◌++◌, length, take, drop, nat_lt, nat_le, Option, Some, None, option_and_then, bytes_eq, slice_get, codes, All, pos}
+use Rattle.std.specs.Char.{is_ascii_digit, IsAsciiDigit}
 use Rattle.std.specs.Str.Parse.{digits_value}
 use Rattle.std.specs.List.{prefix_len}
+use Rattle.stream_schema.specs.declared.Event.{Event}
+use Rattle.stream_schema.specs.declared.Value.{Value}
+use Rattle.stream_schema.specs.declared.Value.TheVariants as value
 use Rattle.core_top.specs.declared.query_lines.NamesOfQuery.{NamesOfQuery}
 use Rattle.core_top.specs.FirstForm.{Names, AreNames, continues_name, is_name, query_text, type_names}
 
@@ -110,3 +113,27 @@ pub record IsQueryText (text : List ℕ) (n : Names) (before later : ℕ) : Type
   pub named : AreNames n
   pub before_is : slice_get (type_names n) before ≡ Some n.before
   pub after_is : slice_get (type_names n) later ≡ Some n.after
+
+-- the type's number, the digits and what stands behind the line of an event
+unfoldable pub event_at : List ℕ → List ℕ → List ℕ → Option (ℕ × List ℕ × List ℕ)
+event_at first second text = do
+  type ← run_then continues_name (44 ∷ []) text
+  digits ← run_then is_ascii_digit (10 ∷ []) type.1
+  number ← type_number first second type.0
+  if nat_lt 0 (length digits.0) && nat_le (length digits.0) 18 then Some (number, digits.0, digits.1) else None
+
+-- From 1 to 18 digits.
+pub record IsNumeral (digits : List ℕ) : Type 0 where
+  pub some : 0 < length digits
+  pub few : length digits ≤ 18
+  pub numeral : All IsAsciiDigit digits
+
+-- the value that the digits write
+abbrev pub written : List ℕ → List Value
+written digits = value.Int (pos (digits_value 10 digits)) ∷ []
+
+-- The event is what stands at the front of the text, before the rest.
+pub record IsNextEvent (first second text : List ℕ) (event : Event) (rest : List ℕ) : Type 0 where
+  pub digits : List ℕ
+  pub read : event_at first second text ≡ Some (event.ty, digits, rest)
+  pub valued : event.values ≡ written digits

@@ -1,6 +1,7 @@
 //! The program, from the words of its command line to the bytes that it writes.
 #![tactic(auto)]
 
+mod event_lines;
 mod first_form;
 mod query_lines;
 mod query_plan;

@@ -1,19 +1,18 @@
 -- What is read as an event file of the first form is one, and each such file is read.
-use Rattle.std.proofs.Common.{◌≡◌, ℕ, ◌+◌, ◌<◌, ◌≤◌, ◌⊎◌, Bool, true, false, ◌&&◌, eqb, cond, List, [], ◌∷◌, ◌++◌, length, take, drop, get_or, Option, Some, None, Result, Err, sym, refl, ap, ◌∙◌, subst, inl, inr, append_assoc, append-nil, length-append, arith, rules, All, Contains}
+use Rattle.std.proofs.Common.{◌≡◌, ℕ, ◌<◌, ◌≤◌, true, false, ◌&&◌, eqb, cond, List, [], ◌∷◌, ◌++◌, length, take, get_or, Option, Some, None, Result, Err, sym, refl, ap, ◌∙◌, subst, append_assoc, append-nil, length-append, arith, All, Contains}
 use Rattle.std.specs.Prelude.{slice_get, nat_lt, nat_le}
 use Rattle.std.specs.List.{prefix_len, list_all}
 use Rattle.std.specs.Char.{is_ascii_digit, IsAsciiDigit}
-use Rattle.std.proofs.lemmas.Grind.{common_steps}
-use Rattle.std.proofs.lemmas.Bool.{false≢true, and_parts}
+use Rattle.std.proofs.lemmas.Bool.{false≢true}
 use Rattle.std.proofs.lemmas.Bool.Decides.{nat_tests}
-use Rattle.std.proofs.lemmas.List.Sums.{prefix_len-le-length, prefix_len_passes}
+use Rattle.std.proofs.lemmas.List.Sums.{prefix_len_passes}
 use Rattle.std.proofs.lemmas.Option.{cond_some, none-some, same_Some, option_and_then_some}
 use Rattle.std.proofs.lemmas.List.Elements.{All-head, All-tail}
 use Rattle.std.proofs.lemmas.List.Folds.{length-prefix_len}
 use Rattle.std.proofs.lemmas.List.{get_or-take}
 use Rattle.stream_schema.specs.declared.Event.{Event}
-use Rattle.core_top.specs.FirstForm.{Names, AreNames, continues_name, is_name, type_names, IsEventLine, AreLinesOf}
-use Rattle.core_top.specs.Reading.{◌>>=◌, run_then, type_number, event_at, IsNumeral, IsNextEvent, written}
+use Rattle.core_top.specs.FirstForm.{Names, AreNames, continues_name, IsEventLine, AreLinesOf}
+use Rattle.core_top.specs.Reading.{◌>>=◌, run_then, type_number, event_at, IsNumeral, IsNextEvent}
 use Rattle.core_top.proofs.Reading.{bind_some, run_takes, run_again}
 use Rattle.core_top.proofs.QueryFile.{number_takes, number_again, contains_from_slice_get, word_from_name, name_of_type}
 
@@ -74,23 +73,24 @@ event_takes first second text x e =
     let h1 = run_takes continues_name (44 ∷ []) text type.0 type.1 is1 in
     let h2 = run_takes is_ascii_digit (10 ∷ []) type.1 digits.0 digits.1 is2 in
     subst (λ (y : ℕ × List ℕ × List ℕ). IsEventText first second text y.0 y.1 y.2) h.1
-        (record {
-        type = type.0;
-        typed = number_takes first second type.0 number is3;
-        numeral = record { some = count.0; few = count.1; numeral = subst (All IsAsciiDigit) (sym h2.1) (front_passes type.1) };
-        spelled = h1.0 ∙ ap (λ xs. type.0 ++ (44 ∷ [] ++ xs)) h2.0 ∙ sym (regroup_line type.0 digits.0 digits.1);
-        }))))
+    (record {
+      type = type.0;
+      typed = number_takes first second type.0 number is3;
+      numeral = record { some = count.0; few = count.1; numeral = subst (All IsAsciiDigit) (sym h2.1) (front_passes type.1) };
+      spelled = h1.0 ∙ ap (λ xs. type.0 ++ (44 ∷ [] ++ xs)) h2.0 ∙ sym (regroup_line type.0 digits.0 digits.1);
+    }))))
 
 pub event_again : (first second type digits rest : List ℕ) → Contains (first ∷ second ∷ []) type → list_all continues_name type ≡ true → IsNumeral digits → (number : ℕ) × (event_at first second (((type ++ 44 ∷ digits) ++ 10 ∷ []) ++ rest) ≡ Some (number, digits, rest))
 unfolding event_at
 event_again first second type digits rest within word h =
-    let k = number_again first second type within in
-    (k.0,
-        ap (event_at first second) (regroup_line type digits rest)
-        ∙ bind_some _ _ _ (run_again continues_name 44 [] type (digits ++ (10 ∷ [] ++ rest)) word refl)
-            (bind_some _ _ _ (run_again is_ascii_digit 10 [] digits rest (digits_pass digits h.numeral) refl)
-            (bind_some _ _ _ k.1
-            (ap (λ t. cond t (Some (k.0, digits, rest)) None) (few_pass digits h.some h.few)))))
+    let k = number_again first second type within in (
+      k.0,
+      ap (event_at first second) (regroup_line type digits rest)
+          ∙ bind_some _ _ _ (run_again continues_name 44 [] type (digits ++ (10 ∷ [] ++ rest)) word refl)
+          (bind_some _ _ _ (run_again is_ascii_digit 10 [] digits rest (digits_pass digits h.numeral) refl)
+          (bind_some _ _ _ k.1
+          (ap (λ t. cond t (Some (k.0, digits, rest)) None) (few_pass digits h.some h.few)))),
+    )
 
 pub numeral_from_read : (first second text : List ℕ) (number : ℕ) (digits rest : List ℕ) → event_at first second text ≡ Some (number, digits, rest) → IsNumeral digits
 numeral_from_read first second text number digits rest e =
@@ -111,10 +111,11 @@ next_is_shorter first second text event rest h =
 
 line_from_next : (n : Names) (text : List ℕ) (event : Event) (rest : List ℕ) → IsNextEvent n.first_type n.second_type text event rest → (line : List ℕ) × IsEventLine n event line × (text ≡ line ++ rest)
 line_from_next n text event rest h =
-    let t = event_takes n.first_type n.second_type text (event.ty, h.digits, rest) h.read in
-    ((t.type ++ 44 ∷ h.digits) ++ 10 ∷ [],
-        record { type = t.type; digits = h.digits; typed = t.typed; some = t.numeral.some; few = t.numeral.few; numeral = t.numeral.numeral; valued = h.valued; spelled = refl },
-        t.spelled)
+    let t = event_takes n.first_type n.second_type text (event.ty, h.digits, rest) h.read in (
+      (t.type ++ 44 ∷ h.digits) ++ 10 ∷ [],
+      record { type = t.type; digits = h.digits; typed = t.typed; some = t.numeral.some; few = t.numeral.few; numeral = t.numeral.numeral; valued = h.valued; spelled = refl },
+      t.spelled,
+    )
 
 lines_push : (n : Names) (events : List Event) (event : Event) (front line : List ℕ) → AreLinesOf n events front → IsEventLine n event line → AreLinesOf n (events ++ event ∷ []) (front ++ line)
 lines_push n [] event front line h g = (line, [], g, refl, ap (λ xs. xs ++ line) h ∙ sym (append-nil line))

@@ -1,6 +1,6 @@
 -- What is read as a query file of the first form is one, and each such file is read.
-use Rattle.std.proofs.Common.{◌≡◌, ℕ, ◌+◌, ◌<◌, ◌≤◌, ◌⊎◌, Bool, true, false, ◌&&◌, ◌||◌, not, cond, eqb, List, [], ◌∷◌, ◌++◌, length, get_or, Option, Some, None, sym, refl, ap, ◌∙◌, subst, inl, inr, append_assoc, arith, rules, Contains, ⊎_elim, zero, suc}
-use Rattle.std.specs.Prelude.{codes, bytes_eq, slice_get, IfSome}
+use Rattle.std.proofs.Common.{◌≡◌, ℕ, ◌<◌, ◌⊎◌, Bool, true, false, ◌&&◌, not, cond, eqb, List, [], ◌∷◌, ◌++◌, length, Option, Some, None, sym, refl, ap, ◌∙◌, subst, inl, inr, arith, Contains, ⊎_elim, zero, suc}
+use Rattle.std.specs.Prelude.{bytes_eq, slice_get, IfSome}
 use Rattle.std.specs.List.{list_all}
 use Rattle.std.proofs.lemmas.Grind.{common_steps}
 use Rattle.std.proofs.lemmas.Bool.{false≢true, and_parts}
@@ -38,8 +38,8 @@ names_takes text n e =
     option_and_then_some (f4 first second stream) (selection_at stream.0 stream.1) n e3 (λ chosen is4 e4.
     let h = cond_some _ _ _ e4 in
     subst (λ (y : Names). text ≡ query_text y) h.1
-        (regroup_query (event_declaration first.0 first.1) (event_declaration second.0 second.1) (stream_declaration stream.0 first.0 second.0) (selection stream.0 chosen.0 chosen.1) chosen.2 text first.2 second.2 stream.1
-        (event_takes text first is1) (event_takes first.2 second is2) (stream_takes first.0 second.0 second.2 stream is3) (selection_takes stream.0 stream.1 chosen is4) (empty_from_length chosen.2 h.0))))))
+    (regroup_query (event_declaration first.0 first.1) (event_declaration second.0 second.1) (stream_declaration stream.0 first.0 second.0) (selection stream.0 chosen.0 chosen.1) chosen.2 text first.2 second.2 stream.1
+    (event_takes text first is1) (event_takes first.2 second is2) (stream_takes first.0 second.0 second.2 stream is3) (selection_takes stream.0 stream.1 chosen is4) (empty_from_length chosen.2 h.0))))))
 
 -- the seven are words
 pub record AreWords (n : Names) : Type 0 where
@@ -59,9 +59,9 @@ names_again n w =
     let b : List ℕ = event_declaration n.second_type n.second_attribute ++ c in
     ap names_at (query_parts (event_declaration n.first_type n.first_attribute) (event_declaration n.second_type n.second_attribute) (stream_declaration n.stream n.first_type n.second_type) (selection n.stream n.before n.after))
     ∙ bind_some _ _ _ (event_again n.first_type n.first_attribute b w.first_type w.first_attribute)
-        (bind_some _ _ _ (event_again n.second_type n.second_attribute c w.second_type w.second_attribute)
-        (bind_some _ _ _ (stream_again n.stream n.first_type n.second_type d w.stream)
-        (bind_some _ _ _ (selection_again n.stream n.before n.after [] w.before w.after) refl)))
+    (bind_some _ _ _ (event_again n.second_type n.second_attribute c w.second_type w.second_attribute)
+    (bind_some _ _ _ (stream_again n.stream n.first_type n.second_type d w.stream)
+    (bind_some _ _ _ (selection_again n.stream n.before n.after [] w.before w.after) refl)))
 
 number_takes_by : (f s name : List ℕ) (k : ℕ) (a b : Bool) → (a ≡ true → f ≡ name) → (b ≡ true → s ≡ name) → cond a (Some 0) (cond b (Some 1) None) ≡ Some k → slice_get (f ∷ s ∷ []) k ≡ Some name
 number_takes_by f s name k true b h g e = rw (sym (same_Some _ _ e)) (ap (λ x. Some x) (h refl))
@@ -164,18 +164,20 @@ query_takes text x e =
     let b = number_takes n.first_type n.second_type n.before before is2 in
     let a = number_takes n.first_type n.second_type n.after later is3 in
     subst (λ (y : Names × ℕ × ℕ). IsQueryText text y.0 y.1 y.2) h.1
-        (record { spelled = names_takes text n is1; named = are_names n both.0 both.1 (contains_from_slice_get _ _ _ before b) (contains_from_slice_get _ _ _ later a); before_is = b; after_is = a }))))
+    (record { spelled = names_takes text n is1; named = are_names n both.0 both.1 (contains_from_slice_get _ _ _ before b) (contains_from_slice_get _ _ _ later a); before_is = b; after_is = a }))))
 
 pub query_again : (n : Names) → AreNames n → (before : ℕ) × (later : ℕ) × (query_at (query_text n) ≡ Some (n, before, later))
 unfolding query_at
 query_again n h =
     let b = number_again n.first_type n.second_type n.before h.before in
-    let a = number_again n.first_type n.second_type n.after h.after in
-    (b.0, a.0,
-        bind_some _ _ _ (names_again n (words_from_names n h))
-        (bind_some _ _ _ b.1
-        (bind_some _ _ _ a.1
-        (ap (λ t. cond t (Some (n, b.0, a.0)) None) (tests_pass n h)))))
+    let a = number_again n.first_type n.second_type n.after h.after in (
+      b.0,
+      a.0,
+      bind_some _ _ _ (names_again n (words_from_names n h))
+          (bind_some _ _ _ b.1
+          (bind_some _ _ _ a.1
+          (ap (λ t. cond t (Some (n, b.0, a.0)) None) (tests_pass n h)))),
+    )
 
 pub query_none : (text : List ℕ) → query_at text ≡ None → (n : Names) → AreNames n → text ≡ query_text n → ⊥
 query_none text e n h spelled =

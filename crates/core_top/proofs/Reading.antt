@@ -1,15 +1,13 @@
 -- Reading a text and spelling it are inverse, for each part of a query file.
-use Rattle.std.proofs.Common.{◌≡◌, ℕ, ◌+◌, ◌<◌, ◌≤◌, Bool, true, false, ◌&&◌, not, cond, List, [], ◌∷◌, ◌++◌, length, take, drop, get_or, Option, Some, None, sym, refl, ap, ◌∙◌, subst, inl, inr, append_assoc, arith, rules, option_and_then, All}
+use Rattle.std.proofs.Common.{◌≡◌, ℕ, Bool, true, false, ◌&&◌, List, [], ◌∷◌, ◌++◌, length, take, drop, Option, Some, None, sym, refl, ap, ◌∙◌, subst, append_assoc, arith}
 use Rattle.std.specs.Prelude.{codes, bytes_eq}
 use Rattle.std.specs.List.{prefix_len, list_all}
-use Rattle.std.specs.Char.{is_ascii_digit, IsAsciiDigit}
 use Rattle.std.proofs.lemmas.Grind.{common_steps}
 use Rattle.std.proofs.lemmas.Bool.{false≢true}
-use Rattle.std.proofs.lemmas.List.Sums.{prefix_len-le-length, prefix_len_passes}
 use Rattle.std.proofs.lemmas.Slice.Eq.{bytes_eq-Decides}
 use Rattle.std.proofs.lemmas.Option.{cond_some, none-some, same_Some, option_and_then_some, some_pair_parts}
-use Rattle.core_top.specs.FirstForm.{Names, AreNames, begins_name, continues_name, is_word, is_name, event_declaration, stream_declaration, selection, query_text, type_names}
-use Rattle.core_top.specs.Reading.{◌>>=◌, after, run_then, event_declaration_at, stream_declaration_at, sequence_at, selection_at, names_at, are_named, are_apart, type_number, query_at}
+use Rattle.core_top.specs.FirstForm.{continues_name, event_declaration, stream_declaration, selection}
+use Rattle.core_top.specs.Reading.{◌>>=◌, after, run_then, event_declaration_at, stream_declaration_at, sequence_at, selection_at}
 
 pub bind_some : {A B : Type 0} {o : Option A} (f : A → Option B) (x : A) (y : Option B) → o ≡ Some x → f x ≡ y → (o >>= f) ≡ y
 bind_some f x y e h = rw e h
@@ -55,9 +53,9 @@ unfolding run_then
 run_takes test literal text word rest e =
     let n : ℕ = prefix_len test text in
     option_and_then_some (λ (r : List ℕ). Some (take n text, r)) (after literal (drop n text)) (word, rest) e
-        (λ r is pair.
-        let p = some_pair_parts (take n text) word r rest pair in
-        (sym (take_drop n text) ∙ ap (λ xs. xs ++ drop n text) p.0 ∙ ap (λ xs. word ++ xs) (after_takes literal (drop n text) rest (is ∙ ap (λ x. Some x) p.1)), sym p.0))
+    (λ r is pair.
+    let p = some_pair_parts (take n text) word r rest pair in
+    (sym (take_drop n text) ∙ ap (λ xs. xs ++ drop n text) p.0 ∙ ap (λ xs. word ++ xs) (after_takes literal (drop n text) rest (is ∙ ap (λ x. Some x) p.1)), sym p.0))
 
 pub run_again : (test : ℕ → Bool) (c : ℕ) (literal word rest : List ℕ) → list_all test word ≡ true → test c ≡ false → run_then test (c ∷ literal) (word ++ (c ∷ literal ++ rest)) ≡ Some (word, rest)
 unfolding run_then
@@ -65,8 +63,8 @@ run_again test c literal word rest w stops =
     let tail : List ℕ = c ∷ literal ++ rest in
     let n : prefix_len test (word ++ tail) ≡ length word = run_ends test word (literal ++ rest) c w stops in
     bind_some (λ (r : List ℕ). Some (take (prefix_len test (word ++ tail)) (word ++ tail), r)) rest (Some (word, rest))
-        (ap (λ k. after (c ∷ literal) (drop k (word ++ tail))) n ∙ ap (after (c ∷ literal)) (drop_front word tail) ∙ after_again (c ∷ literal) rest)
-        (ap (λ k. Some (take k (word ++ tail), rest)) n ∙ ap (λ xs. Some (xs, rest)) (take_front word tail))
+    (ap (λ k. after (c ∷ literal) (drop k (word ++ tail))) n ∙ ap (after (c ∷ literal)) (drop_front word tail) ∙ after_again (c ∷ literal) rest)
+    (ap (λ k. Some (take k (word ++ tail), rest)) n ∙ ap (λ xs. Some (xs, rest)) (take_front word tail))
 
 regroup_event : (a t b u c d rest : List ℕ) → (((((a ++ t) ++ b) ++ u) ++ c) ++ d) ++ rest ≡ a ++ (t ++ (b ++ (u ++ ((c ++ d) ++ rest))))
 regroup_event a t b u c d rest = simp append_assoc
@@ -84,8 +82,8 @@ event_takes text x e =
     let h2 = run_takes continues_name (codes "(") rest type.0 type.1 is_type in
     let h3 = run_takes continues_name (codes " INT)" ++ 10 ∷ []) type.1 attribute.0 attribute.1 is_attribute in
     subst (λ (y : List ℕ × List ℕ × List ℕ). text ≡ event_declaration y.0 y.1 ++ y.2) (same_Some _ _ e3)
-        (h1 ∙ ap (λ xs. codes "DECLARE EVENT " ++ xs) (h2.0 ∙ ap (λ xs. type.0 ++ (codes "(" ++ xs)) h3.0)
-        ∙ sym (regroup_event (codes "DECLARE EVENT ") type.0 (codes "(") attribute.0 (codes " INT)") (10 ∷ []) attribute.1)))))
+    (h1 ∙ ap (λ xs. codes "DECLARE EVENT " ++ xs) (h2.0 ∙ ap (λ xs. type.0 ++ (codes "(" ++ xs)) h3.0)
+    ∙ sym (regroup_event (codes "DECLARE EVENT ") type.0 (codes "(") attribute.0 (codes " INT)") (10 ∷ []) attribute.1)))))
 
 pub event_again : (t u r : List ℕ) → list_all continues_name t ≡ true → list_all continues_name u ≡ true → event_declaration_at (event_declaration t u ++ r) ≡ Some (t, u, r)
 unfolding event_declaration_at
@@ -93,8 +91,8 @@ event_again t u r wt wu =
     let text : List ℕ = codes "(" ++ (u ++ ((codes " INT)" ++ 10 ∷ []) ++ r)) in
     ap event_declaration_at (regroup_event (codes "DECLARE EVENT ") t (codes "(") u (codes " INT)") (10 ∷ []) r)
     ∙ bind_some _ _ _ (after_again (codes "DECLARE EVENT ") (t ++ text))
-        (bind_some _ _ _ (run_again continues_name 40 [] t (u ++ ((codes " INT)" ++ 10 ∷ []) ++ r)) wt refl)
-        (bind_some _ _ _ (run_again continues_name 32 (73 ∷ 78 ∷ 84 ∷ 41 ∷ 10 ∷ []) u r wu refl) refl))
+    (bind_some _ _ _ (run_again continues_name 40 [] t (u ++ ((codes " INT)" ++ 10 ∷ []) ++ r)) wt refl)
+    (bind_some _ _ _ (run_again continues_name 32 (73 ∷ 78 ∷ 84 ∷ 41 ∷ 10 ∷ []) u r wu refl) refl))
 
 regroup_stream : (a s b f c g d e rest : List ℕ) → (((((((a ++ s) ++ b) ++ f) ++ c) ++ g) ++ d) ++ e) ++ rest ≡ a ++ (s ++ (b ++ (f ++ (c ++ (g ++ ((d ++ e) ++ rest))))))
 regroup_stream a s b f c g d e rest = simp append_assoc
@@ -122,8 +120,8 @@ stream_takes first second text x e =
     let h5 = after_takes second t4 t5 is5 in
     let h6 = after_takes (codes ")" ++ 10 ∷ []) t5 t6 is6 in
     subst (λ (y : List ℕ × List ℕ). text ≡ stream_declaration y.0 first second ++ y.1) (same_Some _ _ e6)
-        (h1 ∙ ap (λ xs. codes "DECLARE STREAM " ++ xs) (h2.0 ∙ ap (λ xs. s.0 ++ (codes "(" ++ xs)) (h3 ∙ ap (λ xs. first ++ xs) (h4 ∙ ap (λ xs. codes ", " ++ xs) (h5 ∙ ap (λ xs. second ++ xs) h6))))
-        ∙ sym (regroup_stream (codes "DECLARE STREAM ") s.0 (codes "(") first (codes ", ") second (codes ")") (10 ∷ []) t6))))))))
+    (h1 ∙ ap (λ xs. codes "DECLARE STREAM " ++ xs) (h2.0 ∙ ap (λ xs. s.0 ++ (codes "(" ++ xs)) (h3 ∙ ap (λ xs. first ++ xs) (h4 ∙ ap (λ xs. codes ", " ++ xs) (h5 ∙ ap (λ xs. second ++ xs) h6))))
+    ∙ sym (regroup_stream (codes "DECLARE STREAM ") s.0 (codes "(") first (codes ", ") second (codes ")") (10 ∷ []) t6))))))))
 
 pub stream_again : (s first second r : List ℕ) → list_all continues_name s ≡ true → stream_declaration_at first second (stream_declaration s first second ++ r) ≡ Some (s, r)
 unfolding stream_declaration_at
@@ -134,11 +132,11 @@ stream_again s first second r w =
     let t2 : List ℕ = first ++ t3 in
     ap (stream_declaration_at first second) (regroup_stream (codes "DECLARE STREAM ") s (codes "(") first (codes ", ") second (codes ")") (10 ∷ []) r)
     ∙ bind_some _ _ _ (after_again (codes "DECLARE STREAM ") (s ++ (codes "(" ++ t2)))
-        (bind_some _ _ _ (run_again continues_name 40 [] s t2 w refl)
-        (bind_some _ _ _ (after_again first t3)
-        (bind_some _ _ _ (after_again (codes ", ") t4)
-        (bind_some _ _ _ (after_again second t5)
-        (bind_some _ _ _ (after_again (codes ")" ++ 10 ∷ []) r) refl)))))
+    (bind_some _ _ _ (run_again continues_name 40 [] s t2 w refl)
+    (bind_some _ _ _ (after_again first t3)
+    (bind_some _ _ _ (after_again (codes ", ") t4)
+    (bind_some _ _ _ (after_again second t5)
+    (bind_some _ _ _ (after_again (codes ")" ++ 10 ∷ []) r) refl)))))
 
 -- A ; B
 abbrev pub sequence : List ℕ → List ℕ → List ℕ → List ℕ
@@ -155,7 +153,7 @@ sequence_takes text x e =
     let h1 = run_takes continues_name (codes " ; ") text t.0 t.1 is1 in
     let h2 = run_takes continues_name (10 ∷ []) t.1 u.0 u.1 is2 in
     subst (λ (y : List ℕ × List ℕ × List ℕ). text ≡ sequence y.0 y.1 y.2) (same_Some _ _ e2)
-        (h1.0 ∙ ap (λ xs. t.0 ++ (codes " ; " ++ xs)) h2.0)))
+    (h1.0 ∙ ap (λ xs. t.0 ++ (codes " ; " ++ xs)) h2.0)))
 
 pub sequence_again : (t u r : List ℕ) → list_all continues_name t ≡ true → list_all continues_name u ≡ true → sequence_at (sequence t u r) ≡ Some (t, u, r)
 unfolding sequence_at
@@ -188,5 +186,5 @@ unfolding selection_at
 selection_again stream t u r wt wu =
     ap (selection_at stream) (regroup_selection (codes "SELECT * FROM ") stream (codes " WHERE ") t (codes " ; ") u (10 ∷ []) r)
     ∙ bind_some _ _ _ (after_again (codes "SELECT * FROM ") (stream ++ (codes " WHERE " ++ sequence t u r)))
-        (bind_some _ _ _ (after_again stream (codes " WHERE " ++ sequence t u r))
-        (bind_some _ _ _ (after_again (codes " WHERE ") (sequence t u r)) (sequence_again t u r wt wu)))
+    (bind_some _ _ _ (after_again stream (codes " WHERE " ++ sequence t u r))
+    (bind_some _ _ _ (after_again (codes " WHERE ") (sequence t u r)) (sequence_again t u r wt wu)))

@@ -1,5 +1,11 @@
 //! The lines of an event file of the first form.
 
+ghost use Rattle.core_top.specs.FirstForm.{AreLinesOf, AreNames, Names};
+ghost use Rattle.core_top.specs.Reading.{Gives, IsNextEvent, IsNumeral, event_at, written};
+ghost use Rattle.std.specs.Prelude.{◌≡◌, IfOk, IfSome, List, pos};
+ghost use Rattle.std.specs.Str.Parse.{digits_value};
+ghost use Rattle.stream_schema.specs.declared.Event.{Event};
+
 use crate::EventFault;
 use crate::query_lines::number_of_type;
 use crate::spelled::{numeral_then, word_then};
@@ -7,16 +13,14 @@ use cer_base::{Listed, Memory, OrMemory};
 use std::alloc::Global;
 use stream_schema::{Event, TypeId, Value};
 
-ghost use Rattle.core_top.specs.FirstForm.{AreLinesOf, AreNames, Names};
-ghost use Rattle.core_top.specs.Reading.{Gives, IsNextEvent, IsNumeral, event_at, written};
-ghost use Rattle.std.specs.Prelude.{◌≡◌, IfOk, IfSome, List, pos};
-ghost use Rattle.std.specs.Str.Parse.{digits_value};
-ghost use Rattle.stream_schema.specs.declared.Event.{Event};
-
 /// The type, the digits and the text behind the line `A,17`, for a type with one of the two names
 /// and from 1 to 18 digits.
 #[tactic(auto, unfolding(crate::specs::Reading::event_at))]
-fn event_line<'a>(text: &'a [u8], first: &[u8], second: &[u8]) -> Option<(TypeId, &'a [u8], &'a [u8])>
+fn event_line<'a>(
+    text: &'a [u8],
+    first: &[u8],
+    second: &[u8],
+) -> Option<(TypeId, &'a [u8], &'a [u8])>
     ensures { Gives (λ x. (x.0, x.1.now, x.2.now)) result (event_at first.now second.now text.now) }
 {
     let (name, rest) = word_then(text, b",")?;
@@ -47,7 +51,10 @@ fn event_of(alloc: Global, ty: TypeId, digits: &[u8]) -> Result<Event, Memory>
     ensures ty { IfOk result (λ event. event.ty ≡ ty) }
     ensures valued { IfOk result (λ event. event.values ≡ written digits.now) }
 {
-    Ok(Event { ty, values: Listed::of(vec![in alloc; Value::Int(value_of(digits))]?) })
+    Ok(Event {
+        ty,
+        values: Listed::of(vec![in alloc; Value::Int(value_of(digits))]?),
+    })
 }
 
 /// The event of the line at the front of the text, and what stands behind it.

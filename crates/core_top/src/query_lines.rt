@@ -1,11 +1,11 @@
 //! The four lines of a query file of the first form.
 
-use crate::spelled::{after_literal, may_be_name, word_then};
-use stream_schema::TypeId;
-
 ghost use Rattle.core_top.specs.FirstForm.{AreNames, Names, query_text};
 ghost use Rattle.core_top.specs.Reading.{Gives, IsQueryText, are_apart, are_named, event_declaration_at, names_at, names_of, query_at, selection_at, sequence_at, stream_declaration_at, type_number};
 ghost use Rattle.std.specs.Prelude.{◌≡◌, IfSome};
+
+use crate::spelled::{after_literal, may_be_name, word_then};
+use stream_schema::TypeId;
 
 /// The names that a query file gives, as they stand in its text.
 #[derive(Debug, Clone, Copy)]
@@ -32,7 +32,11 @@ fn event_declaration(text: &[u8]) -> Option<(&[u8], &[u8], &[u8])>
 
 /// The stream and the text behind the line `DECLARE STREAM S(A, B)`.
 #[tactic(auto, unfolding(crate::specs::Reading::stream_declaration_at))]
-fn stream_declaration<'a>(text: &'a [u8], first: &[u8], second: &[u8]) -> Option<(&'a [u8], &'a [u8])>
+fn stream_declaration<'a>(
+    text: &'a [u8],
+    first: &[u8],
+    second: &[u8],
+) -> Option<(&'a [u8], &'a [u8])>
     ensures { Gives (λ x. (x.0.now, x.1.now)) result (stream_declaration_at first.now second.now text.now) }
 {
     let front = after_literal(text, b"DECLARE STREAM ")?;
@@ -77,7 +81,15 @@ fn names(text: &[u8]) -> Option<NamesOfQuery<'_>>
     if !rest.is_empty() {
         return None;
     }
-    Some(NamesOfQuery { first_type, first_attribute, second_type, second_attribute, stream, before, after })
+    Some(NamesOfQuery {
+        first_type,
+        first_attribute,
+        second_type,
+        second_attribute,
+        stream,
+        before,
+        after,
+    })
 }
 
 /// Whether each of the five that are declared is a name.

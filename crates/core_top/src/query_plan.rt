@@ -1,16 +1,16 @@
 //! The plan of a query, from its names.
 
+ghost use Rattle.core_top.specs.FirstForm.{AreNames, IsQueryOf, IsSequenceOf, is_name, type_names};
+ghost use Rattle.core_top.specs.Plan.{IsPlanOf};
+ghost use Rattle.core_top.specs.Reading.{AreParts, names_of};
+ghost use Rattle.std.specs.Prelude.{◌≡◌, IfOk, slice_get, true};
+
 use crate::first_form::Plan;
 use crate::query_lines::NamesOfQuery;
 use cel_terms::{Formula, Name, Query, Window};
 use cer_base::{Listed, Memory, Place, Text};
 use std::alloc::Global;
 use stream_schema::TypeId;
-
-ghost use Rattle.core_top.specs.FirstForm.{AreNames, IsQueryOf, IsSequenceOf, is_name, type_names};
-ghost use Rattle.core_top.specs.Plan.{IsPlanOf};
-ghost use Rattle.core_top.specs.Reading.{AreParts, names_of};
-ghost use Rattle.std.specs.Prelude.{◌≡◌, IfOk, slice_get, true};
 
 /// The name as a text of its own.
 fn text_of(alloc: Global, name: &[u8]) -> Result<Text, Memory>
@@ -28,7 +28,13 @@ fn name_at(alloc: Global, name: &[u8], line: u64, before: u64) -> Result<Name, M
     requires { is_name name.now ≡ true }
     ensures { IfOk result (λ n. n.text ≡ name.now) }
 {
-    Ok(Name { text: text_of(alloc, name)?, place: Place { line, col: before.saturating_add(1) } })
+    Ok(Name {
+        text: text_of(alloc, name)?,
+        place: Place {
+            line,
+            col: before.saturating_add(1),
+        },
+    })
 }
 
 /// The formula `A ; B`.
@@ -44,8 +50,12 @@ fn named_parts(alloc: Global, n: &NamesOfQuery) -> Result<(Name, Name, Name), Me
     ensures { IfOk result (λ parts. AreParts (names_of n.now) parts.0.text parts.1.text parts.2.text) }
 {
     let before_stream = "SELECT * FROM ".len() as u64;
-    let before_first = before_stream.saturating_add(n.stream.len() as u64).saturating_add(" WHERE ".len() as u64);
-    let before_second = before_first.saturating_add(n.before.len() as u64).saturating_add(" ; ".len() as u64);
+    let before_first = before_stream
+        .saturating_add(n.stream.len() as u64)
+        .saturating_add(" WHERE ".len() as u64);
+    let before_second = before_first
+        .saturating_add(n.before.len() as u64)
+        .saturating_add(" ; ".len() as u64);
     let stream = name_at(alloc, n.stream, 4, before_stream)?;
     let before = name_at(alloc, n.before, 4, before_first)?;
     let after = name_at(alloc, n.after, 4, before_second)?;
@@ -71,7 +81,12 @@ fn query_of(alloc: Global, n: &NamesOfQuery) -> Result<Query, Memory>
 }
 
 /// The plan of a query with these names, whose sequence is of the types with these numbers.
-pub fn plan_of(alloc: Global, n: &NamesOfQuery, before: TypeId, after: TypeId) -> Result<Plan, Memory>
+pub fn plan_of(
+    alloc: Global,
+    n: &NamesOfQuery,
+    before: TypeId,
+    after: TypeId,
+) -> Result<Plan, Memory>
     requires names { AreNames (names_of n.now) }
     requires first { slice_get (type_names (names_of n.now)) before ≡ Some (names_of n.now).before }
     requires second { slice_get (type_names (names_of n.now)) after ≡ Some (names_of n.now).after }

@@ -1,6 +1,6 @@
-use Rattle.std.proofs.Common.{◌≡◌, Err, sym, ap, ◌∙◌}
+use Rattle.std.proofs.Common.{Err, sym, ap, ◌∙◌}
 use Rattle.std.proofs.lemmas.Result.{err_from_is_err_and}
-use Rattle.core_top.proofs.EventFile.{IsReadTo, next_is_shorter, read_more, left_more, none_left, all_read, empty_by_test, some_by_test, same_err}
+use Rattle.core_top.proofs.EventFile.{next_is_shorter, read_more, left_more, none_left, all_read, empty_by_test, some_by_test, same_err}
 use Rattle.core_top.proofs.event_lines.event_lines.Goals as goal
 
 pub returns-in_err-event-clause-refused : goal.returns-in_err-event-clause-refused

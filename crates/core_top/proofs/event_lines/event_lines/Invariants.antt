@@ -1,6 +1,4 @@
-use Rattle.std.proofs.Common.{◌≡◌, ℕ, ◌<◌, List, ◌++◌, length}
-use Rattle.stream_schema.specs.declared.Event.{Event}
-use Rattle.core_top.specs.FirstForm.{AreLinesOf, AreNames, Names}
+use Rattle.std.proofs.Common.{length}
 use Rattle.core_top.proofs.EventFile.{IsReadTo, IsLeft}
 use Rattle.core_top.proofs.event_lines.event_lines.Given as goal
 

@@ -1,4 +1,4 @@
-use Rattle.std.proofs.Common.{◌≡◌, ℕ, ◌<◌, take}
+use Rattle.std.proofs.Common.{◌≡◌, take}
 use Rattle.std.specs.Str.Parse.{digits_value}
 use Rattle.core_top.proofs.event_lines.value_of.Given as goal
 

@@ -21,9 +21,10 @@ use Rattle.answer_text.specs.Output.{IsOutput}
 use Rattle.core_top.specs.FirstForm.{Names, AreNames, IsQueryFile, IsEventFile, schema_of}
 use Rattle.core_top.specs.Pairs.{pairs_output}
 use Rattle.core_top.specs.Plan.{IsPlanOf}
-use Rattle.core_top.specs.Reading.{AreFirst, OnFault}
+use Rattle.core_top.specs.SourceBytes.{AreFirst, OnFault}
 use Rattle.core_top.specs.Causes.{IsAccepted, IsRefused, IsStopped, ComesInTurn, name_of}
 use Rattle.core_top.specs.Output.{AreAnswers, TookPrefix}
+use Rattle.core_top.proofs.QueryFile.{names_again, words_from_names}
 use Rattle.core_top.specs.Run.{Sources, FailedWith, ReadingStops, Outside, RunEnds, Ended, HasAccepted, HasAnswers, WroteNothing}
 
 -- a file that was read and is small was read whole
@@ -76,7 +77,7 @@ first_of content text read first told = let P : Option (List ℕ) → Type 0 = �
 pub stopped_file : (queries events : Option (List ℕ)) (query_bytes event_bytes : List ℕ) (plan : Plan) (fault : EventFault) (m : Names) →
     AreFirst 1048577 queries query_bytes → AreFirst 1048577 events event_bytes → IsQueryFile query_bytes m →
     ((n : Names) → IsQueryFile query_bytes n → IsPlanOf n plan) →
-    ((n : Names) → IsPlanOf n plan → (list : List Event) → IsEventFile n event_bytes list → ⊥) →
+    ((n : Names) → IsPlanOf n plan → AreNames n → (list : List Event) → IsEventFile n event_bytes list → ⊥) →
     (text lines : List ℕ) → queries ≡ Some text → events ≡ Some lines → IsStopped text lines 1 fault
 stopped_file queries events query_bytes event_bytes plan fault m first second is only other text lines told_text told_lines =
     let text_read = first_of queries text query_bytes first told_text in
@@ -85,7 +86,7 @@ stopped_file queries events query_bytes event_bytes plan fault m first second is
       not_yet = only_event_fault fault;
       at_start = refl;
       accepted = (m, query_file_whole text query_bytes m text_read is);
-      other = λ n query list file. other n (only n (query_file_read text query_bytes n text_read query)) list (event_file_read lines event_bytes n list lines_read file);
+      other = λ n query list file. other n (only n (query_file_read text query_bytes n text_read query)) query.named list (event_file_read lines event_bytes n list lines_read file);
     }
 
 -- an end by one cause, with no source that failed
@@ -153,6 +154,21 @@ events_unread_ended sources o content count given failed kept counted accepted n
     let P : ℕ → Type 0 = λ k. ReadingStops sources file.Events content k (o.new o.events) given failed in
     record { holds = events_unread sources o content given failed kept accepted nothing (subst P counted stops) }
 
--- the fact of a fault
-pub fault_of : (T : Type 0) {F : Type 0} (P : Type 0) (e : OrMemory F) (f : F) → OnFault {T = T} (Err e) P → e ≡ wanted.Fault f → P
-fault_of T {F} P e f on is = let Q : OrMemory F → Type 0 = λ x. OnFault {T = T} (Err x) P in subst Q is on
+-- the one fault of a query file and of an event file, in what a reader answers
+pub not_yet_query : {T : Type 0} (e : OrMemory QueryFault) (fault : QueryFault) → e ≡ wanted.Fault fault → Err {T = T} e ≡ Err (wanted.Fault query_fault.NotYet)
+not_yet_query e fault is = ap Err (is ∙ ap wanted.Fault (only_query_fault fault))
+
+pub not_yet_event : {T : Type 0} (e : OrMemory EventFault) (fault : EventFault) → e ≡ wanted.Fault fault → Err {T = T} e ≡ Err (wanted.Fault event_fault.NotYet)
+not_yet_event e fault is = ap Err (is ∙ ap wanted.Fault (only_event_fault fault))
+
+-- a query file has one list of names
+pub one_names : (text : List ℕ) (n m : Names) → IsQueryFile text n → IsQueryFile text m → n ≡ m
+one_names text n m one other =
+    let first = names_again n (words_from_names n one.named) in
+    let second = names_again m (words_from_names m other.named) in
+    let same = sym one.spelled ∙ other.spelled in
+    cc
+
+-- a plan for some names of the file is one for all
+pub planned_again : (text : List ℕ) (plan : Plan) (m : Names) → IsQueryFile text m → IsPlanOf m plan → (n : Names) → IsQueryFile text n → IsPlanOf n plan
+planned_again text plan m is planned n other = let P : Names → Type 0 = λ k. IsPlanOf k plan in subst P (one_names text m n is other) planned

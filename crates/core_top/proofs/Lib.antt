@@ -1,3 +1,8 @@
+pub mod Reading
+pub mod QueryFile
+pub mod Sequence
+pub mod EventFile
+pub mod Numeral
 mod Words
 mod WholeFiles
 mod Ends

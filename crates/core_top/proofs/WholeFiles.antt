@@ -5,7 +5,7 @@ use Rattle.std.proofs.lemmas.List.{append-nil, take_all}
 use Rattle.cer_base.specs.declared.OrMemory.{OrMemory}
 use Rattle.cer_base.specs.declared.OrMemory.TheVariants as wanted
 use Rattle.cer_outside.specs.Causes.{Rose}
-use Rattle.core_top.specs.Reading.{ReadsOn, IsAtEnd, AreFirst, IsRest, OnFault}
+use Rattle.core_top.specs.SourceBytes.{ReadsOn, IsAtEnd, AreFirst, IsRest, OnFault}
 
 -- nothing read yet
 pub reads_none : (left : Option (List ℕ)) → ReadsOn left left [] []

@@ -14,7 +14,7 @@ use Rattle.core_top.specs.declared.Cause.{Cause}
 use Rattle.core_top.specs.declared.Cause.TheVariants as cause
 use Rattle.core_top.specs.FirstForm.{Names, IsQueryFile, IsEventFile}
 use Rattle.core_top.specs.Command.{IsRun}
-use Rattle.core_top.specs.Reading.{IsRest}
+use Rattle.core_top.specs.SourceBytes.{IsRest}
 
 -- the exit status of each cause
 abbrev pub status_of : Cause → ℕ

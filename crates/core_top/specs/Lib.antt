@@ -1,7 +1,8 @@
 pub mod FirstForm
 pub mod Plan
-pub mod Command
 pub mod Reading
+pub mod Command
+pub mod SourceBytes
 pub mod Causes
 pub mod Output
 pub mod Notes

@@ -7,7 +7,7 @@ use Rattle.core_top.specs.declared.Cause.{Cause}
 use Rattle.core_top.specs.declared.Cause.TheVariants as cause
 use Rattle.core_top.specs.Causes.{IsAccepted, IsRefused, IsStopped, ComesInTurn, name_of}
 use Rattle.core_top.specs.Output.{AreAnswers, TookPrefix}
-use Rattle.core_top.specs.Reading.{IsRest}
+use Rattle.core_top.specs.SourceBytes.{IsRest}
 use Rattle.core_top.specs.Command.{IsRun, AskNothing}
 
 -- what the outside says of a source that failed: its count of faults, and what it has left

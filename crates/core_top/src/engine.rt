@@ -1,7 +1,7 @@
 ghost use Rattle.std.specs.Prelude.{◌≡◌, ◌≤◌, ◌+◌, ℕ, List, map, length, OnOk, OnErr, IfOk, Some, slice_get, [], ◌∷◌};
 ghost use Rattle.cer_outside.specs.Bytes.{TookAll, TookPart};
 ghost use Rattle.cer_outside.specs.Causes.{Rose};
-ghost use Rattle.core_top.specs.Reading.{OnFault};
+ghost use Rattle.core_top.specs.SourceBytes.{OnFault};
 ghost use Rattle.core_top.specs.Output.{TookPrefix};
 ghost use Rattle.core_top.specs.Pairs.{pairs_output};
 

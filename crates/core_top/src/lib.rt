@@ -10,11 +10,15 @@ pub use top::core_main;
 
 mod command;
 mod engine;
+mod event_lines;
+mod files;
 mod first_form;
 mod notes;
 mod opening;
-mod reading;
+mod query_lines;
+mod query_plan;
 mod run;
+mod spelled;
 mod top;
 
 /// Why a query text was refused.

@@ -1,10 +1,10 @@
 //! A file, opened and read whole.
 
 ghost use Rattle.std.specs.Prelude.{◌≡◌, ◌≤◌, ℕ, List, IfOk, IfErr};
-ghost use Rattle.core_top.specs.Reading.{AreFirst};
+ghost use Rattle.core_top.specs.SourceBytes.{AreFirst};
 ghost use Rattle.core_top.specs.Run.{ReadingStops};
 
-use super::reading::read_whole;
+use super::files::read_whole;
 use super::{Cause, File};
 use cer_base::OrMemory;
 use cer_outside::{Host, OpenError, Source};

@@ -1,12 +1,12 @@
 use Rattle.std.proofs.Common.{refl, inr, inl}
 use Rattle.core_top.specs.declared.Cause.TheVariants as cause
-use Rattle.core_top.proofs.Ends.{refused_text, accepted_text, stopped_file, answers_of, still_first, first_as, events_unread_ended, ends_by, rose_same}
+use Rattle.core_top.proofs.Ends.{refused_text, accepted_text, stopped_file, answers_of, still_first, first_as, events_unread_ended, ends_by, rose_same, not_yet_query, not_yet_event, planned_again}
 use Rattle.core_top.proofs.run.run_files.Goals as goal
 
 pub returns-in-Err-Fault-clause-ends : goal.returns-in-Err-Fault-clause-ends
 returns-in-Err-Fault-clause-ends g c =
     ends_by _ _ _ _ _ c.of-in-Err-Fault.ensures.cause c.of-in-Err-Fault.ensures.failed
-    (refl, refl, refused_text _ _ _ (first_as _ _ _ c.as_slice.ensures.value c.in-Ok.ensures.bytes) (rw c.in-Err-Fault.field-0-is at c.in-Err-Fault.ensures.refused))
+    (refl, refl, refused_text _ _ _ (first_as _ _ _ c.as_slice.ensures.value c.in-Ok.ensures.bytes) (c.in-Err-Fault.ensures.refused (not_yet_query _ _ c.in-Err-Fault.field-0-is)))
 
 pub returns-in-Err-take_whole-clause-ends : goal.returns-in-Err-take_whole-clause-ends
 returns-in-Err-take_whole-clause-ends g c =
@@ -20,7 +20,7 @@ returns-in-Err-Fault-read_events-clause-ends g c =
     ends_by _ _ _ _ _ c.of-in-Err-Fault-read_events.ensures.cause c.of-in-Err-Fault-read_events.ensures.failed
     (refl, refl, accepted_text _ _ _ (first_as _ _ _ c.as_slice.ensures.value c.in-Ok.ensures.bytes) read.1,
       stopped_file _ _ _ _ _ _ _ (first_as _ _ _ c.as_slice.ensures.value c.in-Ok.ensures.bytes) (still_first _ _ _ (c.take_whole.ensures.kept _) (first_as _ _ _ c.as_slice-2.ensures.value c.in-Ok-take_whole.ensures.bytes)) read.1
-        c.in-Ok-read_query.ensures.only (rw c.in-Err-Fault-read_events.field-0-is at c.in-Err-Fault-read_events.ensures.refused))
+        (planned_again _ _ _ read.1 read.2) (c.in-Err-Fault-read_events.ensures.refused (not_yet_event _ _ c.in-Err-Fault-read_events.field-0-is)))
 
 pub returns-in-Ok-write_answers-clause-ends : goal.returns-in-Ok-write_answers-clause-ends
 returns-in-Ok-write_answers-clause-ends g c =

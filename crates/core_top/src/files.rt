@@ -2,7 +2,7 @@
 
 ghost use Rattle.std.specs.Prelude.{◌≡◌, ◌+◌, ◌<◌, ◌≤◌, ℕ, List, [], length, vec_len, IfOk};
 ghost use Rattle.cer_outside.specs.Causes.{Rose};
-ghost use Rattle.core_top.specs.Reading.{ReadsOn, IsAtEnd, AreFirst, IsRest, OnFault};
+ghost use Rattle.core_top.specs.SourceBytes.{ReadsOn, IsAtEnd, AreFirst, IsRest, OnFault};
 
 use cer_base::{Memory, OrMemory};
 use cer_outside::{Failed, Source};

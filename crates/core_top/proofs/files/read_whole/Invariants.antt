@@ -1,6 +1,6 @@
 use Rattle.std.proofs.Common.{◌≡◌, ◌-◌, ◌<◌, ◌≤◌, [], vec_len}
-use Rattle.core_top.specs.Reading.{ReadsOn}
-use Rattle.core_top.proofs.reading.read_whole.Given as goal
+use Rattle.core_top.specs.SourceBytes.{ReadsOn}
+use Rattle.core_top.proofs.files.read_whole.Given as goal
 
 -- the bytes so far and what is left are what there was
 abbrev pub invariant-loop-source : goal.invariant-loop-source

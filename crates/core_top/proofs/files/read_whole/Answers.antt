@@ -1,6 +1,6 @@
 use Rattle.std.proofs.Common.{arith}
 use Rattle.core_top.proofs.WholeFiles.{reads_more, reads_rest, rest_of_rest, first_all, first_full}
-use Rattle.core_top.proofs.reading.read_whole.Goals as goal
+use Rattle.core_top.proofs.files.read_whole.Goals as goal
 
 pub returns-in-Ok-eq0-clause-bytes : goal.returns-in-Ok-eq0-clause-bytes
 returns-in-Ok-eq0-clause-bytes g c =

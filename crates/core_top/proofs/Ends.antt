@@ -155,10 +155,10 @@ events_unread_ended sources o content count given failed kept counted accepted n
     record { holds = events_unread sources o content given failed kept accepted nothing (subst P counted stops) }
 
 -- the one fault of a query file and of an event file, in what a reader answers
-pub not_yet_query : {T : Type 0} (e : OrMemory QueryFault) (fault : QueryFault) → e ≡ wanted.Fault fault → Err {T = T} e ≡ Err (wanted.Fault query_fault.NotYet)
+pub not_yet_query : {T : Type 0} (e : OrMemory QueryFault) (fault : QueryFault) → e ≡ wanted.Fault fault → ◌≡◌ {A = Result T (OrMemory QueryFault)} (Err e) (Err (wanted.Fault query_fault.NotYet))
 not_yet_query e fault is = ap Err (is ∙ ap wanted.Fault (only_query_fault fault))
 
-pub not_yet_event : {T : Type 0} (e : OrMemory EventFault) (fault : EventFault) → e ≡ wanted.Fault fault → Err {T = T} e ≡ Err (wanted.Fault event_fault.NotYet)
+pub not_yet_event : {T : Type 0} (e : OrMemory EventFault) (fault : EventFault) → e ≡ wanted.Fault fault → ◌≡◌ {A = Result T (OrMemory EventFault)} (Err e) (Err (wanted.Fault event_fault.NotYet))
 not_yet_event e fault is = ap Err (is ∙ ap wanted.Fault (only_event_fault fault))
 
 -- a query file has one list of names

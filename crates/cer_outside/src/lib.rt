@@ -12,6 +12,12 @@ ghost use Rattle.cer_outside.specs.Bytes.{Reads, Takes};
 
 use std::alloc::Global;
 
+mod calls;
+mod portions;
+pub mod sinks;
+pub mod sources;
+pub mod writing;
+
 /// The call failed, and the object's count of faults has risen.
 #[derive(Clone, Copy, Debug, PartialEq, Eq)]
 pub struct Failed;

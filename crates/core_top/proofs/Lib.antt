@@ -1,0 +1,3 @@
+pub mod PairTypes
+pub mod PairMarks
+pub mod PairAnswers

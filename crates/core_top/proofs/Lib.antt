@@ -1,3 +1,5 @@
 pub mod PairTypes
 pub mod PairMarks
 pub mod PairAnswers
+pub mod PairLists
+pub mod PairOutput

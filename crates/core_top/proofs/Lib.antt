@@ -3,3 +3,4 @@ pub mod PairMarks
 pub mod PairAnswers
 pub mod PairLists
 pub mod PairOutput
+pub mod PairWriting

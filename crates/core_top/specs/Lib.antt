@@ -1,3 +1,4 @@
 pub mod FirstForm
 pub mod Plan
 pub mod Pairs
+pub mod Taken

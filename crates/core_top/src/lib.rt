@@ -1,6 +1,7 @@
 //! The program, from the words of its command line to the bytes that it writes.
 #![tactic(auto)]
 
+mod engine;
 mod first_form;
 
 /// Why a query text was refused.

@@ -37,9 +37,10 @@ typed_number n named q events end position type name number typed = record {
 -- An event of a type of the query has the empty key.
 has_key : (n : Names) (q : Query) → IsQueryOf n q → (type : ℕ) (name : List ℕ) → slice_get (type_names n) type ≡ Some name →
     (event : Event) → event.ty ≡ type → HasKey (schema_of n) q event []
-has_key n q is type name number event typed =
-    (subst (λ (k : ℕ). Contains (query_types (schema_of n) q.streams) k) (sym typed) (in_stream n q.streams is.streams type name number),
-     subst (λ (names : List Name). values_at (schema_of n) names event ≡ Some []) (sym is.partition) refl)
+has_key n q is type name number event typed = (
+  subst (λ (k : ℕ). Contains (query_types (schema_of n) q.streams) k) (sym typed) (in_stream n q.streams is.streams type name number),
+  subst (λ (names : List Name). values_at (schema_of n) names event ≡ Some []) (sym is.partition) refl,
+)
 
 -- An event of a type of the query is typed by the type's name, in the substream.
 number_typed : (n : Names) (q : Query) → IsQueryOf n q → (events : List Event) (end position type other : ℕ) (name final : List ℕ) →
@@ -82,7 +83,7 @@ sequence_from stream before after start end marks has =
     let to : end ≡ s.next = s.second_is.ends in
     let order : start < end = omega (arith, s.follows) in
     let bound : has.valuation ≡ two_bound start end before after =
-        s.united ∙ (λ i. s.first_is.bound i ++ s.second_is.bound i) ∙ ap (λ (p : ℕ). two_bound start p before after) (sym to) in
+    s.united ∙ (λ i. s.first_is.bound i ++ s.second_is.bound i) ∙ ap (λ (p : ℕ). two_bound start p before after) (sym to) in
     record {
       first = s.first_is.typed;
       last = subst (λ (p : ℕ). IsTyped stream after p) (sym to) s.second_is.typed;
@@ -115,8 +116,8 @@ pub pair_from_answer : (n : Names) → AreNames n → (q : Query) → IsQueryOf 
 pair_from_answer n named q is events before after before_is after_is end answer a =
     let stream = substream (schema_of n) q events end in
     let s : IsSequence stream n.before n.after answer.start end answer.marks =
-        sequence_from stream n.before n.after answer.start end answer.marks
-        (subst (λ (m : Meaning). HasMarks m answer.start end answer.marks) (query_means n q is stream) a.marks) in
+    sequence_from stream n.before n.after answer.start end answer.marks
+    (subst (λ (m : Meaning). HasMarks m answer.start end answer.marks) (query_means n q is stream) a.marks) in
     record {
       first = typed_number n named q events end answer.start before n.before before_is s.first;
       last = typed_number n named q events end end after n.after after_is s.last;
@@ -147,8 +148,8 @@ answer_from_pair n q is events before after before_is after_is end answer p =
     let first : IsTyped stream n.before answer.start = number_typed n q is events end answer.start before after n.before n.after before_is after_is p.first p.last in
     let last : IsTyped stream n.after end = number_typed n q is events end end after after n.after n.after after_is after_is p.last p.last in
     let has : HasMarks (Sequence stream false (Single stream n.before) (Single stream n.after)) answer.start end answer.marks =
-        subst (λ (marks : List ℕ). HasMarks (Sequence stream false (Single stream n.before) (Single stream n.after)) answer.start end marks) (sym p.marks)
-        (sequence_to stream n.before n.after answer.start end first last p.order) in
+    subst (λ (marks : List ℕ). HasMarks (Sequence stream false (Single stream n.before) (Single stream n.after)) answer.start end marks) (sym p.marks)
+    (sequence_to stream n.before n.after answer.start end first last p.order) in
     record {
       marks = subst (λ (m : Meaning). HasMarks m answer.start end answer.marks) (sym (query_means n q is stream)) has;
       strict = subst (λ (b : Bool). WhereStrict b (AreContiguous (IsOfSubstream (schema_of n) q events end) answer.marks)) (sym is.strict) tt;

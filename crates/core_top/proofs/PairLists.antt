@@ -92,24 +92,25 @@ got_from_position types type zero p h = absurd (omega (arith, h.within))
 got_from_position types type (suc n) p h =
     ⊎_elim
     (λ (less : p < n).
-      let before = got_from_position types type n p (record { within = less; typed = h.typed }) in
-      (before.0, held_step (positions_of types type n) (has_type types type n) n before.0 p before.1))
+    let before = got_from_position types type n p (record { within = less; typed = h.typed }) in
+    (before.0, held_step (positions_of types type n) (has_type types type n) n before.0 p before.1))
     (λ (not_less : n ≤ p).
-      let same : p ≡ n = omega (arith, h.within) in
-      let found : has_type types type n ≡ true = sym (ap (has_type types type) same) ∙ h.typed in
-      (length (positions_of types type n),
-       subst (λ (b : Bool). slice_get (positions_of types type n ++ (if b then n ∷ [] else [])) (length (positions_of types type n)) ≡ Some p) (sym found)
-       (push_last (positions_of types type n) n ∙ ap Some (sym same))))
+    let same : p ≡ n = omega (arith, h.within) in
+    let found : has_type types type n ≡ true = sym (ap (has_type types type) same) ∙ h.typed in (
+      length (positions_of types type n),
+      subst (λ (b : Bool). slice_get (positions_of types type n ++ (if b then n ∷ [] else [])) (length (positions_of types type n)) ≡ Some p) (sym found)
+          (push_last (positions_of types type n) n ∙ ap Some (sym same)),
+    ))
     (cases_lt p n)
 
 ascending_push : (xs : List ℕ) (last : ℕ) → IsAscending xs → ((k x : ℕ) → slice_get xs k ≡ Some x → x < last) → IsAscending (xs ++ last ∷ [])
 ascending_push xs last up below i j x y order p q =
     ⊎_elim
     (λ (h : slice_get xs i ≡ Some x).
-      ⊎_elim (λ (g : slice_get xs j ≡ Some y). up i j x y order h g)
-      (λ (g : (j ≡ length xs) × (y ≡ last)). let less = below i x h in omega (arith, g.1)) (got_of_push xs last j y q))
+    ⊎_elim (λ (g : slice_get xs j ≡ Some y). up i j x y order h g)
+    (λ (g : (j ≡ length xs) × (y ≡ last)). let less = below i x h in omega (arith, g.1)) (got_of_push xs last j y q))
     (λ (h : (i ≡ length xs) × (x ≡ last)).
-      let within = slice_get_within (xs ++ last ∷ []) j y q in absurd (omega (arith, h.0, within, length-append xs (last ∷ []))))
+    let within = slice_get_within (xs ++ last ∷ []) j y q in absurd (omega (arith, h.0, within, length-append xs (last ∷ []))))
     (got_of_push xs last i x p)
 
 ascending_step : (xs : List ℕ) (b : Bool) (n : ℕ) → IsAscending xs → ((k x : ℕ) → slice_get xs k ≡ Some x → x < n) → IsAscending (xs ++ (if b then n ∷ [] else []))
@@ -139,5 +140,5 @@ pairs_distinct end xs up i j a p q =
     let same : from.0 ≡ to.0 = ap (λ (x : Answer). x.start) (from.2 ∙ sym to.2) in
     ⊎_elim (λ (h : i ≡ j). h)
     (⊎_elim (λ (h : i < j). let less = up i j from.0 to.0 h from.1 to.1 in absurd (omega arith))
-      (λ (h : j < i). let less = up j i to.0 from.0 h to.1 from.1 in absurd (omega arith)))
+    (λ (h : j < i). let less = up j i to.0 from.0 h to.1 from.1 in absurd (omega arith)))
     (cases_order i j)

@@ -82,5 +82,6 @@ are_marks start end first second less = record {
   ascending = two_ascend start end less;
   bound = λ p. (
     λ has. ⊎_elim (λ (e : start ≡ p). subst (λ (at : ℕ). IsBoundAt (two_bound start end first second) at) e (start_bound start end first second)) (λ (e : end ≡ p). subst (λ (at : ℕ). IsBoundAt (two_bound start end first second) at) e (end_bound start end first second)) (in_two start end p has),
-    λ bound. ⊎_elim (λ (e : p ≡ start). (0, omega arith, sym e)) (λ (e : p ≡ end). (1, omega arith, sym e)) (bound_cases start end first second p bound));
+    λ bound. ⊎_elim (λ (e : p ≡ start). (0, omega arith, sym e)) (λ (e : p ≡ end). (1, omega arith, sym e)) (bound_cases start end first second p bound),
+  );
 }

@@ -51,7 +51,7 @@ listed_from_pair events before after end answer p =
     let at = got_from_position (types_of events) before end answer.start (record { within = p.order; typed = starts }) in
     let same : pair end answer.start ≡ answer = λ i. record { start = answer.start; marks = sym p.marks i } in
     let listed : Contains (map (pair end) xs) answer =
-        contains_from_got (map (pair end) xs) answer at.0 (map_of_got (pair end) xs at.0 answer.start at.1 ∙ ap Some same) in
+    contains_from_got (map (pair end) xs) answer at.0 (map_of_got (pair end) xs at.0 answer.start at.1 ∙ ap Some same) in
     subst (λ (b : Bool). Contains (if b then map (pair end) xs else []) answer) (sym ends) listed
 
 order_step : (end : ℕ) (xs : List ℕ) → IsAscending xs → (b : Bool) → EachBeforeNext (if b then map (pair end) xs else [])
@@ -75,7 +75,7 @@ block_of_pairs n named q is events before after before_is after_is end =
       distinct = distinct_step end (positions_of types before end) up (has_type types after end);
       right = λ answer has. answer_from_pair n q is events before after before_is after_is end answer (pair_from_listed events before after end answer has);
       enough = subst (λ (any : Option ℕ). AreEnough any (IsAnswer (schema_of n) q events end) answers) (sym is.any)
-        (λ answer a. listed_from_pair events before after end answer (pair_from_answer n named q is events before after before_is after_is end answer a));
+          (λ answer a. listed_from_pair events before after end answer (pair_from_answer n named q is events before after before_is after_is end answer a));
       ordered = order_step end (positions_of types before end) up (has_type types after end);
       written = refl;
     }
@@ -86,9 +86,13 @@ output_of_pairs : (n : Names) → AreNames n → (q : Query) → IsQueryOf n q �
 output_of_pairs n named q is events before after before_is after_is zero = refl
 output_of_pairs n named q is events before after before_is after_is (suc count) =
     let front = pairs_output_of count before after (types_of events) in
-    let here = pair_lines before after (types_of events) count in
-    (front, here, output_of_pairs n named q is events before after before_is after_is count,
-     (here, [], block_of_pairs n named q is events before after before_is after_is count, refl, sym (append-nil here)), refl)
+    let here = pair_lines before after (types_of events) count in (
+      front,
+      here,
+      output_of_pairs n named q is events before after before_is after_is count,
+      (here, [], block_of_pairs n named q is events before after before_is after_is count, refl, sym (append-nil here)),
+      refl,
+    )
 
 -- What the program is to write for the one query is the output of the pairs.
 pub pairs_are_output : (n : Names) → AreNames n → (q : Query) → IsQueryOf n q → (events : List Event) (before after : ℕ) →

@@ -1,6 +1,6 @@
 -- What a sink has taken, a line after another.
-use Rattle.std.proofs.Common.{◌≡◌, ℕ, zero, suc, ◌+◌, ◌-◌, ◌^◌, ◌<◌, ◌≤◌, ◌⊎◌, Bool, true, false, List, [], ◌∷◌, ◌++◌, map, length, take, get_or, add-one, Option, Some, None, Result, Ok, Err, refl, sym, ◌∙◌, ap, subst, append_assoc, arith, ⊎_elim, rules}
-use Rattle.std.specs.Prelude.{flat_map, min, if◌then◌else◌, ◌==◌}
+use Rattle.std.proofs.Common.{◌≡◌, ℕ, zero, suc, ◌+◌, ◌<◌, ◌≤◌, Bool, true, false, List, [], ◌∷◌, ◌++◌, map, length, take, get_or, add-one, Option, Some, None, Err, refl, sym, ◌∙◌, ap, subst, append_assoc, arith, ⊎_elim}
+use Rattle.std.specs.Prelude.{flat_map, if◌then◌else◌, ◌==◌}
 use Rattle.std.proofs.lemmas.Bool.{cases_lt}
 use Rattle.std.proofs.lemmas.Grind.{flat_map-append}
 use Rattle.std.proofs.lemmas.List.{append-nil, length-append, map-append, take-append-le}
@@ -9,10 +9,10 @@ use Rattle.stream_schema.specs.declared.Event.{Event}
 use Rattle.answer_text.specs.Output.{line}
 use Rattle.cer_base.specs.declared.OrMemory.{OrMemory}
 use Rattle.cer_base.specs.declared.OrMemory.TheVariants.{Fault, Memory}
-use Rattle.cer_outside.specs.Bytes.{TookAll, TookPart, IsProperPart}
+use Rattle.cer_outside.specs.Bytes.{TookAll, TookPart}
 use Rattle.cer_outside.specs.Causes.{Rose}
 use Rattle.core_top.specs.Pairs.{has_type, positions_of, pair, pair_lines, pairs_output_of}
-use Rattle.core_top.specs.Taken.{IsPart, TookPrefix, OnFault, OnMemory, Wrote, HasWriteCause}
+use Rattle.core_top.specs.Taken.{TookPrefix, OnFault, OnMemory, Wrote, HasWriteCause}
 
 pub took_none : (now : Option (List ℕ)) → TookAll now now []
 took_none None = refl
@@ -92,8 +92,8 @@ rest_after made step more i (suc n) within =
     ⊎_elim
     (λ (less : n < i). ([], ap made (omega arith) ∙ sym (append-nil (made i))))
     (λ (not_less : i ≤ n).
-      let before = rest_after made step more i n not_less in
-      (before.0 ++ step n, more n ∙ ap (λ (l : List ℕ). l ++ step n) before.1 ∙ append_assoc (made i) before.0 (step n)))
+    let before = rest_after made step more i n not_less in
+    (before.0 ++ step n, more n ∙ ap (λ (l : List ℕ). l ++ step n) before.1 ∙ append_assoc (made i) before.0 (step n)))
     (cases_lt n i)
 
 -- An error in a step is one in the whole.
@@ -139,11 +139,11 @@ pub start_written : (first middle last : Option (List ℕ)) (events : List Event
 start_written first middle last events before end i e within at p q =
     let types = map (λ e. e.ty) events in
     let piece : start_line (e.ty == before) end i ≡ start_line (has_type types before i) end i =
-        ap (λ (b : Bool). start_line b end i) (sym (has_type_at events before i e within at)) in
+    ap (λ (b : Bool). start_line b end i) (sym (has_type_at events before i e within at)) in
     let more = start_lines_more before types end i in
     rw add-one
     (subst (λ (l : List ℕ). TookAll first last l) (ap (λ (l : List ℕ). start_lines before types end i ++ l) piece ∙ sym more)
-      (all_after first middle last (start_lines before types end i) (start_line (e.ty == before) end i) p q))
+    (all_after first middle last (start_lines before types end i) (start_line (e.ty == before) end i) p q))
 
 -- An error at a start is one at the end's lines.
 pub start_failed : {F : Type 0} (first middle last : Option (List ℕ)) (events : List Event) (before end i : ℕ) (e : Event) (refused : OrMemory F) →
@@ -177,3 +177,12 @@ pub position_failed : {F : Type 0} (first middle last : Option (List ℕ)) (befo
     Wrote {T = Unit {0}} first last (pairs_output_of n before after types) (Err refused)
 position_failed first middle last before after types i n refused below p q =
     error_in_step (λ n. pairs_output_of n before after types) (pair_lines before after types) (λ n. refl) first middle last i n refused below p q
+
+-- What an error says, by its kind.
+pub part_of_wrote : {F : Type 0} (first last : Option (List ℕ)) (bytes : List ℕ) (e : OrMemory F) → Wrote {T = Unit {0}} first last bytes (Err e) → OnFault e (TookPart first last bytes)
+part_of_wrote first last bytes (Fault f) w = w
+part_of_wrote first last bytes Memory w = tt
+
+pub prefix_of_wrote : {F : Type 0} (first last : Option (List ℕ)) (bytes : List ℕ) (e : OrMemory F) → Wrote {T = Unit {0}} first last bytes (Err e) → OnMemory e (TookPrefix first last bytes)
+prefix_of_wrote first last bytes (Fault f) w = tt
+prefix_of_wrote first last bytes Memory w = w

@@ -1,5 +1,5 @@
 -- What is written for a stream: a line for each complex event, by position and then by query.
-use Rattle.std.specs.Prelude.{◌≡◌, ℕ, zero, suc, ◌+◌, ◌<◌, ◌≤◌, ◌⊎◌, ◌↔◌, min, List, [], ◌∷◌, ◌++◌, length, Contains, Option, Some, None, slice_get, flat_map, decimal, codes}
+use Rattle.std.specs.Prelude.{◌≡◌, ℕ, zero, suc, ◌+◌, ◌<◌, ◌⊎◌, ◌↔◌, min, List, [], ◌∷◌, ◌++◌, length, Contains, Option, Some, None, slice_get, flat_map, decimal, codes}
 use Rattle.stream_schema.specs.Types.{Declared}
 use Rattle.stream_schema.specs.declared.Event.{Event}
 use Rattle.cel_terms.specs.declared.Query.{Query}

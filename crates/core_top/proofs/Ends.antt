@@ -21,9 +21,11 @@ use Rattle.answer_text.specs.Output.{IsOutput}
 use Rattle.core_top.specs.FirstForm.{Names, AreNames, IsQueryFile, IsEventFile, schema_of}
 use Rattle.core_top.specs.Pairs.{pairs_output}
 use Rattle.core_top.specs.Plan.{IsPlanOf}
-use Rattle.core_top.specs.SourceBytes.{AreFirst, OnFault}
+use Rattle.core_top.specs.SourceBytes.{AreFirst}
 use Rattle.core_top.specs.Causes.{IsAccepted, IsRefused, IsStopped, ComesInTurn, name_of}
-use Rattle.core_top.specs.Output.{AreAnswers, TookPrefix}
+use Rattle.core_top.specs.Output.{AreAnswers}
+use Rattle.core_top.specs.Taken.{TookPrefix}
+use Rattle.core_top.proofs.PairOutput.{pairs_are_output}
 use Rattle.core_top.proofs.QueryFile.{names_again, words_from_names}
 use Rattle.core_top.specs.Run.{Sources, FailedWith, ReadingStops, Outside, RunEnds, Ended, HasAccepted, HasAnswers, WroteNothing}
 
@@ -96,10 +98,6 @@ ends_by {S} sources o given want failed same none ends =
     let Q : Option S → Type 0 = λ f. RunEnds sources o given f in
     record { holds = subst Q (sym none) (subst P (sym same) ends) }
 
--- what the plain engine writes is the output
-pub pairs_are_output : (n : Names) (plan : Plan) (list : List Event) → AreNames n → IsPlanOf n plan → IsOutput Sorted (schema_of n) (plan.query ∷ []) list (pairs_output plan.before plan.after (map (λ e. e.ty) list))
-pairs_are_output n plan list names is = ?
-
 -- what was written of two files that were read
 pub answers_of : (queries events : Option (List ℕ)) (query_bytes event_bytes : List ℕ) (plan : Plan) (m : Names) (list : List Event) →
     AreFirst 1048577 queries query_bytes → AreFirst 1048577 events event_bytes → IsQueryFile query_bytes m → IsPlanOf m plan →
@@ -113,12 +111,16 @@ answers_of queries events query_bytes event_bytes plan m list first second is pl
       query_file = query_file_whole text query_bytes m (first_of queries text query_bytes first told_text) is;
       term = planned.query;
       event_file = event_file_whole lines event_bytes m list (first_of events lines event_bytes second told_lines) (read m planned);
-      output = pairs_are_output m plan list is.named planned;
+      output = pairs_are_output m is.named plan.query planned.query list plan.before plan.after planned.before planned.after;
     }
 
 -- the same bytes by another name
 pub first_as : (content : Option (List ℕ)) (read same : List ℕ) → same ≡ read → AreFirst 1048577 content read → AreFirst 1048577 content same
 first_as content read same is first = let P : List ℕ → Type 0 = λ w. AreFirst 1048577 content w in subst P (sym is) first
+
+-- the same events by another name
+pub events_as : (plan : Plan) (bytes : List ℕ) (list same : List Event) → same ≡ list → ((n : Names) → IsPlanOf n plan → IsEventFile n bytes list) → (n : Names) → IsPlanOf n plan → IsEventFile n bytes same
+events_as plan bytes list same is read n planned = let P : List Event → Type 0 = λ w. IsEventFile n bytes w in subst P (sym is) (read n planned)
 
 -- the bytes that the host still has
 pub still_first : (old new : Option (List ℕ)) (read : List ℕ) → new ≡ old → AreFirst 1048577 new read → AreFirst 1048577 old read

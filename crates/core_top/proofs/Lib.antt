@@ -3,8 +3,14 @@ pub mod QueryFile
 pub mod Sequence
 pub mod EventFile
 pub mod Numeral
-mod Words
-mod WholeFiles
-mod Ends
-mod Clauses
-mod TopClauses
+pub mod PairTypes
+pub mod PairMarks
+pub mod PairAnswers
+pub mod PairLists
+pub mod PairOutput
+pub mod PairWriting
+pub mod Words
+pub mod WholeFiles
+pub mod Ends
+pub mod Clauses
+pub mod TopClauses

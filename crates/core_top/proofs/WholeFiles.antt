@@ -2,10 +2,7 @@
 use Rattle.std.proofs.Common.{◌≡◌, ℕ, ◌≤◌, ◌+◌, List, [], ◌∷◌, ◌++◌, length, take, Option, Some, None, Result, Ok, Err, refl, sym, ◌∙◌, ap, subst, arith, append_assoc, IfSome}
 use Rattle.std.proofs.Math.Seq.{take-append_seam}
 use Rattle.std.proofs.lemmas.List.{append-nil, take_all}
-use Rattle.cer_base.specs.declared.OrMemory.{OrMemory}
-use Rattle.cer_base.specs.declared.OrMemory.TheVariants as wanted
-use Rattle.cer_outside.specs.Causes.{Rose}
-use Rattle.core_top.specs.SourceBytes.{ReadsOn, IsAtEnd, AreFirst, IsRest, OnFault}
+use Rattle.core_top.specs.SourceBytes.{ReadsOn, IsAtEnd, AreFirst, IsRest}
 
 -- nothing read yet
 pub reads_none : (left : Option (List ℕ)) → ReadsOn left left [] []
@@ -48,13 +45,3 @@ first_full n None b y read full = tt
 first_full n (Some a) None y read full = absurd read
 first_full n (Some a) (Some b) y read full =
     sym (take-append_seam y b) ∙ ap (λ k. take k (y ++ b)) full ∙ ap (take n) read
-
--- a count that rose from a later value rose from an earlier one
-pub rose_from : (a b c : ℕ) → a ≤ b → Rose b c → Rose a c
-rose_from a b c le rose = omega arith
-
--- the same of a call's fault
-pub fault_from : {T : Type 0} {F : Type 0} (result : Result T (OrMemory F)) (a b c : ℕ) → a ≤ b → OnFault result (Rose b c) → OnFault result (Rose a c)
-fault_from (Ok value) a b c le rose = tt
-fault_from (Err (wanted.Fault fault)) a b c le rose = rose_from a b c le rose
-fault_from (Err wanted.Memory) a b c le rose = tt

@@ -3,6 +3,7 @@ pub mod Plan
 pub mod Reading
 pub mod Command
 pub mod SourceBytes
+pub mod Taken
 pub mod Causes
 pub mod Output
 pub mod Notes

@@ -6,7 +6,7 @@ use Rattle.core_top.specs.declared.File.{File}
 use Rattle.core_top.specs.declared.File.TheVariants as file
 use Rattle.core_top.specs.declared.Cause.{Cause}
 use Rattle.core_top.specs.declared.Cause.TheVariants as cause
-use Rattle.core_top.specs.Output.{TookPrefix}
+use Rattle.core_top.specs.Taken.{TookPrefix}
 
 -- the word for a file in a note
 abbrev pub file_word : File → List ℕ

@@ -5,6 +5,7 @@ use Rattle.cel_terms.specs.declared.Query.{Query}
 use Rattle.answer_text.specs.declared.Order.TheVariants.{Sorted}
 use Rattle.answer_text.specs.Output.{IsOutput}
 use Rattle.cer_outside.specs.Bytes.{TookAll, TookPart}
+use Rattle.core_top.specs.Taken.{TookPrefix}
 use Rattle.core_top.specs.declared.Cause.{Cause}
 use Rattle.core_top.specs.declared.Cause.TheVariants as cause
 use Rattle.core_top.specs.FirstForm.{Names, IsQueryFile, IsQueryOf, IsEventFile, schema_of}
@@ -26,18 +27,6 @@ pub record AreRunAnswers (words : List (List ℕ)) (content : List ℕ → Optio
   pub events : List ℕ
   pub asked : IsRun words queries events
   pub answers : (text lines : List ℕ) → content queries ≡ Some text → content events ≡ Some lines → AreAnswers text lines bytes
-
--- what was taken are the first count bytes
-pub record IsPrefixPart (before after bytes : List ℕ) : Type 0 where
-  pub count : ℕ
-  pub within : count ≤ length bytes
-  pub took : after ≡ before ++ take count bytes
-
--- of an object that tells its bytes: it took a first part, perhaps all
-abbrev pub TookPrefix : Option (List ℕ) → Option (List ℕ) → List ℕ → Type 0
-TookPrefix None after bytes = after ≡ None
-TookPrefix (Some before) None bytes = ⊥
-TookPrefix (Some before) (Some after) bytes = IsPrefixPart before after bytes
 
 -- What the output has taken, by the cause: all the answers, a proper first part, a first part, or nothing.
 abbrev pub Wrote : Cause → (List ℕ → Type 0) → Option (List ℕ) → Option (List ℕ) → Type 0

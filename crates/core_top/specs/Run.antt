@@ -6,7 +6,8 @@ use Rattle.core_top.specs.declared.File.{File}
 use Rattle.core_top.specs.declared.Cause.{Cause}
 use Rattle.core_top.specs.declared.Cause.TheVariants as cause
 use Rattle.core_top.specs.Causes.{IsAccepted, IsRefused, IsStopped, ComesInTurn, name_of}
-use Rattle.core_top.specs.Output.{AreAnswers, TookPrefix}
+use Rattle.core_top.specs.Output.{AreAnswers}
+use Rattle.core_top.specs.Taken.{TookPrefix}
 use Rattle.core_top.specs.SourceBytes.{IsRest}
 use Rattle.core_top.specs.Command.{IsRun, AskNothing}
 

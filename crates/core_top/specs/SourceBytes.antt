@@ -1,7 +1,5 @@
 -- What is read of a source, where it tells its bytes.
 use Rattle.std.specs.Prelude.{◌≡◌, ℕ, List, [], ◌++◌, take, Option, Some, None, IfSome, Result, Ok, Err}
-use Rattle.cer_base.specs.declared.OrMemory.{OrMemory}
-use Rattle.cer_base.specs.declared.OrMemory.TheVariants as wanted
 
 -- the bytes and what is left after them stay the same
 abbrev pub ReadsOn : Option (List ℕ) → Option (List ℕ) → List ℕ → List ℕ → Type 0
@@ -22,9 +20,3 @@ abbrev pub IsRest : Option (List ℕ) → Option (List ℕ) → Type 0
 IsRest None left = Unit {0}
 IsRest (Some whole) None = ⊥
 IsRest (Some whole) (Some left) = (front : List ℕ) × (whole ≡ front ++ left)
-
--- the fact, where the call answered its fault and not want of memory
-abbrev pub OnFault : {T F : Type 0} → Result T (OrMemory F) → Type 0 → Type 0
-OnFault (Ok value) P = Unit {0}
-OnFault (Err (wanted.Fault fault)) P = P
-OnFault (Err wanted.Memory) P = Unit {0}

@@ -1,15 +1,94 @@
-ghost use Rattle.std.specs.Prelude.{◌≡◌, ◌≤◌, ◌+◌, ℕ, List, map, length, OnOk, OnErr, IfOk, Some, slice_get, [], ◌∷◌};
-ghost use Rattle.cer_outside.specs.Bytes.{TookAll, TookPart};
-ghost use Rattle.cer_outside.specs.Causes.{Rose};
-ghost use Rattle.core_top.specs.SourceBytes.{OnFault};
-ghost use Rattle.core_top.specs.Output.{TookPrefix};
-ghost use Rattle.core_top.specs.Pairs.{pairs_output};
+//! The plainest engine, for one sequence of two types: at each event of the second type it writes a
+//! line for each earlier event of the first.
 
-use cer_base::OrMemory;
+ghost use Rattle.std.specs.Prelude.{◌≡◌, ◌<◌, ◌≤◌, ◌==◌, if◌then◌else◌, [], length, map, flat_map, OnOk, IfErr};
+ghost use Rattle.answer_text.specs.Output.{line};
+ghost use Rattle.cer_outside.specs.Bytes.{TookAll, TookPart};
+ghost use Rattle.core_top.specs.Pairs.{pair, positions_of, pair_lines, pairs_output};
+ghost use Rattle.core_top.specs.Taken.{TookPrefix, OnFault, OnMemory, TookBy, HasWriteCause};
+
+use answer_text::line;
+use cer_base::{OrMemory, Pos};
+use cer_outside::writing::put_all;
 use cer_outside::{Sink, WriteFault};
 use std::alloc::Global;
 use stream_schema::{Event, TypeId};
 
+fn write_pair<K: Sink>(
+    alloc: Global,
+    out: &mut K,
+    start: Pos,
+    end: Pos,
+) -> Result<(), OrMemory<WriteFault>>
+    ensures bytes { TookBy (K.taken out.old) (K.taken out.new) (line 1 end (pair end start)) result }
+    ensures cause { HasWriteCause (K.faults out.old) (K.faults out.new) result }
+{
+    let text = line(alloc, 1, start, end, &[start, end])?;
+    match put_all(out, text.as_slice()) {
+        Ok(()) => Ok(()),
+        Err(fault) => Err(OrMemory::Fault(fault)),
+    }
+}
+
+fn write_start<K: Sink>(
+    alloc: Global,
+    out: &mut K,
+    event: &Event,
+    before: TypeId,
+    start: Pos,
+    end: Pos,
+) -> Result<(), OrMemory<WriteFault>>
+    ensures bytes { TookBy (K.taken out.old) (K.taken out.new) (if event.now.ty == before then line 1 end (pair end start) else []) result }
+    ensures cause { HasWriteCause (K.faults out.old) (K.faults out.new) result }
+{
+    if event.ty == before {
+        write_pair(alloc, out, start, end)
+    } else {
+        Ok(())
+    }
+}
+
+fn write_pairs<K: Sink>(
+    alloc: Global,
+    out: &mut K,
+    events: &[Event],
+    before: TypeId,
+    end: usize,
+) -> Result<(), OrMemory<WriteFault>>
+    requires { end ≤ length events.now }
+    ensures bytes { TookBy (K.taken out.old) (K.taken out.new) (flat_map (line 1 end) (map (pair end) (positions_of (map (λ e. e.ty) events.now) before end))) result }
+    ensures cause { HasWriteCause (K.faults out.old) (K.faults out.new) result }
+{
+    for start in 0..end {
+        write_start(alloc, out, &events[start], before, start as Pos, end as Pos)?;
+    }
+    Ok(())
+}
+
+fn write_position<K: Sink>(
+    alloc: Global,
+    out: &mut K,
+    events: &[Event],
+    before: TypeId,
+    after: TypeId,
+    end: usize,
+) -> Result<(), OrMemory<WriteFault>>
+    requires { end < length events.now }
+    ensures bytes { TookBy (K.taken out.old) (K.taken out.new) (pair_lines before after (map (λ e. e.ty) events.now) end) result }
+    ensures cause { HasWriteCause (K.faults out.old) (K.faults out.new) result }
+{
+    if events[end].ty == after {
+        write_pairs(alloc, out, events, before, end)
+    } else {
+        Ok(())
+    }
+}
+
+/// Writes the lines of the sequence of the type `before` and then the type `after`, position by
+/// position, and at each by ascending start.
+///
+/// After a fault the sink has taken a proper first part of the lines, and its count of faults has
+/// risen; where memory ran out, a first part.
 pub fn write_answers<K: Sink>(
     alloc: Global,
     out: &mut K,
@@ -17,11 +96,13 @@ pub fn write_answers<K: Sink>(
     before: TypeId,
     after: TypeId,
 ) -> Result<(), OrMemory<WriteFault>>
-    ensures ok { OnOk result (TookAll (K.taken out.old) (K.taken out.new) (pairs_output before after (map (λ e. e.ty) events.now))) }
-    ensures memory { OnErr result (TookPrefix (K.taken out.old) (K.taken out.new) (pairs_output before after (map (λ e. e.ty) events.now))) }
-    ensures fault { OnFault result (TookPart (K.taken out.old) (K.taken out.new) (pairs_output before after (map (λ e. e.ty) events.now))) }
-    ensures later { K.faults out.old ≤ K.faults out.new }
-    ensures cause { OnFault result (Rose (K.faults out.old) (K.faults out.new)) }
+    ensures all { OnOk result (TookAll (K.taken out.old) (K.taken out.new) (pairs_output before after (map (λ e. e.ty) events.now))) }
+    ensures part { IfErr result (λ e. OnFault e (TookPart (K.taken out.old) (K.taken out.new) (pairs_output before after (map (λ e. e.ty) events.now)))) }
+    ensures prefix { IfErr result (λ e. OnMemory e (TookPrefix (K.taken out.old) (K.taken out.new) (pairs_output before after (map (λ e. e.ty) events.now)))) }
+    ensures cause { HasWriteCause (K.faults out.old) (K.faults out.new) result }
 {
-    Err(OrMemory::Memory)
+    for end in 0..events.len() {
+        write_position(alloc, out, events, before, after, end)?;
+    }
+    Ok(())
 }

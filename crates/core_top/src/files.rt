@@ -1,8 +1,9 @@
 //! The files, each read whole.
 
-ghost use Rattle.std.specs.Prelude.{◌≡◌, ◌+◌, ◌<◌, ◌≤◌, ℕ, List, [], length, vec_len, IfOk};
+ghost use Rattle.std.specs.Prelude.{◌≡◌, ◌+◌, ◌<◌, ◌≤◌, ℕ, List, [], length, vec_len, IfOk, IfErr};
 ghost use Rattle.cer_outside.specs.Causes.{Rose};
-ghost use Rattle.core_top.specs.SourceBytes.{ReadsOn, IsAtEnd, AreFirst, IsRest, OnFault};
+ghost use Rattle.core_top.specs.SourceBytes.{ReadsOn, IsAtEnd, AreFirst, IsRest};
+ghost use Rattle.core_top.specs.Taken.{OnFault};
 
 use cer_base::{Memory, OrMemory};
 use cer_outside::{Failed, Source};
@@ -19,7 +20,7 @@ pub fn read_whole<S: Source>(alloc: Global, source: &mut S) -> Result<Vec<u8>, O
     ensures bytes { IfOk result (λ bytes. AreFirst 1048577 (S.left source.old) bytes.items) }
     ensures rest { IsRest (S.left source.old) (S.left source.new) }
     ensures later { S.faults source.old ≤ S.faults source.new }
-    ensures cause { OnFault result (Rose (S.faults source.old) (S.faults source.new)) }
+    ensures cause { IfErr result (λ e. OnFault e (Rose (S.faults source.old) (S.faults source.new))) }
 {
     let mut bytes = Vec::new(alloc);
     let mut buffer = buffer_of(alloc, PIECE)?;
@@ -55,7 +56,7 @@ fn read_piece<S: Source>(
     ensures end { IfOk result (λ n. n ≡ 0 → IsAtEnd (S.left source.new)) }
     ensures rest { IsRest (S.left source.old) (S.left source.new) }
     ensures later { S.faults source.old ≤ S.faults source.new }
-    ensures cause { OnFault result (Rose (S.faults source.old) (S.faults source.new)) }
+    ensures cause { IfErr result (λ e. OnFault e (Rose (S.faults source.old) (S.faults source.new))) }
 {
     let want = buffer.len().min(MOST_READ - bytes.len());
     let count = match source.read(&mut buffer[..want]) {

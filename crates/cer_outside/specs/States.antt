@@ -10,3 +10,14 @@ pub record SourceState : Type 0 where
 pub record SinkState : Type 0 where
   pub taken : List ℕ
   pub faults : ℕ
+
+-- A file that a host has: its name, its bytes, and how often opening it failed.
+pub record FileState : Type 0 where
+  pub name : List ℕ
+  pub bytes : List ℕ
+  pub faults : ℕ
+
+-- A host in memory: its files, and how often a call for a name that none of them has failed.
+pub record HostState : Type 0 where
+  pub files : List FileState
+  pub others : ℕ

@@ -17,6 +17,7 @@ use std::alloc::Global;
 mod calls;
 pub mod files;
 pub mod hosts;
+pub mod laws;
 mod portions;
 pub mod sinks;
 pub mod sources;

@@ -1,0 +1,25 @@
+ghost use Rattle.std.specs.Prelude.{◌≡◌, ◌<◌, length, IsOk, IsSome, IfErr};
+ghost use Rattle.cer_outside.specs.declared.OpenError.TheVariants as wanted;
+ghost use Rattle.cer_outside.specs.Files.{bytes_under};
+
+use crate::hosts::SureHost;
+use crate::sources::SureSource;
+use crate::{Failed, Host, OpenError, Source};
+use std::alloc::Global;
+
+/// A read of a source that never fails, which follows from the source's own contract.
+pub fn read_sure(source: &mut SureSource, into: &mut [u8]) -> Result<usize, Failed>
+    requires { 0 < length into.old }
+    ensures { IsOk result }
+{
+    source.read(into)
+}
+
+/// Takes a file that the host has: it answers no error but `OpenError::Memory`, which follows from
+/// the host's own contract.
+pub fn take_known(host: &mut SureHost, alloc: Global, name: &str) -> Result<SureSource, OpenError>
+    requires { IsSome (bytes_under host.old.files name.now) }
+    ensures { IfErr result (λ e. e ≡ wanted.Memory) }
+{
+    host.take_file(alloc, name)
+}

@@ -6,9 +6,10 @@ pub record SourceState : Type 0 where
   pub left : List ℕ
   pub faults : ℕ
 
--- A sink: the bytes that it has taken, and how often a call failed.
+-- A sink: the bytes that it has taken, how many it takes in all, and how often a call failed.
 pub record SinkState : Type 0 where
   pub taken : List ℕ
+  pub room : ℕ
   pub faults : ℕ
 
 -- A file that a host has: its name, its bytes, and how often opening it failed.

@@ -1,3 +1,5 @@
+//! Files in memory.
+
 ghost use Rattle.std.specs.Prelude.{◌≡◌, ℕ, ◌+◌, ◌-◌, ◌^◌, ◌<◌, ◌≤◌, min, IfOk};
 ghost use Rattle.std.specs.List.{position};
 ghost use Rattle.cer_outside.specs.States.{FileState};

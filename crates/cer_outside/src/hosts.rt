@@ -1,3 +1,5 @@
+//! Hosts in memory: one whose opens and files fail as chosen, and one that never fails at a name that it has.
+
 ghost use Rattle.std.specs.Prelude.{◌≡◌, ℕ, ◌≤◌, List, cond, is_some, IfOk};
 ghost use Rattle.cer_outside.specs.Causes.{Rose};
 ghost use Rattle.cer_outside.specs.States.{HostState};

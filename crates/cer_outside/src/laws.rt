@@ -1,3 +1,5 @@
+//! What follows of the objects that never fail, as contracts of small functions.
+
 ghost use Rattle.std.specs.Prelude.{◌≡◌, ◌<◌, length, IsOk, IsSome, IfErr, IfOk, Some};
 ghost use Rattle.cer_outside.specs.declared.OpenError.TheVariants as wanted;
 ghost use Rattle.cer_outside.specs.Bytes.{Reads};

@@ -1,3 +1,5 @@
+//! A sink in memory, of a fixed room, whose calls fail as chosen.
+
 ghost use Rattle.std.specs.Prelude.{◌≡◌, ℕ, ◌<◌, ◌≤◌, [], List, Some, length, vec_len, IfOk};
 ghost use Rattle.std.specs.Vec.{vec_capacity};
 ghost use Rattle.cer_outside.specs.States.{SinkState};

@@ -5,7 +5,6 @@
 #![tactic(auto)]
 
 use cer_base::Place;
-
 pub use top::core_main;
 
 mod command;
@@ -74,3 +73,6 @@ pub struct Done<S> {
     /// The source that failed, where the cause is a `ReadFault`.
     pub failed: Option<S>,
 }
+
+#[cfg(test)]
+mod tests;

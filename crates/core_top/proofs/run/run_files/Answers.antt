@@ -17,33 +17,52 @@ pub returns-in-Err-Fault-read_events-clause-ends :
     goal.returns-in-Err-Fault-read_events-clause-ends
 returns-in-Err-Fault-read_events-clause-ends g c =
     let read = c.in-Ok-read_query.ensures.ok in
-    ends_by _ _ _ _ _ c.of-in-Err-Fault-read_events.ensures.cause c.of-in-Err-Fault-read_events.ensures.failed
-    (refl, refl, accepted_text _ _ _ (first_as _ _ _ c.as_slice.ensures.value c.in-Ok.ensures.bytes) read.1,
+    ends_by _ _ _ _ _ c.of-in-Err-Fault-read_events.ensures.cause c.of-in-Err-Fault-read_events.ensures.failed (
+      refl,
+      refl,
+      accepted_text _ _ _ (first_as _ _ _ c.as_slice.ensures.value c.in-Ok.ensures.bytes) read.1,
       stopped_file _ _ _ _ _ _ _ (first_as _ _ _ c.as_slice.ensures.value c.in-Ok.ensures.bytes) (still_first _ _ _ (c.take_whole.ensures.kept _) (first_as _ _ _ c.as_slice-2.ensures.value c.in-Ok-take_whole.ensures.bytes)) read.1
-        (planned_again _ _ _ read.1 read.2) (c.in-Err-Fault-read_events.ensures.refused (not_yet_event _ _ c.in-Err-Fault-read_events.field-0-is)))
+          (planned_again _ _ _ read.1 read.2) (c.in-Err-Fault-read_events.ensures.refused (not_yet_event _ _ c.in-Err-Fault-read_events.field-0-is)),
+    )
 
 pub returns-in-Ok-write_answers-clause-ends : goal.returns-in-Ok-write_answers-clause-ends
 returns-in-Ok-write_answers-clause-ends g c =
     let read = c.in-Ok-read_query.ensures.ok in
-    ends_by _ _ _ _ _ c.of-in-Ok-write_answers.ensures.cause c.of-in-Ok-write_answers.ensures.failed
-    (refl, accepted_text _ _ _ (first_as _ _ _ c.as_slice.ensures.value c.in-Ok.ensures.bytes) read.1,
-      (_, answers_of _ _ _ _ _ _ _ (first_as _ _ _ c.as_slice.ensures.value c.in-Ok.ensures.bytes) (still_first _ _ _ (c.take_whole.ensures.kept _) (first_as _ _ _ c.as_slice-2.ensures.value c.in-Ok-take_whole.ensures.bytes)) read.1 read.2 (events_as _ _ _ _ c.as_slice-3.ensures.value c.in-Ok-read_events.ensures.ok),
-        c.in-Ok-write_answers.ensures.all))
+    ends_by _ _ _ _ _ c.of-in-Ok-write_answers.ensures.cause c.of-in-Ok-write_answers.ensures.failed (
+      refl,
+      accepted_text _ _ _ (first_as _ _ _ c.as_slice.ensures.value c.in-Ok.ensures.bytes) read.1,
+      (
+        _,
+        answers_of _ _ _ _ _ _ _ (first_as _ _ _ c.as_slice.ensures.value c.in-Ok.ensures.bytes) (still_first _ _ _ (c.take_whole.ensures.kept _) (first_as _ _ _ c.as_slice-2.ensures.value c.in-Ok-take_whole.ensures.bytes)) read.1 read.2 (events_as _ _ _ _ c.as_slice-3.ensures.value c.in-Ok-read_events.ensures.ok),
+        c.in-Ok-write_answers.ensures.all,
+      ),
+    )
 
 pub returns-in-Err-Memory-write_answers-clause-ends :
     goal.returns-in-Err-Memory-write_answers-clause-ends
 returns-in-Err-Memory-write_answers-clause-ends g c =
     let read = c.in-Ok-read_query.ensures.ok in
-    ends_by _ _ _ _ _ c.of-in-Err-Memory-write_answers.ensures.cause c.of-in-Err-Memory-write_answers.ensures.failed
-    (refl, inr (_, answers_of _ _ _ _ _ _ _ (first_as _ _ _ c.as_slice.ensures.value c.in-Ok.ensures.bytes) (still_first _ _ _ (c.take_whole.ensures.kept _) (first_as _ _ _ c.as_slice-2.ensures.value c.in-Ok-take_whole.ensures.bytes)) read.1 read.2 (events_as _ _ _ _ c.as_slice-3.ensures.value c.in-Ok-read_events.ensures.ok),
-        rw c.in-Err-Memory-write_answers.field-0-is at c.in-Err-Memory-write_answers.ensures.prefix))
+    ends_by _ _ _ _ _ c.of-in-Err-Memory-write_answers.ensures.cause c.of-in-Err-Memory-write_answers.ensures.failed (
+      refl,
+      inr (
+        _,
+        answers_of _ _ _ _ _ _ _ (first_as _ _ _ c.as_slice.ensures.value c.in-Ok.ensures.bytes) (still_first _ _ _ (c.take_whole.ensures.kept _) (first_as _ _ _ c.as_slice-2.ensures.value c.in-Ok-take_whole.ensures.bytes)) read.1 read.2 (events_as _ _ _ _ c.as_slice-3.ensures.value c.in-Ok-read_events.ensures.ok),
+        rw c.in-Err-Memory-write_answers.field-0-is at c.in-Err-Memory-write_answers.ensures.prefix,
+      ),
+    )
 
 pub returns-clause-ends : goal.returns-clause-ends
 returns-clause-ends g c =
     let read = c.in-Ok-read_query.ensures.ok in
-    ends_by _ _ _ _ _ c.of-in-Err-Fault-write_answers.ensures.cause c.of-in-Err-Fault-write_answers.ensures.failed
-    (refl, accepted_text _ _ _ (first_as _ _ _ c.as_slice.ensures.value c.in-Ok.ensures.bytes) read.1,
-      c.fault_count-before.ensures, c.fault_count-after.ensures,
+    ends_by _ _ _ _ _ c.of-in-Err-Fault-write_answers.ensures.cause c.of-in-Err-Fault-write_answers.ensures.failed (
+      refl,
+      accepted_text _ _ _ (first_as _ _ _ c.as_slice.ensures.value c.in-Ok.ensures.bytes) read.1,
+      c.fault_count-before.ensures,
+      c.fault_count-after.ensures,
       rose_same _ _ _ _ c.fault_count-before.ensures c.fault_count-after.ensures (rw c.in-Err-Fault-write_answers.field-0-is at c.in-Err-Fault-write_answers.ensures.cause.fault),
-      (_, answers_of _ _ _ _ _ _ _ (first_as _ _ _ c.as_slice.ensures.value c.in-Ok.ensures.bytes) (still_first _ _ _ (c.take_whole.ensures.kept _) (first_as _ _ _ c.as_slice-2.ensures.value c.in-Ok-take_whole.ensures.bytes)) read.1 read.2 (events_as _ _ _ _ c.as_slice-3.ensures.value c.in-Ok-read_events.ensures.ok),
-        rw c.in-Err-Fault-write_answers.field-0-is at c.in-Err-Fault-write_answers.ensures.part))
+      (
+        _,
+        answers_of _ _ _ _ _ _ _ (first_as _ _ _ c.as_slice.ensures.value c.in-Ok.ensures.bytes) (still_first _ _ _ (c.take_whole.ensures.kept _) (first_as _ _ _ c.as_slice-2.ensures.value c.in-Ok-take_whole.ensures.bytes)) read.1 read.2 (events_as _ _ _ _ c.as_slice-3.ensures.value c.in-Ok-read_events.ensures.ok),
+        rw c.in-Err-Fault-write_answers.field-0-is at c.in-Err-Fault-write_answers.ensures.part,
+      ),
+    )

@@ -18,6 +18,7 @@ mod query_lines;
 mod query_plan;
 mod run;
 mod spelled;
+pub mod sure;
 mod top;
 
 /// Why a query text was refused.

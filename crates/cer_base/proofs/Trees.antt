@@ -1,6 +1,7 @@
 -- The trees of a store, as it grows and is cut.
 use Rattle.std.proofs.Common.{◌≡◌, ◌≢◌, ℕ, zero, suc, ◌+◌, ◌<◌, ◌≤◌, List, [], ◌∷◌, ◌++◌, length, take, reverse, refl, sym, ap, subst, ◌∙◌, ◌⊎◌, inl, inr, Some, arith, length-append, eq-eqb, get_or, pos, max, append_assoc, All, Result, Ok, Err, OnOk, OnErr, IfOk}
-use Rattle.std.specs.Prelude.{slice_get}
+use Rattle.std.specs.Prelude.{slice_get, ℤ, ◌≤ℤ◌, Contains}
+use Rattle.std.proofs.lemmas.Int.{ints}
 use Rattle.std.proofs.lemmas.List.{append-nil, reverse-append, length-reverse, reverse-reverse}
 use Rattle.std.proofs.lemmas.Bool.{ne_eqb, cases_lt, le-leb}
 use Rattle.std.proofs.lemmas.List.Elements.{Contains-push_cases, Contains-append_left}
@@ -86,6 +87,22 @@ in_step-push nodes n other h s t has_s has_t le =
     elim (Contains-push_cases nodes n (Bottom s) has_s) [
       | inl a ↦ elim (Contains-push_cases nodes n (Bottom t) has_t) [ inl b ↦ h s t a b le | inr b ↦ absurd (other t b) ]
       | inr a ↦ absurd (other s a)
+    ]
+
+-- A store with a new bottom is in step where all its starts come before the new one.
+pub in_step-bottom : (nodes : List Node) (t : Stamp) → AreInStep nodes → ((s : Stamp) → Contains nodes (Bottom s) → (s.pos < t.pos) × (s.clock ≤ℤ t.clock)) → AreInStep (nodes ++ Bottom t ∷ [])
+in_step-bottom nodes t step before a b has_a has_b le =
+    elim (Contains-push_cases nodes (Bottom t) (Bottom a) has_a) [
+      | inl old_a ↦ elim (Contains-push_cases nodes (Bottom t) (Bottom b) has_b) [
+        | inl old_b ↦ step a b old_a old_b le
+        | inr new_b ↦ let same : t ≡ b = cc in subst (λ (x : Stamp). a.clock ≤ℤ x.clock) same (before a old_a).1
+      ]
+      | inr new_a ↦
+          let first : t ≡ a = cc in
+          elim (Contains-push_cases nodes (Bottom t) (Bottom b) has_b) [
+            | inl old_b ↦ absurd (let h = (before b old_b).0 in let e = ap (λ (x : Stamp). x.pos) first in omega arith)
+            | inr new_b ↦ let second : t ≡ b = cc in let same = ap (λ (x : Stamp). x.clock) (sym first ∙ second) in subst (λ (z : ℤ). a.clock ≤ℤ z) same (omega (arith, ints))
+          ]
     ]
 
 slice_get-front : (xs ys : List Node) (id : ℕ) (n : Node) → slice_get xs id ≡ Some n → slice_get (xs ++ ys) id ≡ Some n

@@ -1,33 +1,40 @@
-//! How the next answer is found. A node is visited with the positions that lead to it, the path:
+//! How the next answer is found. Nodes are visited one below the other, behind the path, which has
+//! the positions that lead there.
 //!
-//! - at an output its position is put behind the path, and its child is visited;
-//! - at a union the right child is left for later, on the stack, with the length of the path, and
-//!   the left child is visited; a right child whose greatest start is too old is left out;
-//! - at a bottom the path is the answer's positions, greatest first, and the bottom is its start.
+//! - At an output its position is put behind the path, and its child is next.
+//! - At a union the left child is next. The right child goes on the stack, with the length of the
+//!   path, unless its greatest start is too old.
+//! - At a bottom the path has the answer's positions, greatest first, and the bottom is its start.
 //!
-//! For the next answer the top of the stack is taken off, and the path is cut to its length there.
-//! An example, with starts a, b, c and d, of which a is the latest, and the members of each node:
+//! For the answer after it, the top of the stack is next, and the path is cut to the length there.
+//!
+//! A chain of three unions, `u1` to `u3`. Left children and children of outputs stand below, right
+//! children to the right. `out 6` puts position 6 in front, `start 3` is a bottom at 3.
 //!
 //! ```text
-//!   union 9                        members of 9, in the order in which they are given
-//!    |  \
-//!    |   union 8                   visited               answer
-//!    |    |  \                     9, out 4, a           start a, positions 4
-//!    |    |   union 7              8, out 5, out 2, b    start b, positions 5 2
-//!    |    |    |   \               7, out 6, c           start c, positions 6
-//!  out 4 out 5 out 6 out 3         out 3, d              start d, positions 3
-//!    |    |     |     |
-//!    a   out 2  c     d            (9, 8 and 7 are on the way to the first three answers; 8, 7
-//!         |                         and out 3 are what the stack holds, one at a time)
-//!         b
+//!   u1 -------- u2 -------- u3 -------- out 6
+//!   |           |           |           |
+//!   out 6       out 6       out 6       start 1
+//!   |           |           |
+//!   out 3       out 5       out 2
+//!   |           |           |
+//!   start 3     start 3     start 2
+//!
+//!   call   visited                      start   positions   then on the stack
+//!   1      u1, out 6, out 3, start 3    3       6 3         u2
+//!   2      u2, out 6, out 5, start 3    3       6 5         u3
+//!   3      u3, out 6, out 2, start 2    2       6 2         the last out 6
+//!   4      out 6, start 1               1       6
+//!   5                                   none
 //! ```
 //!
-//! A chain of unions leans to the right, so that few unions stand before each output or bottom. At
-//! most three stand there, so an answer of n positions is found in at most `4 * (n + 1)` steps: each
-//! of its n outputs and its bottom is one, with three unions before each. That a visit is never in
-//! vain rests on the order of unions: the left child has the greatest start of all members, so it
-//! has a recent one wherever the union has one, and the right child's greatest start is kept in the
-//! union itself.
+//! With a window from 2 on, `u3` puts nothing on the stack, since it keeps its right child's greatest
+//! start, 1, and call 4 gives none.
+//!
+//! No visit is in vain: the left child of a union has the greatest start of all its members, so it
+//! has a recent one where the union has. And unions are chained to the right, so that at most three
+//! are visited before each output or bottom. An answer of n positions visits n outputs and one
+//! bottom, which makes at most `4 * (n + 1)` steps. How many nodes share a child does not matter.
 
 ghost use Rattle.std.specs.Prelude.{◌≡◌, ◌+◌, ◌*◌, ◌≤◌, ◌∷◌, ◌++◌, length, reverse, int_le, vec_capacity};
 ghost use Rattle.cer_base.specs.Nodes.{tree, WellFormed};

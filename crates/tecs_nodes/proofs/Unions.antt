@@ -159,9 +159,6 @@ is_chain nodes a b l r m s q p u v order = rw (u.is, v.is) (united-chain (tree n
 pub is_chain_back : (nodes : List Node) (a b l r m s : ℕ) (q p : Stamp) → IsStored nodes a l r q → IsStored nodes b m s p → q.pos < p.pos → united (tree nodes a) (tree nodes b) ≡ Fork (tree nodes l) (Fork (tree nodes m) (Fork (tree nodes s) (tree nodes r)))
 is_chain_back nodes a b l r m s q p u v order = rw (u.is, v.is) (united-chain_back (tree nodes l) (tree nodes r) (tree nodes m) (tree nodes s) (let e = u.right in let f = v.right in omega arith))
 
-pub is_front : (a b : Tree) → depth a ≡ 0 → united a b ≡ Fork a b
-is_front a b flat = united-front a b flat
-
 pub is_behind : (nodes : List Node) (a l r : ℕ) (q : Stamp) (b : Tree) → IsStored nodes a l r q → depth b ≡ 0 → united (tree nodes a) b ≡ Fork b (tree nodes a)
 is_behind nodes a l r q b u flat = rw u.is (united-behind (tree nodes l) (tree nodes r) b flat)
 

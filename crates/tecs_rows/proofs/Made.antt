@@ -56,6 +56,9 @@ safe_tells (Fork l r) e = (eqb-true (depth l) 0 (and_first (depth l == 0) (nat_l
 stamp_same : (s t : Stamp) → s.pos ≡ t.pos → s.clock ≡ t.clock → s ≡ t
 stamp_same s t e f = ap (λ (p : ℕ). record { pos = p; clock = s.clock }) e ∙ ap (λ (z : ℤ). record { pos = t.pos; clock = z }) f
 
+clocks_same : (x y : ℤ) → x ≤ℤ y → y ≤ℤ x → x ≡ y
+clocks_same x y up down = omega (arith, ints)
+
 -- what a test on two trees tells
 join_tells : (l r : Tree) → nat_le (newest r).pos (newest l).pos && (all_differ (members l ++ members r) && nat_le (depth l) 2) ≡ true → CanJoin l r
 join_tells l r e =
@@ -72,7 +75,7 @@ unite_tells a b e =
     let down : (newest b).clock ≤ℤ (newest a).clock = test_tells _ _ (and_first _ _ e4) in
     record {
       safe = (safe_tells a (and_first _ _ e), safe_tells b (and_first _ _ e1));
-      same_max = stamp_same (newest a) (newest b) (eqb-true _ _ (and_first _ _ e2)) (omega (arith, ints));
+      same_max = stamp_same (newest a) (newest b) (eqb-true _ _ (and_first _ _ e2)) (clocks_same (newest a).clock (newest b).clock up down);
       distinct = all_differ_tells _ (and_second _ _ e4);
     }
 

@@ -1,6 +1,6 @@
 use Rattle.std.proofs.Common.{arith, subst, sym}
 use Rattle.cer_base.specs.Members.{IsLawful}
-use Rattle.tecs_nodes.proofs.Unions.{united-lawful, stored, is_chain, is_chain_back, is_front, is_behind, can_join, no_union, with_tree}
+use Rattle.tecs_nodes.proofs.Unions.{united-lawful, stored, is_chain, is_chain_back, united-front, is_behind, can_join, no_union, with_tree}
 use Rattle.tecs_nodes.proofs.unite.Goals as goal
 
 pub chain-requires-clause-inside : goal.chain-requires-clause-inside
@@ -40,7 +40,7 @@ pub join-requires-in_default-clause-can : goal.join-requires-in_default-clause-c
 join-requires-in_default-clause-can g c =
     let w = c.requires.well_formed in
     let flat = no_union _ w _ _ c.get-first.ensures.node c.in_default.not-Union in
-    can_join _ _ _ _ (w.lawful _ c.requires.a_inside) (w.lawful _ c.requires.b_inside) c.requires.can (is_front _ _ flat)
+    can_join _ _ _ _ (w.lawful _ c.requires.a_inside) (w.lawful _ c.requires.b_inside) c.requires.can (united-front _ _ flat)
 
 pub returns-then-s_max-r_max-clause-made : goal.returns-then-s_max-r_max-clause-made
 returns-then-s_max-r_max-clause-made g c =
@@ -66,4 +66,4 @@ returns-in_default-second-clause-made g c =
 pub returns-in_default-clause-made : goal.returns-in_default-clause-made
 returns-in_default-clause-made g c =
     let flat = no_union _ c.requires.well_formed _ _ c.get-first.ensures.node c.in_default.not-Union in
-    with_tree c.join-in_default.result _ _ _ (sym (is_front _ _ flat)) c.join-in_default.ensures.made
+    with_tree c.join-in_default.result _ _ _ (sym (united-front _ _ flat)) c.join-in_default.ensures.made

@@ -1,3 +1,4 @@
 pub mod Predicate
 pub mod Meaning
 pub mod Answers
+pub mod Laws

@@ -10,6 +10,8 @@ ghost use Rattle.std.specs.Prelude.{◌≡◌, List, ℕ};
 use cer_base::{Listed, Place, Text};
 use stream_schema::Value;
 
+pub mod laws;
+
 /// A name as it stands in a text. Its meaning looks at the text alone.
 #[derive(Drop, Debug)]
 pub struct Name {

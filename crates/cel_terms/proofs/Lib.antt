@@ -1,0 +1,4 @@
+pub mod Operations
+pub mod Induction
+pub mod Intervals
+pub mod Marked

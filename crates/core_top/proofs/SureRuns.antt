@@ -1,12 +1,12 @@
 -- A run over a host that never fails ends well or for want of memory.
-use Rattle.std.proofs.Common.{◌≡◌, ℕ, List, Option, Some, None, refl, sym, ◌∙◌, ap, subst, arith, IsSomeAnd, cond, is_some, true}
+use Rattle.std.proofs.Common.{◌≡◌, ℕ, List, Option, Some, None, refl, sym, ◌∙◌, ap, arith, IsSomeAnd, cond, is_some}
 use Rattle.cer_outside.specs.Causes.{Rose}
 use Rattle.core_top.specs.declared.File.{File}
 use Rattle.core_top.specs.declared.File.TheVariants as file
 use Rattle.core_top.specs.declared.Cause.{Cause}
 use Rattle.core_top.specs.declared.Cause.TheVariants as cause
 use Rattle.core_top.specs.Command.{IsRun}
-use Rattle.core_top.specs.Causes.{IsFineOrOutside, IsFineOrMemory, HasOpenFault, HasReadFault, HasWriteFault, name_of}
+use Rattle.core_top.specs.Causes.{IsFineOrOutside, IsFineOrMemory, HasOpenFault, HasReadFault, name_of}
 use Rattle.core_top.proofs.Clauses.{same_queries, same_events}
 
 -- a count that is 0 has not risen

@@ -1,5 +1,5 @@
 -- Each clause of the top call, from how the call ended.
-use Rattle.std.proofs.Common.{◌≡◌, ℕ, ◌⊎◌, List, [], ◌∷◌, Option, Some, None, refl, sym, ◌∙◌, ap, subst, inl, inr, IfSome, IsSome, IsSomeAnd, ◌↔◌}
+use Rattle.std.proofs.Common.{◌≡◌, ℕ, List, Option, Some, None, sym, ◌∙◌, ap, subst, inl, inr, IsSome, IsSomeAnd, ◌↔◌}
 use Rattle.cer_base.specs.declared.Place.{Place}
 use Rattle.stream_schema.specs.declared.Event.{Event}
 use Rattle.core_top.specs.declared.QueryFault.{QueryFault}
@@ -11,7 +11,7 @@ use Rattle.core_top.specs.FirstForm.{Names, IsQueryFile, IsEventFile}
 use Rattle.core_top.specs.Command.{IsRun, AskNothing}
 use Rattle.core_top.specs.Causes.{IsRefused, IsStopped, Exactly, IsFineOrOutside, IsReading, HasOpenFault, HasReadFault, HasWriteFault}
 use Rattle.core_top.specs.Output.{AreRunAnswers, Wrote}
-use Rattle.core_top.specs.Run.{Sources, FailedWith, Outside, RunEnds, Finished}
+use Rattle.core_top.specs.Run.{Sources, Outside, Finished}
 use Rattle.core_top.proofs.Clauses.{same_queries, same_events, told, at_cause, queries_whenever, event_whenever, accepted_ends, run_wrote, failed_reading, no_source}
 
 -- a usage fault is no other cause

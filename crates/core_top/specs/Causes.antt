@@ -1,6 +1,6 @@
 -- How a call of the program ended, and when each answer may come.
 -- This project's profile.
-use Rattle.std.specs.Prelude.{◌≡◌, ℕ, ◌⊎◌, List, ◌++◌, Option, Some, None, IfSome}
+use Rattle.std.specs.Prelude.{◌≡◌, ℕ, ◌⊎◌, List, Option, IfSome}
 use Rattle.cer_base.specs.declared.Place.{Place}
 use Rattle.stream_schema.specs.declared.Event.{Event}
 use Rattle.cer_outside.specs.Causes.{Rose}

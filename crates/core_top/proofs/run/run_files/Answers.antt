@@ -1,5 +1,4 @@
-use Rattle.std.proofs.Common.{refl, inr, inl}
-use Rattle.core_top.specs.declared.Cause.TheVariants as cause
+use Rattle.std.proofs.Common.{refl, inr}
 use Rattle.core_top.proofs.Ends.{refused_text, accepted_text, stopped_file, answers_of, still_first, first_as, events_as, events_unread_ended, ends_by, rose_same, not_yet_query, not_yet_event, planned_again}
 use Rattle.core_top.proofs.run.run_files.Goals as goal
 

@@ -110,14 +110,16 @@ impl Schema {
 
     /// The number of the type of this name, or `None` where no type has it.
     pub fn type_of(&self, name: &str) -> Option<TypeId>
-        ensures { result ≡ type_number self.now.types name.now }
+        ensures place { result ≡ type_number self.now.types name.now }
+        ensures bound { IfSome result (λ ty. ty < length self.now.types) }
     {
         self.type_of_bytes(name.as_bytes())
     }
 
     /// The number of the type whose name has these bytes, or `None` where no type has it.
     pub fn type_of_bytes(&self, name: &[u8]) -> Option<TypeId>
-        ensures { result ≡ type_number self.now.types name.now }
+        ensures place { result ≡ type_number self.now.types name.now }
+        ensures bound { IfSome result (λ ty. ty < length self.now.types) }
     {
         match type_place(self.types.as_slice(), name) {
             Some(place) => Some(place as u64),

@@ -1,0 +1,8 @@
+pub mod Digits
+pub mod Decimals
+pub mod Records
+pub mod Cuts
+pub mod LineBytes
+pub mod Texts
+mod LineRows
+pub mod LineWalks

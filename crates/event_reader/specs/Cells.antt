@@ -1,0 +1,6 @@
+-- The parts of a line with no quote byte.
+use Rattle.std.specs.Prelude.{ℕ, ◌==◌, Bool}
+
+-- what parts the fields
+abbrev pub is_comma : ℕ → Bool
+is_comma byte = byte == 44

@@ -1,0 +1,6 @@
+pub mod Fields
+pub mod Values
+pub mod Events
+pub mod Places
+pub mod Cells
+pub mod Lines

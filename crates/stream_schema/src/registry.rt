@@ -166,6 +166,26 @@ impl Schema {
         declared.kinds()
     }
 
+    /// The attributes of the type, in the declared order, or `None` where no type has the number.
+    pub fn attrs(&self, ty: TypeId) -> Option<&[Attr]>
+        ensures { option_copied result ≡ option_map (λ t. t.attrs) (slice_get self.now.types ty) }
+    {
+        match self.types.as_slice().get(ty as usize) {
+            Some(declared) => Some(declared.attrs()),
+            None => None,
+        }
+    }
+
+    /// The name of the type, or `None` where no type has the number.
+    pub fn type_name(&self, ty: TypeId) -> Option<&str>
+        ensures { option_copied result ≡ option_map (λ t. t.name) (slice_get self.now.types ty) }
+    {
+        match self.types.as_slice().get(ty as usize) {
+            Some(declared) => Some(declared.name()),
+            None => None,
+        }
+    }
+
     fn is_taken(&self, name: &str) -> bool
         ensures { result ≡ is_taken self.now name.now }
     {

@@ -1,0 +1,4 @@
+pub mod Letters
+pub mod Numerals
+pub mod Fronts
+pub mod Tokens

@@ -4,3 +4,5 @@ pub mod Strings
 pub mod Places
 pub mod Cuts
 pub mod Written
+pub mod Longest
+pub mod Whole

@@ -19,7 +19,7 @@ use Rattle.ceql_lexer.specs.Letters.{continues_word, is_blank, begins_word, sign
 use Rattle.ceql_lexer.specs.Numerals.{digits_at, decimals_at}
 use Rattle.ceql_lexer.specs.Fronts.{IsText, token, gap, piece_at, word_at, number_at, number_of, dash_at, string_at, string_of, sign_at, is_quote}
 
-pub chosen : {X : Type 0} (b : Bool) (x y z : X) → cond b x y ≡ z → ((b ≡ true) × (x ≡ z)) ⊎ ((b ≡ false) × (y ≡ z))
+chosen : {X : Type 0} (b : Bool) (x y z : X) → cond b x y ≡ z → ((b ≡ true) × (x ≡ z)) ⊎ ((b ≡ false) × (y ≡ z))
 chosen true x y z e = inl (refl, e)
 chosen false x y z e = inr (refl, e)
 
@@ -85,12 +85,12 @@ size_cases : (sign whole decimals : ℕ) (none : Bool) → (cond none (token kin
 size_cases sign whole decimals true = omega arith
 size_cases sign whole decimals false = omega arith
 
-checked_is : (a b : Bool) (f g : LexFault) (p piece : Piece) → cond a (Err f) (cond b (Ok p) (Err g)) ≡ Ok piece → p ≡ piece
+pub checked_is : (a b : Bool) (f g : LexFault) (p piece : Piece) → cond a (Err f) (cond b (Ok p) (Err g)) ≡ Ok piece → p ≡ piece
 checked_is true b f g p piece e = absurd (cc)
 checked_is false true f g p piece e = cc
 checked_is false false f g p piece e = absurd (cc)
 
-number_size : (sign : ℕ) (bytes : List ℕ) (piece : Piece) → number_at sign bytes ≡ Ok piece → piece.size ≡ sign + plain_len bytes (length (decimals_at (drop (prefix_len is_ascii_digit bytes) bytes)))
+pub number_size : (sign : ℕ) (bytes : List ℕ) (piece : Piece) → number_at sign bytes ≡ Ok piece → piece.size ≡ sign + plain_len bytes (length (decimals_at (drop (prefix_len is_ascii_digit bytes) bytes)))
 unfolding number_at
 number_size sign bytes piece e =
     let n : ℕ = prefix_len is_ascii_digit bytes in
@@ -116,7 +116,7 @@ negative_is_utf8 bytes piece e =
     let size = number_size 1 bytes piece e in
     front_is_utf8 piece.size (45 ∷ bytes) (λ i lt. behind_sign bytes (plain_len bytes (length (decimals_at (drop (prefix_len is_ascii_digit bytes) bytes)))) (plain_bytes bytes) i (omega (arith, size, lt)))
 
-dash_cases : (a b : Bool) (p : Piece) (number : Result Piece LexFault) (f : LexFault) (piece : Piece) (P : Piece → Type 0) → cond a (Ok p) (cond b number (Err f)) ≡ Ok piece → P p → (number ≡ Ok piece → P piece) → P piece
+pub dash_cases : (a b : Bool) (p : Piece) (number : Result Piece LexFault) (f : LexFault) (piece : Piece) (P : Piece → Type 0) → cond a (Ok p) (cond b number (Err f)) ≡ Ok piece → P p → (number ≡ Ok piece → P piece) → P piece
 dash_cases true b p number f piece P e here there = let is : p ≡ piece = cc in subst P is here
 dash_cases false true p number f piece P e here there = there e
 dash_cases false false p number f piece P e here there = absurd (cc)
@@ -165,7 +165,7 @@ sign_cases false false text two one = refl
 sign_is_utf8 : (text : List ℕ) → IsUtf8 (take (sign_len text) text)
 sign_is_utf8 text = IsUtf8-from_ascii (take (sign_len text) text) (is_ascii_under (take (sign_len text) text) (sign_cases _ _ text (λ e. any_of is_ascii (take 2 text) long_signs e refl) (λ e. any_of is_ascii (take 1 text) short_signs e refl)))
 
-sign_case : (none : Bool) (f : LexFault) (p piece : Piece) (text : List ℕ) → cond none (Err f) (Ok p) ≡ Ok piece → IsText p.kind (take p.size text) → IsText piece.kind (take piece.size text)
+pub sign_case : (none : Bool) (f : LexFault) (p piece : Piece) (text : List ℕ) → cond none (Err f) (Ok p) ≡ Ok piece → IsText p.kind (take p.size text) → IsText piece.kind (take piece.size text)
 sign_case true f p piece text e h = absurd (cc)
 sign_case false f p piece text e h = let is : p ≡ piece = cc in subst (λ (x : Piece). IsText x.kind (take x.size text)) is h
 
@@ -173,12 +173,12 @@ sign_is_text : (byte : ℕ) (text : List ℕ) (piece : Piece) → sign_at byte t
 unfolding sign_at
 sign_is_text byte text piece e = sign_case (eqb (sign_len text) 0) _ (token kind.Sign (sign_len text)) piece text e (sign_is_utf8 text)
 
-piece_cases : (a b c d q : Bool) (blank word : Piece) (number dash string sign : Result Piece LexFault) (piece : Piece) (P : Piece → Type 0)
+pub piece_cases : (a b c d q : Bool) (blank word : Piece) (number dash string sign : Result Piece LexFault) (piece : Piece) (P : Piece → Type 0)
     → cond a (Ok blank) (cond b (Ok word) (cond c number (cond d dash (cond q string sign)))) ≡ Ok piece
-    → P blank → P word → (number ≡ Ok piece → P piece) → (d ≡ true → dash ≡ Ok piece → P piece) → (string ≡ Ok piece → P piece) → (sign ≡ Ok piece → P piece) → P piece
+    → P blank → (b ≡ true → P word) → (c ≡ true → number ≡ Ok piece → P piece) → (d ≡ true → dash ≡ Ok piece → P piece) → (string ≡ Ok piece → P piece) → (sign ≡ Ok piece → P piece) → P piece
 piece_cases true b c d q blank word number dash string sign piece P e h1 h2 h3 h4 h5 h6 = let is : blank ≡ piece = cc in subst P is h1
-piece_cases false true c d q blank word number dash string sign piece P e h1 h2 h3 h4 h5 h6 = let is : word ≡ piece = cc in subst P is h2
-piece_cases false false true d q blank word number dash string sign piece P e h1 h2 h3 h4 h5 h6 = h3 e
+piece_cases false true c d q blank word number dash string sign piece P e h1 h2 h3 h4 h5 h6 = let is : word ≡ piece = cc in subst P is (h2 refl)
+piece_cases false false true d q blank word number dash string sign piece P e h1 h2 h3 h4 h5 h6 = h3 refl e
 piece_cases false false false true q blank word number dash string sign piece P e h1 h2 h3 h4 h5 h6 = h4 refl e
 piece_cases false false false false true blank word number dash string sign piece P e h1 h2 h3 h4 h5 h6 = h5 e
 piece_cases false false false false false blank word number dash string sign piece P e h1 h2 h3 h4 h5 h6 = h6 e
@@ -193,8 +193,8 @@ piece_is_text byte bytes piece e =
     piece_cases (is_blank byte) (begins_word byte) (is_ascii_digit byte) (eqb byte 45) (is_quote byte) (gap 1) (word_at (byte ∷ bytes)) (number_at 0 (byte ∷ bytes)) (dash_at bytes) (string_at byte bytes) (sign_at byte (byte ∷ bytes)) piece
     (λ p. IsText p.kind (take p.size (byte ∷ bytes))) e
     tt
-    (word_is_text (byte ∷ bytes))
-    (λ is. text_of piece.kind _ (number_is_utf8 (byte ∷ bytes) piece is))
+    (λ begins. word_is_text (byte ∷ bytes))
+    (λ digit is. text_of piece.kind _ (number_is_utf8 (byte ∷ bytes) piece is))
     (λ dash is. subst (λ (b : ℕ). IsText piece.kind (take piece.size (b ∷ bytes))) (sym (eqb-true byte 45 dash)) (dash_is_text bytes piece is))
     (λ is. string_is_text (byte ∷ bytes) _ piece is)
     (λ is. sign_is_text byte (byte ∷ bytes) piece is)

@@ -104,7 +104,10 @@ fn cut(alloc: Global, text: &[u8]) -> Result<Tokens, OrMemory<LexError>>
     Ok(Listed::of(tokens))
 }
 
-/// The tokens of a text, or its first fault.
+/// The tokens of a text, in order and with the end behind them, or its first fault and the place
+/// of that. A byte order mark at the very beginning is no part of the text; a later one is a bad
+/// byte. Besides these only an allocation that is refused is answered, as `Memory`, at which the
+/// tokens so far are dropped.
 #[tactic(auto, unfolding(crate::specs::Tokens::tokens_of, crate::specs::Tokens::parts_of))]
 pub fn lex(alloc: Global, text: &[u8]) -> Result<Tokens, OrMemory<LexError>>
     ensures { Gives (λ x. x) result (tokens_of text.now) }

@@ -12,6 +12,7 @@ pub use cutting::lex;
 
 mod cutting;
 mod front;
+pub mod laws;
 mod numbers;
 mod quotes;
 mod signs;
@@ -71,3 +72,6 @@ pub struct Token {
 /// Tokens in the order of the text. `lex` gives at least one: the last, and only the last, is
 /// the end.
 pub type Tokens = Listed<Token>;
+
+#[cfg(test)]
+mod tests;

@@ -1,0 +1,54 @@
+-- The parts of a text are the whole text, each at its place and as long as it may be.
+use Rattle.std.proofs.Common.{◌≡◌, ℕ, zero, suc, ◌-◌, List, [], ◌∷◌, ◌++◌, take, drop, Result, Ok, Err, refl, sym, ap, subst, ◌∙◌, arith}
+use Rattle.std.proofs.lemmas.Grind.{common_steps}
+use Rattle.cer_base.specs.declared.Place.{Place}
+use Rattle.ceql_lexer.specs.declared.front.Piece.{Piece}
+use Rattle.ceql_lexer.specs.declared.LexFault.{LexFault}
+use Rattle.ceql_lexer.specs.declared.LexError.{LexError}
+use Rattle.ceql_lexer.specs.Fronts.{piece_at}
+use Rattle.ceql_lexer.specs.Tokens.{Part, behind, behind_mark, first_place, goes_on, next_place, parts_from, parts_of, place_after}
+use Rattle.ceql_lexer.specs.Whole.{AreAtPlaces, AreLongest, AreWhole, EndsBefore, text_of}
+use Rattle.ceql_lexer.proofs.Longest.{piece_ends}
+
+goes_on_takes : (place : Place) (read : Result Piece LexFault) (later : Piece → Result (List Part) LexError) (parts : List Part) → goes_on place read later ≡ Ok parts → (piece : Piece) × (read ≡ Ok piece) × (later piece ≡ Ok parts)
+goes_on_takes place (Ok piece) later parts e = (piece, refl, e)
+goes_on_takes place (Err fault) later parts e = absurd (cc)
+
+behind_takes : (part : Part) (later : Result (List Part) LexError) (parts : List Part) → behind part later ≡ Ok parts → (more : List Part) × (later ≡ Ok more) × (part ∷ more ≡ parts)
+behind_takes part (Ok more) parts e = (more, refl, cc)
+behind_takes part (Err error) parts e = absurd (cc)
+
+-- what is kept of the parts of a text, so many of its bytes being passed over
+record Kept (passed : ℕ) (place : Place) (bytes : List ℕ) (parts : List Part) : Type 0 where
+  nothing_lost : text_of parts ≡ drop passed bytes
+  placed : AreAtPlaces (place_after place (take passed bytes)) parts
+  longest : AreLongest parts
+
+take_drop : (n : ℕ) (bytes : List ℕ) → take n bytes ++ drop n bytes ≡ bytes
+take_drop n bytes = grind (arith, common_steps)
+
+kept_more : (place : Place) (byte : ℕ) (bytes : List ℕ) (piece : Piece) (more : List Part) → piece_at byte bytes ≡ Ok piece → Kept (piece.size - 1) (next_place place byte) bytes more
+    → Kept 0 place (byte ∷ bytes) (record { kind = piece.kind; text = byte ∷ take (piece.size - 1) bytes; place = place } ∷ more)
+kept_more place byte bytes piece more is kept = record {
+  nothing_lost = ap (λ (bs : List ℕ). byte ∷ bs) (ap (λ (bs : List ℕ). take (piece.size - 1) bytes ++ bs) kept.nothing_lost ∙ take_drop (piece.size - 1) bytes);
+  placed = (refl, kept.placed);
+  longest = (subst (EndsBefore piece.kind) (sym kept.nothing_lost) (piece_ends byte bytes piece is), kept.longest);
+}
+
+kept : (passed : ℕ) (place : Place) (bytes : List ℕ) (parts : List Part) → parts_from passed place bytes ≡ Ok parts → Kept passed place bytes parts
+kept zero place [] parts e = let none : [] ≡ parts = cc in subst (Kept 0 place []) none (record { nothing_lost = refl; placed = tt; longest = tt })
+kept (suc passed) place [] parts e = let none : [] ≡ parts = cc in subst (Kept (suc passed) place []) none (record { nothing_lost = refl; placed = tt; longest = tt })
+kept (suc passed) place (byte ∷ bytes) parts e =
+    let k = kept passed (next_place place byte) bytes parts e in
+    record { nothing_lost = k.nothing_lost; placed = k.placed; longest = k.longest }
+kept zero place (byte ∷ bytes) parts e =
+    let taken = goes_on_takes place (piece_at byte bytes) _ parts e in
+    let piece : Piece = taken.0 in
+    let last = behind_takes (record { kind = piece.kind; text = byte ∷ take (piece.size - 1) bytes; place = place }) (parts_from (piece.size - 1) (next_place place byte) bytes) parts taken.2 in
+    subst (Kept 0 place (byte ∷ bytes)) last.2 (kept_more place byte bytes piece last.0 taken.1 (kept (piece.size - 1) (next_place place byte) bytes last.0 last.1))
+
+pub parts_whole : (text : List ℕ) (parts : List Part) → parts_of text ≡ Ok parts → AreWhole (behind_mark text) parts
+unfolding parts_of
+parts_whole text parts e =
+    let k = kept 0 first_place (behind_mark text) parts e in
+    record { nothing_lost = k.nothing_lost; placed = k.placed; longest = k.longest }

@@ -1,0 +1,5 @@
+pub mod Letters
+pub mod Numerals
+pub mod Fronts
+pub mod Tokens
+pub mod Whole

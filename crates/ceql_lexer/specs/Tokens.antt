@@ -1,0 +1,91 @@
+-- The tokens of a text, with their places, or the first fault. This project's profile.
+use Rattle.std.specs.Prelude.{◌≡◌, ℕ, zero, suc, ◌+◌, ◌-◌, ◌==◌, List, [], ◌∷◌, ◌++◌, take, drop, if◌then◌else◌, bytes_eq, Option, Some, None, Result, Ok, Err}
+use Rattle.cer_base.specs.declared.Place.{Place}
+use Rattle.cer_base.specs.declared.OrMemory.{OrMemory}
+use Rattle.cer_base.specs.declared.OrMemory.TheVariants as wanted
+use Rattle.ceql_lexer.specs.declared.front.Piece.{Piece}
+use Rattle.ceql_lexer.specs.declared.LexFault.{LexFault}
+use Rattle.ceql_lexer.specs.declared.LexError.{LexError}
+use Rattle.ceql_lexer.specs.declared.Token.{Token}
+use Rattle.ceql_lexer.specs.declared.TokenKind.{TokenKind}
+use Rattle.ceql_lexer.specs.declared.TokenKind.TheVariants as kind
+use Rattle.ceql_lexer.specs.Fronts.{piece_at}
+
+-- the first place of a text
+abbrev pub first_place : Place
+first_place = record { line = 1; col = 1 }
+
+-- the place behind a byte: a line feed ends a line
+abbrev pub next_place : Place → ℕ → Place
+next_place place byte =
+    if byte == 10 then record { line = place.line + 1; col = 1 } else record { line = place.line; col = place.col + 1 }
+
+-- the place behind these bytes
+abbrev pub place_after : Place → List ℕ → Place
+place_after place [] = place
+place_after place (byte ∷ bytes) = place_after (next_place place byte) bytes
+
+-- A piece of a text, which is a token where it has a kind, and the place of its first byte.
+pub record Part : Type 0 where
+  pub kind : Option TokenKind
+  pub text : List ℕ
+  pub place : Place
+
+-- the parts that go on from a piece at this place, or its fault there
+abbrev pub goes_on : Place → Result Piece LexFault → (Piece → Result (List Part) LexError) → Result (List Part) LexError
+goes_on place (Ok piece) later = later piece
+goes_on place (Err fault) later = Err (record { fault = fault; place = place })
+
+-- the part in front of those that come later
+abbrev pub behind : Part → Result (List Part) LexError → Result (List Part) LexError
+behind part (Ok parts) = Ok (part ∷ parts)
+behind part (Err error) = Err error
+
+-- the parts of the bytes, the first byte being at the place, from left to right up to the first
+-- fault; so many bytes at the front are passed over, since they are of a part before
+abbrev pub parts_from : ℕ → Place → List ℕ → Result (List Part) LexError
+parts_from passed place [] = Ok []
+parts_from (suc passed) place (byte ∷ bytes) = parts_from passed (next_place place byte) bytes
+parts_from zero place (byte ∷ bytes) =
+    goes_on place (piece_at byte bytes) (λ piece.
+    behind (record { kind = piece.kind; text = byte ∷ take (piece.size - 1) bytes; place = place })
+    (parts_from (piece.size - 1) (next_place place byte) bytes))
+
+-- what stands behind a byte order mark at the very beginning
+abbrev pub behind_mark : List ℕ → List ℕ
+behind_mark text = if bytes_eq (take 3 text) (239 ∷ 187 ∷ 191 ∷ []) then drop 3 text else text
+
+-- the parts that are tokens
+abbrev pub token_of : Part → Option TokenKind → List Token
+token_of part None = []
+token_of part (Some k) = record { kind = k; text = part.text; place = part.place } ∷ []
+
+abbrev pub tokens_in : List Part → List Token
+tokens_in [] = []
+tokens_in (part ∷ parts) = token_of part part.kind ++ tokens_in parts
+
+-- the token behind all others, at the place behind the last byte
+abbrev pub end_token : Place → Token
+end_token place = record { kind = kind.End; text = []; place = place }
+
+-- the tokens of these parts, and the end
+abbrev pub with_end : List ℕ → Result (List Part) LexError → Result (List Token) LexError
+with_end text (Ok parts) = Ok (tokens_in parts ++ end_token (place_after first_place text) ∷ [])
+with_end text (Err error) = Err error
+
+-- the parts of a text
+unfoldable pub parts_of : List ℕ → Result (List Part) LexError
+parts_of text = parts_from 0 first_place (behind_mark text)
+
+-- the tokens of a text, or its first fault
+unfoldable pub tokens_of : List ℕ → Result (List Token) LexError
+tokens_of text = with_end (behind_mark text) (parts_of text)
+
+-- What a call returned is what the definition gives, unless memory ran out.
+abbrev pub Fails : {F Y : Type 0} → OrMemory F → Result Y F → Type 0
+Fails wanted.Memory given = Unit {0}
+Fails (wanted.Fault e) given = given ≡ Err e
+
+abbrev pub Gives : {X F Y : Type 0} → (X → Y) → Result X (OrMemory F) → Result Y F → Type 0
+Gives view (Ok x) given = given ≡ Ok (view x)
+Gives view (Err e) given = Fails e given

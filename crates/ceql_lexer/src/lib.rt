@@ -1,0 +1,77 @@
+//! The tokens of a query text.
+//!
+//! Promised: `lex` gives exactly the tokens of the text, each with its slice and its place, or
+//! exactly the first fault with its place; nothing but want of memory comes besides. What the
+//! tokens of a text are is defined in `specs/Tokens`; that the definition loses no byte, counts
+//! each place and takes the longest token is proved in `laws`.
+//! It stands on `cer_base` alone.
+#![tactic(auto)]
+
+use cer_base::{Listed, Place, Text};
+pub use cutting::lex;
+
+mod cutting;
+mod front;
+pub mod laws;
+mod numbers;
+mod quotes;
+mod signs;
+mod words;
+
+/// Why a text has no tokens.
+#[derive(Debug, Clone, Copy, PartialEq, Eq)]
+pub enum LexFault {
+    /// The byte begins no token, blank or comment. Its place is the byte's.
+    BadByte { byte: u8 },
+    /// A line feed or the end comes before the closing quote. Its place is the opening quote's.
+    OpenString,
+    /// The number, or a decimal number without its point, is outside signed 64 bits. Its place is
+    /// the first byte's, which may be the `-`.
+    NumberTooLarge,
+    /// The string is closed, but its bytes are not UTF-8. Its place is the opening quote's.
+    NotUtf8,
+    /// More than 9 digits stand behind the point, in range or not. Its place is the number's
+    /// first byte.
+    TooFine,
+}
+
+/// The first fault of a text, and its place.
+#[derive(Debug, Clone, Copy, PartialEq, Eq)]
+pub struct LexError {
+    pub fault: LexFault,
+    pub place: Place,
+}
+
+#[derive(Debug, Clone, Copy, PartialEq, Eq)]
+pub enum TokenKind {
+    /// A word that is no keyword.
+    Name,
+    /// A word that is a keyword in some ASCII case.
+    Keyword,
+    /// A whole number in signed 64 bits.
+    Number,
+    /// A number with 1 to 9 digits behind its point; without the point it is in signed 64 bits.
+    Decimal,
+    /// A string with its two quotes, and with inner quotes still doubled.
+    Quoted,
+    /// One of `(` `)` `[` `]` `,` `;` `:` `:+` `+` `*` `=` `==` `!=` `<>` `<` `<=` `>` `>=`.
+    Sign,
+    /// The end of the text.
+    End,
+}
+
+/// A token, with its bytes as they stand in the text and the place of the first of them. The end
+/// has no bytes; its place is the one just after the last byte.
+#[derive(Drop, Debug)]
+pub struct Token {
+    pub kind: TokenKind,
+    pub text: Text,
+    pub place: Place,
+}
+
+/// Tokens in the order of the text. `lex` gives at least one: the last, and only the last, is
+/// the end.
+pub type Tokens = Listed<Token>;
+
+#[cfg(test)]
+mod tests;

@@ -5,6 +5,8 @@ ghost use Rattle.std.specs.Prelude.{◌≡◌, List, ℕ};
 use cer_base::{Listed, Text};
 use std::marker::Model;
 
+pub mod lookups;
+
 pub type TypeId = u64;
 
 /// What an attribute may hold.

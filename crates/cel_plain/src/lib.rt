@@ -1,0 +1,8 @@
+//! The meaning of a query, computed plainly, by the definitions themselves.
+//!
+//! Promised: `predicate::holds` answers exactly whether a predicate holds of an event.
+//! It stands on `cel_terms` and `stream_schema`. It may take exponential time, and ends.
+#![tactic(auto)]
+
+pub mod number;
+pub mod predicate;

@@ -4,5 +4,7 @@
 //! It stands on `cel_terms` and `stream_schema`. It may take exponential time, and ends.
 #![tactic(auto)]
 
+pub mod found;
 pub mod number;
 pub mod predicate;
+pub mod sequence;

@@ -5,12 +5,12 @@ use Rattle.std.specs.List.{list_any, list_all, filter_map, flat_map}
 use Rattle.std.specs.Option.{option_map_or}
 use Rattle.stream_schema.specs.Types.{Declared}
 use Rattle.stream_schema.specs.declared.Event.{Event}
-use Rattle.cel_terms.specs.declared.Name.{Name}
 use Rattle.cel_terms.specs.declared.Pred.{Pred}
 use Rattle.cel_terms.specs.declared.Filter.{Filter, On, All', Any', Row_of-Filter, end_of-Filter, more_of-Filter}
 use Rattle.cel_terms.specs.declared.Postfix.{Postfix}
 use Rattle.cel_terms.specs.declared.Postfix.TheVariants.{Plus, NextPlus, Named, Keep}
 use Rattle.cel_terms.specs.declared.Formula.{Formula, Of, Chain', Linked', Either', Post', Under', Row_of-Formula, end_of-Formula, more_of-Formula, Row_of-Link, end_of-Link, more_of-Link}
+use Rattle.cel_terms.specs.declared.Link.{Link, out-Link}
 use Rattle.cel_terms.specs.Predicate.{holds}
 use Rattle.cel_terms.specs.Meaning.{Bound, Valuation, type_name, lists_name, with_name, only_names}
 use Rattle.cel_plain.specs.declared.found.Match.{Match}
@@ -120,3 +120,16 @@ abbrev mutual
   pub matches_of_choices : Declared → List Event → List ℕ → {m : _} → Row_of-Formula m → List Match
   matches_of_choices schema events positions end_of-Formula = []
   matches_of_choices schema events positions (more_of-Formula f rest) = matches_of schema events positions f ++ matches_of_choices schema events positions rest
+
+-- the formulas one after another
+abbrev pub chain_of : Declared → List Event → List ℕ → List Formula → List Match
+chain_of schema events positions [] = []
+chain_of schema events positions (f ∷ fs) = fold (λ before g. in_sequence positions false before (matches_of schema events positions g)) (matches_of schema events positions f) fs
+
+-- the links one after another, after what stands before them
+abbrev pub links_of : Declared → List Event → List ℕ → List Match → List Link → List Match
+links_of schema events positions = fold (λ before l. in_sequence positions (out-Link l).tight before (matches_of schema events positions (out-Link l).next))
+
+-- those of each formula
+abbrev pub choices_of : Declared → List Event → List ℕ → List Formula → List Match
+choices_of schema events positions = flat_map (matches_of schema events positions)

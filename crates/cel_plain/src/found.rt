@@ -54,7 +54,7 @@ pub struct Match {
 }
 
 /// Names of their own with the same texts.
-fn copy_names(alloc: Global, names: &[Text]) -> Result<Vec<Text>, Memory>
+pub fn copy_names(alloc: Global, names: &[Text]) -> Result<Vec<Text>, Memory>
     ensures { IfOk result (λ copy. copy.items ≡ names.now) }
 {
     let mut copy = Vec::with_capacity(alloc, names.len())?;

@@ -6,3 +6,4 @@ pub mod Members
 pub mod Sequences
 pub mod Meets
 pub mod Exact
+pub mod Reading

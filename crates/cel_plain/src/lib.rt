@@ -12,3 +12,4 @@ pub mod postfix;
 pub mod predicate;
 pub mod sequence;
 pub mod single;
+pub mod substream;

@@ -7,3 +7,9 @@ pub mod Sequences
 pub mod Meets
 pub mod Exact
 pub mod Reading
+pub mod Places
+pub mod Agreement
+pub mod Keys
+pub mod Windows
+pub mod Marking
+pub mod Answering

@@ -1,9 +1,11 @@
 -- The positions of a substream, the marks of a valuation and the answers at a position: what each step computes.
 -- Nobody needs to believe these; the public contracts speak of the definitions alone.
 use Rattle.std.specs.Prelude.{ℕ, zero, suc, ◌+◌, ℤ, ◌+ℤ◌, Bool, true, false, not, ◌&&◌, ◌||◌, ◌==◌, if◌then◌else◌, nat_lt, nat_le, List, [], ◌∷◌, ◌++◌, map, length, Option, Some, None, slice_get, bytes_eq, fold}
-use Rattle.std.specs.List.{list_any, list_all, filter_map}
+use Rattle.std.specs.List.{list_any, list_all}
 use Rattle.std.specs.Option.{option_map_or}
 use Rattle.std.specs.Ordering.{int_eq}
+use Rattle.std.specs.Int.Signed.{lt_z as int_lt}
+use Rattle.std.specs.Cmp.Lexicographic.{pointwise}
 use Rattle.stream_schema.specs.Types.{Declared}
 use Rattle.stream_schema.specs.declared.Event.{Event}
 use Rattle.stream_schema.specs.declared.Value.{Value}
@@ -73,3 +75,43 @@ is_inside marks p = list_any (λ m. nat_lt m p) marks && list_any (λ m. nat_lt 
 
 abbrev pub is_contiguous : List ℕ → List ℕ → Bool
 is_contiguous positions marks = list_all (λ p. not (is_inside marks p) || list_any (λ m. m == p) marks) positions
+
+-- both are whole numbers, the later at most n more than the earlier
+abbrev pub are_close : ℤ → Option Value → Option Value → Bool
+are_close n (Some (value.Int from)) (Some (value.Int to)) = not (int_lt (from +ℤ n) to)
+are_close n _ _ = false
+
+abbrev pub window_holds : Declared → Window → ℕ → ℕ → Event → Event → Bool
+window_holds schema Free start end first last = true
+window_holds schema (Events n) start end first last = nat_le end (start + n)
+window_holds schema (Clock name n) start end first last = are_close n (attr_value schema first name.text) (attr_value schema last name.text)
+
+-- both ends are there, and in the window
+abbrev pub is_in_window : Declared → Window → List Event → ℕ → ℕ → Bool
+is_in_window schema window events start end =
+    option_map_or (λ first. option_map_or (window_holds schema window start end first) (slice_get events end) false) (slice_get events start) false
+
+abbrev pub marks_of : Option (List Name) → List Event → Valuation → List ℕ
+marks_of select events v = below (is_marked select v) (length events)
+
+-- STRICT asks for contiguous marks
+abbrev pub is_strict_enough : Bool → List ℕ → List ℕ → Bool
+is_strict_enough strict positions marks = not strict || is_contiguous positions marks
+
+-- the answer of a match that ends at end
+abbrev pub answer_of : Declared → Query → List Event → List ℕ → ℕ → Match → Option Answer
+answer_of schema q events positions end m =
+    if (m.end == end) && (is_in_window schema q.window events m.start end && is_strict_enough q.strict positions (marks_of q.select events m.bounds))
+    then Some (record { start = m.start; marks = marks_of q.select events m.bounds })
+    else None
+
+abbrev pub same_answer : Answer → Answer → Bool
+same_answer a b = (a.start == b.start) && pointwise ◌==◌ a.marks b.marks
+
+-- with the answer, where it is not among them yet
+abbrev pub with_new : List Answer → Option Answer → List Answer
+with_new found None = found
+with_new found (Some a) = if list_any (same_answer a) found then found else found ++ a ∷ []
+
+abbrev pub answers_from : Declared → Query → List Event → List ℕ → ℕ → List Match → List Answer
+answers_from schema q events positions end = fold (λ found m. with_new found (answer_of schema q events positions end m)) []

@@ -86,7 +86,7 @@ fn either(
 
 /// The matches of the formula.
 #[cycle(matches)]
-fn matches(
+pub(crate) fn matches(
     alloc: Global,
     schema: &Schema,
     events: &[Event],

@@ -14,7 +14,7 @@ use stream_schema::Event;
 
 /// Whether one of the names has this text.
 #[tactic(auto, using(crate::proofs::Naming::listed_is))]
-fn lists(listed: &[Name], name: &str) -> bool
+pub fn lists(listed: &[Name], name: &str) -> bool
     ensures { result ≡ lists_name (map (λ n. n.text) listed.now) name.now }
 {
     has_text(listed, name)

@@ -1,5 +1,5 @@
 -- The place of a stream among those of a schema, which sees each as its name and types.
-use Rattle.std.proofs.Common.{◌≡◌, refl, sym, ap, ◌∙◌, ℕ, ◌+◌, ◌<◌, cond, Bool, List, [], ◌∷◌, map, Option, Some, None, length, get_or}
+use Rattle.std.proofs.Common.{◌≡◌, refl, sym, ap, ◌∙◌, ℕ, ◌+◌, ◌<◌, cond, Bool, List, [], ◌∷◌, map, Some, None, length, get_or}
 use Rattle.std.specs.Prelude.{bytes_eq, slice_get, option_map, option_and_then}
 use Rattle.std.specs.List.{position_from}
 use Rattle.std.proofs.lemmas.Option.{slice_get_read, slice_get-map}

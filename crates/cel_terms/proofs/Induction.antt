@@ -56,7 +56,7 @@ every_repeated stream Counts Q kept tight a f s e v (once h) = f _ _ _ h
 every_repeated stream Counts Q kept tight a f s e v (again {start = start} {middle = middle} {next = next} {end = end} {v = v'} {w = w} h m r) =
     kept.joined start middle next end v' w (f start middle v' h) (later stream tight middle next m) (every_repeated stream Counts Q kept tight a f next end w r)
 
-every_postfix : (stream : Stream) (Counts : Postfix → Type 0) (Q : ℕ → ℕ → Valuation → Type 0) → IsKept stream Counts Q → (p : Postfix) (a : Meaning) → Counts p → Every a Q → Every (with_postfix stream p a) Q
+pub every_postfix : (stream : Stream) (Counts : Postfix → Type 0) (Q : ℕ → ℕ → Valuation → Type 0) → IsKept stream Counts Q → (p : Postfix) (a : Meaning) → Counts p → Every a Q → Every (with_postfix stream p a) Q
 every_postfix stream Counts Q kept Plus a c f = every_repeated stream Counts Q kept false a f
 every_postfix stream Counts Q kept NextPlus a c f = every_repeated stream Counts Q kept true a f
 every_postfix stream Counts Q kept (Named name) a c f = λ s e v h. subst (Q s e) (sym h.2) (kept.named name c s e h.0 (f s e h.0 h.1))

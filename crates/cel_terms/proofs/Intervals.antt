@@ -52,7 +52,7 @@ lies_joined stream s m n e v w p less q =
       within = both stream.Has s e v w (wider stream.Has s m s e v first wide p.within) (wider stream.Has n e s e w deep last q.within);
     }
 
-lies_kept : (stream : Stream) → IsKept stream Always (Lies stream)
+pub lies_kept : (stream : Stream) → IsKept stream Always (Lies stream)
 lies_kept stream = record {
   single = λ name s e v h. subst (λ (to : ℕ). Lies stream s to v) (sym h.ends) (lies_single stream name s v record { typed = h.typed; ends = refl; bound = h.bound });
   joined = lies_joined stream;

@@ -100,7 +100,7 @@ ends_kept stream = record {
 ends_bound : (stream : Stream) (f : Formula) → HasNoKeep f → (s e : ℕ) (v : Valuation) → meaning stream f s e v → EndsBound s e v
 ends_bound stream f h = every stream IsNoKeep EndsBound (ends_kept stream) f (no_keep f h)
 
-bound_within : (Has : ℕ → Type 0) (s e p : ℕ) (v : Valuation) → AllWithin Has s e v → Binds p v → IsWithin Has s e p
+pub bound_within : (Has : ℕ → Type 0) (s e p : ℕ) (v : Valuation) → AllWithin Has s e v → Binds p v → IsWithin Has s e p
 bound_within Has s e p [] h b = absurd b
 bound_within Has s e p (c ∷ v) h (inl b) = subst (IsWithin Has s e) b.0 h.0
 bound_within Has s e p (c ∷ v) h (inr b) = bound_within Has s e p v h.1 b

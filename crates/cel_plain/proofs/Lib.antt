@@ -1,0 +1,15 @@
+pub mod Numbers
+pub mod Predicates
+pub mod Naming
+pub mod Rows
+pub mod Members
+pub mod Sequences
+pub mod Meets
+pub mod Exact
+pub mod Reading
+pub mod Places
+pub mod Agreement
+pub mod Keys
+pub mod Windows
+pub mod Marking
+pub mod Answering

@@ -1,0 +1,147 @@
+//! The substream that an event is in.
+
+ghost use Rattle.std.specs.Prelude.{◌≡◌, ◌==◌, IfOk, false, length};
+ghost use Rattle.std.specs.List.{list_any, list_all};
+ghost use Rattle.std.specs.Option.{option_map_or};
+ghost use Rattle.std.specs.Prelude.{slice_get};
+ghost use Rattle.cel_terms.specs.Answers.{types_of_stream};
+ghost use Rattle.cel_plain.specs.Below.{below, same_value, same_attr, reads, shares, shares_at, positions_of};
+
+use crate::predicate::value_of;
+use cel_terms::{Name, Query};
+use cer_base::{Memory, Pos};
+use std::alloc::Global;
+use stream_schema::{Event, Schema, TypeId, Value};
+
+/// Whether the two values are equal, of one kind.
+fn same_value(a: &Value, b: &Value) -> bool
+    ensures { result ≡ same_value a.now b.now }
+{
+    match (a, b) {
+        (Value::Int(a), Value::Int(b)) => *a == *b,
+        (Value::Text(a), Value::Text(b)) => a.as_str() == b.as_str(),
+        (Value::Flag(a), Value::Flag(b)) => *a == *b,
+        (
+            Value::Dec { scaled, places },
+            Value::Dec {
+                scaled: other,
+                places: others,
+            },
+        ) => *scaled == *other && *places == *others,
+        _ => false,
+    }
+}
+
+/// Whether both events have the attribute, with equal values.
+fn same_attr(schema: &Schema, a: &Event, b: &Event, name: &Name) -> bool
+    ensures { result ≡ same_attr schema.now a.now b.now name.now }
+{
+    match value_of(schema, a, name.text.as_str()) {
+        Some(value) => match value_of(schema, b, name.text.as_str()) {
+            Some(other) => same_value(value, other),
+            None => false,
+        },
+        None => false,
+    }
+}
+
+/// Whether both events have each attribute, with equal values.
+fn same_key(schema: &Schema, a: &Event, b: &Event, names: &[Name]) -> bool
+    ensures { result ≡ list_all (same_attr schema.now a.now b.now) names.now }
+{
+    for name in names {
+        if !same_attr(schema, a, b, name) {
+            return false;
+        }
+    }
+    true
+}
+
+fn has_number(types: &[TypeId], ty: TypeId) -> bool
+    ensures { result ≡ list_any (λ t. t == ty) types.now }
+{
+    types.iter().any(|t| *t == ty)
+}
+
+/// Whether the stream of this name has the type.
+fn stream_has(schema: &Schema, name: &Name, ty: TypeId) -> bool
+    ensures { result ≡ list_any (λ t. t == ty) (types_of_stream schema.now.streams name.now.text) }
+{
+    match schema.streams(name.text.as_str()) {
+        Some(types) => has_number(types.as_slice(), ty),
+        None => false,
+    }
+}
+
+/// Whether some of the streams has the type.
+fn some_stream_has(schema: &Schema, names: &[Name], ty: TypeId) -> bool
+    ensures { result ≡ list_any (λ n. list_any (λ t. t == ty) (types_of_stream schema.now.streams n.text)) names.now }
+{
+    names.iter().any(|name| stream_has(schema, name, ty))
+}
+
+/// Whether one of the streams has the event's type.
+fn reads(schema: &Schema, query: &Query, event: &Event) -> bool
+    ensures { result ≡ reads schema.now query.now event.now }
+{
+    some_stream_has(schema, query.streams.as_slice(), event.ty)
+}
+
+/// Whether both events are of the query's types and have equal keys.
+fn shares(schema: &Schema, query: &Query, here: &Event, there: &Event) -> bool
+    ensures { result ≡ shares schema.now query.now here.now there.now }
+{
+    reads(schema, query, here)
+        && reads(schema, query, there)
+        && same_key(schema, here, there, query.partition.as_slice())
+}
+
+fn shares_at(
+    schema: &Schema,
+    query: &Query,
+    events: &[Event],
+    there: &Event,
+    position: usize,
+) -> bool
+    ensures { result ≡ shares_at schema.now query.now events.now there.now position }
+{
+    match events.get(position) {
+        Some(here) => shares(schema, query, here, there),
+        None => false,
+    }
+}
+
+fn positions_with(
+    alloc: Global,
+    schema: &Schema,
+    query: &Query,
+    events: &[Event],
+    there: &Event,
+) -> Result<Vec<Pos>, Memory>
+    ensures { IfOk result (λ found. found.items ≡ below (shares_at schema.now query.now events.now there.now) (length events.now)) }
+{
+    let mut found = Vec::new(alloc);
+    for position in 0..events.len() {
+        if shares_at(schema, query, events, there, position) {
+            found.push(position as u64)?;
+        }
+    }
+    Ok(found)
+}
+
+/// The positions of the substream that the event at the end is in, ascending. There is none where
+/// that event has no key.
+pub fn positions(
+    alloc: Global,
+    schema: &Schema,
+    query: &Query,
+    events: &[Event],
+    end: Pos,
+) -> Result<Vec<Pos>, Memory>
+    ensures { IfOk result (λ found. found.items ≡ positions_of schema.now query.now events.now end) }
+{
+    match events.get(end as usize) {
+        Some(there) => positions_with(alloc, schema, query, events, there),
+        None => Ok(Vec::new(alloc)),
+    }
+}

@@ -1,5 +1,5 @@
 -- The parts of a text are the whole text, each at its place and as long as it may be.
-use Rattle.std.proofs.Common.{◌≡◌, ℕ, zero, suc, ◌-◌, List, [], ◌∷◌, ◌++◌, take, drop, Result, Ok, Err, refl, sym, ap, subst, ◌∙◌, arith}
+use Rattle.std.proofs.Common.{◌≡◌, ℕ, zero, suc, ◌-◌, List, [], ◌∷◌, ◌++◌, take, drop, Result, Ok, Err, refl, sym, ap, subst, ◌∙◌, arith, length, length-take}
 use Rattle.std.proofs.lemmas.Grind.{common_steps}
 use Rattle.cer_base.specs.declared.Place.{Place}
 use Rattle.ceql_lexer.specs.declared.front.Piece.{Piece}
@@ -8,7 +8,7 @@ use Rattle.ceql_lexer.specs.declared.LexError.{LexError}
 use Rattle.ceql_lexer.specs.Fronts.{piece_at}
 use Rattle.ceql_lexer.specs.Tokens.{Part, behind, behind_mark, first_place, goes_on, next_place, parts_from, parts_of, place_after}
 use Rattle.ceql_lexer.specs.Whole.{AreAtPlaces, AreLongest, AreWhole, EndsBefore, text_of}
-use Rattle.ceql_lexer.proofs.Longest.{piece_ends}
+use Rattle.ceql_lexer.proofs.Longest.{ends_of, piece_ends}
 
 goes_on_takes : (place : Place) (read : Result Piece LexFault) (later : Piece → Result (List Part) LexError) (parts : List Part) → goes_on place read later ≡ Ok parts → (piece : Piece) × (read ≡ Ok piece) × (later piece ≡ Ok parts)
 goes_on_takes place (Ok piece) later parts e = (piece, refl, e)
@@ -32,7 +32,7 @@ kept_more : (place : Place) (byte : ℕ) (bytes : List ℕ) (piece : Piece) (mor
 kept_more place byte bytes piece more is kept = record {
   nothing_lost = ap (λ (bs : List ℕ). byte ∷ bs) (ap (λ (bs : List ℕ). take (piece.size - 1) bytes ++ bs) kept.nothing_lost ∙ take_drop (piece.size - 1) bytes);
   placed = (refl, kept.placed);
-  longest = (subst (EndsBefore piece.kind) (sym kept.nothing_lost) (piece_ends byte bytes piece is), kept.longest);
+  longest = (subst (EndsBefore piece.kind (length (byte ∷ take (piece.size - 1) bytes))) (sym kept.nothing_lost) (ends_of piece.kind piece.size _ _ (λ more. omega (arith, length-take {A = ℕ})) (piece_ends byte bytes piece is)), kept.longest);
 }
 
 kept : (passed : ℕ) (place : Place) (bytes : List ℕ) (parts : List Part) → parts_from passed place bytes ≡ Ok parts → Kept passed place bytes parts

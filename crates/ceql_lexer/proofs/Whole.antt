@@ -3,11 +3,14 @@ use Rattle.std.proofs.Common.{◌≡◌, ℕ, zero, suc, ◌-◌, List, [], ◌�
 use Rattle.std.proofs.lemmas.Grind.{common_steps}
 use Rattle.cer_base.specs.declared.Place.{Place}
 use Rattle.ceql_lexer.specs.declared.front.Piece.{Piece}
+use Rattle.cer_base.specs.declared.OrMemory.{OrMemory}
+use Rattle.ceql_lexer.specs.declared.Token.{Token}
 use Rattle.ceql_lexer.specs.declared.LexFault.{LexFault}
+use Rattle.std.specs.Prelude.{IfOk}
 use Rattle.ceql_lexer.specs.declared.LexError.{LexError}
 use Rattle.ceql_lexer.specs.Fronts.{piece_at}
-use Rattle.ceql_lexer.specs.Tokens.{Part, behind, behind_mark, first_place, goes_on, next_place, parts_from, parts_of, place_after}
-use Rattle.ceql_lexer.specs.Whole.{AreAtPlaces, AreLongest, AreWhole, EndsBefore, text_of}
+use Rattle.ceql_lexer.specs.Tokens.{Gives, Part, with_end, behind, behind_mark, first_place, goes_on, next_place, parts_from, parts_of, place_after}
+use Rattle.ceql_lexer.specs.Whole.{AreAtPlaces, AreLongest, AreWhole, IsCut, EndsBefore, text_of}
 use Rattle.ceql_lexer.proofs.Longest.{ends_of, piece_ends}
 
 goes_on_takes : (place : Place) (read : Result Piece LexFault) (later : Piece → Result (List Part) LexError) (parts : List Part) → goes_on place read later ≡ Ok parts → (piece : Piece) × (read ≡ Ok piece) × (later piece ≡ Ok parts)
@@ -52,3 +55,13 @@ unfolding parts_of
 parts_whole text parts e =
     let k = kept 0 first_place (behind_mark text) parts e in
     record { nothing_lost = k.nothing_lost; placed = k.placed; longest = k.longest }
+
+cut_case : (text : List ℕ) (read : Result (List Part) LexError) (tokens : List Token) → ((parts : List Part) → read ≡ Ok parts → AreWhole text parts) → with_end text read ≡ Ok tokens → IsCut text tokens
+cut_case text (Ok parts) tokens whole e = record { parts = parts; whole = whole parts refl; those = cc }
+cut_case text (Err error) tokens whole e = absurd (cc)
+
+pub cut_is : (text : List ℕ) (result : Result (List Token) (OrMemory LexError)) → Gives (λ x. x) result (with_end text (parts_from 0 first_place text)) → IfOk result (λ tokens. IsCut text tokens)
+cut_is text (Ok tokens) given =
+    cut_case text (parts_from 0 first_place text) tokens
+    (λ parts e. let k = kept 0 first_place text parts e in record { nothing_lost = k.nothing_lost; placed = k.placed; longest = k.longest }) given
+cut_is text (Err error) given = tt

@@ -3,11 +3,12 @@
 use Rattle.std.specs.Prelude.{◌≡◌, ◌<◌, ℕ, Bool, false, List, [], ◌∷◌, ◌++◌, length, Option, Some, None}
 use Rattle.std.specs.Char.{is_ascii_digit}
 use Rattle.cer_base.specs.declared.Place.{Place}
+use Rattle.ceql_lexer.specs.declared.Token.{Token}
 use Rattle.ceql_lexer.specs.declared.TokenKind.{TokenKind}
 use Rattle.ceql_lexer.specs.declared.TokenKind.TheVariants.{Name, Keyword, Number, Decimal, Quoted, Sign, End}
 use Rattle.ceql_lexer.specs.Letters.{continues_word, is_in_line}
 use Rattle.ceql_lexer.specs.Numerals.{decimals_at}
-use Rattle.ceql_lexer.specs.Tokens.{Part, first_place, place_after}
+use Rattle.ceql_lexer.specs.Tokens.{Part, end_token, first_place, place_after, tokens_in}
 
 -- the bytes of the parts, one part behind the other
 abbrev pub text_of : List Part → List ℕ
@@ -47,3 +48,9 @@ pub record AreWhole (text : List ℕ) (parts : List Part) : Type 0 where
   pub nothing_lost : text_of parts ≡ text
   pub placed : AreAtPlaces first_place parts
   pub longest : AreLongest parts
+
+-- The tokens are those of the text's parts, and then the end at the place behind the last byte.
+pub record IsCut (text : List ℕ) (tokens : List Token) : Type 0 where
+  pub parts : List Part
+  pub whole : AreWhole text parts
+  pub those : tokens ≡ tokens_in parts ++ end_token (place_after first_place text) ∷ []

@@ -1,14 +1,17 @@
 -- The parts of a text are the whole text, each at its place and as long as it may be.
-use Rattle.std.proofs.Common.{◌≡◌, ℕ, zero, suc, ◌-◌, List, [], ◌∷◌, ◌++◌, take, drop, Result, Ok, Err, refl, sym, ap, subst, ◌∙◌, arith}
+use Rattle.std.proofs.Common.{◌≡◌, ℕ, zero, suc, ◌-◌, List, [], ◌∷◌, ◌++◌, take, drop, Result, Ok, Err, refl, sym, ap, subst, ◌∙◌, arith, length, length-take}
 use Rattle.std.proofs.lemmas.Grind.{common_steps}
 use Rattle.cer_base.specs.declared.Place.{Place}
 use Rattle.ceql_lexer.specs.declared.front.Piece.{Piece}
+use Rattle.cer_base.specs.declared.OrMemory.{OrMemory}
+use Rattle.ceql_lexer.specs.declared.Token.{Token}
 use Rattle.ceql_lexer.specs.declared.LexFault.{LexFault}
+use Rattle.std.specs.Prelude.{IfOk}
 use Rattle.ceql_lexer.specs.declared.LexError.{LexError}
 use Rattle.ceql_lexer.specs.Fronts.{piece_at}
-use Rattle.ceql_lexer.specs.Tokens.{Part, behind, behind_mark, first_place, goes_on, next_place, parts_from, parts_of, place_after}
-use Rattle.ceql_lexer.specs.Whole.{AreAtPlaces, AreLongest, AreWhole, EndsBefore, text_of}
-use Rattle.ceql_lexer.proofs.Longest.{piece_ends}
+use Rattle.ceql_lexer.specs.Tokens.{Gives, Part, with_end, behind, behind_mark, first_place, goes_on, next_place, parts_from, parts_of, place_after}
+use Rattle.ceql_lexer.specs.Whole.{AreAtPlaces, AreLongest, AreWhole, IsCut, EndsBefore, text_of}
+use Rattle.ceql_lexer.proofs.Longest.{ends_of, piece_ends}
 
 goes_on_takes : (place : Place) (read : Result Piece LexFault) (later : Piece → Result (List Part) LexError) (parts : List Part) → goes_on place read later ≡ Ok parts → (piece : Piece) × (read ≡ Ok piece) × (later piece ≡ Ok parts)
 goes_on_takes place (Ok piece) later parts e = (piece, refl, e)
@@ -32,7 +35,7 @@ kept_more : (place : Place) (byte : ℕ) (bytes : List ℕ) (piece : Piece) (mor
 kept_more place byte bytes piece more is kept = record {
   nothing_lost = ap (λ (bs : List ℕ). byte ∷ bs) (ap (λ (bs : List ℕ). take (piece.size - 1) bytes ++ bs) kept.nothing_lost ∙ take_drop (piece.size - 1) bytes);
   placed = (refl, kept.placed);
-  longest = (subst (EndsBefore piece.kind) (sym kept.nothing_lost) (piece_ends byte bytes piece is), kept.longest);
+  longest = (subst (EndsBefore piece.kind (length (byte ∷ take (piece.size - 1) bytes))) (sym kept.nothing_lost) (ends_of piece.kind piece.size _ _ (λ more. omega (arith, length-take {A = ℕ})) (piece_ends byte bytes piece is)), kept.longest);
 }
 
 kept : (passed : ℕ) (place : Place) (bytes : List ℕ) (parts : List Part) → parts_from passed place bytes ≡ Ok parts → Kept passed place bytes parts
@@ -52,3 +55,13 @@ unfolding parts_of
 parts_whole text parts e =
     let k = kept 0 first_place (behind_mark text) parts e in
     record { nothing_lost = k.nothing_lost; placed = k.placed; longest = k.longest }
+
+cut_case : (text : List ℕ) (read : Result (List Part) LexError) (tokens : List Token) → ((parts : List Part) → read ≡ Ok parts → AreWhole text parts) → with_end text read ≡ Ok tokens → IsCut text tokens
+cut_case text (Ok parts) tokens whole e = record { parts = parts; whole = whole parts refl; those = cc }
+cut_case text (Err error) tokens whole e = absurd (cc)
+
+pub cut_is : (text : List ℕ) (result : Result (List Token) (OrMemory LexError)) → Gives (λ x. x) result (with_end text (parts_from 0 first_place text)) → IfOk result (λ tokens. IsCut text tokens)
+cut_is text (Ok tokens) given =
+    cut_case text (parts_from 0 first_place text) tokens
+    (λ parts e. let k = kept 0 first_place text parts e in record { nothing_lost = k.nothing_lost; placed = k.placed; longest = k.longest }) given
+cut_is text (Err error) given = tt

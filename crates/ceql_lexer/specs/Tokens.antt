@@ -55,11 +55,12 @@ parts_from zero place (byte ∷ bytes) =
 abbrev pub behind_mark : List ℕ → List ℕ
 behind_mark text = if bytes_eq (take 3 text) (239 ∷ 187 ∷ 191 ∷ []) then drop 3 text else text
 
--- the parts that are tokens
+-- the token that a part of this kind is, if it is one
 abbrev pub token_of : Part → Option TokenKind → List Token
 token_of part None = []
 token_of part (Some k) = record { kind = k; text = part.text; place = part.place } ∷ []
 
+-- the parts that are tokens
 abbrev pub tokens_in : List Part → List Token
 tokens_in [] = []
 tokens_in (part ∷ parts) = token_of part part.kind ++ tokens_in parts
@@ -81,11 +82,12 @@ parts_of text = parts_from 0 first_place (behind_mark text)
 unfoldable pub tokens_of : List ℕ → Result (List Token) LexError
 tokens_of text = with_end (behind_mark text) (parts_of text)
 
--- What a call returned is what the definition gives, unless memory ran out.
+-- a fault that was returned is the one of the definition; memory may run out at any time
 abbrev pub Fails : {F Y : Type 0} → OrMemory F → Result Y F → Type 0
 Fails wanted.Memory given = Unit {0}
 Fails (wanted.Fault e) given = given ≡ Err e
 
+-- What a call returned, seen by view, is what the definition gives, unless memory ran out.
 abbrev pub Gives : {X F Y : Type 0} → (X → Y) → Result X (OrMemory F) → Result Y F → Type 0
 Gives view (Ok x) given = given ≡ Ok (view x)
 Gives view (Err e) given = Fails e given

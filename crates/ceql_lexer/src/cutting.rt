@@ -2,6 +2,7 @@
 
 ghost use Rattle.ceql_lexer.specs.Fronts.{IsText};
 ghost use Rattle.ceql_lexer.specs.Tokens.{Gives, behind_mark, first_place, parts_from, place_after, token_of, tokens_of, with_end};
+ghost use Rattle.ceql_lexer.specs.Whole.{IsCut};
 ghost use Rattle.std.specs.Str.{IsUtf8};
 ghost use Rattle.std.specs.Prelude.{◌≡◌, ◌+◌, ◌++◌, ◌<◌, ◌≤◌, ◌^◌, IfOk, OnOk, length};
 
@@ -110,7 +111,10 @@ fn cut(alloc: Global, text: &[u8]) -> Result<Tokens, OrMemory<LexError>>
 /// tokens so far are dropped.
 #[tactic(auto, unfolding(crate::specs::Tokens::tokens_of, crate::specs::Tokens::parts_of))]
 pub fn lex(alloc: Global, text: &[u8]) -> Result<Tokens, OrMemory<LexError>>
-    ensures { Gives (λ x. x) result (tokens_of text.now) }
+    // Exactly the tokens of the text, or exactly its first fault.
+    ensures exact { Gives (λ x. x) result (tokens_of text.now) }
+    // The tokens are the whole text, each at its place and as long as it may be.
+    ensures cut { IfOk result (λ tokens. IsCut (behind_mark text.now) tokens) }
 {
     let behind = behind_mark(text);
     if behind.len() >= usize::MAX - 1 {

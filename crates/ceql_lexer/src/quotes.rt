@@ -7,6 +7,9 @@ ghost use Rattle.std.specs.Prelude.{◌≡◌, ◌+◌, ◌∷◌, ◌<◌, ◌�
 use crate::front::Piece;
 use crate::{LexFault, TokenKind};
 
+/// The byte that no string has.
+const LINE_FEED: u8 = b'\n';
+
 /// Whether the bytes are UTF-8.
 fn is_utf8(bytes: &[u8]) -> bool
     ensures { result ≡ is_utf8 bytes.now }
@@ -21,7 +24,7 @@ fn closing(quote: u8, text: &[u8]) -> Option<usize>
     ensures within { IfSome result (λ size. (0 < size) × (size ≤ length text.now)) }
 {
     let mut passed = 0;
-    while passed < text.len() && text[passed] != b'\n' {
+    while passed < text.len() && text[passed] != LINE_FEED {
         if text[passed] != quote {
             passed += 1;
         } else if passed + 1 < text.len() && text[passed + 1] == quote {

@@ -7,27 +7,27 @@ use Rattle.ceql_lexer.proofs.quotes.closing.Goals.{else-passed-text-via-then-pas
 pub loop-passed-preserved-then-text-passed : goal.loop-passed-preserved-then-text-passed
 loop-passed-preserved-then-text-passed c =
     passes_other c.args.quote c.args.text.now c.loop-passed.passed c.loop-passed.invariant c.loop-passed-test.true
-    (ne_eqb _ _ c.if-text-passed-ne10.true) (ne_eqb _ _ c.if-text-passed.true)
+    (ne_eqb _ _ c.if-text-passed-ne-LINE_FEED.true) (ne_eqb _ _ c.if-text-passed.true)
 
 pub loop-passed-preserved : goal.loop-passed-preserved
 loop-passed-preserved c =
     passes_doubled c.args.quote c.args.text.now c.loop-passed.passed c.loop-passed.invariant c.if-passed-text.true
-    (ne_eqb _ _ c.if-text-passed-ne10.true) (eq-eqb _ _ c.if-text-passed.false) (eq-eqb _ _ c.if-text-passed-2.true)
+    (ne_eqb _ _ c.if-text-passed-ne-LINE_FEED.true) (eq-eqb _ _ c.if-text-passed.false) (eq-eqb _ _ c.if-text-passed-2.true)
 
 pub returns-else-passed-text-clause-value : goal.returns-else-passed-text-clause-value
 returns-else-passed-text-clause-value c = elim c.else-passed-text.branch [
   | else-passed-text-via-then-passed-text+else-text-passed-2 w ↦
       closed_here c.args.quote c.args.text.now c.loop-passed.passed c.loop-passed.invariant w.if-passed-text.true
-      (ne_eqb _ _ c.if-text-passed-ne10.true) (eq-eqb _ _ c.if-text-passed.false) (ne_eqb _ _ w.if-text-passed-2.false)
+      (ne_eqb _ _ c.if-text-passed-ne-LINE_FEED.true) (eq-eqb _ _ c.if-text-passed.false) (ne_eqb _ _ w.if-text-passed-2.false)
   | else-passed-text-via-else-passed-text w ↦
       closed_last c.args.quote c.args.text.now c.loop-passed.passed c.loop-passed.invariant (omega arith)
-      (ne_eqb _ _ c.if-text-passed-ne10.true) (eq-eqb _ _ c.if-text-passed.false)
+      (ne_eqb _ _ c.if-text-passed-ne-LINE_FEED.true) (eq-eqb _ _ c.if-text-passed.false)
 ]
 
-pub returns-else-text-passed-ne10-clause-value : goal.returns-else-text-passed-ne10-clause-value
-returns-else-text-passed-ne10-clause-value c =
+pub returns-else-text-passed-ne-LINE_FEED-clause-value : goal.returns-else-text-passed-ne-LINE_FEED-clause-value
+returns-else-text-passed-ne-LINE_FEED-clause-value c =
     open_at_line c.args.quote c.args.text.now c.loop-passed.passed c.loop-passed.invariant c.loop-passed-test.true
-    (eq-eqb _ _ c.if-text-passed-ne10.false)
+    (eq-eqb _ _ c.if-text-passed-ne-LINE_FEED.false)
 
 pub returns-after-loop-passed-clause-value : goal.returns-after-loop-passed-clause-value
 returns-after-loop-passed-clause-value c =

@@ -1,14 +1,15 @@
 -- What holds of each predicate in a list.
-use Rattle.std.proofs.Common.{◌≡◌, refl, sym, ap, ◌∙◌, ℕ, suc, add-one, cond, Option, Some, None, ◌&&◌, ◌||◌, List, [], ◌∷◌}
+use Rattle.std.proofs.Common.{◌≡◌, refl, ap, ◌∙◌, ℕ, Option, Some, None, ◌&&◌, ◌||◌, List}
 use Rattle.std.specs.List.{list_all, list_any, position_from}
 use Rattle.std.specs.Prelude.{Vec, bytes_eq, slice_get, option_map, option_and_then}
 use Rattle.stream_schema.specs.declared.Value.{Value}
 use Rattle.stream_schema.specs.declared.Attr.{Attr}
 use Rattle.std.specs.declared.alloc.Global.{Global}
+use Rattle.stream_schema.specs.Names.{attr_index}
 use Rattle.stream_schema.specs.Types.{Declared, DeclaredType}
 use Rattle.stream_schema.specs.declared.Event.{Event}
 use Rattle.cel_terms.specs.declared.Pred.{Pred, All, Any, All', Any', Row_of-Pred, end_of-Pred, more_of-Pred, items-the_row-Pred, items_hidden-the_row-Pred-0}
-use Rattle.cel_terms.specs.Predicate.{holds, all_hold, any_holds, attr_index_from}
+use Rattle.cel_terms.specs.Predicate.{holds, all_hold, any_holds}
 
 all_hold_listed : (schema : Declared) (event : Event) (n : _) (row : Row_of-Pred n) → all_hold schema row event ≡ list_all (λ p. holds schema p event) (items-the_row-Pred n row)
 all_hold_listed schema event n end_of-Pred = refl
@@ -33,18 +34,10 @@ holds_any schema event preds =
     let row = row_of (Any preds) in
     any_holds_listed schema event row.0 row.1 ∙ ap (list_any (λ p. holds schema p event)) (items_hidden-the_row-Pred-0 preds)
 
--- The first attribute of the name, from a number on.
-position_is : (name : List ℕ) (i : ℕ) (attrs : List Attr) → position_from (λ a. bytes_eq a.name name) i attrs ≡ attr_index_from i name attrs
-position_is name i [] = refl
-position_is name i (a ∷ attrs) = ap (λ o. cond (bytes_eq a.name name) (Some i) o) (ap (λ n. position_from (λ a. bytes_eq a.name name) n attrs) (add-one i) ∙ position_is name (suc i) attrs)
-
-pub attr_index_is : (name : List ℕ) (attrs : List Attr) → attr_index_from 0 name attrs ≡ position_from (λ a. bytes_eq a.name name) 0 attrs
-attr_index_is name attrs = sym (position_is name 0 attrs)
-
 -- The value at the place of the first attribute of the name.
-pub value_there : (name : List ℕ) (type : Option DeclaredType) (values : List Value) (attrs : List Attr) (i : ℕ) (v : Option Value) → Some attrs ≡ option_map (λ t. t.attrs) type → Some i ≡ position_from (λ a. bytes_eq a.name name) 0 attrs → v ≡ slice_get values i → v ≡ option_and_then (λ t. option_and_then (λ k. slice_get values k) (attr_index_from 0 name t.attrs)) type
+pub value_there : (name : List ℕ) (type : Option DeclaredType) (values : List Value) (attrs : List Attr) (i : ℕ) (v : Option Value) → Some attrs ≡ option_map (λ t. t.attrs) type → Some i ≡ position_from (λ a. bytes_eq a.name name) 0 attrs → v ≡ slice_get values i → v ≡ option_and_then (λ t. option_and_then (λ k. slice_get values k) (attr_index name t.attrs)) type
 value_there name None values attrs i v has at is = absurd cc
 value_there name (Some t) values attrs i v has at is =
     let same : attrs ≡ t.attrs = cc in
-    let place : Some i ≡ attr_index_from 0 name t.attrs = at ∙ position_is name 0 attrs ∙ ap (attr_index_from 0 name) same in
+    let place : Some i ≡ attr_index name t.attrs = at ∙ ap (attr_index name) same in
     is ∙ ap (option_and_then (λ k. slice_get values k)) place

@@ -32,7 +32,6 @@ fn value_at(values: &[Value], place: usize) -> Option<&Value>
 }
 
 /// The event's value of the attribute, or `None` where its type lacks it.
-#[tactic(auto, using(crate::proofs::Predicates::attr_index_is))]
 pub fn value_of<'e>(schema: &Schema, event: &'e Event, name: &str) -> Option<&'e Value>
     ensures { option_copied result ≡ attr_value schema.now event.now name.now }
 {

@@ -67,8 +67,8 @@ fn has_number(types: &[TypeId], ty: TypeId) -> bool
 fn stream_has(schema: &Schema, name: &Name, ty: TypeId) -> bool
     ensures { result ≡ list_any (λ t. t == ty) (types_of_stream schema.now.streams name.now.text) }
 {
-    match schema.stream_types(name.text.as_str()) {
-        Some(types) => has_number(types, ty),
+    match schema.streams(name.text.as_str()) {
+        Some(types) => has_number(types.as_slice(), ty),
         None => false,
     }
 }

@@ -1,4 +1,4 @@
--- The complex events that a query has at a position.
+-- The complex events that a query has at a position: answers after "A Formal Framework for Complex Event Recognition" (ACM TODS 2021), partitions and windows of this project's profile.
 use Rattle.std.specs.Prelude.{◌≡◌, ℕ, ◌<◌, ◌↔◌, ℤ, pos, ◌+ℤ◌, ◌≤ℤ◌, Bool, true, false, List, [], ◌∷◌, ◌++◌, Any, Contains, Option, Some, None, slice_get, option_map, option_and_then, bytes_eq, if◌then◌else◌}
 use Rattle.stream_schema.specs.Types.{Declared, DeclaredStream}
 use Rattle.stream_schema.specs.declared.Event.{Event}
@@ -16,6 +16,7 @@ abbrev pub types_of_stream : List DeclaredStream → List ℕ → List ℕ
 types_of_stream [] name = []
 types_of_stream (s ∷ ss) name = if bytes_eq s.name name then s.types else types_of_stream ss name
 
+-- the same of all its streams
 abbrev pub query_types : Declared → List Name → List ℕ
 query_types schema [] = []
 query_types schema (n ∷ ns) = types_of_stream schema.streams n.text ++ query_types schema ns
@@ -45,6 +46,7 @@ HasClock schema Free event position clock = clock ≡ pos position
 HasClock schema (Events n) event position clock = clock ≡ pos position
 HasClock schema (Clock name n) event position clock = attr_value schema event name.text ≡ Some (Int clock)
 
+-- the second clock is at most the window's width above the first
 abbrev pub WithinWidth : Window → ℤ → ℤ → Type 0
 WithinWidth Free from to = Unit {0}
 WithinWidth (Events n) from to = to ≤ℤ (from +ℤ pos n)
@@ -94,11 +96,12 @@ pub record HasMarks (part : Meaning) (start end : ℕ) (marks : List ℕ) : Type
 abbrev pub AreContiguous : (ℕ → Type 0) → List ℕ → Type 0
 AreContiguous Has marks = (low p high : ℕ) → Contains marks low → Contains marks high → low < p → p < high → Has p → Contains marks p
 
+-- the fact is asked for where the query is strict
 abbrev pub WhereStrict : Bool → Type 0 → Type 0
 WhereStrict true P = P
 WhereStrict false P = Unit {0}
 
--- a complex event without its end
+-- an answer at a position: where the complex event starts, and its marked positions in order; it ends at the position
 pub record Answer : Type 0 where
   pub start : ℕ
   pub marks : List ℕ

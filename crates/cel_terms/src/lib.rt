@@ -1,3 +1,8 @@
+//! Queries as terms, and what they mean: predicates of an event, valuations of a formula, and the
+//! complex events that a query has at a position.
+//!
+//! The meaning stands in `specs/Predicate`, `specs/Meaning` and `specs/Answers`; it knows no
+//! automaton, run or node. It stands on `stream_schema` for types and events.
 #![tactic(auto)]
 
 ghost use Rattle.std.specs.Prelude.{◌≡◌, List, ℕ};

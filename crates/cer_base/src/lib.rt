@@ -1,7 +1,9 @@
 //! What every crate of the engine speaks of: positions in a stream, places in a text, want of
-//! memory, and the small types that contracts see as a text, a list or a count.
+//! memory, the small types that contracts see as a text, a list or a count, and the nodes of
+//! enumerable compact sets with the store that keeps them.
 //!
-//! Promised: each of these types is exactly its value; nothing else of it can be seen.
+//! Promised: each of the small types is exactly its value; nothing else of it can be seen. What a
+//! node means, and when a store is well-formed, is defined in `specs/Members` and `specs/Nodes`.
 //! It stands on std alone.
 #![tactic(auto)]
 
@@ -11,7 +13,9 @@ ghost use Rattle.cer_base.specs.declared.OrMemory.TheVariants as wanted;
 use std::alloc::{AllocError, AllocFailed, Global};
 use std::marker::Model;
 
+pub mod node;
 pub mod steps;
+pub mod store;
 
 /// A position in the whole stream, from 0.
 pub type Pos = u64;

@@ -1,3 +1,5 @@
+//! The numbers of calls, and which of them fail.
+
 ghost use Rattle.std.specs.Prelude.{◌≡◌, ℕ, ◌+◌, ◌-◌, ◌^◌, ◌≤◌, ◌↔◌, min, IsTrue, Contains};
 
 /// The calls that were made on an object: which of them fail, and how often one failed. Each count

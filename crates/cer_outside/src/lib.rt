@@ -7,15 +7,22 @@
 #![tactic(auto)]
 
 ghost use Rattle.std.specs.Prelude.{◌≡◌, ℕ, List, [], ◌<◌, ◌≤◌, length, Option, IfOk, OnOk, OnErr};
+ghost use Rattle.cer_outside.specs.declared.OpenError.TheVariants as wanted;
 ghost use Rattle.cer_outside.specs.Causes.{HasCause, HasOpenCause};
 ghost use Rattle.cer_outside.specs.Bytes.{Reads, Takes};
 
+use cer_base::Memory;
 use std::alloc::Global;
 
 mod calls;
+pub mod files;
+pub mod hosts;
+pub mod laws;
 mod portions;
 pub mod sinks;
 pub mod sources;
+#[cfg(test)]
+mod tests;
 pub mod writing;
 
 /// The call failed, and the object's count of faults has risen.
@@ -29,6 +36,14 @@ pub enum OpenError {
     Failed,
     /// Memory ran out.
     Memory,
+}
+
+impl From<Memory> for OpenError {
+    ghost from_gives = { λ _ e. e ≡ wanted.Memory };
+
+    fn from(_refused: Memory) -> OpenError {
+        OpenError::Memory
+    }
 }
 
 /// Where bytes come from.

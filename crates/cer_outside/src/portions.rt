@@ -1,3 +1,5 @@
+//! How many bytes one call moves.
+
 ghost use Rattle.std.specs.Prelude.{◌≡◌, ℕ, ◌<◌, ◌≤◌, List, [], length, drop};
 ghost use Rattle.cer_outside.specs.Bytes.{Moves};
 

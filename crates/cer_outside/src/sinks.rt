@@ -1,3 +1,5 @@
+//! A sink in memory, of a fixed room, whose calls fail as chosen.
+
 ghost use Rattle.std.specs.Prelude.{◌≡◌, ℕ, ◌<◌, ◌≤◌, [], List, Some, length, vec_len, IfOk};
 ghost use Rattle.std.specs.Vec.{vec_capacity};
 ghost use Rattle.cer_outside.specs.States.{SinkState};
@@ -20,7 +22,7 @@ pub struct MemSink {
 impl Model for MemSink {
     ghost Value = { SinkState };
 
-    ghost view = { λ s. record { taken = s.taken.items; faults = s.calls.faults } };
+    ghost view = { λ s. record { taken = s.taken.items; room = s.room; faults = s.calls.faults } };
 
     ghost invariant = { λ s. (vec_len s.taken ≤ s.room) × (s.room ≤ vec_capacity s.taken) × (0 < s.piece) };
 }
@@ -32,6 +34,7 @@ impl MemSink {
     pub fn new(alloc: Global, piece: usize, room: usize, fails: Vec<u64>) -> Result<MemSink, Memory>
         requires { 0 < piece }
         ensures taken { IfOk result (λ s. s.taken ≡ []) }
+        ensures room { IfOk result (λ s. s.room ≡ room) }
         ensures faults { IfOk result (λ s. s.faults ≡ 0) }
     {
         Ok(MemSink {
@@ -44,7 +47,8 @@ impl MemSink {
 
     /// The bytes that it has taken, in order.
     pub fn as_slice(&self) -> &[u8]
-        ensures { result.now ≡ self.now.taken }
+        ensures value { result.now ≡ self.now.taken }
+        ensures fits { length result.now ≤ self.now.room }
     {
         self.taken.as_slice()
     }

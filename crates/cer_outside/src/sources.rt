@@ -1,3 +1,5 @@
+//! Sources in memory: one whose calls fail as chosen, and one that never fails.
+
 ghost use Rattle.std.specs.Prelude.{◌≡◌, ℕ, ◌<◌, List, Some};
 ghost use Rattle.cer_outside.specs.States.{SourceState};
 

@@ -1,3 +1,5 @@
+//! Writing all of a text's bytes to a sink.
+
 ghost use Rattle.std.specs.Prelude.{◌≡◌, [], OnOk, OnErr, IsOk};
 ghost use Rattle.cer_outside.specs.Causes.{HasCause};
 ghost use Rattle.cer_outside.specs.Bytes.{TookAll, TookPart};

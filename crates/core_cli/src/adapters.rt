@@ -92,7 +92,11 @@ impl<R: Files + Drop> Host for SystemFiles<R> {
 
     ghost faults = { λ h name. h.faults };
 
-    fn take_file(&mut self, alloc: Global, name: &str) -> Result<CountedReader<R::File>, OpenError> {
+    fn take_file(
+        &mut self,
+        alloc: Global,
+        name: &str,
+    ) -> Result<CountedReader<R::File>, OpenError> {
         match fs::open(&self.files, name) {
             Ok(reader) => Ok(CountedReader { reader, faults: 0 }),
             Err(_) => {

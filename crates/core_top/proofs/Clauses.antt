@@ -1,18 +1,16 @@
 -- What the end of a run says of each answer of the program.
-use Rattle.std.proofs.Common.{◌≡◌, ℕ, ◌⊎◌, List, [], ◌∷◌, Option, Some, None, refl, sym, ◌∙◌, ap, subst, inl, inr, IfSome, IsSome, IsSomeAnd, ◌↔◌}
+use Rattle.std.proofs.Common.{◌≡◌, ℕ, ◌⊎◌, List, Option, Some, None, refl, sym, ◌∙◌, ap, subst, inl, inr, IfSome, IsSome, IsSomeAnd, ◌↔◌}
 use Rattle.cer_base.specs.declared.Place.{Place}
-use Rattle.cer_outside.specs.Causes.{Rose}
 use Rattle.stream_schema.specs.declared.Event.{Event}
 use Rattle.core_top.specs.declared.QueryFault.{QueryFault}
 use Rattle.core_top.specs.declared.EventFault.{EventFault}
-use Rattle.core_top.specs.declared.File.{File}
 use Rattle.core_top.specs.declared.Cause.{Cause}
 use Rattle.core_top.specs.declared.Cause.TheVariants as cause
 use Rattle.core_top.specs.FirstForm.{Names, IsQueryFile, IsEventFile}
-use Rattle.core_top.specs.Command.{IsRun, AskNothing}
-use Rattle.core_top.specs.Causes.{IsAccepted, IsRefused, IsStopped, Exactly, IsFromOutside, IsFineOrOutside, IsReading, HasOpenFault, HasReadFault, HasWriteFault}
+use Rattle.core_top.specs.Command.{IsRun}
+use Rattle.core_top.specs.Causes.{IsAccepted, IsRefused, IsStopped, IsFromOutside, IsFineOrOutside, IsReading}
 use Rattle.core_top.specs.Output.{AreAnswers, AreRunAnswers, Wrote}
-use Rattle.core_top.specs.Run.{Sources, Outside, RunEnds, Ended, Finished, HasAccepted, HasAnswers, WroteNothing}
+use Rattle.core_top.specs.Run.{Sources, Outside, RunEnds}
 
 -- words name one pair of files
 pub same_queries : (words : List (List ℕ)) (q e r f : List ℕ) → IsRun words q e → IsRun words r f → q ≡ r

@@ -1,11 +1,9 @@
 -- How each exit of a run meets what is said of its end.
-use Rattle.std.proofs.Common.{◌≡◌, ℕ, ◌≤◌, ◌<◌, ◌+◌, ◌⊎◌, List, [], ◌∷◌, ◌++◌, length, take, map, min, Option, Some, None, refl, sym, ◌∙◌, ap, subst, arith, inl, inr, IfSome, IsSomeAnd, slice_get, Result, Ok, Err}
+use Rattle.std.proofs.Common.{◌≡◌, ℕ, ◌≤◌, List, length, take, map, min, Option, Some, None, refl, sym, ◌∙◌, ap, subst, arith, inl, IfSome, IsSomeAnd, Result, Err}
 use Rattle.std.proofs.lemmas.List.{take_all, length-take}
-use Rattle.cer_base.specs.declared.Place.{Place}
 use Rattle.cer_base.specs.declared.OrMemory.{OrMemory}
 use Rattle.cer_base.specs.declared.OrMemory.TheVariants as wanted
 use Rattle.cer_outside.specs.Causes.{Rose}
-use Rattle.cer_outside.specs.Bytes.{TookAll, TookPart}
 use Rattle.stream_schema.specs.declared.Event.{Event}
 use Rattle.core_top.specs.declared.QueryFault.{QueryFault}
 use Rattle.core_top.specs.declared.QueryFault.TheVariants as query_fault
@@ -16,18 +14,15 @@ use Rattle.core_top.specs.declared.File.TheVariants as file
 use Rattle.core_top.specs.declared.Cause.{Cause}
 use Rattle.core_top.specs.declared.Cause.TheVariants as cause
 use Rattle.core_top.specs.declared.first_form.Plan.{Plan}
-use Rattle.answer_text.specs.declared.Order.TheVariants.{Sorted}
-use Rattle.answer_text.specs.Output.{IsOutput}
-use Rattle.core_top.specs.FirstForm.{Names, AreNames, IsQueryFile, IsEventFile, schema_of}
+use Rattle.core_top.specs.FirstForm.{Names, AreNames, IsQueryFile, IsEventFile}
 use Rattle.core_top.specs.Pairs.{pairs_output}
 use Rattle.core_top.specs.Plan.{IsPlanOf}
 use Rattle.core_top.specs.SourceBytes.{AreFirst}
 use Rattle.core_top.specs.Causes.{IsAccepted, IsRefused, IsStopped, ComesInTurn, name_of}
 use Rattle.core_top.specs.Output.{AreAnswers}
-use Rattle.core_top.specs.Taken.{TookPrefix}
 use Rattle.core_top.proofs.PairOutput.{pairs_are_output}
 use Rattle.core_top.proofs.QueryFile.{names_again, words_from_names}
-use Rattle.core_top.specs.Run.{Sources, FailedWith, ReadingStops, Outside, RunEnds, Ended, HasAccepted, HasAnswers, WroteNothing}
+use Rattle.core_top.specs.Run.{Sources, FailedWith, ReadingStops, Outside, RunEnds, Ended, HasAccepted, WroteNothing}
 
 -- a file that was read and is small was read whole
 pub whole_if_small : (text read : List ℕ) → read ≡ take 1048577 text → length read ≤ 1048576 → read ≡ text

@@ -14,3 +14,4 @@ pub mod WholeFiles
 pub mod Ends
 pub mod Clauses
 pub mod TopClauses
+pub mod SureRuns

@@ -1,5 +1,5 @@
 -- The words of the command line as a list of three.
-use Rattle.std.proofs.Common.{◌≡◌, ℕ, List, [], ◌∷◌, length, map, get_or, refl, arith, bytes_eq, true}
+use Rattle.std.proofs.Common.{◌≡◌, ℕ, List, [], ◌∷◌, length, map, get_or, arith, bytes_eq, true}
 use Rattle.std.proofs.lemmas.Slice.Eq.{bytes_eq-Decides}
 
 -- a list of three is its items

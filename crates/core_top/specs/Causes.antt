@@ -1,6 +1,6 @@
 -- How a call of the program ended, and when each answer may come.
 -- This project's profile.
-use Rattle.std.specs.Prelude.{◌≡◌, ℕ, ◌⊎◌, List, ◌++◌, Option, Some, None, IfSome}
+use Rattle.std.specs.Prelude.{◌≡◌, ℕ, ◌⊎◌, List, Option, IfSome}
 use Rattle.cer_base.specs.declared.Place.{Place}
 use Rattle.stream_schema.specs.declared.Event.{Event}
 use Rattle.cer_outside.specs.Causes.{Rose}
@@ -117,3 +117,14 @@ pub record HasWriteFault (old new before after : ℕ) : Type 0 where
   pub from : before ≡ old
   pub to : after ≡ new
   pub rose : Rose before after
+
+-- all was well, or memory ran out
+abbrev pub IsFineOrMemory : Cause → Type 0
+IsFineOrMemory cause.Fine = Unit {0}
+IsFineOrMemory cause.Memory = Unit {0}
+IsFineOrMemory cause.Usage = ⊥
+IsFineOrMemory (cause.Queries fault place) = ⊥
+IsFineOrMemory (cause.Event line fault) = ⊥
+IsFineOrMemory (cause.OpenFault opened before after) = ⊥
+IsFineOrMemory (cause.ReadFault read after) = ⊥
+IsFineOrMemory (cause.WriteFault before after) = ⊥

@@ -1,5 +1,5 @@
 -- How a run over two files ends, as the parts of the program tell it to each other.
-use Rattle.std.specs.Prelude.{◌≡◌, ℕ, ◌≤◌, ◌⊎◌, List, [], ◌∷◌, Option, Some, None, IfSome, IsSomeAnd}
+use Rattle.std.specs.Prelude.{◌≡◌, ℕ, ◌⊎◌, List, Option, Some, None, IfSome, IsSomeAnd}
 use Rattle.cer_outside.specs.Causes.{Rose}
 use Rattle.cer_outside.specs.Bytes.{TookAll, TookPart}
 use Rattle.core_top.specs.declared.File.{File}
@@ -71,4 +71,4 @@ pub record Ended {S : Type 0} (sources : Sources S) (o : Outside) (given : Cause
 -- The call ended: after a run that the words ask for, or because they ask for nothing. The names in o are those of the run.
 pub record Finished {S : Type 0} (sources : Sources S) (words : List (List ℕ)) (o : Outside) (given : Cause) (failed : Option S) : Type 0 where
   pub way : ((queries : List ℕ) × (events : List ℕ) × IsRun words queries events × Ended sources (record o { queries = queries; events = events }) given failed)
-    ⊎ (AskNothing words × (given ≡ cause.Usage) × (failed ≡ None) × WroteNothing o)
+      ⊎ (AskNothing words × (given ≡ cause.Usage) × (failed ≡ None) × WroteNothing o)

@@ -5,7 +5,6 @@
 #![tactic(auto)]
 
 use cer_base::Place;
-
 pub use top::core_main;
 
 mod command;
@@ -19,6 +18,7 @@ mod query_lines;
 mod query_plan;
 mod run;
 mod spelled;
+pub mod sure;
 mod top;
 
 /// Why a query text was refused.
@@ -74,3 +74,6 @@ pub struct Done<S> {
     /// The source that failed, where the cause is a `ReadFault`.
     pub failed: Option<S>,
 }
+
+#[cfg(test)]
+mod tests;

@@ -6,7 +6,7 @@ ghost use Rattle.core_top.specs.declared.Cause.TheVariants as cause;
 
 use super::engine::write_answers;
 use super::first_form::{read_events, read_query};
-use super::opening::{take_whole, Stop};
+use super::opening::{Stop, take_whole};
 use super::{Cause, File};
 use cer_base::{OrMemory, Place};
 use cer_outside::{Host, Sink, WriteFault};

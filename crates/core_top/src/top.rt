@@ -64,12 +64,7 @@ pub fn core_main<H: Host, K: Sink, N: Sink, L: Ledger>(
 }
 
 /// The run that the words ask for, or a usage fault.
-fn run<H: Host, K: Sink>(
-    alloc: Global,
-    words: &[String],
-    host: &mut H,
-    out: &mut K,
-) -> Done<H::Src>
+fn run<H: Host, K: Sink>(alloc: Global, words: &[String], host: &mut H, out: &mut K) -> Done<H::Src>
     ensures status { result.status ≡ status_of result.cause }
     ensures finished { Finished (record { faults = H.Src.faults; left = H.Src.left }) (map string_bytes words.now)
         (record { queries = []; events = []; content = H.content host.old; old = H.faults host.old; new = H.faults host.new; out_old = K.faults out.old; out_new = K.faults out.new; before = K.taken out.old; after = K.taken out.new })

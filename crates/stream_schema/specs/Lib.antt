@@ -1,2 +1,4 @@
 pub mod Types
+pub mod Names
+pub mod Declaring
 pub mod Events

@@ -1,22 +1,39 @@
+//! The declared event types and streams: names to types, attributes and kinds.
+//!
+//! Promised: a schema holds exactly what was declared, in order. A declaration is refused exactly
+//! where its name is taken, a type is not declared or an attribute stands twice, and changes
+//! nothing then. A look-up answers nothing exactly where there is nothing, and takes no memory.
+//! It stands on `cer_base`.
 #![tactic(auto)]
 
 ghost use Rattle.std.specs.Prelude.{◌≡◌, List, ℕ};
 
 use cer_base::{Listed, Text};
-use std::marker::Model;
 
-pub mod lookups;
+mod declarations;
+mod registry;
+#[cfg(test)]
+mod tests;
 
+pub use registry::Schema;
+
+/// The number of a declared type, from 0 in the order of declaration.
 pub type TypeId = u64;
 
 /// What an attribute may hold.
 #[derive(Debug, Clone, Copy, PartialEq, Eq)]
 pub enum Kind {
+    /// A whole number of signed 64 bits.
     Int,
+    /// A text.
     Text,
+    /// A truth value.
     Flag,
+    /// A decimal number with so many places after the point.
     Dec(u8),
 }
+
+pub type Kinds = Listed<Kind>;
 
 /// The value of an attribute.
 #[derive(Drop, Debug)]
@@ -24,6 +41,7 @@ pub enum Value {
     Int(i64),
     Text(Text),
     Flag(bool),
+    /// `scaled` is the number times ten to the power of `places`.
     Dec { scaled: i64, places: u8 },
 }
 
@@ -36,36 +54,33 @@ pub struct Event {
     pub values: Values,
 }
 
+/// An attribute of a type, as it is declared.
 #[derive(Drop, Debug)]
 pub struct Attr {
     pub name: Text,
     pub kind: Kind,
 }
 
-#[derive(Drop, Debug)]
-struct TypeDecl {
-    name: Text,
-    attrs: Listed<Attr>,
+pub type Attrs = Listed<Attr>;
+
+/// Where an attribute stands among those of its type, from 0, and its kind.
+#[derive(Debug, Clone, Copy, PartialEq, Eq)]
+pub struct AttrAt {
+    pub index: u64,
+    pub kind: Kind,
 }
 
-#[derive(Drop, Debug)]
-struct StreamDecl {
-    name: Text,
-    types: Listed<TypeId>,
-}
+pub type Texts = Listed<Text>;
 
-/// The declared types and streams.
-#[derive(Drop, Debug)]
-pub struct Schema {
-    types: Vec<TypeDecl>,
-    streams: Vec<StreamDecl>,
-}
+pub type TypeIds = Listed<TypeId>;
 
-impl Model for Schema {
-    ghost use Rattle.std.specs.Prelude.{map};
-    ghost use Rattle.stream_schema.specs.Types.{Declared};
-
-    ghost Value = { Declared };
-
-    ghost view = { λ s. record { types = map (λ t. record { name = t.name; attrs = t.attrs }) s.types.items; streams = map (λ t. record { name = t.name; types = t.types }) s.streams.items } };
+/// Why a declaration was refused.
+#[derive(Drop, Debug, Clone, Copy, PartialEq, Eq)]
+pub enum SchemaFault {
+    /// 1: a type or a stream has the name.
+    NameTaken,
+    /// 2: a name in the list of a stream is no declared type's.
+    UnknownType,
+    /// 3: two attributes of a type have one name.
+    AttrTwice,
 }

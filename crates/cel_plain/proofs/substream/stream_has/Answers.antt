@@ -7,8 +7,8 @@ use Rattle.cel_plain.proofs.substream.stream_has.Goals as goal
 
 pub returns-in-Some : goal.returns-in-Some
 returns-in-Some c =
-    c.has_number.ensures ∙ (ap (λ (o : Option (List ℕ)). option_map_or (list_any (λ t. t == c.args.ty)) o false) c.in-Some.ensures
-    ∙ (ap (λ name. option_map_or (list_any (λ t. t == c.args.ty)) (found_types c.args.schema.now.streams name) false) c.as_str.ensures ∙ sym (types_are c.args.schema.now.streams c.args.name.now.text c.args.ty)))
+    c.has_number.ensures ∙ (ap (list_any (λ t. t == c.args.ty)) c.as_slice.ensures ∙ (ap (λ (o : Option (List ℕ)). option_map_or (list_any (λ t. t == c.args.ty)) o false) c.in-Some.ensures
+    ∙ (ap (λ name. option_map_or (list_any (λ t. t == c.args.ty)) (found_types c.args.schema.now.streams name) false) c.as_str.ensures ∙ sym (types_are c.args.schema.now.streams c.args.name.now.text c.args.ty))))
 
 pub returns-in-None : goal.returns-in-None
 returns-in-None c =

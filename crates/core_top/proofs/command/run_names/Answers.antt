@@ -1,4 +1,4 @@
-use Rattle.std.proofs.Common.{rules, ◌≡◌, ℕ, List, [], ◌∷◌, length, map, string_bytes, arith, codes, sym, ◌∙◌, true}
+use Rattle.std.proofs.Common.{◌≡◌, [], ◌∷◌, map, string_bytes, arith, codes, sym, ◌∙◌}
 use Rattle.core_top.proofs.Words.{three_items, same_bytes}
 use Rattle.core_top.proofs.command.run_names.Goals as goal
 

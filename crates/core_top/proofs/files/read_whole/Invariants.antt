@@ -1,4 +1,4 @@
-use Rattle.std.proofs.Common.{◌≡◌, ◌-◌, ◌<◌, ◌≤◌, [], vec_len}
+use Rattle.std.proofs.Common.{◌-◌, ◌<◌, ◌≤◌, [], vec_len}
 use Rattle.core_top.specs.SourceBytes.{ReadsOn}
 use Rattle.core_top.proofs.files.read_whole.Given as goal
 

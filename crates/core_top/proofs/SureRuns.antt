@@ -1,0 +1,48 @@
+-- A run over a host that never fails ends well or for want of memory.
+use Rattle.std.proofs.Common.{◌≡◌, ℕ, List, Option, Some, None, refl, sym, ◌∙◌, ap, arith, IsSomeAnd, cond, is_some}
+use Rattle.cer_outside.specs.Causes.{Rose}
+use Rattle.core_top.specs.declared.File.{File}
+use Rattle.core_top.specs.declared.File.TheVariants as file
+use Rattle.core_top.specs.declared.Cause.{Cause}
+use Rattle.core_top.specs.declared.Cause.TheVariants as cause
+use Rattle.core_top.specs.Command.{IsRun}
+use Rattle.core_top.specs.Causes.{IsFineOrOutside, IsFineOrMemory, HasOpenFault, HasReadFault, name_of}
+use Rattle.core_top.proofs.Clauses.{same_queries, same_events}
+
+-- a count that is 0 has not risen
+pub never_rose : (before after : ℕ) → after ≡ 0 → Rose before after → ⊥
+never_rose before after none rose = omega arith
+
+-- a name that has bytes has no faults
+pub no_faults : (content : Option (List ℕ)) (bytes : List ℕ) (others : ℕ) → content ≡ Some bytes → cond (is_some content) 0 others ≡ 0
+no_faults content bytes others told = ap (λ (w : Option (List ℕ)). cond (is_some w) 0 others) told
+
+-- neither name has faults
+pub neither : (new : List ℕ → ℕ) (q e : List ℕ) → new q ≡ 0 → new e ≡ 0 → (opened : File) → new (name_of opened q e) ≡ 0
+neither new q e first second file.Queries = first
+neither new q e first second file.Events = second
+
+-- no file of the words failed to open
+pub never_open : (words : List (List ℕ)) (content : List ℕ → Option (List ℕ)) (old new : List ℕ → ℕ) (q e : List ℕ) (opened : File) (before after : ℕ) →
+    IsRun words q e → new q ≡ 0 → new e ≡ 0 → HasOpenFault words content old new opened before after → ⊥
+never_open words content old new q e opened before after is first second fault =
+    let here = neither new fault.queries fault.events (ap new (same_queries words fault.queries fault.events q e fault.asked is) ∙ first) (ap new (same_events words fault.queries fault.events q e fault.asked is) ∙ second) opened in
+    never_rose before after (fault.to ∙ here) fault.rose
+
+-- no source failed
+pub never_read : {S : Type 0} (words : List (List ℕ)) (content : List ℕ → Option (List ℕ)) (failed : Option S) (read : File) (after : ℕ) (faults : S → ℕ) (left : S → Option (List ℕ)) →
+    ((source : S) → faults source ≡ 0) → IsSomeAnd failed (λ source. HasReadFault words content read after (faults source) (left source)) → ⊥
+never_read words content None read after faults left none fault = fault
+never_read words content (Some source) read after faults left none fault = never_rose 0 after (sym fault.told ∙ none source) fault.rose
+
+-- what is left where nothing outside failed
+pub fine_or_memory : (given : Cause) → IsFineOrOutside given → ((opened : File) (before after : ℕ) → given ≡ cause.OpenFault opened before after → ⊥) →
+    ((read : File) (after : ℕ) → given ≡ cause.ReadFault read after → ⊥) → ((before after : ℕ) → given ≡ cause.WriteFault before after → ⊥) → IsFineOrMemory given
+fine_or_memory cause.Fine ends opens reads writes = tt
+fine_or_memory cause.Memory ends opens reads writes = tt
+fine_or_memory cause.Usage ends opens reads writes = ends
+fine_or_memory (cause.Queries fault place) ends opens reads writes = ends
+fine_or_memory (cause.Event line fault) ends opens reads writes = ends
+fine_or_memory (cause.OpenFault opened before after) ends opens reads writes = opens opened before after refl
+fine_or_memory (cause.ReadFault read after) ends opens reads writes = reads read after refl
+fine_or_memory (cause.WriteFault before after) ends opens reads writes = writes before after refl

@@ -1,0 +1,35 @@
+//! What follows of the top call over a host that never fails.
+
+ghost use Rattle.std.specs.Prelude.{◌≡◌, ℕ, List, Some, map, string_bytes};
+ghost use Rattle.stream_schema.specs.declared.Event.{Event};
+ghost use Rattle.cer_outside.specs.Causes.{Rose};
+ghost use Rattle.cer_outside.specs.Files.{bytes_under};
+ghost use Rattle.core_top.specs.FirstForm.{Names, IsQueryFile, IsEventFile};
+ghost use Rattle.core_top.specs.Command.{IsRun};
+ghost use Rattle.core_top.specs.Causes.{IsFineOrMemory};
+
+use super::Done;
+use super::top::core_main;
+use cer_base::steps::Steps;
+use cer_outside::Sink;
+use cer_outside::hosts::SureHost;
+use cer_outside::sources::SureSource;
+use std::alloc::Global;
+use std::sync::ledger::Ledger;
+
+/// A run over files of the form that is read, on a host that never fails and has both: where the
+/// output's count of faults did not rise, all was well or memory ran out.
+pub fn run_over_sure<K: Sink, N: Sink, L: Ledger>(
+    alloc: Global,
+    words: Vec<String>,
+    host: &mut SureHost,
+    out: &mut K,
+    notes: &mut N,
+    steps: &mut Steps<L>,
+) -> Done<SureSource>
+    ensures { (queries events text lines : List ℕ) (names : Names) (list : List Event) → IsRun (map string_bytes words.items) queries events
+        → bytes_under host.old.files queries ≡ Some text → bytes_under host.old.files events ≡ Some lines → IsQueryFile text names → IsEventFile names lines list
+        → (Rose (K.faults out.old) (K.faults out.new) → ⊥) → IsFineOrMemory result.cause }
+{
+    core_main(alloc, words, host, out, notes, steps)
+}

@@ -1,0 +1,29 @@
+-- What a name means in a schema.
+use Rattle.std.specs.Prelude.{ℕ, Bool, ◌||◌, List, Option, slice_get, bytes_eq, option_and_then, option_map}
+use Rattle.std.specs.List.{position_from, list_any}
+use Rattle.stream_schema.specs.Types.{Declared, DeclaredType, DeclaredStream}
+use Rattle.stream_schema.specs.declared.Attr.{Attr}
+use Rattle.stream_schema.specs.declared.AttrAt.{AttrAt}
+
+-- the number of the type of this name: its place among the declared ones, from 0
+abbrev pub type_number : List DeclaredType → List ℕ → Option ℕ
+type_number types name = position_from (λ t. bytes_eq t.name name) 0 types
+
+-- where the attribute stands among the type's, from 0
+abbrev pub attr_index : List ℕ → List Attr → Option ℕ
+attr_index name attrs = position_from (λ a. bytes_eq a.name name) 0 attrs
+
+-- the place and the kind of the attribute, where there is such a type and it has it
+abbrev pub attr_at : Declared → ℕ → List ℕ → Option AttrAt
+attr_at schema ty name =
+    option_and_then (λ t. option_and_then (λ i. option_map (λ a. record { index = i; kind = a.kind }) (slice_get t.attrs i)) (attr_index name t.attrs)) (slice_get schema.types ty)
+
+-- the types of the stream of this name
+abbrev pub stream_types : List DeclaredStream → List ℕ → Option (List ℕ)
+stream_types streams name =
+    option_and_then (λ i. option_map (λ s. s.types) (slice_get streams i)) (position_from (λ s. bytes_eq s.name name) 0 streams)
+
+-- a type or a stream has the name
+abbrev pub is_taken : Declared → List ℕ → Bool
+is_taken schema name =
+    list_any (λ t. bytes_eq t.name name) schema.types || list_any (λ s. bytes_eq s.name name) schema.streams

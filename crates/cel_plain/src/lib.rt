@@ -18,4 +18,6 @@ pub mod predicate;
 pub mod sequence;
 pub mod single;
 pub mod substream;
+#[cfg(test)]
+mod tests;
 pub mod window;

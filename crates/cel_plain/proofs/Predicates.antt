@@ -1,5 +1,5 @@
 -- What holds of each predicate in a list.
-use Rattle.std.proofs.Common.{◌≡◌, refl, sym, ap, ◌∙◌, ℕ, suc, add-one, cond, Option, Some, None, ◌&&◌, ◌||◌, List, [], ◌∷◌}
+use Rattle.std.proofs.Common.{◌≡◌, refl, ap, ◌∙◌, ℕ, Option, Some, None, ◌&&◌, ◌||◌, List}
 use Rattle.std.specs.List.{list_all, list_any, position_from}
 use Rattle.std.specs.Prelude.{Vec, bytes_eq, slice_get, option_map, option_and_then}
 use Rattle.stream_schema.specs.declared.Value.{Value}

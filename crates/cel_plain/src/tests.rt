@@ -22,14 +22,35 @@ fn names(alloc: Global, texts: &[&str]) -> Result<Names, Memory> {
     Ok(Listed::of(list))
 }
 
-/// A(v INT), B(v INT), S(A, B).
-fn schema(alloc: Global) -> Result<Option<Schema>, Memory> {
+/// The attribute of each type: `v INT` of both, `v INT` and `w INT`, `v DECIMAL(2)` and `v INT`, or
+/// `v STRING` and `v INT`.
+#[derive(Clone, Copy)]
+enum Attributes {
+    Alike,
+    Apart,
+    Decimal,
+    Text,
+}
+
+/// The name and the kind of the attribute of a type.
+fn attribute(attributes: Attributes, ty: &str) -> (&'static str, Kind) {
+    match attributes {
+        Attributes::Apart if ty == "B" => ("w", Kind::Int),
+        Attributes::Decimal if ty == "A" => ("v", Kind::Dec(2)),
+        Attributes::Text if ty == "A" => ("v", Kind::Text),
+        _ => ("v", Kind::Int),
+    }
+}
+
+/// The types A and B with these attributes, and the stream S(A, B).
+fn schema(alloc: Global, attributes: Attributes) -> Result<Option<Schema>, Memory> {
     let mut schema = Schema::new(alloc);
     for text in ["A", "B"] {
+        let (attr, kind) = attribute(attributes, text);
         let mut attrs = Vec::new(alloc);
         attrs.push(Attr {
-            name: Text::copy_of(alloc, "v")?,
-            kind: Kind::Int,
+            name: Text::copy_of(alloc, attr)?,
+            kind,
         })?;
         if schema.declare_event(text, &Listed::of(attrs)).is_err() {
             return Ok(None);
@@ -44,12 +65,31 @@ fn schema(alloc: Global) -> Result<Option<Schema>, Memory> {
     Ok(Some(schema))
 }
 
+/// The text of each event with a text.
+const COMMAS: &str = "a,\"b\"";
+
+/// The value of an event of the type.
+fn value(alloc: Global, attributes: Attributes, ty: u64, v: i64) -> Result<Value, Memory> {
+    match attributes {
+        Attributes::Decimal if ty == 0 => Ok(Value::Dec {
+            scaled: v,
+            places: 2,
+        }),
+        Attributes::Text if ty == 0 => Ok(Value::Text(Text::copy_of(alloc, COMMAS)?)),
+        _ => Ok(Value::Int(v)),
+    }
+}
+
 /// Events of types A (0) and B (1) with these values.
-fn events(alloc: Global, given: &[(u64, i64)]) -> Result<Vec<Event>, Memory> {
+fn events(
+    alloc: Global,
+    attributes: Attributes,
+    given: &[(u64, i64)],
+) -> Result<Vec<Event>, Memory> {
     let mut list = Vec::new(alloc);
     for (ty, v) in given {
         let mut values = Vec::new(alloc);
-        values.push(Value::Int(*v))?;
+        values.push(value(alloc, attributes, *ty, *v)?)?;
         list.push(Event {
             ty: *ty,
             values: Listed::of(values),
@@ -84,12 +124,33 @@ fn under(
     base: Formula,
     variable: &str,
     op: Op,
-    literal: i64,
+    literal: Value,
 ) -> Result<Formula, Memory> {
-    let pred = Pred::Cmp(name(alloc, "v")?, op, Value::Int(literal));
+    let pred = Pred::Cmp(name(alloc, "v")?, op, literal);
+    filtered(alloc, base, Filter::On(name(alloc, variable)?, pred))
+}
+
+fn filtered(alloc: Global, base: Formula, filter: Filter) -> Result<Formula, Memory> {
     let mut filters = Vec::new(alloc);
-    filters.push(Filter::On(name(alloc, variable)?, pred))?;
+    filters.push(filter)?;
     Ok(Formula::Under(Box::new(alloc, base)?, filters))
+}
+
+/// x[v = 1] OR y[v = 1]
+fn one_of_two(alloc: Global) -> Result<Filter, Memory> {
+    let mut choices = Vec::new(alloc);
+    for variable in ["x", "y"] {
+        let pred = Pred::Cmp(name(alloc, "v")?, Op::Eq, Value::Int(1));
+        choices.push(Filter::On(name(alloc, variable)?, pred))?;
+    }
+    Ok(Filter::Any(choices))
+}
+
+/// x[NOT v = 1]
+fn not_one(alloc: Global) -> Result<Filter, Memory> {
+    let pred = Pred::Cmp(name(alloc, "v")?, Op::Eq, Value::Int(1));
+    let other = Pred::Not(Box::new(alloc, pred)?);
+    Ok(Filter::On(name(alloc, "x")?, other))
 }
 
 fn plus(alloc: Global) -> Result<Formula, Memory> {
@@ -124,6 +185,22 @@ enum Row {
     NextByKey,
     Strict,
     StrictOfOneMark,
+    FilterOfEither,
+    NoKey,
+    KeyOfOneType,
+    MissingAttribute,
+    WithinMinute,
+    Decimals,
+    Texts,
+}
+
+fn attributes_of(row: Row) -> Attributes {
+    match row {
+        Row::NoKey | Row::KeyOfOneType | Row::MissingAttribute => Attributes::Apart,
+        Row::Decimals => Attributes::Decimal,
+        Row::Texts => Attributes::Text,
+        _ => Attributes::Alike,
+    }
 }
 
 fn formula(alloc: Global, row: Row) -> Result<Formula, Memory> {
@@ -139,8 +216,8 @@ fn formula(alloc: Global, row: Row) -> Result<Formula, Memory> {
             then(alloc, two, false, named(alloc, "B", "b")?)
         }
         Row::NoMarks => either(alloc, "b"),
-        Row::FilterOfEach => under(alloc, plus(alloc)?, "A", Op::Gt, 1),
-        Row::FilterOfNone => under(alloc, either(alloc, "b")?, "A", Op::Gt, 5),
+        Row::FilterOfEach => under(alloc, plus(alloc)?, "A", Op::Gt, Value::Int(1)),
+        Row::FilterOfNone => under(alloc, either(alloc, "b")?, "A", Op::Gt, Value::Int(5)),
         Row::RepeatedTwice => post(alloc, plus(alloc)?, Postfix::Plus),
         Row::KeepLeavesTheInterval => {
             let some = post(alloc, plus(alloc)?, Postfix::Named(name(alloc, "a")?))?;
@@ -155,6 +232,41 @@ fn formula(alloc: Global, row: Row) -> Result<Formula, Memory> {
             false,
             named(alloc, "B", "b")?,
         ),
+        _ => filtered_formula(alloc, row),
+    }
+}
+
+fn filtered_formula(alloc: Global, row: Row) -> Result<Formula, Memory> {
+    match row {
+        Row::FilterOfEither => {
+            let both = then(
+                alloc,
+                named(alloc, "A", "x")?,
+                false,
+                named(alloc, "B", "y")?,
+            )?;
+            filtered(alloc, both, one_of_two(alloc)?)
+        }
+        Row::KeyOfOneType => of(alloc, "A"),
+        Row::MissingAttribute => {
+            let mut choices = Vec::new(alloc);
+            choices.push(of(alloc, "A")?)?;
+            choices.push(of(alloc, "B")?)?;
+            let x = Postfix::Named(name(alloc, "x")?);
+            let some = post(alloc, Formula::Either(choices), x)?;
+            filtered(alloc, some, not_one(alloc)?)
+        }
+        Row::Decimals => {
+            let literal = Value::Dec {
+                scaled: 15,
+                places: 1,
+            };
+            under(alloc, of(alloc, "A")?, "A", Op::Ge, literal)
+        }
+        Row::Texts => {
+            let literal = Value::Text(Text::copy_of(alloc, COMMAS)?);
+            under(alloc, of(alloc, "A")?, "A", Op::Eq, literal)
+        }
         _ => a_then_b(alloc, false),
     }
 }
@@ -167,12 +279,13 @@ fn query(alloc: Global, row: Row) -> Result<Query, Memory> {
         _ => None,
     };
     let partition = match row {
-        Row::ByKey | Row::NextByKey => names(alloc, &["v"])?,
+        Row::ByKey | Row::NextByKey | Row::NoKey | Row::KeyOfOneType => names(alloc, &["v"])?,
         _ => names(alloc, &[])?,
     };
     let window = match row {
         Row::WithinOne => Window::Events(1),
         Row::WithinFive => Window::Clock(name(alloc, "v")?, 5),
+        Row::WithinMinute => Window::Clock(name(alloc, "v")?, 60),
         _ => Window::Free,
     };
     Ok(Query {
@@ -194,11 +307,11 @@ fn agrees(
     given: &[(u64, i64)],
     wanted: &[(u64, u64, &[u64])],
 ) -> Result<bool, Memory> {
-    let Some(schema) = schema(alloc)? else {
+    let Some(schema) = schema(alloc, attributes_of(row))? else {
         return Ok(false);
     };
     let query = query(alloc, row)?;
-    let events = events(alloc, given)?;
+    let events = events(alloc, attributes_of(row), given)?;
     let mut count: usize = 0;
     for end in 0..events.len() {
         for found in answers(alloc, &schema, &query, events.as_slice(), end as u64)?.as_slice() {
@@ -219,7 +332,7 @@ fn answers_of_the_rows(rt: HostRuntime) -> Result<(), Fail> {
     let alloc = rt.alloc();
     let three: &[(u64, i64)] = &[(0, 1), (0, 2), (0, 3)];
     let pair: &[(u64, i64)] = &[(0, 1), (0, 2), (1, 3)];
-    let rows: [(Row, &[(u64, i64)], &[(u64, u64, &[u64])]); 15] = [
+    let rows: [(Row, &[(u64, i64)], &[(u64, u64, &[u64])]); 22] = [
         (
             Row::RepeatedSkipsFreely,
             three,
@@ -282,6 +395,21 @@ fn answers_of_the_rows(rt: HostRuntime) -> Result<(), Fail> {
         ),
         (Row::Strict, pair, &[(2, 1, &[1, 2])]),
         (Row::StrictOfOneMark, pair, &[(2, 0, &[2]), (2, 1, &[2])]),
+        (Row::FilterOfEither, &[(0, 1), (1, 1)], &[(1, 0, &[0, 1])]),
+        (Row::NoKey, &[(0, 1), (1, 1)], &[]),
+        (Row::KeyOfOneType, &[(0, 1), (1, 1)], &[(0, 0, &[0])]),
+        (Row::MissingAttribute, &[(0, 1), (1, 1)], &[(1, 1, &[1])]),
+        (
+            Row::WithinMinute,
+            &[(0, 0), (1, 60), (1, 61)],
+            &[(1, 0, &[0, 1])],
+        ),
+        (
+            Row::Decimals,
+            &[(0, 149), (0, 150), (0, 200)],
+            &[(1, 1, &[1]), (2, 2, &[2])],
+        ),
+        (Row::Texts, &[(0, 0)], &[(0, 0, &[0])]),
     ];
     for (row, given, wanted) in rows {
         let Ok(agreed) = agrees(alloc, row, given, wanted) else {

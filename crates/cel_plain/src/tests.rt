@@ -192,6 +192,10 @@ enum Row {
     WithinMinute,
     Decimals,
     Texts,
+    Sequence,
+    WithinNone,
+    WithinTwo,
+    OneWithinFive,
 }
 
 fn attributes_of(row: Row) -> Attributes {
@@ -247,7 +251,7 @@ fn filtered_formula(alloc: Global, row: Row) -> Result<Formula, Memory> {
             )?;
             filtered(alloc, both, one_of_two(alloc)?)
         }
-        Row::KeyOfOneType => of(alloc, "A"),
+        Row::KeyOfOneType | Row::OneWithinFive => of(alloc, "A"),
         Row::MissingAttribute => {
             let mut choices = Vec::new(alloc);
             choices.push(of(alloc, "A")?)?;
@@ -283,8 +287,10 @@ fn query(alloc: Global, row: Row) -> Result<Query, Memory> {
         _ => names(alloc, &[])?,
     };
     let window = match row {
+        Row::WithinNone => Window::Events(0),
         Row::WithinOne => Window::Events(1),
-        Row::WithinFive => Window::Clock(name(alloc, "v")?, 5),
+        Row::WithinTwo => Window::Events(2),
+        Row::WithinFive | Row::OneWithinFive => Window::Clock(name(alloc, "v")?, 5),
         Row::WithinMinute => Window::Clock(name(alloc, "v")?, 60),
         _ => Window::Free,
     };
@@ -332,7 +338,7 @@ fn answers_of_the_rows(rt: HostRuntime) -> Result<(), Fail> {
     let alloc = rt.alloc();
     let three: &[(u64, i64)] = &[(0, 1), (0, 2), (0, 3)];
     let pair: &[(u64, i64)] = &[(0, 1), (0, 2), (1, 3)];
-    let rows: [(Row, &[(u64, i64)], &[(u64, u64, &[u64])]); 22] = [
+    let rows: [(Row, &[(u64, i64)], &[(u64, u64, &[u64])]); 26] = [
         (
             Row::RepeatedSkipsFreely,
             three,
@@ -410,6 +416,10 @@ fn answers_of_the_rows(rt: HostRuntime) -> Result<(), Fail> {
             &[(1, 1, &[1]), (2, 2, &[2])],
         ),
         (Row::Texts, &[(0, 0)], &[(0, 0, &[0])]),
+        (Row::Sequence, pair, &[(2, 0, &[0, 2]), (2, 1, &[1, 2])]),
+        (Row::WithinNone, pair, &[]),
+        (Row::WithinTwo, pair, &[(2, 0, &[0, 2]), (2, 1, &[1, 2])]),
+        (Row::OneWithinFive, &[(0, 10)], &[(0, 0, &[0])]),
     ];
     for (row, given, wanted) in rows {
         let Ok(agreed) = agrees(alloc, row, given, wanted) else {

@@ -2,3 +2,4 @@ pub mod Operations
 pub mod Induction
 pub mod Intervals
 pub mod Marked
+pub mod Counts

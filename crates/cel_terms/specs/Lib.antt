@@ -1,5 +1,9 @@
 pub mod Predicate
 pub mod Meaning
 pub mod Answers
+pub mod Tree
+pub mod Expand
+pub mod Leaves
+pub mod Shapes
 pub mod Checked
 pub mod Laws

@@ -11,6 +11,7 @@ use cer_base::{Listed, Place, Text};
 use stream_schema::Value;
 
 pub mod laws;
+pub mod leaves;
 
 /// A name as it stands in a text. Its meaning looks at the text alone.
 #[derive(Drop, Debug)]

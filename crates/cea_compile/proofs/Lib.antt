@@ -1,0 +1,11 @@
+pub mod Glushkov
+pub mod Subsets
+pub mod Skips
+pub mod Runs
+pub mod Expand
+pub mod Leaves
+pub mod Answers
+pub mod Compiled
+pub mod Strict
+pub mod Queries
+pub mod Rows

@@ -1,0 +1,4 @@
+pub mod Paths
+pub mod Positions
+pub mod Covers
+pub mod Compiled

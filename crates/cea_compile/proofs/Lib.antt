@@ -9,3 +9,5 @@ pub mod Compiled
 pub mod Strict
 pub mod Queries
 pub mod Rows
+pub mod Entries
+pub mod Accepted

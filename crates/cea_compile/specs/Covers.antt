@@ -26,9 +26,9 @@ abbrev pub MarkedAt : LeafSet → List Step → ℕ → Type 0
 MarkedAt marked [] x = ⊥
 MarkedAt marked (s ∷ w) x = ((s.position ≡ x) × (marked s.leaf ≡ true)) ⊎ MarkedAt marked w x
 
--- the position is marked
-abbrev pub has_mark : List ℕ → ℕ → Bool
-has_mark marks p = list_any (eqb p) marks
+-- the number is in the list
+abbrev pub is_listed : List ℕ → ℕ → Bool
+is_listed marks p = list_any (eqb p) marks
 
 -- Marks that a valuation from the start to the end may have: ascending positions of the substream there.
 pub record AreWithin (stream : Stream) (start end : ℕ) (marks : List ℕ) : Type 0 where

@@ -2,3 +2,4 @@ pub mod Paths
 pub mod Positions
 pub mod Covers
 pub mod Compiled
+pub mod DeterminisedRuns

@@ -11,3 +11,4 @@ pub mod Queries
 pub mod Rows
 pub mod Entries
 pub mod Accepted
+pub mod LeafAutomaton

@@ -26,12 +26,16 @@ follow_set (sequence u a b) t j k = follow_set a t j k || (follow_set b t j k ||
 follow_set (either a b) t j k = follow_set a t j k || follow_set b t j k
 follow_set (plus u a) t j k = follow_set a t j k || (agrees u t && (last_set a j && first_set a k))
 
-abbrev pub automaton_of : Tree Occurrence → Automaton
-automaton_of t = record {
-  size = length (occurrences t);
-  first = first_set (numbered 0 t);
-  last = last_set (numbered 0 t);
-  near = follow_set (numbered 0 t) true;
-  far = follow_set (numbered 0 t) false;
-  marked = marked (occurrences t);
+-- the position automaton of a tree of so many leaves
+abbrev pub automaton_over : Tree ℕ → ℕ → LeafSet → Automaton
+automaton_over t size marks = record {
+  size = size;
+  first = first_set t;
+  last = last_set t;
+  near = follow_set t true;
+  far = follow_set t false;
+  marked = marks;
 }
+
+abbrev pub automaton_of : Tree Occurrence → Automaton
+automaton_of t = automaton_over (numbered 0 t) (length (occurrences t)) (marked (occurrences t))

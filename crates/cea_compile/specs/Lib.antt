@@ -3,3 +3,4 @@ pub mod Positions
 pub mod Covers
 pub mod Compiled
 pub mod DeterminisedRuns
+pub mod LeafAutomaton

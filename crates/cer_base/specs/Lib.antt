@@ -1,3 +1,4 @@
 pub mod Members
 pub mod Fields
 pub mod Nodes
+pub mod Bits

@@ -13,9 +13,11 @@ ghost use Rattle.cer_base.specs.declared.OrMemory.TheVariants as wanted;
 use std::alloc::{AllocError, AllocFailed, Global};
 use std::marker::Model;
 
+pub mod bits;
 pub mod node;
 pub mod steps;
 pub mod store;
+mod words;
 
 /// A position in the whole stream, from 0.
 pub type Pos = u64;

@@ -1,0 +1,7 @@
+use Rattle.std.proofs.Common.{arith}
+use Rattle.cer_base.proofs.WordBits.{length_bits_of}
+use Rattle.cer_base.proofs.bits.Bits.insert.Goals as goal
+
+pub insert-requires : goal.insert-requires
+insert-requires c =
+    rw c.as_mut_slice.ensures.value (rw (← c.self.view_is, length_bits_of c.self.inside.words.items) at c.requires)

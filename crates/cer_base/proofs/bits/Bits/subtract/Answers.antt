@@ -1,0 +1,6 @@
+use Rattle.cer_base.proofs.WordBits.{same_lengths}
+use Rattle.cer_base.proofs.bits.Bits.subtract.Goals as goal
+
+pub subtract-requires : goal.subtract-requires
+subtract-requires c =
+    rw (c.as_mut_slice.ensures.value, c.as_slice.ensures) (same_lengths c.self.inside.words.items c.other.inside.words.items (rw (← c.self.view_is, ← c.other.view_is) at c.requires))

@@ -1,0 +1,22 @@
+use Rattle.std.proofs.Common.{ℕ, arith, refl, bit_and, bit_or, get_or}
+use Rattle.std.specs.Prelude.{◌&&◌, ◌||◌, not}
+use Rattle.std.specs.Int.{bit_not, w64}
+use Rattle.cer_base.specs.Bits.{bit}
+use Rattle.cer_base.proofs.WordBits.{kept_room, made_of_both, written_more, written_rest, bit-or, bit-and, bit-and_not}
+use Rattle.cer_base.proofs.words.subtract.Goals as goal
+
+pub loop-i-preserved : goal.loop-i-preserved
+loop-i-preserved c =
+    let f : ℕ → ℕ → ℕ = λ a b. bit_and a (bit_not w64 b) in
+    record {
+      done = written_more f c.args.words.now c.args.other.now c.loop-i.words c.loop-i.i (omega arith) c.loop-i.invariant.done c.loop-i.invariant.rest;
+      rest = written_rest c.args.words.now c.loop-i.words c.loop-i.i _ (omega arith) c.loop-i.invariant.rest;
+    }
+
+pub returns-clause-members : goal.returns-clause-members
+returns-clause-members c =
+    made_of_both (λ x y. x && not y) c.args.words.now c.args.other.now c.loop-i.words refl
+    (λ k i h low. rw (c.loop-i.invariant.done k (omega arith)) (bit-and_not _ _ i (omega (arith, c.type_inv.other k)) low)) c.requires c.loop-i.auto.words
+
+pub returns-clause-room : goal.returns-clause-room
+returns-clause-room c = kept_room c.args.words.now c.loop-i.words c.loop-i.auto.words

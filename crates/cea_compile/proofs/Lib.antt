@@ -12,3 +12,6 @@ pub mod Rows
 pub mod Entries
 pub mod Accepted
 pub mod LeafAutomaton
+pub mod Sets
+pub mod Below
+pub mod Built

@@ -4,3 +4,4 @@ pub mod Covers
 pub mod Compiled
 pub mod DeterminisedRuns
 pub mod LeafAutomaton
+pub mod Found

@@ -1,13 +1,16 @@
 //! Stub.
 #![tactic(auto)]
 
-ghost use Rattle.std.specs.Prelude.{◌≡◌};
+use cer_base::bits::Bits;
 
-/// The number of a state.
-pub type State = u64;
-
-pub fn start() -> State
-    ensures { result ≡ 0 }
-{
-    0
+/// The position automaton of a query, its leaves numbered from 0.
+#[derive(Drop, Debug)]
+pub struct Cea {
+    pub size: usize,
+    pub first: Bits,
+    pub last: Bits,
+    pub near: Vec<Bits>,
+    pub far: Vec<Bits>,
+    pub marked: Bits,
+    pub strict: bool,
 }

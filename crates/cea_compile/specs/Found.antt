@@ -1,0 +1,28 @@
+-- What is found of an automaton so far: sets with room for all leaves, and which leaf follows which.
+use Rattle.std.specs.Prelude.{◌≡◌, ℕ, ◌<◌, Bool, true, false, length, ⊤}
+use Rattle.cer_base.specs.Bits.{room_for}
+use Rattle.cel_terms.specs.Tree.{Tree, leaf, none, sequence, either, plus}
+use Rattle.cea_determinise.specs.Automata.{row, HaveRoom}
+use Rattle.cea_compile.specs.declared.followers.Followers.{Followers}
+use Rattle.cea_compile.specs.declared.ends.Ends.{Ends}
+
+pub record HasRoom (size : ℕ) (f : Followers) : Type 0 where
+  pub near : HaveRoom size f.near.items
+  pub far : HaveRoom size f.far.items
+
+-- the second leaf may follow the first, next where tight, or later
+abbrev pub pairs : Followers → Bool → ℕ → ℕ → Bool
+pairs f true j = row f.near.items j
+pairs f false j = row f.far.items j
+
+pub record EndsHaveRoom (size : ℕ) (e : Ends) : Type 0 where
+  pub first : length e.first ≡ room_for size
+  pub last : length e.last ≡ room_for size
+
+-- each number in the tree is below the size
+abbrev pub AreBelow : ℕ → Tree ℕ → Type 0
+AreBelow size (leaf n) = n < size
+AreBelow size none = ⊤
+AreBelow size (sequence tight a b) = AreBelow size a × AreBelow size b
+AreBelow size (either a b) = AreBelow size a × AreBelow size b
+AreBelow size (plus tight a) = AreBelow size a

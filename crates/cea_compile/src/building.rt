@@ -1,0 +1,53 @@
+//! The position automaton of the leaves of a query.
+
+ghost use Rattle.std.specs.Prelude.{◌≡◌, ℕ, Bool, length, slice_get, IfOk};
+ghost use Rattle.cer_base.specs.Bits.{has, room_for};
+ghost use Rattle.cea_determinise.specs.Automata.{automaton_of_cea};
+ghost use Rattle.cea_compile.specs.LeafAutomaton.{automaton_of_leaves, is_marked};
+ghost use Rattle.cea_compile.specs.Found.{AreBelow};
+ghost use Rattle.cel_terms.specs.Shapes.{tree_of_shape};
+ghost use Rattle.cea_determinise.specs.Automata.{IsWellFormed};
+
+use crate::ends::ends_of;
+use crate::followers::Followers;
+use cea_determinise::Cea;
+use cel_terms::leaves::{Leaf, Leaves};
+use cer_base::Memory;
+use cer_base::bits::Bits;
+use std::alloc::Global;
+
+/// The numbers of the marked leaves.
+fn marked(alloc: Global, list: &[Leaf]) -> Result<Bits, Memory>
+    ensures room { IfOk result (λ b. length b ≡ room_for (length list.now)) }
+    ensures members { IfOk result (λ b. (k : ℕ) → has b k ≡ is_marked (slice_get list.now k)) }
+{
+    let mut marked = Bits::blank(alloc, list.len())?;
+    for (k, leaf) in list.iter().enumerate() {
+        if leaf.marked {
+            marked.insert(k);
+        }
+    }
+    Ok(marked)
+}
+
+/// The position automaton of the leaves.
+pub fn compile(alloc: Global, leaves: &Leaves) -> Result<Cea, Memory>
+    requires { AreBelow (length leaves.now.list) (tree_of_shape leaves.now.shape) }
+    ensures automaton { IfOk result (λ a. automaton_of_cea a ≡ automaton_of_leaves leaves.now) }
+    ensures strict { IfOk result (λ a. a.strict ≡ leaves.now.strict) }
+    ensures room { IfOk result IsWellFormed }
+{
+    let list = leaves.list.as_slice();
+    let size = list.len();
+    let mut followers = Followers::none(alloc, size)?;
+    let ends = ends_of(alloc, size, &leaves.shape, &mut followers)?;
+    Ok(Cea {
+        size,
+        first: ends.first,
+        last: ends.last,
+        near: followers.near,
+        far: followers.far,
+        marked: marked(alloc, list)?,
+        strict: leaves.strict,
+    })
+}

@@ -1,0 +1,76 @@
+//! The conditions of a query's leaves.
+
+ghost use Rattle.std.specs.Prelude.{◌≡◌, ℕ, length, IfOk};
+ghost use Rattle.cer_base.specs.Bits.{has, room_for};
+ghost use Rattle.cel_terms.specs.Shapes.{bits_of};
+
+use crate::groups::grouped;
+use crate::tests_of::each_holds;
+use cel_terms::leaves::Leaf;
+use cer_base::bits::Bits;
+use cer_base::{Listed, Memory};
+use indexmap::IndexMap;
+use std::alloc::Global;
+use std::marker::Model;
+use stream_schema::{Event, TypeId};
+
+/// The conditions of leaves, seen as the list of the leaves.
+#[derive(Drop)]
+pub struct Conditions {
+    list: Listed<Leaf>,
+    groups: IndexMap<TypeId, Vec<usize>>,
+}
+
+impl Model for Conditions {
+    ghost use Rattle.std.specs.Prelude.{List};
+
+    ghost use Rattle.cel_terms.specs.declared.leaves.Leaf.{Leaf};
+
+    ghost use Rattle.predicate_bits.specs.Groups.{AreGrouped};
+
+    ghost Value = { List Leaf };
+
+    ghost view = { λ c. c.list.items };
+
+    ghost invariant = { λ c. AreGrouped c.list.items c.groups };
+}
+
+impl Conditions {
+    /// The conditions of these leaves.
+    pub fn of(alloc: Global, list: Listed<Leaf>) -> Result<Conditions, Memory>
+        ensures { IfOk result (λ c. c ≡ list) }
+    {
+        let groups = grouped(alloc, list.as_slice())?;
+        Ok(Conditions { list, groups })
+    }
+
+    /// An empty set with room for the number of each leaf.
+    pub fn blank(&self, alloc: Global) -> Result<Bits, Memory>
+        ensures room { IfOk result (λ b. length b ≡ room_for (length self.now)) }
+        ensures empty { IfOk result (λ b. (k : ℕ) → has b k ≡ false) }
+    {
+        Bits::blank(alloc, self.list.as_slice().len())
+    }
+
+    /// Makes the set that of the numbers of the leaves that can read the event. The set has the room
+    /// that `blank` gives.
+    pub fn fill(&self, event: &Event, into: &mut Bits)
+        requires { length into.old ≡ room_for (length self.now) }
+        ensures members { (k : ℕ) → has into.new k ≡ bits_of self.now event.now k }
+        ensures room { length into.new ≡ length into.old }
+    {
+        into.clear();
+        if let Some(numbers) = self.groups.get(&event.ty) {
+            add(self.list.as_slice(), numbers.as_slice(), event, into);
+        }
+    }
+}
+
+/// Puts in those of the numbers whose leaf's tests hold of the event.
+fn add(list: &[Leaf], numbers: &[usize], event: &Event, into: &mut Bits) {
+    for k in numbers {
+        if each_holds(list[*k].tests.as_slice(), event) {
+            into.insert(*k);
+        }
+    }
+}

@@ -1,0 +1,37 @@
+//! The leaves of a query by their types.
+
+ghost use Rattle.std.specs.Prelude.{◌≡◌, ℕ, ◌<◌, ◌==◌, nat_eq, length, IfOk, OnOk, IfSome, IfNone};
+ghost use Rattle.indexmap.specs.IndexMap.{get};
+ghost use Rattle.predicate_bits.specs.Groups.{numbers_of, AreGrouped, GroupedUpTo};
+
+use cel_terms::leaves::Leaf;
+use cer_base::Memory;
+use indexmap::IndexMap;
+use std::alloc::Global;
+use stream_schema::TypeId;
+
+/// The numbers of the leaves of this type, ascending.
+fn numbers_of(alloc: Global, list: &[Leaf], ty: TypeId) -> Result<Vec<usize>, Memory>
+    ensures { IfOk result (λ v. v.items ≡ numbers_of ty list.now (length list.now)) }
+{
+    let mut numbers = Vec::new(alloc);
+    for (k, leaf) in list.iter().enumerate() {
+        if leaf.ty == ty {
+            numbers.push(k)?;
+        }
+    }
+    Ok(numbers)
+}
+
+/// The leaves of each type that some leaf has.
+pub fn grouped(alloc: Global, list: &[Leaf]) -> Result<IndexMap<TypeId, Vec<usize>>, Memory>
+    ensures { IfOk result (λ m. AreGrouped list.now m) }
+{
+    let mut groups = IndexMap::new(alloc);
+    for leaf in list {
+        if !groups.contains_key(&leaf.ty) {
+            groups.insert(leaf.ty, numbers_of(alloc, list, leaf.ty)?)?;
+        }
+    }
+    Ok(groups)
+}

@@ -1,4 +1,3 @@
-pub mod Numbers
 pub mod Predicates
 pub mod Naming
 pub mod Rows

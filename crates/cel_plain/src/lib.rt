@@ -12,7 +12,6 @@ pub mod filter;
 pub mod found;
 pub mod marks;
 pub mod matches;
-pub mod number;
 pub mod postfix;
 pub mod predicate;
 pub mod sequence;

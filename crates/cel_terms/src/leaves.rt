@@ -41,7 +41,10 @@ pub enum Shape {
     },
     Either(Box<Shape>, Box<Shape>),
     /// One or more, each after the one before.
-    Plus { tight: bool, part: Box<Shape> },
+    Plus {
+        tight: bool,
+        part: Box<Shape>,
+    },
 }
 
 /// The leaves of a query, from left to right, and its shape over their numbers.

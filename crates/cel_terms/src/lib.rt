@@ -10,8 +10,10 @@ ghost use Rattle.std.specs.Prelude.{◌≡◌, List, ℕ};
 use cer_base::{Listed, Place, Text};
 use stream_schema::Value;
 
+pub mod compare;
 pub mod laws;
 pub mod leaves;
+mod number;
 
 /// A name as it stands in a text. Its meaning looks at the text alone.
 #[derive(Drop, Debug)]

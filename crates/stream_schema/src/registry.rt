@@ -3,6 +3,7 @@
 ghost use Rattle.std.specs.Prelude.{◌≡◌, ℕ, List, [], ◌<◌, length, map, None, Some, slice_index_or, slice_get, IfOk, IfSome, OnOk, OnErr, option_and_then, option_map, bytes_eq};
 ghost use Rattle.std.specs.Option.{option_copied};
 ghost use Rattle.std.specs.List.{list_any, position_from, HoldsAt};
+ghost use Rattle.stream_schema.specs.Types.{name_of_type};
 ghost use Rattle.stream_schema.specs.Names.{type_number, attr_index, attr_at, stream_types, is_taken};
 ghost use Rattle.stream_schema.specs.Declaring.{OnFault, event_refusal, stream_refusal, repeats_name, with_type, with_stream, numbers_from, added};
 
@@ -21,11 +22,13 @@ pub struct Schema {
 }
 
 impl Model for Schema {
-    ghost use Rattle.stream_schema.specs.Types.{Declared};
+    ghost use Rattle.stream_schema.specs.Types.{Declared, HaveDistinctNames};
 
     ghost Value = { Declared };
 
     ghost view = { λ s. record { types = s.types.items; streams = s.streams.items } };
+
+    ghost invariant = { λ s. HaveDistinctNames s.types.items };
 }
 
 impl Schema {
@@ -108,18 +111,21 @@ impl Schema {
         Ok(())
     }
 
-    /// The number of the type of this name, or `None` where no type has it.
+    /// The number of the type of this name, or `None` where no type has it. No other type has it.
     pub fn type_of(&self, name: &str) -> Option<TypeId>
         ensures place { result ≡ type_number self.now.types name.now }
         ensures bound { IfSome result (λ ty. ty < length self.now.types) }
+        ensures only { (ty : ℕ) → name_of_type self.now.types ty ≡ Some name.now → result ≡ Some ty }
     {
         self.type_of_bytes(name.as_bytes())
     }
 
-    /// The number of the type whose name has these bytes, or `None` where no type has it.
+    /// The number of the type whose name has these bytes, or `None` where no type has it. No other
+    /// type has it.
     pub fn type_of_bytes(&self, name: &[u8]) -> Option<TypeId>
         ensures place { result ≡ type_number self.now.types name.now }
         ensures bound { IfSome result (λ ty. ty < length self.now.types) }
+        ensures only { (ty : ℕ) → name_of_type self.now.types ty ≡ Some name.now → result ≡ Some ty }
     {
         match type_place(self.types.as_slice(), name) {
             Some(place) => Some(place as u64),

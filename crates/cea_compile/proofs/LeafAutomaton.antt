@@ -9,7 +9,8 @@ use Rattle.cel_terms.specs.Shapes.{AreLeavesOf}
 use Rattle.cea_determinise.specs.Runs.{LeafSet}
 use Rattle.cea_compile.specs.Compiled.{automaton_over}
 use Rattle.cea_compile.specs.DeterminisedRuns.{reads_at, entry_at}
-use Rattle.cea_compile.specs.LeafAutomaton.{is_marked, can_read, bits_of, LeavesTellQuery}
+use Rattle.cea_compile.specs.LeafAutomaton.{is_marked, LeavesTellQuery}
+use Rattle.cel_terms.specs.Conditions.{can_read, bits_of}
 
 as_many : (schema : Declared) (os : List Occurrence) (ls : List Leaf) → AreLeavesOf schema os ls → length ls ≡ length os
 as_many schema [] [] h = refl

@@ -7,7 +7,8 @@ use Rattle.cel_terms.specs.declared.leaves.Leaf.{Leaf}
 use Rattle.cel_terms.specs.declared.leaves.Leaves.{Leaves}
 use Rattle.cel_terms.specs.Expand.{tree_of}
 use Rattle.cel_terms.specs.Leaves.{occurrences, numbered}
-use Rattle.cel_terms.specs.Shapes.{tree_of_shape, leaf_reads, AreLeavesOf}
+use Rattle.cel_terms.specs.Shapes.{tree_of_shape, AreLeavesOf}
+use Rattle.cel_terms.specs.Conditions.{bits_of}
 use Rattle.cea_determinise.specs.Runs.{LeafSet, Automaton}
 use Rattle.cea_compile.specs.Compiled.{automaton_over, automaton_of}
 use Rattle.cea_compile.specs.DeterminisedRuns.{entry_at}
@@ -18,14 +19,6 @@ is_marked (Some l) = l.marked
 
 abbrev pub automaton_of_leaves : Leaves → Automaton
 automaton_of_leaves l = automaton_over (tree_of_shape l.shape) (length l.list) (λ k. is_marked (slice_get l.list k))
-
-abbrev pub can_read : Option Leaf → Event → Bool
-can_read None event = false
-can_read (Some l) event = leaf_reads l event
-
--- the numbers of the leaves that can read the event
-abbrev pub bits_of : List Leaf → Event → LeafSet
-bits_of ls event k = can_read (slice_get ls k) event
 
 -- The leaves of a query tell its automaton and, of each event, its entry in a determinised run.
 pub record TellQuery (schema : Declared) (q : Query) (l : Leaves) : Type 0 where

@@ -1,11 +1,14 @@
 //! The conditions of a query's leaves.
 
-ghost use Rattle.std.specs.Prelude.{◌≡◌, ℕ, length, IfOk};
+ghost use Rattle.std.specs.Prelude.{◌≡◌, ℕ, ◌<◌, Some, false, length, slice_get, IfOk};
 ghost use Rattle.cer_base.specs.Bits.{has, room_for};
-ghost use Rattle.cel_terms.specs.Shapes.{bits_of};
+ghost use Rattle.cel_terms.specs.Conditions.{bits_of};
+ghost use Rattle.cel_terms.specs.declared.leaves.Leaf.{Leaf};
+ghost use Rattle.cel_terms.specs.Shapes.{each_holds as tests_hold};
+ghost use Rattle.predicate_bits.specs.Groups.{IsGroup};
 
 use crate::groups::grouped;
-use crate::tests_of::each_holds;
+use crate::holding::each_holds;
 use cel_terms::leaves::Leaf;
 use cer_base::bits::Bits;
 use cer_base::{Listed, Memory};
@@ -26,13 +29,23 @@ impl Model for Conditions {
 
     ghost use Rattle.cel_terms.specs.declared.leaves.Leaf.{Leaf};
 
+    ghost use Rattle.std.specs.Prelude.{nat_eq};
+
+    ghost use Rattle.indexmap.specs.IndexMap.{get};
+
     ghost use Rattle.predicate_bits.specs.Groups.{AreGrouped};
+
+    ghost use Rattle.cel_terms.specs.contracts.leaves.Test as test;
+
+    ghost use Rattle.std.specs.Coded.{codes};
 
     ghost Value = { List Leaf };
 
-    ghost view = { λ c. c.list.items };
+    ghost coded = { Prim.hlevel (codes, test.the_row.coded) };
 
-    ghost invariant = { λ c. AreGrouped c.list.items c.groups };
+    ghost view = { λ c. c.list };
+
+    ghost invariant = { λ c. AreGrouped c.list (get nat_eq c.groups) };
 }
 
 impl Conditions {
@@ -66,11 +79,25 @@ impl Conditions {
     }
 }
 
-/// Puts in those of the numbers whose leaf's tests hold of the event.
-fn add(list: &[Leaf], numbers: &[usize], event: &Event, into: &mut Bits) {
-    for k in numbers {
-        if each_holds(list[*k].tests.as_slice(), event) {
-            into.insert(*k);
+/// Whether the tests of the leaf of this number hold of the event.
+fn holds_at(list: &[Leaf], number: usize, event: &Event) -> bool
+    requires { number < length list.now }
+    ensures { (l : Leaf) → slice_get list.now number ≡ Some l → result ≡ tests_hold l.tests.items event.now }
+{
+    each_holds(list[number].tests.as_slice(), event)
+}
+
+/// Puts in those of the numbers, which are of the event's type, whose tests hold of the event.
+fn add(list: &[Leaf], numbers: &[usize], event: &Event, into: &mut Bits)
+    requires group { IsGroup list.now event.now.ty numbers.now }
+    requires room { length into.old ≡ room_for (length list.now) }
+    requires empty { (k : ℕ) → has into.old k ≡ false }
+    ensures members { (k : ℕ) → has into.new k ≡ bits_of list.now event.now k }
+    ensures room { length into.new ≡ length into.old }
+{
+    for number in numbers {
+        if holds_at(list, *number, event) {
+            into.insert(*number);
         }
     }
 }

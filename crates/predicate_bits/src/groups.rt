@@ -1,8 +1,8 @@
 //! The leaves of a query by their types.
 
-ghost use Rattle.std.specs.Prelude.{◌≡◌, ℕ, ◌<◌, ◌==◌, nat_eq, length, IfOk, OnOk, IfSome, IfNone};
+ghost use Rattle.std.specs.Prelude.{nat_eq, IfOk};
 ghost use Rattle.indexmap.specs.IndexMap.{get};
-ghost use Rattle.predicate_bits.specs.Groups.{numbers_of, AreGrouped, GroupedUpTo};
+ghost use Rattle.predicate_bits.specs.Groups.{IsGroup, AreGrouped};
 
 use cel_terms::leaves::Leaf;
 use cer_base::Memory;
@@ -12,7 +12,7 @@ use stream_schema::TypeId;
 
 /// The numbers of the leaves of this type, ascending.
 fn numbers_of(alloc: Global, list: &[Leaf], ty: TypeId) -> Result<Vec<usize>, Memory>
-    ensures { IfOk result (λ v. v.items ≡ numbers_of ty list.now (length list.now)) }
+    ensures { IfOk result (λ v. IsGroup list.now ty v.items) }
 {
     let mut numbers = Vec::new(alloc);
     for (k, leaf) in list.iter().enumerate() {
@@ -25,7 +25,7 @@ fn numbers_of(alloc: Global, list: &[Leaf], ty: TypeId) -> Result<Vec<usize>, Me
 
 /// The leaves of each type that some leaf has.
 pub fn grouped(alloc: Global, list: &[Leaf]) -> Result<IndexMap<TypeId, Vec<usize>>, Memory>
-    ensures { IfOk result (λ m. AreGrouped list.now m) }
+    ensures { IfOk result (λ m. AreGrouped list.now (get nat_eq m)) }
 {
     let mut groups = IndexMap::new(alloc);
     for leaf in list {

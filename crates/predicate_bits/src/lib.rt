@@ -7,4 +7,4 @@
 
 pub mod conditions;
 mod groups;
-mod tests_of;
+mod holding;

@@ -1,0 +1,7 @@
+use Rattle.std.proofs.Common.{ap, ◌∙◌}
+use Rattle.std.proofs.lemmas.Option.{get_or_from_slice_get}
+use Rattle.cel_terms.specs.Shapes.{each_holds}
+use Rattle.predicate_bits.proofs.conditions.holds_at.Goals as goal
+
+pub returns : goal.returns
+returns c = λ l at. (c.each_holds.ensures ∙ ap (λ ts. each_holds ts c.args.event.now) (c.as_slice.ensures.value ∙ ap (λ x. x.tests.items) (get_or_from_slice_get c.args.list.now c.args.number l c.index-list-number.result at)))

@@ -1,0 +1,6 @@
+use Rattle.std.proofs.Common.{◌∙◌}
+use Rattle.predicate_bits.proofs.Tests.{each_listed}
+use Rattle.predicate_bits.proofs.holding.each_holds.Goals as goal
+
+pub returns : goal.returns
+returns c = c.all_hold.ensures ∙ each_listed c.args.event.now c.args.tests.now

@@ -1,0 +1,75 @@
+-- The position automaton of a pattern as sets of leaf numbers, and its determinised runs.
+-- Position automata are Glushkov's; that a waiting leaf lets events pass is "CORE: a Complex Event
+-- Recognition Engine" (PVLDB 2022), near and far followers are this project's profile.
+use Rattle.std.specs.Prelude.{ℕ, zero, suc, Bool, true, false, not, ◌&&◌, ◌||◌, cond, List, [], ◌∷◌, Option, Some, None, option_and_then}
+
+-- A set of leaf numbers, by its test.
+abbrev pub LeafSet : Type 0
+LeafSet = ℕ → Bool
+
+-- A leaf of the set is below the number.
+abbrev pub some_below : ℕ → LeafSet → Bool
+some_below zero set = false
+some_below (suc n) set = set n || some_below n set
+
+-- The position automaton of a pattern whose leaves are the numbers below a size. The near followers read the next event, the far ones any later event.
+pub record Automaton : Type 0 where
+  pub size : ℕ
+  pub first : LeafSet
+  pub last : LeafSet
+  pub near : ℕ → LeafSet
+  pub far : ℕ → LeafSet
+  pub marked : LeafSet
+
+abbrev pub follow : Automaton → Bool → ℕ → LeafSet
+follow a true j = a.near j
+follow a false j = a.far j
+
+-- A state of the subset construction: the leaves that read the last event, and those that read an earlier one and wait for a far follower.
+pub data State : Type 0 where
+  start : State
+  pair : LeafSet → LeafSet → State
+
+-- the leaves that may read the next event
+abbrev pub candidates : Automaton → State → LeafSet
+candidates a start k = a.first k
+candidates a (pair fresh waiting) k = some_below a.size (λ j. fresh j && (a.near j k || a.far j k) || waiting j && a.far j k)
+
+-- the leaves that may let the next event pass
+abbrev pub patient : Automaton → State → LeafSet
+patient a start k = false
+patient a (pair fresh waiting) k = (fresh k || waiting k) && some_below a.size (a.far k)
+
+-- the leaf's mark is the event's
+abbrev pub agrees : Bool → Bool → Bool
+agrees true m = m
+agrees false m = not m
+
+abbrev pub successor : Automaton → State → LeafSet → Bool → State
+successor a s bits mark = pair (λ k. candidates a s k && (bits k && agrees mark (a.marked k))) (λ k. not mark && patient a s k)
+
+abbrev pub has_leaf : Automaton → State → Bool
+has_leaf a start = false
+has_leaf a (pair fresh waiting) = some_below a.size (λ k. fresh k || waiting k)
+
+-- a successor with no leaf is none
+abbrev pub next : Automaton → State → LeafSet → Bool → Option State
+next a s bits mark = let t = successor a s bits mark in cond (has_leaf a t) (Some t) None
+
+-- An event of the substream: its position, and the leaves that can read it.
+pub record Entry : Type 0 where
+  pub position : ℕ
+  pub bits : LeafSet
+
+-- The state after the entries, of which the positions in the set are marked.
+abbrev pub run : Automaton → (ℕ → Bool) → State → List Entry → Option State
+run a marks s [] = Some s
+run a marks s (x ∷ xs) = option_and_then (λ t. run a marks t xs) (next a s x.bits (marks x.position))
+
+abbrev pub accepts : Automaton → State → Bool
+accepts a start = false
+accepts a (pair fresh waiting) = some_below a.size (λ k. fresh k && a.last k)
+
+abbrev pub accepted : Automaton → Option State → Bool
+accepted a None = false
+accepted a (Some s) = accepts a s

@@ -1,0 +1,2 @@
+//! Position automata of patterns, determinised as events come.
+#![tactic(auto)]

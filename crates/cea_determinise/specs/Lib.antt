@@ -1,2 +1,3 @@
 pub mod Runs
 pub mod Strict
+pub mod Cea

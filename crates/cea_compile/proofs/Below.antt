@@ -1,10 +1,11 @@
 -- The sets of a tree hold no number that the tree does not have.
-use Rattle.std.proofs.Common.{◌≡◌, sym, subst, ℕ, ◌<◌, ◌⊎◌, inl, inr, true}
-use Rattle.std.proofs.lemmas.Bool.{eqb-true, or_cases, false≢true}
+use Rattle.std.proofs.Common.{◌≡◌, sym, subst, ℕ, ◌<◌, ◌⊎◌, inl, inr, Bool, true, ◌&&◌, ◌||◌}
+use Rattle.std.proofs.lemmas.Bool.{eqb-true, and_parts, or_cases, false≢true}
 use Rattle.cel_terms.specs.declared.leaves.Shape.{Shape}
 use Rattle.cel_terms.specs.Shapes.{tree_of_shape}
 use Rattle.cel_terms.specs.Tree.{Tree, leaf, none, sequence, either, plus}
-use Rattle.cea_compile.specs.Compiled.{last_set}
+use Rattle.cea_determinise.specs.Runs.{agrees}
+use Rattle.cea_compile.specs.Compiled.{first_set, last_set, follow_set}
 use Rattle.cea_compile.specs.Found.{AreBelow}
 
 pub last_below : (size : ℕ) (t : Tree ℕ) → AreBelow size t → (k : ℕ) → last_set t k ≡ true → k < size
@@ -21,3 +22,41 @@ last_below size (plus tight a) h k e = last_below size a h k e
 -- the same of a shape under another name
 pub last_at : (size : ℕ) (s u : Shape) → u ≡ s → AreBelow size (tree_of_shape s) → (k : ℕ) → last_set (tree_of_shape u) k ≡ true → k < size
 last_at size s u e h k l = last_below size (tree_of_shape s) h k (subst (λ x. last_set (tree_of_shape x) k ≡ true) e l)
+
+pub first_below : (size : ℕ) (t : Tree ℕ) → AreBelow size t → (k : ℕ) → first_set t k ≡ true → k < size
+first_below size (leaf n) h k e = subst (λ m. m < size) (sym (eqb-true k n e)) h
+first_below size none h k e = absurd (false≢true e)
+first_below size (sequence tight a b) h k e = first_below size a h.0 k e
+first_below size (either a b) h k e = go (λ l. first_below size a h.0 k l) (λ l. first_below size b h.1 k l) (or_cases (first_set a k) (first_set b k) e)
+  where
+    go : (first_set a k ≡ true → k < size) → (first_set b k ≡ true → k < size) → (first_set a k ≡ true) ⊎ (first_set b k ≡ true) → k < size
+    go f g (inl l) = f l
+    go f g (inr l) = g l
+first_below size (plus tight a) h k e = first_below size a h k e
+
+linked_below : (size : ℕ) (b l : Bool) (t : Tree ℕ) → AreBelow size t → (k : ℕ) → (b && (l && first_set t k)) ≡ true → k < size
+linked_below size b l t h k e = first_below size t h k (and_parts l (first_set t k) (and_parts b (l && first_set t k) e).1).1
+
+-- what follows is a number of the tree too
+pub follow_below : (size : ℕ) (t : Tree ℕ) → AreBelow size t → (tight : Bool) (j k : ℕ) → follow_set t tight j k ≡ true → k < size
+follow_below size (leaf n) h tight j k e = absurd (false≢true e)
+follow_below size none h tight j k e = absurd (false≢true e)
+follow_below size (sequence u a b) h tight j k e = go (λ l. follow_below size a h.0 tight j k l) (λ l. follow_below size b h.1 tight j k l) (or_cases (follow_set a tight j k) (follow_set b tight j k || (agrees u tight && (last_set a j && first_set b k))) e)
+  where
+    go_on : (follow_set b tight j k ≡ true → k < size) → (follow_set b tight j k ≡ true) ⊎ ((agrees u tight && (last_set a j && first_set b k)) ≡ true) → k < size
+    go_on g (inl l) = g l
+    go_on g (inr l) = linked_below size (agrees u tight) (last_set a j) b h.1 k l
+
+    go : (follow_set a tight j k ≡ true → k < size) → (follow_set b tight j k ≡ true → k < size) → (follow_set a tight j k ≡ true) ⊎ ((follow_set b tight j k || (agrees u tight && (last_set a j && first_set b k))) ≡ true) → k < size
+    go f g (inl l) = f l
+    go f g (inr l) = go_on g (or_cases (follow_set b tight j k) (agrees u tight && (last_set a j && first_set b k)) l)
+follow_below size (either a b) h tight j k e = go (λ l. follow_below size a h.0 tight j k l) (λ l. follow_below size b h.1 tight j k l) (or_cases (follow_set a tight j k) (follow_set b tight j k) e)
+  where
+    go : (follow_set a tight j k ≡ true → k < size) → (follow_set b tight j k ≡ true → k < size) → (follow_set a tight j k ≡ true) ⊎ (follow_set b tight j k ≡ true) → k < size
+    go f g (inl l) = f l
+    go f g (inr l) = g l
+follow_below size (plus u a) h tight j k e = go (λ l. follow_below size a h tight j k l) (or_cases (follow_set a tight j k) (agrees u tight && (last_set a j && first_set a k)) e)
+  where
+    go : (follow_set a tight j k ≡ true → k < size) → (follow_set a tight j k ≡ true) ⊎ ((agrees u tight && (last_set a j && first_set a k)) ≡ true) → k < size
+    go f (inl l) = f l
+    go f (inr l) = linked_below size (agrees u tight) (last_set a j) a h k l

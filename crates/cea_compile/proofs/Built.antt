@@ -1,15 +1,20 @@
 -- The automaton that is built is that of the leaves.
-use Rattle.std.proofs.Common.{◌≡◌, ap, ◌∙◌, ℕ, Bool, true, false, ◌||◌, List, length, slice_get}
+use Rattle.std.proofs.Common.{◌≡◌, refl, sym, ap, subst, ◌∙◌, ℕ, ◌<◌, Bool, true, false, ◌||◌, List, [], length, slice_get, slice_index_or, Option, Some, None, arith}
+use Rattle.std.proofs.lemmas.Bool.{false≢true}
+use Rattle.std.proofs.lemmas.Option.{slice_get_within}
+use Rattle.std.proofs.lemmas.List.{get_or_default}
 use Rattle.cel_terms.specs.declared.leaves.Leaf.{Leaf}
 use Rattle.cel_terms.specs.declared.leaves.Leaves.{Leaves}
 use Rattle.cel_terms.specs.Shapes.{tree_of_shape}
-use Rattle.cer_base.specs.Bits.{has}
-use Rattle.cea_determinise.specs.declared.Cea.{Cea}
-use Rattle.cea_determinise.specs.Runs.{Automaton}
-use Rattle.cea_determinise.specs.Automata.{row, automaton_of_cea}
+use Rattle.cer_base.specs.Bits.{has, room_for}
+use Rattle.cea_determinise.specs.declared.cea.Cea.{Cea}
+use Rattle.cea_determinise.specs.Runs.{LeafSet, Automaton}
+use Rattle.cea_determinise.specs.Cea.{row, IsSet, AreRows, IsWellFormed, automaton_of as automaton_of_cea}
 use Rattle.cea_compile.specs.declared.followers.Followers.{Followers}
 use Rattle.cea_compile.specs.Compiled.{first_set, last_set, follow_set}
-use Rattle.cea_compile.specs.Found.{pairs}
+use Rattle.cea_compile.specs.Found.{HaveRoom, HasRoom, pairs, AreBelow, EndsHaveRoom}
+use Rattle.cea_compile.specs.declared.ends.Ends.{Ends}
+use Rattle.cea_compile.proofs.Below.{first_below, last_below, follow_below}
 use Rattle.cea_compile.specs.LeafAutomaton.{is_marked, automaton_of_leaves}
 
 -- automata whose sets agree at each number are one
@@ -29,3 +34,29 @@ built l a list blank found same size first last empty linked near far marked =
     (λ j k. near j k ∙ (linked true j k ∙ ap (λ b. b || follow_set (tree_of_shape l.shape) true j k) (empty true j k)))
     (λ j k. far j k ∙ (linked false j k ∙ ap (λ b. b || follow_set (tree_of_shape l.shape) false j k) (empty false j k)))
     (λ k. marked k ∙ ap (λ ls. is_marked (slice_get ls k)) same)
+
+set_of : (size : ℕ) (set : List Bool) (f : LeafSet) → length set ≡ room_for size → ((k : ℕ) → has set k ≡ f k) → ((k : ℕ) → f k ≡ true → k < size) → IsSet size set
+set_of size set f room same below = record { room = room; below = λ k h. below k (sym (same k) ∙ h) }
+
+rows_of : (size : ℕ) (rows : List (List Bool)) (f : ℕ → LeafSet) → HaveRoom size rows → ((j k : ℕ) → row rows j k ≡ f j k) → ((j k : ℕ) → f j k ≡ true → k < size) → AreRows size rows
+rows_of size rows f room same below = record {
+  count = room.count;
+  sets = λ j d less. subst (IsSet size) (get_or_default rows j [] d less) (set_of size (slice_index_or rows j []) (f j) (let count = room.count in room.each j (omega arith)) (same j) (below j));
+}
+
+-- each set that is built is one of leaves
+pub well_formed : (l : Leaves) (a : Cea) (list : List Leaf) (blank found : Followers) (e : Ends) → AreBelow (length l.list) (tree_of_shape l.shape) → list ≡ l.list → a.size ≡ length list → a.first ≡ e.first → a.last ≡ e.last → EndsHaveRoom (length list) e → ((k : ℕ) → has e.first k ≡ first_set (tree_of_shape l.shape) k) → ((k : ℕ) → has e.last k ≡ last_set (tree_of_shape l.shape) k) → ((tight : Bool) (j k : ℕ) → pairs blank tight j k ≡ false) → ((tight : Bool) (j k : ℕ) → pairs found tight j k ≡ pairs blank tight j k || follow_set (tree_of_shape l.shape) tight j k) → HasRoom (length list) found → a.near.items ≡ found.near.items → a.far.items ≡ found.far.items → length a.marked ≡ room_for (length list) → ((k : ℕ) → has a.marked k ≡ is_marked (slice_get list k)) → IsWellFormed a
+well_formed l a list blank found e below same size first_is last_is ends first last empty linked room near_is far_is marked_room marked = record {
+  first = subst (IsSet a.size) (sym first_is) (set_of a.size e.first (first_set (tree_of_shape l.shape)) (ends.first ∙ ap room_for (sym size)) first (λ k h. first_below a.size (tree_of_shape l.shape) inside k h));
+  last = subst (IsSet a.size) (sym last_is) (set_of a.size e.last (last_set (tree_of_shape l.shape)) (ends.last ∙ ap room_for (sym size)) last (λ k h. last_below a.size (tree_of_shape l.shape) inside k h));
+  near = subst (AreRows a.size) (sym near_is) (rows_of a.size found.near.items (follow_set (tree_of_shape l.shape) true) (subst (λ n. HaveRoom n found.near.items) (sym size) room.near) (λ j k. linked true j k ∙ ap (λ b. b || follow_set (tree_of_shape l.shape) true j k) (empty true j k)) (λ j k h. follow_below a.size (tree_of_shape l.shape) inside true j k h));
+  far = subst (AreRows a.size) (sym far_is) (rows_of a.size found.far.items (follow_set (tree_of_shape l.shape) false) (subst (λ n. HaveRoom n found.far.items) (sym size) room.far) (λ j k. linked false j k ∙ ap (λ b. b || follow_set (tree_of_shape l.shape) false j k) (empty false j k)) (λ j k h. follow_below a.size (tree_of_shape l.shape) inside false j k h));
+  marked = set_of a.size a.marked (λ k. is_marked (slice_get list k)) (marked_room ∙ ap room_for (sym size)) marked (λ k h. marked_below k (slice_get list k) refl h);
+}
+  where
+    inside : AreBelow a.size (tree_of_shape l.shape)
+    inside = subst (λ n. AreBelow n (tree_of_shape l.shape)) (sym (size ∙ ap length same)) below
+
+    marked_below : (k : ℕ) (o : Option Leaf) → slice_get list k ≡ o → is_marked o ≡ true → k < a.size
+    marked_below k None e h = absurd (false≢true h)
+    marked_below k (Some m) e h = let less = slice_get_within list k m e in let s = size in omega arith

@@ -3,7 +3,8 @@ use Rattle.std.proofs.Common.{◌≡◌, refl, sym, ap, ap₂, subst, ◌∙◌,
 use Rattle.std.proofs.lemmas.Bool.{cases_lt, cases_order, false_from_ne_true}
 use Rattle.std.proofs.lemmas.List.{get_or_append_left, get_or-append-add, get_or-set_same, get_or-set_other, get_or_past, get_or_default, length-set}
 use Rattle.cer_base.specs.Bits.{has, room_for}
-use Rattle.cea_determinise.specs.Automata.{row, HaveRoom}
+use Rattle.cea_determinise.specs.Cea.{row}
+use Rattle.cea_compile.specs.Found.{HaveRoom}
 
 -- so many empty sets
 pub record AreBlank (size count : ℕ) (rows : List (List Bool)) : Type 0 where

@@ -1,10 +1,15 @@
 -- What is found of an automaton so far: sets with room for all leaves, and which leaf follows which.
-use Rattle.std.specs.Prelude.{◌≡◌, ℕ, ◌<◌, Bool, true, false, length, ⊤}
+use Rattle.std.specs.Prelude.{◌≡◌, ℕ, ◌<◌, Bool, true, false, List, [], length, slice_index_or, ⊤}
 use Rattle.cer_base.specs.Bits.{room_for}
 use Rattle.cel_terms.specs.Tree.{Tree, leaf, none, sequence, either, plus}
-use Rattle.cea_determinise.specs.Automata.{row, HaveRoom}
+use Rattle.cea_determinise.specs.Cea.{row}
 use Rattle.cea_compile.specs.declared.followers.Followers.{Followers}
 use Rattle.cea_compile.specs.declared.ends.Ends.{Ends}
+
+-- a set for each leaf, each with room for all of them
+pub record HaveRoom (size : ℕ) (rows : List (List Bool)) : Type 0 where
+  pub count : length rows ≡ size
+  pub each : (j : ℕ) → j < size → length (slice_index_or rows j []) ≡ room_for size
 
 pub record HasRoom (size : ℕ) (f : Followers) : Type 0 where
   pub near : HaveRoom size f.near.items

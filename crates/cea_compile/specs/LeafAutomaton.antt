@@ -9,7 +9,7 @@ use Rattle.cel_terms.specs.Expand.{tree_of}
 use Rattle.cel_terms.specs.Leaves.{occurrences, numbered}
 use Rattle.cel_terms.specs.Shapes.{tree_of_shape, AreLeavesOf}
 use Rattle.cel_terms.specs.Conditions.{bits_of}
-use Rattle.cea_determinise.specs.Runs.{LeafSet, Automaton}
+use Rattle.cea_determinise.specs.Runs.{Automaton}
 use Rattle.cea_compile.specs.Compiled.{automaton_over, automaton_of}
 use Rattle.cea_compile.specs.DeterminisedRuns.{entry_at}
 

@@ -2,15 +2,15 @@
 
 ghost use Rattle.std.specs.Prelude.{◌≡◌, ℕ, Bool, length, slice_get, IfOk};
 ghost use Rattle.cer_base.specs.Bits.{has, room_for};
-ghost use Rattle.cea_determinise.specs.Automata.{automaton_of_cea};
+ghost use Rattle.cea_determinise.specs.Cea.{automaton_of as automaton_of_cea};
 ghost use Rattle.cea_compile.specs.LeafAutomaton.{automaton_of_leaves, is_marked};
 ghost use Rattle.cea_compile.specs.Found.{AreBelow};
 ghost use Rattle.cel_terms.specs.Shapes.{tree_of_shape};
-ghost use Rattle.cea_determinise.specs.Automata.{IsWellFormed};
+ghost use Rattle.cea_determinise.specs.Cea.{IsWellFormed};
 
 use crate::ends::ends_of;
 use crate::followers::Followers;
-use cea_determinise::Cea;
+use cea_determinise::cea::Cea;
 use cel_terms::leaves::{Leaf, Leaves};
 use cer_base::Memory;
 use cer_base::bits::Bits;
@@ -35,7 +35,7 @@ pub fn compile(alloc: Global, leaves: &Leaves) -> Result<Cea, Memory>
     requires { AreBelow (length leaves.now.list) (tree_of_shape leaves.now.shape) }
     ensures automaton { IfOk result (λ a. automaton_of_cea a ≡ automaton_of_leaves leaves.now) }
     ensures strict { IfOk result (λ a. a.strict ≡ leaves.now.strict) }
-    ensures room { IfOk result IsWellFormed }
+    ensures well_formed { IfOk result IsWellFormed }
 {
     let list = leaves.list.as_slice();
     let size = list.len();

@@ -2,9 +2,9 @@
 
 ghost use Rattle.std.specs.Prelude.{◌≡◌, ℕ, ◌<◌, ◌&&◌, ◌||◌, Bool, true, false, length, IfOk};
 ghost use Rattle.cer_base.specs.Bits.{has, room_for};
-ghost use Rattle.cea_determinise.specs.Automata.{row, HaveRoom};
+ghost use Rattle.cea_determinise.specs.Cea.{row};
 ghost use Rattle.cea_determinise.specs.Runs.{agrees};
-ghost use Rattle.cea_compile.specs.Found.{HasRoom, pairs};
+ghost use Rattle.cea_compile.specs.Found.{HaveRoom, HasRoom, pairs};
 
 use cer_base::Memory;
 use cer_base::bits::Bits;

@@ -1,3 +1,3 @@
 pub mod Runs
 pub mod Strict
-pub mod Automata
+pub mod Cea

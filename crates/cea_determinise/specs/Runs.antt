@@ -1,4 +1,6 @@
--- The position automaton as sets of leaf numbers, and its determinised runs. After "CORE: a Complex Event Recognition Engine" (PVLDB 2022).
+-- The position automaton of a pattern as sets of leaf numbers, and its determinised runs.
+-- Position automata are Glushkov's; that a waiting leaf lets events pass is "CORE: a Complex Event
+-- Recognition Engine" (PVLDB 2022), near and far followers are this project's profile.
 use Rattle.std.specs.Prelude.{ℕ, zero, suc, Bool, true, false, not, ◌&&◌, ◌||◌, cond, List, [], ◌∷◌, Option, Some, None, option_and_then}
 
 -- A set of leaf numbers, by its test.
@@ -10,7 +12,7 @@ abbrev pub some_below : ℕ → LeafSet → Bool
 some_below zero set = false
 some_below (suc n) set = set n || some_below n set
 
--- The position automaton of a tree with leaves below a size. The near followers read the next event, the far ones any later event.
+-- The position automaton of a pattern whose leaves are the numbers below a size. The near followers read the next event, the far ones any later event.
 pub record Automaton : Type 0 where
   pub size : ℕ
   pub first : LeafSet

@@ -1,16 +1,11 @@
-//! Stub.
+//! Position automata of patterns, determinised as events come.
+//!
+//! Promised: the successors of a state on an event are exactly those of the definition (`specs/Runs`,
+//! and `specs/Strict` for the phase); a state keeps its number, and no state has two; a pair of state
+//! and event that is known costs one look-up and no memory.
+//!
+//! It stands on `cer_base` for sets of leaves and counts of steps, and on `indexmap` for its tables.
 #![tactic(auto)]
 
-use cer_base::bits::Bits;
-
-/// The position automaton of a query, its leaves numbered from 0.
-#[derive(Drop, Debug)]
-pub struct Cea {
-    pub size: usize,
-    pub first: Bits,
-    pub last: Bits,
-    pub near: Vec<Bits>,
-    pub far: Vec<Bits>,
-    pub marked: Bits,
-    pub strict: bool,
-}
+pub mod cea;
+mod sets;

@@ -17,6 +17,8 @@ pub mod bits;
 pub mod node;
 pub mod steps;
 pub mod store;
+#[cfg(test)]
+mod tests;
 mod words;
 
 /// A position in the whole stream, from 0.

@@ -1,0 +1,100 @@
+//! The successor of a state, from its sets.
+ghost use Rattle.std.specs.Prelude.{◌≡◌, ℕ, ◌<◌, ◌||◌, ◌&&◌, Bool, List, [], length, slice_index_or, option_map, IfOk, IfSome};
+ghost use Rattle.std.specs.Option.{option_copied};
+ghost use Rattle.cer_base.specs.Bits.{has, room_for};
+ghost use Rattle.cea_determinise.specs.Runs.{some_below, candidates, patient, agrees, pair};
+ghost use Rattle.cea_determinise.specs.Strict.{phase_after, next_standing};
+ghost use Rattle.cea_determinise.specs.Cea.{row, automaton_of, IsSet, IsWellFormed, IsPlace, phase_of, standing_of, standing, is_marked};
+
+use crate::cea::{Cea, Place, Side, Stage};
+use cer_base::Memory;
+use cer_base::bits::Bits;
+use std::alloc::Global;
+
+/// Puts the rows of the members of the set in.
+fn unite_rows(into: &mut Bits, from: &Bits, rows: &[Bits])
+    requires rooms { (j : ℕ) (d : List Bool) → j < length rows.now → length (slice_index_or rows.now j d) ≡ length into.old }
+    ensures room { length into.new ≡ length into.old }
+    ensures members { (k : ℕ) → has into.new k ≡ has into.old k || some_below (length rows.now) (λ j. has from.now j && row rows.now j k) }
+{
+    for j in 0..rows.len() {
+        if from.contains(j) {
+            into.unite(&rows[j]);
+        }
+    }
+}
+
+/// The leaves that may read the next event after the state.
+fn may_read(alloc: Global, cea: &Cea, place: &Place) -> Result<Bits, Memory>
+    requires well_formed { IsWellFormed cea.now }
+    ensures room { IfOk result (λ c. length c ≡ room_for cea.now.size) }
+    ensures members { IfOk result (λ c. (k : ℕ) → has c k ≡ candidates (automaton_of cea.now) (pair (has place.now.fresh) (has place.now.waiting)) k) }
+{
+    let mut leaves = Bits::blank(alloc, cea.size)?;
+    unite_rows(&mut leaves, &place.fresh, cea.near.as_slice());
+    unite_rows(&mut leaves, &place.fresh, cea.far.as_slice());
+    unite_rows(&mut leaves, &place.waiting, cea.far.as_slice());
+    Ok(leaves)
+}
+
+/// Whether the leaf has a far follower.
+fn has_far(cea: &Cea, leaf: usize) -> bool
+    requires well_formed { IsWellFormed cea.now }
+    requires leaf { leaf < cea.now.size }
+    ensures { result ≡ some_below cea.now.size (row cea.now.far.items leaf) }
+{
+    !cea.far[leaf].is_empty()
+}
+
+/// Whether the leaf has read the last event or an earlier one.
+fn has_read(place: &Place, leaf: usize) -> bool
+    ensures { result ≡ has place.now.fresh leaf || has place.now.waiting leaf }
+{
+    place.fresh.contains(leaf) || place.waiting.contains(leaf)
+}
+
+/// The leaves of the state that let the next event pass.
+fn all_waiting(alloc: Global, cea: &Cea, place: &Place) -> Result<Bits, Memory>
+    requires well_formed { IsWellFormed cea.now }
+    requires place { IsPlace cea.now.size place.now }
+    ensures set { IfOk result (IsSet cea.now.size) }
+    ensures members { IfOk result (λ w. (k : ℕ) → has w k ≡ patient (automaton_of cea.now) (pair (has place.now.fresh) (has place.now.waiting)) k) }
+{
+    let mut leaves = Bits::blank(alloc, cea.size)?;
+    for leaf in 0..cea.size {
+        if has_read(place, leaf) && has_far(cea, leaf) {
+            leaves.insert(leaf);
+        }
+    }
+    Ok(leaves)
+}
+
+/// Keeps the leaves that can read the event, and whose marks are as asked.
+fn keep_readers(leaves: &mut Bits, cea: &Cea, bits: &Bits, side: Side)
+    requires well_formed { IsWellFormed cea.now }
+    requires room { length leaves.old ≡ room_for cea.now.size }
+    requires bits { length bits.now ≡ room_for cea.now.size }
+    ensures room { length leaves.new ≡ length leaves.old }
+    ensures members { (k : ℕ) → has leaves.new k ≡ has leaves.old k && (has bits.now k && agrees (is_marked side) (has cea.now.marked k)) }
+{
+    leaves.intersect(bits);
+    match side {
+        Side::Marked => leaves.intersect(&cea.marked),
+        Side::Unmarked => leaves.subtract(&cea.marked),
+    }
+}
+
+/// Where the run stands after the event, or None where marks would not be contiguous.
+fn stage_after(strict: bool, stage: Stage, side: Side) -> Option<Stage>
+    ensures { option_map phase_of result ≡ phase_after strict (phase_of stage) (is_marked side) }
+{
+    if !strict {
+        return Some(stage);
+    }
+    match (stage, side) {
+        (Stage::Before | Stage::Within, Side::Marked) => Some(Stage::Within),
+        (Stage::Before, Side::Unmarked) => Some(Stage::Before),
+        (Stage::Within | Stage::After, Side::Unmarked) => Some(Stage::After),
+        (Stage::After, Side::Marked) => None,
+    }
+}

@@ -1,3 +1,3 @@
-pub mod Tests
+pub mod Listed
 pub mod Collected
 pub mod Filled

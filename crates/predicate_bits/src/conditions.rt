@@ -26,17 +26,11 @@ pub struct Conditions {
 
 impl Model for Conditions {
     ghost use Rattle.std.specs.Prelude.{List};
-
     ghost use Rattle.cel_terms.specs.declared.leaves.Leaf.{Leaf};
-
     ghost use Rattle.std.specs.Prelude.{nat_eq};
-
     ghost use Rattle.indexmap.specs.IndexMap.{get};
-
     ghost use Rattle.predicate_bits.specs.Groups.{AreGrouped};
-
     ghost use Rattle.cel_terms.specs.contracts.leaves.Test as test;
-
     ghost use Rattle.std.specs.Coded.{codes};
 
     ghost Value = { List Leaf };

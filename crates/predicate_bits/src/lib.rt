@@ -8,3 +8,5 @@
 pub mod conditions;
 mod groups;
 mod holding;
+#[cfg(test)]
+mod tests;

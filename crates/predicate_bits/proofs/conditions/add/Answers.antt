@@ -20,7 +20,7 @@ loop-number-preserved c =
     let read = get_or_default c.args.numbers.now c.loop-number.number-index 0 n c.loop-number-test.true in
     let bit = bit_at c.args.list.now c.args.event.now c.args.numbers.now c.loop-number.number-index n c.holds_at.result c.requires.group c.loop-number-test.true read c.holds_at.ensures in
     elim c.if-holds_at.branch [
-      then-holds_at w ↦ subst (λ s. IsFilledUpTo (c.loop-number.number-index + 1) c.args.list.now c.args.event.now c.args.numbers.now s) (sym w.into-is) (filled_more c.loop-number.number-index c.args.list.now c.args.event.now c.args.numbers.now c.loop-number.into w.insert.new.self n c.loop-number.invariant c.loop-number-test.true read (bit ∙ w.if-holds_at.true) w.insert.ensures.members w.insert.ensures.room)
+      | then-holds_at w ↦ subst (λ s. IsFilledUpTo (c.loop-number.number-index + 1) c.args.list.now c.args.event.now c.args.numbers.now s) (sym w.into-is) (filled_more c.loop-number.number-index c.args.list.now c.args.event.now c.args.numbers.now c.loop-number.into w.insert.new.self n c.loop-number.invariant c.loop-number-test.true read (bit ∙ w.if-holds_at.true) w.insert.ensures.members w.insert.ensures.room)
       | else-holds_at w ↦ subst (λ s. IsFilledUpTo (c.loop-number.number-index + 1) c.args.list.now c.args.event.now c.args.numbers.now s) (sym w.into-is) (filled_past c.loop-number.number-index c.args.list.now c.args.event.now c.args.numbers.now c.loop-number.into n c.loop-number.invariant c.loop-number-test.true read (bit ∙ w.if-holds_at.false))
     ]
 

@@ -8,7 +8,7 @@ pub loop-k-preserved : goal.loop-k-preserved
 loop-k-preserved c =
     let here = slice_get_read c.args.list.now (length c.args.list.now) c.loop-k.k c.index-list-k.result refl c.loop-k-test.true c.index-list-k.is in
     elim c.if-leaf-ty.branch [
-      then-leaf-ty+in_ok-push w ↦ subst (λ xs. IsGroupUpTo (c.loop-k.k + 1) c.args.list.now c.args.ty xs) (sym (ap (λ v. v.items) w.numbers-is ∙ w.in_ok-push.ensures.items)) (collected_more c.loop-k.k c.args.list.now c.args.ty c.loop-k.numbers.items c.index-list-k.result c.loop-k.invariant here w.if-leaf-ty.true)
+      | then-leaf-ty+in_ok-push w ↦ subst (λ xs. IsGroupUpTo (c.loop-k.k + 1) c.args.list.now c.args.ty xs) (sym (ap (λ v. v.items) w.numbers-is ∙ w.in_ok-push.ensures.items)) (collected_more c.loop-k.k c.args.list.now c.args.ty c.loop-k.numbers.items c.index-list-k.result c.loop-k.invariant here w.if-leaf-ty.true)
       | else-leaf-ty w ↦ subst (λ xs. IsGroupUpTo (c.loop-k.k + 1) c.args.list.now c.args.ty xs) (sym (ap (λ v. v.items) w.numbers-is)) (collected_past c.loop-k.k c.args.list.now c.args.ty c.loop-k.numbers.items c.index-list-k.result c.loop-k.invariant here w.if-leaf-ty.false)
     ]
 

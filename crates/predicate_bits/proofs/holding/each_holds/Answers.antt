@@ -1,5 +1,5 @@
 use Rattle.std.proofs.Common.{◌∙◌}
-use Rattle.predicate_bits.proofs.Tests.{each_listed}
+use Rattle.predicate_bits.proofs.Listed.{each_listed}
 use Rattle.predicate_bits.proofs.holding.each_holds.Goals as goal
 
 pub returns : goal.returns

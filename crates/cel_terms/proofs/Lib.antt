@@ -1,4 +1,7 @@
 pub mod Numbers
+pub mod Naming
+pub mod Changes
+pub mod Expanded
 pub mod Operations
 pub mod Induction
 pub mod Intervals

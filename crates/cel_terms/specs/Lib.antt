@@ -7,3 +7,4 @@ pub mod Leaves
 pub mod Shapes
 pub mod Checked
 pub mod Laws
+pub mod Drafts

@@ -11,9 +11,12 @@ use cer_base::{Listed, Place, Text};
 use stream_schema::Value;
 
 pub mod compare;
+mod draft;
+mod expand;
 pub mod laws;
 pub mod leaves;
 mod number;
+mod occurrence;
 
 /// A name as it stands in a text. Its meaning looks at the text alone.
 #[derive(Drop, Debug)]

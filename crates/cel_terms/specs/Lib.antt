@@ -8,3 +8,5 @@ pub mod Shapes
 pub mod Checked
 pub mod Laws
 pub mod Drafts
+pub mod Lawful
+pub mod Tests

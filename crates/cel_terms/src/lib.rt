@@ -14,9 +14,13 @@ pub mod compare;
 mod draft;
 mod expand;
 pub mod laws;
+mod leaf_of;
 pub mod leaves;
 mod number;
+mod numbering;
 mod occurrence;
+pub mod query_leaves;
+mod test_of;
 
 /// A name as it stands in a text. Its meaning looks at the text alone.
 #[derive(Drop, Debug)]

@@ -21,6 +21,8 @@ mod numbering;
 mod occurrence;
 pub mod query_leaves;
 mod test_of;
+#[cfg(test)]
+mod tests;
 
 /// A name as it stands in a text. Its meaning looks at the text alone.
 #[derive(Drop, Debug)]

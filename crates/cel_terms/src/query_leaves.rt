@@ -15,15 +15,14 @@ use cer_base::{Listed, Memory};
 use std::alloc::Global;
 use stream_schema::Schema;
 
-/// The leaves of a query that is checked for the schema. An alternative in a filter makes a copy of
-/// all that the filter stands behind, and each test goes to the types whose positions it speaks of.
-/// The only error is want of memory.
+/// The leaves of the query. An alternative in a filter makes a copy of all that it filters, and each
+/// test goes to the types whose positions it speaks of. The leaves of a query that is checked for the
+/// schema are lawful. The only error is want of memory.
 pub fn leaves(alloc: Global, schema: &Schema, query: &Query) -> Result<Leaves, Memory>
-    requires checked { IsChecked schema.now query.now }
     ensures shape { IfOk result (λ l. tree_of_shape l.shape ≡ numbered 0 (tree_of query.now)) }
     ensures list { IfOk result (λ l. AreLeavesOf schema.now (occurrences (tree_of query.now)) l.list) }
     ensures strict { IfOk result (λ l. l.strict ≡ query.now.strict) }
-    ensures lawful { IfOk result IsLawful }
+    ensures lawful { IsChecked schema.now query.now → IfOk result IsLawful }
 {
     let draft = tree_of(alloc, query)?;
     let mut list = Vec::new(alloc);

@@ -15,10 +15,10 @@ returns-clause-list c =
     (subst (λ (t : Tree Occurrence). AreMadeOf schema (occurrences t) c.numbered.new.list.items) c.in_ok-draft.ensures (c.in_ok-shape.ensures.list [] none)))
 
 pub returns-clause-lawful : goal.returns-clause-lawful
-returns-clause-lawful c =
+returns-clause-lawful c checked =
     let schema = c.args.schema.now in
     let none = subst (AreMadeOf schema []) (sym c.new-list.ensures.items) tt in
-    lawful schema c.args.query.now (record { list = c.of.result; shape = c.in_ok-shape.shape; strict = c.args.query.now.strict }) c.requires.checked
+    lawful schema c.args.query.now (record { list = c.of.result; shape = c.in_ok-shape.shape; strict = c.args.query.now.strict }) checked
     (c.in_ok-shape.ensures.shape ∙ ap₂ (λ n t. numbered n t) (ap length c.new-list.ensures.items) c.in_ok-draft.ensures)
     (subst (AreMadeOf schema (occurrences (tree_of c.args.query.now))) (sym c.of.ensures)
     (subst (λ (t : Tree Occurrence). AreMadeOf schema (occurrences t) c.numbered.new.list.items) c.in_ok-draft.ensures (c.in_ok-shape.ensures.list [] none)))

@@ -1,6 +1,15 @@
 pub mod Numbers
+pub mod Naming
+pub mod Changes
+pub mod Expanded
+pub mod Found
+pub mod Pairs
+pub mod Read
+pub mod Places
+pub mod Tested
 pub mod Operations
 pub mod Induction
 pub mod Intervals
 pub mod Marked
 pub mod Counts
+pub mod Lawfulness

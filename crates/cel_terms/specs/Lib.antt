@@ -8,3 +8,6 @@ pub mod Shapes
 pub mod Checked
 pub mod Laws
 pub mod Conditions
+pub mod Drafts
+pub mod Lawful
+pub mod Tests

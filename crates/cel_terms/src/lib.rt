@@ -11,9 +11,18 @@ use cer_base::{Listed, Place, Text};
 use stream_schema::Value;
 
 pub mod compare;
+mod draft;
+mod expand;
 pub mod laws;
+mod leaf_of;
 pub mod leaves;
 mod number;
+mod numbering;
+mod occurrence;
+pub mod query_leaves;
+mod test_of;
+#[cfg(test)]
+mod tests;
 
 /// A name as it stands in a text. Its meaning looks at the text alone.
 #[derive(Drop, Debug)]

@@ -1,0 +1,35 @@
+-- What everything that is built of leaves may rely on.
+use Rattle.std.specs.Prelude.{◌≡◌, ℕ, ◌≤◌, List, [], ◌∷◌, ◌++◌, length, All, ⊤}
+use Rattle.std.specs.List.{range_with_len}
+use Rattle.cel_terms.specs.declared.leaves.Test.{Test, No, Cmp, Not', All', Any', Row_of-Test, end_of-Test, more_of-Test}
+use Rattle.cel_terms.specs.declared.leaves.Leaves.{Leaves}
+use Rattle.cel_terms.specs.Checked.{HasFewPlaces}
+use Rattle.cel_terms.specs.Tree.{Tree, leaf, none, sequence, either, plus}
+use Rattle.cel_terms.specs.Shapes.{tree_of_shape}
+
+-- the numbers of the leaves, from left to right
+abbrev pub numbers : Tree ℕ → List ℕ
+numbers (leaf k) = k ∷ []
+numbers none = []
+numbers (sequence tight a b) = numbers a ++ numbers b
+numbers (either a b) = numbers a ++ numbers b
+numbers (plus tight a) = numbers a
+
+-- no literal of the test has more than nine decimal places
+abbrev mutual
+  pub TestHasFewPlaces : Test → Type 0
+  TestHasFewPlaces No = ⊤
+  TestHasFewPlaces (Cmp place op literal) = HasFewPlaces literal
+  TestHasFewPlaces (Not' p test) = TestHasFewPlaces test
+  TestHasFewPlaces (All' s tests) = TestsHaveFewPlaces tests
+  TestHasFewPlaces (Any' s tests) = TestsHaveFewPlaces tests
+
+  pub TestsHaveFewPlaces : {m : _} → Row_of-Test m → Type 0
+  TestsHaveFewPlaces end_of-Test = ⊤
+  TestsHaveFewPlaces (more_of-Test test rest) = TestHasFewPlaces test × TestsHaveFewPlaces rest
+
+-- At most 2,048 leaves; the shape has the number of each once, from left to right; no literal has more than nine decimal places.
+pub record IsLawful (leaves : Leaves) : Type 0 where
+  pub count : length leaves.list ≤ 2048
+  pub order : numbers (tree_of_shape leaves.shape) ≡ range_with_len 0 (length leaves.list)
+  pub places : All (λ l. All TestHasFewPlaces l.tests.items) leaves.list

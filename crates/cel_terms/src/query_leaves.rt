@@ -1,0 +1,35 @@
+//! The leaves of a query.
+
+ghost use Rattle.std.specs.Prelude.{◌≡◌, IfOk};
+ghost use Rattle.cel_terms.specs.Checked.{IsChecked};
+ghost use Rattle.cel_terms.specs.Expand.{tree_of};
+ghost use Rattle.cel_terms.specs.Leaves.{occurrences, numbered};
+ghost use Rattle.cel_terms.specs.Shapes.{tree_of_shape, AreLeavesOf};
+ghost use Rattle.cel_terms.specs.Lawful.{IsLawful};
+
+use crate::Query;
+use crate::expand::tree_of;
+use crate::leaves::Leaves;
+use crate::numbering::numbered;
+use cer_base::{Listed, Memory};
+use std::alloc::Global;
+use stream_schema::Schema;
+
+/// The leaves of the query. An alternative in a filter makes a copy of all that it filters, and each
+/// test goes to the types whose positions it speaks of. The leaves of a query that is checked for the
+/// schema are lawful. The only error is want of memory.
+pub fn leaves(alloc: Global, schema: &Schema, query: &Query) -> Result<Leaves, Memory>
+    ensures shape { IfOk result (λ l. tree_of_shape l.shape ≡ numbered 0 (tree_of query.now)) }
+    ensures list { IfOk result (λ l. AreLeavesOf schema.now (occurrences (tree_of query.now)) l.list) }
+    ensures strict { IfOk result (λ l. l.strict ≡ query.now.strict) }
+    ensures lawful { IsChecked schema.now query.now → IfOk result IsLawful }
+{
+    let draft = tree_of(alloc, query)?;
+    let mut list = Vec::new(alloc);
+    let shape = numbered(alloc, schema, &draft, &mut list)?;
+    Ok(Leaves {
+        list: Listed::of(list),
+        shape,
+        strict: query.strict,
+    })
+}

@@ -13,11 +13,14 @@ mod cells;
 mod events;
 mod fields;
 mod numbers;
+mod reader;
 #[cfg(test)]
 mod tests;
 mod values;
+mod window;
 
 pub use events::read_event;
+pub use reader::{Lines, Next};
 
 /// Why an event was refused. Where several hold of a line, 11 comes before 24, and these before 20,
 /// 21, 22 and 23.

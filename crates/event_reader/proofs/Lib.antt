@@ -9,3 +9,4 @@ pub mod LineWalks
 pub mod GivenLines
 pub mod WindowParts
 pub mod NextLines
+pub mod OfSchema

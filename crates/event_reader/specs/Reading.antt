@@ -1,5 +1,5 @@
 -- What a reader of lines has given of a file, and what its next answer says. This project's profile.
-use Rattle.std.specs.Prelude.{◌≡◌, ℕ, ◌+◌, ◌==◌, Bool, true, false, if◌then◌else◌, List, [], ◌∷◌, ◌++◌, length, take, Option, Some, None, Result, Ok, Err}
+use Rattle.std.specs.Prelude.{◌≡◌, ℕ, ◌+◌, ◌-◌, ◌<◌, ◌≤◌, ◌==◌, Bool, true, false, if◌then◌else◌, List, [], ◌∷◌, ◌++◌, length, take, Option, Some, None, Result, Ok, Err}
 use Rattle.event_reader.specs.declared.LineFault.{LineFault}
 use Rattle.event_reader.specs.declared.LineFault.TheVariants.{ReadFault, LineTooLong, InputTooLong}
 use Rattle.event_reader.specs.declared.reader.Next.{Next}
@@ -68,16 +68,21 @@ abbrev pub IsCutAt : ℕ → List ℕ → Option (List ℕ) → List (List ℕ) 
 IsCutAt budget bytes None texts = ⊥
 IsCutAt budget bytes (Some left) texts = IsCutOff budget bytes left texts
 
--- The answer that follows these texts of a file of these bytes: its next line, or that these are all of its lines,
--- and why there is no further one; or that the source failed.
+-- These are all lines of a file of these bytes, and why there is no further one: a fault, or none at its end. Where
+-- the source failed, these are the lines that ended before.
+abbrev pub HasTold : ℕ → List ℕ → Option (List ℕ) → List (List ℕ) → Option LineFault → Type 0
+HasTold budget bytes left texts None = file_lines budget bytes ≡ record { texts = texts; fault = None }
+HasTold budget bytes left texts (Some ReadFault) = IsCutAt budget bytes left texts
+HasTold budget bytes left texts (Some (LineTooLong line)) =
+    file_lines budget bytes ≡ record { texts = texts; fault = Some (LineTooLong line) }
+HasTold budget bytes left texts (Some (InputTooLong taken)) =
+    file_lines budget bytes ≡ record { texts = texts; fault = Some (InputTooLong taken) }
+
+-- the answer that follows these texts of a file of these bytes: its next line, or why there is none
 abbrev pub Follows : Reader → List ℕ → Option (List ℕ) → List (List ℕ) → Result Next LineFault → Type 0
 Follows reader bytes left texts (Ok Line) = HasGiven reader bytes left (texts ++ reader.text ∷ [])
-Follows reader bytes left texts (Ok End) = file_lines reader.budget bytes ≡ record { texts = texts; fault = None }
-Follows reader bytes left texts (Err ReadFault) = IsCutAt reader.budget bytes left texts
-Follows reader bytes left texts (Err (LineTooLong line)) =
-    file_lines reader.budget bytes ≡ record { texts = texts; fault = Some (LineTooLong line) }
-Follows reader bytes left texts (Err (InputTooLong taken)) =
-    file_lines reader.budget bytes ≡ record { texts = texts; fault = Some (InputTooLong taken) }
+Follows reader bytes left texts (Ok End) = HasTold reader.budget bytes left texts None
+Follows reader bytes left texts (Err fault) = HasTold reader.budget bytes left texts (Some fault)
 
 -- a fact that holds where the source failed
 abbrev pub OnReadFault : Result Next LineFault → Type 0 → Type 0
@@ -86,13 +91,14 @@ OnReadFault (Err ReadFault) P = P
 OnReadFault (Err (LineTooLong line)) P = Unit {0}
 OnReadFault (Err (InputTooLong taken)) P = Unit {0}
 
--- how the number of the last line and the reader's end change
-pub record IsAfter (old new : Reader) (number : ℕ) (closed : Bool) : Type 0 where
+-- How the budget, the number of the last line, the room and the end change: each line takes room.
+pub record IsAfter (old new : Reader) (number room : ℕ) (closed : Bool) : Type 0 where
   pub budget : new.budget ≡ old.budget
   pub number_is : new.number ≡ number
+  pub room_within : new.room ≤ room
   pub closed_is : new.closed ≡ closed
 
 abbrev pub MovesOn : Reader → Reader → Result Next LineFault → Type 0
-MovesOn old new (Ok Line) = IsAfter old new (old.number + 1) false
-MovesOn old new (Ok End) = IsAfter old new old.number true
-MovesOn old new (Err fault) = IsAfter old new old.number true
+MovesOn old new (Ok Line) = (0 < old.room) × IsAfter old new (old.number + 1) (old.room - 1) false
+MovesOn old new (Ok End) = IsAfter old new old.number old.room true
+MovesOn old new (Err fault) = IsAfter old new old.number old.room true

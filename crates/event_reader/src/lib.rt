@@ -12,6 +12,8 @@ use thiserror::Error;
 mod cells;
 mod events;
 mod fields;
+#[cfg(test)]
+mod line_tests;
 mod numbers;
 mod reader;
 #[cfg(test)]

@@ -6,3 +6,7 @@ pub mod LineBytes
 pub mod Texts
 mod LineRows
 pub mod LineWalks
+pub mod GivenLines
+pub mod WindowParts
+pub mod NextLines
+pub mod OfSchema

@@ -7,11 +7,11 @@ use Rattle.std.proofs.lemmas.List.Folds.{list_any_at}
 use Rattle.event_reader.specs.Fields.{IsWithoutEnds}
 use Rattle.event_reader.proofs.Cuts.{IsPlain}
 
-neither : (a b : Bool) → (a || b) ≡ false → (a ≡ false) × (b ≡ false)
+pub neither : (a b : Bool) → (a || b) ≡ false → (a ≡ false) × (b ≡ false)
 neither true b e = absurd (cc)
 neither false b e = (refl, e)
 
-differs : (a b : ℕ) → (a == b) ≡ false → a ≢ b
+pub differs : (a b : ℕ) → (a == b) ≡ false → a ≢ b
 differs a b e q = absurd (cc (eq-eqb a b q))
 
 -- what no byte is, no byte of a front part is

@@ -6,7 +6,7 @@ use Rattle.std.proofs.lemmas.Slice.Eq.{bytes_eq-Decides}
 use Rattle.std.proofs.lemmas.Str.{IsUtf8-from_is_utf8, is_utf8-from_IsUtf8}
 
 -- a test that does not hold
-by_cases : (b : Bool) → (b ≡ true → ⊥) → b ≡ false
+pub by_cases : (b : Bool) → (b ≡ true → ⊥) → b ≡ false
 by_cases true n = absurd (n refl)
 by_cases false n = refl
 

@@ -4,3 +4,5 @@ pub mod Events
 pub mod Places
 pub mod Cells
 pub mod Lines
+pub mod Windows
+pub mod Reading

@@ -43,6 +43,10 @@ lines_from budget number line (byte ∷ bytes) room =
 abbrev pub without_mark : List ℕ → List ℕ
 without_mark line = if starts_with nat_eq line (239 ∷ 187 ∷ 191 ∷ []) then drop 3 line else line
 
+-- the text of a line before which so many lines stand
+abbrev pub text_of : ℕ → List ℕ → List ℕ
+text_of before line = if before == 0 then without_mark line else line
+
 -- the first line alone loses a byte order mark
 abbrev pub unmarked : List (List ℕ) → List (List ℕ)
 unmarked [] = []

@@ -1,6 +1,7 @@
 //! The event of a line.
 
-ghost use Rattle.std.specs.Prelude.{◌≡◌, ◌==◌, ◌+◌, ◌<◌, ℕ, [], false, length, map, IfOk, MatchOption, None, Some};
+ghost use Rattle.std.specs.Prelude.{◌≡◌, ◌==◌, ◌+◌, ◌<◌, ℕ, [], false, length, map, IfOk, IfSome, MatchOption, None, Some};
+ghost use Rattle.stream_schema.specs.Events.{IsOfSchema};
 ghost use Rattle.std.specs.List.{list_any, slice_split};
 ghost use Rattle.std.specs.Str.Lines.{strip_carriage_return};
 ghost use Rattle.event_reader.specs.Fields.{fields, ends_open};
@@ -22,7 +23,22 @@ use stream_schema::{Event, Kind, Schema, Value};
 /// - 21 `UnknownType`
 /// - 22 `FieldCount`
 /// - 23 `BadValue`
+///
+/// An event that it gives is of the schema.
 pub fn read_event(
+    alloc: Global,
+    schema: &Schema,
+    text: &[u8],
+) -> Result<Option<Event>, OrMemory<EventFault>>
+    requires { list_any (λ b. b == 10) text.now ≡ false }
+    ensures event { Gives (λ event. event) result (event_of_line schema.now text.now) }
+    ensures of_schema { IfOk result (λ found. IfSome found (λ event. IsOfSchema schema.now event)) }
+{
+    read_line(alloc, schema, text)
+}
+
+/// The event of the line, or the first refusal.
+fn read_line(
     alloc: Global,
     schema: &Schema,
     text: &[u8],

@@ -1,9 +1,10 @@
 //! The event file: which lines its bytes are, and which event a line is, or why it is none.
 //!
-//! Promised: `read_event` answers exactly the event of the line, or the first of its refusals, by
-//! the definitions of `specs/`, where the fields are those of `csv`'s own definition. A line with
-//! no quote byte is cut at its commas; both ways give the fields of the one definition.
-//! It stands on `csv`, `stream_schema` and `cer_base`.
+//! Promised: `Lines` gives exactly the lines of the definition `file_lines`, however its source cuts
+//! the bytes, and says exactly why there is no further one. `read_event` answers exactly the event
+//! of the line, or the first of its refusals, where the fields are those of `csv`'s own definition.
+//! A line with no quote byte is cut at its commas; both ways give the fields of the one definition.
+//! It stands on `csv`, `memchr`, `cer_outside`, `stream_schema` and `cer_base`.
 #![tactic(auto)]
 
 use stream_schema::Kind;
@@ -12,12 +13,19 @@ use thiserror::Error;
 mod cells;
 mod events;
 mod fields;
+#[cfg(test)]
+mod line_tests;
 mod numbers;
+mod reader;
+#[cfg(test)]
+mod speed;
 #[cfg(test)]
 mod tests;
 mod values;
+mod window;
 
 pub use events::read_event;
+pub use reader::{Lines, Next};
 
 /// Why an event was refused. Where several hold of a line, 11 comes before 24, and these before 20,
 /// 21, 22 and 23.

@@ -19,7 +19,7 @@ fn declare(
     Ok(())
 }
 
-fn five_types(alloc: Global) -> Result<Schema, OrMemory<SchemaFault>> {
+pub fn five_types(alloc: Global) -> Result<Schema, OrMemory<SchemaFault>> {
     let mut schema = Schema::new(alloc);
     declare(alloc, &mut schema, "A", Kind::Int)?;
     declare(alloc, &mut schema, "N", Kind::Text)?;
@@ -30,7 +30,7 @@ fn five_types(alloc: Global) -> Result<Schema, OrMemory<SchemaFault>> {
 }
 
 // What a line answers: the type's number and the values, or the words of the fault.
-fn answer(alloc: Global, schema: &Schema, line: &[u8]) -> Result<String, AllocError> {
+pub fn answer(alloc: Global, schema: &Schema, line: &[u8]) -> Result<String, AllocError> {
     if line.contains(&b'\n') {
         return "line feed".to_string(alloc);
     }

@@ -1,0 +1,21 @@
+use Rattle.std.proofs.Common.{◌≡◌, false, length, sym, ◌∙◌, ap, subst, arith}
+use Rattle.event_reader.specs.Windows.{Held, has_feed, IsFirstFeed, IsShort}
+use Rattle.event_reader.proofs.WindowParts.{long_before, long_plain, short_still}
+use Rattle.event_reader.proofs.window.Window.seek.Goals as goal
+
+pub returns-then-place-gt-MOST_BYTES-clause-stop : goal.returns-then-place-gt-MOST_BYTES-clause-stop
+returns-then-place-gt-MOST_BYTES-clause-stop g c =
+    long_before c.in-Some.place c.find.new.self.pending
+    (subst (λ (h : Held). IsFirstFeed c.in-Some.place h.pending) (sym c.find.ensures.kept) c.in-Some.ensures.found) (omega arith)
+
+pub returns-then-len-gt-MOST_BYTES-clause-stop : goal.returns-then-len-gt-MOST_BYTES-clause-stop
+returns-then-len-gt-MOST_BYTES-clause-stop g c =
+    long_plain c.find.new.self.pending (ap (λ (h : Held). has_feed h.pending) c.find.ensures.kept ∙ c.in_default.ensures.found) (omega arith)
+
+pub returns-in-Ok-eq0-clause-stop : goal.returns-in-Ok-eq0-clause-stop
+returns-in-Ok-eq0-clause-stop g c =
+    let plain : has_feed c.find.new.self.pending ≡ false = ap (λ (h : Held). has_feed h.pending) c.find.ensures.kept ∙ c.in_default.ensures.found in (
+      short_still c.find.new.self.pending c.fill.new.self.pending c.in-Ok-eq0.field-0 plain (omega arith) c.in-Ok-eq0.ensures.kept c.in-Ok-eq0.ensures.count c.in-Ok-eq0.field-0-test,
+      omega (arith, c.in-Ok-eq0.ensures.count),
+      c.in-Ok-eq0.ensures.end c.in-Ok-eq0.field-0-test,
+    )

@@ -1,0 +1,188 @@
+//! The lines of a file, read from any source.
+
+ghost use Rattle.std.specs.Prelude.{◌≡◌, ◌+◌, ◌-◌, ◌<◌, ◌≤◌, ◌==◌, ℕ, List, [], true, false, length, take, drop, IfOk};
+ghost use Rattle.event_reader.specs.declared.reader.Next.TheVariants as next;
+ghost use Rattle.std.specs.List.{list_any};
+ghost use Rattle.cer_outside.specs.Causes.{Rose};
+ghost use Rattle.event_reader.specs.Lines.{without_mark, text_of};
+ghost use Rattle.event_reader.specs.Windows.{has_feed, IsShort};
+ghost use Rattle.event_reader.specs.Reading.{HasGiven, Follows, OnReadFault, MovesOn};
+
+use crate::LineFault;
+use crate::window::{Stop, Window};
+use cer_base::Memory;
+use cer_outside::{Failed, Source};
+use std::alloc::Global;
+use std::marker::Model;
+
+/// What comes next.
+#[derive(Debug, Clone, Copy, PartialEq, Eq)]
+pub enum Next {
+    /// A line, whose number and text the reader has.
+    Line,
+    /// The end of the file.
+    End,
+}
+
+/// A reader of the lines of a file, of which at most so many bytes count.
+#[derive(Drop)]
+pub struct Lines {
+    window: Window,
+    budget: u64,
+    room: u64,
+    number: u64,
+    ended: bool,
+    closed: bool,
+}
+
+impl Model for Lines {
+    ghost use Rattle.std.specs.Prelude.{◌+◌, ◌≤◌, length};
+    ghost use Rattle.event_reader.specs.Reading.{Reader};
+
+    ghost Value = { Reader };
+
+    ghost view = { λ l. record { budget = l.budget; number = l.number; text = l.window.text; pending = l.window.pending; room = l.room; ended = l.ended; closed = l.closed } };
+
+    ghost invariant = { λ l. (length l.window.pending ≤ l.room) × (l.number + l.room ≤ l.budget) };
+}
+
+impl Lines {
+    /// A reader that takes at most `budget` bytes of its source, at its beginning.
+    pub fn new(alloc: Global, budget: u64) -> Result<Lines, Memory>
+        ensures given { IfOk result (λ lines. (bytes : List ℕ) → HasGiven lines bytes (Some bytes) []) }
+        ensures budget { IfOk result (λ lines. lines.budget ≡ budget) }
+        ensures number { IfOk result (λ lines. lines.number ≡ 0) }
+        ensures open { IfOk result (λ lines. lines.closed ≡ false) }
+    {
+        Ok(Lines {
+            window: Window::new(alloc)?,
+            budget,
+            room: budget,
+            number: 0,
+            ended: false,
+            closed: false,
+        })
+    }
+
+    /// The number of the line that was given last, from 1; 0 before the first.
+    pub fn number(&self) -> u64
+        ensures { result ≡ self.now.number }
+    {
+        self.number
+    }
+
+    /// The text of the line that was given last, until `next` is called again: without its line
+    /// feed and, in line 1, without a byte order mark at its beginning.
+    pub fn text(&self) -> &[u8]
+        ensures value { result.now ≡ self.now.text }
+        ensures line_feed { list_any (λ b. b == 10) result.now ≡ false }
+        ensures short { length result.now ≤ 65536 }
+    {
+        self.window.text()
+    }
+
+    /// Whether the end or a fault was answered.
+    pub fn is_closed(&self) -> bool
+        ensures { result ≡ self.now.closed }
+    {
+        self.closed
+    }
+
+    /// The next line, or the end of the file, or the first of these faults that holds where no
+    /// complete line is left among the bytes that were taken. It takes no memory.
+    ///
+    /// - 11 `LineTooLong`
+    /// - 12 `InputTooLong`
+    /// - 10 `ReadFault`
+    pub fn next<Q: Source>(&mut self, source: &mut Q) -> Result<Next, LineFault>
+        requires { self.old.closed ≡ false }
+        ensures lines { (bytes : List ℕ) (texts : List (List ℕ)) → HasGiven self.old bytes (Q.left source.old) texts → Follows self.new bytes (Q.left source.new) texts result }
+        ensures moves { MovesOn self.old self.new result }
+        ensures later { Q.faults source.old ≤ Q.faults source.new }
+        ensures cause { OnReadFault result (Rose (Q.faults source.old) (Q.faults source.new)) }
+        ensures rest { OnReadFault result (IsShort self.new.pending) }
+    {
+        if self.ended {
+            self.closed = true;
+            return Ok(Next::End);
+        }
+        match self.window.seek(source, self.room) {
+            Ok(Stop::Feed(len)) => {
+                self.give(len, len + 1);
+                Ok(Next::Line)
+            }
+            Ok(Stop::Long) => self.fault(LineFault::LineTooLong {
+                line: self.number + 1,
+            }),
+            Ok(Stop::Full) => self.fault(LineFault::InputTooLong { taken: self.budget }),
+            Ok(Stop::End) => Ok(self.last()),
+            Err(Failed) => self.fault(LineFault::ReadFault),
+        }
+    }
+
+    /// Gives the first `len` of the bytes that are in no line yet as a line, and passes `end` bytes
+    /// in all.
+    fn give(&mut self, len: usize, end: usize)
+        requires some { 0 < end }
+        requires len { len ≤ end }
+        requires end { end ≤ length self.old.pending }
+        requires short { len ≤ 65536 }
+        requires plain { has_feed (take len self.old.pending) ≡ false }
+        ensures { self.new ≡ record self.old { number = self.old.number + 1; text = text_of self.old.number (take len self.old.pending); pending = drop end self.old.pending; room = self.old.room - end } }
+    {
+        let start = self.start_of(len);
+        self.window.give(start, len, end);
+        self.room -= end as u64;
+        self.number += 1;
+    }
+
+    /// Where the text of a line of the first `len` bytes at hand begins.
+    fn start_of(&self, len: usize) -> usize
+        requires { len ≤ length self.now.pending }
+        ensures text { drop result (take len self.now.pending) ≡ text_of self.now.number (take len self.now.pending) }
+        ensures within { result ≤ len }
+    {
+        if self.number == 0 {
+            mark_len(self.window.front(len))
+        } else {
+            0
+        }
+    }
+
+    /// Gives what is left of a file that has ended.
+    fn last(&mut self) -> Next
+        requires { IsShort self.old.pending }
+        ensures none { length self.old.pending ≡ 0 → (result ≡ next.End) × (self.new ≡ record self.old { closed = true }) }
+        ensures some { 0 < length self.old.pending → (result ≡ next.Line) × (self.new ≡ record self.old { number = self.old.number + 1; text = text_of self.old.number self.old.pending; pending = []; room = self.old.room - length self.old.pending; ended = true }) }
+    {
+        let len = self.window.len();
+        if len == 0 {
+            self.closed = true;
+            return Next::End;
+        }
+        self.give(len, len);
+        self.ended = true;
+        Next::Line
+    }
+
+    /// Answers the fault, and no further line.
+    fn fault(&mut self, fault: LineFault) -> Result<Next, LineFault>
+        ensures answer { result ≡ Err fault }
+        ensures closed { self.new ≡ record self.old { closed = true } }
+    {
+        self.closed = true;
+        Err(fault)
+    }
+}
+
+/// How many bytes a byte order mark at the beginning of the line has.
+fn mark_len(line: &[u8]) -> usize
+    ensures line { drop result line.now ≡ without_mark line.now }
+    ensures within { result ≤ length line.now }
+{
+    if line.starts_with(&[239, 187, 191]) {
+        3
+    } else {
+        0
+    }
+}

@@ -1,10 +1,11 @@
 -- Sets of leaves below a size, as they are built leaf by leaf and row by row.
-use Rattle.std.proofs.Common.{◌≡◌, ◌≢◌, length, ℕ, zero, suc, ◌+◌, ◌<◌, ◌≤◌, Bool, true, false, ◌&&◌, ◌||◌, List, refl, sym, ap, ◌∙◌, ◌⊎◌, inl, inr, arith, nat_lt}
+use Rattle.std.proofs.Common.{◌≡◌, ◌≢◌, length, ℕ, zero, suc, ◌+◌, ◌<◌, ◌≤◌, Bool, true, false, ◌&&◌, ◌||◌, List, [], refl, sym, ap, ◌∙◌, ◌⊎◌, inl, inr, arith, nat_lt}
 use Rattle.std.specs.Prelude.{not, eqb, slice_index_or}
 use Rattle.std.proofs.lemmas.Bool.{cases_eq, cases_lt, eq-eqb, ne_eqb, and_parts, or_cases, false≢true, false_from_ne_true}
 use Rattle.cer_base.specs.Bits.{has, room_for}
-use Rattle.cea_determinise.specs.Runs.{LeafSet, Automaton, some_below, patient, pair}
-use Rattle.cea_determinise.specs.Cea.{IsSet, AreRows, row}
+use Rattle.cea_determinise.specs.Runs.{LeafSet, Automaton, State, start, some_below, patient, pair, candidates}
+use Rattle.cea_determinise.specs.Cea.{IsSet, AreRows, IsWellFormed, row, automaton_of}
+use Rattle.cea_determinise.specs.declared.cea.Cea.{Cea}
 use Rattle.cea_determinise.proofs.Some.{none_below, found_below, some_either}
 
 -- the test whether a set is empty tells whether some leaf is in it
@@ -36,7 +37,7 @@ lt_more n = lt_true n (n + 1) (omega arith)
 
 lt_same : (k n : ℕ) → k ≢ n → nat_lt k n ≡ nat_lt k (n + 1)
 lt_same k n other = elim (cases_lt k n) [
-    inl h ↦ lt_true k n h ∙ sym (lt_true k (n + 1) (omega (arith, h)))
+  | inl h ↦ lt_true k n h ∙ sym (lt_true k (n + 1) (omega (arith, h)))
   | inr h ↦ lt_false k n h ∙ sym (lt_false k (n + 1) (omega (arith, h, other)))
 ]
 
@@ -57,14 +58,14 @@ same_room size n rows items e are room j d h = rw (e, room) ((are.sets j d (rw (
 pub put_more : (f old new : LeafSet) (n : ℕ) → ((k : ℕ) → old k ≡ nat_lt k n && f k) → f n ≡ true → ((k : ℕ) → new k ≡ eqb k n || old k) → (k : ℕ) → new k ≡ nat_lt k (n + 1) && f k
 put_more f old new n so_far in' put k =
     elim (cases_eq k n) [
-        inl same ↦ rw (put k, same, eq-eqb n n refl, in', lt_more n) refl
+      | inl same ↦ rw (put k, same, eq-eqb n n refl, in', lt_more n) refl
       | inr other ↦ put k ∙ rw (ne_eqb k n other) (so_far k) ∙ ap (λ b. b && f k) (lt_same k n other)
     ]
 
 pub pass_more : (f old : LeafSet) (n : ℕ) → ((k : ℕ) → old k ≡ nat_lt k n && f k) → f n ≡ false → (k : ℕ) → old k ≡ nat_lt k (n + 1) && f k
 pass_more f old n so_far out k =
     elim (cases_eq k n) [
-        inl same ↦ so_far k ∙ rw (same, out) (both_false (nat_lt n n) (nat_lt n (n + 1)))
+      | inl same ↦ so_far k ∙ rw (same, out) (both_false (nat_lt n n) (nat_lt n (n + 1)))
       | inr other ↦ so_far k ∙ ap (λ b. b && f k) (lt_same k n other)
     ]
 
@@ -76,6 +77,46 @@ patient_below a fresh waiting n f w k e =
 pub all_below : (f old : LeafSet) (n : ℕ) → ((k : ℕ) → old k ≡ nat_lt k n && f k) → ((k : ℕ) → f k ≡ true → k < n) → (k : ℕ) → old k ≡ f k
 all_below f old n so_far below k =
     elim (cases_lt k n) [
-        inl h ↦ so_far k ∙ ap (λ b. b && f k) (lt_true k n h)
+      | inl h ↦ so_far k ∙ ap (λ b. b && f k) (lt_true k n h)
       | inr h ↦ so_far k ∙ ap (λ b. b && f k) (lt_false k n h) ∙ sym (false_from_ne_true (f k) (λ e. (let less = below k e in omega (arith, h, less))))
     ]
+
+some_found : (n : ℕ) (s : LeafSet) → some_below n s ≡ true → (k : ℕ) × (k < n) × (s k ≡ true)
+some_found zero s e = absurd (false≢true e)
+some_found (suc n) s e =
+    elim (or_cases (s n) (some_below n s) e) [
+      | inl h ↦ (n, omega arith, h)
+      | inr h ↦ let found = some_found n s h in (found.0, omega (arith, found.1), found.2)
+    ]
+
+row_below : (size : ℕ) (rows : List (List Bool)) → AreRows size rows → (j k : ℕ) → j < size → row rows j k ≡ true → k < size
+row_below size rows are j k h e = (are.sets j [] (omega (arith, h, are.count))).below k e
+
+-- no leaf from the size on may read
+pub candidates_below : (c : Cea) (s : State) → IsWellFormed c → (k : ℕ) → candidates (automaton_of c) s k ≡ true → k < c.size
+candidates_below c start wf k e = wf.first.below k e
+candidates_below c (pair fresh waiting) wf k e =
+    let near = row c.near.items in
+    let far = row c.far.items in
+    let found = some_found c.size (λ j. fresh j && (near j k || far j k) || waiting j && far j k) e in
+    let j = found.0 in
+    elim (or_cases (fresh j && (near j k || far j k)) (waiting j && far j k) found.2) [
+      | inl h ↦ elim (or_cases (near j k) (far j k) (and_parts (fresh j) (near j k || far j k) h).1) [
+        | inl n ↦ row_below c.size c.near.items wf.near j k found.1 n
+        | inr f ↦ row_below c.size c.far.items wf.far j k found.1 f
+      ]
+      | inr h ↦ row_below c.size c.far.items wf.far j k found.1 (and_parts (waiting j) (far j k) h).1
+    ]
+
+-- what may read, and can
+pub readers_are : (c : Cea) (s : State) (can : LeafSet) (leaves : List Bool) → IsWellFormed c → length leaves ≡ room_for c.size → ((k : ℕ) → has leaves k ≡ candidates (automaton_of c) s k && can k) → IsSet c.size leaves
+readers_are c s can leaves wf room are = record {
+  room = room;
+  below = λ k e. candidates_below c s wf k (and_parts (candidates (automaton_of c) s k) (can k) (sym (are k) ∙ e)).0;
+}
+
+pub either_first : (n : ℕ) (f g : LeafSet) (r : Bool) → r ≡ true → true ≡ some_below n f → r ≡ some_below n (λ k. f k || g k)
+either_first n f g r e h = e ∙ rw (some_either n f g, ← h) refl
+
+pub either_second : (n : ℕ) (f g : LeafSet) (r : Bool) → r ≡ some_below n g → false ≡ some_below n f → r ≡ some_below n (λ k. f k || g k)
+either_second n f g r e h = e ∙ rw (some_either n f g, ← h) refl

@@ -1,2 +1,3 @@
 pub mod Some
 pub mod Below
+pub mod Reached

@@ -15,7 +15,7 @@ pub found_below : (n k : ℕ) (s : LeafSet) → k < n → s k ≡ true → some_
 found_below zero k s h e = absurd (omega (arith, h))
 found_below (suc n) k s h e =
     elim (cases_eq k n) [
-        inl same ↦ rw (← same, e) refl
+      | inl same ↦ rw (← same, e) refl
       | inr other ↦ rw (found_below n k s (omega (arith, h, other)) e) (or_true (s n))
     ]
 

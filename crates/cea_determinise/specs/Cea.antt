@@ -22,7 +22,7 @@ automaton_of c = record {
   last = has c.last;
   near = row c.near.items;
   far = row c.far.items;
-  marked = has c.marked
+  marked = has c.marked;
 }
 
 -- The set has room for the size, and holds no number from the size on.

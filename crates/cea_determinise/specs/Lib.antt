@@ -1,3 +1,4 @@
 pub mod Runs
 pub mod Strict
 pub mod Cea
+pub mod Det

@@ -8,4 +8,7 @@
 #![tactic(auto)]
 
 pub mod cea;
+pub mod det;
 mod sets;
+mod successor;
+pub mod table;

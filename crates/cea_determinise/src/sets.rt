@@ -25,7 +25,7 @@ fn unite_rows(into: &mut Bits, from: &Bits, rows: &[Bits])
 }
 
 /// The leaves that may read the next event after the state.
-fn may_read(alloc: Global, cea: &Cea, place: &Place) -> Result<Bits, Memory>
+pub fn may_read(alloc: Global, cea: &Cea, place: &Place) -> Result<Bits, Memory>
     requires well_formed { IsWellFormed cea.now }
     ensures room { IfOk result (λ c. length c ≡ room_for cea.now.size) }
     ensures members { IfOk result (λ c. (k : ℕ) → has c k ≡ candidates (automaton_of cea.now) (pair (has place.now.fresh) (has place.now.waiting)) k) }
@@ -37,13 +37,21 @@ fn may_read(alloc: Global, cea: &Cea, place: &Place) -> Result<Bits, Memory>
     Ok(leaves)
 }
 
+/// Whether some leaf is in the set.
+pub fn some_leaf(cea: &Cea, set: &Bits) -> bool
+    requires { IsSet cea.now.size set.now }
+    ensures { result ≡ some_below cea.now.size (has set.now) }
+{
+    !set.is_empty()
+}
+
 /// Whether the leaf has a far follower.
 fn has_far(cea: &Cea, leaf: usize) -> bool
     requires well_formed { IsWellFormed cea.now }
     requires leaf { leaf < cea.now.size }
     ensures { result ≡ some_below cea.now.size (row cea.now.far.items leaf) }
 {
-    !cea.far[leaf].is_empty()
+    some_leaf(cea, &cea.far[leaf])
 }
 
 /// Whether the leaf has read the last event or an earlier one.
@@ -54,7 +62,7 @@ fn has_read(place: &Place, leaf: usize) -> bool
 }
 
 /// The leaves of the state that let the next event pass.
-fn all_waiting(alloc: Global, cea: &Cea, place: &Place) -> Result<Bits, Memory>
+pub fn all_waiting(alloc: Global, cea: &Cea, place: &Place) -> Result<Bits, Memory>
     requires well_formed { IsWellFormed cea.now }
     requires place { IsPlace cea.now.size place.now }
     ensures set { IfOk result (IsSet cea.now.size) }
@@ -70,7 +78,7 @@ fn all_waiting(alloc: Global, cea: &Cea, place: &Place) -> Result<Bits, Memory>
 }
 
 /// Keeps the leaves that can read the event, and whose marks are as asked.
-fn keep_readers(leaves: &mut Bits, cea: &Cea, bits: &Bits, side: Side)
+pub fn keep_readers(leaves: &mut Bits, cea: &Cea, bits: &Bits, side: Side)
     requires well_formed { IsWellFormed cea.now }
     requires room { length leaves.old ≡ room_for cea.now.size }
     requires bits { length bits.now ≡ room_for cea.now.size }
@@ -85,7 +93,7 @@ fn keep_readers(leaves: &mut Bits, cea: &Cea, bits: &Bits, side: Side)
 }
 
 /// Where the run stands after the event, or None where marks would not be contiguous.
-fn stage_after(strict: bool, stage: Stage, side: Side) -> Option<Stage>
+pub fn stage_after(strict: bool, stage: Stage, side: Side) -> Option<Stage>
     ensures { option_map phase_of result ≡ phase_after strict (phase_of stage) (is_marked side) }
 {
     if !strict {

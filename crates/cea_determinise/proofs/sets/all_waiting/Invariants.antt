@@ -7,5 +7,5 @@ use Rattle.cea_determinise.proofs.sets.all_waiting.Given as goal
 abbrev pub invariant-loop-leaf : goal.invariant-loop-leaf
 invariant-loop-leaf l = record {
   room : length l.leaves ≡ room_for l.cea.size;
-  members : (k : ℕ) → has l.leaves k ≡ nat_lt k l.leaf && patient (automaton_of l.cea) (pair (has l.place.fresh) (has l.place.waiting)) k
+  members : (k : ℕ) → has l.leaves k ≡ nat_lt k l.leaf && patient (automaton_of l.cea) (pair (has l.place.fresh) (has l.place.waiting)) k;
 }

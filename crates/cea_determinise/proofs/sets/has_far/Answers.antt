@@ -1,15 +1,18 @@
-use Rattle.std.proofs.Common.{arith, [], ap, ◌∙◌}
-use Rattle.std.specs.Prelude.{not}
+use Rattle.std.proofs.Common.{arith, [], ap, ◌∙◌, ◌<◌, length}
 use Rattle.std.proofs.lemmas.List.{get_or_read}
 use Rattle.cer_base.specs.Bits.{has}
 use Rattle.cea_determinise.specs.Runs.{some_below}
-use Rattle.cea_determinise.proofs.Below.{empty_tells}
 use Rattle.cea_determinise.proofs.sets.has_far.Goals as goal
+
+pub some_leaf-requires : goal.some_leaf-requires
+some_leaf-requires c =
+    let far = c.requires.well_formed.far in
+    let within : c.args.leaf < length c.args.cea.now.far.items = omega (arith, far.count, c.requires.leaf) in
+    rw (get_or_read c.args.cea.now.far.items c.args.leaf c.index.result.now within c.index.ensures []) (far.sets c.args.leaf [] within)
 
 pub returns : goal.returns
 returns c =
-    let rows = c.args.cea.now.far.items in
     let far = c.requires.well_formed.far in
-    let is = get_or_read rows c.args.leaf c.index.result.now (omega (arith, far.count, c.requires.leaf)) c.index.ensures [] in
-    empty_tells c.args.cea.now.size c.index.result.now c.is_empty.result (rw is (far.sets c.args.leaf [] (omega (arith, far.count, c.requires.leaf)))) c.is_empty.ensures.empty c.is_empty.ensures.some ∙
-    ap (λ s. some_below c.args.cea.now.size (has s)) is
+    let within : c.args.leaf < length c.args.cea.now.far.items = omega (arith, far.count, c.requires.leaf) in
+    let is = get_or_read c.args.cea.now.far.items c.args.leaf c.index.result.now within c.index.ensures [] in
+    c.some_leaf.ensures ∙ ap (λ s. some_below c.args.cea.now.size (has s)) is

@@ -7,5 +7,5 @@ use Rattle.cea_determinise.proofs.sets.unite_rows.Given as goal
 abbrev pub invariant-loop-j : goal.invariant-loop-j
 invariant-loop-j l = record {
   room : length l.into ≡ length l.fn.into;
-  members : (k : ℕ) → has l.into k ≡ has l.fn.into k || some_below l.j (λ j. has l.from j && row l.rows j k)
+  members : (k : ℕ) → has l.into k ≡ has l.fn.into k || some_below l.j (λ j. has l.from j && row l.rows j k);
 }

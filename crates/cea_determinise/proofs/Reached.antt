@@ -1,0 +1,27 @@
+-- The stored successor is that of the definition.
+use Rattle.std.proofs.Common.{◌≡◌, ℕ, ◌<◌, Bool, true, false, ◌&&◌, ◌||◌, cond, List, Option, Some, None, refl, sym, ap, ◌∙◌, ◌⊎◌, inl, inr, arith, option_map}
+use Rattle.std.specs.Prelude.{not, option_and_then}
+use Rattle.std.proofs.lemmas.Bool.{and_parts, or_cases, false≢true}
+use Rattle.cea_determinise.specs.Runs.{LeafSet, Automaton, State, start, pair, some_below, candidates, patient, agrees, successor, has_leaf, next}
+use Rattle.cea_determinise.specs.Strict.{Phase, Standing, phase_after, next_standing}
+
+module _ (a : Automaton) (strict : Bool) (s : Standing) (bits : LeafSet) (mark : Bool) where
+  -- the two sets are those of the successor
+  abbrev pub AreNext : LeafSet → LeafSet → Type 0
+  AreNext fresh waiting = ((k : ℕ) → fresh k ≡ candidates a s.sets k && (bits k && agrees mark (a.marked k))) × ((k : ℕ) → waiting k ≡ not mark && patient a s.sets k)
+
+  sets_are : (fresh waiting : LeafSet) → AreNext fresh waiting → pair fresh waiting ≡ successor a s.sets bits mark
+  sets_are fresh waiting are = λ i. pair (λ k. are.0 k i) (λ k. are.1 k i)
+
+  pub has_none : phase_after strict s.phase mark ≡ None → None ≡ next_standing a strict s bits mark
+  has_none e = rw e refl
+
+  pub has_empty : (fresh waiting : LeafSet) (p : Phase) → phase_after strict s.phase mark ≡ Some p → AreNext fresh waiting → has_leaf a (pair fresh waiting) ≡ false → None ≡ next_standing a strict s bits mark
+  has_empty fresh waiting p e are empty =
+      let no : has_leaf a (successor a s.sets bits mark) ≡ false = ap (has_leaf a) (sym (sets_are fresh waiting are)) ∙ empty in
+      rw (e, no) refl
+
+  pub has_next : (fresh waiting : LeafSet) (p : Phase) → phase_after strict s.phase mark ≡ Some p → AreNext fresh waiting → has_leaf a (pair fresh waiting) ≡ true → Some (record { sets = pair fresh waiting; phase = p }) ≡ next_standing a strict s bits mark
+  has_next fresh waiting p e are some =
+      let yes : has_leaf a (successor a s.sets bits mark) ≡ true = ap (has_leaf a) (sym (sets_are fresh waiting are)) ∙ some in
+      rw (e, yes) (ap (λ t. Some (record { sets = t; phase = p })) (sets_are fresh waiting are))

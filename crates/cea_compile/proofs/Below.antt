@@ -1,5 +1,10 @@
 -- The sets of a tree hold no number that the tree does not have.
-use Rattle.std.proofs.Common.{◌≡◌, sym, subst, ℕ, ◌<◌, ◌⊎◌, inl, inr, Bool, true, ◌&&◌, ◌||◌}
+use Rattle.std.proofs.Common.{◌≡◌, refl, sym, subst, ℕ, ◌<◌, ◌⊎◌, inl, inr, Bool, true, ◌&&◌, ◌||◌, Contains, length, slice_index_or, arith}
+use Rattle.std.specs.List.{range_with_len}
+use Rattle.std.proofs.lemmas.List.Elements.{Contains-append_left, Contains-append_right}
+use Rattle.std.proofs.lemmas.List.FromFn.{get_or-range_with_len, length-range_with_len}
+use Rattle.cel_terms.specs.declared.leaves.Leaves.{Leaves}
+use Rattle.cel_terms.specs.Lawful.{numbers, IsLawful}
 use Rattle.std.proofs.lemmas.Bool.{eqb-true, and_parts, or_cases, false≢true}
 use Rattle.cel_terms.specs.declared.leaves.Shape.{Shape}
 use Rattle.cel_terms.specs.Shapes.{tree_of_shape}
@@ -60,3 +65,25 @@ follow_below size (plus u a) h tight j k e = go (λ l. follow_below size a h tig
     go : (follow_set a tight j k ≡ true → k < size) → (follow_set a tight j k ≡ true) ⊎ ((agrees u tight && (last_set a j && first_set a k)) ≡ true) → k < size
     go f (inl l) = f l
     go f (inr l) = linked_below size (agrees u tight) (last_set a j) a h k l
+
+-- numbers that are all listed below a size
+below_of_numbers : (size : ℕ) (t : Tree ℕ) → ((k : ℕ) → Contains (numbers t) k → k < size) → AreBelow size t
+below_of_numbers size (leaf n) f = f n (0, omega arith, refl)
+below_of_numbers size none f = tt
+below_of_numbers size (sequence tight a b) f = (below_of_numbers size a (λ k c. f k (Contains-append_left (numbers a) (numbers b) k c)), below_of_numbers size b (λ k c. f k (Contains-append_right (numbers a) (numbers b) k c)))
+below_of_numbers size (either a b) f = (below_of_numbers size a (λ k c. f k (Contains-append_left (numbers a) (numbers b) k c)), below_of_numbers size b (λ k c. f k (Contains-append_right (numbers a) (numbers b) k c)))
+below_of_numbers size (plus tight a) f = below_of_numbers size a f
+
+in_range : (size k : ℕ) → Contains (range_with_len 0 size) k → k < size
+in_range size k c = at c.0 c.1 c.2
+  where
+    at : (i : ℕ) → i < length (range_with_len 0 size) → slice_index_or (range_with_len 0 size) i k ≡ k → k < size
+    at i less e =
+        let len = length-range_with_len 0 size in
+        let within : i < size = omega arith in
+        let here = get_or-range_with_len 0 size i k within in
+        omega arith
+
+-- the shape of lawful leaves has numbers of leaves alone
+pub lawful_below : (l : Leaves) → IsLawful l → AreBelow (length l.list) (tree_of_shape l.shape)
+lawful_below l h = below_of_numbers (length l.list) (tree_of_shape l.shape) (λ k c. in_range (length l.list) k (subst (λ ns. Contains ns k) h.order c))

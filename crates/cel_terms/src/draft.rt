@@ -73,9 +73,9 @@ pub fn at_leaves<'q>(
             first,
             second,
         } => {
-            let first = at_leaves(alloc, change, first)?;
-            let second = at_leaves(alloc, change, second)?;
-            sequence(alloc, *tight, first, second)
+            let before = at_leaves(alloc, change, first)?;
+            let after = at_leaves(alloc, change, second)?;
+            sequence(alloc, *tight, before, after)
         }
         Draft::Either(first, second) => {
             let first = at_leaves(alloc, change, first)?;

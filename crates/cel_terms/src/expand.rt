@@ -20,8 +20,8 @@ fn filtered_by_all<'q>(
     ensures { IfOk result (λ after. tree_of_draft after ≡ fold (λ t c. filtered c t) (tree_of_draft draft.now) filters.now) }
 {
     let mut after = copied(alloc, draft)?;
-    for filter in filters {
-        after = filtered(alloc, filter, &after)?;
+    for part in filters {
+        after = filtered(alloc, part, &after)?;
     }
     Ok(after)
 }

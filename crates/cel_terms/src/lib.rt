@@ -2,7 +2,9 @@
 //! complex events that a query has at a position.
 //!
 //! The meaning stands in `specs/Predicate`, `specs/Meaning` and `specs/Answers`; it knows no
-//! automaton, run or node. It stands on `stream_schema` for types and events.
+//! automaton, run or node. Promised: `query_leaves::leaves` gives exactly the leaves of a query's
+//! tree, and its shape; `compare::is_met_by` tells whether a value compares so with a literal. The
+//! only other answer is want of memory. It stands on `stream_schema` for types and events.
 #![tactic(auto)]
 
 ghost use Rattle.std.specs.Prelude.{◌≡◌, List, ℕ};

@@ -39,12 +39,12 @@ pub fn numbered(
             first,
             second,
         } => {
-            let first = numbered(alloc, schema, first, list)?;
-            let second = numbered(alloc, schema, second, list)?;
+            let before = numbered(alloc, schema, first, list)?;
+            let after = numbered(alloc, schema, second, list)?;
             Ok(Shape::Sequence {
                 tight: *tight,
-                first: Box::new(alloc, first)?,
-                second: Box::new(alloc, second)?,
+                first: Box::new(alloc, before)?,
+                second: Box::new(alloc, after)?,
             })
         }
         Draft::Either(first, second) => {

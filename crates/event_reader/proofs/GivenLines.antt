@@ -1,5 +1,5 @@
 -- What a reader has given, from answer to answer.
-use Rattle.std.proofs.Common.{◌≡◌, ℕ, ◌+◌, ◌-◌, ◌<◌, ◌≤◌, ◌==◌, List, [], ◌∷◌, ◌++◌, length, take, Bool, true, false, Option, Some, None, refl, sym, ◌∙◌, ap, arith, append_assoc, length-append, suc, zero}
+use Rattle.std.proofs.Common.{◌≡◌, ℕ, ◌+◌, ◌-◌, ◌<◌, ◌≤◌, ◌==◌, List, [], ◌∷◌, ◌++◌, length, take, true, false, Option, Some, None, refl, sym, ◌∙◌, ap, arith, append_assoc, length-append}
 use Rattle.std.proofs.lemmas.Bool.Decides.{nat_tests}
 use Rattle.std.proofs.lemmas.List.{append-nil}
 use Rattle.std.proofs.Math.Seq.{take-append_seam}
@@ -7,7 +7,7 @@ use Rattle.event_reader.specs.declared.LineFault.{LineFault}
 use Rattle.event_reader.specs.declared.LineFault.TheVariants.{LineTooLong, InputTooLong}
 use Rattle.event_reader.specs.Lines.{FileLines, most_bytes, stops, lines_from, file_lines, without_mark, text_of, unmarked}
 use Rattle.event_reader.specs.Windows.{has_feed}
-use Rattle.event_reader.specs.Reading.{Reader, ended_from, whole_lines, behind, to_come, HasRead, IsCutOff}
+use Rattle.event_reader.specs.Reading.{Reader, ended_from, behind, to_come, HasRead, IsCutOff}
 use Rattle.event_reader.proofs.LineWalks.{first_line, first_long, first_full, first_last, first_none, ended_line, ended_none}
 
 -- before the last line the rest is what the definition reads on

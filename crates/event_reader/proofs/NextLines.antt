@@ -1,5 +1,5 @@
 -- What each answer of a reader says, where the source tells its bytes.
-use Rattle.std.proofs.Common.{◌≡◌, ℕ, ◌+◌, ◌-◌, ◌<◌, ◌≤◌, List, [], ◌∷◌, ◌++◌, length, take, drop, get_or, Bool, true, false, Option, Some, None, Result, Ok, Err, refl, sym, ◌∙◌, ap, arith, append_assoc, add-one, suc, zero}
+use Rattle.std.proofs.Common.{◌≡◌, ℕ, ◌+◌, ◌-◌, ◌<◌, ◌≤◌, List, [], ◌∷◌, ◌++◌, length, take, drop, Bool, true, false, Option, Some, None, Result, Ok, Err, refl, sym, ◌∙◌, ap, arith, append_assoc, add-one, suc}
 use Rattle.std.proofs.Math.Seq.{drop-cons}
 use Rattle.std.proofs.lemmas.List.{append-nil, take_all, drop_all, length-take, take-append-drop}
 use Rattle.event_reader.specs.declared.LineFault.{LineFault}
@@ -8,8 +8,8 @@ use Rattle.event_reader.specs.declared.reader.Next.{Next}
 use Rattle.event_reader.specs.declared.reader.Next.TheVariants.{Line, End}
 use Rattle.event_reader.specs.Lines.{file_lines, text_of}
 use Rattle.event_reader.specs.Windows.{has_feed, Held, IsFirstFeed, IsShort, ReadsOn, IsAtEnd}
-use Rattle.event_reader.specs.Reading.{Reader, HasRead, HasGiven, Follows, IsCutAt}
-use Rattle.event_reader.proofs.GivenLines.{given_line, given_last, all_ended, all_at_end, all_long, all_full, cut_off}
+use Rattle.event_reader.specs.Reading.{Reader, HasGiven, Follows}
+use Rattle.event_reader.proofs.GivenLines.{given_line, given_last, all_ended, all_at_end, all_long, all_full, cut_off, given_first}
 
 -- the reader after a line, by its window
 pub given_reader : (now : Reader) (held given : Held) (budget room number : ℕ) (ended closed : Bool) (start len end : ℕ) →
@@ -111,3 +111,8 @@ next_last old new (Some before) (Some after) (x ∷ pending) text bytes texts ne
     let rest : new.pending ++ after ≡ [] = ap (λ (r : Reader). r.pending ++ after) is.1 ∙ end in
     rw is.0 (given_last old new bytes before after texts (x ∷ pending) given open_ short.plain short.short within (omega arith) at rest
     (ap (λ (r : Reader). r.budget) is.1) (ap (λ (r : Reader). r.number) is.1) (ap (λ (r : Reader). r.ended) is.1) (ap (λ (r : Reader). r.text) is.1))
+
+-- the texts that were given are the first ones of the file, whatever follows
+pub first_given : (reader : Reader) (bytes : List ℕ) (left : Option (List ℕ)) (texts : List (List ℕ)) → HasGiven reader bytes left texts → take (length texts) (file_lines reader.budget bytes).texts ≡ texts
+first_given reader bytes None texts given = absurd given
+first_given reader bytes (Some left) texts given = given_first reader bytes left texts given

@@ -1,5 +1,5 @@
 -- An event that is read is of its schema.
-use Rattle.std.proofs.Common.{◌≡◌, ℕ, ℤ, ◌+◌, ◌<◌, ◌≤◌, ◌==◌, List, [], ◌∷◌, ◌++◌, length, map, get_or, Bool, true, false, cond, Option, Some, None, Result, Ok, Err, refl, sym, ◌∙◌, ap, subst, arith, append_assoc}
+use Rattle.std.proofs.Common.{◌≡◌, ℕ, ℤ, ◌+◌, ◌<◌, ◌==◌, List, [], ◌∷◌, ◌++◌, length, map, get_or, Bool, true, false, cond, Option, Some, None, Result, Ok, Err, refl, sym, ◌∙◌, ap, subst, arith, append_assoc}
 use Rattle.std.specs.Prelude.{if◌then◌else◌, option_map, slice_get, IfOk, IfSome, IsSomeAnd, bytes_eq}
 use Rattle.std.specs.List.{position_from}
 use Rattle.std.specs.Str.{is_utf8}
@@ -9,7 +9,6 @@ use Rattle.std.proofs.lemmas.Bool.Decides.{nat_tests}
 use Rattle.std.proofs.lemmas.List.{append-nil}
 use Rattle.std.proofs.lemmas.Option.{slice_get-get_or}
 use Rattle.cer_base.specs.declared.OrMemory.{OrMemory}
-use Rattle.cer_base.specs.declared.OrMemory.TheVariants as answer
 use Rattle.stream_schema.specs.Types.{Declared, DeclaredType}
 use Rattle.stream_schema.specs.Names.{type_number}
 use Rattle.stream_schema.specs.Events.{IsOfKind, AreOfAttrs, IsOfSchema}
@@ -20,7 +19,7 @@ use Rattle.stream_schema.specs.declared.Value.{Value}
 use Rattle.stream_schema.specs.declared.Value.TheVariants as value
 use Rattle.stream_schema.specs.declared.Event.{Event}
 use Rattle.event_reader.specs.declared.EventFault.{EventFault}
-use Rattle.event_reader.specs.declared.EventFault.TheVariants.{BadLine, OpenQuote, UnknownType, FieldCount, BadValue}
+use Rattle.event_reader.specs.declared.EventFault.TheVariants.{BadLine, OpenQuote, UnknownType, BadValue}
 use Rattle.event_reader.specs.Fields.{fields, ends_open}
 use Rattle.event_reader.specs.Values.{value_of, scaled, flag}
 use Rattle.event_reader.specs.Events.{Gives, is_bad, and_then, accepted, values_from, event_of_type, attrs_of, event_of_place, event_of, event_of_record, event_of_text, event_of_line}

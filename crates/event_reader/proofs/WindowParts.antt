@@ -1,14 +1,14 @@
 -- The parts of a window's buffer.
-use Rattle.std.proofs.Common.{◌≡◌, ℕ, ◌+◌, ◌-◌, ◌<◌, ◌≤◌, ◌==◌, List, [], ◌∷◌, ◌++◌, length, take, drop, get_or, Bool, true, false, ◌||◌, All, Option, Some, None, Ok, Err, refl, sym, ◌∙◌, ap, arith, append_assoc, length-append, suc, zero}
+use Rattle.std.proofs.Common.{◌≡◌, ℕ, ◌+◌, ◌-◌, ◌<◌, ◌≤◌, ◌==◌, List, [], ◌∷◌, ◌++◌, length, take, drop, get_or, Bool, true, false, Option, Some, None, Ok, refl, sym, ◌∙◌, ap, arith, append_assoc, suc, zero}
 use Rattle.std.proofs.lemmas.Bool.Decides.{nat_tests}
 use Rattle.std.proofs.lemmas.List.{length-drop, length-take, take-take, drop-take, drop-drop, get_or-take, get_or-drop, take_all, take-append-le}
 use Rattle.std.proofs.Math.Seq.{take-add, take-append-add}
 use Rattle.std.proofs.lemmas.List.Folds.{list_any-append, list_any_none}
 use Rattle.std.specs.List.{list_any}
-use Rattle.cer_outside.specs.Bytes.{Reads, Moves}
+use Rattle.cer_outside.specs.Bytes.{Reads}
 use Rattle.std.proofs.lemmas.Grind.{get_or_default_zero}
 use Rattle.memchr.specs.Find.{NoneBefore, Nowhere, Passes, is_byte}
-use Rattle.event_reader.specs.Windows.{has_feed, Held, between, IsWindow, IsFirstFeed, IsShort, ReadsOn, IsAtEnd}
+use Rattle.event_reader.specs.Windows.{has_feed, Held, between, IsWindow, IsFirstFeed, IsShort, ReadsOn}
 use Rattle.event_reader.proofs.LineBytes.{neither, any_take}
 use Rattle.event_reader.proofs.Texts.{by_cases}
 

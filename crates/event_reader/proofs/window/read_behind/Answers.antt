@@ -1,4 +1,4 @@
-use Rattle.std.proofs.Common.{ℕ, ◌≤◌, ◌∙◌, ◌++◌, length, take, ap, arith}
+use Rattle.std.proofs.Common.{ℕ, ◌∙◌, ◌++◌, take, ap, arith}
 use Rattle.std.proofs.lemmas.List.{length-take, length-drop}
 use Rattle.cer_outside.specs.declared.Failed.{Failed}
 use Rattle.event_reader.proofs.WindowParts.{new_front, reads_behind}

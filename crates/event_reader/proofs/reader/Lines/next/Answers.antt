@@ -4,7 +4,7 @@ use Rattle.event_reader.specs.declared.LineFault.TheVariants.{LineTooLong, Input
 use Rattle.event_reader.specs.declared.reader.Next.{Next}
 use Rattle.event_reader.specs.Reading.{Reader, HasGiven}
 use Rattle.event_reader.specs.contracts.reader.Lines.{the_view}
-use Rattle.event_reader.proofs.NextLines.{next_line, next_ended, next_long, next_full, next_cut, next_last}
+use Rattle.event_reader.proofs.NextLines.{next_line, next_long, next_full, next_cut, next_last}
 use Rattle.event_reader.proofs.reader.Lines.next.Goals as goal
 
 pub returns-in-Ok-Feed-clause-lines : goal.returns-in-Ok-Feed-clause-lines

@@ -1,5 +1,5 @@
 use Rattle.std.proofs.Common.{ap, sym, ◌∙◌, arith, ◌+◌, ◌≡◌, ◌-◌, length}
-use Rattle.event_reader.specs.Windows.{Held, between, has_feed, IsFirstFeed}
+use Rattle.event_reader.specs.Windows.{Held, between, has_feed}
 use Rattle.event_reader.proofs.WindowParts.{searched_none, window_searched, found_plain, found_feed, length_between}
 use Rattle.event_reader.proofs.window.Window.find.Goals as goal
 

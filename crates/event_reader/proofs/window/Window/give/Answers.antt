@@ -1,4 +1,4 @@
-use Rattle.std.proofs.Common.{ap, arith}
+use Rattle.std.proofs.Common.{ap}
 use Rattle.event_reader.specs.Windows.{Held}
 use Rattle.event_reader.proofs.WindowParts.{given_window, given_held}
 use Rattle.event_reader.proofs.window.Window.give.Goals as goal

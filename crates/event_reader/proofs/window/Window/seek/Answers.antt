@@ -1,5 +1,5 @@
-use Rattle.std.proofs.Common.{◌≡◌, false, length, sym, ◌∙◌, ap, subst, arith}
-use Rattle.event_reader.specs.Windows.{Held, has_feed, IsFirstFeed, IsShort}
+use Rattle.std.proofs.Common.{◌≡◌, false, sym, ◌∙◌, ap, subst, arith}
+use Rattle.event_reader.specs.Windows.{Held, has_feed, IsFirstFeed}
 use Rattle.event_reader.proofs.WindowParts.{long_before, long_plain, short_still}
 use Rattle.event_reader.proofs.window.Window.seek.Goals as goal
 

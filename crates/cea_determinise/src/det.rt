@@ -1,9 +1,10 @@
 //! The determinised automaton, which finds its states as events come.
 ghost use Rattle.std.specs.Prelude.{◌≡◌, ◌≢◌, ℕ, ◌+◌, ◌<◌, ◌≤◌, Bool, true, false, List, [], ◌∷◌, ◌++◌, length, take, min, option_map, IfOk, IfErr, OnOk, OnErr, IfSome, All, Some, None, Ok};
 ghost use Rattle.std.specs.Option.{option_copied};
+ghost use Rattle.std.specs.List.{IsDistinct};
 ghost use Rattle.std.specs.Map.{lookup};
 ghost use Rattle.cer_base.specs.Bits.{has, room_for};
-ghost use Rattle.cea_determinise.specs.Keys.{is_same_pair};
+ghost use Rattle.cea_determinise.specs.Keys.{is_same_pair, is_same_place};
 ghost use Rattle.cea_determinise.specs.Runs.{accepts};
 ghost use Rattle.cea_determinise.specs.Cea.{automaton_of, standing, standing_of, IsWellFormed, IsPlace};
 ghost use Rattle.cea_determinise.specs.declared.cea.Place.{Place};
@@ -70,9 +71,10 @@ impl Det {
         0
     }
 
-    /// How many states other than the start were met.
+    /// How many states other than the start were met. No state has two numbers.
     pub fn found(&self) -> u64
-        ensures { result ≡ length self.now.places }
+        ensures count { result ≡ length self.now.places }
+        ensures once { IsDistinct is_same_place self.now.places }
     {
         self.places.len() as u64
     }

@@ -1,3 +1,4 @@
 pub mod Some
 pub mod Below
 pub mod Reached
+pub mod Growth

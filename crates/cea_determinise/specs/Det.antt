@@ -4,6 +4,7 @@ use Rattle.cer_base.specs.Bits.{has, room_for}
 use Rattle.cea_determinise.specs.declared.cea.Cea.{Cea}
 use Rattle.cea_determinise.specs.declared.cea.Place.{Place}
 use Rattle.cea_determinise.specs.declared.table.Pair.{Pair}
+use Rattle.cea_determinise.specs.declared.table.Both.{Both}
 use Rattle.cea_determinise.specs.declared.table.Successors.{Successors}
 use Rattle.cea_determinise.specs.Strict.{Standing, next_standing}
 use Rattle.cea_determinise.specs.Cea.{automaton_of, standing_of, standing, IsWellFormed, IsPlace}
@@ -50,3 +51,28 @@ pub record Reached (old : Table) (state : ℕ) (bits : List Bool) (new : Table) 
   pub more : List Place
   pub places : new.places ≡ old.places ++ more
   pub reached : All (λ p. (mark : Bool) × (Some (standing_of p) ≡ after old.cea old.places state bits mark)) more
+
+-- the pair leads from one of so many states, to such states
+abbrev pub StaysWithin : ℕ → Pair × Successors → Type 0
+StaysWithin n e = (e.0.state ≤ n) × IfSome e.1.marked (λ m. m ≤ n) × IfSome e.1.unmarked (λ m. m ≤ n)
+
+-- The place is the successor, with its sets below the size.
+pub record IsNext (t : Table) (state : ℕ) (bits : List Bool) (mark : Bool) (place : Option Place) : Type 0 where
+  pub exact : option_map standing_of place ≡ after t.cea t.places state bits mark
+  pub sets : IfSome place (IsPlace t.cea.size)
+
+-- both are the successors
+pub record AreBoth (t : Table) (state : ℕ) (bits : List Bool) (b : Both) : Type 0 where
+  pub marked : IsNext t state bits true b.marked
+  pub unmarked : IsNext t state bits false b.unmarked
+
+-- the number is that of the place's state
+pub record IsNumber (places : List Place) (place : Option Place) (n : Option ℕ) : Type 0 where
+  pub exact : option_map (standing_at places) n ≡ option_map standing_of place
+  pub known : IfSome n (λ m. m ≤ length places)
+
+-- the old states stay, and what comes after them is the place alone
+pub record Adds (place : Option Place) (old new : List Place) : Type 0 where
+  pub more : List Place
+  pub places : new ≡ old ++ more
+  pub only : All (λ p. place ≡ Some p) more

@@ -2,3 +2,4 @@ pub mod Runs
 pub mod Strict
 pub mod Cea
 pub mod Det
+pub mod Keys

@@ -22,7 +22,7 @@ pub struct Cea {
 }
 
 /// Where a run stands to its marked events.
-#[derive(Drop, Debug, Clone, Copy, PartialEq, Eq, Hash)]
+#[derive(Drop, Debug, Clone, Copy)]
 pub enum Stage {
     Before,
     Within,
@@ -31,7 +31,7 @@ pub enum Stage {
 
 /// A state other than the start: the leaves that read the last event, those that read an earlier one
 /// and wait for a far follower, and where the run stands to its marks.
-#[derive(Drop, Debug, PartialEq, Eq, Hash)]
+#[derive(Drop, Debug)]
 pub struct Place {
     pub fresh: Bits,
     pub waiting: Bits,

@@ -9,6 +9,7 @@
 
 pub mod cea;
 pub mod det;
+mod keys;
 mod sets;
 mod successor;
 pub mod table;

@@ -1,0 +1,14 @@
+use Rattle.std.proofs.Common.{◌≡◌, ℕ, true, false, subst}
+use Rattle.std.specs.Prelude.{◌&&◌}
+use Rattle.cer_base.specs.Bits.{has}
+use Rattle.cea_determinise.specs.Det.{Table}
+use Rattle.cea_determinise.proofs.Growth.{meets_tells}
+use Rattle.cea_determinise.proofs.det.Det.accepts.Goals as goal
+
+pub returns-in-Some : goal.returns-in-Some
+returns-in-Some c =
+    let r = c.meets.result in
+    let fresh = c.in-Some.place.now.fresh in
+    let some = subst (λ (t : Table). r ≡ true → (k : ℕ) × (has fresh k && has t.cea.last k ≡ true)) c.self.view_is c.meets.ensures.some in
+    let none = subst (λ (t : Table). r ≡ false → (k : ℕ) → has fresh k && has t.cea.last k ≡ false) c.self.view_is c.meets.ensures.none in
+    rw (← c.in-Some.ensures.place) (meets_tells c.args.self.now.cea fresh r c.in-Some.ensures.sets.fresh some none)

@@ -4,7 +4,7 @@ use Rattle.std.specs.List.{range_with_len}
 use Rattle.std.proofs.lemmas.List.Elements.{Contains-append_left, Contains-append_right}
 use Rattle.std.proofs.lemmas.List.FromFn.{get_or-range_with_len, length-range_with_len}
 use Rattle.cel_terms.specs.declared.leaves.Leaves.{Leaves}
-use Rattle.cel_terms.specs.Lawful.{numbers, IsLawful}
+use Rattle.cel_terms.specs.Lawful.{numbers, AreNumbered}
 use Rattle.std.proofs.lemmas.Bool.{eqb-true, and_parts, or_cases, false≢true}
 use Rattle.cel_terms.specs.declared.leaves.Shape.{Shape}
 use Rattle.cel_terms.specs.Shapes.{tree_of_shape}
@@ -84,6 +84,6 @@ in_range size k c = at c.0 c.1 c.2
         let here = get_or-range_with_len 0 size i k within in
         omega arith
 
--- the shape of lawful leaves has numbers of leaves alone
-pub lawful_below : (l : Leaves) → IsLawful l → AreBelow (length l.list) (tree_of_shape l.shape)
-lawful_below l h = below_of_numbers (length l.list) (tree_of_shape l.shape) (λ k c. in_range (length l.list) k (subst (λ ns. Contains ns k) h.order c))
+-- the shape of numbered leaves has numbers of leaves alone
+pub numbered_below : (l : Leaves) → AreNumbered l → AreBelow (length l.list) (tree_of_shape l.shape)
+numbered_below l h = below_of_numbers (length l.list) (tree_of_shape l.shape) (λ k c. in_range (length l.list) k (subst (λ ns. Contains ns k) h c))

@@ -4,7 +4,7 @@ ghost use Rattle.std.specs.Prelude.{◌≡◌, ℕ, Bool, length, slice_get, IfO
 ghost use Rattle.cer_base.specs.Bits.{has, room_for};
 ghost use Rattle.cea_determinise.specs.Cea.{automaton_of as automaton_of_cea};
 ghost use Rattle.cea_compile.specs.LeafAutomaton.{automaton_of_leaves, is_marked};
-ghost use Rattle.cel_terms.specs.Lawful.{IsLawful};
+ghost use Rattle.cel_terms.specs.Lawful.{AreNumbered};
 ghost use Rattle.cea_determinise.specs.Cea.{IsWellFormed};
 
 use crate::ends::ends_of;
@@ -31,7 +31,7 @@ fn marked(alloc: Global, list: &[Leaf]) -> Result<Bits, Memory>
 
 /// The position automaton of the leaves.
 pub fn compile(alloc: Global, leaves: &Leaves) -> Result<Cea, Memory>
-    requires { IsLawful leaves.now }
+    requires { AreNumbered leaves.now }
     ensures automaton { IfOk result (λ a. automaton_of_cea a ≡ automaton_of_leaves leaves.now) }
     ensures strict { IfOk result (λ a. a.strict ≡ leaves.now.strict) }
     ensures well_formed { IfOk result IsWellFormed }

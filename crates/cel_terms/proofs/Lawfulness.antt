@@ -12,7 +12,7 @@ use Rattle.cel_terms.specs.Tree.{Tree, leaf, none, sequence, either, plus}
 use Rattle.cel_terms.specs.Expand.{Occurrence, tree_of}
 use Rattle.cel_terms.specs.Leaves.{occurrences, numbered}
 use Rattle.cel_terms.specs.Shapes.{tree_of_shape, AreLeavesOf}
-use Rattle.cel_terms.specs.Lawful.{numbers, TestHasFewPlaces, IsLawful}
+use Rattle.cel_terms.specs.Lawful.{numbers, TestHasFewPlaces, AreNumbered, IsLawful}
 use Rattle.cel_terms.specs.Tests.{OccurrenceHasFewPlaces, AreMadeOf}
 use Rattle.cel_terms.proofs.Counts.{query_size}
 use Rattle.cel_terms.proofs.Places.{checked_few}
@@ -55,6 +55,9 @@ few_made schema [] [] h few = tt
 few_made schema [] (l ∷ ls) h few = absurd h
 few_made schema (o ∷ os) [] h few = absurd h
 few_made schema (o ∷ os) (l ∷ ls) h few = (All-from_recursion TestHasFewPlaces l.tests.items (h.0.places few.0), few_made schema os ls h.1 few.1)
+
+pub numbered_leaves : (schema : Declared) (q : Query) (leaves : Leaves) → tree_of_shape leaves.shape ≡ numbered 0 (tree_of q) → AreMadeOf schema (occurrences (tree_of q)) leaves.list → AreNumbered leaves
+numbered_leaves schema q leaves shaped made = ap numbers shaped ∙ (numbers_in_turn (tree_of q) 0 ∙ ap (range_with_len 0) (sym (as_many schema (occurrences (tree_of q)) leaves.list made)))
 
 pub lawful : (schema : Declared) (q : Query) (leaves : Leaves) → IsChecked schema q → tree_of_shape leaves.shape ≡ numbered 0 (tree_of q) → AreMadeOf schema (occurrences (tree_of q)) leaves.list → IsLawful leaves
 lawful schema q leaves checked shaped made =

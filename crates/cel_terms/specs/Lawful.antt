@@ -28,8 +28,12 @@ abbrev mutual
   TestsHaveFewPlaces end_of-Test = ⊤
   TestsHaveFewPlaces (more_of-Test test rest) = TestHasFewPlaces test × TestsHaveFewPlaces rest
 
+-- The shape has the number of each leaf once, from left to right.
+abbrev pub AreNumbered : Leaves → Type 0
+AreNumbered leaves = numbers (tree_of_shape leaves.shape) ≡ range_with_len 0 (length leaves.list)
+
 -- At most 2,048 leaves; the shape has the number of each once, from left to right; no literal has more than nine decimal places.
 pub record IsLawful (leaves : Leaves) : Type 0 where
   pub count : length leaves.list ≤ 2048
-  pub order : numbers (tree_of_shape leaves.shape) ≡ range_with_len 0 (length leaves.list)
+  pub order : AreNumbered leaves
   pub places : All (λ l. All TestHasFewPlaces l.tests.items) leaves.list

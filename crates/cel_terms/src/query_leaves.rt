@@ -5,7 +5,7 @@ ghost use Rattle.cel_terms.specs.Checked.{IsChecked};
 ghost use Rattle.cel_terms.specs.Expand.{tree_of};
 ghost use Rattle.cel_terms.specs.Leaves.{occurrences, numbered};
 ghost use Rattle.cel_terms.specs.Shapes.{tree_of_shape, AreLeavesOf};
-ghost use Rattle.cel_terms.specs.Lawful.{IsLawful};
+ghost use Rattle.cel_terms.specs.Lawful.{AreNumbered, IsLawful};
 
 use crate::Query;
 use crate::expand::tree_of;
@@ -22,6 +22,7 @@ pub fn leaves(alloc: Global, schema: &Schema, query: &Query) -> Result<Leaves, M
     ensures shape { IfOk result (λ l. tree_of_shape l.shape ≡ numbered 0 (tree_of query.now)) }
     ensures list { IfOk result (λ l. AreLeavesOf schema.now (occurrences (tree_of query.now)) l.list) }
     ensures strict { IfOk result (λ l. l.strict ≡ query.now.strict) }
+    ensures numbered { IfOk result AreNumbered }
     ensures lawful { IsChecked schema.now query.now → IfOk result IsLawful }
 {
     let draft = tree_of(alloc, query)?;

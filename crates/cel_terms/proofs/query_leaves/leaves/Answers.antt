@@ -3,7 +3,7 @@ use Rattle.cel_terms.specs.Tree.{Tree}
 use Rattle.cel_terms.specs.Expand.{Occurrence, tree_of}
 use Rattle.cel_terms.specs.Leaves.{occurrences, numbered}
 use Rattle.cel_terms.specs.Tests.{AreMadeOf}
-use Rattle.cel_terms.proofs.Lawfulness.{leaves_made, lawful}
+use Rattle.cel_terms.proofs.Lawfulness.{leaves_made, numbered_leaves, lawful}
 use Rattle.cel_terms.proofs.query_leaves.leaves.Goals as goal
 
 pub returns-clause-list : goal.returns-clause-list
@@ -19,6 +19,15 @@ returns-clause-lawful c checked =
     let schema = c.args.schema.now in
     let none = subst (AreMadeOf schema []) (sym c.new-list.ensures.items) tt in
     lawful schema c.args.query.now (record { list = c.of.result; shape = c.in_ok-shape.shape; strict = c.args.query.now.strict }) checked
+    (c.in_ok-shape.ensures.shape ∙ ap₂ (λ n t. numbered n t) (ap length c.new-list.ensures.items) c.in_ok-draft.ensures)
+    (subst (AreMadeOf schema (occurrences (tree_of c.args.query.now))) (sym c.of.ensures)
+    (subst (λ (t : Tree Occurrence). AreMadeOf schema (occurrences t) c.numbered.new.list.items) c.in_ok-draft.ensures (c.in_ok-shape.ensures.list [] none)))
+
+pub returns-clause-numbered : goal.returns-clause-numbered
+returns-clause-numbered c =
+    let schema = c.args.schema.now in
+    let none = subst (AreMadeOf schema []) (sym c.new-list.ensures.items) tt in
+    numbered_leaves schema c.args.query.now (record { list = c.of.result; shape = c.in_ok-shape.shape; strict = c.args.query.now.strict })
     (c.in_ok-shape.ensures.shape ∙ ap₂ (λ n t. numbered n t) (ap length c.new-list.ensures.items) c.in_ok-draft.ensures)
     (subst (AreMadeOf schema (occurrences (tree_of c.args.query.now))) (sym c.of.ensures)
     (subst (λ (t : Tree Occurrence). AreMadeOf schema (occurrences t) c.numbered.new.list.items) c.in_ok-draft.ensures (c.in_ok-shape.ensures.list [] none)))

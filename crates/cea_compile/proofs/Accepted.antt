@@ -55,12 +55,12 @@ module _ (schema : Declared) (q : Query) (events : List Event) (end : ℕ) (posi
   members : (p : ℕ) → (is_listed span p ≡ true) ↔ (IsOfSubstream schema q events end p × (answer.start ≤ p) × (p ≤ end))
   members p = (
     λ h. (
-      let both = and_parts (is_listed positions p) (nat_le answer.start p && nat_le p end) (sym (listed_filter (λ x. nat_le answer.start x && nat_le x end) positions p) ∙ h) in
-      let range = and_parts (nat_le answer.start p) (nat_le p end) both.1 in
-      ((lists.exact p).0 ((listed_is positions p).0 both.0), leb-true answer.start p range.0, leb-true p end range.1)),
+        let both = and_parts (is_listed positions p) (nat_le answer.start p && nat_le p end) (sym (listed_filter (λ x. nat_le answer.start x && nat_le x end) positions p) ∙ h) in
+        let range = and_parts (nat_le answer.start p) (nat_le p end) both.1 in
+        ((lists.exact p).0 ((listed_is positions p).0 both.0), leb-true answer.start p range.0, leb-true p end range.1)),
     λ h. (listed_filter (λ x. nat_le answer.start x && nat_le x end) positions p ∙
-    and_from (is_listed positions p) (nat_le answer.start p && nat_le p end) ((listed_is positions p).1 ((lists.exact p).1 h.0))
-    (and_from (nat_le answer.start p) (nat_le p end) (le-leb answer.start p h.1) (le-leb p end h.2))),
+        and_from (is_listed positions p) (nat_le answer.start p && nat_le p end) ((listed_is positions p).1 ((lists.exact p).1 h.0))
+        (and_from (nat_le answer.start p) (nat_le p end) (le-leb answer.start p h.1) (le-leb p end h.2))),
   )
 
   covers : IsOfSubstream schema q events end answer.start → IsOfSubstream schema q events end end → answer.start ≤ end → Cover (reading (substream schema q events end) (occurrences (tree_of q))) (automaton_of (tree_of q)).size answer.start (map (entry_at schema q events) span) end

@@ -161,10 +161,11 @@ module _ (schema : Declared) (q : Query) (events : List Event) (end : ℕ) where
     bits = λ k. (
       λ r. (
         slice_get_within listed_leaves k r.0 r.1,
-        bits_to k p r.0 r.2.typed.event r.1 r.2.typed.at (and_from (is_typed (type_name schema r.2.typed.event) r.0.type) (all_hold schema r.0.tests r.2.typed.event) (typed_to (type_name schema r.2.typed.event) r.0.type r.2.typed.typed) (tests_to (substream schema q events end) r.0.tests r.2.typed.event r.2.tests))),
+        bits_to k p r.0 r.2.typed.event r.1 r.2.typed.at (and_from (is_typed (type_name schema r.2.typed.event) r.0.type) (all_hold schema r.0.tests r.2.typed.event) (typed_to (type_name schema r.2.typed.event) r.0.type r.2.typed.typed) (tests_to (substream schema q events end) r.0.tests r.2.typed.event r.2.tests)),
+      ),
       λ h. (
-        let b = bits_from (slice_get listed_leaves k) (slice_get events p) h.1 in
-        let parts = and_parts (is_typed (type_name schema b.1) b.0.type) (all_hold schema b.0.tests b.1) b.4 in
-        (b.0, b.2, record { typed = record { event = b.1; at = b.3; typed = typed_from (type_name schema b.1) b.0.type parts.0; within = has }; tests = tests_from (substream schema q events end) b.0.tests b.1 parts.1 })),
+          let b = bits_from (slice_get listed_leaves k) (slice_get events p) h.1 in
+          let parts = and_parts (is_typed (type_name schema b.1) b.0.type) (all_hold schema b.0.tests b.1) b.4 in
+          (b.0, b.2, record { typed = record { event = b.1; at = b.3; typed = typed_from (type_name schema b.1) b.0.type parts.0; within = has }; tests = tests_from (substream schema q events end) b.0.tests b.1 parts.1 })),
     );
   }

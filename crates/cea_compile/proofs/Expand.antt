@@ -11,7 +11,6 @@ use Rattle.cel_terms.specs.declared.Formula.{Formula, Of, Chain', Linked', Eithe
 use Rattle.cel_terms.specs.Predicate.{holds}
 use Rattle.cel_terms.specs.Tree.{Tree, leaf, none, sequence, either, plus}
 use Rattle.cel_terms.specs.Expand.{Occurrence, at_leaves, rename_leaf, test_leaf, filtered, filtered_by_all, filtered_by_any, under_all, postfixed, postfixed_by_all, expand, expand_chain, expand_on, expand_links, expand_choices}
-
 use Rattle.cea_compile.specs.Paths.{AtLeaf, tree_meaning, AllTestsHold}
 use Rattle.cel_terms.specs.Meaning.{Stream, Meaning, Bound, Valuation, Single, Sequence, Repeated, once, again, OneOf, lists_name, with_name, only_names, Renamed, PassesAt, AllHold, Meets, MeetsAll, MeetsAny, Filtered, under, with_postfix, with_postfixes, meaning, first_of_chain, chained, linked, one_of}
 

@@ -1,5 +1,5 @@
 -- A formula means what its tree means.
-use Rattle.std.proofs.Common.{◌≡◌, refl, sym, ap, ap₂, subst, ◌∙◌, ℕ, ◌⊎◌, inl, inr, Bool, true, false, cond, List, [], ◌∷◌, ◌++◌, map, IsTrue}
+use Rattle.std.proofs.Common.{◌≡◌, refl, sym, ap, ap₂, subst, ◌∙◌, ℕ, ◌<◌, ◌&&◌, append_assoc, ◌⊎◌, inl, inr, Bool, true, false, cond, List, [], ◌∷◌, ◌++◌, map, IsTrue}
 use Rattle.std.proofs.lemmas.List.{map-append}
 use Rattle.std.proofs.lemmas.Bool.{false≢true}
 use Rattle.stream_schema.specs.declared.Event.{Event}
@@ -10,9 +10,9 @@ use Rattle.cel_terms.specs.declared.Filter.{Filter, On, All', Any', Row_of-Filte
 use Rattle.cel_terms.specs.declared.Formula.{Formula, Of, Chain', Linked', Either', Post', Under', Row_of-Formula, end_of-Formula, more_of-Formula, Row_of-Link, end_of-Link, more_of-Link}
 use Rattle.cel_terms.specs.Predicate.{holds}
 use Rattle.cel_terms.specs.Tree.{Tree, leaf, none, sequence, either, plus}
-use Rattle.cel_terms.specs.Expand.{Occurrence, at_leaves, rename_leaf, test_leaf, filtered, filtered_by_all, filtered_by_any, under_all, postfixed, postfixed_by_all, expand, expand_chain, expand_on, expand_links, expand_choices}
+use Rattle.cel_terms.specs.Expand.{Occurrence, at_leaves, rename_leaf, test_leaf, filtered, filtered_by_all, filtered_by_any, under_all, repeated, postfixed, postfixed_by_all, expand, expand_chain, expand_on, expand_links, expand_choices}
 use Rattle.cea_compile.specs.Paths.{AtLeaf, tree_meaning, AllTestsHold}
-use Rattle.cel_terms.specs.Meaning.{Stream, Meaning, Bound, Valuation, Single, Sequence, Repeated, once, again, OneOf, lists_name, with_name, only_names, Renamed, PassesAt, AllHold, Meets, MeetsAll, MeetsAny, Filtered, under, with_postfix, with_postfixes, meaning, first_of_chain, chained, linked, one_of}
+use Rattle.cel_terms.specs.Meaning.{Stream, Meaning, Bound, Valuation, MayFollow, Single, Sequence, Repeated, once, again, OneOf, lists_name, with_name, only_names, Renamed, PassesAt, AllHold, Meets, MeetsAll, MeetsAny, Filtered, under, with_postfix, with_postfixes, meaning, first_of_chain, chained, linked, one_of}
 
 -- each valuation of the one is one of the other
 abbrev pub Within : Meaning → Meaning → Type 0
@@ -280,9 +280,52 @@ under_tree : (stream : Stream) (cs : List Filter) (part : Meaning) (t : Tree Occ
 under_tree stream [] part t h = h
 under_tree stream (c ∷ cs) part t h = under_tree stream cs (Filtered stream c part) (filtered c t) (Same_trans _ _ _ (where_same _ _ (Meets stream c) h) (filtered_tree stream c t))
 
+-- what may follow next may follow later
+follows_later : (stream : Stream) (u : Bool) (a b : ℕ) → MayFollow stream u a b → a < b
+follows_later stream true a b f = f.0
+follows_later stream false a b f = f
+
+first_looser : (stream : Stream) (tight u : Bool) (a b : ℕ) → MayFollow stream tight a b → MayFollow stream (tight && u) a b
+first_looser stream true true a b f = f
+first_looser stream true false a b f = f.0
+first_looser stream false u a b f = f
+
+second_looser : (stream : Stream) (tight u : Bool) (a b : ℕ) → MayFollow stream u a b → MayFollow stream (tight && u) a b
+second_looser stream true u a b f = f
+second_looser stream false u a b f = follows_later stream u a b f
+
+-- a repetition, and behind it another one of the same part
+joined_rounds : (stream : Stream) (tight : Bool) (part : Meaning) (s m n e : ℕ) (v w : Valuation) → Repeated stream tight part s m v → MayFollow stream tight m n → Repeated stream tight part n e w → Repeated stream tight part s e (v ++ w)
+joined_rounds stream tight part s m n e v w (once h) f r = again h f r
+joined_rounds stream tight part s m n e v w (again {middle = k} {next = j} {v = x} {w = y} h g q) f r = subst (Repeated stream tight part s e) (sym (append_assoc x y w)) (again h g (joined_rounds stream tight part j m n e y w q f r))
+
+looser_rounds : (stream : Stream) (tight u : Bool) (part : Meaning) (s e : ℕ) (v : Valuation) → Repeated stream u part s e v → Repeated stream (tight && u) part s e v
+looser_rounds stream tight u part s e v (once h) = once h
+looser_rounds stream tight u part s e v (again {middle = m} {next = n} {w = w} h f r) = again h (second_looser stream tight u m n f) (looser_rounds stream tight u part n e w r)
+
+-- A repetition of a repetition repeats the part, next to one another where both do.
+rounds_of_rounds : (stream : Stream) (tight u : Bool) (part : Meaning) (s e : ℕ) (v : Valuation) → Repeated stream tight (Repeated stream u part) s e v → Repeated stream (tight && u) part s e v
+rounds_of_rounds stream tight u part s e v (once h) = looser_rounds stream tight u part s e v h
+rounds_of_rounds stream tight u part s e v (again {middle = m} {next = n} {v = x} {w = y} h f r) = joined_rounds stream (tight && u) part s m n e x y (looser_rounds stream tight u part s m x h) (first_looser stream tight u m n f) (rounds_of_rounds stream tight u part n e y r)
+
+each_round_alone : (stream : Stream) (u : Bool) (part : Meaning) (s e : ℕ) (v : Valuation) → Repeated stream false part s e v → Repeated stream false (Repeated stream u part) s e v
+each_round_alone stream u part s e v (once h) = once (once h)
+each_round_alone stream u part s e v (again {next = n} {w = w} h f r) = again (once h) f (each_round_alone stream u part n e w r)
+
+rounds_in_rounds : (stream : Stream) (tight u : Bool) (part : Meaning) (s e : ℕ) (v : Valuation) → Repeated stream (tight && u) part s e v → Repeated stream tight (Repeated stream u part) s e v
+rounds_in_rounds stream true u part s e v h = once h
+rounds_in_rounds stream false u part s e v h = each_round_alone stream u part s e v h
+
+repeated_tree : (stream : Stream) (tight : Bool) (part : Meaning) (t : Tree Occurrence) → Same part (tree_meaning stream t) → Same (Repeated stream tight part) (tree_meaning stream (repeated tight t))
+repeated_tree stream tight part (leaf l) h = repeated_same stream tight _ _ h
+repeated_tree stream tight part none h = repeated_same stream tight _ _ h
+repeated_tree stream tight part (sequence u a b) h = repeated_same stream tight _ _ h
+repeated_tree stream tight part (either a b) h = repeated_same stream tight _ _ h
+repeated_tree stream tight part (plus u a) h = Same_trans _ _ _ (repeated_same stream tight _ _ h) record { to = rounds_of_rounds stream tight u (tree_meaning stream a); back = rounds_in_rounds stream tight u (tree_meaning stream a) }
+
 postfixed_tree : (stream : Stream) (p : Postfix) (part : Meaning) (t : Tree Occurrence) → Same part (tree_meaning stream t) → Same (with_postfix stream p part) (tree_meaning stream (postfixed p t))
-postfixed_tree stream Plus part t h = repeated_same stream false _ _ h
-postfixed_tree stream NextPlus part t h = repeated_same stream true _ _ h
+postfixed_tree stream Plus part t h = repeated_tree stream false part t h
+postfixed_tree stream NextPlus part t h = repeated_tree stream true part t h
 postfixed_tree stream (Named name) part t h = Same_trans _ _ _ (renamed_same (with_name name.text) _ _ h) (renamed_tree stream (with_name name.text) t)
 postfixed_tree stream (Keep names) part t h = Same_trans _ _ _ (renamed_same (only_names names) _ _ h) (renamed_tree stream (only_names names) t)
 

@@ -1,5 +1,5 @@
 -- A formula's tree has as many leaves as are counted.
-use Rattle.std.proofs.Common.{◌≡◌, refl, sym, ap, ap₂, ◌∙◌, ℕ, ◌+◌, ◌*◌, false, List, [], ◌∷◌, length, Option, Some, None, arith, length-append, mul_assoc, mul-one, mul-add}
+use Rattle.std.proofs.Common.{◌≡◌, refl, sym, ap, ap₂, ◌∙◌, ℕ, ◌+◌, ◌*◌, Bool, true, false, List, [], ◌∷◌, length, Option, Some, None, arith, length-append, mul_assoc, mul-one, mul-add}
 use Rattle.cel_terms.specs.declared.Name.{Name}
 use Rattle.cel_terms.specs.declared.Query.{Query}
 use Rattle.cel_terms.specs.declared.Postfix.{Postfix}
@@ -8,7 +8,7 @@ use Rattle.cel_terms.specs.declared.Filter.{Filter, On, All', Any', Row_of-Filte
 use Rattle.cel_terms.specs.declared.Formula.{Formula, Of, Chain', Linked', Either', Post', Under', Row_of-Formula, end_of-Formula, more_of-Formula, Row_of-Link, end_of-Link, more_of-Link}
 use Rattle.cel_terms.specs.Checked.{weight, product_of_weights, sum_of_weights, times_weights, leaf_count, leaf_count_of_all, leaf_count_of_links}
 use Rattle.cel_terms.specs.Tree.{Tree, leaf, none, sequence, either, plus}
-use Rattle.cel_terms.specs.Expand.{Occurrence, at_leaves, rename_leaf, test_leaf, filtered, filtered_by_all, filtered_by_any, under_all, postfixed, postfixed_by_all, expand, expand_chain, expand_on, expand_links, expand_choices, selected_tree, tree_of}
+use Rattle.cel_terms.specs.Expand.{Occurrence, at_leaves, rename_leaf, test_leaf, filtered, filtered_by_all, filtered_by_any, under_all, repeated, postfixed, postfixed_by_all, expand, expand_chain, expand_on, expand_links, expand_choices, selected_tree, tree_of}
 use Rattle.cel_terms.specs.Leaves.{occurrences}
 use Rattle.cel_terms.specs.Meaning.{with_name, only_names}
 
@@ -43,9 +43,16 @@ under_size : (cs : List Filter) (t : Tree Occurrence) → size (under_all cs t) 
 under_size [] t = refl
 under_size (c ∷ cs) t = under_size cs (filtered c t) ∙ ap (λ n. times_weights n cs) (filtered_size c t)
 
+repeated_size : (tight : Bool) (t : Tree Occurrence) → size (repeated tight t) ≡ size t
+repeated_size tight (leaf l) = refl
+repeated_size tight none = refl
+repeated_size tight (sequence u a b) = refl
+repeated_size tight (either a b) = refl
+repeated_size tight (plus u a) = refl
+
 postfixed_size : (p : Postfix) (t : Tree Occurrence) → size (postfixed p t) ≡ size t
-postfixed_size Plus t = refl
-postfixed_size NextPlus t = refl
+postfixed_size Plus t = repeated_size false t
+postfixed_size NextPlus t = repeated_size true t
 postfixed_size (Named name) t = at_leaves_size (rename_leaf (with_name name.text)) t
 postfixed_size (Keep names) t = at_leaves_size (rename_leaf (only_names names)) t
 

@@ -14,7 +14,7 @@ use Rattle.cel_terms.specs.declared.Formula.{Formula, Of, Chain', Linked', Eithe
 use Rattle.cel_terms.specs.Meaning.{lists_name, with_name, only_names}
 use Rattle.cel_terms.specs.Checked.{IsChecked, types_read, names_of, IsCheckedPred, AreCheckedPreds, MorePredsChecked, IsCheckedFilter, AreCheckedFilters, MoreFiltersChecked, IsCheckedFormula, AreCheckedFormulas, MoreFormulasChecked, AreCheckedLinks, MoreLinksChecked}
 use Rattle.cel_terms.specs.Tree.{Tree, leaf, none, sequence, either, plus}
-use Rattle.cel_terms.specs.Expand.{Occurrence, at_leaves, rename_leaf, test_leaf, filtered, filtered_by_all, filtered_by_any, under_all, postfixed, postfixed_by_all, expand, expand_chain, expand_on, expand_links, expand_choices, selected_tree, tree_of}
+use Rattle.cel_terms.specs.Expand.{Occurrence, at_leaves, rename_leaf, test_leaf, filtered, filtered_by_all, filtered_by_any, under_all, repeated, postfixed, postfixed_by_all, expand, expand_chain, expand_on, expand_links, expand_choices, selected_tree, tree_of}
 use Rattle.cel_terms.specs.Leaves.{occurrences}
 use Rattle.cel_terms.specs.Tests.{PredHasFewPlaces, PredsHaveFewPlaces, OccurrenceHasFewPlaces}
 
@@ -82,9 +82,16 @@ few_under : (types : List DeclaredType) (names : List (List ℕ)) (cs : List Fil
 few_under types names [] h t few = few
 few_under types names (c ∷ cs) h t few = few_under types names cs h.1 (filtered c t) (few_filtered types names c h.0 t few)
 
+few_repeated : (tight : Bool) (t : Tree Occurrence) → FewTree t → FewTree (repeated tight t)
+few_repeated tight (leaf l) few = few
+few_repeated tight none few = few
+few_repeated tight (sequence u a b) few = few
+few_repeated tight (either a b) few = few
+few_repeated tight (plus u a) few = few
+
 few_postfixed : (p : Postfix) (t : Tree Occurrence) → FewTree t → FewTree (postfixed p t)
-few_postfixed Plus t few = few
-few_postfixed NextPlus t few = few
+few_postfixed Plus t few = few_repeated false t few
+few_postfixed NextPlus t few = few_repeated true t few
 few_postfixed (Named name) t few = few_renamed (with_name name.text) t few
 few_postfixed (Keep names) t few = few_renamed (only_names names) t few
 

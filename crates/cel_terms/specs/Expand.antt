@@ -1,5 +1,5 @@
 -- The tree of leaves of a formula: filters and names are carried to the types that they speak of. After "CORE: a Complex Event Recognition Engine" (PVLDB 2022).
-use Rattle.std.specs.Prelude.{ℕ, true, false, cond, List, [], ◌∷◌, Option, Some, None}
+use Rattle.std.specs.Prelude.{ℕ, Bool, true, false, ◌&&◌, cond, List, [], ◌∷◌, Option, Some, None}
 use Rattle.cel_terms.specs.declared.Name.{Name}
 use Rattle.cel_terms.specs.declared.Pred.{Pred}
 use Rattle.cel_terms.specs.declared.Postfix.{Postfix}
@@ -50,9 +50,17 @@ abbrev pub under_all : List Filter → Tree Occurrence → Tree Occurrence
 under_all [] t = t
 under_all (f ∷ fs) t = under_all fs (filtered f t)
 
+-- One or more of a tree. A tree that repeats already is repeated no further, and is tight where both are.
+abbrev pub repeated : Bool → Tree Occurrence → Tree Occurrence
+repeated tight (leaf l) = plus tight (leaf l)
+repeated tight none = plus tight none
+repeated tight (sequence u a b) = plus tight (sequence u a b)
+repeated tight (either a b) = plus tight (either a b)
+repeated tight (plus u a) = plus (tight && u) a
+
 abbrev pub postfixed : Postfix → Tree Occurrence → Tree Occurrence
-postfixed Plus t = plus false t
-postfixed NextPlus t = plus true t
+postfixed Plus t = repeated false t
+postfixed NextPlus t = repeated true t
 postfixed (Named name) t = at_leaves (rename_leaf (with_name name.text)) t
 postfixed (Keep names) t = at_leaves (rename_leaf (only_names names)) t
 

@@ -2,7 +2,7 @@
 
 ghost use Rattle.std.specs.Prelude.{◌≡◌, IfOk};
 ghost use Rattle.cel_terms.specs.Tree.{sequence, either, plus};
-ghost use Rattle.cel_terms.specs.Expand.{at_leaves};
+ghost use Rattle.cel_terms.specs.Expand.{at_leaves, repeated};
 ghost use Rattle.cel_terms.specs.Drafts.{tree_of_draft, change_leaf};
 
 use crate::occurrence::{Change, Occurrence};
@@ -55,6 +55,19 @@ pub fn plus<'q>(alloc: Global, tight: bool, part: Draft<'q>) -> Result<Draft<'q>
         tight,
         part: Box::new(alloc, part)?,
     })
+}
+
+/// One or more of the tree. One that repeats already repeats no further, and is tight where both are.
+pub fn repeated<'q>(alloc: Global, tight: bool, part: Draft<'q>) -> Result<Draft<'q>, Memory>
+    ensures { IfOk result (λ some. tree_of_draft some ≡ repeated tight (tree_of_draft part.entry)) }
+{
+    match part {
+        Draft::Plus { tight: inner, part } => Ok(Draft::Plus {
+            tight: tight && inner,
+            part,
+        }),
+        other => plus(alloc, tight, other),
+    }
 }
 
 /// The tree with the change made at each leaf.

@@ -4,7 +4,7 @@ ghost use Rattle.std.specs.Prelude.{◌≡◌, IfOk, fold};
 ghost use Rattle.cel_terms.specs.Expand.{filtered, under_all, postfixed, postfixed_by_all, expand, tree_of};
 ghost use Rattle.cel_terms.specs.Drafts.{tree_of_draft, any_of, chain_of, links_of, choices_of};
 
-use crate::draft::{Draft, at_leaves, either, plus, sequence};
+use crate::draft::{Draft, at_leaves, either, repeated, sequence};
 use crate::occurrence::{Change, Occurrence};
 use crate::{Filter, Formula, Link, Postfix, Query};
 use cer_base::Memory;
@@ -82,8 +82,8 @@ fn postfixed<'q>(alloc: Global, postfix: &'q Postfix, draft: Draft<'q>) -> Resul
     ensures { IfOk result (λ after. tree_of_draft after ≡ postfixed postfix.now (tree_of_draft draft.entry)) }
 {
     match postfix {
-        Postfix::Plus => plus(alloc, false, draft),
-        Postfix::NextPlus => plus(alloc, true, draft),
+        Postfix::Plus => repeated(alloc, false, draft),
+        Postfix::NextPlus => repeated(alloc, true, draft),
         Postfix::Named(name) => at_leaves(alloc, &Change::Named(name), &draft),
         Postfix::Keep(names) => at_leaves(alloc, &Change::Keep(names.as_slice()), &draft),
     }

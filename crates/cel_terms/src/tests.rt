@@ -284,7 +284,7 @@ fn leaves_of_the_rows(rt: HostRuntime) -> Result<(), Fail> {
         (
             Row::Repeated,
             &[(1, true, "[]")],
-            "Plus { tight: true, part: Plus { tight: false, part: Leaf(0) } }",
+            "Plus { tight: false, part: Leaf(0) }",
         ),
     ];
     for (row, wanted, shape) in rows {

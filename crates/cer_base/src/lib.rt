@@ -141,4 +141,11 @@ impl<T> Listed<T> {
     {
         self.items.as_slice()
     }
+
+    /// The items, handed over.
+    pub fn into_vec(self) -> Vec<T>
+        ensures { result.items ≡ self }
+    {
+        self.items
+    }
 }

@@ -1,0 +1,34 @@
+-- The first fault among some tests, each with the place where it is told. This project's profile.
+use Rattle.std.specs.Prelude.{◌≡◌, ℕ, Bool, true, false, List, [], ◌∷◌, Option, Some, None, Result, Ok, Err}
+use Rattle.std.specs.Option.{option_or}
+use Rattle.cer_base.specs.declared.OrMemory.{OrMemory}
+use Rattle.cer_base.specs.declared.OrMemory.TheVariants as wanted
+use Rattle.cer_base.specs.declared.Place.{Place}
+use Rattle.cel_terms.specs.declared.Name.{Name}
+use Rattle.ceql_parser.specs.declared.faults.QueryFault.{QueryFault}
+use Rattle.ceql_parser.specs.declared.faults.QueryError.{QueryError}
+
+-- what is found at the first of the list at which anything is
+abbrev pub first_in : {X Y : Type 0} → (X → Option Y) → List X → Option Y
+first_in find [] = None
+first_in find (x ∷ xs) = option_or (find x) (first_in find xs)
+
+-- the first fault of these
+abbrev pub first : List (Option QueryError) → Option QueryError
+first [] = None
+first (o ∷ os) = option_or o (first os)
+
+-- the fault, where the test fails
+abbrev pub unless : Bool → QueryFault → Place → Option QueryError
+unless true fault place = None
+unless false fault place = Some (record { fault = fault; place = place })
+
+-- the same with a name, which is told with the fault, and whose place it is
+abbrev pub unless_named : Bool → (List ℕ → QueryFault) → Name → Option QueryError
+unless_named passes fault name = unless passes (fault name.text) name.place
+
+-- A call answers the fault, exactly where there is one, unless memory ran out.
+abbrev pub Tells : {T : Type 0} → Result T (OrMemory QueryError) → Option QueryError → Type 0
+Tells (Ok value) fault = fault ≡ None
+Tells (Err (wanted.Fault error)) fault = fault ≡ Some error
+Tells (Err wanted.Memory) fault = Unit {0}

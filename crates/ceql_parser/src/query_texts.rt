@@ -1,0 +1,49 @@
+//! A query text, from its bytes to its schema and checked queries.
+
+ghost use Rattle.std.specs.Prelude.{◌≡◌, All, IfOk};
+ghost use Rattle.cel_terms.specs.Checked.{IsChecked};
+ghost use Rattle.ceql_parser.specs.QueryTexts.{IsAnswerOfText, TextAnswer, accepted_view};
+ghost use Rattle.ceql_parser.specs.Texts.{WhereAnswered};
+
+use crate::checking::{Accepted, check};
+use crate::faults::{QueryError, QueryFault};
+use crate::parsing::parse;
+use ceql_lexer::lex;
+use cer_base::{OrMemory, Place};
+use std::alloc::Global;
+
+/// How many bytes a query text has at most.
+const LONGEST: usize = 1_048_576;
+
+/// The place of a text's first byte.
+const FIRST: Place = Place { line: 1, col: 1 };
+
+/// What the text declares, and its queries in order. Each is checked for the schema.
+///
+/// Errors, the first of these: `TextTooLong` where the text has more than 1,048,576 bytes; the fault of
+/// its tokens, of its nesting, of its grammar, of its statements, as `lex`, `parse` and `check` have
+/// them. Besides only `Memory`, where an allocation is refused.
+pub fn read_queries(alloc: Global, text: &[u8]) -> Result<Accepted, OrMemory<QueryError>>
+    // What is answered is the answer of this text, unless memory ran out.
+    ensures found { WhereAnswered accepted_view result (λ answer. IsAnswerOfText text.now answer) }
+    // This text has no other answer.
+    ensures only { (answer : TextAnswer) → IsAnswerOfText text.now answer → WhereAnswered accepted_view result (λ given. given ≡ answer) }
+    ensures checked { IfOk result (λ accepted. All (IsChecked accepted.schema) accepted.queries) }
+{
+    if text.len() > LONGEST {
+        let fault = QueryFault::TextTooLong;
+        return Err(OrMemory::Fault(QueryError {
+            fault,
+            place: FIRST,
+        }));
+    }
+    let tokens = match lex(alloc, text) {
+        Ok(tokens) => tokens,
+        Err(OrMemory::Fault(error)) => return Err(OrMemory::Fault(QueryError::from(error))),
+        Err(OrMemory::Memory) => return Err(OrMemory::Memory),
+    };
+    match parse(alloc, &tokens) {
+        Ok(script) => check(alloc, script),
+        Err(stop) => Err(stop),
+    }
+}

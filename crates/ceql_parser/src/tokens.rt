@@ -1,0 +1,135 @@
+//! Single tokens: words, signs and names.
+
+ghost use Rattle.ceql_parser.specs.Given.{Gives, GivesRest, Skips};
+ghost use Rattle.ceql_parser.specs.Marks.{among, is, is_name, name_of, spelled};
+ghost use Rattle.ceql_parser.specs.Reading.{name, nothing, token};
+ghost use Rattle.ceql_parser.specs.Rules.{first};
+ghost use Rattle.std.specs.Char.{to_ascii_uppercase};
+ghost use Rattle.std.specs.Str.{str_to_ascii_uppercase};
+ghost use Rattle.std.specs.Prelude.{◌≡◌, ◌<◌, ◌↔◌, IfOk, IfSome, IsTrue, bytes_eq, length, map};
+
+use cel_terms::Name;
+use ceql_lexer::{Token, TokenKind};
+use cer_base::{Memory, OrMemory, Text};
+use std::alloc::Global;
+
+/// The tokens behind what was read, or the tokens from the first on that does not fit.
+pub type Rest<'a> = Result<&'a [Token], OrMemory<&'a [Token]>>;
+
+/// The same with a value of what was read.
+pub type Read<'a, X> = Result<(X, &'a [Token]), OrMemory<&'a [Token]>>;
+
+/// Whether the word is the keyword in some ASCII case; the keyword stands in capitals.
+fn is_case_of(word: &[u8], keyword: &[u8]) -> bool
+    ensures { IsTrue result ↔ (map to_ascii_uppercase word.now ≡ keyword.now) }
+{
+    if word.len() != keyword.len() {
+        return false;
+    }
+    for (i, byte) in word.iter().enumerate() {
+        if byte.to_ascii_uppercase() != keyword[i] {
+            return false;
+        }
+    }
+    true
+}
+
+/// Whether the word in capitals is the keyword.
+fn in_capitals_is(word: &[u8], keyword: &[u8]) -> bool
+    ensures { result ≡ bytes_eq (str_to_ascii_uppercase word.now) keyword.now }
+{
+    is_case_of(word, keyword)
+}
+
+/// Whether the bytes spell the mark.
+fn spells(kind: TokenKind, text: &[u8], mark: &[u8]) -> bool
+    ensures { result ≡ bytes_eq (spelled kind text.now) mark.now }
+{
+    match kind {
+        TokenKind::Keyword => in_capitals_is(text, mark),
+        TokenKind::Sign => text == mark,
+        TokenKind::Name
+        | TokenKind::Number
+        | TokenKind::Decimal
+        | TokenKind::Quoted
+        | TokenKind::End => mark.is_empty(),
+    }
+}
+
+/// Whether the token is this sign, or this keyword in some ASCII case.
+pub fn is(token: &Token, mark: &[u8]) -> bool
+    ensures { result ≡ is mark.now token.now }
+{
+    spells(token.kind, token.text.as_str().as_bytes(), mark)
+}
+
+/// Whether the token is a word that is no keyword.
+pub fn is_name(token: &Token) -> bool
+    ensures { result ≡ is_name token.now }
+{
+    match token.kind {
+        TokenKind::Name => true,
+        TokenKind::Keyword
+        | TokenKind::Sign
+        | TokenKind::Number
+        | TokenKind::Decimal
+        | TokenKind::Quoted
+        | TokenKind::End => false,
+    }
+}
+
+/// The token as a name.
+pub fn name_of(alloc: Global, token: &Token) -> Result<Name, Memory>
+    ensures { IfOk result (λ n. n ≡ name_of token.now) }
+{
+    Ok(Name {
+        text: Text::copy_of(alloc, token.text.as_str())?,
+        place: token.place,
+    })
+}
+
+/// The tokens behind this word or sign, where it stands in front.
+pub fn skip<'a>(tokens: &'a [Token], mark: &[u8]) -> Option<&'a [Token]>
+    ensures value { Skips result (first (is mark.now) nothing tokens.now) }
+    ensures shorter { IfSome result (λ rest. length rest.now < length tokens.now) }
+{
+    match tokens.split_first() {
+        Some((first, rest)) => { if is(first, mark) { Some(rest) } else { None } }
+        None => None,
+    }
+}
+
+/// The tokens behind this word or sign, which has to stand in front.
+pub fn behind<'a>(tokens: &'a [Token], mark: &[u8]) -> Rest<'a>
+    ensures value { GivesRest result (token mark.now tokens.now) }
+    ensures shorter { IfOk result (λ rest. length rest.now < length tokens.now) }
+{
+    match tokens.split_first() {
+        Some((first, rest)) => {
+            if is(first, mark) {
+                Ok(rest)
+            } else {
+                Err(OrMemory::Fault(tokens))
+            }
+        }
+        None => Err(OrMemory::Fault(tokens)),
+    }
+}
+
+/// A name at the front.
+pub fn name<'a>(alloc: Global, tokens: &'a [Token]) -> Read<'a, Name>
+    ensures value { Gives (λ n. n) result (name tokens.now) }
+    ensures shorter { IfOk result (λ p. length p.1.now < length tokens.now) }
+{
+    match tokens.split_first() {
+        Some((first, rest)) => {
+            if is_name(first) {
+                let name = name_of(alloc, first)?;
+                Ok((name, rest))
+            } else {
+                Err(OrMemory::Fault(tokens))
+            }
+        }
+        None => Err(OrMemory::Fault(tokens)),
+    }
+}

@@ -1,0 +1,70 @@
+//! A query's conditions and its determinised automaton, made from its terms.
+
+ghost use Rattle.std.specs.Prelude.{◌≡◌, ◌≤◌, length, IfOk};
+
+use cea_compile::compile;
+use cea_determinise::det::Det;
+use cea_determinise::table::{State, Successors};
+use cel_terms::Query;
+use cel_terms::query_leaves::leaves;
+use cer_base::Memory;
+use cer_base::steps::Steps;
+use predicate_bits::conditions::Conditions;
+use std::alloc::Global;
+use std::marker::Model;
+use std::sync::ledger::Ledger;
+use stream_schema::{Event, Schema};
+
+/// What takes the events of a query: its conditions and its automaton, of as many leaves. Seen as the
+/// number of its leaves.
+#[derive(Drop)]
+pub struct Machine {
+    conditions: Conditions,
+    det: Det,
+}
+
+impl Model for Machine {
+    ghost use Rattle.std.specs.Prelude.{◌≡◌, ℕ, length};
+
+    ghost Value = { ℕ };
+
+    ghost view = { λ m. length m.conditions };
+
+    ghost invariant = { λ m. length m.conditions ≡ m.det.cea.size };
+}
+
+impl Machine {
+    /// The machine of the query, with no state met yet.
+    pub fn of(alloc: Global, schema: &Schema, query: &Query) -> Result<Machine, Memory> {
+        let leaves = leaves(alloc, schema, query)?;
+        let det = Det::new(alloc, compile(alloc, &leaves)?)?;
+        let conditions = Conditions::of(alloc, leaves.list)?;
+        Ok(Machine { conditions, det })
+    }
+
+    /// How many states other than the start were met.
+    pub fn found(&self) -> u64 {
+        self.det.found()
+    }
+
+    /// Whether there is such a state and it accepts.
+    pub fn accepts(&self, state: State) -> bool {
+        state <= self.det.found() && self.det.accepts(state)
+    }
+
+    /// The successors of the state on the event, None where there is no such state.
+    pub fn successors<L: Ledger>(
+        &mut self,
+        alloc: Global,
+        state: State,
+        event: &Event,
+        steps: &mut Steps<L>,
+    ) -> Result<Option<Successors>, Memory> {
+        if state > self.det.found() {
+            return Ok(None);
+        }
+        let mut bits = self.conditions.blank(alloc)?;
+        self.conditions.fill(event, &mut bits);
+        Ok(Some(self.det.next(state, &bits, steps)?))
+    }
+}

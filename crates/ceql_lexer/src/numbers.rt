@@ -10,7 +10,7 @@ use crate::front::Piece;
 use crate::{LexFault, TokenKind};
 
 /// The most digits behind a point.
-const MOST_DECIMALS: usize = 9;
+pub const MOST_DECIMALS: usize = 9;
 
 /// How many digits stand at the front.
 fn digits_len(text: &[u8]) -> usize
@@ -32,7 +32,7 @@ fn decimals_at(text: &[u8]) -> &[u8]
 }
 
 /// The value with the digit behind its digits, where that is at most the limit.
-fn with_digit(limit: u64, value: u64, digit: u8) -> Option<u64>
+pub fn with_digit(limit: u64, value: u64, digit: u8) -> Option<u64>
     ensures { MatchOption result (limit < value * 10 + (digit - 48)) (λ x. (x ≡ value * 10 + (digit - 48)) × (x ≤ limit)) }
 {
     let value = value

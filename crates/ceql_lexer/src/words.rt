@@ -97,7 +97,7 @@ const KEYWORDS: [&[u8]; 31] = [
 ];
 
 /// Whether the word in capitals is the keyword.
-fn in_capitals_is(word: &[u8], keyword: &[u8]) -> bool
+pub fn in_capitals_is(word: &[u8], keyword: &[u8]) -> bool
     ensures { result ≡ bytes_eq (str_to_ascii_uppercase word.now) keyword.now }
 {
     is_case_of(word, keyword)

@@ -4,11 +4,12 @@ use Rattle.std.specs.Prelude.{Vec, Box}
 use Rattle.std.specs.declared.alloc.Global.{Global}
 use Rattle.std.proofs.lemmas.Bool.{cases_lt}
 use Rattle.std.proofs.Math.Nat.{mul-zero, mul_comm, mul_assoc, le-mul_of_pos_right}
-use Rattle.cel_terms.specs.declared.Filter.{Filter, All, Any, All', Any', Row_of-Filter, end_of-Filter, more_of-Filter, items-the_row-Filter, items_hidden-the_row-Filter-0}
+use Rattle.cel_terms.specs.declared.Filter.{Filter, All, Any, Row_of-Filter, end_of-Filter, more_of-Filter, items-the_row-Filter, items_hidden-the_row-Filter-0}
 use Rattle.cel_terms.specs.declared.Link.{Link}
-use Rattle.cel_terms.specs.declared.Formula.{Formula, Chain, Chain', Linked, Linked', Either, Either', Row_of-Formula, end_of-Formula, more_of-Formula, items-the_row-Formula, items_hidden-the_row-Formula-0, Row_of-Link, end_of-Link, more_of-Link, items-the_row-Link, items_hidden-the_row-Link-1}
+use Rattle.cel_terms.specs.declared.Formula.{Formula, Chain, Linked, Either, Row_of-Formula, end_of-Formula, more_of-Formula, items-the_row-Formula, items_hidden-the_row-Formula-0, Row_of-Link, end_of-Link, more_of-Link, items-the_row-Link, items_hidden-the_row-Link-1}
 use Rattle.cel_terms.specs.Checked.{leaf_count, leaf_count_of_all, leaf_count_of_links, weight, product_of_weights, sum_of_weights, times_weights}
 use Rattle.ceql_parser.specs.Walks.{capped, link_leaves, sum_of, product_of}
+use Rattle.ceql_parser.proofs.TermRows.{row_of, links_in, filters_in}
 
 pub capped_at_most : (n : ℕ) → capped n ≤ 2049
 capped_at_most n = omega arith
@@ -63,11 +64,6 @@ sums_listed : (n : _) (row : Row_of-Filter n) → sum_of_weights row ≡ sum_of 
 sums_listed n end_of-Filter = refl
 sums_listed n (more_of-Filter c rest) = ap (λ m. weight c + m) (sums_listed _ rest)
 
-abbrev filters_in : Filter → (n : _) × Row_of-Filter n
-filters_in (All' _ row) = (_, row)
-filters_in (Any' _ row) = (_, row)
-filters_in _ = (_, end_of-Filter)
-
 pub all_weigh : (filters : Vec Filter Global) → weight (All filters) ≡ product_of filters.items
 all_weigh filters =
     let row = filters_in (All filters) in
@@ -89,15 +85,6 @@ leaves_listed n (more_of-Formula f rest) = ap (λ m. leaf_count f + m) (leaves_l
 links_listed : (n : _) (row : Row_of-Link n) → leaf_count_of_links row ≡ sum_of link_leaves (items-the_row-Link n row)
 links_listed n end_of-Link = refl
 links_listed n (more_of-Link tight next rest) = ap (λ m. leaf_count next + m) (links_listed _ rest)
-
-abbrev row_of : Formula → (n : _) × Row_of-Formula n
-row_of (Chain' _ row) = (_, row)
-row_of (Either' _ row) = (_, row)
-row_of _ = (_, end_of-Formula)
-
-abbrev links_in : Formula → (n : _) × Row_of-Link n
-links_in (Linked' _ _ _ row) = (_, row)
-links_in _ = (_, end_of-Link)
 
 pub chain_leaves : (parts : Vec Formula Global) → leaf_count (Chain parts) ≡ sum_of leaf_count parts.items
 chain_leaves parts =

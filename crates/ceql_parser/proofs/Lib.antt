@@ -11,6 +11,7 @@ pub mod DeclarationRules
 pub mod SelectRules
 pub mod StatementRules
 pub mod TextRules
+pub mod TermRows
 pub mod Walks
 pub mod Turns
 pub mod Exits

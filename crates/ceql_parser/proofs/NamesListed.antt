@@ -6,10 +6,11 @@ use Rattle.std.specs.declared.alloc.Global.{Global}
 use Rattle.cel_terms.specs.declared.Postfix.{Postfix}
 use Rattle.cel_terms.specs.declared.Postfix.TheVariants.{Plus, NextPlus, Named, Keep}
 use Rattle.cel_terms.specs.declared.Link.{Link}
-use Rattle.cel_terms.specs.declared.Formula.{Formula, Chain, Chain', Linked, Linked', Either, Either', Row_of-Formula, end_of-Formula, more_of-Formula, items-the_row-Formula, items_hidden-the_row-Formula-0, Row_of-Link, end_of-Link, more_of-Link, items-the_row-Link, items_hidden-the_row-Link-1}
+use Rattle.cel_terms.specs.declared.Formula.{Formula, Chain, Linked, Either, Row_of-Formula, end_of-Formula, more_of-Formula, items-the_row-Formula, items_hidden-the_row-Formula-0, Row_of-Link, end_of-Link, more_of-Link, items-the_row-Link, items_hidden-the_row-Link-1}
 use Rattle.cel_terms.specs.Meaning.{lists_name}
 use Rattle.cel_terms.specs.Checked.{names_of, names_of_all, names_of_links, names_after}
 use Rattle.ceql_parser.specs.Walks.{adds_name, link_has_name}
+use Rattle.ceql_parser.proofs.TermRows.{row_of, links_in}
 
 or_or : (a b c : Bool) → ((a || b) || c) ≡ (a || (b || c))
 or_or true b c = refl
@@ -41,15 +42,6 @@ all_listed name n (more_of-Formula f rest) = lists_append (names_of f) (names_of
 links_listed : (name : List ℕ) (n : _) (row : Row_of-Link n) → lists_name (names_of_links row) name ≡ list_any (link_has_name name) (items-the_row-Link n row)
 links_listed name n end_of-Link = refl
 links_listed name n (more_of-Link tight next rest) = lists_append (names_of next) (names_of_links rest) name ∙ ap (λ b. lists_name (names_of next) name || b) (links_listed name _ rest)
-
-abbrev row_of : Formula → (n : _) × Row_of-Formula n
-row_of (Chain' _ row) = (_, row)
-row_of (Either' _ row) = (_, row)
-row_of _ = (_, end_of-Formula)
-
-abbrev links_in : Formula → (n : _) × Row_of-Link n
-links_in (Linked' _ _ _ row) = (_, row)
-links_in _ = (_, end_of-Link)
 
 pub chain_has : (name : List ℕ) (parts : Vec Formula Global) → lists_name (names_of (Chain parts)) name ≡ list_any (λ f. lists_name (names_of f) name) parts.items
 chain_has name parts =

@@ -8,10 +8,11 @@ use Rattle.cel_terms.specs.declared.Pred.{Pred, All, Any, All', Any', Row_of-Pre
 use Rattle.cel_terms.specs.declared.Filter.{Filter, Row_of-Filter, end_of-Filter, more_of-Filter, items-the_row-Filter, items_hidden-the_row-Filter-0}
 use Rattle.cel_terms.specs.declared.Filter as filter
 use Rattle.cel_terms.specs.declared.Link.{Link}
-use Rattle.cel_terms.specs.declared.Formula.{Formula, Chain, Chain', Linked, Linked', Either, Either', Row_of-Formula, end_of-Formula, more_of-Formula, items-the_row-Formula, items_hidden-the_row-Formula-0, Row_of-Link, end_of-Link, more_of-Link, items-the_row-Link, items_hidden-the_row-Link-1}
+use Rattle.cel_terms.specs.declared.Formula.{Formula, Chain, Linked, Either, Row_of-Formula, end_of-Formula, more_of-Formula, items-the_row-Formula, items_hidden-the_row-Formula-0, Row_of-Link, end_of-Link, more_of-Link, items-the_row-Link, items_hidden-the_row-Link-1}
 use Rattle.ceql_parser.specs.FirstFaults.{first_in}
 use Rattle.ceql_parser.specs.FormulaFaults.{pred_fault, preds_fault, filter_fault, filters_fault, formula_fault, formulas_fault, links_fault}
 use Rattle.ceql_parser.specs.Walks.{link_fault}
+use Rattle.ceql_parser.proofs.TermRows.{row_of, links_in, filters_in}
 
 preds_listed : (types : List DeclaredType) (n : _) (row : Row_of-Pred n) → preds_fault types row ≡ first_in (pred_fault types) (items-the_row-Pred n row)
 preds_listed types n end_of-Pred = refl
@@ -36,11 +37,6 @@ filters_listed : (types : List DeclaredType) (names : List (List ℕ)) (n : _) (
 filters_listed types names n end_of-Filter = refl
 filters_listed types names n (more_of-Filter f rest) = ap (option_or (filter_fault types names f)) (filters_listed types names _ rest)
 
-abbrev filters_in : Filter → (n : _) × Row_of-Filter n
-filters_in (filter.All' _ row) = (_, row)
-filters_in (filter.Any' _ row) = (_, row)
-filters_in _ = (_, end_of-Filter)
-
 pub all_filters : (types : List DeclaredType) (names : List (List ℕ)) (filters : Vec Filter Global) → filter_fault types names (filter.All filters) ≡ first_in (filter_fault types names) filters.items
 all_filters types names filters =
     let row = filters_in (filter.All filters) in
@@ -58,15 +54,6 @@ formulas_listed types n (more_of-Formula f rest) = ap (option_or (formula_fault 
 links_listed : (types : List DeclaredType) (n : _) (row : Row_of-Link n) → links_fault types row ≡ first_in (link_fault types) (items-the_row-Link n row)
 links_listed types n end_of-Link = refl
 links_listed types n (more_of-Link tight next rest) = ap (option_or (formula_fault types next)) (links_listed types _ rest)
-
-abbrev row_of : Formula → (n : _) × Row_of-Formula n
-row_of (Chain' _ row) = (_, row)
-row_of (Either' _ row) = (_, row)
-row_of _ = (_, end_of-Formula)
-
-abbrev links_in : Formula → (n : _) × Row_of-Link n
-links_in (Linked' _ _ _ row) = (_, row)
-links_in _ = (_, end_of-Link)
 
 pub chain_faults : (types : List DeclaredType) (parts : Vec Formula Global) → formula_fault types (Chain parts) ≡ first_in (formula_fault types) parts.items
 chain_faults types parts =

@@ -4,12 +4,10 @@ ghost use Rattle.ceql_parser.specs.Given.{Gives, GivesRest, Skips};
 ghost use Rattle.ceql_parser.specs.Marks.{among, is, is_name, name_of, spelled};
 ghost use Rattle.ceql_parser.specs.Reading.{name, nothing, token};
 ghost use Rattle.ceql_parser.specs.Rules.{first};
-ghost use Rattle.std.specs.Char.{to_ascii_uppercase};
-ghost use Rattle.std.specs.Str.{str_to_ascii_uppercase};
-ghost use Rattle.std.specs.Prelude.{◌≡◌, ◌<◌, ◌↔◌, IfOk, IfSome, IsTrue, bytes_eq, length, map};
+ghost use Rattle.std.specs.Prelude.{◌≡◌, ◌<◌, IfOk, IfSome, bytes_eq, length};
 
 use cel_terms::Name;
-use ceql_lexer::{Token, TokenKind};
+use ceql_lexer::{Token, TokenKind, in_capitals_is};
 use cer_base::{Memory, OrMemory, Text};
 use std::alloc::Global;
 
@@ -18,28 +16,6 @@ pub type Rest<'a> = Result<&'a [Token], OrMemory<&'a [Token]>>;
 
 /// The same with a value of what was read.
 pub type Read<'a, X> = Result<(X, &'a [Token]), OrMemory<&'a [Token]>>;
-
-/// Whether the word is the keyword in some ASCII case; the keyword stands in capitals.
-fn is_case_of(word: &[u8], keyword: &[u8]) -> bool
-    ensures { IsTrue result ↔ (map to_ascii_uppercase word.now ≡ keyword.now) }
-{
-    if word.len() != keyword.len() {
-        return false;
-    }
-    for (i, byte) in word.iter().enumerate() {
-        if byte.to_ascii_uppercase() != keyword[i] {
-            return false;
-        }
-    }
-    true
-}
-
-/// Whether the word in capitals is the keyword.
-fn in_capitals_is(word: &[u8], keyword: &[u8]) -> bool
-    ensures { result ≡ bytes_eq (str_to_ascii_uppercase word.now) keyword.now }
-{
-    is_case_of(word, keyword)
-}
 
 /// Whether the bytes spell the mark.
 fn spells(kind: TokenKind, text: &[u8], mark: &[u8]) -> bool

@@ -14,23 +14,10 @@ ghost use Rattle.std.specs.Str.{IsUtf8, is_utf8};
 use crate::terms::NumberAt;
 use crate::tokens::{Read, is};
 use cel_terms::Op;
-use ceql_lexer::{Token, TokenKind};
+use ceql_lexer::{MOST_DECIMALS, Token, TokenKind, with_digit};
 use cer_base::{Memory, OrMemory, Text};
 use std::alloc::Global;
 use stream_schema::Value;
-
-/// The most digits behind a point.
-const MOST_DECIMALS: usize = 9;
-
-/// The value with the digit behind its digits, where that is at most the limit.
-fn with_digit(limit: u64, value: u64, digit: u8) -> Option<u64>
-    ensures { MatchOption result (limit < value * 10 + (digit - 48)) (λ x. (x ≡ value * 10 + (digit - 48)) × (x ≤ limit)) }
-{
-    let value = value
-        .checked_mul(10)?
-        .checked_add(u64::from(digit.saturating_sub(48)))?;
-    if value <= limit { Some(value) } else { None }
-}
 
 /// The number that the digits of the text write, where that is at most the limit.
 fn magnitude(limit: u64, text: &[u8]) -> Option<u64>

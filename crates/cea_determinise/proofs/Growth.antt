@@ -22,7 +22,7 @@ slice_get-left [] more k h = absurd (omega (arith, h))
 slice_get-left (x ∷ xs) more zero h = refl
 slice_get-left (x ∷ xs) more (suc k) h = slice_get-left xs more k (omega (arith, h))
 
-place_at-later : (xs ys more : List Place) (n : ℕ) → ys ≡ xs ++ more → n ≤ length xs → place_at ys n ≡ place_at xs n
+pub place_at-later : (xs ys more : List Place) (n : ℕ) → ys ≡ xs ++ more → n ≤ length xs → place_at ys n ≡ place_at xs n
 place_at-later xs ys more zero e h = refl
 place_at-later xs ys more (suc n) e h = rw e (slice_get-left xs more n (omega (arith, h)))
 
@@ -34,7 +34,7 @@ known_later : (xs ys more : List Place) (to : Option ℕ) → ys ≡ xs ++ more 
 known_later xs ys more None e h = h
 known_later xs ys more (Some n) e h = rw e (omega (arith, h, length-append xs more))
 
-after_later : (cea : Cea) (xs ys more : List Place) (state : ℕ) (bits : List Bool) (mark : Bool) → ys ≡ xs ++ more → state ≤ length xs → after cea ys state bits mark ≡ after cea xs state bits mark
+pub after_later : (cea : Cea) (xs ys more : List Place) (state : ℕ) (bits : List Bool) (mark : Bool) → ys ≡ xs ++ more → state ≤ length xs → after cea ys state bits mark ≡ after cea xs state bits mark
 after_later cea xs ys more state bits mark e h =
     ap (λ o. next_standing (automaton_of cea) cea.strict (standing o) (has bits) mark) (place_at-later xs ys more state e h)
 
@@ -44,7 +44,7 @@ leads_later cea xs ys more state bits mark to e h l = record {
   exact = numbers_later xs ys more to e l.known ∙ l.exact ∙ sym (after_later cea xs ys more state bits mark e h);
 }
 
-successors_later : (cea : Cea) (xs ys more : List Place) (p : Pair) (s : Successors) → ys ≡ xs ++ more → AreSuccessors cea xs p s → AreSuccessors cea ys p s
+pub successors_later : (cea : Cea) (xs ys more : List Place) (p : Pair) (s : Successors) → ys ≡ xs ++ more → AreSuccessors cea xs p s → AreSuccessors cea ys p s
 successors_later cea xs ys more p s e a = record {
   state = rw e (omega (arith, a.state, length-append xs more));
   marked = leads_later cea xs ys more p.state p.bits true s.marked e a.state a.marked;

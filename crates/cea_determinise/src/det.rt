@@ -83,6 +83,7 @@ impl Det {
     pub fn mark(&self) -> Mark
         ensures states { result.states ≡ length self.now.places }
         ensures pairs { result.pairs ≡ length self.now.pairs }
+        ensures sound { IsSound self.now }
     {
         Mark {
             states: self.places.len() as u64,

@@ -13,7 +13,7 @@ pub struct Pair {
 }
 
 /// The successors of a pair, each None exactly where that successor is none.
-#[derive(Drop, Debug, Clone, Copy, PartialEq, Eq)]
+#[derive(Drop, Debug, Default, Clone, Copy, PartialEq, Eq)]
 pub struct Successors {
     pub marked: Option<State>,
     pub unmarked: Option<State>,

@@ -9,7 +9,8 @@ use Rattle.ceql_lexer.specs.declared.LexFault.{LexFault}
 use Rattle.std.specs.Prelude.{IfOk}
 use Rattle.ceql_lexer.specs.declared.LexError.{LexError}
 use Rattle.ceql_lexer.specs.Fronts.{piece_at}
-use Rattle.ceql_lexer.specs.Tokens.{Gives, Part, with_end, behind, behind_mark, first_place, goes_on, next_place, parts_from, parts_of, place_after}
+use Rattle.cer_base.specs.Answers.{Gives}
+use Rattle.ceql_lexer.specs.Tokens.{Part, with_end, behind, behind_mark, first_place, goes_on, next_place, parts_from, parts_of, place_after}
 use Rattle.ceql_lexer.specs.Whole.{AreAtPlaces, AreLongest, AreWhole, IsCut, EndsBefore, text_of}
 use Rattle.ceql_lexer.proofs.Longest.{ends_of, piece_ends}
 

@@ -1,8 +1,6 @@
 -- The tokens of a text, with their places, or the first fault. This project's profile.
 use Rattle.std.specs.Prelude.{◌≡◌, ℕ, zero, suc, ◌+◌, ◌-◌, ◌==◌, List, [], ◌∷◌, ◌++◌, take, drop, if◌then◌else◌, bytes_eq, Option, Some, None, Result, Ok, Err}
 use Rattle.cer_base.specs.declared.Place.{Place}
-use Rattle.cer_base.specs.declared.OrMemory.{OrMemory}
-use Rattle.cer_base.specs.declared.OrMemory.TheVariants as wanted
 use Rattle.ceql_lexer.specs.declared.front.Piece.{Piece}
 use Rattle.ceql_lexer.specs.declared.LexFault.{LexFault}
 use Rattle.ceql_lexer.specs.declared.LexError.{LexError}
@@ -81,13 +79,3 @@ parts_of text = parts_from 0 first_place (behind_mark text)
 -- the tokens of a text, or its first fault
 unfoldable pub tokens_of : List ℕ → Result (List Token) LexError
 tokens_of text = with_end (behind_mark text) (parts_of text)
-
--- a fault that was returned is the one of the definition; memory may run out at any time
-abbrev pub Fails : {F Y : Type 0} → OrMemory F → Result Y F → Type 0
-Fails wanted.Memory given = Unit {0}
-Fails (wanted.Fault e) given = given ≡ Err e
-
--- What a call returned, seen by view, is what the definition gives, unless memory ran out.
-abbrev pub Gives : {X F Y : Type 0} → (X → Y) → Result X (OrMemory F) → Result Y F → Type 0
-Gives view (Ok x) given = given ≡ Ok (view x)
-Gives view (Err e) given = Fails e given

@@ -1,7 +1,8 @@
 //! A text cut into its tokens from left to right.
 
 ghost use Rattle.ceql_lexer.specs.Fronts.{IsText};
-ghost use Rattle.ceql_lexer.specs.Tokens.{Gives, behind_mark, first_place, parts_from, place_after, token_of, tokens_of, with_end};
+ghost use Rattle.cer_base.specs.Answers.{Gives};
+ghost use Rattle.ceql_lexer.specs.Tokens.{behind_mark, first_place, parts_from, place_after, token_of, tokens_of, with_end};
 ghost use Rattle.ceql_lexer.specs.Whole.{IsCut};
 ghost use Rattle.std.specs.Str.{IsUtf8};
 ghost use Rattle.std.specs.Prelude.{◌≡◌, ◌+◌, ◌++◌, ◌<◌, ◌≤◌, ◌^◌, IfOk, OnOk, length};

@@ -1,11 +1,13 @@
-//! The statements of a query text, read from its tokens.
+//! A query text, read: its schema and its checked queries, or its first fault.
 //!
-//! Promised: `parse` gives the statements of the tokens, or the first fault with its place, and no
-//! other answer exists; nothing but want of memory comes besides. Which tokens are which statements
-//! is said by the grammar in `specs/Statements`, and by those of formulas, predicates and values that
-//! it stands on; what an answer is stands in `specs/Texts`. That the grammar is unambiguous is proved
-//! in `laws`. Names, kinds and numbers are not checked against one another here.
-//! It stands on `ceql_lexer` for tokens and on `cel_terms` for terms.
+//! Promised: `read_queries` gives exactly what the text declares and asks, or exactly its first fault
+//! with its place, and no other answer exists; each query that it gives is checked for the schema that
+//! it gives. `parse` is exact on tokens in the same way, `check` on statements; nothing but want of
+//! memory comes besides. What the answer of a text is stands in `specs/QueryTexts`; which tokens are
+//! which statements in the grammar, `specs/Statements` and what it stands on; which test of statements
+//! fails first in `specs/ScriptFaults`. That the grammar is unambiguous is proved in `laws`, that what
+//! is accepted is checked in `promises`.
+//! It stands on `ceql_lexer` for tokens, `cel_terms` for terms and `stream_schema` for the schema.
 #![tactic(auto)]
 
 mod checking;

@@ -14,6 +14,8 @@ use std::alloc::{AllocError, AllocFailed, Global};
 use std::marker::Model;
 
 pub mod bits;
+pub mod bytes;
+pub mod limits;
 pub mod node;
 pub mod steps;
 pub mod store;

@@ -8,7 +8,7 @@ pub type Id = u64;
 
 /// When an event came: its position, and the clock that windows measure (in the unit of the
 /// window: positions, or the value of an attribute).
-#[derive(Drop, Debug, Clone, Copy, PartialEq, Eq)]
+#[derive(Drop, Debug, Default, Clone, Copy, PartialEq, Eq)]
 pub struct Stamp {
     pub pos: Pos,
     pub clock: i128,
@@ -68,7 +68,7 @@ impl Node {
 }
 
 /// A node where a walk begins, with its greatest start and its need.
-#[derive(Drop, Debug, Clone, Copy, PartialEq, Eq)]
+#[derive(Drop, Debug, Default, Clone, Copy, PartialEq, Eq)]
 pub struct Root {
     pub id: Id,
     pub max: Stamp,

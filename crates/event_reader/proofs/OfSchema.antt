@@ -22,7 +22,8 @@ use Rattle.event_reader.specs.declared.EventFault.{EventFault}
 use Rattle.event_reader.specs.declared.EventFault.TheVariants.{BadLine, OpenQuote, UnknownType, BadValue}
 use Rattle.event_reader.specs.Fields.{fields, ends_open}
 use Rattle.event_reader.specs.Values.{value_of, scaled, flag}
-use Rattle.event_reader.specs.Events.{Gives, is_bad, and_then, accepted, values_from, event_of_type, attrs_of, event_of_place, event_of, event_of_record, event_of_text, event_of_line}
+use Rattle.cer_base.specs.Answers.{Gives}
+use Rattle.event_reader.specs.Events.{is_bad, and_then, accepted, values_from, event_of_type, attrs_of, event_of_place, event_of, event_of_record, event_of_text, event_of_line}
 
 -- a value that was read is of the kind
 int_is : (x : Option ℤ) (v : Value) → option_map (λ n. value.Int n) x ≡ Some v → IsOfKind kind.Int v

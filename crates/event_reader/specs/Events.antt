@@ -3,8 +3,6 @@ use Rattle.std.specs.Prelude.{◌≡◌, ℕ, ◌+◌, ◌==◌, Bool, ◌||◌,
 use Rattle.std.specs.List.{list_any, starts_with}
 use Rattle.std.specs.Prelude.{nat_eq}
 use Rattle.std.specs.Str.Lines.{strip_carriage_return}
-use Rattle.cer_base.specs.declared.OrMemory.{OrMemory}
-use Rattle.cer_base.specs.declared.OrMemory.TheVariants as answer
 use Rattle.stream_schema.specs.Types.{Declared, DeclaredType}
 use Rattle.stream_schema.specs.Names.{type_number}
 use Rattle.stream_schema.specs.declared.Attr.{Attr}
@@ -19,12 +17,6 @@ use Rattle.event_reader.specs.Values.{value_of}
 -- the line holds a carriage return, or begins with a byte order mark
 abbrev pub is_bad : List ℕ → Bool
 is_bad line = list_any (λ b. b == 13) line || starts_with nat_eq line (239 ∷ 187 ∷ 191 ∷ [])
-
--- what the call returned is this, unless memory ran out
-abbrev pub Gives : {X Y F : Type 0} → (X → Y) → Result X (OrMemory F) → Result Y F → Type 0
-Gives view (Ok x) wanted = wanted ≡ Ok (view x)
-Gives view (Err (answer.Fault fault)) wanted = wanted ≡ Err fault
-Gives view (Err answer.Memory) wanted = Unit {0}
 
 -- one after the other, up to the first refusal
 abbrev pub and_then : {X Y F : Type 0} → Result X F → (X → Result Y F) → Result Y F

@@ -5,7 +5,8 @@ ghost use Rattle.stream_schema.specs.Events.{IsOfSchema};
 ghost use Rattle.std.specs.List.{list_any, slice_split};
 ghost use Rattle.std.specs.Str.Lines.{strip_carriage_return};
 ghost use Rattle.event_reader.specs.Fields.{fields, ends_open};
-ghost use Rattle.event_reader.specs.Events.{Gives, event_of_line, event_of, event_of_record, values_from, is_bad};
+ghost use Rattle.cer_base.specs.Answers.{Gives};
+ghost use Rattle.event_reader.specs.Events.{event_of_line, event_of, event_of_record, values_from, is_bad};
 
 use crate::EventFault;
 use crate::cells::{borrow_all, plain_cells};

@@ -1,19 +1,11 @@
 -- What a declaration adds to a schema, and why it is refused.
 use Rattle.std.specs.Prelude.{ℕ, ◌==◌, Bool, false, ◌||◌, if◌then◌else◌, List, [], ◌∷◌, ◌++◌, Option, Some, None, option_and_then, is_none, bytes_eq, Result, Ok, Err}
 use Rattle.std.specs.List.{list_any}
-use Rattle.cer_base.specs.declared.OrMemory.{OrMemory}
-use Rattle.cer_base.specs.declared.OrMemory.TheVariants as wanted
 use Rattle.stream_schema.specs.Types.{Declared, DeclaredType}
 use Rattle.stream_schema.specs.Names.{is_taken, type_number}
 use Rattle.stream_schema.specs.declared.Attr.{Attr}
 use Rattle.stream_schema.specs.declared.SchemaFault.{SchemaFault}
 use Rattle.stream_schema.specs.declared.SchemaFault.TheVariants.{NameTaken, UnknownType, AttrTwice}
-
--- the fact, where the call answered a fault
-abbrev pub OnFault : {T F : Type 0} → Result T (OrMemory F) → (F → Type 0) → Type 0
-OnFault (Ok value) P = Unit {0}
-OnFault (Err (wanted.Fault fault)) P = P fault
-OnFault (Err wanted.Memory) P = Unit {0}
 
 -- some attribute has the name of a later one
 abbrev pub repeats_name : List Attr → Bool

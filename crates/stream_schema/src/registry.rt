@@ -5,7 +5,8 @@ ghost use Rattle.std.specs.Option.{option_copied};
 ghost use Rattle.std.specs.List.{list_any, position_from, HoldsAt};
 ghost use Rattle.stream_schema.specs.Types.{name_of_type};
 ghost use Rattle.stream_schema.specs.Names.{type_number, attr_index, attr_at, stream_types, is_taken};
-ghost use Rattle.stream_schema.specs.Declaring.{OnFault, event_refusal, stream_refusal, repeats_name, with_type, with_stream, numbers_from, added};
+ghost use Rattle.cer_base.specs.Answers.{OnFault};
+ghost use Rattle.stream_schema.specs.Declaring.{event_refusal, stream_refusal, repeats_name, with_type, with_stream, numbers_from, added};
 
 use crate::declarations::{StreamDecl, TypeDecl};
 use crate::{Attr, AttrAt, Attrs, Kinds, SchemaFault, Texts, TypeId, TypeIds};

@@ -7,6 +7,6 @@ pub mod Texts
 mod LineRows
 pub mod LineWalks
 pub mod GivenLines
-pub mod WindowParts
+pub mod LineBufferParts
 pub mod NextLines
 pub mod OfSchema

@@ -5,8 +5,9 @@ use Rattle.std.proofs.lemmas.Bool.Decides.{nat_tests}
 use Rattle.std.proofs.lemmas.List.{append-nil}
 use Rattle.std.specs.List.{AllByRecursion}
 use Rattle.event_reader.specs.declared.LineFault.TheVariants.{LineTooLong, InputTooLong}
-use Rattle.event_reader.specs.Lines.{most_bytes, stops, with_line, lines_from}
-use Rattle.event_reader.specs.Windows.{has_feed}
+use Rattle.cer_base.specs.declared.limits.TheConstants.{LONGEST_LINE}
+use Rattle.event_reader.specs.Lines.{stops, with_line, lines_from}
+use Rattle.event_reader.specs.Lines.{has_line_feed}
 use Rattle.event_reader.specs.Reading.{ended_from}
 use Rattle.event_reader.proofs.LineBytes.{neither, differs}
 
@@ -20,7 +21,7 @@ over_bytes budget number line (x ∷ xs) ys room plain =
     let less : length (x ∷ xs) + room - 1 ≡ length xs + room = omega arith in
     rw (some, other, less) (over_bytes budget number (line ++ x ∷ []) xs ys room plain.1 ∙ ap (λ l. lines_from budget number l ys room) (append_assoc line (x ∷ []) xs))
 
-long_test : (line : List ℕ) → most_bytes < length line → nat_le (length line) most_bytes ≡ false
+long_test : (line : List ℕ) → LONGEST_LINE < length line → nat_le (length line) LONGEST_LINE ≡ false
 long_test line long = grind (arith, nat_tests)
 
 long_choice : {A : Type 0} (z e : Bool) (a b c d : A) → a ≡ d → b ≡ d → c ≡ d → cond z a (cond e b c) ≡ d
@@ -33,32 +34,32 @@ both_same true a = refl
 both_same false a = refl
 
 -- a line that is too long stays so
-pub too_long : (budget number : ℕ) (line bytes : List ℕ) (room : ℕ) → most_bytes < length line → lines_from budget number line bytes room ≡ stops (Some (LineTooLong number))
+pub too_long : (budget number : ℕ) (line bytes : List ℕ) (room : ℕ) → LONGEST_LINE < length line → lines_from budget number line bytes room ≡ stops (Some (LineTooLong number))
 too_long budget number line [] room long =
-    let t : nat_le (length line) most_bytes ≡ false = long_test line long in
+    let t : nat_le (length line) LONGEST_LINE ≡ false = long_test line long in
     let e : (length line == 0) ≡ false = grind (arith, nat_tests) in
     rw (e, t) (both_same (room == 0) (stops (Some (LineTooLong number))))
 too_long budget number line (x ∷ bytes) room long =
-    let t : nat_le (length line) most_bytes ≡ false = long_test line long in
+    let t : nat_le (length line) LONGEST_LINE ≡ false = long_test line long in
     long_choice (room == 0) (x == 10) _ _ _ (stops (Some (LineTooLong number))) (rw t refl) (rw t refl) (too_long budget number (line ++ x ∷ []) bytes (room - 1) (rw (length-append line (x ∷ [])) (omega arith)))
 
-pub plain_each : (bytes : List ℕ) → has_feed bytes ≡ false → AllByRecursion (λ b. b ≢ 10) bytes
+pub plain_each : (bytes : List ℕ) → has_line_feed bytes ≡ false → AllByRecursion (λ b. b ≢ 10) bytes
 plain_each [] plain = tt
 plain_each (c ∷ bytes) plain =
-    let both : ((c == 10) ≡ false) × (has_feed bytes ≡ false) = neither _ _ plain in
+    let both : ((c == 10) ≡ false) × (has_line_feed bytes ≡ false) = neither _ _ plain in
     (differs c 10 both.0, plain_each bytes both.1)
 
 -- first bytes that end no line join the line at hand
-over_plain : (budget number : ℕ) (xs ys : List ℕ) (room : ℕ) → has_feed xs ≡ false → length xs ≤ room → lines_from budget number [] (xs ++ ys) room ≡ lines_from budget number xs ys (room - length xs)
+over_plain : (budget number : ℕ) (xs ys : List ℕ) (room : ℕ) → has_line_feed xs ≡ false → length xs ≤ room → lines_from budget number [] (xs ++ ys) room ≡ lines_from budget number xs ys (room - length xs)
 over_plain budget number xs ys room plain within =
     let split : room ≡ length xs + (room - length xs) = omega arith in
     ap (λ r. lines_from budget number [] (xs ++ ys) r) split ∙ over_bytes budget number [] xs ys (room - length xs) (plain_each xs plain)
 
-short_test : (line : List ℕ) → length line ≤ most_bytes → nat_le (length line) most_bytes ≡ true
+short_test : (line : List ℕ) → length line ≤ LONGEST_LINE → nat_le (length line) LONGEST_LINE ≡ true
 short_test line short = grind (arith, nat_tests)
 
 -- a line that ends in a line feed, and the lines behind it
-pub first_line : (budget number : ℕ) (line ys : List ℕ) (room : ℕ) → has_feed line ≡ false → length line ≤ most_bytes → length line < room → lines_from budget number [] (line ++ 10 ∷ ys) room ≡ record { texts = line ∷ (lines_from budget (number + 1) [] ys (room - (length line + 1))).texts; fault = (lines_from budget (number + 1) [] ys (room - (length line + 1))).fault }
+pub first_line : (budget number : ℕ) (line ys : List ℕ) (room : ℕ) → has_line_feed line ≡ false → length line ≤ LONGEST_LINE → length line < room → lines_from budget number [] (line ++ 10 ∷ ys) room ≡ record { texts = line ∷ (lines_from budget (number + 1) [] ys (room - (length line + 1))).texts; fault = (lines_from budget (number + 1) [] ys (room - (length line + 1))).fault }
 first_line budget number line ys room plain short within =
     let some : (room - length line == 0) ≡ false = grind (arith, nat_tests) in
     let less : room - length line - 1 ≡ room - (length line + 1) = omega arith in
@@ -66,11 +67,11 @@ first_line budget number line ys room plain short within =
     over_plain budget number line (10 ∷ ys) room plain (omega arith) ∙ here ∙ rw (short_test line short) refl
 
 -- first bytes that are too many for a line
-pub first_long : (budget number : ℕ) (front ys : List ℕ) (room : ℕ) → has_feed front ≡ false → most_bytes < length front → length front ≤ room → lines_from budget number [] (front ++ ys) room ≡ stops (Some (LineTooLong number))
+pub first_long : (budget number : ℕ) (front ys : List ℕ) (room : ℕ) → has_line_feed front ≡ false → LONGEST_LINE < length front → length front ≤ room → lines_from budget number [] (front ++ ys) room ≡ stops (Some (LineTooLong number))
 first_long budget number front ys room plain long within =
     over_plain budget number front ys room plain within ∙ too_long budget number front ys (room - length front) long
 
-full_here : (budget number : ℕ) (line ys : List ℕ) (room : ℕ) → room ≡ 0 → length line ≤ most_bytes → lines_from budget number line ys room ≡ stops (Some (InputTooLong budget))
+full_here : (budget number : ℕ) (line ys : List ℕ) (room : ℕ) → room ≡ 0 → length line ≤ LONGEST_LINE → lines_from budget number line ys room ≡ stops (Some (InputTooLong budget))
 full_here budget number line [] room none short =
     let test : (room == 0) ≡ true = grind (arith, nat_tests) in
     rw (test, short_test line short) refl
@@ -79,12 +80,12 @@ full_here budget number line (y ∷ ys) room none short =
     rw (test, short_test line short) refl
 
 -- as many bytes as may be taken, and no line feed
-pub first_full : (budget number : ℕ) (line ys : List ℕ) (room : ℕ) → has_feed line ≡ false → length line ≤ most_bytes → length line ≡ room → lines_from budget number [] (line ++ ys) room ≡ stops (Some (InputTooLong budget))
+pub first_full : (budget number : ℕ) (line ys : List ℕ) (room : ℕ) → has_line_feed line ≡ false → length line ≤ LONGEST_LINE → length line ≡ room → lines_from budget number [] (line ++ ys) room ≡ stops (Some (InputTooLong budget))
 first_full budget number line ys room plain short full =
     over_plain budget number line ys room plain (omega arith) ∙ full_here budget number line ys (room - length line) (omega arith) short
 
 -- the last line, which lacks its line feed
-pub first_last : (budget number : ℕ) (line : List ℕ) (room : ℕ) → has_feed line ≡ false → length line ≤ most_bytes → length line < room → 0 < length line → lines_from budget number [] (line ++ []) room ≡ record { texts = line ∷ []; fault = None }
+pub first_last : (budget number : ℕ) (line : List ℕ) (room : ℕ) → has_line_feed line ≡ false → length line ≤ LONGEST_LINE → length line < room → 0 < length line → lines_from budget number [] (line ++ []) room ≡ record { texts = line ∷ []; fault = None }
 first_last budget number line room plain short within some =
     let left : (room - length line == 0) ≡ false = grind (arith, nat_tests) in
     let test : (length line == 0) ≡ false = grind (arith, nat_tests) in
@@ -103,9 +104,9 @@ over_ended line (x ∷ xs) ys plain =
     let other : (x == 10) ≡ false = grind (arith, nat_tests) in
     rw other (over_ended (line ++ x ∷ []) xs ys plain.1 ∙ ap (λ l. ended_from l ys) (append_assoc line (x ∷ []) xs))
 
-pub ended_line : (line ys : List ℕ) → has_feed line ≡ false → ended_from [] (line ++ 10 ∷ ys) ≡ line ∷ ended_from [] ys
+pub ended_line : (line ys : List ℕ) → has_line_feed line ≡ false → ended_from [] (line ++ 10 ∷ ys) ≡ line ∷ ended_from [] ys
 ended_line line ys plain = over_ended [] line (10 ∷ ys) (plain_each line plain)
 
-pub ended_none : (line : List ℕ) → has_feed line ≡ false → ended_from [] line ≡ []
+pub ended_none : (line : List ℕ) → has_line_feed line ≡ false → ended_from [] line ≡ []
 ended_none line plain =
     ap (λ l. ended_from [] l) (sym (append-nil line)) ∙ over_ended [] line [] (plain_each line plain)

@@ -23,7 +23,7 @@ use Rattle.event_reader.specs.declared.EventFault.TheVariants.{BadLine, OpenQuot
 use Rattle.event_reader.specs.Fields.{fields, ends_open}
 use Rattle.event_reader.specs.Values.{value_of, scaled, flag}
 use Rattle.cer_base.specs.Answers.{Gives}
-use Rattle.event_reader.specs.Events.{is_bad, and_then, accepted, values_from, event_of_type, attrs_of, event_of_place, event_of, event_of_record, event_of_text, event_of_line}
+use Rattle.event_reader.specs.Events.{is_bad, and_then, value_or_fault, values_from, event_of_type, attrs_of, event_of_place, event_of, event_of_record, event_of_text, event_of_line}
 
 -- a value that was read is of the kind
 int_is : (x : Option ℤ) (v : Value) → option_map (λ n. value.Int n) x ≡ Some v → IsOfKind kind.Int v
@@ -57,7 +57,7 @@ kind_is kind.Flag field v e = flag_is (flag (map to_ascii_lowercase field)) v e
 kind_is kind.Text field v e = text_is (is_utf8 field) field v e
 
 -- what the first of two steps gave
-taken : (number : ℕ) (k : Kind) (o : Option Value) (next : Value → Result (List Value) EventFault) (values : List Value) → and_then (accepted number k o) next ≡ Ok values → (v : Value) × ((o ≡ Some v) × (next v ≡ Ok values))
+taken : (number : ℕ) (k : Kind) (o : Option Value) (next : Value → Result (List Value) EventFault) (values : List Value) → and_then (value_or_fault number k o) next ≡ Ok values → (v : Value) × ((o ≡ Some v) × (next v ≡ Ok values))
 taken number k None next values e = absurd (let wrong : Err (BadValue number k) ≡ Ok values = e in cc)
 taken number k (Some v) next values e = (v, (refl, e))
 

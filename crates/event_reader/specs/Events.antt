@@ -1,8 +1,9 @@
--- The event of a line, or why it is refused. This project's profile.
+-- The event of a line, or why it is refused.
 use Rattle.std.specs.Prelude.{◌≡◌, ℕ, ◌+◌, ◌==◌, Bool, ◌||◌, if◌then◌else◌, List, [], ◌∷◌, ◌++◌, length, map, Option, Some, None, slice_get, Result, Ok, Err}
 use Rattle.std.specs.List.{list_any, starts_with}
 use Rattle.std.specs.Prelude.{nat_eq}
 use Rattle.std.specs.Str.Lines.{strip_carriage_return}
+use Rattle.cer_base.specs.declared.bytes.TheConstants.{CARRIAGE_RETURN}
 use Rattle.stream_schema.specs.Types.{Declared, DeclaredType}
 use Rattle.stream_schema.specs.Names.{type_number}
 use Rattle.stream_schema.specs.declared.Attr.{Attr}
@@ -16,7 +17,7 @@ use Rattle.event_reader.specs.Values.{value_of}
 
 -- the line holds a carriage return, or begins with a byte order mark
 abbrev pub is_bad : List ℕ → Bool
-is_bad line = list_any (λ b. b == 13) line || starts_with nat_eq line (239 ∷ 187 ∷ 191 ∷ [])
+is_bad line = list_any (λ b. b == CARRIAGE_RETURN) line || starts_with nat_eq line (239 ∷ 187 ∷ 191 ∷ [])
 
 -- one after the other, up to the first refusal
 abbrev pub and_then : {X Y F : Type 0} → Result X F → (X → Result Y F) → Result Y F
@@ -24,16 +25,16 @@ and_then (Ok x) next = next x
 and_then (Err fault) next = Err fault
 
 -- the value of the field of this number, from 1
-abbrev pub accepted : ℕ → Kind → Option Value → Result Value EventFault
-accepted number kind None = Err (BadValue number kind)
-accepted number kind (Some v) = Ok v
+abbrev pub value_or_fault : ℕ → Kind → Option Value → Result Value EventFault
+value_or_fault number kind None = Err (BadValue number kind)
+value_or_fault number kind (Some v) = Ok v
 
 -- the values found before and those of these fields, the first of which has this number, or the first that is not of its kind
 abbrev pub values_from : ℕ → List Value → List Kind → List (List ℕ) → Result (List Value) EventFault
 values_from number found [] fields = Ok found
 values_from number found (kind ∷ kinds) [] = Ok found
 values_from number found (kind ∷ kinds) (field ∷ fields) =
-    and_then (accepted number kind (value_of kind field)) (λ v. values_from (number + 1) (found ++ v ∷ []) kinds fields)
+    and_then (value_or_fault number kind (value_of kind field)) (λ v. values_from (number + 1) (found ++ v ∷ []) kinds fields)
 
 -- the event of the type of this number, with these fields as its values
 abbrev pub event_of_type : ℕ → List Attr → List (List ℕ) → Result Event EventFault

@@ -1,8 +1,8 @@
 pub mod Fields
 pub mod Values
 pub mod Events
-pub mod Places
+pub mod FieldStates
 pub mod Cells
 pub mod Lines
-pub mod Windows
+pub mod LineBuffers
 pub mod Reading

@@ -1,12 +1,14 @@
--- The lines of the first bytes of a file. This project's profile.
-use Rattle.std.specs.Prelude.{ℕ, ◌+◌, ◌-◌, ◌==◌, if◌then◌else◌, nat_le, nat_eq, List, [], ◌∷◌, ◌++◌, length, drop, Option, Some, None}
-use Rattle.std.specs.List.{starts_with}
+-- The lines of the first bytes of a file.
+use Rattle.std.specs.Prelude.{ℕ, Bool, ◌+◌, ◌-◌, ◌==◌, if◌then◌else◌, nat_le, nat_eq, List, [], ◌∷◌, ◌++◌, length, drop, Option, Some, None}
+use Rattle.std.specs.List.{list_any, starts_with}
+use Rattle.cer_base.specs.declared.bytes.TheConstants.{LINE_FEED}
+use Rattle.cer_base.specs.declared.limits.TheConstants.{LONGEST_LINE}
 use Rattle.event_reader.specs.declared.LineFault.{LineFault}
 use Rattle.event_reader.specs.declared.LineFault.TheVariants.{LineTooLong, InputTooLong}
 
--- the most bytes of a line, its line feed not counted
-abbrev pub most_bytes : ℕ
-most_bytes = 65536
+-- some byte is a line feed
+abbrev pub has_line_feed : List ℕ → Bool
+has_line_feed bytes = list_any (λ b. b == LINE_FEED) bytes
 
 -- The lines without their line feeds, and why there is no further one: a fault, or none at the end.
 pub record FileLines : Type 0 where
@@ -17,15 +19,15 @@ pub record FileLines : Type 0 where
 abbrev pub stops : Option LineFault → FileLines
 stops fault = record { texts = []; fault = fault }
 
--- the line of this number and those behind it, where it is not too long
+-- the line of this number and those after it, where it is not too long
 abbrev pub with_line : ℕ → List ℕ → FileLines → FileLines
 with_line number line later =
-    if nat_le (length line) most_bytes then record { texts = line ∷ later.texts; fault = later.fault } else stops (Some (LineTooLong number))
+    if nat_le (length line) LONGEST_LINE then record { texts = line ∷ later.texts; fault = later.fault } else stops (Some (LineTooLong number))
 
 -- as many bytes were taken as may be, the last of them those of a line without an end
 abbrev pub at_budget : ℕ → ℕ → List ℕ → FileLines
 at_budget budget number line =
-    if nat_le (length line) most_bytes then stops (Some (InputTooLong budget)) else stops (Some (LineTooLong number))
+    if nat_le (length line) LONGEST_LINE then stops (Some (InputTooLong budget)) else stops (Some (LineTooLong number))
 
 -- the file ends, and a last line may lack its line feed
 abbrev pub at_end : ℕ → List ℕ → FileLines
@@ -36,7 +38,7 @@ abbrev pub lines_from : ℕ → ℕ → List ℕ → List ℕ → ℕ → FileLi
 lines_from budget number line [] room = if room == 0 then at_budget budget number line else at_end number line
 lines_from budget number line (byte ∷ bytes) room =
     if room == 0 then at_budget budget number line
-    else if byte == 10 then with_line number line (lines_from budget (number + 1) [] bytes (room - 1))
+    else if byte == LINE_FEED then with_line number line (lines_from budget (number + 1) [] bytes (room - 1))
     else lines_from budget number (line ++ byte ∷ []) bytes (room - 1)
 
 -- the line without a byte order mark at its beginning
@@ -44,8 +46,8 @@ abbrev pub without_mark : List ℕ → List ℕ
 without_mark line = if starts_with nat_eq line (239 ∷ 187 ∷ 191 ∷ []) then drop 3 line else line
 
 -- the text of a line before which so many lines stand
-abbrev pub text_of : ℕ → List ℕ → List ℕ
-text_of before line = if before == 0 then without_mark line else line
+abbrev pub line_text : ℕ → List ℕ → List ℕ
+line_text before line = if before == 0 then without_mark line else line
 
 -- the first line alone loses a byte order mark
 abbrev pub unmarked : List (List ℕ) → List (List ℕ)

@@ -1,4 +1,4 @@
--- The value of a field, by the kind that it is to be of. This project's profile.
+-- The value of a field, by the kind that it is to be of.
 use Rattle.std.specs.Prelude.{ℕ, ℤ, pos, neg_ℤ, ◌-◌, ◌^◌, ◌==◌, Bool, true, false, ◌&&◌, if◌then◌else◌, nat_le, nat_lt, List, ◌++◌, length, map, replicate, Option, Some, None, option_map, bytes_eq, codes}
 use Rattle.std.specs.List.{before_first, after_first, position_or_len}
 use Rattle.std.specs.Str.{all_ascii_digits, is_utf8}

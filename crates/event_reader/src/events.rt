@@ -6,24 +6,26 @@ ghost use Rattle.std.specs.List.{list_any, slice_split};
 ghost use Rattle.std.specs.Str.Lines.{strip_carriage_return};
 ghost use Rattle.event_reader.specs.Fields.{fields, ends_open};
 ghost use Rattle.cer_base.specs.Answers.{Gives};
+ghost use Rattle.event_reader.specs.Lines.{has_line_feed};
 ghost use Rattle.event_reader.specs.Events.{event_of_line, event_of, event_of_record, values_from, is_bad};
 
 use crate::EventFault;
-use crate::cells::{borrow_all, plain_cells};
-use crate::fields::quoted_fields;
+use crate::cells::{plain_cells, record_cells};
+use crate::fields::{ends_open, record_of};
 use crate::values::read_value;
+use cer_base::bytes::{CARRIAGE_RETURN, QUOTE};
 use cer_base::{Listed, OrMemory};
 use std::alloc::Global;
 use stream_schema::{Event, Kind, Schema, Value};
 
 /// The event of the line, or `None` where it is empty but for a carriage return. The first of these
-/// refusals is answered; want of memory may come before any of them.
+/// refusals is answered; memory may run out before any of them.
 ///
-/// - 24 `BadLine`
-/// - 20 `OpenQuote`
-/// - 21 `UnknownType`
-/// - 22 `FieldCount`
-/// - 23 `BadValue`
+/// - `BadLine`
+/// - `OpenQuote`
+/// - `UnknownType`
+/// - `FieldCount`
+/// - `BadValue`
 ///
 /// An event that it gives is of the schema.
 pub fn read_event(
@@ -31,7 +33,7 @@ pub fn read_event(
     schema: &Schema,
     text: &[u8],
 ) -> Result<Option<Event>, OrMemory<EventFault>>
-    requires { list_any (λ b. b == 10) text.now ≡ false }
+    requires { has_line_feed text.now ≡ false }
     ensures event { Gives (λ event. event) result (event_of_line schema.now text.now) }
     ensures of_schema { IfOk result (λ found. IfSome found (λ event. IsOfSchema schema.now event)) }
 {
@@ -44,7 +46,7 @@ fn read_line(
     schema: &Schema,
     text: &[u8],
 ) -> Result<Option<Event>, OrMemory<EventFault>>
-    requires { list_any (λ b. b == 10) text.now ≡ false }
+    requires { has_line_feed text.now ≡ false }
     ensures { Gives (λ event. event) result (event_of_line schema.now text.now) }
 {
     let line = without_return(text);
@@ -54,7 +56,7 @@ fn read_line(
     if is_bad(line) {
         return Err(OrMemory::Fault(EventFault::BadLine));
     }
-    let event = if line.contains(&b'"') {
+    let event = if line.contains(&QUOTE) {
         read_quoted(alloc, schema, line)?
     } else {
         read_plain(alloc, schema, line)?
@@ -65,10 +67,10 @@ fn read_line(
 /// The line without the one carriage return at its end.
 fn without_return(text: &[u8]) -> &[u8]
     ensures line { result.now ≡ strip_carriage_return text.now }
-    ensures kept { list_any (λ b. b == 10) text.now ≡ false → list_any (λ b. b == 10) result.now ≡ false }
+    ensures kept { has_line_feed text.now ≡ false → has_line_feed result.now ≡ false }
 {
     let len = text.len();
-    if len > 0 && text[len - 1] == 13 {
+    if len > 0 && text[len - 1] == CARRIAGE_RETURN {
         &text[..len - 1]
     } else {
         text
@@ -79,16 +81,16 @@ fn without_return(text: &[u8]) -> &[u8]
 fn is_bad(line: &[u8]) -> bool
     ensures { result ≡ is_bad line.now }
 {
-    line.contains(&13) || line.starts_with(&[239, 187, 191])
+    line.contains(&CARRIAGE_RETURN) || line.starts_with(&[239, 187, 191])
 }
 
 /// The event of a line with no quote byte.
 #[tactic(auto, using(crate::proofs::LineBytes::plain_bytes, crate::proofs::LineBytes::parts_some, crate::proofs::Cuts::plain_fields, crate::proofs::Cuts::plain_closed))]
 fn read_plain(alloc: Global, schema: &Schema, line: &[u8]) -> Result<Event, OrMemory<EventFault>>
     requires some { 0 < length line.now }
-    requires quote { list_any (λ b. b == 34) line.now ≡ false }
-    requires carriage_return { list_any (λ b. b == 13) line.now ≡ false }
-    requires line_feed { list_any (λ b. b == 10) line.now ≡ false }
+    requires quote { list_any (λ b. b == QUOTE) line.now ≡ false }
+    requires carriage_return { list_any (λ b. b == CARRIAGE_RETURN) line.now ≡ false }
+    requires line_feed { has_line_feed line.now ≡ false }
     ensures closed { ends_open line.now ≡ false }
     ensures event { Gives (λ event. event) result (event_of schema.now (fields line.now)) }
 {
@@ -100,14 +102,15 @@ fn read_plain(alloc: Global, schema: &Schema, line: &[u8]) -> Result<Event, OrMe
 #[tactic(auto, using(crate::proofs::LineBytes::without_ends))]
 fn read_quoted(alloc: Global, schema: &Schema, line: &[u8]) -> Result<Event, OrMemory<EventFault>>
     requires some { 0 < length line.now }
-    requires carriage_return { list_any (λ b. b == 13) line.now ≡ false }
-    requires line_feed { list_any (λ b. b == 10) line.now ≡ false }
+    requires fine { is_bad line.now ≡ false }
+    requires line_feed { has_line_feed line.now ≡ false }
     ensures { Gives (λ event. event) result (event_of_record schema.now (ends_open line.now) (fields line.now)) }
 {
-    let Some(owned) = quoted_fields(alloc, line)? else {
+    if ends_open(line) {
         return Err(OrMemory::Fault(EventFault::OpenQuote));
-    };
-    let cells = borrow_all(alloc, owned.as_slice())?;
+    }
+    let row = record_of(alloc, line)?;
+    let cells = record_cells(alloc, &row)?;
     read_cells(alloc, schema, cells.as_slice())
 }
 
@@ -117,14 +120,15 @@ fn read_cells(
     schema: &Schema,
     cells: &[&[u8]],
 ) -> Result<Event, OrMemory<EventFault>>
-    requires { 0 < length cells.now }
     ensures { Gives (λ event. event) result (event_of schema.now (map (λ cell. cell.now) cells.now)) }
 {
-    let Some(ty) = schema.type_of_bytes(cells[0]) else {
+    let Some((name, fields)) = cells.split_first() else {
+        return Err(OrMemory::Fault(EventFault::UnknownType));
+    };
+    let Some(ty) = schema.type_of_bytes(name) else {
         return Err(OrMemory::Fault(EventFault::UnknownType));
     };
     let kinds = schema.kinds(ty).as_slice();
-    let fields = &cells[1..];
     if fields.len() != kinds.len() {
         return Err(OrMemory::Fault(EventFault::FieldCount {
             want: kinds.len() as u64,

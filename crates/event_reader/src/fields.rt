@@ -1,95 +1,89 @@
-//! The fields of a line that may have quotes.
+//! The fields of a line that may have quotes: those that the library `csv` cuts.
 
-ghost use Rattle.std.specs.Prelude.{◌≡◌, ◌≢◌, ℕ, ◌<◌, length, map, All, false, IfOk, OnOk, IfSome, is_none, vec_len};
-ghost use Rattle.csv.specs.Machine.{step, fields_after, field_after, is_end};
-ghost use Rattle.csv.specs.Reading.{default_config};
-ghost use Rattle.event_reader.specs.Fields.{fields, ends_open, IsWithoutEnds, is_quoted as ends_quoted};
-ghost use Rattle.event_reader.specs.Places.{state_of, action_of};
+ghost use Rattle.std.specs.Prelude.{◌≡◌, ◌≢◌, ℕ, ◌<◌, length, map, All, true, false, IfOk, IfSome, option_map, nat_eq, []};
+ghost use Rattle.std.specs.List.{starts_with};
+ghost use Rattle.csv.specs.Machine.{next_record, step};
+ghost use Rattle.csv.specs.Reading.{default_config, strip_bom};
+ghost use Rattle.csv.specs.Records.{fields_of as fields_of_record};
+ghost use Rattle.csv.specs.declared.parser.State.TheVariants as state;
+ghost use Rattle.event_reader.specs.Fields.{fields, fields_of, ends_open, IsWithoutEnds, is_quoted as ends_quoted};
+ghost use Rattle.event_reader.specs.FieldStates.{state_of};
 
 use cer_base::Memory;
+use cer_base::bytes::{COMMA, QUOTE};
+use csv::{ByteRecord, Error, ReaderBuilder};
 use std::alloc::Global;
-use std::mem;
 
-/// Where the reader stands in a field.
+/// Where a reader stands in a field.
 #[derive(Debug, Clone, Copy, PartialEq, Eq)]
-enum Place {
+enum FieldState {
     Start,
     Plain,
     Quoted,
     AfterQuote,
 }
 
-/// What a byte does.
-#[derive(Debug, Clone, Copy, PartialEq, Eq)]
-enum Act {
-    Skip,
-    Copy,
-    EndField,
-}
-
-/// The fields of the line, or `None` where it ends inside quotes.
-pub fn quoted_fields(alloc: Global, line: &[u8]) -> Result<Option<Vec<Vec<u8>>>, Memory>
+/// Whether the line ends inside quotes.
+pub fn ends_open(line: &[u8]) -> bool
     requires some { 0 < length line.now }
     requires plain { All IsWithoutEnds line.now }
-    ensures some { IfOk result (λ found. IfSome found (λ v. 0 < vec_len v)) }
-    ensures open { IfOk result (λ found. is_none found ≡ ends_open line.now) }
-    ensures fields { IfOk result (λ found. IfSome found (λ v. map (λ f. f.items) v.items ≡ fields line.now)) }
+    ensures { result ≡ ends_open line.now }
 {
-    let mut fields = Vec::new(alloc);
-    let mut field = Vec::new(alloc);
-    let mut place = Place::Start;
+    let mut state = FieldState::Start;
     for byte in line {
-        let (next, act) = turn(place, *byte);
-        apply(alloc, act, *byte, &mut fields, &mut field)?;
-        place = next;
+        state = state_after(state, *byte);
     }
-    if is_quoted(place) {
-        return Ok(None);
-    }
-    fields.push(field)?;
-    Ok(Some(fields))
+    is_quoted(state)
 }
 
-fn is_quoted(place: Place) -> bool
-    ensures { result ≡ ends_quoted (state_of place) }
+/// The record of the line, as `csv` reads it.
+///
+/// Its contract leaves open that a read of bytes in memory fails; such an answer, which does not
+/// come, is told as memory that ran out.
+pub fn record_of(alloc: Global, line: &[u8]) -> Result<ByteRecord, Memory>
+    requires some { 0 < length line.now }
+    requires mark { strip_bom line.now ≡ line.now }
+    ensures { IfOk result (λ row. fields_of_record row ≡ fields line.now) }
 {
-    matches!(place, Place::Quoted)
+    match first_record(alloc, line) {
+        Ok(Some(row)) => Ok(row),
+        Ok(None) => Ok(ByteRecord::new(alloc)),
+        Err(_) => Err(Memory),
+    }
 }
 
-/// The place after the byte, and what the byte does.
-fn turn(place: Place, byte: u8) -> (Place, Act)
+/// The first record of the text, if it has one.
+fn first_record(alloc: Global, text: &[u8]) -> Result<Option<ByteRecord>, Error>
+    ensures { IfOk result (λ o. option_map fields_of_record o ≡ option_map (λ p. p.0) (next_record default_config state.StartRecord [] [] (strip_bom text.now))) }
+{
+    let mut reader = ReaderBuilder::new()
+        .has_headers(false)
+        .from_reader(alloc, text);
+    let mut row = ByteRecord::new(alloc);
+    if reader.read_byte_record(&mut row)? {
+        Ok(Some(row))
+    } else {
+        Ok(None)
+    }
+}
+
+fn is_quoted(state: FieldState) -> bool
+    ensures { result ≡ ends_quoted (state_of state) }
+{
+    matches!(state, FieldState::Quoted)
+}
+
+/// Where the reader stands after the byte.
+fn state_after(state: FieldState, byte: u8) -> FieldState
     requires { IsWithoutEnds byte }
-    ensures place { state_of result.0 ≡ (step default_config (state_of place) byte).0 }
-    ensures act { action_of result.1 ≡ (step default_config (state_of place) byte).1 }
+    ensures { state_of result ≡ (step default_config (state_of state) byte).0 }
 {
-    match place {
-        Place::Start if byte == b'"' => (Place::Quoted, Act::Skip),
-        Place::Quoted if byte == b'"' => (Place::AfterQuote, Act::Skip),
-        Place::Quoted => (Place::Quoted, Act::Copy),
-        Place::AfterQuote if byte == b'"' => (Place::Quoted, Act::Copy),
-        _ if byte == b',' => (Place::Start, Act::EndField),
-        _ => (Place::Plain, Act::Copy),
+    match state {
+        FieldState::Start if byte == QUOTE => FieldState::Quoted,
+        FieldState::Quoted if byte == QUOTE => FieldState::AfterQuote,
+        FieldState::Quoted => FieldState::Quoted,
+        FieldState::AfterQuote if byte == QUOTE => FieldState::Quoted,
+        _ if byte == COMMA => FieldState::Start,
+        _ => FieldState::Plain,
     }
-}
-
-/// Does what the byte does to the fields that have ended and the field at hand.
-fn apply(
-    alloc: Global,
-    act: Act,
-    byte: u8,
-    fields: &mut Vec<Vec<u8>>,
-    field: &mut Vec<u8>,
-) -> Result<(), Memory>
-    ensures fields { OnOk result (map (λ f. f.items) fields.new.items ≡ fields_after (action_of act) (map (λ f. f.items) fields.old.items) field.old.items) }
-    ensures field { OnOk result (field.new.items ≡ field_after (action_of act) byte field.old.items) }
-{
-    match act {
-        Act::Skip => {}
-        Act::Copy => field.push(byte)?,
-        Act::EndField => {
-            let ended = mem::replace(field, Vec::new(alloc));
-            fields.push(ended)?;
-        }
-    }
-    Ok(())
 }

@@ -3,7 +3,8 @@
 //! Promised: `Lines` gives exactly the lines of the definition `file_lines`, however its source cuts
 //! the bytes, and says exactly why there is no further one. `read_event` answers exactly the event
 //! of the line, or the first of its refusals, where the fields are those of `csv`'s own definition.
-//! A line with no quote byte is cut at its commas; both ways give the fields of the one definition.
+//! A line with no quote byte is cut at its commas, every other by `csv` itself; both give the fields of
+//! the one definition.
 //! It stands on `csv`, `memchr`, `cer_outside`, `stream_schema` and `cer_base`.
 #![tactic(auto)]
 
@@ -13,6 +14,7 @@ use thiserror::Error;
 mod cells;
 mod events;
 mod fields;
+mod line_buffer;
 #[cfg(test)]
 mod line_tests;
 mod numbers;
@@ -22,35 +24,34 @@ mod speed;
 #[cfg(test)]
 mod tests;
 mod values;
-mod window;
 
 pub use events::read_event;
 pub use reader::{Lines, Next};
 
-/// Why an event was refused. Where several hold of a line, 11 comes before 24, and these before 20,
-/// 21, 22 and 23.
+/// Why an event was refused. Where several hold of a line, the first of these
+/// is the answer.
 #[derive(Drop, Debug, Clone, Copy, PartialEq, Eq, Error)]
 pub enum EventFault {
-    /// 11: the line has more than 65,536 bytes.
+    /// The line has more than 65,536 bytes.
     #[error("line longer than 65536 bytes")]
     LineTooLong,
-    /// 24: the line holds a carriage return besides the one at its end, or begins with a byte order
+    /// The line holds a carriage return besides the one at its end, or begins with a byte order
     /// mark.
     #[error("carriage return or byte order mark in the line")]
     BadLine,
-    /// 20: the line ends inside quotes.
+    /// The line ends inside quotes.
     #[error("open quote")]
     OpenQuote,
-    /// 21: no declared type has the name that the first field gives.
+    /// No declared type has the name that the first field gives.
     #[error("unknown type")]
     UnknownType,
-    /// 22: the number of fields, the type's name not counted, is not that of the attributes.
+    /// The number of fields, the type's name not counted, is not that of the attributes.
     #[error("{got} fields where {want} is wanted")]
     FieldCount { want: u64, got: u64 },
-    /// 23: the field of this number, from 1 without the type's name, is not of the declared kind.
+    /// The field of this number, from 1 without the type's name, is not of the declared kind.
     #[error("field {field} is of another kind")]
     BadValue { field: u64, kind: Kind },
-    /// 25: the clock of the query of this number falls below that of its last event.
+    /// The clock of the query of this number falls below that of its last event.
     #[error("time falls from {before} to {now} in query {query}")]
     TimeBack { query: u64, before: i128, now: i128 },
 }
@@ -58,13 +59,13 @@ pub enum EventFault {
 /// Why there is no further line.
 #[derive(Drop, Debug, Clone, Copy, PartialEq, Eq, Error)]
 pub enum LineFault {
-    /// 10: the source failed.
+    /// The source failed.
     #[error("cannot read")]
     ReadFault,
-    /// 11: the line of this number, from 1, has more than 65,536 bytes.
+    /// The line of this number, from 1, has more than 65,536 bytes.
     #[error("line {line} is longer than 65536 bytes")]
     LineTooLong { line: u64 },
-    /// 12: this many bytes were taken, which is the budget, and the input does not end there.
+    /// This many bytes were taken, which is the budget, and the input does not end there.
     #[error("input longer than {taken} bytes")]
     InputTooLong { taken: u64 },
 }

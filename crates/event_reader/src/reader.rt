@@ -2,15 +2,15 @@
 
 ghost use Rattle.std.specs.Prelude.{◌≡◌, ◌+◌, ◌-◌, ◌<◌, ◌≤◌, ◌==◌, ℕ, List, [], true, false, length, take, drop, IfOk};
 ghost use Rattle.event_reader.specs.declared.reader.Next.TheVariants as next;
-ghost use Rattle.std.specs.List.{list_any};
 ghost use Rattle.cer_outside.specs.Causes.{Rose};
-ghost use Rattle.event_reader.specs.Lines.{without_mark, text_of};
-ghost use Rattle.event_reader.specs.Windows.{has_feed, IsShort};
-ghost use Rattle.event_reader.specs.Reading.{HasGiven, Follows, OnReadFault, MovesOn};
+ghost use Rattle.event_reader.specs.Lines.{has_line_feed, without_mark, line_text};
+ghost use Rattle.event_reader.specs.LineBuffers.{IsShort};
+ghost use Rattle.event_reader.specs.Reading.{HasGiven, Follows, HasTakenFor, OnReadFault, MovesOn};
 
 use crate::LineFault;
-use crate::window::{Stop, Window};
+use crate::line_buffer::{LineBuffer, Stop};
 use cer_base::Memory;
+use cer_base::limits::LONGEST_LINE;
 use cer_outside::{Failed, Source};
 use std::alloc::Global;
 use std::marker::Model;
@@ -27,7 +27,7 @@ pub enum Next {
 /// A reader of the lines of a file, of which at most so many bytes count.
 #[derive(Drop)]
 pub struct Lines {
-    window: Window,
+    buffer: LineBuffer,
     budget: u64,
     room: u64,
     number: u64,
@@ -37,13 +37,13 @@ pub struct Lines {
 
 impl Model for Lines {
     ghost use Rattle.std.specs.Prelude.{◌+◌, ◌≤◌, length};
-    ghost use Rattle.event_reader.specs.Reading.{Reader};
+    ghost use Rattle.event_reader.specs.Reading.{LineReader};
 
-    ghost Value = { Reader };
+    ghost Value = { LineReader };
 
-    ghost view = { λ l. record { budget = l.budget; number = l.number; text = l.window.text; pending = l.window.pending; room = l.room; ended = l.ended; closed = l.closed } };
+    ghost view = { λ l. record { budget = l.budget; number = l.number; text = l.buffer.text; pending = l.buffer.pending; room = l.room; ended = l.ended; closed = l.closed } };
 
-    ghost invariant = { λ l. (length l.window.pending ≤ l.room) × (l.number + l.room ≤ l.budget) };
+    ghost invariant = { λ l. (length l.buffer.pending ≤ l.room) × (l.number + l.room ≤ l.budget) };
 }
 
 impl Lines {
@@ -55,7 +55,7 @@ impl Lines {
         ensures open { IfOk result (λ lines. lines.closed ≡ false) }
     {
         Ok(Lines {
-            window: Window::new(alloc)?,
+            buffer: LineBuffer::new(alloc)?,
             budget,
             room: budget,
             number: 0,
@@ -75,10 +75,10 @@ impl Lines {
     /// feed and, in line 1, without a byte order mark at its beginning.
     pub fn text(&self) -> &[u8]
         ensures value { result.now ≡ self.now.text }
-        ensures line_feed { list_any (λ b. b == 10) result.now ≡ false }
-        ensures short { length result.now ≤ 65536 }
+        ensures line_feed { has_line_feed result.now ≡ false }
+        ensures short { length result.now ≤ LONGEST_LINE }
     {
-        self.window.text()
+        self.buffer.text()
     }
 
     /// Whether the end or a fault was answered.
@@ -91,12 +91,16 @@ impl Lines {
     /// The next line, or the end of the file, or the first of these faults that holds where no
     /// complete line is left among the bytes that were taken. It takes no memory.
     ///
-    /// - 11 `LineTooLong`
-    /// - 12 `InputTooLong`
-    /// - 10 `ReadFault`
+    /// - `LineTooLong`
+    /// - `InputTooLong`
+    /// - `ReadFault`
+    ///
+    /// Of its source it has then taken all of the budget where the input is too long, and else no
+    /// more than the budget.
     pub fn next<Q: Source>(&mut self, source: &mut Q) -> Result<Next, LineFault>
         requires { self.old.closed ≡ false }
         ensures lines { (bytes : List ℕ) (texts : List (List ℕ)) → HasGiven self.old bytes (Q.left source.old) texts → Follows self.new bytes (Q.left source.new) texts result }
+        ensures took { (bytes : List ℕ) (texts : List (List ℕ)) → HasGiven self.old bytes (Q.left source.old) texts → HasTakenFor self.old.budget bytes (Q.left source.new) result }
         ensures moves { MovesOn self.old self.new result }
         ensures later { Q.faults source.old ≤ Q.faults source.new }
         ensures cause { OnReadFault result (Rose (Q.faults source.old) (Q.faults source.new)) }
@@ -106,8 +110,8 @@ impl Lines {
             self.closed = true;
             return Ok(Next::End);
         }
-        match self.window.seek(source, self.room) {
-            Ok(Stop::Feed(len)) => {
+        match self.buffer.seek(source, self.room) {
+            Ok(Stop::LineFeed(len)) => {
                 self.give(len, len + 1);
                 Ok(Next::Line)
             }
@@ -126,12 +130,12 @@ impl Lines {
         requires some { 0 < end }
         requires len { len ≤ end }
         requires end { end ≤ length self.old.pending }
-        requires short { len ≤ 65536 }
-        requires plain { has_feed (take len self.old.pending) ≡ false }
-        ensures { self.new ≡ record self.old { number = self.old.number + 1; text = text_of self.old.number (take len self.old.pending); pending = drop end self.old.pending; room = self.old.room - end } }
+        requires short { len ≤ LONGEST_LINE }
+        requires plain { has_line_feed (take len self.old.pending) ≡ false }
+        ensures { self.new ≡ record self.old { number = self.old.number + 1; text = line_text self.old.number (take len self.old.pending); pending = drop end self.old.pending; room = self.old.room - end } }
     {
         let start = self.start_of(len);
-        self.window.give(start, len, end);
+        self.buffer.give(start, len, end);
         self.room -= end as u64;
         self.number += 1;
     }
@@ -139,11 +143,11 @@ impl Lines {
     /// Where the text of a line of the first `len` bytes at hand begins.
     fn start_of(&self, len: usize) -> usize
         requires { len ≤ length self.now.pending }
-        ensures text { drop result (take len self.now.pending) ≡ text_of self.now.number (take len self.now.pending) }
+        ensures text { drop result (take len self.now.pending) ≡ line_text self.now.number (take len self.now.pending) }
         ensures within { result ≤ len }
     {
         if self.number == 0 {
-            mark_len(self.window.front(len))
+            mark_len(self.buffer.front(len))
         } else {
             0
         }
@@ -153,9 +157,9 @@ impl Lines {
     fn last(&mut self) -> Next
         requires { IsShort self.old.pending }
         ensures none { length self.old.pending ≡ 0 → (result ≡ next.End) × (self.new ≡ record self.old { closed = true }) }
-        ensures some { 0 < length self.old.pending → (result ≡ next.Line) × (self.new ≡ record self.old { number = self.old.number + 1; text = text_of self.old.number self.old.pending; pending = []; room = self.old.room - length self.old.pending; ended = true }) }
+        ensures some { 0 < length self.old.pending → (result ≡ next.Line) × (self.new ≡ record self.old { number = self.old.number + 1; text = line_text self.old.number self.old.pending; pending = []; room = self.old.room - length self.old.pending; ended = true }) }
     {
-        let len = self.window.len();
+        let len = self.buffer.len();
         if len == 0 {
             self.closed = true;
             return Next::End;

@@ -1,5 +1,5 @@
 use Rattle.std.proofs.Common.{ap, refl}
-use Rattle.event_reader.specs.Windows.{Held}
+use Rattle.event_reader.specs.LineBuffers.{Held}
 use Rattle.event_reader.proofs.GivenLines.{begun}
 use Rattle.event_reader.proofs.reader.Lines.new.Goals as goal
 

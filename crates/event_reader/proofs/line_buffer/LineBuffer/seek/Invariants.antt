@@ -1,0 +1,14 @@
+-- What was taken and what is left stay the same, and the count has not fallen.
+use Rattle.std.proofs.Common.{◌-◌, ◌≤◌, length}
+use Rattle.event_reader.specs.LineBuffers.{ReadsOn}
+use Rattle.event_reader.proofs.line_buffer.LineBuffer.seek.Given as goal
+
+abbrev pub invariant-loop-place : goal.invariant-loop-place
+invariant-loop-place g l = record {
+  bytes : ReadsOn (g.Q.Source.left l.fn.source) (g.Q.Source.left l.source) l.fn.self.pending l.self.pending;
+  room : length l.self.pending ≤ l.room;
+  later : g.Q.Source.faults l.fn.source ≤ g.Q.Source.faults l.source;
+}
+
+abbrev pub decreases-loop-place : goal.decreases-loop-place
+decreases-loop-place g l = l.room - length l.self.pending

@@ -6,9 +6,9 @@ use Rattle.cel_terms.specs.Answers.{HasMarks, IsBoundAt, is_named}
 use Rattle.cel_terms.specs.Tree.{Tree}
 use Rattle.cel_terms.specs.Expand.{Occurrence}
 use Rattle.cel_terms.specs.Leaves.{occurrences, numbered, names_in, marked}
-use Rattle.cea_determinise.specs.Runs.{LeafSet, Automaton, start, Entry, run, accepted}
+use Rattle.cea_determinise.specs.Runs.{LeafSet, Automaton, start, Entry, run, accepted_run}
 use Rattle.cea_compile.specs.Paths.{Step, Reading, tree_meaning, reading, valuation}
-use Rattle.cea_compile.specs.Positions.{Steps, done, step, Walk, walk, Follows, IsAutomatonOf}
+use Rattle.cea_compile.specs.Positions.{Steps, done, step, Walk, walk, HasFollower, IsAutomatonOf}
 use Rattle.cea_compile.specs.Covers.{Cover, MarkedAt, is_listed, AreWithin}
 use Rattle.cel_terms.specs.Meaning.{Stream, Meaning}
 use Rattle.cea_compile.proofs.Glushkov.{path_iff_walk}
@@ -64,7 +64,7 @@ steps_within r F m j q l e p w within (step {k = k} {q = q'} {w = w'} f a y s) (
 
 walk_within : (r : Reading) (t : Tree ℕ) (m : LeafSet) (s e p : ℕ) (w : List Step) → ReadsWithin r → Walk r t s e w → MarkedAt m w p → r.Has p × (s ≤ p) × (p ≤ e)
 walk_within r t m s e p w within (walk {j = j} f y x l) (inl h) = let eq = h.0 in let le = steps_rise x in (subst r.Has h.0 (within j s y), omega arith, omega arith)
-walk_within r t m s e p w within (walk {j = j} {l = l'} {w = w'} f y x l) (inr h) = steps_within r (Follows t) m j s l' e p w' within x h
+walk_within r t m s e p w within (walk {j = j} {l = l'} {w = w'} f y x l) (inr h) = steps_within r (HasFollower t) m j s l' e p w' within x h
 
 -- It is the automaton of a tree of leaves: over the leaves' numbers, and with their marks.
 pub record IsLeafAutomaton (t : Tree Occurrence) (a : Automaton) : Type 0 where
@@ -120,7 +120,7 @@ module _ (stream : Stream) (t : Tree Occurrence) (part : Meaning) (means : Same 
       }
 
   -- Some valuation from the start to the end has exactly these marks where the determinised run that takes them accepts.
-  pub marks_iff_run : (xs : List Entry) → Cover (reading stream (occurrences t)) a.size from xs end → HasMarks part from end marks ↔ (AreWithin stream from end marks × (accepted a (run a (is_listed marks) start xs) ≡ true))
+  pub marks_iff_run : (xs : List Entry) → Cover (reading stream (occurrences t)) a.size from xs end → HasMarks part from end marks ↔ (AreWithin stream from end marks × (accepted_run a (run a (is_listed marks) start xs) ≡ true))
   marks_iff_run xs cover =
       let iff = path_iff_run (reading stream (occurrences t)) (numbered 0 t) a (numbered_linear t 0) of_tree.pairs (reads_within stream (occurrences t)) (is_listed marks) from end xs cover in
       (λ h. (within_of_marks h, iff.0 (path_of_marks h)), λ h. marks_of_path h.0 (iff.1 h.1))

@@ -6,7 +6,7 @@ use Rattle.cel_terms.specs.Tree.{Tree, leaf, none, sequence, either, plus}
 use Rattle.cel_terms.specs.Expand.{Occurrence}
 use Rattle.cel_terms.specs.Leaves.{numbered}
 use Rattle.cea_determinise.specs.Runs.{agrees, follow}
-use Rattle.cea_compile.specs.Positions.{First, Last, Follows}
+use Rattle.cea_compile.specs.Positions.{First, Last, HasFollower}
 use Rattle.cea_compile.specs.Compiled.{first_set, last_set, follow_set, automaton_of}
 use Rattle.cea_compile.proofs.Answers.{IsLeafAutomaton}
 
@@ -35,14 +35,14 @@ last_is (plus u a) k = last_is a k
 crossing_is : (u t : Bool) (a b : Tree ℕ) (j k : ℕ) → Decides (agrees u t && (last_set a j && first_set b k)) ((t ≡ u) × Last a j × First b k)
 crossing_is u t a b j k = Decides-like (agrees u t && (last_set a j && first_set b k)) (λ (p : (t ≡ u) × (Last a j × First b k)). (p.0, p.1.0, p.1.1)) (λ p. (p.0, (p.1, p.2))) (Decides-and (agrees u t) (last_set a j && first_set b k) (same_flag u t) (Decides-and (last_set a j) (first_set b k) (last_is a j) (first_is b k)))
 
-follow_is : (t : Tree ℕ) (tight : Bool) (j k : ℕ) → Decides (follow_set t tight j k) (Follows t tight j k)
+follow_is : (t : Tree ℕ) (tight : Bool) (j k : ℕ) → Decides (follow_set t tight j k) (HasFollower t tight j k)
 follow_is (leaf n) t j k = never (λ h. h)
 follow_is none t j k = never (λ h. h)
 follow_is (sequence u a b) t j k = Decides-or (follow_set a t j k) (follow_set b t j k || (agrees u t && (last_set a j && first_set b k))) (follow_is a t j k) (Decides-or (follow_set b t j k) (agrees u t && (last_set a j && first_set b k)) (follow_is b t j k) (crossing_is u t a b j k))
 follow_is (either a b) t j k = Decides-or (follow_set a t j k) (follow_set b t j k) (follow_is a t j k) (follow_is b t j k)
 follow_is (plus u a) t j k = Decides-or (follow_set a t j k) (agrees u t && (last_set a j && first_set a k)) (follow_is a t j k) (crossing_is u t a a j k)
 
-follows_is : (t : Tree Occurrence) (tight : Bool) (j k : ℕ) → Decides (follow (automaton_of t) tight j k) (Follows (numbered 0 t) tight j k)
+follows_is : (t : Tree Occurrence) (tight : Bool) (j k : ℕ) → Decides (follow (automaton_of t) tight j k) (HasFollower (numbered 0 t) tight j k)
 follows_is t true j k = follow_is (numbered 0 t) true j k
 follows_is t false j k = follow_is (numbered 0 t) false j k
 

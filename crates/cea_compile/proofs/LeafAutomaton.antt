@@ -9,7 +9,7 @@ use Rattle.cel_terms.specs.Shapes.{AreLeavesOf}
 use Rattle.cea_determinise.specs.Runs.{LeafSet}
 use Rattle.cea_compile.specs.Compiled.{automaton_over}
 use Rattle.cea_compile.specs.DeterminisedRuns.{reads_at, entry_at}
-use Rattle.cea_compile.specs.LeafAutomaton.{is_marked, LeavesTellQuery}
+use Rattle.cea_compile.specs.LeafAutomaton.{is_marked_leaf, LeavesTellQuery}
 use Rattle.cel_terms.specs.Conditions.{can_read, bits_of}
 
 as_many : (schema : Declared) (os : List Occurrence) (ls : List Leaf) → AreLeavesOf schema os ls → length ls ≡ length os
@@ -18,7 +18,7 @@ as_many schema [] (l ∷ ls) h = absurd h
 as_many schema (o ∷ os) [] h = absurd h
 as_many schema (o ∷ os) (l ∷ ls) h = ap suc (as_many schema os ls h.1)
 
-same_marks : (schema : Declared) (os : List Occurrence) (ls : List Leaf) → AreLeavesOf schema os ls → (k : ℕ) → is_marked (slice_get ls k) ≡ marked os k
+same_marks : (schema : Declared) (os : List Occurrence) (ls : List Leaf) → AreLeavesOf schema os ls → (k : ℕ) → is_marked_leaf (slice_get ls k) ≡ marked os k
 same_marks schema [] [] h k = refl
 same_marks schema [] (l ∷ ls) h k = absurd h
 same_marks schema (o ∷ os) [] h k = absurd h
@@ -38,7 +38,7 @@ one_set a b h = λ i k. h k i
 
 pub leaves_tell : LeavesTellQuery
 leaves_tell schema q l shape list = record {
-  automaton = ap₂ (λ t size. automaton_over t size (λ k. is_marked (slice_get l.list k))) shape (as_many schema (occurrences (tree_of q)) l.list list) ∙
-      ap (automaton_over (numbered 0 (tree_of q)) (length (occurrences (tree_of q)))) (one_set (λ k. is_marked (slice_get l.list k)) (marked (occurrences (tree_of q))) (same_marks schema (occurrences (tree_of q)) l.list list));
+  automaton = ap₂ (λ t size. automaton_over t size (λ k. is_marked_leaf (slice_get l.list k))) shape (as_many schema (occurrences (tree_of q)) l.list list) ∙
+      ap (automaton_over (numbered 0 (tree_of q)) (length (occurrences (tree_of q)))) (one_set (λ k. is_marked_leaf (slice_get l.list k)) (marked (occurrences (tree_of q))) (same_marks schema (occurrences (tree_of q)) l.list list));
   bits = λ events p event at. one_set (bits_of l.list event) (entry_at schema q events p).bits (λ k. same_reads schema (occurrences (tree_of q)) l.list list event k ∙ ap (reads_at schema (slice_get (occurrences (tree_of q)) k)) (sym at));
 }

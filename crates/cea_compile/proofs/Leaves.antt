@@ -5,7 +5,7 @@ use Rattle.std.proofs.lemmas.Bool.{false≢true}
 use Rattle.cel_terms.specs.Tree.{Tree, leaf, none, sequence, either, plus}
 use Rattle.cel_terms.specs.Expand.{Occurrence}
 use Rattle.cel_terms.specs.Leaves.{occurrences, numbered, names_in}
-use Rattle.cea_compile.specs.Paths.{Step, IsAfter, Path, HasLeaf, IsLinear, at, then, left, right, once as once_through, again as again_through, AtLeaf, tree_meaning, reading, valuation, LeafReads}
+use Rattle.cea_compile.specs.Paths.{Step, MayComeAfter, Path, HasLeaf, IsLinear, at, then, left, right, once as once_through, again as again_through, AtLeaf, tree_meaning, reading, valuation, LeafReads}
 use Rattle.cel_terms.specs.Meaning.{Stream, Meaning, Valuation, MayFollow, Sequence, Repeated, once, again, OneOf}
 
 -- the list has the tree's leaves from the base on
@@ -62,11 +62,11 @@ numbered_linear (sequence u a b) base = (numbered_linear a base, numbered_linear
 numbered_linear (either a b) base = (numbered_linear a base, numbered_linear b (base + length (occurrences a)), apart a b base)
 numbered_linear (plus u a) base = numbered_linear a base
 
-is_after : (stream : Stream) (tight : Bool) (m n : ℕ) → MayFollow stream tight m n → IsAfter stream.Has tight m n
+is_after : (stream : Stream) (tight : Bool) (m n : ℕ) → MayFollow stream tight m n → MayComeAfter stream.Has tight m n
 is_after stream true m n h = record { later = h.0; next = λ e. h.1 }
 is_after stream false m n h = record { later = h; next = λ e. absurd (false≢true e) }
 
-may_follow : (stream : Stream) (tight : Bool) (m n : ℕ) → IsAfter stream.Has tight m n → MayFollow stream tight m n
+may_follow : (stream : Stream) (tight : Bool) (m n : ℕ) → MayComeAfter stream.Has tight m n → MayFollow stream tight m n
 may_follow stream true m n h = (h.later, h.next refl)
 may_follow stream false m n h = h.later
 

@@ -10,7 +10,7 @@ use Rattle.cel_terms.specs.Expand.{Occurrence, expand, selected_tree, tree_of}
 use Rattle.cel_terms.specs.Leaves.{occurrences}
 use Rattle.cea_determinise.specs.Runs.{Automaton, Entry}
 use Rattle.cea_determinise.specs.Strict.{Standing, begin, next_standing, run_standing, accepted_standing}
-use Rattle.cea_compile.specs.Paths.{Reading, IsAfter, tree_meaning, reading}
+use Rattle.cea_compile.specs.Paths.{Reading, MayComeAfter, tree_meaning, reading}
 use Rattle.cea_compile.specs.Covers.{IsEntry, Cover, CoverAfter, AreWithin, is_listed}
 use Rattle.cea_compile.specs.Compiled.{automaton_of}
 use Rattle.cel_terms.specs.Meaning.{Stream, Meaning, meaning, only_names}
@@ -48,11 +48,11 @@ run_more a strict marks [] x s = and_then_some (next_standing a strict s x.bits 
 run_more a strict marks (y ∷ xs) x s = run_more_step a strict marks xs x (run_more a strict marks xs x) (next_standing a strict s y.bits (marks y.position))
 
 -- The entries from a start, and one more.
-cover_after_more : (r : Reading) (size p middle : ℕ) (xs : List Entry) (x : Entry) → CoverAfter r size p xs middle → IsAfter r.Has true middle x.position → IsEntry r size x → CoverAfter r size p (xs ++ (x ∷ [])) x.position
-cover_after_more r size p middle [] x c after entry = (subst (λ n. IsAfter r.Has true n x.position) (sym c) after, entry, refl)
+cover_after_more : (r : Reading) (size p middle : ℕ) (xs : List Entry) (x : Entry) → CoverAfter r size p xs middle → MayComeAfter r.Has true middle x.position → IsEntry r size x → CoverAfter r size p (xs ++ (x ∷ [])) x.position
+cover_after_more r size p middle [] x c after entry = (subst (λ n. MayComeAfter r.Has true n x.position) (sym c) after, entry, refl)
 cover_after_more r size p middle (y ∷ xs) x c after entry = (c.0, c.1, cover_after_more r size y.position middle xs x c.2 after entry)
 
-pub cover_more : (r : Reading) (size from middle : ℕ) (xs : List Entry) (x : Entry) → Cover r size from xs middle → IsAfter r.Has true middle x.position → IsEntry r size x → Cover r size from (xs ++ (x ∷ [])) x.position
+pub cover_more : (r : Reading) (size from middle : ℕ) (xs : List Entry) (x : Entry) → Cover r size from xs middle → MayComeAfter r.Has true middle x.position → IsEntry r size x → Cover r size from (xs ++ (x ∷ [])) x.position
 cover_more r size from middle [] x c after entry = absurd c
 cover_more r size from middle (y ∷ xs) x c after entry = (c.0, c.1, cover_after_more r size y.position middle xs x c.2 after entry)
 

@@ -39,12 +39,12 @@ determinised_run schema q events positions start end marks =
     if is_listed span start && (is_listed span end && list_all (is_listed span) marks) then run_standing (automaton_of (tree_of q)) q.strict (is_listed marks) begin (map (entry_at schema q events) span) else None
 
 -- the determinised run of the answer's marks accepts
-abbrev pub IsAccepted : Declared → Query → List Event → List ℕ → ℕ → Answer → Type 0
-IsAccepted schema q events positions end answer =
+abbrev pub IsAcceptedRun : Declared → Query → List Event → List ℕ → ℕ → Answer → Type 0
+IsAcceptedRun schema q events positions end answer =
     accepted_standing (automaton_of (tree_of q)) (determinised_run schema q events positions answer.start end answer.marks) ≡ true
 
 -- A query has an answer at an end exactly where its marks ascend, the determinised run that takes them accepts, and it is in the window.
 abbrev pub AnswersAreAcceptedRuns : Type 0
 AnswersAreAcceptedRuns = (schema : Declared) (q : Query) (events : List Event) (end : ℕ) (positions : List ℕ) (answer : Answer) →
     ListsSubstream schema q events end positions →
-    IsAnswer schema q events end answer ↔ (IsAscending answer.marks × IsAccepted schema q events positions end answer × IsInWindow schema q events answer.start end)
+    IsAnswer schema q events end answer ↔ (IsAscending answer.marks × IsAcceptedRun schema q events positions end answer × IsInWindow schema q events answer.start end)

@@ -11,7 +11,7 @@ pub record HaveRoom (size : ℕ) (rows : List (List Bool)) : Type 0 where
   pub count : length rows ≡ size
   pub each : (j : ℕ) → j < size → length (slice_index_or rows j []) ≡ room_for size
 
-pub record HasRoom (size : ℕ) (f : Followers) : Type 0 where
+pub record FollowersHaveRoom (size : ℕ) (f : Followers) : Type 0 where
   pub near : HaveRoom size f.near.items
   pub far : HaveRoom size f.far.items
 

@@ -13,12 +13,12 @@ use Rattle.cea_determinise.specs.Runs.{Automaton}
 use Rattle.cea_compile.specs.Compiled.{automaton_over, automaton_of}
 use Rattle.cea_compile.specs.DeterminisedRuns.{entry_at}
 
-abbrev pub is_marked : Option Leaf → Bool
-is_marked None = false
-is_marked (Some l) = l.marked
+abbrev pub is_marked_leaf : Option Leaf → Bool
+is_marked_leaf None = false
+is_marked_leaf (Some l) = l.marked
 
 abbrev pub automaton_of_leaves : Leaves → Automaton
-automaton_of_leaves l = automaton_over (tree_of_shape l.shape) (length l.list) (λ k. is_marked (slice_get l.list k))
+automaton_of_leaves l = automaton_over (tree_of_shape l.shape) (length l.list) (λ k. is_marked_leaf (slice_get l.list k))
 
 -- The leaves of a query tell its automaton and, of each event, its entry in a determinised run.
 pub record TellQuery (schema : Declared) (q : Query) (l : Leaves) : Type 0 where

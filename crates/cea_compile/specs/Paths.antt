@@ -41,18 +41,18 @@ pub record Reading : Type 1 where
   pub Reads : ℕ → ℕ → Type 0
 
 -- What may come after what: anything later, or, where tight, the next of the substream.
-pub record IsAfter (Has : ℕ → Type 0) (tight : Bool) (from to : ℕ) : Type 0 where
+pub record MayComeAfter (Has : ℕ → Type 0) (tight : Bool) (from to : ℕ) : Type 0 where
   pub later : from < to
   pub next : tight ≡ true → (p : ℕ) → Has p → from < p → p < to → ⊥
 
 -- The path leads through the tree from the start to the end.
 pub data Path (r : Reading) : Tree ℕ → ℕ → ℕ → List Step → Type 0 where
   at : {k p : ℕ} → r.Reads k p → Path r (leaf k) p p (record { leaf = k; position = p } ∷ [])
-  then : {tight : Bool} {a b : Tree ℕ} {start middle next end : ℕ} {v w : List Step} → Path r a start middle v → IsAfter r.Has tight middle next → Path r b next end w → Path r (sequence tight a b) start end (v ++ w)
+  then : {tight : Bool} {a b : Tree ℕ} {start middle next end : ℕ} {v w : List Step} → Path r a start middle v → MayComeAfter r.Has tight middle next → Path r b next end w → Path r (sequence tight a b) start end (v ++ w)
   left : {a b : Tree ℕ} {start end : ℕ} {v : List Step} → Path r a start end v → Path r (either a b) start end v
   right : {a b : Tree ℕ} {start end : ℕ} {v : List Step} → Path r b start end v → Path r (either a b) start end v
   once : {tight : Bool} {a : Tree ℕ} {start end : ℕ} {v : List Step} → Path r a start end v → Path r (plus tight a) start end v
-  again : {tight : Bool} {a : Tree ℕ} {start middle next end : ℕ} {v w : List Step} → Path r a start middle v → IsAfter r.Has tight middle next → Path r (plus tight a) next end w → Path r (plus tight a) start end (v ++ w)
+  again : {tight : Bool} {a : Tree ℕ} {start middle next end : ℕ} {v w : List Step} → Path r a start middle v → MayComeAfter r.Has tight middle next → Path r (plus tight a) next end w → Path r (plus tight a) start end (v ++ w)
 
 -- the leaf is in the tree
 abbrev pub HasLeaf : Tree ℕ → ℕ → Type 0

@@ -3,7 +3,8 @@ use Rattle.std.proofs.Common.{◌≡◌, ℕ, ◌<◌, Bool, true, false, ◌&&�
 use Rattle.std.specs.Prelude.{not, option_and_then}
 use Rattle.std.proofs.lemmas.Bool.{and_parts, or_cases, false≢true}
 use Rattle.cea_determinise.specs.Runs.{LeafSet, Automaton, State, start, pair, some_below, candidates, patient, agrees, successor, has_leaf, next}
-use Rattle.cea_determinise.specs.Strict.{Phase, Standing, phase_after, next_standing}
+use Rattle.cea_determinise.specs.declared.cea.Phase.{Phase}
+use Rattle.cea_determinise.specs.Strict.{Standing, phase_after, next_standing}
 
 module _ (a : Automaton) (strict : Bool) (s : Standing) (bits : LeafSet) (mark : Bool) where
   -- the two sets are those of the successor

@@ -70,6 +70,6 @@ abbrev pub accepts : Automaton → State → Bool
 accepts a start = false
 accepts a (pair fresh waiting) = some_below a.size (λ k. fresh k && a.last k)
 
-abbrev pub accepted : Automaton → Option State → Bool
-accepted a None = false
-accepted a (Some s) = accepts a s
+abbrev pub accepted_run : Automaton → Option State → Bool
+accepted_run a None = false
+accepted_run a (Some s) = accepts a s

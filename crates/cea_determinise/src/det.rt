@@ -4,16 +4,16 @@ ghost use Rattle.std.specs.Option.{option_copied};
 ghost use Rattle.std.specs.List.{IsDistinct};
 ghost use Rattle.std.specs.Map.{lookup};
 ghost use Rattle.cer_base.specs.Bits.{has, room_for};
-ghost use Rattle.cea_determinise.specs.Keys.{is_same_pair, is_same_place};
+ghost use Rattle.cea_determinise.specs.Keys.{is_same_key, are_same_sets};
 ghost use Rattle.cea_determinise.specs.Runs.{accepts};
-ghost use Rattle.cea_determinise.specs.Cea.{automaton_of, standing, standing_of, IsWellFormed, IsPlace};
-ghost use Rattle.cea_determinise.specs.declared.cea.Place.{Place};
+ghost use Rattle.cea_determinise.specs.Cea.{automaton_of_cea, standing, standing_of, IsWellFormed, HasLeavesBelow};
+ghost use Rattle.cea_determinise.specs.declared.cea.StateSets.{StateSets};
 ghost use Rattle.cea_determinise.specs.declared.table.Successors.{Successors};
-ghost use Rattle.cea_determinise.specs.Det.{place_at, standing_at, AreSuccessors, IsSound, Reached, StaysWithin, AreBoth, IsNumber, Adds};
+ghost use Rattle.cea_determinise.specs.Det.{sets_at, standing_at, AreSuccessors, IsSound, Reached, StaysWithin, AreBoth, IsNumber, Adds};
 
-use crate::cea::{Cea, Place, Side};
+use crate::cea::{Cea, StateSets, Side};
 use crate::successor::successor;
-use crate::table::{Both, Mark, Pair, State, Successors};
+use crate::table::{Both, Mark, TransitionKey, State, Successors};
 use cer_base::Memory;
 use cer_base::bits::Bits;
 use cer_base::steps::Steps;
@@ -30,10 +30,10 @@ use std::sync::ledger::Ledger;
 pub struct Det {
     alloc: Global,
     cea: Cea,
-    places: IndexSet<Place>,
-    pairs: IndexMap<Pair, Successors>,
+    states: IndexSet<StateSets>,
+    transitions: IndexMap<TransitionKey, Successors>,
     /// Where the key of a look-up is written, so that it takes no memory.
-    probe: Pair,
+    probe: TransitionKey,
 }
 
 impl Model for Det {
@@ -43,24 +43,24 @@ impl Model for Det {
 
     ghost Value = { Table };
 
-    ghost view = { λ d. record { cea = d.cea; places = d.places.keys; pairs = d.pairs.entries } };
+    ghost view = { λ d. record { cea = d.cea; states = d.states.keys; transitions = d.transitions.entries } };
 
-    ghost invariant = { λ d. IsSound (record { cea = d.cea; places = d.places.keys; pairs = d.pairs.entries }) × (length d.probe.bits ≡ room_for d.cea.size) };
+    ghost invariant = { λ d. IsSound (record { cea = d.cea; states = d.states.keys; transitions = d.transitions.entries }) × (length d.probe.bits ≡ room_for d.cea.size) };
 }
 
 impl Det {
     /// The automaton with no state met yet.
     pub fn new(alloc: Global, cea: Cea) -> Result<Det, Memory>
         requires { IsWellFormed cea }
-        ensures { IfOk result (λ d. d ≡ record { cea = cea; places = []; pairs = [] }) }
+        ensures { IfOk result (λ d. d ≡ record { cea = cea; states = []; transitions = [] }) }
     {
         let bits = Bits::blank(alloc, cea.size)?;
         Ok(Det {
             alloc,
             cea,
-            places: IndexSet::new(alloc),
-            pairs: IndexMap::new(alloc),
-            probe: Pair { state: 0, bits },
+            states: IndexSet::new(alloc),
+            transitions: IndexMap::new(alloc),
+            probe: TransitionKey { state: 0, bits },
         })
     }
 
@@ -73,112 +73,127 @@ impl Det {
 
     /// How many states other than the start were met. No state has two numbers.
     pub fn found(&self) -> u64
-        ensures count { result ≡ length self.now.places }
-        ensures once { IsDistinct is_same_place self.now.places }
+        ensures count { result ≡ length self.now.states }
+        ensures once { IsDistinct are_same_sets self.now.states }
     {
-        self.places.len() as u64
+        self.states.len() as u64
     }
 
-    /// How many states other than the start and how many pairs there are.
+    /// How many states other than the start and how many known pairs there are.
     pub fn mark(&self) -> Mark
-        ensures states { result.states ≡ length self.now.places }
-        ensures pairs { result.pairs ≡ length self.now.pairs }
+        ensures states { result.states ≡ length self.now.states }
+        ensures pairs { result.pairs ≡ length self.now.transitions }
         ensures sound { IsSound self.now }
     {
         Mark {
-            states: self.places.len() as u64,
-            pairs: self.pairs.len() as u64,
+            states: self.states.len() as u64,
+            pairs: self.transitions.len() as u64,
         }
     }
 
-    /// The place of a state, None for the start.
-    fn place(&self, state: State) -> Option<&Place>
-        requires { state ≤ length self.now.places }
-        ensures place { option_copied result ≡ place_at self.now.places state }
-        ensures sets { IfSome result (λ p. IsPlace self.now.cea.size p.now) }
+    /// The sets of a state, None for the start.
+    fn state_sets(&self, state: State) -> Option<&StateSets>
+        requires { state ≤ length self.now.states }
+        ensures value { option_copied result ≡ sets_at self.now.states state }
+        ensures below { IfSome result (λ p. HasLeavesBelow self.now.cea.size p.now) }
     {
         if state == 0 {
             return None;
         }
-        self.places.get_index((state - 1) as usize)
+        self.states.get_index((state - 1) as usize)
     }
 
     /// Whether the state accepts: one of the leaves that read the last event may be the last.
     pub fn accepts(&self, state: State) -> bool
-        requires { state ≤ length self.now.places }
-        ensures { result ≡ accepts (automaton_of self.now.cea) (standing_at self.now.places state).sets }
+        requires { state ≤ length self.now.states }
+        ensures {
+            result ≡ accepts (automaton_of_cea self.now.cea)
+                (standing_at self.now.states state).sets
+        }
     {
-        match self.place(state) {
+        match self.state_sets(state) {
             None => false,
-            Some(place) => place.fresh.meets(&self.cea.last),
+            Some(state_sets) => state_sets.fresh.meets(&self.cea.last),
         }
     }
 
     /// Keeps the first so many states and pairs. The pairs that stay lead from states that stay, to
     /// states that stay.
     pub fn back(&mut self, mark: Mark)
-        requires states { mark.states ≤ length self.old.places }
-        requires pairs { mark.pairs ≤ length self.old.pairs }
-        requires within { All (StaysWithin mark.states) (take mark.pairs self.old.pairs) }
-        ensures { self.new ≡ record { cea = self.old.cea; places = take mark.states self.old.places; pairs = take mark.pairs self.old.pairs } }
+        requires states { mark.states ≤ length self.old.states }
+        requires pairs { mark.pairs ≤ length self.old.transitions }
+        requires within { All (StaysWithin mark.states) (take mark.pairs self.old.transitions) }
+        ensures {
+            self.new ≡ record { cea = self.old.cea; states = take mark.states self.old.states;
+                transitions = take mark.pairs self.old.transitions }
+        }
     {
-        self.places.truncate(mark.states as usize);
-        self.pairs.truncate(mark.pairs as usize);
+        self.states.truncate(mark.states as usize);
+        self.transitions.truncate(mark.pairs as usize);
     }
 
-    /// The successors of the pair, where it is known.
+    /// The successors of the key, where it is known.
     fn known(&mut self, state: State, bits: &Bits) -> Option<Successors>
         requires { length bits.now ≡ room_for self.old.cea.size }
         ensures same { self.new ≡ self.old }
-        ensures value { result ≡ lookup (is_same_pair (record { state = state; bits = bits.now })) self.old.pairs }
-        ensures right { IfSome result (AreSuccessors self.old.cea self.old.places (record { state = state; bits = bits.now })) }
+        ensures value {
+            result ≡ lookup (is_same_key (record { state = state; bits = bits.now }))
+                self.old.transitions
+        }
+        ensures right {
+            IfSome result (AreSuccessors self.old.cea self.old.states
+                (record { state = state; bits = bits.now }))
+        }
     {
         self.probe.state = state;
         self.probe.bits.clear();
         self.probe.bits.unite(bits);
-        self.pairs.get(&self.probe).copied()
+        self.transitions.get(&self.probe).copied()
     }
 
     /// Both successors of the state on the event.
     fn both(&self, state: State, bits: &Bits) -> Result<Both, Memory>
-        requires state { state ≤ length self.now.places }
+        requires state { state ≤ length self.now.states }
         requires bits { length bits.now ≡ room_for self.now.cea.size }
         ensures { IfOk result (AreBoth self.now state bits.now) }
     {
-        let place = self.place(state);
-        let marked = successor(self.alloc, &self.cea, place, bits, Side::Marked)?;
-        let unmarked = successor(self.alloc, &self.cea, place, bits, Side::Unmarked)?;
+        let state_sets = self.state_sets(state);
+        let marked = successor(self.alloc, &self.cea, state_sets, bits, Side::Marked)?;
+        let unmarked = successor(self.alloc, &self.cea, state_sets, bits, Side::Unmarked)?;
         Ok(Both { marked, unmarked })
     }
 
-    /// Numbers both, and puts the pair into the table.
+    /// Numbers both, and puts them into the table of transitions. Two steps.
     fn enter<L: Ledger>(
         &mut self,
-        pair: Pair,
+        key: TransitionKey,
         both: Both,
         steps: &mut Steps<L>,
     ) -> Result<Successors, Memory>
-        requires state { pair.state ≤ length self.old.places }
-        requires both { AreBoth self.old pair.state pair.bits both }
-        requires new { lookup (is_same_pair pair) self.old.pairs ≡ None }
-        ensures successors { IfOk result (AreSuccessors self.new.cea self.new.places pair) }
-        ensures states { Reached self.old pair.state pair.bits self.new }
-        ensures pairs { OnErr result (self.new.pairs ≡ self.old.pairs) }
-        ensures entered { IfOk result (λ s. self.new.pairs ≡ self.old.pairs ++ (pair, s) ∷ []) }
-        ensures steps { steps.new ≤ steps.old + 2 }
+        requires state { key.state ≤ length self.old.states }
+        requires both { AreBoth self.old key.state key.bits both }
+        requires new { lookup (is_same_key key) self.old.transitions ≡ None }
+        ensures successors { IfOk result (AreSuccessors self.new.cea self.new.states key) }
+        ensures states { Reached self.old key.state key.bits self.new }
+        ensures transitions { OnErr result (self.new.transitions ≡ self.old.transitions) }
+        ensures entered {
+            IfOk result (λ s. self.new.transitions ≡ self.old.transitions ++ (key, s) ∷ [])
+        }
+        ensures steps { steps.new ≡ steps.old + 2 }
     {
-        steps.tick();
-        let marked = number(&mut self.places, both.marked)?;
-        steps.tick();
-        let unmarked = number(&mut self.places, both.unmarked)?;
+        steps.tick_times(2);
+        let marked = number(&mut self.states, both.marked)?;
+        let unmarked = number(&mut self.states, both.unmarked)?;
         let found = Successors { marked, unmarked };
-        self.pairs.insert(pair, found)?;
+        self.transitions.insert(key, found)?;
         Ok(found)
     }
 
-    /// The successors of the state on the event. At most three steps.
+    /// The successors of the state on the event.
     ///
-    /// A pair that is known is one step, takes no memory and changes nothing. After `Memory` all is as
+    /// A known pair of state and event is one step, takes no memory and changes nothing. A new one
+    /// is worked out and kept, which is three steps: the look-up, and a number for each of the two
+    /// successors; after `Memory` there were no more. After `Memory` all is as
     /// it was, but that states may stand last that are successors of this pair.
     pub fn next<L: Ledger>(
         &mut self,
@@ -186,13 +201,28 @@ impl Det {
         bits: &Bits,
         steps: &mut Steps<L>,
     ) -> Result<Successors, Memory>
-        requires state { state ≤ length self.old.places }
+        requires state { state ≤ length self.old.states }
         requires bits { length bits.now ≡ room_for self.old.cea.size }
-        ensures successors { IfOk result (λ s. AreSuccessors self.new.cea self.new.places (record { state = state; bits = bits.now }) s) }
-        ensures known { (s : Successors) → lookup (is_same_pair (record { state = state; bits = bits.now })) self.old.pairs ≡ Some s → (result ≡ Ok s) × (self.new ≡ self.old) × (steps.new ≡ steps.old + 1) }
+        ensures successors {
+            IfOk result (λ s. AreSuccessors self.new.cea self.new.states
+                (record { state = state; bits = bits.now }) s)
+        }
+        ensures known {
+            (s : Successors) → lookup (is_same_key (record { state = state; bits = bits.now }))
+                self.old.transitions ≡ Some s → (result ≡ Ok s) × (self.new ≡ self.old)
+                × (steps.new ≡ steps.old + 1)
+        }
         ensures states { Reached self.old state bits.now self.new }
-        ensures pairs { OnErr result (self.new.pairs ≡ self.old.pairs) }
-        ensures new { lookup (is_same_pair (record { state = state; bits = bits.now })) self.old.pairs ≡ None → IfOk result (λ s. self.new.pairs ≡ self.old.pairs ++ (record { state = state; bits = bits.now }, s) ∷ []) }
+        ensures transitions { OnErr result (self.new.transitions ≡ self.old.transitions) }
+        ensures new {
+            lookup (is_same_key (record { state = state; bits = bits.now })) self.old.transitions
+                ≡ None → IfOk result (λ s. self.new.transitions ≡ self.old.transitions
+                ++ (record { state = state; bits = bits.now }, s) ∷ [])
+        }
+        ensures new_steps {
+            lookup (is_same_key (record { state = state; bits = bits.now })) self.old.transitions
+                ≡ None → OnOk result (steps.new ≡ steps.old + 3)
+        }
         ensures steps { steps.new ≤ steps.old + 3 }
     {
         steps.tick();
@@ -200,24 +230,24 @@ impl Det {
             return Ok(known);
         }
         let both = self.both(state, bits)?;
-        let pair = Pair {
+        let key = TransitionKey {
             state,
             bits: bits.copy(self.alloc)?,
         };
-        self.enter(pair, both, steps)
+        self.enter(key, both, steps)
     }
 }
 
 /// The number of the state, which is the next one where the state is new.
-fn number(places: &mut IndexSet<Place>, place: Option<Place>) -> Result<Option<State>, Memory>
-    ensures numbered { IfOk result (IsNumber places.new.keys place) }
-    ensures added { Adds place places.old.keys places.new.keys }
+fn number(states: &mut IndexSet<StateSets>, state_sets: Option<StateSets>) -> Result<Option<State>, Memory>
+    ensures numbered { IfOk result (IsNumber states.new.keys state_sets) }
+    ensures added { Adds state_sets states.old.keys states.new.keys }
 {
-    match place {
+    match state_sets {
         None => Ok(None),
-        Some(place) => {
-            let (index, _) = places.insert_full(place)?;
-            Ok(Some(index.min(places.len()) as u64 + 1))
+        Some(state_sets) => {
+            let (index, _) = states.insert_full(state_sets)?;
+            Ok(Some(index.min(states.len()) as u64 + 1))
         }
     }
 }

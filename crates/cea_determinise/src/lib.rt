@@ -1,7 +1,7 @@
 //! Position automata of patterns, determinised as events come.
 //!
 //! Promised: the successors of a state on an event are exactly those of the definition (`specs/Runs`,
-//! and `specs/Strict` for the phase); a state keeps its number, and no state has two; a pair of state
+//! and `specs/Strict` for the phase); a state keeps its number, and no state has two; a key of state
 //! and event that is known costs one look-up and no memory.
 //!
 //! It stands on `cer_base` for sets of leaves and counts of steps, and on `indexmap` for its tables.

@@ -1,4 +1,5 @@
 pub mod Answers
+pub mod Repeats
 pub mod Members
 pub mod Fields
 pub mod Nodes

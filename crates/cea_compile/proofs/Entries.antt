@@ -62,7 +62,7 @@ pub ascends_filter : (t : ℕ → Bool) (xs : List ℕ) → Ascends xs → Ascen
 ascends_filter t [] a = tt
 ascends_filter t (x ∷ xs) a = ascends_cons (t x) x (filter t xs) (λ y h. a.0 y (listed_within t xs y h)) (ascends_filter t xs a.1)
 
--- the numbers list what the reading has behind a position up to the end
+-- the numbers list what the reading has after a position up to the end
 abbrev pub ListsAfter : Reading → ℕ → ℕ → List ℕ → Type 0
 ListsAfter r p end xs = (q : ℕ) → (is_listed xs q ≡ true) ↔ (r.Has q × (p < q) × (q ≤ end))
 
@@ -70,7 +70,7 @@ module _ (r : Reading) (size : ℕ) (schema : Declared) (q : Query) (events : Li
   head_listed : (x : ℕ) (xs : List ℕ) → is_listed (x ∷ xs) x ≡ true
   head_listed x xs = or_left (eqb x x) (is_listed xs x) (eq-eqb x x refl)
 
-  -- a listed number is the first or behind it
+  -- a listed number is the first or after it
   first_least : (x : ℕ) (xs : List ℕ) → Ascends (x ∷ xs) → (y : ℕ) → is_listed (x ∷ xs) y ≡ true → x ≤ y
   first_least x xs a y h = go (or_cases (eqb y x) (is_listed xs y) h)
     where

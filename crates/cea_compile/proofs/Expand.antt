@@ -294,7 +294,7 @@ second_looser : (stream : Stream) (tight u : Bool) (a b : ℕ) → MayFollow str
 second_looser stream true u a b f = f
 second_looser stream false u a b f = follows_later stream u a b f
 
--- a repetition, and behind it another one of the same part
+-- a repetition, and after it another one of the same part
 joined_rounds : (stream : Stream) (tight : Bool) (part : Meaning) (s m n e : ℕ) (v w : Valuation) → Repeated stream tight part s m v → MayFollow stream tight m n → Repeated stream tight part n e w → Repeated stream tight part s e (v ++ w)
 joined_rounds stream tight part s m n e v w (once h) f r = again h f r
 joined_rounds stream tight part s m n e v w (again {middle = k} {next = j} {v = x} {w = y} h g q) f r = subst (Repeated stream tight part s e) (sym (append_assoc x y w)) (again h g (joined_rounds stream tight part j m n e y w q f r))

@@ -1,5 +1,4 @@
 -- The stored automaton and its stored states, as the automaton and the states that they mean.
--- This project's profile.
 use Rattle.std.specs.Prelude.{◌≡◌, ℕ, ◌<◌, Bool, true, false, List, [], Option, Some, None, slice_index_or, length}
 use Rattle.cer_base.specs.Bits.{has, room_for}
 use Rattle.cea_determinise.specs.declared.cea.Cea.{Cea}

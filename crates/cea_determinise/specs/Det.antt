@@ -1,4 +1,5 @@
--- A table of numbered states and of the pairs of state and event whose successors are known. This project's profile.
+-- A table of numbered states, of numbered classes of events, and of the pairs of state and class whose
+-- successors are known. Events that the same leaves can read are of one class.
 use Rattle.std.specs.Prelude.{◌≡◌, ℕ, zero, suc, ◌<◌, ◌≤◌, Bool, true, false, List, [], ◌∷◌, ◌++◌, Option, Some, None, option_map, length, slice_get, slice_index_or, IfSome, All}
 use Rattle.cer_base.specs.Bits.{has, room_for}
 use Rattle.cea_determinise.specs.declared.cea.Cea.{Cea}
@@ -9,10 +10,11 @@ use Rattle.cea_determinise.specs.declared.table.Successors.{Successors}
 use Rattle.cea_determinise.specs.Strict.{Standing, next_standing}
 use Rattle.cea_determinise.specs.Cea.{automaton_of_cea, standing_of, standing, IsWellFormed, HasLeavesBelow}
 
--- The automaton, the states other than the start, and the known pairs with their successors, each list oldest first.
+-- The automaton, the states other than the start, for each class the leaves that can read its events, and the known pairs with their successors, each list oldest first.
 pub record Table : Type 0 where
   pub cea : Cea
   pub states : List StateSets
+  pub classes : List (List Bool)
   pub transitions : List (TransitionKey × Successors)
 
 -- the sets of a number: none for the start, which is 0
@@ -24,6 +26,10 @@ sets_at states (suc n) = slice_get states n
 abbrev pub standing_at : List StateSets → ℕ → Standing
 standing_at states n = standing (sets_at states n)
 
+-- the leaves that can read the events of the class with this number
+abbrev pub class_at : List (List Bool) → ℕ → List Bool
+class_at classes k = slice_index_or classes k []
+
 -- the state after the state of a number on an event
 abbrev pub standing_after : Cea → List StateSets → ℕ → List Bool → Bool → Option Standing
 standing_after cea states state bits mark = next_standing (automaton_of_cea cea) cea.strict (standing_at states state) (has bits) mark
@@ -33,28 +39,34 @@ pub record Leads (cea : Cea) (states : List StateSets) (state : ℕ) (bits : Lis
   pub known : IfSome to (λ n. n ≤ length states)
   pub exact : option_map (standing_at states) to ≡ standing_after cea states state bits mark
 
--- The successors of the pair are those of the definition.
-pub record AreSuccessors (cea : Cea) (states : List StateSets) (p : TransitionKey) (s : Successors) : Type 0 where
+-- The successors of the pair of state and class are those of the definition.
+pub record AreSuccessors (cea : Cea) (states : List StateSets) (classes : List (List Bool)) (p : TransitionKey) (s : Successors) : Type 0 where
   pub state : p.state ≤ length states
-  pub marked : Leads cea states p.state p.bits true s.marked
-  pub unmarked : Leads cea states p.state p.bits false s.unmarked
+  pub class : p.class < length classes
+  pub marked : Leads cea states p.state (class_at classes p.class) true s.marked
+  pub unmarked : Leads cea states p.state (class_at classes p.class) false s.unmarked
 
--- Each state's sets are ones of leaves, and each pair's successors are those of the definition.
+-- Each state's sets are ones of leaves, each class has room for the leaves, and each pair's successors are those of the definition.
 pub record IsSound (t : Table) : Type 0 where
   pub well_formed : IsWellFormed t.cea
   pub states : All (HasLeavesBelow t.cea.size) t.states
-  pub transitions : All (λ (e : TransitionKey × Successors). AreSuccessors t.cea t.states e.0 e.1) t.transitions
+  pub classes : All (λ (bits : List Bool). length bits ≡ room_for t.cea.size) t.classes
+  pub transitions : All (λ (e : TransitionKey × Successors). AreSuccessors t.cea t.states t.classes e.0 e.1) t.transitions
 
 -- The old states keep their numbers, and each new one is a successor of the state on the event.
 pub record Reached (old : Table) (state : ℕ) (bits : List Bool) (new : Table) : Type 0 where
   pub cea : new.cea ≡ old.cea
   pub more : List StateSets
   pub states : new.states ≡ old.states ++ more
+  pub classes : new.classes ≡ old.classes
   pub reached : All (λ p. (mark : Bool) × (Some (standing_of p) ≡ standing_after old.cea old.states state bits mark)) more
 
--- the pair leads from one of so many states, to such states
-abbrev pub StaysWithin : ℕ → TransitionKey × Successors → Type 0
-StaysWithin n e = (e.0.state ≤ n) × IfSome e.1.marked (λ m. m ≤ n) × IfSome e.1.unmarked (λ m. m ≤ n)
+-- The pair is of one of so many states and one of so many classes, and leads to such states.
+pub record StaysWithin (states classes : ℕ) (e : TransitionKey × Successors) : Type 0 where
+  pub state : e.0.state ≤ states
+  pub class : e.0.class < classes
+  pub marked : IfSome e.1.marked (λ m. m ≤ states)
+  pub unmarked : IfSome e.1.unmarked (λ m. m ≤ states)
 
 -- The sets are those of the successor, of leaves below the size.
 pub record IsNext (t : Table) (state : ℕ) (bits : List Bool) (mark : Bool) (state_sets : Option StateSets) : Type 0 where
@@ -76,3 +88,9 @@ pub record Adds (state_sets : Option StateSets) (old new : List StateSets) : Typ
   pub more : List StateSets
   pub states : new ≡ old ++ more
   pub only : All (λ p. state_sets ≡ Some p) more
+
+-- The table knows one class more, if it is new, and all else stays.
+pub record AddsClass (bits : List Bool) (old new : Table) : Type 0 where
+  pub more : List (List Bool)
+  pub only : All (λ (b : List Bool). b ≡ bits) more
+  pub grown : new ≡ record old { classes = old.classes ++ more }

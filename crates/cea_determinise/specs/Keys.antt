@@ -1,4 +1,4 @@
--- When two states are equal, and when two transitions of state and event are. This project's profile.
+-- When two states are equal, and when two pairs of state and class are.
 use Rattle.std.specs.Prelude.{◌≡◌, ℕ, Bool, true, false, ◌&&◌, List, refl, eqb}
 use Rattle.std.proofs.Common.{subst}
 use Rattle.std.specs.Bool.{Decides, beq}
@@ -29,9 +29,9 @@ is_same_phase After After = true
 abbrev pub are_same_sets : StateSets → StateSets → Bool
 are_same_sets p q = is_same_set p.fresh q.fresh && (is_same_set p.waiting q.waiting && is_same_phase p.phase q.phase)
 
--- the state and the set are the same
+-- the state and the class are the same
 abbrev pub is_same_key : TransitionKey → TransitionKey → Bool
-is_same_key p q = eqb p.state q.state && is_same_set p.bits q.bits
+is_same_key p q = eqb p.state q.state && eqb p.class q.class
 
 both : (a b : Bool) → a ≡ true → b ≡ true → a && b ≡ true
 both true b e f = f
@@ -53,6 +53,9 @@ own_phase Before = refl
 own_phase Within = refl
 own_phase After = refl
 
+pub Decides-set : (a b : List Bool) → Decides (is_same_set a b) (a ≡ b)
+Decides-set a b = pointwise_decides booleans_Decides a b
+
 own_set : (a : List Bool) → is_same_set a a ≡ true
 own_set a = (pointwise_decides booleans_Decides a a).1 refl
 
@@ -60,7 +63,7 @@ own_sets : (p : StateSets) → are_same_sets p p ≡ true
 own_sets p = both _ _ (own_set p.fresh) (both _ _ (own_set p.waiting) (own_phase p.phase))
 
 own_key : (p : TransitionKey) → is_same_key p p ≡ true
-own_key p = both _ _ ((Decides-eqb p.state p.state).1 refl) (own_set p.bits)
+own_key p = both _ _ ((Decides-eqb p.state p.state).1 refl) ((Decides-eqb p.class p.class).1 refl)
 
 pub Decides-sets : (p q : StateSets) → Decides (are_same_sets p q) (p ≡ q)
 Decides-sets p q = (same, λ e. subst (λ r. are_same_sets p r ≡ true) e (own_sets p))
@@ -79,7 +82,7 @@ Decides-key p q = (same, λ e. subst (λ r. is_same_key p r ≡ true) e (own_key
   where
     same : is_same_key p q ≡ true → p ≡ q
     same e =
-        let parts = and_parts (eqb p.state q.state) (is_same_set p.bits q.bits) e in
+        let parts = and_parts (eqb p.state q.state) (eqb p.class q.class) e in
         let state = (Decides-eqb p.state q.state).0 parts.0 in
-        let bits = (pointwise_decides booleans_Decides p.bits q.bits).0 parts.1 in
-        λ i. record { state = state i; bits = bits i }
+        let class = (Decides-eqb p.class q.class).0 parts.1 in
+        λ i. record { state = state i; class = class i }

@@ -56,7 +56,7 @@ impl PartialEq for TransitionKey {
     ghost laws = { partial_equiv_from_equiv (decided is_same_key Decides-key) };
 
     fn eq(&self, other: &TransitionKey) -> bool {
-        self.state == other.state && self.bits == other.bits
+        self.state == other.state && self.class == other.class
     }
 }
 
@@ -65,12 +65,12 @@ impl Eq for TransitionKey {
 }
 
 impl Hash for TransitionKey {
-    ghost hash_input = { λ p. fed.u64 p.state ++ flat_map fed.u64 (words_of p.bits) };
+    ghost hash_input = { λ p. fed.u64 p.state ++ fed.u64 p.class };
 
-    ghost respects_eq = { (same_Alike (λ p. fed.u64 p.state ++ flat_map fed.u64 (words_of p.bits)) Decides-key).fed };
+    ghost respects_eq = { (same_Alike (λ p. fed.u64 p.state ++ fed.u64 p.class) Decides-key).fed };
 
     fn hash<H: Hasher>(&self, state: &mut H) {
         self.state.hash(state);
-        self.bits.hash(state);
+        self.class.hash(state);
     }
 }

@@ -1,15 +1,17 @@
 //! The keys and values of the table of successors.
 use crate::cea::StateSets;
-use cer_base::bits::Bits;
 
 /// The number of a state; the start is 0.
 pub type State = u64;
 
-/// A state and an event, which is told by the leaves that can read it.
-#[derive(Drop, Debug)]
+/// The number of a class of events, from 0: those that the same leaves can read are of one class.
+pub type EventClass = u64;
+
+/// A state and a class of events.
+#[derive(Drop, Debug, Clone, Copy)]
 pub struct TransitionKey {
     pub state: State,
-    pub bits: Bits,
+    pub class: EventClass,
 }
 
 /// The successors of a state on an event, each None exactly where that successor is none.
@@ -19,12 +21,13 @@ pub struct Successors {
     pub unmarked: Option<State>,
 }
 
-/// How many states other than the start there are, and how many pairs of state and event whose
-/// successors are known.
+/// How many states other than the start there are, how many pairs of state and class whose
+/// successors are known, and how many classes.
 #[derive(Drop, Debug, Clone, Copy, PartialEq, Eq)]
 pub struct Mark {
     pub states: u64,
     pub pairs: u64,
+    pub classes: u64,
 }
 
 /// The successors of a state on an event, not numbered yet.

@@ -37,7 +37,7 @@ impl Machine {
     /// The machine of the query, with no state met yet.
     pub fn of(alloc: Global, schema: &Schema, query: &Query) -> Result<Machine, Memory> {
         let leaves = leaves(alloc, schema, query)?;
-        let det = Det::new(alloc, compile(alloc, &leaves)?)?;
+        let det = Det::new(alloc, compile(alloc, &leaves)?);
         let conditions = Conditions::of(alloc, leaves.list)?;
         Ok(Machine { conditions, det })
     }
@@ -65,6 +65,7 @@ impl Machine {
         }
         let mut bits = self.conditions.blank(alloc)?;
         self.conditions.fill(event, &mut bits);
-        Ok(Some(self.det.next(state, &bits, steps)?))
+        let class = self.det.class(&bits, steps)?;
+        Ok(Some(self.det.next(state, class, steps)?))
     }
 }

@@ -1,5 +1,5 @@
 -- Sets of numbers below a room, as the list that tells of each number whether it is in the set; and
--- the words of 64 bits that keep such a list, the lowest number first. This project's profile.
+-- the words of 64 bits that keep such a list, the lowest number first.
 use Rattle.std.specs.Prelude.{ℕ, ◌+◌, ◌*◌, ◌/◌, Bool, cond, false, List, [], ◌∷◌, ◌++◌, map, eqb, slice_index_or, length}
 use Rattle.std.specs.Int.{bit_at}
 use Rattle.std.specs.List.{range_with_len}

@@ -1,6 +1,6 @@
 -- Enumerable compact sets as trees: their members, and the measures that bound a walk over them.
 -- Bottoms, outputs and unions, and the order of unions, are those of "CORE: a Complex Event
--- Recognition Engine" (PVLDB 2022). Need, depth and safety are this project's profile.
+-- Recognition Engine" (PVLDB 2022).
 use Rattle.std.specs.Prelude.{◌≡◌, ℕ, ◌+◌, ◌<◌, ◌≤◌, max, ℤ, int_le, cond, nat_le, List, [], ◌∷◌, ◌++◌, map, filter, All}
 use Rattle.cer_base.specs.declared.node.Stamp.{Stamp}
 use Rattle.cer_base.specs.Repeats.{HasNoRepeats}

@@ -1,6 +1,5 @@
 -- What the nodes of a store mean, when a store is well-formed, and what stays as it grows.
--- The nodes are those of "CORE: a Complex Event Recognition Engine" (PVLDB 2022), the rest is this
--- project's profile.
+-- The nodes are those of "CORE: a Complex Event Recognition Engine" (PVLDB 2022).
 use Rattle.std.specs.Prelude.{◌≡◌, ℕ, ◌+◌, ◌<◌, ◌≤◌, ◌==◌, max, pos, ◌≤ℤ◌, cond, List, [], ◌∷◌, ◌++◌, length, reverse, Contains, Some, slice_get}
 use Rattle.std.specs.List.Sorted.{IsPermutation}
 use Rattle.cer_base.specs.declared.node.Stamp.{Stamp}

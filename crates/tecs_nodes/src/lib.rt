@@ -4,7 +4,7 @@
 //! added, and many share a child, so what is common to many members is kept once.
 //!
 //! Promised: each call makes exactly the tree that it names, keeps the store well-formed and all
-//! older nodes as they were, and leaves the store unchanged where memory is wanting. Unions are
+//! older nodes as they were, and leaves the store unchanged where memory runs out. Unions are
 //! chained so that a walk over the members meets at most three of them before each other node.
 //! `tecs_enumerate` has a drawing. It stands on `cer_base` alone, over any store.
 #![tactic(auto)]
@@ -128,7 +128,7 @@ pub fn max_start<S: NodeStore, L: Ledger>(store: &S, id: Id, steps: &mut Steps<L
 }
 
 /// Makes a union of the first with a union of the second with a union of the last two. Where
-/// memory is wanting, some of them may have been made.
+/// memory runs out, some of them may have been made.
 fn chain<S: NodeStore, L: Ledger>(
     store: &mut S,
     first: Id,
@@ -164,7 +164,7 @@ fn chain<S: NodeStore, L: Ledger>(
     join(store, first, middle, steps)
 }
 
-/// Makes the union of two safe nodes. Where memory is wanting, a part of it may have been made.
+/// Makes the union of two safe nodes. Where memory runs out, a part of it may have been made.
 fn unite<S: NodeStore, L: Ledger>(
     store: &mut S,
     a: Id,

@@ -1,5 +1,4 @@
 -- Sets that are written down part by part: the tree of each part, and a test that each can be made.
--- This project's profile.
 use Rattle.std.specs.Prelude.{ℕ, ◌<◌, ◌==◌, pos, int_le, nat_lt, nat_le, not, ◌&&◌, Bool, true, List, [], ◌∷◌, ◌++◌, length, get_or, map, Contains, All}
 use Rattle.std.specs.Str.{bytes_eq}
 use Rattle.cer_base.specs.declared.node.Stamp.{Stamp}

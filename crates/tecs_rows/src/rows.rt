@@ -179,7 +179,7 @@ fn roots_at<S: NodeStore, L: Ledger>(
 
 /// Writes each answer that the cursor still gives, as `2 [5, 4]; `: its start's position, then its
 /// positions, greatest first.
-fn write_all<S: NodeStore, L: Ledger>(
+pub fn write_all<S: NodeStore, L: Ledger>(
     alloc: Global,
     cursor: &mut Cursor,
     store: &S,

@@ -8,5 +8,5 @@ invariant-loop-k l =
     record {
       room : length l.marked ≡ room_for (length l.fn.list);
       before : (j : ℕ) → j < l.k → has l.marked j ≡ is_marked_leaf (slice_get l.fn.list j);
-      behind : (j : ℕ) → l.k ≤ j → has l.marked j ≡ false;
+      from_there : (j : ℕ) → l.k ≤ j → has l.marked j ≡ false;
     }

@@ -54,17 +54,13 @@ pub fn ends_of(
     requires room { FollowersHaveRoom size followers.old }
     requires below { AreBelow size (tree_of_shape shape.now) }
     ensures ends { IfOk result (λ e. EndsHaveRoom size e) }
-    ensures first {
-        IfOk result (λ e. (k : ℕ) → has e.first k ≡ first_set (tree_of_shape shape.now) k)
-    }
-    ensures last {
-        IfOk result (λ e. (k : ℕ) → has e.last k ≡ last_set (tree_of_shape shape.now) k)
-    }
+    ensures first { IfOk result (λ e. (k : ℕ) → has e.first k
+        ≡ first_set (tree_of_shape shape.now) k) }
+    ensures last { IfOk result (λ e. (k : ℕ) → has e.last k
+        ≡ last_set (tree_of_shape shape.now) k) }
     ensures room { OnOk result (FollowersHaveRoom size followers.new) }
-    ensures pairs {
-        OnOk result ((tight : Bool) (j k : ℕ) → pairs followers.new tight j k
-            ≡ pairs followers.old tight j k || follow_set (tree_of_shape shape.now) tight j k)
-    }
+    ensures pairs { OnOk result ((tight : Bool) (j k : ℕ) → pairs followers.new tight j k
+        ≡ pairs followers.old tight j k || follow_set (tree_of_shape shape.now) tight j k) }
 {
     match shape {
         Shape::Never => none(alloc, size),

@@ -35,9 +35,8 @@ fn link(rows: &mut [Bits], size: usize, from: &Bits, to: &Bits)
     requires same_room { length to.now ≡ room_for size }
     requires below { (j : ℕ) → has from.now j ≡ true → j < size }
     ensures room { HaveRoom size rows.new }
-    ensures pairs {
-        (j k : ℕ) → row rows.new j k ≡ row rows.old j k || (has from.now j && has to.now k)
-    }
+    ensures pairs { (j k : ℕ) → row rows.new j k
+        ≡ row rows.old j k || (has from.now j && has to.now k) }
 {
     for j in 0..size {
         if from.contains(j) {
@@ -64,10 +63,8 @@ impl Followers {
         requires same_room { length to.now ≡ room_for size }
         requires below { (j : ℕ) → has from.now j ≡ true → j < size }
         ensures room { FollowersHaveRoom size self.new }
-        ensures pairs {
-            (u : Bool) (j k : ℕ) → pairs self.new u j k
-                ≡ pairs self.old u j k || (agrees u tight && (has from.now j && has to.now k))
-        }
+        ensures pairs { (u : Bool) (j k : ℕ) → pairs self.new u j k
+            ≡ pairs self.old u j k || (agrees u tight && (has from.now j && has to.now k)) }
     {
         if tight {
             link(self.near.as_mut_slice(), size, from, to);

@@ -11,7 +11,7 @@ ghost use Rattle.cea_determinise.specs.declared.cea.StateSets.{StateSets};
 ghost use Rattle.cea_determinise.specs.declared.table.Successors.{Successors};
 ghost use Rattle.cea_determinise.specs.Det.{sets_at, standing_at, class_at, AreSuccessors, IsSound, Reached, StaysWithin, AreBoth, IsNumber, Adds, AddsClass};
 
-use crate::cea::{Cea, StateSets, Side};
+use crate::cea::{Cea, Side, StateSets};
 use crate::successor::successor;
 use crate::table::{Both, EventClass, Mark, State, Successors, TransitionKey};
 use cer_base::Memory;
@@ -115,10 +115,8 @@ impl Det {
     /// Whether the state accepts: one of the leaves that read the last event may be the last.
     pub fn accepts(&self, state: State) -> bool
         requires { state ≤ length self.now.states }
-        ensures {
-            result ≡ accepts (automaton_of_cea self.now.cea)
-                (standing_at self.now.states state).sets
-        }
+        ensures { result ≡ accepts (automaton_of_cea self.now.cea)
+            (standing_at self.now.states state).sets }
     {
         match self.state_sets(state) {
             None => false,
@@ -132,14 +130,15 @@ impl Det {
         requires states { mark.states ≤ length self.old.states }
         requires pairs { mark.pairs ≤ length self.old.transitions }
         requires classes { mark.classes ≤ length self.old.classes }
-        requires within {
-            All (StaysWithin mark.states mark.classes) (take mark.pairs self.old.transitions)
-        }
-        ensures {
-            self.new ≡ record { cea = self.old.cea; states = take mark.states self.old.states;
-                classes = take mark.classes self.old.classes;
-                transitions = take mark.pairs self.old.transitions }
-        }
+        requires within { All (StaysWithin mark.states mark.classes)
+            (take mark.pairs self.old.transitions) }
+        ensures { self.new ≡ record {
+          cea = self.old.cea;
+          states = take mark.states self.old.states;
+          classes = take mark.classes self.old.classes;
+          transitions = take mark.pairs
+              self.old.transitions;
+        } }
     {
         self.states.truncate(mark.states as usize);
         self.transitions.truncate(mark.pairs as usize);
@@ -159,9 +158,7 @@ impl Det {
         ensures inside { IfOk result (λ c. c < length self.new.classes) }
         ensures same { (self.new.cea ≡ self.old.cea) × (self.new.states ≡ self.old.states) }
         ensures added { AddsClass bits.now self.old self.new }
-        ensures known {
-            Contains self.old.classes bits.now → IsOk result × (self.new ≡ self.old)
-        }
+        ensures known { Contains self.old.classes bits.now → IsOk result × (self.new ≡ self.old) }
         ensures refused { OnErr result (self.new ≡ self.old) }
         ensures steps { steps.new ≡ steps.old + 1 }
     {
@@ -177,9 +174,8 @@ impl Det {
     /// The successors of the pair, where it is known.
     fn known(&self, key: TransitionKey) -> Option<Successors>
         ensures value { result ≡ lookup (is_same_key key) self.now.transitions }
-        ensures right {
-            IfSome result (AreSuccessors self.now.cea self.now.states self.now.classes key)
-        }
+        ensures right { IfSome result (AreSuccessors self.now.cea self.now.states self.now.classes
+            key) }
     {
         self.transitions.get(&key).copied()
     }
@@ -208,16 +204,12 @@ impl Det {
         requires class { key.class < length self.old.classes }
         requires both { AreBoth self.old key.state (class_at self.old.classes key.class) both }
         requires new { lookup (is_same_key key) self.old.transitions ≡ None }
-        ensures successors {
-            IfOk result (AreSuccessors self.new.cea self.new.states self.new.classes key)
-        }
-        ensures states {
-            Reached self.old key.state (class_at self.old.classes key.class) self.new
-        }
+        ensures successors { IfOk result (AreSuccessors self.new.cea self.new.states
+            self.new.classes key) }
+        ensures states { Reached self.old key.state (class_at self.old.classes key.class) self.new }
         ensures pairs { OnErr result (self.new.transitions ≡ self.old.transitions) }
-        ensures entered {
-            IfOk result (λ s. self.new.transitions ≡ self.old.transitions ++ (key, s) ∷ [])
-        }
+        ensures entered { IfOk result (λ s. self.new.transitions ≡ self.old.transitions
+            ++ (key, s) ∷ []) }
         ensures steps { steps.new ≡ steps.old + 2 }
     {
         steps.tick_times(2);
@@ -242,28 +234,19 @@ impl Det {
     ) -> Result<Successors, Memory>
         requires state { state ≤ length self.old.states }
         requires class { class < length self.old.classes }
-        ensures successors {
-            IfOk result (AreSuccessors self.new.cea self.new.states self.new.classes
-                (record { state = state; class = class }))
-        }
-        ensures known {
-            (s : Successors)
-                → lookup (is_same_key (record { state = state; class = class }))
-                self.old.transitions ≡ Some s
-                → (result ≡ Ok s) × (self.new ≡ self.old) × (steps.new ≡ steps.old + 1)
-        }
+        ensures successors { IfOk result (AreSuccessors self.new.cea self.new.states
+            self.new.classes (record { state = state; class = class })) }
+        ensures known { (s : Successors) → lookup
+            (is_same_key (record { state = state; class = class })) self.old.transitions ≡ Some s
+            → (result ≡ Ok s) × (self.new ≡ self.old) × (steps.new ≡ steps.old + 1) }
         ensures states { Reached self.old state (class_at self.old.classes class) self.new }
         ensures pairs { OnErr result (self.new.transitions ≡ self.old.transitions) }
-        ensures new {
-            lookup (is_same_key (record { state = state; class = class })) self.old.transitions
-                ≡ None
-                → IfOk result (λ s. self.new.transitions
-                ≡ self.old.transitions ++ (record { state = state; class = class }, s) ∷ [])
-        }
-        ensures new_steps {
-            lookup (is_same_key (record { state = state; class = class })) self.old.transitions
-                ≡ None → OnOk result (steps.new ≡ steps.old + 3)
-        }
+        ensures new { lookup (is_same_key (record { state = state; class = class }))
+            self.old.transitions ≡ None → IfOk result
+            (λ s. self.new.transitions ≡ self.old.transitions
+            ++ (record { state = state; class = class }, s) ∷ []) }
+        ensures new_steps { lookup (is_same_key (record { state = state; class = class }))
+            self.old.transitions ≡ None → OnOk result (steps.new ≡ steps.old + 3) }
         ensures steps { steps.new ≤ steps.old + 3 }
     {
         let key = TransitionKey { state, class };
@@ -277,7 +260,10 @@ impl Det {
 }
 
 /// The number of the state, which is the next one where the state is new.
-fn number(states: &mut IndexSet<StateSets>, state_sets: Option<StateSets>) -> Result<Option<State>, Memory>
+fn number(
+    states: &mut IndexSet<StateSets>,
+    state_sets: Option<StateSets>,
+) -> Result<Option<State>, Memory>
     ensures numbered { IfOk result (IsNumber states.new.keys state_sets) }
     ensures added { Adds state_sets states.old.keys states.new.keys }
 {

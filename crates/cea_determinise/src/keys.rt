@@ -6,7 +6,7 @@ ghost use Rattle.std.specs.Hash.{same_Alike};
 ghost use Rattle.cer_base.specs.Bits.{words_of};
 ghost use Rattle.cea_determinise.specs.Keys.{is_same_phase, are_same_sets, is_same_key, Decides-sets, Decides-key};
 
-use crate::cea::{StateSets, Phase};
+use crate::cea::{Phase, StateSets};
 use crate::table::TransitionKey;
 use std::hash::{Hash, Hasher};
 

@@ -6,22 +6,18 @@ ghost use Rattle.cea_determinise.specs.Runs.{some_below, candidates, patient, ag
 ghost use Rattle.cea_determinise.specs.Strict.{phase_after, next_standing};
 ghost use Rattle.cea_determinise.specs.Cea.{row, automaton_of_cea, IsSet, IsWellFormed, HasLeavesBelow, standing_of, standing, takes_marked};
 
-use crate::cea::{Cea, StateSets, Side, Phase};
+use crate::cea::{Cea, Phase, Side, StateSets};
 use cer_base::Memory;
 use cer_base::bits::Bits;
 use std::alloc::Global;
 
 /// Puts the rows of the members of the set in.
 fn unite_rows(into: &mut Bits, from: &Bits, rows: &[Bits])
-    requires rooms {
-        (j : ℕ) (d : List Bool) → j < length rows.now → length (slice_index_or rows.now j d)
-            ≡ length into.old
-    }
+    requires rooms { (j : ℕ) (d : List Bool) → j < length rows.now
+        → length (slice_index_or rows.now j d) ≡ length into.old }
     ensures room { length into.new ≡ length into.old }
-    ensures members {
-        (k : ℕ) → has into.new k ≡ has into.old k || some_below (length rows.now)
-            (λ j. has from.now j && row rows.now j k)
-    }
+    ensures members { (k : ℕ) → has into.new k ≡ has into.old k || some_below (length rows.now)
+        (λ j. has from.now j && row rows.now j k) }
 {
     for j in 0..rows.len() {
         if from.contains(j) {
@@ -34,10 +30,9 @@ fn unite_rows(into: &mut Bits, from: &Bits, rows: &[Bits])
 pub fn may_read(alloc: Global, cea: &Cea, state_sets: &StateSets) -> Result<Bits, Memory>
     requires well_formed { IsWellFormed cea.now }
     ensures room { IfOk result (λ c. length c ≡ room_for cea.now.size) }
-    ensures members {
-        IfOk result (λ c. (k : ℕ) → has c k ≡ candidates (automaton_of_cea cea.now)
-            (pair (has state_sets.now.fresh) (has state_sets.now.waiting)) k)
-    }
+    ensures members { IfOk result (λ c. (k : ℕ) → has c k
+        ≡ candidates (automaton_of_cea cea.now) (pair (has state_sets.now.fresh)
+        (has state_sets.now.waiting)) k) }
 {
     let mut leaves = Bits::blank(alloc, cea.size)?;
     unite_rows(&mut leaves, &state_sets.fresh, cea.near.as_slice());
@@ -75,10 +70,9 @@ pub fn all_waiting(alloc: Global, cea: &Cea, state_sets: &StateSets) -> Result<B
     requires well_formed { IsWellFormed cea.now }
     requires state_sets { HasLeavesBelow cea.now.size state_sets.now }
     ensures set { IfOk result (IsSet cea.now.size) }
-    ensures members {
-        IfOk result (λ w. (k : ℕ) → has w k ≡ patient (automaton_of_cea cea.now)
-            (pair (has state_sets.now.fresh) (has state_sets.now.waiting)) k)
-    }
+    ensures members { IfOk result (λ w. (k : ℕ) → has w k
+        ≡ patient (automaton_of_cea cea.now) (pair (has state_sets.now.fresh)
+        (has state_sets.now.waiting)) k) }
 {
     let mut leaves = Bits::blank(alloc, cea.size)?;
     for leaf in 0..cea.size {
@@ -95,10 +89,9 @@ pub fn keep_readers(leaves: &mut Bits, cea: &Cea, bits: &Bits, side: Side)
     requires room { length leaves.old ≡ room_for cea.now.size }
     requires bits { length bits.now ≡ room_for cea.now.size }
     ensures room { length leaves.new ≡ length leaves.old }
-    ensures members {
-        (k : ℕ) → has leaves.new k ≡ has leaves.old k &&
-            (has bits.now k && agrees (takes_marked side) (has cea.now.marked k))
-    }
+    ensures members { (k : ℕ) → has leaves.new k
+        ≡ has leaves.old k && (has bits.now k && agrees (takes_marked side)
+        (has cea.now.marked k)) }
 {
     leaves.intersect(bits);
     match side {

@@ -6,8 +6,8 @@ ghost use Rattle.cea_determinise.specs.Runs.{candidates, patient, agrees, has_le
 ghost use Rattle.cea_determinise.specs.Strict.{next_standing};
 ghost use Rattle.cea_determinise.specs.Cea.{automaton_of_cea, IsSet, IsWellFormed, HasLeavesBelow, standing_of, standing, takes_marked};
 
-use crate::cea::{Cea, StateSets, Side, Phase};
-use crate::sets::{all_waiting, keep_readers, may_read, some_leaf, phase_after};
+use crate::cea::{Cea, Phase, Side, StateSets};
+use crate::sets::{all_waiting, keep_readers, may_read, phase_after, some_leaf};
 use cer_base::Memory;
 use cer_base::bits::Bits;
 use std::alloc::Global;
@@ -26,10 +26,9 @@ fn phase_of(state_sets: Option<&StateSets>) -> Phase
 fn all_next(alloc: Global, cea: &Cea, state_sets: Option<&StateSets>) -> Result<Bits, Memory>
     requires { IsWellFormed cea.now }
     ensures room { IfOk result (λ c. length c ≡ room_for cea.now.size) }
-    ensures members {
-        IfOk result (λ c. (k : ℕ) → has c k ≡ candidates (automaton_of_cea cea.now)
-            (standing (option_copied state_sets.entry)).sets k)
-    }
+    ensures members { IfOk result (λ c. (k : ℕ) → has c k
+        ≡ candidates (automaton_of_cea cea.now) (standing (option_copied state_sets.entry)).sets
+        k) }
 {
     match state_sets {
         None => cea.first.copy(alloc),
@@ -48,11 +47,9 @@ fn fresh_after(
     requires well_formed { IsWellFormed cea.now }
     requires bits { length bits.now ≡ room_for cea.now.size }
     ensures set { IfOk result (IsSet cea.now.size) }
-    ensures members {
-        IfOk result (λ c. (k : ℕ) → has c k ≡ candidates (automaton_of_cea cea.now)
-            (standing (option_copied state_sets.entry)).sets k &&
-            (has bits.now k && agrees (takes_marked side) (has cea.now.marked k)))
-    }
+    ensures members { IfOk result (λ c. (k : ℕ) → has c k
+        ≡ candidates (automaton_of_cea cea.now) (standing (option_copied state_sets.entry)).sets k
+        && (has bits.now k && agrees (takes_marked side) (has cea.now.marked k))) }
 {
     let mut leaves = all_next(alloc, cea, state_sets)?;
     keep_readers(&mut leaves, cea, bits, side);
@@ -69,10 +66,9 @@ fn waiting_after(
     requires well_formed { IsWellFormed cea.now }
     requires state_sets { IfSome state_sets (λ p. HasLeavesBelow cea.now.size p.now) }
     ensures set { IfOk result (IsSet cea.now.size) }
-    ensures members {
-        IfOk result (λ w. (k : ℕ) → has w k ≡ not (takes_marked side) && patient
-            (automaton_of_cea cea.now) (standing (option_copied state_sets.entry)).sets k)
-    }
+    ensures members { IfOk result (λ w. (k : ℕ) → has w k
+        ≡ not (takes_marked side) && patient (automaton_of_cea cea.now)
+        (standing (option_copied state_sets.entry)).sets k) }
 {
     match (state_sets, side) {
         (Some(state_sets), Side::Unmarked) => all_waiting(alloc, cea, state_sets),
@@ -84,9 +80,8 @@ fn waiting_after(
 fn have_leaf(cea: &Cea, fresh: &Bits, waiting: &Bits) -> bool
     requires fresh { IsSet cea.now.size fresh.now }
     requires waiting { IsSet cea.now.size waiting.now }
-    ensures {
-        result ≡ has_leaf (automaton_of_cea cea.now) (pair (has fresh.now) (has waiting.now))
-    }
+    ensures { result ≡ has_leaf (automaton_of_cea cea.now)
+        (pair (has fresh.now) (has waiting.now)) }
 {
     some_leaf(cea, fresh) || some_leaf(cea, waiting)
 }
@@ -103,11 +98,9 @@ pub fn successor(
     requires state_sets { IfSome state_sets (λ p. HasLeavesBelow cea.now.size p.now) }
     requires bits { length bits.now ≡ room_for cea.now.size }
     ensures state_sets { IfOk result (λ r. IfSome r (HasLeavesBelow cea.now.size)) }
-    ensures exact {
-        IfOk result (λ r. option_map standing_of r
-            ≡ next_standing (automaton_of_cea cea.now) cea.now.strict
-            (standing (option_copied state_sets.entry)) (has bits.now) (takes_marked side))
-    }
+    ensures exact { IfOk result (λ r. option_map standing_of r
+        ≡ next_standing (automaton_of_cea cea.now) cea.now.strict
+        (standing (option_copied state_sets.entry)) (has bits.now) (takes_marked side)) }
 {
     let phase = match phase_after(cea.strict, phase_of(state_sets), side) {
         Some(phase) => phase,

@@ -11,10 +11,8 @@ use std::hash::{Hash, Hasher};
 pub fn unite(words: &mut [u64], other: &[u64])
     requires { length words.old ≡ length other.now }
     ensures room { length (bits_of_words words.new) ≡ length (bits_of_words words.old) }
-    ensures members {
-        (k : ℕ) → has (bits_of_words words.new) k ≡ has (bits_of_words words.old) k || has
-            (bits_of_words other.now) k
-    }
+    ensures members { (k : ℕ) → has (bits_of_words words.new) k
+        ≡ has (bits_of_words words.old) k || has (bits_of_words other.now) k }
 {
     for i in 0..words.len() {
         words[i] |= other[i];
@@ -25,10 +23,8 @@ pub fn unite(words: &mut [u64], other: &[u64])
 pub fn intersect(words: &mut [u64], other: &[u64])
     requires { length words.old ≡ length other.now }
     ensures room { length (bits_of_words words.new) ≡ length (bits_of_words words.old) }
-    ensures members {
-        (k : ℕ) → has (bits_of_words words.new) k ≡ has (bits_of_words words.old) k && has
-            (bits_of_words other.now) k
-    }
+    ensures members { (k : ℕ) → has (bits_of_words words.new) k
+        ≡ has (bits_of_words words.old) k && has (bits_of_words other.now) k }
 {
     for i in 0..words.len() {
         words[i] &= other[i];
@@ -39,10 +35,8 @@ pub fn intersect(words: &mut [u64], other: &[u64])
 pub fn subtract(words: &mut [u64], other: &[u64])
     requires { length words.old ≡ length other.now }
     ensures room { length (bits_of_words words.new) ≡ length (bits_of_words words.old) }
-    ensures members {
-        (k : ℕ) → has (bits_of_words words.new) k ≡ has (bits_of_words words.old) k && not
-            (has (bits_of_words other.now) k)
-    }
+    ensures members { (k : ℕ) → has (bits_of_words words.new) k
+        ≡ has (bits_of_words words.old) k && not (has (bits_of_words other.now) k) }
 {
     for i in 0..words.len() {
         words[i] &= !other[i];
@@ -61,13 +55,10 @@ pub fn clear(words: &mut [u64])
 
 /// The first word that is not 0, from this one on.
 pub fn next_word(words: &[u64], from: usize) -> Option<usize>
-    ensures found {
-        IfSome result (λ i. (from ≤ i) × (i < length words.now)
-            × (0 < slice_index_or words.now i 0))
-    }
-    ensures first {
-        IfSome result (λ i. (j : ℕ) → from ≤ j → j < i → slice_index_or words.now j 0 ≡ 0)
-    }
+    ensures found { IfSome result (λ i. (from ≤ i) × (i < length words.now)
+        × (0 < slice_index_or words.now i 0)) }
+    ensures first { IfSome result (λ i. (j : ℕ) → from ≤ j → j < i → slice_index_or words.now j 0
+        ≡ 0) }
     ensures none { IfNone result ((j : ℕ) → from ≤ j → slice_index_or words.now j 0 ≡ 0) }
 {
     for i in from..words.len() {
@@ -81,14 +72,10 @@ pub fn next_word(words: &[u64], from: usize) -> Option<usize>
 /// Whether both have some bit in common.
 pub fn meets(words: &[u64], other: &[u64]) -> bool
     requires { length words.now ≡ length other.now }
-    ensures some {
-        result ≡ true → (k : ℕ) × (has (bits_of_words words.now) k && has (bits_of_words other.now)
-            k ≡ true)
-    }
-    ensures none {
-        result ≡ false → (k : ℕ) → has (bits_of_words words.now) k && has (bits_of_words other.now)
-            k ≡ false
-    }
+    ensures some { result ≡ true → (k : ℕ) × (has (bits_of_words words.now) k && has
+        (bits_of_words other.now) k ≡ true) }
+    ensures none { result ≡ false → (k : ℕ) → has (bits_of_words words.now) k && has
+        (bits_of_words other.now) k ≡ false }
 {
     for i in 0..words.len() {
         if words[i] & other[i] != 0 {
@@ -102,9 +89,8 @@ pub fn meets(words: &[u64], other: &[u64]) -> bool
 pub fn insert(words: &mut [u64], k: usize)
     requires { k < length words.old * 64 }
     ensures room { length (bits_of_words words.new) ≡ length (bits_of_words words.old) }
-    ensures members {
-        (j : ℕ) → has (bits_of_words words.new) j ≡ (j == k) || has (bits_of_words words.old) j
-    }
+    ensures members { (j : ℕ) → has (bits_of_words words.new) j
+        ≡ (j == k) || has (bits_of_words words.old) j }
 {
     words[k / 64] |= 1 << (k % 64);
 }
@@ -123,9 +109,8 @@ pub fn contains(words: &[u64], k: usize) -> bool
 pub fn next_from(words: &[u64], from: usize) -> Option<usize>
     requires { length words.now * 64 ≤ 2 ^ 64 }
     ensures found { IfSome result (λ j. (from ≤ j) × (has (bits_of_words words.now) j ≡ true)) }
-    ensures first {
-        IfSome result (λ j. (k : ℕ) → from ≤ k → k < j → has (bits_of_words words.now) k ≡ false)
-    }
+    ensures first { IfSome result (λ j. (k : ℕ) → from ≤ k → k < j → has (bits_of_words words.now) k
+        ≡ false) }
     ensures none { IfNone result ((k : ℕ) → from ≤ k → has (bits_of_words words.now) k ≡ false) }
 {
     let at = from / 64;
@@ -159,9 +144,8 @@ pub fn are_same(words: &[u64], other: &[u64]) -> bool
 
 /// Writes the words, the first one first.
 pub fn hash<H: Hasher>(words: &[u64], state: &mut H)
-    ensures {
-        state.new ≡ fold H.write state.old (flat_map fed.u64 (words_of (bits_of_words words.now)))
-    }
+    ensures { state.new ≡ fold H.write state.old
+        (flat_map fed.u64 (words_of (bits_of_words words.now))) }
 {
     for i in 0..words.len() {
         words[i].hash(state);

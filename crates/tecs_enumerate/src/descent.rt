@@ -71,31 +71,23 @@ pub fn descend<S: NodeStore, L: Ledger>(
     steps: &mut Steps<L>,
 ) -> Stamp
     requires well_formed { WellFormed (S.nodes store.now) }
-    requires room {
-        HasRoom low (S.nodes store.now) (record { stack = vec_capacity stack.old; path =
-            vec_capacity path.old }) (length (reverse stack.old.items)) (length path.old.items) id
-    }
-    requires others {
-        AllHaveRoom low (S.nodes store.now) (record
-            { stack = vec_capacity stack.old; path = vec_capacity path.old })
-            (reverse stack.old.items)
-    }
+    requires room { HasRoom low (S.nodes store.now)
+        (record { stack = vec_capacity stack.old; path = vec_capacity path.old })
+        (length (reverse stack.old.items)) (length path.old.items) id }
+    requires others { AllHaveRoom low (S.nodes store.now)
+        (record { stack = vec_capacity stack.old; path = vec_capacity path.old })
+        (reverse stack.old.items) }
     requires nested { AreNested (length path.old.items) (reverse stack.old.items) }
-    ensures first {
-        answers low path.old.items (tree (S.nodes store.now) id)
-            ++ rest_of low (S.nodes store.now) path.old.items (reverse stack.old.items)
-            ≡ record { start = result; positions = path.new.items } ∷ rest_of low
-            (S.nodes store.now) path.new.items (reverse stack.new.items)
-    }
-    ensures others {
-        AllHaveRoom low (S.nodes store.now) (record
-            { stack = vec_capacity stack.new; path = vec_capacity path.new })
-            (reverse stack.new.items)
-    }
+    ensures first { answers low path.old.items (tree (S.nodes store.now) id)
+        ++ rest_of low (S.nodes store.now) path.old.items (reverse stack.old.items)
+        ≡ record { start = result; positions = path.new.items } ∷ rest_of low (S.nodes store.now)
+        path.new.items (reverse stack.new.items) }
+    ensures others { AllHaveRoom low (S.nodes store.now)
+        (record { stack = vec_capacity stack.new; path = vec_capacity path.new })
+        (reverse stack.new.items) }
     ensures nested { AreNested (length path.new.items) (reverse stack.new.items) }
-    ensures delay {
-        steps.new + 4 * length path.old.items ≤ steps.old + 4 * (length path.new.items + 1)
-    }
+    ensures delay { steps.new + 4 * length path.old.items
+        ≤ steps.old + 4 * (length path.new.items + 1) }
 {
     let mut at = id;
     'down: loop {

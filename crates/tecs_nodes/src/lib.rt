@@ -31,9 +31,8 @@ pub fn bottom<S: NodeStore, L: Ledger>(
     requires well_formed { WellFormed (S.nodes store.old) }
     requires in_step { AreInStep (S.nodes store.old ++ Node.Bottom stamp ∷ []) }
     ensures made { IfOk result (λ id. HasNode (S.nodes store.new) id (Start stamp)) }
-    ensures appended {
-        OnOk result (S.nodes store.new ≡ S.nodes store.old ++ Node.Bottom stamp ∷ [])
-    }
+    ensures appended { OnOk result (S.nodes store.new ≡ S.nodes store.old
+        ++ Node.Bottom stamp ∷ []) }
     ensures refused { OnErr result (S.nodes store.new ≡ S.nodes store.old) }
     ensures well_formed { WellFormed (S.nodes store.new) }
     ensures steps { steps.new ≡ steps.old + 1 }
@@ -53,10 +52,8 @@ pub fn extend<S: NodeStore, L: Ledger>(
     requires well_formed { WellFormed (S.nodes store.old) }
     requires inside { id < length (S.nodes store.old) }
     requires after { All (ComesAfter pos) (members (tree (S.nodes store.old) id)) }
-    ensures made {
-        IfOk result (λ new. HasNode (S.nodes store.new) new
-            (Extended pos (tree (S.nodes store.old) id)))
-    }
+    ensures made { IfOk result (λ new. HasNode (S.nodes store.new) new
+        (Extended pos (tree (S.nodes store.old) id))) }
     ensures refused { OnErr result (S.nodes store.new ≡ S.nodes store.old) }
     ensures grows { Grows (S.nodes store.old) (S.nodes store.new) }
     ensures pushed { OnOk result (length (S.nodes store.new) ≡ length (S.nodes store.old) + 1) }
@@ -89,10 +86,8 @@ pub fn join<S: NodeStore, L: Ledger>(
     requires left_inside { left < length (S.nodes store.old) }
     requires right_inside { right < length (S.nodes store.old) }
     requires can { CanJoin (tree (S.nodes store.old) left) (tree (S.nodes store.old) right) }
-    ensures made {
-        IfOk result (λ new. HasNode (S.nodes store.new) new
-            (United (tree (S.nodes store.old) left) (tree (S.nodes store.old) right)))
-    }
+    ensures made { IfOk result (λ new. HasNode (S.nodes store.new) new
+        (United (tree (S.nodes store.old) left) (tree (S.nodes store.old) right))) }
     ensures refused { OnErr result (S.nodes store.new ≡ S.nodes store.old) }
     ensures grows { Grows (S.nodes store.old) (S.nodes store.new) }
     ensures pushed { OnOk result (length (S.nodes store.new) ≡ length (S.nodes store.old) + 1) }
@@ -119,9 +114,8 @@ pub fn max_start<S: NodeStore, L: Ledger>(store: &S, id: Id, steps: &mut Steps<L
     requires inside { id < length (S.nodes store.now) }
     ensures max { result ≡ newest (tree (S.nodes store.now) id) }
     ensures greatest { All (λ m. m.start.pos ≤ result.pos) (members (tree (S.nodes store.now) id)) }
-    ensures among {
-        (m : Member) × Contains (members (tree (S.nodes store.now) id)) m × (m.start ≡ result)
-    }
+    ensures among { (m : Member) × Contains (members (tree (S.nodes store.now) id)) m
+        × (m.start ≡ result) }
     ensures steps { steps.new ≡ steps.old + 1 }
 {
     store.get(id, steps).max()
@@ -138,21 +132,14 @@ fn chain<S: NodeStore, L: Ledger>(
     steps: &mut Steps<L>,
 ) -> Result<Id, Memory>
     requires well_formed { WellFormed (S.nodes store.old) }
-    requires inside {
-        (first < length (S.nodes store.old)) × (second < length (S.nodes store.old))
-            × (third < length (S.nodes store.old)) × (fourth < length (S.nodes store.old))
-    }
-    requires well_formed_tree {
-        IsWellFormedTree (United (tree (S.nodes store.old) first)
-            (United (tree (S.nodes store.old) second)
-            (United (tree (S.nodes store.old) third) (tree (S.nodes store.old) fourth))))
-    }
-    ensures made {
-        IfOk result (λ new. HasNode (S.nodes store.new) new
-            (United (tree (S.nodes store.old) first)
-            (United (tree (S.nodes store.old) second)
-            (United (tree (S.nodes store.old) third) (tree (S.nodes store.old) fourth)))))
-    }
+    requires inside { (first < length (S.nodes store.old)) × (second < length (S.nodes store.old))
+        × (third < length (S.nodes store.old)) × (fourth < length (S.nodes store.old)) }
+    requires well_formed_tree { IsWellFormedTree
+        (United (tree (S.nodes store.old) first) (United (tree (S.nodes store.old) second)
+        (United (tree (S.nodes store.old) third) (tree (S.nodes store.old) fourth)))) }
+    ensures made { IfOk result (λ new. HasNode (S.nodes store.new) new
+        (United (tree (S.nodes store.old) first) (United (tree (S.nodes store.old) second)
+        (United (tree (S.nodes store.old) third) (tree (S.nodes store.old) fourth))))) }
     ensures grows { Grows (S.nodes store.old) (S.nodes store.new) }
     ensures pushed { OnOk result (length (S.nodes store.new) ≡ length (S.nodes store.old) + 3) }
     ensures pushes { length (S.nodes store.new) ≤ length (S.nodes store.old) + 3 }
@@ -175,20 +162,15 @@ fn unite<S: NodeStore, L: Ledger>(
     requires a_inside { a < length (S.nodes store.old) }
     requires b_inside { b < length (S.nodes store.old) }
     requires can { CanUnite (tree (S.nodes store.old) a) (tree (S.nodes store.old) b) }
-    ensures made {
-        IfOk result (λ id. HasNode (S.nodes store.new) id
-            (united (tree (S.nodes store.old) a) (tree (S.nodes store.old) b)))
-    }
+    ensures made { IfOk result (λ id. HasNode (S.nodes store.new) id
+        (united (tree (S.nodes store.old) a) (tree (S.nodes store.old) b))) }
     ensures grows { Grows (S.nodes store.old) (S.nodes store.new) }
-    ensures pushed {
-        OnOk result (length (S.nodes store.new) ≡ length (S.nodes store.old)
-            + nodes_made (tree (S.nodes store.old) a) (tree (S.nodes store.old) b))
-    }
+    ensures pushed { OnOk result (length (S.nodes store.new)
+        ≡ length (S.nodes store.old) + nodes_made (tree (S.nodes store.old) a)
+        (tree (S.nodes store.old) b)) }
     ensures pushes { length (S.nodes store.new) ≤ length (S.nodes store.old) + 3 }
-    ensures taken {
-        OnOk result (steps.new ≡ steps.old
-            + steps_taken (tree (S.nodes store.old) a) (tree (S.nodes store.old) b))
-    }
+    ensures taken { OnOk result (steps.new ≡ steps.old + steps_taken (tree (S.nodes store.old) a)
+        (tree (S.nodes store.old) b)) }
     ensures steps { steps.new ≤ steps.old + 11 }
 {
     let first = store.get(a, steps);
@@ -234,22 +216,17 @@ pub fn union<S: NodeStore, L: Ledger>(
     requires a_inside { a < length (S.nodes store.old) }
     requires b_inside { b < length (S.nodes store.old) }
     requires can { CanUnite (tree (S.nodes store.old) a) (tree (S.nodes store.old) b) }
-    ensures made {
-        IfOk result (λ id. HasNode (S.nodes store.new) id
-            (united (tree (S.nodes store.old) a) (tree (S.nodes store.old) b)))
-    }
+    ensures made { IfOk result (λ id. HasNode (S.nodes store.new) id
+        (united (tree (S.nodes store.old) a) (tree (S.nodes store.old) b))) }
     ensures union { IfOk result (λ id. IsUnion (S.nodes store.old) a b (S.nodes store.new) id) }
     ensures refused { OnErr result (S.nodes store.new ≡ S.nodes store.old) }
     ensures grows { Grows (S.nodes store.old) (S.nodes store.new) }
-    ensures pushed {
-        OnOk result (length (S.nodes store.new) ≡ length (S.nodes store.old)
-            + nodes_made (tree (S.nodes store.old) a) (tree (S.nodes store.old) b))
-    }
+    ensures pushed { OnOk result (length (S.nodes store.new)
+        ≡ length (S.nodes store.old) + nodes_made (tree (S.nodes store.old) a)
+        (tree (S.nodes store.old) b)) }
     ensures pushes { length (S.nodes store.new) ≤ length (S.nodes store.old) + 3 }
-    ensures taken {
-        OnOk result (steps.new ≡ steps.old
-            + steps_taken (tree (S.nodes store.old) a) (tree (S.nodes store.old) b))
-    }
+    ensures taken { OnOk result (steps.new ≡ steps.old + steps_taken (tree (S.nodes store.old) a)
+        (tree (S.nodes store.old) b)) }
     ensures steps { steps.new ≤ steps.old + 11 }
 {
     let len = store.len();

@@ -28,16 +28,12 @@ pub fn next_is<S: NodeStore, L: Ledger>(
     requires well_formed { WellFormed (S.nodes store.now) }
     requires fits { Fits cursor.old (S.nodes store.now) }
     ensures fits { Fits cursor.new (S.nodes store.now) }
-    ensures gives {
-        (more : List Member) → rest cursor.old (S.nodes store.now)
-            ≡ record { start = start; positions = positions.now } ∷ more → IsTrue result
-            × (rest cursor.new (S.nodes store.now) ≡ more)
-    }
-    ensures delay {
-        (more : List Member) → rest cursor.old (S.nodes store.now)
-            ≡ record { start = start; positions = positions.now } ∷ more → steps.new
-            ≤ steps.old + 4 * (length positions.now + 1)
-    }
+    ensures gives { (more : List Member) → rest cursor.old (S.nodes store.now)
+        ≡ record { start = start; positions = positions.now } ∷ more → IsTrue result
+        × (rest cursor.new (S.nodes store.now) ≡ more) }
+    ensures delay { (more : List Member) → rest cursor.old (S.nodes store.now)
+        ≡ record { start = start; positions = positions.now } ∷ more → steps.new
+        ≤ steps.old + 4 * (length positions.now + 1) }
 {
     match cursor.next(store, steps) {
         Some(given) => given == start && cursor.positions() == positions,
@@ -55,11 +51,9 @@ pub fn join_of_two<S: NodeStore, L: Ledger>(
     requires empty { S.nodes store.old ≡ [] }
     ensures well_formed { IfOk result (λ root. WellFormed (S.nodes store.new)) }
     ensures root { IfOk result (λ root. IsRoot (S.nodes store.new) root) }
-    ensures tree {
-        IfOk result (λ root. tree (S.nodes store.new) root.id
-            ≡ United (Extended 1 (Start (record { pos = 1; clock = pos 1 })))
-            (Extended 1 (Extended 0 (Start (record { pos = 0; clock = pos 0 })))))
-    }
+    ensures tree { IfOk result (λ root. tree (S.nodes store.new) root.id
+        ≡ United (Extended 1 (Start (record { pos = 1; clock = pos 1 })))
+        (Extended 1 (Extended 0 (Start (record { pos = 0; clock = pos 0 }))))) }
 {
     let parts = [
         Part::Start(Stamp { pos: 0, clock: 0 }),

@@ -30,7 +30,6 @@ none_there (x ∷ xs) e = absurd (omega arith)
 pub ready_first : (t : Table) (nodes : List Node) (rows : List (ℕ × List Root)) → nodes ≡ [] → length rows ≡ 0 → IsReady t nodes rows 0
 ready_first t nodes rows e f = subst (λ ns. IsReady t ns rows 0) (sym e) (subst (λ rs. IsReady t [] rs 0) (none_there rows f) (ready_none t))
 
-
 module _ (t : Table) (nodes : List Node) (rows : List (ℕ × List Root)) (next : ℕ) (r : IsReady t nodes rows next) (stamp : Stamp) (is_pos : stamp.pos ≡ next) (is_clock : stamp.clock ≡ pos 0) where
   pub step_ready : AreInStep (nodes ++ Bottom stamp ∷ [])
   step_ready = in_step-bottom nodes stamp r.well_formed.in_step (λ s has. let b = r.starts s has in (omega (arith, b.0, is_pos), let c = b.1 in let lt = b.0 in omega (arith, ints)))

@@ -1,18 +1,15 @@
 -- The class of an event: where a set stands in a list without repeats, and what is there once a new one is put in.
-use Rattle.std.proofs.Common.{◌≡◌, ℕ, zero, suc, ◌+◌, ◌<◌, inl, inr, Bool, true, false, cond, List, [], ◌∷◌, ◌++◌, length, refl, sym, ap, subst, ◌∙◌, Contains, Option, Some, None, slice_get, arith, All}
-use Rattle.std.specs.Prelude.{IfOk, Result, Ok, Err}
+use Rattle.std.proofs.Common.{◌≡◌, ℕ, zero, suc, ◌+◌, ◌<◌, Bool, true, false, cond, List, [], ◌∷◌, ◌++◌, length, refl, sym, ap, ◌∙◌, Contains, Some, slice_get, arith}
 use Rattle.std.specs.List.{list_any, position, position_from}
 use Rattle.std.specs.Cmp.{decided}
 use Rattle.std.proofs.lemmas.Bool.{false≢true}
 use Rattle.std.proofs.lemmas.List.{append-nil}
-use Rattle.std.proofs.lemmas.List.Elements.{All-nil, All-cons}
+use Rattle.std.proofs.lemmas.List.Elements.{All-nil}
 use Rattle.std.proofs.lemmas.Iterator.Adapters.{position_from-zero}
-use Rattle.std.proofs.lemmas.Map.Views.{list_any-from_Contains, Contains-from_any}
+use Rattle.std.proofs.lemmas.Map.Views.{list_any-from_Contains}
 use Rattle.indexmap.specs.IndexSet.{insert_key}
-use Rattle.cer_base.specs.Bits.{room_for}
-use Rattle.cea_determinise.specs.Det.{Table, AddsClass, class_at, IsSound}
+use Rattle.cea_determinise.specs.Det.{Table, AddsClass, class_at}
 use Rattle.cea_determinise.specs.Keys.{is_same_set, Decides-set}
-use Rattle.cea_determinise.proofs.Growth.{sound_class}
 
 place : {X : Type 0} (test : X → Bool) (k : ℕ) (xs : List X) (n : ℕ) → position_from test k xs ≡ Some n → (i : ℕ) × (n ≡ k + i) × (x : X) × (slice_get xs i ≡ Some x) × (test x ≡ true)
 place test k [] n e = absurd cc

@@ -5,7 +5,7 @@ use Rattle.cea_determinise.specs.declared.cea.Cea.{Cea}
 use Rattle.cea_determinise.specs.declared.cea.StateSets.{StateSets}
 use Rattle.cea_determinise.specs.declared.cea.Side.{Side}
 use Rattle.cea_determinise.specs.declared.cea.Side.TheVariants.{Marked, Unmarked}
-use Rattle.cea_determinise.specs.Runs.{LeafSet, Automaton, State, pair}
+use Rattle.cea_determinise.specs.Runs.{LeafSet, Automaton, pair}
 use Rattle.cea_determinise.specs.Strict.{Standing, begin}
 
 -- the set of a row; a row that is not there is empty

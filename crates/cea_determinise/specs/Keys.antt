@@ -1,5 +1,5 @@
 -- When two states are equal, and when two pairs of state and class are.
-use Rattle.std.specs.Prelude.{◌≡◌, ℕ, Bool, true, false, ◌&&◌, List, refl, eqb}
+use Rattle.std.specs.Prelude.{◌≡◌, Bool, true, false, ◌&&◌, List, refl, eqb}
 use Rattle.std.proofs.Common.{subst}
 use Rattle.std.specs.Bool.{Decides, beq}
 use Rattle.std.specs.Cmp.{booleans_Decides}

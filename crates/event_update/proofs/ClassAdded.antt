@@ -1,5 +1,5 @@
 -- A table that knows one class more is as it was in all else.
-use Rattle.std.proofs.Common.{◌≡◌, ℕ, ◌+◌, ◌<◌, Bool, List, [], ◌∷◌, ◌++◌, length, refl, sym, ap, subst, ◌∙◌, Some, slice_get, append_assoc}
+use Rattle.std.proofs.Common.{ℕ, Bool, List, [], ◌++◌, refl, sym, subst, ◌∙◌, append_assoc}
 use Rattle.std.specs.Prelude.{ℤ}
 use Rattle.std.proofs.lemmas.List.{append-nil}
 use Rattle.std.proofs.lemmas.List.Elements.{All-nil}

@@ -1,13 +1,11 @@
 -- A table that has grown is cut back to what it was.
-use Rattle.std.proofs.Common.{◌≡◌, ℕ, ◌+◌, ◌≤◌, Bool, List, [], ◌∷◌, ◌++◌, length, take, refl, sym, ap, subst, ◌∙◌, All, arith, length-append}
+use Rattle.std.proofs.Common.{◌≡◌, ℕ, ◌≤◌, Bool, List, [], length, take, refl, sym, ap, subst, ◌∙◌, All, arith, length-append}
 use Rattle.std.proofs.Math.Seq.{take-append_seam}
 use Rattle.std.proofs.lemmas.List.{append-nil}
 use Rattle.std.proofs.lemmas.List.Elements.{All-nil, All-weaker}
-use Rattle.cea_determinise.specs.declared.cea.StateSets.{StateSets}
 use Rattle.cea_determinise.specs.declared.table.TransitionKey.{TransitionKey}
 use Rattle.cea_determinise.specs.declared.table.Successors.{Successors}
-use Rattle.cea_determinise.specs.Cea.{standing_of}
-use Rattle.cea_determinise.specs.Det.{Table, AreSuccessors, IsSound, StaysWithin, standing_after}
+use Rattle.cea_determinise.specs.Det.{Table, AreSuccessors, IsSound, StaysWithin}
 use Rattle.event_update.specs.Update.{Discovers}
 
 -- no state is new where none is looked up

@@ -1,7 +1,7 @@
 -- Lists that are ready for an event are ready for the next one after it.
-use Rattle.std.proofs.Common.{◌≡◌, ℕ, zero, suc, ◌+◌, ◌<◌, ◌≤◌, List, [], ◌∷◌, ◌++◌, length, refl, sym, ap, subst, ◌∙◌, inl, inr, All, Contains, Some, slice_get, arith}
+use Rattle.std.proofs.Common.{◌≡◌, ℕ, zero, suc, ◌+◌, ◌<◌, List, [], ◌∷◌, ◌++◌, length, refl, sym, ap, subst, ◌∙◌, inl, inr, All, Some, slice_get, arith}
 use Rattle.std.proofs.lemmas.Int.{ints}
-use Rattle.std.specs.Prelude.{pos, ◌≤ℤ◌, Bool}
+use Rattle.std.specs.Prelude.{pos, Bool}
 use Rattle.std.proofs.lemmas.List.Elements.{All-nil, All-cons, All-head, All-tail, All-weaker, All-append}
 use Rattle.cer_base.specs.declared.node.Stamp.{Stamp}
 use Rattle.cer_base.specs.declared.node.Root.{Root}

@@ -1,10 +1,7 @@
-use Rattle.std.proofs.Common.{arith, ◌∷◌, ◌++◌, [], List, Bool, ℕ, ◌≡◌, subst, sym}
-use Rattle.std.specs.Prelude.{ℤ}
+use Rattle.std.proofs.Common.{◌∷◌, ◌++◌, [], List, Bool, subst}
 use Rattle.indexmap.specs.IndexMap.{keys}
-use Rattle.cea_determinise.specs.Det.{Table, class_at}
 use Rattle.cea_determinise.proofs.Classes.{class_is, class_within}
-use Rattle.event_update.specs.Reach.{Seen}
-use Rattle.event_update.specs.Stands.{IsLater, Stands, seen}
+use Rattle.event_update.specs.Stands.{Stands, seen}
 use Rattle.event_update.specs.Update.{Discovers, rows_after}
 use Rattle.event_update.proofs.ClassAdded.{stands_added, can_added, discovers_added, discovers_class}
 use Rattle.event_update.proofs.Known.{class_found_later}

@@ -1,4 +1,3 @@
-use Rattle.std.proofs.Common.{ℕ}
 use Rattle.cer_base.specs.Bits.{has}
 use Rattle.cea_determinise.specs.Cea.{row}
 use Rattle.cea_determinise.proofs.Below.{three_unions, rows_are}

@@ -1,4 +1,4 @@
-use Rattle.std.proofs.Common.{arith, take, ap, ◌∙◌}
+use Rattle.std.proofs.Common.{arith, ap, ◌∙◌}
 use Rattle.std.specs.Prelude.{fold, flat_map}
 use Rattle.std.specs.Hash as fed
 use Rattle.std.proofs.lemmas.List.{take_all}

@@ -2,7 +2,7 @@ use Rattle.std.proofs.Common.{ap, sym, ◌∙◌, ◌≡◌, ◌<◌, ◌≤◌,
 use Rattle.std.specs.Map.{lookup}
 use Rattle.indexmap.proofs.CallerLemmas.{insert_entry-new}
 use Rattle.cea_determinise.specs.Keys.{is_same_key}
-use Rattle.cea_determinise.specs.Det.{Table, class_at, AreBoth, Reached, IsSound}
+use Rattle.cea_determinise.specs.Det.{Table, class_at, AreBoth, Reached}
 use Rattle.cea_determinise.proofs.Growth.{sound_one, sound_two, sound_pair, reached_two, successors_two}
 use Rattle.cea_determinise.proofs.det.Det.enter.Goals as goal
 

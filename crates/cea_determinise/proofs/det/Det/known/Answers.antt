@@ -1,4 +1,4 @@
-use Rattle.std.proofs.Common.{ap, ◌∙◌, ◌≡◌, subst}
+use Rattle.std.proofs.Common.{ap, ◌∙◌, subst}
 use Rattle.std.specs.Map.{lookup}
 use Rattle.cea_determinise.specs.Keys.{is_same_key}
 use Rattle.cea_determinise.specs.Det.{Table, IsSound}

@@ -1,4 +1,5 @@
 pub mod Types
 pub mod Names
 pub mod Declaring
+pub mod Indexes
 pub mod Events

@@ -11,6 +11,7 @@ ghost use Rattle.std.specs.Prelude.{◌≡◌, List, ℕ};
 use cer_base::{Listed, Text};
 
 mod declarations;
+mod names;
 mod registry;
 #[cfg(test)]
 mod tests;

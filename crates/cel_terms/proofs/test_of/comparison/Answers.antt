@@ -8,6 +8,6 @@ pub returns-in-None : goal.returns-in-None
 returns-in-None c = record {
   holds = λ event at.
       sym (ap (λ v. some_meets c.args.op v c.args.literal.now)
-      (lacks c.args.schema.now c.args.ty c.args.name.now.text event (sym c.in-None.is ∙ c.attr.ensures ∙ ap (attr_at c.args.schema.now c.args.ty) c.as_str.ensures) at));
+      (lacks c.args.schema.now c.args.ty c.args.name.now.text event (sym c.in-None.is ∙ c.attr.ensures.place ∙ ap (attr_at c.args.schema.now c.args.ty) c.as_str.ensures) at));
   places = λ h. tt;
 }

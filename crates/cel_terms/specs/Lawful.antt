@@ -1,9 +1,10 @@
 -- What everything that is built of leaves may rely on.
 use Rattle.std.specs.Prelude.{◌≡◌, ℕ, ◌≤◌, List, [], ◌∷◌, ◌++◌, length, All, ⊤}
 use Rattle.std.specs.List.{range_with_len}
+use Rattle.cer_base.specs.declared.limits.TheConstants.{MOST_LEAVES}
 use Rattle.cel_terms.specs.declared.leaves.Test.{Test, No, Cmp, Not', All', Any', Row_of-Test, end_of-Test, more_of-Test}
 use Rattle.cel_terms.specs.declared.leaves.Leaves.{Leaves}
-use Rattle.cel_terms.specs.Checked.{HasFewPlaces}
+use Rattle.stream_schema.specs.Comparing.{HasFewPlaces}
 use Rattle.cel_terms.specs.Tree.{Tree, leaf, none, sequence, either, plus}
 use Rattle.cel_terms.specs.Shapes.{tree_of_shape}
 
@@ -15,7 +16,7 @@ numbers (sequence tight a b) = numbers a ++ numbers b
 numbers (either a b) = numbers a ++ numbers b
 numbers (plus tight a) = numbers a
 
--- no literal of the test has more than nine decimal places
+-- no literal of the test has more decimal places than a decimal may have
 abbrev mutual
   pub TestHasFewPlaces : Test → Type 0
   TestHasFewPlaces No = ⊤
@@ -32,8 +33,8 @@ abbrev mutual
 abbrev pub AreNumbered : Leaves → Type 0
 AreNumbered leaves = numbers (tree_of_shape leaves.shape) ≡ range_with_len 0 (length leaves.list)
 
--- At most 2,048 leaves; the shape has the number of each once, from left to right; no literal has more than nine decimal places.
+-- No more leaves than a query may have; the shape has the number of each once, from left to right; no literal has more decimal places than a decimal may have.
 pub record IsLawful (leaves : Leaves) : Type 0 where
-  pub count : length leaves.list ≤ 2048
+  pub count : length leaves.list ≤ MOST_LEAVES
   pub order : AreNumbered leaves
   pub places : All (λ l. All TestHasFewPlaces l.tests.items) leaves.list

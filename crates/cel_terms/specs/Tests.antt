@@ -8,7 +8,7 @@ use Rattle.cel_terms.specs.declared.Pred.{Pred, Cmp, Not', All', Any', Row_of-Pr
 use Rattle.cel_terms.specs.declared.leaves.Test.{Test}
 use Rattle.cel_terms.specs.declared.leaves.Leaf.{Leaf}
 use Rattle.cel_terms.specs.Predicate.{holds}
-use Rattle.cel_terms.specs.Checked.{HasFewPlaces}
+use Rattle.stream_schema.specs.Comparing.{HasFewPlaces}
 use Rattle.cel_terms.specs.Expand.{Occurrence}
 use Rattle.cel_terms.specs.Shapes.{test_holds, each_holds, IsLeafOf}
 use Rattle.cel_terms.specs.Lawful.{TestHasFewPlaces}

@@ -12,19 +12,19 @@ ghost use Rattle.std.specs.Prelude.{◌≡◌, List, ℕ};
 use cer_base::{Listed, Place, Text};
 use stream_schema::Value;
 
-pub mod compare;
 mod draft;
 mod expand;
 pub mod laws;
 mod leaf_of;
 pub mod leaves;
-mod number;
 mod numbering;
 mod occurrence;
 pub mod query_leaves;
 mod test_of;
 #[cfg(test)]
 mod tests;
+
+pub use stream_schema::Op;
 
 /// A name as it stands in a text. Its meaning looks at the text alone.
 #[derive(Drop, Debug)]
@@ -34,16 +34,6 @@ pub struct Name {
 }
 
 pub type Names = Listed<Name>;
-
-#[derive(Debug, Clone, Copy, PartialEq, Eq)]
-pub enum Op {
-    Eq,
-    Ne,
-    Lt,
-    Le,
-    Gt,
-    Ge,
-}
 
 /// A predicate on one event.
 #[derive(Drop, Debug)]

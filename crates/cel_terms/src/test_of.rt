@@ -6,24 +6,9 @@ ghost use Rattle.cel_terms.specs.Tests.{IsTestOf, AreTestsOf};
 
 use crate::leaves::Test;
 use crate::{Name, Op, Pred};
-use cer_base::{Memory, Text};
+use cer_base::Memory;
 use std::alloc::Global;
-use stream_schema::{Schema, TypeId, Value};
-
-/// A value of its own that equals the one given.
-fn copy_value(alloc: Global, value: &Value) -> Result<Value, Memory>
-    ensures { IfOk result (λ copy. copy ≡ value.now) }
-{
-    match value {
-        Value::Int(n) => Ok(Value::Int(*n)),
-        Value::Text(text) => Ok(Value::Text(Text::copy_of(alloc, text.as_str())?)),
-        Value::Flag(flag) => Ok(Value::Flag(*flag)),
-        Value::Dec { scaled, places } => Ok(Value::Dec {
-            scaled: *scaled,
-            places: *places,
-        }),
-    }
-}
+use stream_schema::{Schema, TypeId, Value, copy_value};
 
 /// The test of a comparison. Where the type lacks the attribute it holds of no event.
 fn comparison(

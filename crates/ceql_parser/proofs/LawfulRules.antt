@@ -10,7 +10,8 @@ use Rattle.ceql_lexer.specs.Numerals.{farthest}
 use Rattle.ceql_lexer.specs.declared.Token.{Token}
 use Rattle.ceql_lexer.specs.declared.TokenKind.{TokenKind}
 use Rattle.ceql_lexer.specs.declared.TokenKind.TheVariants as kind
-use Rattle.cel_terms.specs.Checked.{HasFewPlaces, widest}
+use Rattle.cel_terms.specs.Checked.{widest}
+use Rattle.stream_schema.specs.Comparing.{HasFewPlaces}
 use Rattle.cel_terms.specs.declared.Name.{Name}
 use Rattle.cel_terms.specs.declared.Postfix.{Postfix}
 use Rattle.cel_terms.specs.declared.Window.{Window}

@@ -3,7 +3,7 @@ use Rattle.std.proofs.Common.{◌≡◌, refl, ℕ, suc, true, false, List, [], 
 use Rattle.std.specs.Prelude.{codes}
 use Rattle.ceql_lexer.specs.declared.Token.{Token}
 use Rattle.cel_terms.specs.declared.Name.{Name}
-use Rattle.cel_terms.specs.declared.Op.{Op}
+use Rattle.stream_schema.specs.declared.Op.{Op}
 use Rattle.ceql_parser.specs.Marks.{among, is, is_name, name_of}
 use Rattle.ceql_parser.specs.Values.{is_op, op_of, is_literal, literal_of}
 use Rattle.ceql_parser.specs.Trees.{PredTree, compares, negates}

@@ -16,7 +16,8 @@ use Rattle.cel_terms.specs.declared.Name.{Name}
 use Rattle.cel_terms.specs.declared.Query.{Query}
 use Rattle.cel_terms.specs.declared.Window.{Window}
 use Rattle.cel_terms.specs.declared.Window.TheVariants.{Free, Events, Clock}
-use Rattle.cel_terms.specs.Checked.{types_read, names_of, leaf_count, AnyKind, SomeHasAttr, AreNamesOf, IsCheckedFormula, IsCheckedWindow, IsStreamName, KindHasFewPlaces, HaveFewPlaces, IsChecked}
+use Rattle.cel_terms.specs.Checked.{types_read, names_of, leaf_count, AnyKind, SomeHasAttr, AreNamesOf, IsCheckedFormula, IsCheckedWindow, IsStreamName, HaveFewPlaces, IsChecked}
+use Rattle.stream_schema.specs.Comparing.{KindHasFewPlaces}
 use Rattle.ceql_parser.specs.declared.faults.QueryFault.TheVariants.{UnknownStream, UnknownAttribute, TooManyLeaves, WindowKind, BadCount}
 use Rattle.ceql_parser.specs.declared.terms.NumberAt.{NumberAt}
 use Rattle.ceql_parser.specs.declared.terms.KindDecl.{KindDecl}

@@ -10,8 +10,8 @@ use Rattle.stream_schema.specs.declared.Kind.TheVariants as kind
 use Rattle.stream_schema.specs.declared.Value.{Value}
 use Rattle.stream_schema.specs.declared.Value.TheVariants as value
 use Rattle.cel_terms.specs.declared.Name.{Name}
-use Rattle.cel_terms.specs.declared.Op.{Op}
-use Rattle.cel_terms.specs.declared.Op.TheVariants.{Eq, Ne, Lt, Le, Gt, Ge}
+use Rattle.stream_schema.specs.declared.Op.{Op}
+use Rattle.stream_schema.specs.declared.Op.TheVariants.{Eq, Ne, Lt, Le, Gt, Ge}
 use Rattle.cel_terms.specs.declared.Pred.{Pred, Cmp, Not', All', Any', Row_of-Pred, end_of-Pred, more_of-Pred}
 use Rattle.cel_terms.specs.declared.Filter.{Filter, On, Row_of-Filter, end_of-Filter, more_of-Filter}
 use Rattle.cel_terms.specs.declared.Filter as filter
@@ -19,7 +19,8 @@ use Rattle.cel_terms.specs.declared.Postfix.{Postfix}
 use Rattle.cel_terms.specs.declared.Postfix.TheVariants.{Plus, NextPlus, Named, Keep}
 use Rattle.cel_terms.specs.declared.Formula.{Formula, Of, Chain', Linked', Either', Post', Under', Row_of-Formula, end_of-Formula, more_of-Formula, Row_of-Link, end_of-Link, more_of-Link}
 use Rattle.cel_terms.specs.Meaning.{lists_name}
-use Rattle.cel_terms.specs.Checked.{IsTypeName, IsAttr, SomeHasAttr, EachHasAttr, AreComparable, TakesLiteral, HasFewPlaces, IsCheckedComparison, IsCheckedPred, AreCheckedPreds, MorePredsChecked, IsCheckedFilter, AreCheckedFilters, MoreFiltersChecked, names_of, AreNamesOf, ArePostfixesChecked, IsCheckedFormula, AreCheckedFormulas, MoreFormulasChecked, AreCheckedLinks, MoreLinksChecked}
+use Rattle.cel_terms.specs.Checked.{IsTypeName, IsAttr, SomeHasAttr, EachHasAttr, IsCheckedComparison, IsCheckedPred, AreCheckedPreds, MorePredsChecked, IsCheckedFilter, AreCheckedFilters, MoreFiltersChecked, names_of, AreNamesOf, ArePostfixesChecked, IsCheckedFormula, AreCheckedFormulas, MoreFormulasChecked, AreCheckedLinks, MoreLinksChecked}
+use Rattle.stream_schema.specs.Comparing.{AreComparable, TakesLiteral, HasFewPlaces}
 use Rattle.ceql_parser.specs.declared.faults.QueryFault.TheVariants.{NameTaken, UnknownType, UnknownName, NeverKind, NoOrder}
 use Rattle.ceql_parser.specs.declared.faults.QueryError.{QueryError}
 use Rattle.ceql_parser.specs.FirstFaults.{first_in, unless_named}

@@ -1,7 +1,8 @@
 -- What the grammar alone makes sure of in the statements of a text: no list is empty that has to have
 -- members, decimal numbers have few places, and windows are in range. This project's profile.
 use Rattle.std.specs.Prelude.{◌≢◌, ◌≤◌, pos, ◌≤ℤ◌, [], All, IfSome, ⊤}
-use Rattle.cel_terms.specs.Checked.{HasFewPlaces, widest}
+use Rattle.cel_terms.specs.Checked.{widest}
+use Rattle.stream_schema.specs.Comparing.{HasFewPlaces}
 use Rattle.cel_terms.specs.declared.Postfix.{Postfix}
 use Rattle.cel_terms.specs.declared.Postfix.TheVariants.{Plus, NextPlus, Named, Keep}
 use Rattle.cel_terms.specs.declared.Window.{Window}

@@ -5,7 +5,7 @@ use Rattle.cer_base.specs.declared.Place.{Place}
 use Rattle.ceql_lexer.specs.declared.Token.{Token}
 use Rattle.stream_schema.specs.declared.Value.{Value}
 use Rattle.cel_terms.specs.declared.Name.{Name}
-use Rattle.cel_terms.specs.declared.Op.{Op}
+use Rattle.stream_schema.specs.declared.Op.{Op}
 use Rattle.cel_terms.specs.declared.Postfix.{Postfix}
 use Rattle.cel_terms.specs.declared.Postfix.TheVariants.{Plus, NextPlus, Named, Keep}
 use Rattle.cel_terms.specs.declared.Window.{Window}

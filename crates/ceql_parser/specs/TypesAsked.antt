@@ -6,8 +6,8 @@ use Rattle.stream_schema.specs.declared.Kind.{Kind}
 use Rattle.stream_schema.specs.declared.Kind.TheVariants as kind
 use Rattle.stream_schema.specs.declared.Value.{Value}
 use Rattle.stream_schema.specs.declared.Value.TheVariants as value
-use Rattle.cel_terms.specs.declared.Op.{Op}
-use Rattle.cel_terms.specs.declared.Op.TheVariants.{Eq, Ne, Lt, Le, Gt, Ge}
+use Rattle.stream_schema.specs.declared.Op.{Op}
+use Rattle.stream_schema.specs.declared.Op.TheVariants.{Eq, Ne, Lt, Le, Gt, Ge}
 
 -- the declared types of these numbers
 abbrev pub types_at : Declared → List ℕ → List DeclaredType

@@ -9,8 +9,8 @@ use Rattle.ceql_lexer.specs.declared.TokenKind.TheVariants as kind
 use Rattle.ceql_lexer.specs.Numerals.{read_on, farthest, most_decimals}
 use Rattle.stream_schema.specs.declared.Value.{Value}
 use Rattle.stream_schema.specs.declared.Value.TheVariants as value
-use Rattle.cel_terms.specs.declared.Op.{Op}
-use Rattle.cel_terms.specs.declared.Op.TheVariants.{Eq, Ne, Lt, Le, Gt, Ge}
+use Rattle.stream_schema.specs.declared.Op.{Op}
+use Rattle.stream_schema.specs.declared.Op.TheVariants.{Eq, Ne, Lt, Le, Gt, Ge}
 use Rattle.ceql_parser.specs.Marks.{among, is}
 
 -- the number that the digits of a text write, its sign and its point left out

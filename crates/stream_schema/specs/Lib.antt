@@ -3,3 +3,4 @@ pub mod Names
 pub mod Declaring
 pub mod Indexes
 pub mod Events
+pub mod Comparing

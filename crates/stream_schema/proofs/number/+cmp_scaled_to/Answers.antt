@@ -1,7 +1,7 @@
 use Rattle.std.proofs.Common.{ap, sym, ◌∙◌, arith}
 use Rattle.std.specs.Ordering.{nat_cmp}
-use Rattle.cel_terms.proofs.Numbers.{scaled_more, scaled_step}
-use Rattle.cel_terms.proofs.number.+cmp_scaled_to.Goals as goal
+use Rattle.stream_schema.proofs.Numbers.{scaled_more, scaled_step}
+use Rattle.stream_schema.proofs.number.+cmp_scaled_to.Goals as goal
 
 pub returns-then-x-target : goal.returns-then-x-target
 returns-then-x-target t c = scaled_more c.args.x c.args.y c.args.places (omega arith)

@@ -1,7 +1,7 @@
 use Rattle.std.proofs.Common.{arith}
 use Rattle.std.proofs.lemmas.Int.{ints}
-use Rattle.cel_terms.proofs.Numbers.{negative_less, negative_greater}
-use Rattle.cel_terms.proofs.number.cmp_numbers.Goals as goal
+use Rattle.stream_schema.proofs.Numbers.{negative_less, negative_greater}
+use Rattle.stream_schema.proofs.number.cmp_numbers.Goals as goal
 
 pub returns-else-b-lt0 : goal.returns-else-b-lt0
 returns-else-b-lt0 c = negative_less c.args.a c.args.p c.args.b c.args.q (grind (arith, ints)) (grind (arith, ints))

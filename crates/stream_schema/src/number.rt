@@ -2,7 +2,7 @@
 
 ghost use Rattle.std.specs.Prelude.{◌≡◌, ℕ, ◌*◌, ◌^◌, ◌<◌};
 ghost use Rattle.std.specs.Ordering.{nat_cmp};
-ghost use Rattle.cel_terms.specs.Predicate.{number_cmp};
+ghost use Rattle.stream_schema.specs.Comparing.{number_cmp};
 
 use std::cmp::Ordering;
 

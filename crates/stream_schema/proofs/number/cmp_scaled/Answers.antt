@@ -1,6 +1,6 @@
 use Rattle.std.proofs.Common.{◌*◌, ◌^◌, arith}
-use Rattle.cel_terms.proofs.Numbers.{scaled_apart, nat_cmp_turned}
-use Rattle.cel_terms.proofs.number.cmp_scaled.Goals as goal
+use Rattle.stream_schema.proofs.Numbers.{scaled_apart, nat_cmp_turned}
+use Rattle.stream_schema.proofs.number.cmp_scaled.Goals as goal
 
 pub returns-then-q-p : goal.returns-then-q-p
 returns-then-q-p c =

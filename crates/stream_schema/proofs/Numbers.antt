@@ -8,7 +8,7 @@ use lib.IntN.{neg_ℤ}
 use Rattle.std.specs.Prelude.{◌<ℤ◌, ◌≤ℤ◌}
 use Rattle.std.proofs.lemmas.Int.{ints}
 use Rattle.std.proofs.lemmas.Cmp.{ranked}
-use Rattle.cel_terms.specs.Predicate.{number_cmp}
+use Rattle.stream_schema.specs.Comparing.{number_cmp}
 
 ranks_map : (o : Ordering) {P Q R P' Q' R' : Type 0} → (P → P') → (Q → Q') → (R → R') → MatchOrdering o P Q R → MatchOrdering o P' Q' R'
 ranks_map Less f g h r = f r

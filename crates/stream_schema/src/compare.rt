@@ -1,12 +1,11 @@
 //! A value compared with a literal.
 
 ghost use Rattle.std.specs.Prelude.{◌≡◌};
-ghost use Rattle.cel_terms.specs.Predicate.{meets, flag_meets, value_meets};
+ghost use Rattle.stream_schema.specs.Comparing.{meets, flag_meets, value_meets};
 
-use crate::Op;
 use crate::number::cmp_numbers;
+use crate::{Op, Value};
 use std::cmp::Ordering;
-use stream_schema::Value;
 
 /// Whether the order is one that the operator asks for.
 fn is_met(op: Op, order: Ordering) -> bool

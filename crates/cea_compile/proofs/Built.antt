@@ -3,9 +3,9 @@ use Rattle.std.proofs.Common.{◌≡◌, refl, sym, ap, subst, ◌∙◌, ℕ, �
 use Rattle.std.proofs.lemmas.Bool.{false≢true}
 use Rattle.std.proofs.lemmas.Option.{slice_get_within}
 use Rattle.std.proofs.lemmas.List.{get_or_default}
-use Rattle.cel_terms.specs.declared.leaves.Leaf.{Leaf}
-use Rattle.cel_terms.specs.declared.leaves.Leaves.{Leaves}
-use Rattle.cel_terms.specs.Shapes.{tree_of_shape}
+use Rattle.query_leaves.specs.declared.Leaf.{Leaf}
+use Rattle.query_leaves.specs.declared.Leaves.{Leaves}
+use Rattle.query_leaves.specs.Shapes.{tree_of_shape}
 use Rattle.cer_base.specs.Bits.{has, room_for}
 use Rattle.cea_determinise.specs.declared.cea.Cea.{Cea}
 use Rattle.cea_determinise.specs.Runs.{LeafSet, Automaton}

@@ -5,9 +5,9 @@ use Rattle.stream_schema.specs.declared.Event.{Event}
 use Rattle.cel_terms.specs.declared.Name.{Name}
 use Rattle.cel_terms.specs.declared.Query.{Query}
 use Rattle.cel_terms.specs.Answers.{IsInWindow, Answer, IsAnswer, selected, substream}
-use Rattle.cel_terms.specs.Tree.{Tree}
-use Rattle.cel_terms.specs.Expand.{Occurrence, expand, selected_tree, tree_of}
-use Rattle.cel_terms.specs.Leaves.{occurrences}
+use Rattle.query_leaves.specs.LeafTree.{LeafTree}
+use Rattle.query_leaves.specs.Expand.{Occurrence, expand, selected_tree, tree_of}
+use Rattle.query_leaves.specs.Leaves.{occurrences}
 use Rattle.cea_determinise.specs.Runs.{Automaton, Entry}
 use Rattle.cea_determinise.specs.Strict.{Standing, begin, next_standing, run_standing, accepted_standing}
 use Rattle.cea_compile.specs.Paths.{Reading, IsAfter, tree_meaning, reading}
@@ -18,7 +18,7 @@ use Rattle.cea_compile.proofs.Expand.{Same, Same_trans, renamed_same, renamed_tr
 use Rattle.cea_compile.proofs.Compiled.{automaton_is}
 use Rattle.cea_compile.proofs.Strict.{marks_iff_standing}
 
-selected_expanded : (stream : Stream) (select : Option (List Name)) (part : Meaning) (t : Tree Occurrence) → Same part (tree_meaning stream t) → Same (selected select part) (tree_meaning stream (selected_tree select t))
+selected_expanded : (stream : Stream) (select : Option (List Name)) (part : Meaning) (t : LeafTree Occurrence) → Same part (tree_meaning stream t) → Same (selected select part) (tree_meaning stream (selected_tree select t))
 selected_expanded stream None part t h = h
 selected_expanded stream (Some names) part t h = Same_trans _ _ _ (renamed_same (only_names names) _ _ h) (renamed_tree stream (only_names names) t)
 

@@ -1,7 +1,7 @@
 -- A tree has a path with the marked positions exactly where the determinised run accepts.
 use Rattle.std.proofs.Common.{◌≡◌, refl, sym, ap, subst, ◌∙◌, ℕ, ◌<◌, ◌≤◌, ◌⊎◌, inl, inr, ◌↔◌, Bool, true, false, not, ◌&&◌, List, [], ◌∷◌, Decides, arith}
 use Rattle.std.proofs.lemmas.Bool.{false≢true, and_parts, cases_order}
-use Rattle.cel_terms.specs.Tree.{Tree}
+use Rattle.query_leaves.specs.LeafTree.{LeafTree}
 use Rattle.cea_determinise.specs.Runs.{LeafSet, Automaton, start, pair, agrees, has_leaf, Entry, run, accepted}
 use Rattle.cea_compile.specs.Paths.{Step, Reading, Path, IsLinear}
 use Rattle.cea_compile.specs.Positions.{Follows, Steps, Walk, walk, IsAutomatonOf}
@@ -11,7 +11,7 @@ use Rattle.cea_compile.proofs.Subsets.{IsLive, Leads, sound, complete, live_has_
 use Rattle.cea_compile.proofs.Skips.{Follow, HasSteps, ReadsWithin, HaveMarks, steps_of_leads, leads_of_steps, steps_beyond, steps_rise, marked_beyond, agrees_same, agrees_from}
 
 -- A path of the tree from the start to the end has exactly the marks, among the positions of the substream.
-pub record HasPath (r : Reading) (t : Tree ℕ) (marked : LeafSet) (marks : ℕ → Bool) (from end : ℕ) : Type 0 where
+pub record HasPath (r : Reading) (t : LeafTree ℕ) (marked : LeafSet) (marks : ℕ → Bool) (from end : ℕ) : Type 0 where
   pub path : List Step
   pub through : Path r t from end path
   pub agree : (x : ℕ) → r.Has x → from ≤ x → x ≤ end → Decides (marks x) (MarkedAt marked path x)
@@ -54,13 +54,13 @@ run_of_start a marks x xs s = accepts_kept a (λ t. run a marks t xs) (pair f w)
     live = record { leaf = s.leaf; below = s.below; leads = inl (fresh_from a marks start x s.leaf s.first s.bit s.mark, s.leads) }
 
 -- the follow pairs of a tree are its automaton's
-steps_to : {r : Reading} (t : Tree ℕ) (a : Automaton) {j p l e : ℕ} {w : List Step} → IsAutomatonOf t a → Steps r (Follows t) j p w l e → Steps r (Follow a) j p w l e
+steps_to : {r : Reading} (t : LeafTree ℕ) (a : Automaton) {j p l e : ℕ} {w : List Step} → IsAutomatonOf t a → Steps r (Follows t) j p w l e → Steps r (Follow a) j p w l e
 steps_to t a is s = widened (λ u j k h. (is.follow u j k).1 h) s
 
-steps_back : {r : Reading} (t : Tree ℕ) (a : Automaton) {j p l e : ℕ} {w : List Step} → IsAutomatonOf t a → Steps r (Follow a) j p w l e → Steps r (Follows t) j p w l e
+steps_back : {r : Reading} (t : LeafTree ℕ) (a : Automaton) {j p l e : ℕ} {w : List Step} → IsAutomatonOf t a → Steps r (Follow a) j p w l e → Steps r (Follows t) j p w l e
 steps_back t a is s = widened (λ u j k h. (is.follow u j k).0 h) s
 
-start_of_walk : (r : Reading) (t : Tree ℕ) (a : Automaton) (marks : ℕ → Bool) (from e : ℕ) (x : Entry) (xs : List Entry) (path : List Step) → ReadsWithin r → IsAutomatonOf t a → Cover r a.size from (x ∷ xs) e → Walk r t from e path → ((z : ℕ) → r.Has z → from ≤ z → z ≤ e → Decides (marks z) (MarkedAt a.marked path z)) → HasStart a marks x xs
+start_of_walk : (r : Reading) (t : LeafTree ℕ) (a : Automaton) (marks : ℕ → Bool) (from e : ℕ) (x : Entry) (xs : List Entry) (path : List Step) → ReadsWithin r → IsAutomatonOf t a → Cover r a.size from (x ∷ xs) e → Walk r t from e path → ((z : ℕ) → r.Has z → from ≤ z → z ≤ e → Decides (marks z) (MarkedAt a.marked path z)) → HasStart a marks x xs
 start_of_walk r t a marks from e x xs path within is c (walk {j = j} {l = l} {w = w} f y s g) agree = record {
   leaf = j;
   below = b.0;
@@ -93,7 +93,7 @@ start_of_walk r t a marks from e x xs path within is c (walk {j = j} {l = l} {w 
     later : HaveMarks r marks a.marked x.position e w
     later z hz lo hi = let eq = c.0 in let d = agree z hz (omega arith) hi in (λ h. tail_of z lo (d.0 h), λ n. d.1 (inr n))
 
-walk_of_start : (r : Reading) (t : Tree ℕ) (a : Automaton) (marks : ℕ → Bool) (e : ℕ) (x : Entry) (xs : List Entry) → IsLinear t → IsAutomatonOf t a → IsEntry r a.size x → CoverAfter r a.size x.position xs e → HasStart a marks x xs → HasPath r t a.marked marks x.position e
+walk_of_start : (r : Reading) (t : LeafTree ℕ) (a : Automaton) (marks : ℕ → Bool) (e : ℕ) (x : Entry) (xs : List Entry) → IsLinear t → IsAutomatonOf t a → IsEntry r a.size x → CoverAfter r a.size x.position xs e → HasStart a marks x xs → HasPath r t a.marked marks x.position e
 walk_of_start r t a marks e x xs lin is entry c s = record {
   path = record { leaf = s.leaf; position = x.position } ∷ rest.path;
   through = (path_iff_walk r t lin x.position e (record { leaf = s.leaf; position = x.position } ∷ rest.path)).1 (walk ((is.first s.leaf).0 s.first) ((entry.bits s.leaf).1 (s.below, s.bit)) (steps_back t a is rest.steps) ((is.last rest.to).0 rest.last));
@@ -117,7 +117,7 @@ walk_of_start r t a marks e x xs lin is entry c s = record {
     go z hz lo hi (inr (inr gt)) = absurd (omega arith)
 
 -- The tree has a path with exactly the marks where the determinised run over the substream's entries ends in an accepting state.
-pub path_iff_run : (r : Reading) (t : Tree ℕ) (a : Automaton) → IsLinear t → IsAutomatonOf t a → ReadsWithin r → (marks : ℕ → Bool) (from e : ℕ) (xs : List Entry) → Cover r a.size from xs e → HasPath r t a.marked marks from e ↔ (accepted a (run a marks start xs) ≡ true)
+pub path_iff_run : (r : Reading) (t : LeafTree ℕ) (a : Automaton) → IsLinear t → IsAutomatonOf t a → ReadsWithin r → (marks : ℕ → Bool) (from e : ℕ) (xs : List Entry) → Cover r a.size from xs e → HasPath r t a.marked marks from e ↔ (accepted a (run a marks start xs) ≡ true)
 path_iff_run r t a lin is within marks from e xs c = (to xs c, back xs c)
   where
     to : (xs : List Entry) → Cover r a.size from xs e → HasPath r t a.marked marks from e → accepted a (run a marks start xs) ≡ true

@@ -2,9 +2,9 @@
 use Rattle.std.proofs.Common.{◌≡◌, refl, sym, ap, ◌∙◌, ℕ, suc, ◌<◌, ◌≤◌, ◌⊎◌, inl, inr, ◌↔◌, Bool, true, false, List, [], ◌∷◌, Option, Some, None, option_and_then, option_map, arith}
 use Rattle.std.proofs.lemmas.Bool.{false≢true, cases_order}
 use Rattle.cel_terms.specs.Answers.{AreContiguous, WhereStrict, HasMarks}
-use Rattle.cel_terms.specs.Tree.{Tree}
-use Rattle.cel_terms.specs.Expand.{Occurrence}
-use Rattle.cel_terms.specs.Leaves.{occurrences}
+use Rattle.query_leaves.specs.LeafTree.{LeafTree}
+use Rattle.query_leaves.specs.Expand.{Occurrence}
+use Rattle.query_leaves.specs.Leaves.{occurrences}
 use Rattle.cea_determinise.specs.Runs.{Automaton, State, start, next, Entry, run, accepted}
 use Rattle.cea_determinise.specs.Strict.{Phase, before, within, after, phase_after, begin, run_standing, accepted_standing}
 use Rattle.cea_compile.specs.Paths.{Reading, IsAfter, tree_meaning, reading}
@@ -143,7 +143,7 @@ strict_is stream ls size from e true marks xs c w = iff_trans (alive_from (readi
 strict_is stream ls size from e false marks xs c w = (λ h. tt, λ h. alive_loose (is_listed marks) xs before)
 
 -- Some valuation from the start to the end has exactly these marks, and where it is asked they are contiguous: so exactly where the run that watches the phase accepts.
-pub marks_iff_standing : (stream : Stream) (t : Tree Occurrence) (part : Meaning) (means : Same part (tree_meaning stream t)) (a : Automaton) (of_tree : IsLeafAutomaton t a) (from end : ℕ) (marks : List ℕ) (strict : Bool) (xs : List Entry) → Cover (reading stream (occurrences t)) a.size from xs end → (HasMarks part from end marks × WhereStrict strict (AreContiguous stream.Has marks)) ↔ (AreWithin stream from end marks × (accepted_standing a (run_standing a strict (is_listed marks) begin xs) ≡ true))
+pub marks_iff_standing : (stream : Stream) (t : LeafTree Occurrence) (part : Meaning) (means : Same part (tree_meaning stream t)) (a : Automaton) (of_tree : IsLeafAutomaton t a) (from end : ℕ) (marks : List ℕ) (strict : Bool) (xs : List Entry) → Cover (reading stream (occurrences t)) a.size from xs end → (HasMarks part from end marks × WhereStrict strict (AreContiguous stream.Has marks)) ↔ (AreWithin stream from end marks × (accepted_standing a (run_standing a strict (is_listed marks) begin xs) ≡ true))
 marks_iff_standing stream t part means a of_tree from end marks strict xs cover = (to, back)
   where
     plain : HasMarks part from end marks ↔ (AreWithin stream from end marks × (accepted a (run a (is_listed marks) start xs) ≡ true))

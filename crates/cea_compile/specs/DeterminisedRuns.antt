@@ -5,8 +5,8 @@ use Rattle.stream_schema.specs.Types.{Declared}
 use Rattle.stream_schema.specs.declared.Event.{Event}
 use Rattle.cel_terms.specs.declared.Query.{Query}
 use Rattle.cel_terms.specs.Answers.{Answer, IsAnswer, IsAscending, IsInWindow, IsOfSubstream}
-use Rattle.cel_terms.specs.Expand.{Occurrence, tree_of}
-use Rattle.cel_terms.specs.Leaves.{occurrences, reads}
+use Rattle.query_leaves.specs.Expand.{Occurrence, tree_of}
+use Rattle.query_leaves.specs.Leaves.{occurrences, occurrence_reads}
 use Rattle.cea_determinise.specs.Runs.{Entry}
 use Rattle.cea_determinise.specs.Strict.{Standing, begin, run_standing, accepted_standing}
 use Rattle.cea_compile.specs.Covers.{is_listed}
@@ -25,7 +25,7 @@ from_to start end positions = filter (λ p. nat_le start p && nat_le p end) posi
 abbrev pub reads_at : Declared → Option Occurrence → Option Event → Bool
 reads_at schema None event = false
 reads_at schema (Some o) None = false
-reads_at schema (Some o) (Some event) = reads schema o event
+reads_at schema (Some o) (Some event) = occurrence_reads schema o event
 
 -- a position, and the leaves of the query that can read the event there
 abbrev pub entry_at : Declared → Query → List Event → ℕ → Entry

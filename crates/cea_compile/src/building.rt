@@ -4,13 +4,13 @@ ghost use Rattle.std.specs.Prelude.{◌≡◌, ℕ, Bool, length, slice_get, IfO
 ghost use Rattle.cer_base.specs.Bits.{has, room_for};
 ghost use Rattle.cea_determinise.specs.Cea.{automaton_of as automaton_of_cea};
 ghost use Rattle.cea_compile.specs.LeafAutomaton.{automaton_of_leaves, is_marked};
-ghost use Rattle.cel_terms.specs.Lawful.{AreNumbered};
+ghost use Rattle.query_leaves.specs.Lawful.{AreNumbered};
 ghost use Rattle.cea_determinise.specs.Cea.{IsWellFormed};
 
 use crate::ends::ends_of;
 use crate::followers::Followers;
 use cea_determinise::cea::Cea;
-use cel_terms::leaves::{Leaf, Leaves};
+use query_leaves::{Leaf, Leaves};
 use cer_base::Memory;
 use cer_base::bits::Bits;
 use std::alloc::Global;

@@ -2,12 +2,12 @@
 
 ghost use Rattle.std.specs.Prelude.{◌≡◌, ℕ, ◌<◌, ◌||◌, Bool, false, eqb, length, IfOk, OnOk};
 ghost use Rattle.cer_base.specs.Bits.{has, room_for};
-ghost use Rattle.cel_terms.specs.Shapes.{tree_of_shape};
+ghost use Rattle.query_leaves.specs.Shapes.{tree_of_shape};
 ghost use Rattle.cea_compile.specs.Compiled.{first_set, last_set, follow_set};
 ghost use Rattle.cea_compile.specs.Found.{HasRoom, pairs, AreBelow, EndsHaveRoom};
 
 use crate::followers::Followers;
-use cel_terms::leaves::Shape;
+use query_leaves::Shape;
 use cer_base::Memory;
 use cer_base::bits::Bits;
 use std::alloc::Global;

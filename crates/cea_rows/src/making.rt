@@ -6,7 +6,7 @@ use cea_compile::compile;
 use cea_determinise::det::Det;
 use cea_determinise::table::{State, Successors};
 use cel_terms::Query;
-use cel_terms::query_leaves::leaves;
+use query_leaves::leaves_of;
 use cer_base::Memory;
 use cer_base::steps::Steps;
 use predicate_bits::conditions::Conditions;
@@ -36,7 +36,7 @@ impl Model for Machine {
 impl Machine {
     /// The machine of the query, with no state met yet.
     pub fn of(alloc: Global, schema: &Schema, query: &Query) -> Result<Machine, Memory> {
-        let leaves = leaves(alloc, schema, query)?;
+        let leaves = leaves_of(alloc, schema, query)?;
         let det = Det::new(alloc, compile(alloc, &leaves)?)?;
         let conditions = Conditions::of(alloc, leaves.list)?;
         Ok(Machine { conditions, det })

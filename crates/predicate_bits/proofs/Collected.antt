@@ -3,7 +3,7 @@ use Rattle.std.proofs.Common.{◌≡◌, ◌≢◌, refl, sym, ap, subst, ◌∙
 use Rattle.std.proofs.lemmas.Bool.{cases_lt, eqb-true, eq-eqb, false≢true}
 use Rattle.std.proofs.lemmas.Option.{slice_get_within}
 use Rattle.std.proofs.lemmas.List.Elements.{Contains-append_left, Contains-append_right, Contains-append_cases}
-use Rattle.cel_terms.specs.declared.leaves.Leaf.{Leaf}
+use Rattle.query_leaves.specs.declared.Leaf.{Leaf}
 use Rattle.std.specs.Prelude.{Vec, nat_eq, if◌then◌else◌, is_some}
 use Rattle.std.specs.declared.alloc.Global.{Global}
 use Rattle.predicate_bits.specs.Groups.{IsGroup, AreGrouped}

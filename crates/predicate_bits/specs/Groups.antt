@@ -1,7 +1,7 @@
 -- Leaves by their types.
 use Rattle.std.specs.Prelude.{◌≡◌, ◌≢◌, ℕ, List, Option, Some, None, Vec, slice_get, Contains}
 use Rattle.std.specs.declared.alloc.Global.{Global}
-use Rattle.cel_terms.specs.declared.leaves.Leaf.{Leaf}
+use Rattle.query_leaves.specs.declared.Leaf.{Leaf}
 
 -- the numbers are those of the leaves of this type
 pub record IsGroup (list : List Leaf) (ty : ℕ) (numbers : List ℕ) : Type 0 where

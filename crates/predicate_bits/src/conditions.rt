@@ -2,17 +2,17 @@
 
 ghost use Rattle.std.specs.Prelude.{◌≡◌, ℕ, ◌<◌, Some, false, length, slice_get, IfOk};
 ghost use Rattle.cer_base.specs.Bits.{has, room_for};
-ghost use Rattle.cel_terms.specs.Conditions.{bits_of};
-ghost use Rattle.cel_terms.specs.declared.leaves.Leaf.{Leaf};
-ghost use Rattle.cel_terms.specs.Shapes.{each_holds as tests_hold};
+ghost use Rattle.query_leaves.specs.Conditions.{leaf_conditions};
+ghost use Rattle.query_leaves.specs.declared.Leaf.{Leaf};
+ghost use Rattle.query_leaves.specs.Shapes.{each_holds as tests_hold};
 ghost use Rattle.predicate_bits.specs.Groups.{IsGroup};
 
 use crate::groups::grouped;
 use crate::holding::each_holds;
-use cel_terms::leaves::Leaf;
 use cer_base::bits::Bits;
 use cer_base::{Listed, Memory};
 use indexmap::IndexMap;
+use query_leaves::Leaf;
 use std::alloc::Global;
 use std::marker::Model;
 use stream_schema::{Event, TypeId};
@@ -26,11 +26,11 @@ pub struct Conditions {
 
 impl Model for Conditions {
     ghost use Rattle.std.specs.Prelude.{List};
-    ghost use Rattle.cel_terms.specs.declared.leaves.Leaf.{Leaf};
+    ghost use Rattle.query_leaves.specs.declared.Leaf.{Leaf};
     ghost use Rattle.std.specs.Prelude.{nat_eq};
     ghost use Rattle.indexmap.specs.IndexMap.{get};
     ghost use Rattle.predicate_bits.specs.Groups.{AreGrouped};
-    ghost use Rattle.cel_terms.specs.contracts.leaves.Test as test;
+    ghost use Rattle.query_leaves.specs.contracts.Test as test;
     ghost use Rattle.std.specs.Coded.{codes};
 
     ghost Value = { List Leaf };
@@ -63,7 +63,7 @@ impl Conditions {
     /// that `blank` gives.
     pub fn fill(&self, event: &Event, into: &mut Bits)
         requires { length into.old ≡ room_for (length self.now) }
-        ensures members { (k : ℕ) → has into.new k ≡ bits_of self.now event.now k }
+        ensures members { (k : ℕ) → has into.new k ≡ leaf_conditions self.now event.now k }
         ensures room { length into.new ≡ length into.old }
     {
         into.clear();
@@ -86,7 +86,7 @@ fn add(list: &[Leaf], numbers: &[usize], event: &Event, into: &mut Bits)
     requires group { IsGroup list.now event.now.ty numbers.now }
     requires room { length into.old ≡ room_for (length list.now) }
     requires empty { (k : ℕ) → has into.old k ≡ false }
-    ensures members { (k : ℕ) → has into.new k ≡ bits_of list.now event.now k }
+    ensures members { (k : ℕ) → has into.new k ≡ leaf_conditions list.now event.now k }
     ensures room { length into.new ≡ length into.old }
 {
     for number in numbers {

@@ -4,9 +4,9 @@ ghost use Rattle.std.specs.Prelude.{nat_eq, IfOk};
 ghost use Rattle.indexmap.specs.IndexMap.{get};
 ghost use Rattle.predicate_bits.specs.Groups.{IsGroup, AreGrouped};
 
-use cel_terms::leaves::Leaf;
 use cer_base::Memory;
 use indexmap::IndexMap;
+use query_leaves::Leaf;
 use std::alloc::Global;
 use stream_schema::TypeId;
 

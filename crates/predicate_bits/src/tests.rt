@@ -1,7 +1,7 @@
 use crate::conditions::Conditions;
 use cel_terms::Op;
-use cel_terms::leaves::{Leaf, Test};
 use cer_base::{Listed, Memory};
+use query_leaves::{Leaf, Test};
 use std::alloc::Global;
 use std::test::*;
 use stream_schema::{Event, Value};

@@ -6,3 +6,5 @@ pub mod Induction
 pub mod Intervals
 -- the marks of an answer
 pub mod Marked
+-- events whose type number is not declared
+pub mod Undeclared

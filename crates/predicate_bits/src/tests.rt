@@ -1,4 +1,4 @@
-use crate::conditions::Conditions;
+use crate::Conditions;
 use cel_terms::Op;
 use cer_base::{Listed, Memory};
 use query_leaves::{Leaf, Test};

@@ -1,6 +1,6 @@
 //! Names that are found without a search.
 
-ghost use Rattle.std.specs.Prelude.{◌≡◌, ◌<◌, false, [], ◌∷◌, ◌++◌, length, IfOk, IfSome, OnOk, OnErr, bytes_eq};
+ghost use Rattle.std.specs.Prelude.{◌≡◌, ◌<◌, false, [], ◌∷◌, ◌++◌, length, map, IfOk, IfSome, OnOk, OnErr, bytes_eq};
 ghost use Rattle.std.specs.List.{list_any, position_from};
 
 use cer_base::Memory;
@@ -13,15 +13,18 @@ use std::marker::Model;
 #[derive(Drop, Debug)]
 pub struct NameIndex {
     alloc: Global,
-    names: IndexSet<Vec<u8>>,
+    /// One set, or none while there is no name: an empty index takes no memory, and what holds an
+    /// index is let go by one call.
+    sets: Vec<IndexSet<Vec<u8>>>,
 }
 
 impl Model for NameIndex {
-    ghost use Rattle.std.specs.Prelude.{ℕ, List, map};
+    ghost use Rattle.std.specs.Prelude.{ℕ, List};
+    ghost use Rattle.stream_schema.specs.Indexes.{names_in};
 
     ghost Value = { List (List ℕ) };
 
-    ghost view = { λ n. map (λ name. name.items) n.names.keys };
+    ghost view = { λ n. names_in n.sets.items };
 }
 
 impl NameIndex {
@@ -30,7 +33,7 @@ impl NameIndex {
     {
         NameIndex {
             alloc,
-            names: IndexSet::new(alloc),
+            sets: Vec::new(alloc),
         }
     }
 
@@ -38,9 +41,13 @@ impl NameIndex {
     pub fn copy(&self) -> Result<NameIndex, Memory>
         ensures { IfOk result (λ n. n ≡ self.now) }
     {
+        let mut sets = Vec::new(self.alloc);
+        if let Some(set) = self.sets.first() {
+            sets.push(copied(set)?)?;
+        }
         Ok(NameIndex {
             alloc: self.alloc,
-            names: self.names.clone()?,
+            sets,
         })
     }
 
@@ -49,13 +56,19 @@ impl NameIndex {
         ensures place { result ≡ position_from (λ n. bytes_eq n name.now) 0 self.now }
         ensures bound { IfSome result (λ i. i < length self.now) }
     {
-        self.names.get_index_of(name)
+        match self.sets.first() {
+            Some(set) => place_in(set, name),
+            None => None,
+        }
     }
 
     pub fn has(&self, name: &[u8]) -> bool
         ensures { result ≡ list_any (λ n. bytes_eq n name.now) self.now }
     {
-        self.names.contains(name)
+        match self.sets.first() {
+            Some(set) => is_in(set, name),
+            None => false,
+        }
     }
 
     /// Adds the name at the end. After an error nothing has changed.
@@ -64,7 +77,50 @@ impl NameIndex {
         ensures added { OnOk result (self.new ≡ self.old ++ name.now ∷ []) }
         ensures unchanged { OnErr result (self.new ≡ self.old) }
     {
-        self.names.insert(Vec::from_slice(self.alloc, name)?)?;
-        Ok(())
+        if self.sets.is_empty() {
+            let set = set_of(self.alloc, name)?;
+            self.sets.push(set)?;
+            Ok(())
+        } else {
+            add(self.alloc, &mut self.sets[0], name)
+        }
     }
+}
+
+fn copied(set: &IndexSet<Vec<u8>>) -> Result<IndexSet<Vec<u8>>, Memory>
+    ensures { IfOk result (λ copy. map (λ name. name.items) copy.keys ≡ map (λ name. name.items) set.now.keys) }
+{
+    Ok(set.clone()?)
+}
+
+fn place_in(set: &IndexSet<Vec<u8>>, name: &[u8]) -> Option<usize>
+    ensures place { result ≡ position_from (λ n. bytes_eq n name.now) 0 (map (λ n. n.items) set.now.keys) }
+    ensures bound { IfSome result (λ i. i < length (map (λ n. n.items) set.now.keys)) }
+{
+    set.get_index_of(name)
+}
+
+fn is_in(set: &IndexSet<Vec<u8>>, name: &[u8]) -> bool
+    ensures { result ≡ list_any (λ n. bytes_eq n name.now) (map (λ n. n.items) set.now.keys) }
+{
+    set.contains(name)
+}
+
+/// The set of one name.
+fn set_of(alloc: Global, name: &[u8]) -> Result<IndexSet<Vec<u8>>, Memory>
+    ensures { IfOk result (λ set. map (λ n. n.items) set.keys ≡ name.now ∷ []) }
+{
+    let mut set = IndexSet::new(alloc);
+    add(alloc, &mut set, name)?;
+    Ok(set)
+}
+
+/// Adds the name, which is not in the set, at the end.
+fn add(alloc: Global, set: &mut IndexSet<Vec<u8>>, name: &[u8]) -> Result<(), Memory>
+    requires { list_any (λ n. bytes_eq n name.now) (map (λ n. n.items) set.old.keys) ≡ false }
+    ensures added { OnOk result (map (λ n. n.items) set.new.keys ≡ map (λ n. n.items) set.old.keys ++ name.now ∷ []) }
+    ensures unchanged { OnErr result (set.new.keys ≡ set.old.keys) }
+{
+    set.insert(Vec::from_slice(alloc, name)?)?;
+    Ok(())
 }

@@ -1,5 +1,5 @@
 -- When a query is checked for a schema: what a reader of query texts has made sure of in its terms.
-use Rattle.std.specs.Prelude.{◌≡◌, ◌≢◌, ℕ, ◌+◌, ◌*◌, ◌-◌, ◌^◌, ◌≤◌, pos, ◌≤ℤ◌, List, [], ◌∷◌, ◌++◌, All, Any, Contains, IfSome, slice_get, ⊤}
+use Rattle.std.specs.Prelude.{◌≡◌, ◌≢◌, ℕ, ◌+◌, ◌*◌, ◌-◌, ◌^◌, ◌≤◌, pos, ◌≤ℤ◌, List, [], ◌∷◌, ◌++◌, map, All, Any, Contains, IfSome, slice_get, ⊤}
 use Rattle.std.specs.List.{filter_map}
 use Rattle.stream_schema.specs.Types.{Declared, DeclaredType, DeclaredStream}
 use Rattle.stream_schema.specs.declared.Attr.{Attr}
@@ -108,13 +108,14 @@ abbrev mutual
   MoreFiltersChecked types names end_of-Filter = ⊤
   MoreFiltersChecked types names (more_of-Filter c rest) = IsCheckedFilter types names c × MoreFiltersChecked types names rest
 
--- the names of a formula after a postfix: AS adds its own
+-- the names of a formula after its postfixes: AS adds its own, KEEP leaves only its list
 abbrev pub names_after : List (List ℕ) → List Postfix → List (List ℕ)
 names_after names [] = names
 names_after names (Named name ∷ ps) = names_after (names ++ name.text ∷ []) ps
+names_after names (Keep listed ∷ ps) = names_after (map (λ n. n.text) listed) ps
 names_after names (p ∷ ps) = names_after names ps
 
--- the names of a formula: its types', and those after AS
+-- the names of a formula: its types' and those after AS, or what its KEEP leaves
 abbrev mutual
   pub names_of : Formula → List (List ℕ)
   names_of (Of name) = name.text ∷ []
@@ -141,7 +142,7 @@ pub record AreNamesOf (names : List (List ℕ)) (listed : List Name) : Type 0 wh
 abbrev pub ArePostfixesChecked : List DeclaredType → List (List ℕ) → List Postfix → Type 0
 ArePostfixesChecked types names [] = ⊤
 ArePostfixesChecked types names (Named name ∷ ps) = (IsTypeName types name.text → ⊥) × ArePostfixesChecked types (names ++ name.text ∷ []) ps
-ArePostfixesChecked types names (Keep listed ∷ ps) = AreNamesOf names listed × ArePostfixesChecked types names ps
+ArePostfixesChecked types names (Keep listed ∷ ps) = AreNamesOf names listed × ArePostfixesChecked types (map (λ n. n.text) listed) ps
 ArePostfixesChecked types names (p ∷ ps) = ArePostfixesChecked types names ps
 
 -- each type is one of the query's, each name is known where it stands, and no list is empty

@@ -1,5 +1,4 @@
 pub mod Letters
-pub mod Digits
 pub mod Strings
 pub mod Places
 pub mod Cuts

@@ -1,16 +1,18 @@
 -- What stands at the front of a text: a blank, a comment, a token or a fault.
--- This project's profile.
+--
 use Rattle.std.specs.Prelude.{ℕ, ◌+◌, ◌==◌, ◌<◌, ◌≤◌, Bool, ◌||◌, List, [], ◌∷◌, length, take, drop, nat_lt, nat_le, if◌then◌else◌, Option, Some, None, option_map, IfSome, Result, Ok, Err}
 use Rattle.std.specs.Char.{is_ascii_digit}
 use Rattle.std.specs.Str.{IsUtf8, is_utf8}
 use Rattle.std.specs.List.{prefix_len}
+use Rattle.cer_base.specs.Digits.{farthest, read_on}
+use Rattle.cer_base.specs.declared.limits.TheConstants.{MOST_PLACES}
 use Rattle.ceql_lexer.specs.declared.front.Piece.{Piece}
 use Rattle.ceql_lexer.specs.declared.LexFault.{LexFault}
 use Rattle.ceql_lexer.specs.declared.LexFault.TheVariants as fault
 use Rattle.ceql_lexer.specs.declared.TokenKind.{TokenKind}
 use Rattle.ceql_lexer.specs.declared.TokenKind.TheVariants as kind
 use Rattle.ceql_lexer.specs.Letters.{is_blank, is_in_line, begins_word, continues_word, is_keyword, sign_len}
-use Rattle.ceql_lexer.specs.Numerals.{digits_at, decimals_at, read_on, farthest, most_decimals}
+use Rattle.ceql_lexer.specs.Numerals.{digits_at, decimals_at}
 
 -- so many bytes that are a token of this kind
 abbrev pub token : TokenKind → ℕ → Piece
@@ -40,8 +42,8 @@ number_of sign whole decimals =
 -- the number behind so many bytes of sign, where it has few decimals and is in range
 abbrev pub checked_number : ℕ → List ℕ → List ℕ → Result Piece LexFault
 checked_number sign whole decimals =
-    if nat_lt most_decimals (length decimals) then Err fault.TooFine
-    else (if nat_le (read_on (read_on 0 whole) decimals) (farthest sign) then Ok (number_of sign (length whole) (length decimals))
+    if nat_lt MOST_PLACES (length decimals) then Err fault.TooFine
+    else (if nat_le (read_on (read_on 0 whole) decimals) (farthest (nat_lt 0 sign)) then Ok (number_of sign (length whole) (length decimals))
     else Err fault.NumberTooLarge)
 
 -- the longest number whose digits are at the front, behind so many bytes of sign
@@ -95,5 +97,5 @@ piece_at byte bytes =
     else sign_at byte (byte ∷ bytes)))))
 
 -- where the piece is a token, its bytes are UTF-8
-abbrev pub IsText : Option TokenKind → List ℕ → Type 0
-IsText k bytes = IfSome k (λ _. IsUtf8 bytes)
+abbrev pub IsTokenText : Option TokenKind → List ℕ → Type 0
+IsTokenText k bytes = IfSome k (λ _. IsUtf8 bytes)

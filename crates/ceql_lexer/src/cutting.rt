@@ -1,6 +1,6 @@
 //! A text cut into its tokens from left to right.
 
-ghost use Rattle.ceql_lexer.specs.Fronts.{IsText};
+ghost use Rattle.ceql_lexer.specs.Fronts.{IsTokenText};
 ghost use Rattle.cer_base.specs.Answers.{Gives};
 ghost use Rattle.ceql_lexer.specs.Tokens.{behind_mark, first_place, parts_from, place_after, token_of, tokens_of, with_end};
 ghost use Rattle.ceql_lexer.specs.Whole.{IsCut};
@@ -68,7 +68,7 @@ fn push_piece(
     bytes: &[u8],
     place: Place,
 ) -> Result<(), Memory>
-    requires { IsText kind bytes.now }
+    requires { IsTokenText kind bytes.now }
     ensures { OnOk result (tokens.new.items ≡ tokens.old.items ++ token_of (record { kind = kind; text = bytes.now; place = place }) kind) }
 {
     if let Some(kind) = kind {

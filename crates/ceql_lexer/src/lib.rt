@@ -4,13 +4,12 @@
 //! exactly the first fault with its place; nothing but want of memory comes besides. What the
 //! tokens of a text are is defined in `specs/Tokens`; that the definition loses no byte, counts
 //! each place and takes the longest token is proved in `laws`. What a reader of tokens does with
-//! words and digits too stands here for it: `in_capitals_is`, `with_digit`.
+//! words too stands here for it: `in_capitals_is`.
 //! It stands on `cer_base` alone.
 #![tactic(auto)]
 
 use cer_base::{Listed, Place, Text};
 pub use cutting::lex;
-pub use numbers::{MOST_DECIMALS, with_digit};
 pub use words::in_capitals_is;
 
 mod cutting;

@@ -4,7 +4,7 @@ use Rattle.cer_base.specs.declared.Place.{Place}
 use Rattle.cel_terms.specs.declared.Name.{Name}
 use Rattle.cel_terms.specs.declared.Query.{Query}
 use Rattle.cel_terms.specs.declared.Window.{Window}
-use Rattle.ceql_parser.specs.Trees.{FormulaTree, formula_tree}
+use Rattle.ceql_grammar.specs.Trees.{FormulaTree, formula_tree}
 
 -- What a query says. `any` is the number behind ANY.
 pub record QueryTree : Type 0 where

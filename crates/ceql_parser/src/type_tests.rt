@@ -5,8 +5,8 @@ ghost use Rattle.std.specs.List.{list_any, list_all, filter_map};
 ghost use Rattle.std.specs.Option.{option_map_or};
 ghost use Rattle.cel_terms.specs.Answers.{types_of_stream, query_types};
 ghost use Rattle.stream_schema.specs.Names.{is_taken};
-ghost use Rattle.ceql_parser.specs.TypesAsked.{types_at, is_type_of, has_attr, some_has_attr, each_has_attr, is_whole, kind_of, are_alike};
-ghost use Rattle.ceql_parser.specs.Wants.{serves};
+ghost use Rattle.ceql_parser.specs.TypesAsked.{types_at, is_type_name, has_attr, some_has_attr, each_has_attr, is_whole, kind_of, are_alike};
+ghost use Rattle.ceql_parser.specs.WantedKinds.{serves};
 
 use cel_terms::Name;
 use cer_base::Memory;
@@ -126,8 +126,8 @@ fn all_have(schema: &Schema, numbers: &[TypeId], name: &str, wanted: Wanted) -> 
 }
 
 /// Whether one of the types has the name.
-pub fn is_type_of(schema: &Schema, numbers: &[TypeId], name: &str) -> bool
-    ensures { result ≡ is_type_of (types_at schema.now numbers.now) name.now }
+pub fn is_type_name(schema: &Schema, numbers: &[TypeId], name: &str) -> bool
+    ensures { result ≡ is_type_name (types_at schema.now numbers.now) name.now }
 {
     some_named(schema, numbers, name)
 }
@@ -159,7 +159,7 @@ pub fn is_stream(schema: &Schema, name: &str) -> bool
 /// Whether a type has the name.
 #[tactic(auto, using(crate::proofs::TypesFound::type_found))]
 pub fn is_type(schema: &Schema, name: &str) -> bool
-    ensures { result ≡ is_type_of schema.now.types name.now }
+    ensures { result ≡ is_type_name schema.now.types name.now }
 {
     schema.type_of(name).is_some()
 }

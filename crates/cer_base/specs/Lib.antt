@@ -3,3 +3,4 @@ pub mod Members
 pub mod Fields
 pub mod Nodes
 pub mod Bits
+pub mod Digits

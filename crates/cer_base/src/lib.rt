@@ -15,6 +15,7 @@ use std::marker::Model;
 
 pub mod bits;
 pub mod bytes;
+pub mod digits;
 pub mod limits;
 pub mod node;
 pub mod steps;

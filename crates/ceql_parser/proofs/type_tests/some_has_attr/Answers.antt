@@ -1,7 +1,7 @@
 use Rattle.std.proofs.Common.{sym, ◌∙◌}
 use Rattle.std.specs.Prelude.{slice_get}
 use Rattle.ceql_parser.specs.TypesAsked.{has_attr}
-use Rattle.ceql_parser.specs.Wants.{serves}
+use Rattle.ceql_parser.specs.WantedKinds.{serves}
 use Rattle.ceql_parser.proofs.TypesFound.{any_found}
 use Rattle.ceql_parser.proofs.type_tests.some_has_attr.Goals as goal
 

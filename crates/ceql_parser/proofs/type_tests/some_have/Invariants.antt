@@ -3,7 +3,7 @@ use Rattle.std.specs.Prelude.{slice_get}
 use Rattle.std.specs.List.{list_any}
 use Rattle.std.specs.Option.{option_map_or}
 use Rattle.ceql_parser.specs.TypesAsked.{has_attr}
-use Rattle.ceql_parser.specs.Wants.{serves}
+use Rattle.ceql_parser.specs.WantedKinds.{serves}
 use Rattle.ceql_parser.proofs.type_tests.some_have.Given as goal
 
 abbrev pub invariant-loop-number : goal.invariant-loop-number

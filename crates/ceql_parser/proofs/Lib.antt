@@ -4,6 +4,8 @@ pub mod FirstFound
 pub mod NamesListed
 pub mod NameSetLemmas
 pub mod RepeatedAttributes
+pub mod TypeSets
+pub mod FaultsOfTypes
 pub mod RowFaults
 pub mod LeavesCounted
 pub mod StatementsInTurn

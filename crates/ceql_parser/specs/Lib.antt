@@ -7,6 +7,7 @@ pub mod NameFaults
 pub mod WantedKinds
 pub mod LinksAndCounts
 pub mod NameSets
+pub mod QueryTypes
 pub mod CheckedTerms
 pub mod QueryTrees
 pub mod QueryTexts

@@ -1,16 +1,13 @@
 //! What is asked of the types that a query reads, which are given by their numbers.
 
-ghost use Rattle.std.specs.Prelude.{◌≡◌, ℕ, List, ◌++◌, IfOk, OnOk, true, false, ◌&&◌, bytes_eq, slice_get};
+ghost use Rattle.std.specs.Prelude.{◌≡◌, ℕ, List, true, false, ◌&&◌, bytes_eq, slice_get};
 ghost use Rattle.std.specs.List.{list_any, list_all, filter_map};
 ghost use Rattle.std.specs.Option.{option_map_or};
-ghost use Rattle.cel_terms.specs.Answers.{types_of_stream, query_types};
+ghost use Rattle.cel_terms.specs.Answers.{types_of_stream};
 ghost use Rattle.stream_schema.specs.Names.{is_taken};
 ghost use Rattle.ceql_parser.specs.TypesAsked.{types_at, is_type_name, has_attr, some_has_attr, each_has_attr, is_whole, kind_of, are_alike};
 ghost use Rattle.ceql_parser.specs.WantedKinds.{serves};
 
-use cel_terms::Name;
-use cer_base::Memory;
-use std::alloc::Global;
 use stream_schema::{Attr, Kind, Schema, TypeId, Value};
 
 /// Which kinds of an attribute serve.
@@ -83,26 +80,6 @@ fn type_has(schema: &Schema, number: TypeId, name: &str, wanted: Wanted, otherwi
     }
 }
 
-fn is_named(schema: &Schema, number: TypeId, name: &str) -> bool
-    ensures { result ≡ option_map_or (λ t. bytes_eq t.name name.now) (slice_get schema.now.types number) false }
-{
-    match schema.type_name(number) {
-        Some(other) => other == name,
-        None => false,
-    }
-}
-
-fn some_named(schema: &Schema, numbers: &[TypeId], name: &str) -> bool
-    ensures { result ≡ list_any (λ n. option_map_or (λ t. bytes_eq t.name name.now) (slice_get schema.now.types n) false) numbers.now }
-{
-    for number in numbers {
-        if is_named(schema, *number, name) {
-            return true;
-        }
-    }
-    false
-}
-
 fn some_have(schema: &Schema, numbers: &[TypeId], name: &str, wanted: Wanted) -> bool
     ensures { result ≡ list_any (λ n. option_map_or (has_attr name.now (serves wanted)) (slice_get schema.now.types n) false) numbers.now }
 {
@@ -123,13 +100,6 @@ fn all_have(schema: &Schema, numbers: &[TypeId], name: &str, wanted: Wanted) -> 
         }
     }
     true
-}
-
-/// Whether one of the types has the name.
-pub fn is_type_name(schema: &Schema, numbers: &[TypeId], name: &str) -> bool
-    ensures { result ≡ is_type_name (types_at schema.now numbers.now) name.now }
-{
-    some_named(schema, numbers, name)
 }
 
 /// Whether one of the types has the attribute, with a kind that serves.
@@ -172,32 +142,11 @@ pub fn is_taken(schema: &Schema, name: &str) -> bool
 }
 
 /// The types of the stream, none where no stream has the name.
-fn types_in<'s>(schema: &'s Schema, name: &str) -> &'s [TypeId]
+pub fn types_in<'s>(schema: &'s Schema, name: &str) -> &'s [TypeId]
     ensures { result.now ≡ types_of_stream schema.now.streams name.now }
 {
     match schema.streams(name) {
         Some(types) => types.as_slice(),
         None => &[],
     }
-}
-
-fn add_all(types: &[TypeId], numbers: &mut Vec<TypeId>) -> Result<(), Memory>
-    ensures { OnOk result (numbers.new.items ≡ numbers.old.items ++ types.now) }
-{
-    for number in types {
-        numbers.push(*number)?;
-    }
-    Ok(())
-}
-
-/// The numbers of the types of these streams.
-#[tactic(auto, using(crate::proofs::TypesFound::types_more))]
-pub fn types_of(alloc: Global, schema: &Schema, streams: &[Name]) -> Result<Vec<TypeId>, Memory>
-    ensures { IfOk result (λ numbers. numbers.items ≡ query_types schema.now streams.now) }
-{
-    let mut numbers = Vec::new(alloc);
-    for name in streams {
-        add_all(types_in(schema, name.text.as_str()), &mut numbers)?;
-    }
-    Ok(numbers)
 }

@@ -65,7 +65,7 @@ to_ended f R _ _ (bound {xs} {ys} {x} {y} r m) = to_given f R x xs ys y r m
 from_ended : {X Y : Type 0} (f : X → Y) (R : Rule X) (xs : List Token) (y : Y) → Mapped f R xs y → Bind R (λ x. Mapped (λ _. f x) (NoTokens {X = Unit {0}} tt)) xs y
 from_ended f R _ _ (mapped {xs} {x} r) = subst (λ zs. Bind R (λ x. Mapped (λ _. f x) (NoTokens {X = Unit {0}} tt)) zs (f x)) (append-nil xs) (bound r (mapped no_tokens))
 
--- the last part of a statement, behind which it has to end
+-- the last part of a statement, after which it has to end
 pub reads_ended : {X Y : Type 0} (a : Test) (f : X → Y) (R : Rule X) (c : Goes X) (n : ℕ) (r : TokenReader X) → ((x : X) (ts : List Token) → Stops continues_statement ts → Stops (c x) ts) → Reads a n R c r → Reads a n (Mapped f R) (λ _. continues_statement) (bind r (λ x. map_read (λ _. f x) reading.ended))
 reads_ended a f R c n r to h = reads_other a (Bind R (λ x. Mapped (λ _. f x) (NoTokens {X = Unit {0}} tt))) (Mapped f R) (λ _. continues_statement) n _ (to_ended f R) (from_ended f R)
     (reads_bind a R (λ x. Mapped (λ _. f x) (NoTokens {X = Unit {0}} tt)) c (λ _. continues_statement) n r _
@@ -180,7 +180,7 @@ reads_attrs : (n : ℕ) → Reads no_mark (suc n) attrs_rule (λ _. among comma_
 unfolding reading.some_attrs reading.more_attrs
 reads_attrs n = reads_list no_mark (codes ",") [] put IsAttrDecl (suc n) reading.attr (a_sign (codes ",")) refl refl refl refl refl an_attr (reads_attr n) (reads_attr n)
 
--- attributes and the parenthesis behind them
+-- attributes and the parenthesis after them
 abbrev pub closed_attrs_rule : Rule (List AttrDecl)
 closed_attrs_rule = Either (led_rule (codes ")") (NoTokens [])) (closed_rule (codes ")") attrs_rule)
 
@@ -241,7 +241,7 @@ reads_declaration m = reads_fewer no_mark declaration_rule (λ _. continues_stat
     (λ _. record { tokens = _; value = _; derived = bound (one {t = a_name} refl) (a_stream (token_name a_name)).derived })
     (λ _. reads_stream m)))
 
--- what a declaration is, behind its DECLARE
+-- what a declaration is, after its DECLARE
 pub to_declared : (d : Token) (xs : List Token) (s : StatementTree) → Is (codes "DECLARE") d → declaration_rule xs s → IsStatement (d ∷ xs) s
 to_declared d _ _ e (left (bound (one v) (bound (one n) (mapped (bound (one o) (left (bound (one {t} c) no_tokens))))))) = declares_event t e v n o no_attrs c
 to_declared d _ _ e (left (bound (one v) (bound (one n) (mapped (bound (one o) (right (bound (bound a (mapped m)) (mapped (one {t} c))))))))) = declares_event t e v n o (attrs a (to_more_attrs _ _ m)) c

@@ -54,7 +54,7 @@ same_cut [] (y ∷ ys) t u us vs e l = absurd (omega arith)
 same_cut (x ∷ xs) [] t u us vs e l = absurd (omega arith)
 same_cut (x ∷ xs) (y ∷ ys) t u us vs e l = let k = same_cut xs ys t u us vs (cc) (omega arith) in (cc, k.1)
 
--- where it is not too deep, the first such place stands behind the token
+-- where it is not too deep, the first such place stands after the token
 pub not_here : (ts : List Token) (i : ℕ) (t : Token) (n : ℕ) → i < length ts → t ≡ get_or ts i t → n ≡ open_after 0 (take i ts) → (DEEPEST_NESTING ≤ n → Is (codes "(") t → ⊥) → ((before : List Token) (u : Token) → IsTooDeepAt ts before u → i ≤ length before) → (before : List Token) (u : Token) → IsTooDeepAt ts before u → i + 1 ≤ length before
 not_here ts i t n l e k fits later before u h = below i (length before) (later before u h) (λ same.
     let cut = same_cut (take i ts) before t u (drop (suc i) ts) h.after (sym (split_at ts i t l e) ∙ h.split) (taken_length ts i (omega arith) ∙ same) in
@@ -74,6 +74,6 @@ here_first ts i t n l e k full opens later =
       place_is = refl;
     }
 
--- behind the last token there is none
+-- after the last token there is none
 pub nowhere : (ts : List Token) (i : ℕ) → length ts ≤ i → ((before : List Token) (u : Token) → IsTooDeepAt ts before u → i ≤ length before) → IsShallow ts
 nowhere ts i l later before u h = let m = later before u h in let e = ap length h.split ∙ length-append before (u ∷ h.after) in absurd (omega arith)

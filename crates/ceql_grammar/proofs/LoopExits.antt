@@ -68,7 +68,7 @@ pairs_same p q e = cc
 both_same : {X : Type 0} (a b : X) (xs ys : List Token) → outcome a xs ≡ outcome b ys → (a ≡ b) × (xs ≡ ys)
 both_same a b xs ys e = let k = pairs_same (a, xs) (b, ys) e in (ap (λ p. p.0) k, ap (λ p. p.1) k)
 
--- a first item and the list behind it, as one value
+-- a first item and the list after it, as one value
 module _ {V X Z : Type 0} (view : V → X) (r : TokenReader X) (m : TokenReader (List X)) (join : X → List X → Z) (v : V) (vs : List V) (ts ys : List Token) where
   joined_at : (o : Out X) → o ≡ Ok (view v, ys) → (o >>= λ x. map_read (join x.0) m x.1) ≡ map_read (join (view v)) m ys
   joined_at o e = ap (λ o. o >>= λ x. map_read (join x.0) m x.1) e

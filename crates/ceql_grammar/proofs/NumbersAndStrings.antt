@@ -9,7 +9,7 @@ use Rattle.ceql_grammar.specs.Values.{inside_quotes, unquoted}
 kept : (p : ℕ → Bool) (x : ℕ) (xs : List ℕ) → p x ≡ true → filter p (x ∷ xs) ≡ x ∷ filter p xs
 kept p x xs e = rw e refl
 
--- a digit is read before those behind it
+-- a digit is read before those after it
 pub digit_step : (value : ℕ) (text : List ℕ) (i : ℕ) → i < length text → is_ascii_digit (get_or text i 0) ≡ true → read_on value (filter is_ascii_digit (drop i text)) ≡ read_on (value * 10 + (get_or text i 0 - 48)) (filter is_ascii_digit (drop (i + 1) text))
 digit_step value text i l e = rw (add-one, drop-cons text i 0) (ap (read_on value) (kept is_ascii_digit (get_or text i 0) (drop (suc i) text) e))
 

@@ -1,4 +1,4 @@
--- Readers behind a word or a sign, between two, and again and again, are exact.
+-- Readers after a word or a sign, between two, and again and again, are exact.
 use Rattle.std.proofs.Common.{◌≡◌, refl, sym, ℕ, suc, Bool, true, false, List, [], ◌∷◌, ◌++◌, arith}
 use Rattle.std.specs.Prelude.{Ok, Err, Some, None, if◌then◌else◌}
 use Rattle.ceql_lexer.specs.declared.Token.{Token}
@@ -16,18 +16,18 @@ none = among []
 abbrev pub word_rule : List ℕ → Rule (Unit {0})
 word_rule mark = One (is mark) no_value
 
--- a rule behind a word or a sign
+-- a rule after a word or a sign
 abbrev pub led_rule : {X : Type 0} → List ℕ → Rule X → Rule X
 led_rule mark R = Bind (word_rule mark) (λ _. R)
 
--- a rule, and a word or a sign behind it
+-- a rule, and a word or a sign after it
 abbrev pub closed_rule : {X : Type 0} → List ℕ → Rule X → Rule X
 closed_rule mark R = Bind R (λ x. Mapped (λ _. x) (word_rule mark))
 
 pub reads_word : (a : Test) (mark : List ℕ) (n : ℕ) (s : Token) → is mark s ≡ true → Reads a n (word_rule mark) (λ _. none) (mark_token mark)
 reads_word a mark n s e = reads_one a (is mark) no_value n s e
 
--- behind a token, what is exact on fewer tokens
+-- after a token, what is exact on fewer tokens
 pub reads_led : {X Y : Type 0} (a : Test) (p : Test) (f : Token → X) (S : X → Rule Y) (d : Goes Y) (n : ℕ) (g : X → TokenReader Y) (s : Token) → p s ≡ true → ((x : X) → Filled (S x)) → ((x : X) → Reads none n (S x) d (g x)) → Reads a (suc n) (Bind (One p f) S) d (bind (one_token p f) g)
 reads_led a p f S d n g s e filled second = reads_behind a (One p f) S (λ _. none) d p n (one_token p f) g (begins_one p f) (λ x. shuns_ends (S x) d) filled (reads_one a p f (suc n) s e) second
 
@@ -39,7 +39,7 @@ pub branch_is : {X Y : Type 0} (p : Test) (f : Token → X) (g : X → TokenRead
 branch_is p f g s [] = refl
 branch_is p f g s (t ∷ ts) = sym (branch_at p f g s t ts (p t))
 
--- behind a token, else another reader
+-- after a token, else another reader
 pub reads_branch : {X Y : Type 0} (a : Test) (p : Test) (f : Token → X) (S : X → Rule Y) (T : Rule Y) (d : Goes Y) (n : ℕ) (g : X → TokenReader Y) (r : TokenReader Y) (s : Token) → p s ≡ true → Shuns T d p → ((x : X) → Filled (S x)) → ((x : X) → Reads none n (S x) d (g x)) → Reads a (suc n) T d r → Reads a (suc n) (Either (Bind (One p f) S) T) d (branch p f g r)
 reads_branch a p f S T d n g r s e shuns filled second other = reads_same a _ d (suc n) (choose p (bind (one_token p f) g) r) (branch p f g r) (branch_is p f g r)
     (reads_either a (Bind (One p f) S) T d p (suc n) (bind (one_token p f) g) r (begins_bind (One p f) S p (begins_one p f)) shuns (reads_led a p f S d n g s e filled second) other)
@@ -52,7 +52,7 @@ reads_closed a mark R c n r s e out h = reads_bind a R (λ x. Mapped (λ _. x) (
     h
     (λ x. reads_mapped (c x) (λ _. x) (word_rule mark) (λ _. none) n (mark_token mark) (reads_word (c x) mark n s e))
 
--- a rule again and again, each time behind one of some words or signs
+-- a rule again and again, each time after one of some words or signs
 abbrev pub repeated_rule : {X : Type 0} → List ℕ → Rule X → Rule (List X)
 repeated_rule mark R = Many (led_rule mark R)
 
@@ -75,7 +75,7 @@ reads_repeated mark marks R n r s e d f g h filled reads = reads_many (among mar
 pub shuns_repeated : {X : Type 0} (mark : List ℕ) (marks : List (List ℕ)) (R : Rule X) → disjoint (mark ∷ []) marks ≡ true → covered marks (mark ∷ marks) [] ≡ true → Shuns (repeated_rule mark R) (λ l. among (mark ∷ marks)) (among marks)
 shuns_repeated mark marks R d g = shuns_many (led_rule mark R) (is mark) (among (mark ∷ marks)) (among marks) (begins_bind (word_rule mark) (λ _. R) (is mark) (begins_one (is mark) no_value)) (apart (mark ∷ []) marks d) (stops_some marks (mark ∷ marks) g)
 
--- a rule and then the same behind words or signs
+-- a rule and then the same after words or signs
 abbrev pub list_rule : {X Y : Type 0} → List ℕ → (X → List X → Y) → Rule X → Rule Y
 list_rule mark f R = Bind R (λ x. Mapped (f x) (repeated_rule mark R))
 

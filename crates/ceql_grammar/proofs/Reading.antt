@@ -24,7 +24,7 @@ pub record ReadTo {X : Type 0} (R : Rule X) (c : Goes X) (ts : List Token) (x : 
 pub record NoFront {X : Type 0} (R : Rule X) (c : Goes X) (ts : List Token) : Type 0 where
   pub none : (x : X) (ys : List Token) → ReadTo R c ts x ys → ⊥
 
--- there is no other such front, whatever stands behind the first token that follows it
+-- there is no other such front, whatever stands after the first token that follows it
 pub record ReadsAs {X : Type 0} (R : Rule X) (c : Goes X) (ts : List Token) (x : X) (ys : List Token) : Type 0 where
   pub here : ReadTo R c ts x ys
   pub only : (us : List Token) → Agrees ys us → (x' : X) (us' : List Token) → ReadTo R c (here.part ++ us) x' us' → (x ≡ x') × (us ≡ us')
@@ -130,7 +130,7 @@ pub shorter_rest : {X : Type 0} (R : Rule X) (c : Goes X) (q : Test) (part : Lis
 shorter_rest R c q [] ts ys n e split l = cc
 shorter_rest R c q (x ∷ part) ts ys n e split l = let g = ap length split ∙ length-append (x ∷ part) ys in omega arith
 
--- behind a rule that begins with some token, a reader that is exact on fewer tokens
+-- after a rule that begins with some token, a reader that is exact on fewer tokens
 pub reads_behind : {X Y : Type 0} (a : Test) (R : Rule X) (S : X → Rule Y) (c : Goes X) (d : Goes Y) (q : Test) (n : ℕ) (r : TokenReader X) (f : X → TokenReader Y) → Begins R q → ((x : X) → Shuns (S x) d (c x)) → ((x : X) → Filled (S x)) → Reads a (suc n) R c r → ((x : X) → Reads (c x) n (S x) d (f x)) → Reads a (suc n) (Bind R S) d (bind r f)
 reads_behind a R S c d q n r f begins shuns filled first second = record { reads = λ ts l s. first_part R S c d n f shuns filled second ts (λ x ys h. shorter_rest R c q h.part ts ys n (begins.begins h.part x h.derived) h.split l) (r ts) (first.reads ts l s) }
 

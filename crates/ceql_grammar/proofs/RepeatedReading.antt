@@ -79,7 +79,7 @@ pub first_none : {X : Type 0} (p : Test) (f : Token → X) (ts : List Token) →
 first_none p f [] e = refl
 first_none p f (t ∷ ts) e = none_at t (f t, ts) (p t) e
 
--- the same turns where the rule stands behind a token
+-- the same turns where the rule stands after a token
 module _ {X Y : Type 0} (p : Test) (f : Token → X) (g : X → TokenReader Y) (h : Again p (bind (one_token p f) g)) (made : List Y) (ts : List Token) where
   pub ends_led : first_token p f ts ≡ None → with_front made (many p (bind (one_token p f) g) ts) ≡ Ok (made, ts)
   ends_led e = ends_here p (bind (one_token p f) g) h made ts (first_none p f ts e)

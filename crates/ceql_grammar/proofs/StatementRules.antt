@@ -39,7 +39,7 @@ any_shuns_at mark out _ zs _ (any {t} e i) s = out t e
 any_shuns : (mark : List ℕ) → ((t : Token) → is (codes "ANY") t ≡ true → is mark t ≡ false) → Shuns IsAny (λ _. is mark) (is mark)
 any_shuns mark out = record { shuns = any_shuns_at mark out }
 
--- behind a window a statement ends
+-- after a window a statement ends
 within_shuns : (marks : List (List ℕ)) → disjoint (codes "WITHIN" ∷ []) marks ≡ true → disjoint begin_marks marks ≡ true → Shuns IsWithinClause (λ _. continues_statement) (among marks)
 within_shuns marks e f = shuns_other (Either (led_rule (codes "WITHIN") _) (NoTokens Free)) IsWithinClause (λ _. continues_statement) (among marks) from_within
     (shuns_either (led_rule (codes "WITHIN") _) (NoTokens Free) (λ _. continues_statement) (among marks) (shuns_led (codes "WITHIN") marks _ (λ _. continues_statement) e) (shuns_nothing Free (λ _. continues_statement) (among marks) (stops_end marks f)))

@@ -29,7 +29,7 @@ pub data IsPostfix : List Token → Postfix → Type 0 where
   named : {t a : Token} → Is (codes "AS") t → is_name_token a ≡ true → IsPostfix (t ∷ a ∷ []) (Named (token_name a))
   keep : {t : Token} {ts : List Token} {ns : List Name} → Is (codes "KEEP") t → AreBracketedNames ts ns → IsPostfix (t ∷ ts) (Keep ns)
 
--- postfixes, one behind the other
+-- postfixes, one after the other
 pub data ArePostfixes : List Token → List Postfix → Type 0 where
   postfixes_end : ArePostfixes [] []
   postfix_next : {ts us : List Token} {p : Postfix} {ps : List Postfix} → IsPostfix ts p → ArePostfixes us ps → ArePostfixes (ts ++ us) (p ∷ ps)
@@ -44,7 +44,7 @@ abbrev pub post_of : FormulaTree → List Postfix → FormulaTree
 post_of f [] = f
 post_of f (p ∷ ps) = post f (p ∷ ps)
 
--- a formula and those behind it, each behind a `:` where it is tight: one list where none is
+-- a formula and those after it, each after a `:` where it is tight: one list where none is
 abbrev pub chain_tree : FormulaTree → List (Bool × FormulaTree) → FormulaTree
 chain_tree f [] = f
 chain_tree f (l ∷ ls) =

@@ -11,12 +11,12 @@ abbrev pub StopsAs : {Y : Type 0} → OrMemory (Bor (List Token)) → Out Y → 
 StopsAs wanted.Memory out = Unit {0}
 StopsAs (wanted.Fault rest) out = out ≡ Err rest.now
 
--- the value, seen by view, and the tokens behind it are those of the reader
+-- the value, seen by view, and the tokens after it are those of the reader
 abbrev pub ReadsAs : {X Y : Type 0} → (X → Y) → Result (X × Bor (List Token)) (OrMemory (Bor (List Token))) → Out Y → Type 0
 ReadsAs view (Ok p) out = out ≡ Ok (view p.0, p.1.now)
 ReadsAs view (Err e) out = StopsAs e out
 
--- the tokens behind a word or a sign are those of the reader
+-- the tokens after a word or a sign are those of the reader
 abbrev pub ReadsPast : Result (Bor (List Token)) (OrMemory (Bor (List Token))) → Out (Unit {0}) → Type 0
 ReadsPast (Ok rest) out = out ≡ Ok (tt, rest.now)
 ReadsPast (Err e) out = StopsAs e out
@@ -26,7 +26,7 @@ abbrev pub Stays : List Token → Result (Unit {0}) (OrMemory (Bor (List Token))
 Stays tokens (Ok u) out = out ≡ Ok (tt, tokens)
 Stays tokens (Err e) out = StopsAs e out
 
--- the tokens behind a word or a sign, or none where another token stands in front
+-- the tokens after a word or a sign, or none where another token stands in front
 abbrev pub Skips : Option (Bor (List Token)) → Option (Unit {0} × List Token) → Type 0
 Skips (Some rest) out = out ≡ Some (tt, rest.now)
 Skips None out = out ≡ None

@@ -29,19 +29,19 @@ no_value t = tt
 abbrev pub mark_token : List ℕ → TokenReader (Unit {0})
 mark_token mark = one_token (is mark) no_value
 
--- a reader behind a word or a sign
+-- a reader after a word or a sign
 abbrev pub led : {X : Type 0} → List ℕ → TokenReader X → TokenReader X
 led mark r = bind (mark_token mark) (λ _. r)
 
--- a reader behind a word or a sign, else another
+-- a reader after a word or a sign, else another
 abbrev pub led_or : {X : Type 0} → List ℕ → TokenReader X → TokenReader X → TokenReader X
 led_or mark r s = branch (is mark) no_value (λ _. r) s
 
--- a reader, and a word or a sign behind it
+-- a reader, and a word or a sign after it
 abbrev pub closed : {X : Type 0} → List ℕ → TokenReader X → TokenReader X
 closed mark r = bind r (λ x. map_read (λ _. x) (mark_token mark))
 
--- a reader again and again, each time behind a word or a sign
+-- a reader again and again, each time after a word or a sign
 abbrev pub many_after : {X : Type 0} → List ℕ → TokenReader X → TokenReader (List X)
 many_after mark r = many (is mark) (led mark r)
 
@@ -182,7 +182,7 @@ more_attrs = many_after (codes ",") attr
 unfoldable pub some_attrs : TokenReader (List AttrDecl)
 some_attrs = bind attr (λ a. map_read (λ rest. a ∷ rest) more_attrs)
 
--- attributes and the `)` behind them, there being none where the `)` stands in front
+-- attributes and the `)` after them, there being none where the `)` stands in front
 unfoldable pub attrs_closed : TokenReader (List AttrDecl)
 attrs_closed = led_or (codes ")") (give []) (closed (codes ")") some_attrs)
 
@@ -218,7 +218,7 @@ unit_or_none = branch is_unit seconds_in (λ s. give s) (give 1)
 abbrev pub count : TokenReader ℕ
 count = one_token is_count (λ t. unsigned_number t.text)
 
--- a window's attribute behind its number
+-- a window's attribute after its number
 unfoldable pub clock : ℕ → TokenReader Window
 clock n = bind unit_or_none (λ seconds. map_read (λ a. Clock a (pos (n * seconds))) (led (codes "[") (closed (codes "]") name)))
 
@@ -237,7 +237,7 @@ streams = led (codes "FROM") names
 unfoldable pub condition : TokenReader FormulaParts
 condition = led (codes "WHERE") formula
 
--- what stands behind FROM and its names
+-- what stands after FROM and its names
 unfoldable pub scope : Place → Bool → Option NumberAt → Option (List Name) → List Name → TokenReader StatementTree
 scope place strict any list streams =
     bind condition (λ f. bind partition (λ ps. bind within (λ w. map_read (λ _. select (record {

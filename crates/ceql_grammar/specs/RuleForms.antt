@@ -1,6 +1,6 @@
 -- Forms of which the rules of a grammar are made, and how each is read with one token of look-ahead.
 -- A rule says which lists of tokens stand for which values; a reader gives the value at the front of
--- a list and what stands behind it, or the list from the first token on that does not fit.
+-- a list and what stands after it, or the list from the first token on that does not fit.
 use Rattle.std.specs.Prelude.{◌≡◌, ℕ, zero, suc, Bool, true, false, List, [], ◌∷◌, ◌++◌, length, if◌then◌else◌, Option, Some, None, Result, Ok, Err}
 use Rattle.ceql_lexer.specs.declared.Token.{Token}
 
@@ -27,7 +27,7 @@ abbrev pub Stops : Test → List Token → Type 0
 Stops c [] = Unit {0}
 Stops c (t ∷ ts) = c t ≡ false
 
--- one rule behind another, which may depend on the first one's value
+-- one rule after another, which may depend on the first one's value
 pub data Bind {X Y : Type 0} (R : Rule X) (S : X → Rule Y) : List Token → Y → Type 0 where
   bound : {xs ys : List Token} {x : X} {y : Y} → R xs x → S x ys y → Bind R S (xs ++ ys) y
 
@@ -70,7 +70,7 @@ starts p (t ∷ ts) = p t
 abbrev pub choose : {X : Type 0} → Test → TokenReader X → TokenReader X → TokenReader X
 choose p r s ts = if starts p ts then r ts else s ts
 
--- a rule any number of times, one behind the other
+-- a rule any number of times, one after the other
 pub data Many {X : Type 0} (R : Rule X) : List Token → List X → Type 0 where
   none : Many R [] []
   more : {xs ys : List Token} {x : X} {l : List X} → R xs x → Many R ys l → Many R (xs ++ ys) (x ∷ l)
@@ -80,7 +80,7 @@ abbrev pub iterate : {X : Type 0} → (TokenReader X → TokenReader X) → ℕ 
 iterate body zero ts = Err ts
 iterate body (suc n) ts = body (iterate body n) ts
 
--- a reader that calls itself on what stands behind at least one token
+-- a reader that calls itself on what stands after at least one token
 unfoldable pub fixpoint : {X : Type 0} → (TokenReader X → TokenReader X) → TokenReader X
 fixpoint body ts = iterate body (suc (length ts)) ts
 
@@ -92,7 +92,7 @@ many_step p r rest = choose p (bind r (λ x. map_read (λ l. x ∷ l) rest)) (gi
 abbrev pub many : {X : Type 0} → Test → TokenReader X → TokenReader (List X)
 many p r = fixpoint (many_step p r)
 
--- the first token as a value, and the tokens behind it, where it passes a test
+-- the first token as a value, and the tokens after it, where it passes a test
 abbrev pub first_token : {X : Type 0} → Test → (Token → X) → List Token → Option (X × List Token)
 first_token p f [] = None
 first_token p f (t ∷ ts) = if p t then Some (f t, ts) else None
@@ -101,6 +101,6 @@ abbrev pub when : {X Y : Type 0} → Option (X × List Token) → (X → TokenRe
 when (Some q) r other = r q.0 q.1
 when None r other = other
 
--- a reader behind a token that passes a test, else another reader
+-- a reader after a token that passes a test, else another reader
 abbrev pub branch : {X Y : Type 0} → Test → (Token → X) → (X → TokenReader Y) → TokenReader Y → TokenReader Y
 branch p f r s ts = when (first_token p f ts) r (s ts)

@@ -16,7 +16,7 @@ use Rattle.ceql_grammar.specs.Values.{is_number, is_count, signed_number, unsign
 use Rattle.ceql_grammar.specs.Trees.{FormulaTree, formula_tree}
 use Rattle.ceql_grammar.specs.Formulas.{AreNames, AreBracketedNames, IsFormula}
 
--- What a SELECT says, as plain data. Until `check` has tested the number behind ANY, nothing counts.
+-- What a SELECT says, as plain data. Until `check` has tested the number after ANY, nothing counts.
 pub record SelectTree : Type 0 where
   pub strict : Bool
   pub any : Option NumberAt
@@ -120,7 +120,7 @@ pub data IsStatement : List Token → StatementTree → Type 0 where
       IsStatement (s ∷ modes ++ (anys ++ (lists ++ (f ∷ streams ++ (w ∷ formulas ++ (partitions ++ windows))))))
       (select (record { strict = mode; any = number; counted = None; select = list; streams = ns; formula = g; partition = ps; window = window; place = s.place }))
 
--- statements, one behind the other
+-- statements, one after the other
 pub data AreStatements : List Token → List StatementTree → Type 0 where
   text_end : AreStatements [] []
   statement : {ts us : List Token} {s : StatementTree} {ss : List StatementTree} → IsStatement ts s → AreStatements us ss → AreStatements (ts ++ us) (s ∷ ss)

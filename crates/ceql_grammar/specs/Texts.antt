@@ -13,7 +13,7 @@ use Rattle.ceql_grammar.specs.declared.terms.Script.{Script}
 use Rattle.cer_base.specs.declared.OrMemory.{OrMemory}
 use Rattle.cer_base.specs.declared.OrMemory.TheVariants as wanted
 
--- how many parentheses are open behind a token, so many being open before it: DECLARE and SELECT begin
+-- how many parentheses are open after a token, so many being open before it: DECLARE and SELECT begin
 -- anew, and a `)` closes one where one is open
 abbrev pub open_behind : ℕ → Token → ℕ
 open_behind n t =
@@ -21,7 +21,7 @@ open_behind n t =
     else (if is (codes "(") t then n + 1
     else (if is (codes ")") t then n - 1 else n))
 
--- how many are open behind these tokens
+-- how many are open after these tokens
 abbrev pub open_after : ℕ → List Token → ℕ
 open_after n [] = n
 open_after n (t ∷ ts) = open_after (open_behind n t) ts

@@ -30,7 +30,7 @@ is_in_range text = nat_le (unsigned_number text) (farthest (has_minus text))
 abbrev pub signed_number : List ℕ → ℤ
 signed_number text = if has_minus text then neg_ℤ (pos (unsigned_number text)) else pos (unsigned_number text)
 
--- how many digits stand behind the point
+-- how many digits stand after the point
 abbrev pub places : List ℕ → ℕ
 places text = length (drop 1 (drop (prefix_len (λ byte. not (byte == 46)) text) text))
 
@@ -51,7 +51,7 @@ is_number t = is_number_kind t.kind && is_in_range t.text
 abbrev pub is_count : Token → Bool
 is_count t = is_number t && not (has_minus t.text)
 
--- What stands between the quotes, each doubled one being one; the bytes are those behind the opening
+-- What stands between the quotes, each doubled one being one; the bytes are those after the opening
 -- quote, and the last of them is the closing one.
 abbrev pub inside_quotes : ℕ → List ℕ → List ℕ
 inside_quotes quote [] = []

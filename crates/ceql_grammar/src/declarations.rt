@@ -73,7 +73,7 @@ fn attr<'a>(alloc: Global, tokens: &'a [Token]) -> Read<'a, AttrDecl>
     Ok((AttrDecl { name, kind }, rest))
 }
 
-/// The attributes behind those that were read, a comma before each.
+/// The attributes after those that were read, a comma before each.
 fn more_attrs<'a>(
     alloc: Global,
     attrs: Vec<AttrDecl>,
@@ -105,7 +105,7 @@ fn some_attrs<'a>(alloc: Global, tokens: &'a [Token]) -> Read<'a, AttrDecls>
     Ok((Listed::of(attrs), rest))
 }
 
-/// Attributes, of which there may be none, and the `)` behind them.
+/// Attributes, of which there may be none, and the `)` after them.
 #[tactic(auto, unfolding(crate::specs::Reading::attrs_closed))]
 fn attrs_closed<'a>(alloc: Global, tokens: &'a [Token]) -> Read<'a, AttrDecls>
     ensures value { ReadsAs (λ l. l) result (attrs_closed tokens.now) }
@@ -148,7 +148,7 @@ fn stream<'a>(alloc: Global, tokens: &'a [Token]) -> Read<'a, Statement>
     Ok((Statement::Stream(name, types), rest))
 }
 
-/// What stands behind DECLARE.
+/// What stands after DECLARE.
 #[tactic(auto, unfolding(crate::specs::Reading::declaration))]
 pub fn declaration<'a>(alloc: Global, tokens: &'a [Token]) -> Read<'a, Statement>
     ensures value { ReadsAs statement_tree result (declaration tokens.now) }

@@ -9,7 +9,7 @@ use ceql_lexer::Token;
 use cer_base::Place;
 use cer_base::limits::DEEPEST_NESTING;
 
-/// How many parentheses are open behind the token.
+/// How many parentheses are open after the token.
 fn open_behind(depth: usize, token: &Token) -> usize
     requires { depth ≤ DEEPEST_NESTING }
     ensures { result ≡ open_behind depth token.now }

@@ -21,7 +21,7 @@ pub enum QueryFault {
     NumberTooLarge,
     /// The string is closed, but its bytes are not UTF-8. Its place is the opening quote's.
     NotUtf8,
-    /// More than 9 digits stand behind the point. Its place is the number's first byte.
+    /// More than 9 digits stand after the point. Its place is the number's first byte.
     TooFine,
     /// No text of the grammar goes on with this token, or none ends here. Its place is the token's,
     /// or that of the end.

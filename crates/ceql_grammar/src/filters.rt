@@ -73,7 +73,7 @@ fn unit<'a>(alloc: Global, tokens: &'a [Token]) -> Read<'a, Filter>
     }
 }
 
-/// The units behind those that were read, an AND before each.
+/// The units after those that were read, an AND before each.
 #[cycle(filter)]
 fn more_units<'a>(alloc: Global, members: Vec<Filter>, tokens: &'a [Token]) -> Read<'a, Vec<Filter>>
     ensures value { ReadsAs (λ v. map filter_tree v.items) result (with_front (map filter_tree members.items) (more_filter_units filter tokens.now)) }
@@ -104,7 +104,7 @@ fn conjunction<'a>(alloc: Global, tokens: &'a [Token]) -> Read<'a, Filter>
     Ok((all_filters_of(members), rest))
 }
 
-/// The conjunctions behind those that were read, an OR before each.
+/// The conjunctions after those that were read, an OR before each.
 #[cycle(filter)]
 fn more_conjunctions<'a>(
     alloc: Global,

@@ -150,7 +150,7 @@ fn chain_tree(alloc: Global, first: Formula, links: Vec<Link>) -> Result<Formula
     }
 }
 
-/// Whether the `;` or `:` at the front is tight, and the tokens behind it.
+/// Whether the `;` or `:` at the front is tight, and the tokens after it.
 fn link_sign<'a>(tokens: &'a [Token]) -> Option<(bool, &'a [Token])>
     ensures value { SkipsTo result (first_token is_link is_tight tokens.now) }
     ensures shorter { IfSome result (λ p. length p.1.now < length tokens.now) }
@@ -196,7 +196,7 @@ fn post<'a>(alloc: Global, tokens: &'a [Token]) -> Read<'a, Formula>
     Ok((post_of(alloc, base, postfixes)?, rest))
 }
 
-/// The formulas behind a first one, a `;` or a `:` before each.
+/// The formulas after a first one, a `;` or a `:` before each.
 #[cycle(formula)]
 fn more_links<'a>(alloc: Global, tokens: &'a [Token]) -> Read<'a, Vec<Link>>
     ensures value { ReadsAs (λ v. map link_view v.items) result (more_links formula tokens.now) }
@@ -224,7 +224,7 @@ fn chain<'a>(alloc: Global, tokens: &'a [Token]) -> Read<'a, Formula>
     Ok((chain_tree(alloc, first, links)?, rest))
 }
 
-/// The chains behind those that were read, an OR before each.
+/// The chains after those that were read, an OR before each.
 #[cycle(formula)]
 fn more_chains<'a>(
     alloc: Global,

@@ -88,7 +88,7 @@ fn unit<'a>(alloc: Global, tokens: &'a [Token]) -> Read<'a, Pred>
     }
 }
 
-/// The units behind those that were read, an AND before each.
+/// The units after those that were read, an AND before each.
 #[cycle(predicate)]
 fn more_units<'a>(alloc: Global, members: Vec<Pred>, tokens: &'a [Token]) -> Read<'a, Vec<Pred>>
     ensures value { ReadsAs (λ v. map pred_tree v.items) result (with_front (map pred_tree members.items) (more_units pred tokens.now)) }
@@ -119,7 +119,7 @@ fn conjunction<'a>(alloc: Global, tokens: &'a [Token]) -> Read<'a, Pred>
     Ok((all_preds_of(members), rest))
 }
 
-/// The conjunctions behind those that were read, an OR before each.
+/// The conjunctions after those that were read, an OR before each.
 #[cycle(predicate)]
 fn more_conjunctions<'a>(
     alloc: Global,

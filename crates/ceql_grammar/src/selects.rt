@@ -29,7 +29,7 @@ fn mode<'a>(tokens: &'a [Token]) -> (bool, &'a [Token])
     }
 }
 
-/// The number behind ANY, where that stands here.
+/// The number after ANY, where that stands here.
 #[tactic(auto, unfolding(crate::specs::Reading::any_number))]
 fn any_number<'a>(tokens: &'a [Token]) -> Read<'a, Option<NumberAt>>
     ensures value { ReadsAs (λ n. n) result (any_number tokens.now) }
@@ -79,7 +79,7 @@ fn condition<'a>(alloc: Global, tokens: &'a [Token]) -> Read<'a, Formula>
     formula(alloc, rest)
 }
 
-/// The names behind PARTITION BY, none where that does not stand here.
+/// The names after PARTITION BY, none where that does not stand here.
 #[tactic(auto, unfolding(crate::specs::Reading::partition))]
 fn partition<'a>(alloc: Global, tokens: &'a [Token]) -> Read<'a, Names>
     ensures value { ReadsAs (λ ns. ns) result (partition tokens.now) }
@@ -122,7 +122,7 @@ fn clock<'a>(alloc: Global, number: u64, tokens: &'a [Token]) -> Read<'a, Window
     Ok((Window::Clock(name, length), rest))
 }
 
-/// Whether EVENT or EVENTS stands here, and the tokens behind it.
+/// Whether EVENT or EVENTS stands here, and the tokens after it.
 fn events<'a>(tokens: &'a [Token]) -> Option<&'a [Token]>
     ensures value { Skips result (first_token is_events no_value tokens.now) }
     ensures shorter { IfSome result (λ rest. length rest.now < length tokens.now) }
@@ -146,7 +146,7 @@ fn window<'a>(alloc: Global, tokens: &'a [Token]) -> Read<'a, Window>
     }
 }
 
-/// The window behind WITHIN, the free one where that does not stand here.
+/// The window after WITHIN, the free one where that does not stand here.
 #[tactic(auto, unfolding(crate::specs::Reading::within))]
 fn within<'a>(alloc: Global, tokens: &'a [Token]) -> Read<'a, Window>
     ensures value { ReadsAs (λ w. w) result (within tokens.now) }
@@ -158,7 +158,7 @@ fn within<'a>(alloc: Global, tokens: &'a [Token]) -> Read<'a, Window>
     }
 }
 
-/// What stands behind the streams, and the whole statement with it.
+/// What stands after the streams, and the whole statement with it.
 #[tactic(auto, unfolding(crate::specs::Reading::scope))]
 fn scope<'a>(
     alloc: Global,
@@ -189,7 +189,7 @@ fn scope<'a>(
     Ok((Statement::Select(Select { query, any: number }), rest))
 }
 
-/// What stands behind the SELECT at the place.
+/// What stands after the SELECT at the place.
 #[tactic(auto, unfolding(crate::specs::Reading::select_rest))]
 fn select_rest<'a>(alloc: Global, place: Place, tokens: &'a [Token]) -> Read<'a, Statement>
     ensures value { ReadsAs statement_tree result (select_rest place tokens.now) }

@@ -29,7 +29,7 @@ pub struct AttrDecl {
 
 pub type AttrDecls = Listed<AttrDecl>;
 
-/// A SELECT. The number behind ANY is not tested yet, and until then the query's own `any` is None.
+/// A SELECT. The number after ANY is not tested yet, and until then the query's own `any` is None.
 #[derive(Drop, Debug)]
 pub struct Select {
     pub query: Query,
@@ -47,7 +47,7 @@ pub enum Statement {
 
 pub type Statements = Listed<Statement>;
 
-/// The statements of a text in order, and the place just behind its last byte.
+/// The statements of a text in order, and the place just after its last byte.
 #[derive(Drop, Debug)]
 pub struct Script {
     pub statements: Statements,

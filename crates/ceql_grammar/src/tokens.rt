@@ -11,7 +11,7 @@ use ceql_lexer::{Token, TokenKind, in_capitals_is};
 use cer_base::{Memory, OrMemory, Text};
 use std::alloc::Global;
 
-/// The tokens behind what was read, or the tokens from the first on that does not fit.
+/// The tokens after what was read, or the tokens from the first on that does not fit.
 pub type Rest<'a> = Result<&'a [Token], OrMemory<&'a [Token]>>;
 
 /// The same with a value of what was read.
@@ -64,7 +64,7 @@ pub fn token_name(alloc: Global, token: &Token) -> Result<Name, Memory>
     })
 }
 
-/// The tokens behind this word or sign, where it stands in front.
+/// The tokens after this word or sign, where it stands in front.
 pub fn skip<'a>(tokens: &'a [Token], mark: &[u8]) -> Option<&'a [Token]>
     ensures value { Skips result (first_token (is mark.now) no_value tokens.now) }
     ensures shorter { IfSome result (λ rest. length rest.now < length tokens.now) }
@@ -75,7 +75,7 @@ pub fn skip<'a>(tokens: &'a [Token], mark: &[u8]) -> Option<&'a [Token]>
     }
 }
 
-/// The tokens behind this word or sign, which has to stand in front.
+/// The tokens after this word or sign, which has to stand in front.
 pub fn expect<'a>(tokens: &'a [Token], mark: &[u8]) -> Rest<'a>
     ensures value { ReadsPast result (mark_token mark.now tokens.now) }
     ensures shorter { IfOk result (λ rest. length rest.now < length tokens.now) }

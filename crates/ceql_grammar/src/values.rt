@@ -63,7 +63,7 @@ fn whole_len(text: &[u8]) -> usize
     text.iter().take_while(|byte| **byte != b'.').count()
 }
 
-/// How many digits stand behind the point.
+/// How many digits stand after the point.
 fn places(text: &[u8]) -> usize
     ensures { result ≡ places text.now }
 {
@@ -221,7 +221,7 @@ pub fn op<'a>(tokens: &'a [Token]) -> Read<'a, Op>
     }
 }
 
-/// How many seconds the unit at the front has, and the tokens behind it, where a unit stands there.
+/// How many seconds the unit at the front has, and the tokens after it, where a unit stands there.
 pub fn unit<'a>(tokens: &'a [Token]) -> Option<(u64, &'a [Token])>
     ensures value { SkipsTo result (first_token is_unit seconds_in tokens.now) }
     ensures shorter { IfSome result (λ p. length p.1.now < length tokens.now) }

@@ -52,7 +52,7 @@ nonempty (byte ∷ bytes) h = refl
 tail_is : (rest : List ℕ) → take (length rest - 1) (drop 1 rest) ≡ drop 1 rest
 tail_is rest = grind (arith, common_steps)
 
--- what was read with the bytes behind the first as the slice's pattern gives them
+-- what was read with the bytes after the first as the slice's pattern gives them
 pub read_is : (rest : List ℕ) (read : Result Piece LexFault) (piece : Piece) → read ≡ piece_at (get_or rest 0 0) (take (length rest - 1) (drop 1 rest)) → read ≡ Ok piece → piece_at (get_or rest 0 0) (drop 1 rest) ≡ Ok piece
 read_is rest read piece e is = ap (piece_at (get_or rest 0 0)) (sym (tail_is rest)) ∙ sym e ∙ is
 

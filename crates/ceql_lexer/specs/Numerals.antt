@@ -7,7 +7,7 @@ use Rattle.std.specs.List.{prefix_len}
 abbrev pub digits_at : List ℕ → List ℕ
 digits_at bytes = take (prefix_len is_ascii_digit bytes) bytes
 
--- the digits behind a point at the front, none where no point stands there
+-- the digits after a point at the front, none where no point stands there
 abbrev pub decimals_at : List ℕ → List ℕ
 decimals_at [] = []
 decimals_at (byte ∷ bytes) = if byte == 46 then digits_at bytes else []

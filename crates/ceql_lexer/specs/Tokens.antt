@@ -13,12 +13,12 @@ use Rattle.ceql_lexer.specs.Fronts.{piece_at}
 abbrev pub first_place : Place
 first_place = record { line = 1; col = 1 }
 
--- the place behind a byte: a line feed ends a line
+-- the place after a byte: a line feed ends a line
 abbrev pub next_place : Place → ℕ → Place
 next_place place byte =
     if byte == 10 then record { line = place.line + 1; col = 1 } else record { line = place.line; col = place.col + 1 }
 
--- the place behind these bytes
+-- the place after these bytes
 abbrev pub place_after : Place → List ℕ → Place
 place_after place [] = place
 place_after place (byte ∷ bytes) = place_after (next_place place byte) bytes
@@ -49,7 +49,7 @@ parts_from zero place (byte ∷ bytes) =
     with_part (record { kind = piece.kind; text = byte ∷ take (piece.size - 1) bytes; place = place })
     (parts_from (piece.size - 1) (next_place place byte) bytes))
 
--- what stands behind a byte order mark at the very beginning
+-- what stands after a byte order mark at the very beginning
 abbrev pub behind_mark : List ℕ → List ℕ
 behind_mark text = if bytes_eq (take 3 text) (239 ∷ 187 ∷ 191 ∷ []) then drop 3 text else text
 
@@ -63,7 +63,7 @@ abbrev pub tokens_in : List Part → List Token
 tokens_in [] = []
 tokens_in (part ∷ parts) = token_of part part.kind ++ tokens_in parts
 
--- the token behind all others, at the place behind the last byte
+-- the token after all others, at the place after the last byte
 abbrev pub end_token : Place → Token
 end_token place = record { kind = kind.End; text = []; place = place }
 

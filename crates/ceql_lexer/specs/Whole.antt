@@ -10,7 +10,7 @@ use Rattle.ceql_lexer.specs.Letters.{continues_word, is_in_line}
 use Rattle.ceql_lexer.specs.Numerals.{decimals_at}
 use Rattle.ceql_lexer.specs.Tokens.{Part, end_token, first_place, place_after, tokens_in}
 
--- the bytes of the parts, one part behind the other
+-- the bytes of the parts, one part after the other
 abbrev pub text_of_parts : List Part → List ℕ
 text_of_parts [] = []
 text_of_parts (part ∷ parts) = part.text ++ text_of_parts parts
@@ -49,7 +49,7 @@ pub record AreWhole (text : List ℕ) (parts : List Part) : Type 0 where
   pub placed : AreAtPlaces first_place parts
   pub longest : AreLongest parts
 
--- The tokens are those of the text's parts, and then the end at the place behind the last byte.
+-- The tokens are those of the text's parts, and then the end at the place after the last byte.
 pub record IsCut (text : List ℕ) (tokens : List Token) : Type 0 where
   pub parts : List Part
   pub whole : AreWhole text parts

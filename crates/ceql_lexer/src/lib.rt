@@ -32,7 +32,7 @@ pub enum LexFault {
     NumberTooLarge,
     /// The string is closed, but its bytes are not UTF-8. Its place is the opening quote's.
     NotUtf8,
-    /// More than 9 digits stand behind the point, in range or not. Its place is the number's
+    /// More than 9 digits stand after the point, in range or not. Its place is the number's
     /// first byte.
     TooFine,
 }
@@ -52,7 +52,7 @@ pub enum TokenKind {
     Keyword,
     /// A whole number in signed 64 bits.
     Number,
-    /// A number with 1 to 9 digits behind its point; without the point it is in signed 64 bits.
+    /// A number with 1 to 9 digits after its point; without the point it is in signed 64 bits.
     Decimal,
     /// A string with its two quotes, and with inner quotes still doubled.
     Quoted,

@@ -20,7 +20,7 @@ fn digits_len(text: &[u8]) -> usize
     text.iter().take_while(|byte| byte.is_ascii_digit()).count()
 }
 
-/// The digits behind a point at the front, none where no point stands there.
+/// The digits after a point at the front, none where no point stands there.
 fn decimals_at(text: &[u8]) -> &[u8]
     ensures value { result.now ≡ decimals_at text.now }
     ensures within { 0 < length result.now → length result.now < length text.now }
@@ -31,7 +31,7 @@ fn decimals_at(text: &[u8]) -> &[u8]
     }
 }
 
-/// Whether the number that the digits write is in signed 64 bits, behind so many bytes of sign.
+/// Whether the number that the digits write is in signed 64 bits, after so many bytes of sign.
 fn is_in_range(sign: usize, whole: &[u8], decimals: &[u8]) -> bool
     ensures { result ≡ nat_le (read_on (read_on 0 whole.now) decimals.now) (farthest (nat_lt 0 sign)) }
 {
@@ -56,7 +56,7 @@ fn number_of(sign: usize, whole: usize, decimals: usize) -> Piece
     }
 }
 
-/// The longest number whose digits are at the front, behind so many bytes of sign.
+/// The longest number whose digits are at the front, after so many bytes of sign.
 #[tactic(auto, unfolding(crate::specs::Fronts::number_at))]
 pub fn number_at(sign: usize, text: &[u8]) -> Result<Piece, LexFault>
     requires digit { 0 < prefix_len is_ascii_digit text.now }

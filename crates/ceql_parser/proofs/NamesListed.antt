@@ -1,4 +1,4 @@
--- The names of a formula, one part of it behind the other.
+-- The names of a formula, one part of it after the other.
 use Rattle.std.proofs.Common.{◌≡◌, refl, sym, ap, ◌∙◌, ℕ, Bool, true, false, ◌||◌, List, [], ◌∷◌, ◌++◌}
 use Rattle.std.specs.Prelude.{Vec, Box, bytes_eq, flat_map}
 use Rattle.std.specs.declared.alloc.Global.{Global}

@@ -54,7 +54,7 @@ one_text_answer text a b (short l h) (short m k) = one_of_lexed (tokens_of text)
 pub found_unlexed : (text : List ℕ) (error : LexError) (answer : TextAnswer) → length text ≤ LONGEST_TEXT → tokens_of text ≡ Err error → IsAnswerOfLexed (Err error) answer → IsAnswerOfText text answer
 found_unlexed text error answer l e h = short l (subst (λ lexed. IsAnswerOfLexed lexed answer) (sym e) h)
 
--- the answer behind tokens
+-- the answer after tokens
 pub found_lexed : (text : List ℕ) (tokens : List Token) (answer : TextAnswer) → length text ≤ LONGEST_TEXT → tokens_of text ≡ Ok tokens → IsAnswerOfTokens tokens answer → IsAnswerOfText text answer
 found_lexed text tokens answer l e h = short l (subst (λ lexed. IsAnswerOfLexed lexed answer) (sym e) h)
 
@@ -71,7 +71,7 @@ found_script script (Err (wanted.Fault error)) told schema queries =
     found_checked script.statements script.end (Some error) _ told refl
 found_script script (Err wanted.Memory) told schema queries = tt
 
--- what holds of each answer that is behind holds of what was read
+-- what holds of each answer that is after holds of what was read
 pub where_read : (P Q : TextAnswer → Type 0) (result : Result Accepted (OrMemory QueryError)) → ((answer : TextAnswer) → P answer → Q answer) → WhereAnswered accepted_view result P → WhereAnswered accepted_view result Q
 where_read P Q (Ok a) f h = f (Ok (accepted_view a)) h
 where_read P Q (Err (wanted.Fault error)) f h = f (Err error) h

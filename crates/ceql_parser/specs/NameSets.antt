@@ -8,6 +8,6 @@ use Rattle.cel_terms.specs.Checked.{names_of}
 pub record HaveSameNames (names others : List (List ℕ)) : Type 0 where
   pub at : (name : List ℕ) → lists_name names name ≡ lists_name others name
 
--- the names of the formula behind a `;` or a `:`
+-- the names of the formula after a `;` or a `:`
 abbrev pub names_of_link : Link → List (List ℕ)
 names_of_link link = names_of (out-Link link).next

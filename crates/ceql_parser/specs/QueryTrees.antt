@@ -6,7 +6,7 @@ use Rattle.cel_terms.specs.declared.Query.{Query}
 use Rattle.cel_terms.specs.declared.Window.{Window}
 use Rattle.ceql_grammar.specs.Trees.{FormulaTree, formula_tree}
 
--- What a query says. `any` is the number behind ANY.
+-- What a query says. `any` is the number after ANY.
 pub record QueryTree : Type 0 where
   pub strict : Bool
   pub any : Option ℕ

@@ -40,7 +40,7 @@ declaring schema (said.Event name attrs) = with_type schema name.text (map attr_
 declaring schema (said.Stream name types) = with_stream schema name.text (numbers_of schema types)
 declaring schema (said.Select s) = schema
 
--- the query of a SELECT, with the number behind its ANY
+-- the query of a SELECT, with the number after its ANY
 abbrev pub query_said : Select → Query
 query_said s = record s.query { any = option_and_then (λ number. count_of number.value) s.any }
 

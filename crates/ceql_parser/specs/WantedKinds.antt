@@ -1,8 +1,8 @@
 -- Which kinds of an attribute serve.
 use Rattle.std.specs.Prelude.{Bool}
 use Rattle.stream_schema.specs.declared.Kind.{Kind}
-use Rattle.ceql_parser.specs.declared.type_tests.Wanted.{Wanted}
-use Rattle.ceql_parser.specs.declared.type_tests.Wanted.TheVariants as wanted
+use Rattle.ceql_parser.specs.declared.schema_lookups.Wanted.{Wanted}
+use Rattle.ceql_parser.specs.declared.schema_lookups.Wanted.TheVariants as wanted
 use Rattle.ceql_parser.specs.TypesAsked.{any_kind, is_whole, are_alike}
 
 abbrev pub serves : Wanted → Kind → Bool

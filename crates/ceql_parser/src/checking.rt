@@ -46,7 +46,7 @@ fn queries_in(statement: &Statement) -> u64
 }
 
 /// What the statements declare, each checked with what those before it declare, and `end` being the place
-/// just behind the text.
+/// just after the text.
 ///
 /// Errors: the first fault of the first statement that has one; `NoQuery` at the end where there is no
 /// query. Besides only `Memory`, where an allocation is refused.
@@ -82,7 +82,7 @@ fn any_of(any: Option<NumberAt>) -> Option<u64>
     }
 }
 
-/// The query of the SELECT, with the number behind its ANY.
+/// The query of the SELECT, with the number after its ANY.
 fn query_said(select: Select) -> Query
     ensures { result ≡ query_said select }
 {
@@ -92,7 +92,7 @@ fn query_said(select: Select) -> Query
     }
 }
 
-/// Puts the query of a SELECT behind the others.
+/// Puts the query of a SELECT after the others.
 fn add_query(queries: &mut Vec<Query>, statement: Statement) -> Result<(), Memory>
     ensures { OnOk result (queries.new.items ≡ queries.old.items ++ queries_of (statement ∷ [])) }
 {

@@ -13,7 +13,7 @@ ghost use Rattle.ceql_parser.specs.ScriptFaults.{kind_declared, attr_declared, d
 
 use crate::name_sets::NameSet;
 use crate::refusals::{Checked, Wrong, unless, unless_named};
-use crate::type_tests::{is_taken, is_type};
+use crate::schema_lookups::{is_taken, is_type};
 use cel_terms::{Name, Names};
 use ceql_grammar::{AttrDecl, AttrDecls, KindDecl, QueryFault};
 use cer_base::limits::MOST_PLACES;
@@ -140,7 +140,7 @@ fn check_stream(alloc: Global, schema: &Schema, name: &Name, types: &[Name]) -> 
     }
 }
 
-fn kind_of(kind: KindDecl) -> Kind
+fn kind_declared(kind: KindDecl) -> Kind
     ensures { result ≡ kind_declared kind }
 {
     match kind {
@@ -156,7 +156,7 @@ fn attr_of(alloc: Global, attr: &AttrDecl) -> Result<Attr, Memory>
 {
     Ok(Attr {
         name: Text::copy_of(alloc, attr.name.text.as_str())?,
-        kind: kind_of(attr.kind),
+        kind: kind_declared(attr.kind),
     })
 }
 

@@ -5,8 +5,8 @@ ghost use Rattle.ceql_parser.specs.FirstFaults.{first_in, FindsFault};
 ghost use Rattle.ceql_parser.specs.FormulaFaults.{filter_fault, name_fault, pred_fault};
 ghost use Rattle.std.specs.Option.{option_or};
 
+use crate::name_checks::name_known;
 use crate::name_sets::NameSet;
-use crate::name_tests::name_known;
 use crate::pred_checks::check_pred;
 use crate::query_types::QueryTypes;
 use crate::refusals::Checked;

@@ -11,8 +11,8 @@ ghost use Rattle.ceql_parser.specs.FormulaFaults.{name_fault, filter_fault, post
 ghost use Rattle.ceql_parser.specs.LinksAndCounts.{link_fault};
 
 use crate::filter_checks::check_filters;
+use crate::name_checks::names_known;
 use crate::name_sets::NameSet;
-use crate::name_tests::names_known;
 use crate::query_types::QueryTypes;
 use crate::refusals::{Checked, Wrong, unless_named};
 use cel_terms::{Filter, Formula, Link, Name, Postfix};
@@ -21,7 +21,7 @@ use cer_base::{Memory, OrMemory};
 use std::alloc::Global;
 
 /// The names of what is checked, or its first fault.
-pub type Named = Result<NameSet, OrMemory<QueryError>>;
+pub type NamesOrFault = Result<NameSet, OrMemory<QueryError>>;
 
 /// Answers the fault of a name after AS.
 fn check_new(alloc: Global, types: &QueryTypes, name: &Name) -> Checked
@@ -39,7 +39,7 @@ fn check_type(alloc: Global, types: &QueryTypes, name: &Name) -> Checked
     unless_named(alloc, known, Wrong::UnknownType, name)
 }
 
-fn check_named_type(alloc: Global, types: &QueryTypes, name: &Name) -> Named
+fn check_named_type(alloc: Global, types: &QueryTypes, name: &Name) -> NamesOrFault
     ensures told { FindsFault result (unless_named (is_type_name types.now name.now.text) UnknownType name.now) }
     ensures names { IfOk result (λ names. HaveSameNames names (name.now.text ∷ [])) }
 {
@@ -111,7 +111,7 @@ fn check_postfixes(
     types: &QueryTypes,
     names: NameSet,
     postfixes: &[Postfix],
-) -> Named
+) -> NamesOrFault
     ensures told { FindsFault result (postfixes_fault types.now names postfixes.now) }
     ensures names { IfOk result (λ left. HaveSameNames left (names_after names postfixes.now)) }
 {
@@ -126,7 +126,12 @@ fn check_postfixes(
 }
 
 /// Answers the first fault of filters of a formula with these names, and hands the names back.
-fn check_filtered(alloc: Global, types: &QueryTypes, names: NameSet, filters: &[Filter]) -> Named
+fn check_filtered(
+    alloc: Global,
+    types: &QueryTypes,
+    names: NameSet,
+    filters: &[Filter],
+) -> NamesOrFault
     ensures told { FindsFault result (first_in (filter_fault types.now names) filters.now) }
     ensures names { IfOk result (λ same. same ≡ names) }
 {
@@ -152,7 +157,7 @@ fn add_formula(alloc: Global, types: &QueryTypes, names: &mut NameSet, formula: 
 }
 
 #[cycle(formulas)]
-fn check_formulas(alloc: Global, types: &QueryTypes, formulas: &[Formula]) -> Named
+fn check_formulas(alloc: Global, types: &QueryTypes, formulas: &[Formula]) -> NamesOrFault
     ensures told { FindsFault result (first_in (formula_fault types.now) formulas.now) }
     ensures names { IfOk result (λ names. HaveSameNames names (flat_map names_of formulas.now)) }
 {
@@ -168,7 +173,7 @@ fn check_formulas(alloc: Global, types: &QueryTypes, formulas: &[Formula]) -> Na
 
 /// The names that stand before links and those of the links, or the links' first fault.
 #[cycle(formulas)]
-fn check_links(alloc: Global, types: &QueryTypes, before: NameSet, links: &[Link]) -> Named
+fn check_links(alloc: Global, types: &QueryTypes, before: NameSet, links: &[Link]) -> NamesOrFault
     ensures told { FindsFault result (first_in (link_fault types.now) links.now) }
     ensures names { IfOk result (λ names. HaveSameNames names (before ++ flat_map names_of_link links.now)) }
 {
@@ -184,7 +189,7 @@ fn check_links(alloc: Global, types: &QueryTypes, before: NameSet, links: &[Link
 
 /// The names of the formula, read with the types of these numbers, or its first fault.
 #[cycle(formulas)]
-pub fn check_formula(alloc: Global, types: &QueryTypes, formula: &Formula) -> Named
+pub fn check_formula(alloc: Global, types: &QueryTypes, formula: &Formula) -> NamesOrFault
     ensures told { FindsFault result (formula_fault types.now formula.now) }
     ensures names { IfOk result (λ names. HaveSameNames names (names_of formula.now)) }
 {

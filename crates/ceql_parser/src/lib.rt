@@ -14,15 +14,15 @@ mod declaring;
 mod filter_checks;
 mod formula_checks;
 mod leaf_counts;
+mod name_checks;
 mod name_sets;
-mod name_tests;
 mod pred_checks;
 pub mod promises;
 mod query_texts;
 mod query_types;
 mod refusals;
+mod schema_lookups;
 mod select_checks;
-mod type_tests;
 
 pub use ceql_grammar::{
     AttrDecl, AttrDecls, KindDecl, NumberAt, QueryError, QueryFault, Script, Select, Statement,

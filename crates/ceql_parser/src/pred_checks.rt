@@ -8,7 +8,7 @@ ghost use Rattle.ceql_parser.specs.FormulaFaults.{comparison_fault, pred_fault};
 
 use crate::query_types::QueryTypes;
 use crate::refusals::{Checked, Wrong, unless, unless_named};
-use crate::type_tests::{Wanted, kind_of};
+use crate::schema_lookups::{Wanted, kind_of};
 use cel_terms::{Name, Op, Pred};
 use ceql_grammar::QueryFault;
 use std::alloc::Global;

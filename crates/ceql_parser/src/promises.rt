@@ -14,7 +14,7 @@ pub fn lawful_formulas_are_checked()
 {}
 
 /// The queries of lawful statements in which no fault is found are checked for what all the statements
-/// declare, those behind them too.
+/// declare, those after them too.
 pub fn lawful_queries_are_checked()
     ensures { LawfulQueriesAreChecked }
 {}

@@ -8,7 +8,7 @@ ghost use Rattle.ceql_parser.specs.TypesAsked.{types_at, is_type_name, some_has_
 ghost use Rattle.ceql_parser.specs.WantedKinds.{serves};
 
 use crate::name_sets::NameSet;
-use crate::type_tests::{Wanted, each_has_attr, some_has_attr, types_in};
+use crate::schema_lookups::{Wanted, each_has_attr, some_has_attr, types_in};
 use cel_terms::Name;
 use cer_base::Memory;
 use indexmap::IndexSet;

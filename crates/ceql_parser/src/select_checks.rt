@@ -11,12 +11,12 @@ ghost use Rattle.ceql_parser.specs.FormulaFaults.{formula_fault};
 
 use crate::formula_checks::check_formula;
 use crate::leaf_counts::leaf_count;
+use crate::name_checks::names_known;
 use crate::name_sets::NameSet;
-use crate::name_tests::names_known;
 use crate::pred_checks::check_known;
 use crate::query_types::QueryTypes;
 use crate::refusals::{Checked, Wrong, unless, unless_named};
-use crate::type_tests::{Wanted, is_stream};
+use crate::schema_lookups::{Wanted, is_stream};
 use cel_terms::{Name, Names, Query, Window};
 use ceql_grammar::{NumberAt, QueryFault, Select};
 use cer_base::limits::{MOST_LEAVES, MOST_QUERIES};

@@ -1,4 +1,4 @@
-//! What is asked of the types that a query reads, which are given by their numbers.
+//! Look-ups in a schema: of names, and of the attributes of types that are given by their numbers.
 
 ghost use Rattle.std.specs.Prelude.{◌≡◌, ℕ, List, true, false, ◌&&◌, bytes_eq, slice_get};
 ghost use Rattle.std.specs.List.{list_any, list_all, filter_map};

@@ -7,7 +7,8 @@ use Rattle.event_reader.specs.declared.LineFault.TheVariants.{ReadFault, LineToo
 use Rattle.event_reader.specs.declared.reader.Next.{Next}
 use Rattle.event_reader.specs.declared.reader.Next.TheVariants.{Line, End}
 use Rattle.event_reader.specs.Lines.{file_lines, text_of}
-use Rattle.event_reader.specs.Windows.{has_feed, Held, IsFirstFeed, IsShort, ReadsOn, IsAtEnd}
+use Rattle.cer_outside.specs.Bytes.{ReadsOn, IsAtEnd}
+use Rattle.event_reader.specs.Windows.{has_feed, Held, IsFirstFeed, IsShort}
 use Rattle.event_reader.specs.Reading.{Reader, HasGiven, Follows}
 use Rattle.event_reader.proofs.GivenLines.{given_line, given_last, all_ended, all_at_end, all_long, all_full, cut_off, given_first}
 

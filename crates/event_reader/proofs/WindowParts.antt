@@ -5,10 +5,10 @@ use Rattle.std.proofs.lemmas.List.{length-drop, length-take, take-take, drop-tak
 use Rattle.std.proofs.Math.Seq.{take-add, take-append-add}
 use Rattle.std.proofs.lemmas.List.Folds.{list_any-append, list_any_none}
 use Rattle.std.specs.List.{list_any}
-use Rattle.cer_outside.specs.Bytes.{Reads}
+use Rattle.cer_outside.specs.Bytes.{Reads, ReadsOn}
 use Rattle.std.proofs.lemmas.Grind.{get_or_default_zero}
 use Rattle.memchr.specs.Find.{NoneBefore, Nowhere, Passes, is_byte}
-use Rattle.event_reader.specs.Windows.{has_feed, Held, between, IsWindow, IsFirstFeed, IsShort, ReadsOn}
+use Rattle.event_reader.specs.Windows.{has_feed, Held, between, IsWindow, IsFirstFeed, IsShort}
 use Rattle.event_reader.proofs.LineBytes.{neither, any_take}
 use Rattle.event_reader.proofs.Texts.{by_cases}
 

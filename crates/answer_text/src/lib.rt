@@ -51,7 +51,8 @@ pub fn line(
     end: Pos,
     positions: &[Pos],
 ) -> Result<Vec<u8>, Memory>
-    ensures { IfOk result (λ v. v.items ≡ line query end (record { start = start; marks = positions.now })) }
+    ensures { IfOk result (λ v.
+        v.items ≡ line query end (record { start = start; marks = positions.now })) }
 {
     let mut text = Vec::new(alloc);
     push_number(&mut text, query)?;

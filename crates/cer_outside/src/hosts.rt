@@ -73,8 +73,10 @@ impl Host for MemHost {
     /// Exactly the chosen calls fail, and those for a name that it lacks.
     fn take_file(&mut self, alloc: Global, name: &str) -> Result<MemSource, OpenError>
         ensures fresh { IfOk result (λ source. source.faults ≡ 0) }
-        ensures bytes { IfOk result (λ s. HasOpened (content_under self.old.files name.now) (Some s.left)) }
-        ensures kept { (any : List ℕ) → content_under self.new.files any ≡ content_under self.old.files any }
+        ensures bytes { IfOk result (λ s.
+            HasOpened (content_under self.old.files name.now) (Some s.left)) }
+        ensures kept { (any : List ℕ) →
+            content_under self.new.files any ≡ content_under self.old.files any }
         ensures cause { HasOpenCause name.now (faults_under self.old.files self.old.others)
             (faults_under self.new.files self.new.others) result }
         ensures opened { self.new.calls ≡ after_call self.old.calls }
@@ -136,12 +138,15 @@ impl Host for SureHost {
     /// Exactly the calls for a name that it lacks fail.
     fn take_file(&mut self, alloc: Global, name: &str) -> Result<SureSource, OpenError>
         ensures fresh { IfOk result (λ s. ⟦<SureSource as Source>⟧.faults s ≡ 0) }
-        ensures bytes { IfOk result (λ s. HasOpened (content_under self.old.files name.now) (Some s.left)) }
-        ensures kept { (any : List ℕ) → content_under self.new.files any ≡ content_under self.old.files any }
+        ensures bytes { IfOk result (λ s.
+            HasOpened (content_under self.old.files name.now) (Some s.left)) }
+        ensures kept { (any : List ℕ) →
+            content_under self.new.files any ≡ content_under self.old.files any }
         ensures cause { HasOpenCause name.now (sure_faults_under self.old.files self.old.others)
             (sure_faults_under self.new.files self.new.others) result }
         ensures opened { self.new ≡ sure_with_fault name.now self.old }
-        ensures fails { result ≡ Err OpenError.Failed ↔ (file_under self.old.files name.now ≡ None) }
+        ensures fails { result ≡ Err OpenError.Failed
+            ↔ (file_under self.old.files name.now ≡ None) }
         ensures source { IfOk result (λ source. IfSome (file_under self.old.files name.now)
             (λ file. source ≡ record { left = file.bytes; piece = file.piece })) }
     {

@@ -25,7 +25,8 @@ pub fn read_sure(source: &mut SureSource, into: &mut [u8]) -> Result<usize, Fail
 pub fn take_known(host: &mut SureHost, alloc: Global, name: &str) -> Result<SureSource, OpenError>
     requires { IsSome (file_under host.old.files name.now) }
     ensures memory { IfErr result (λ e. e ≡ wanted.Memory) }
-    ensures bytes { IfOk result (λ s. HasOpened (content_under host.old.files name.now) (Some s.left)) }
+    ensures bytes { IfOk result (λ s.
+        HasOpened (content_under host.old.files name.now) (Some s.left)) }
 {
     host.take_file(alloc, name)
 }

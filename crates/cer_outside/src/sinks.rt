@@ -34,7 +34,8 @@ impl Model for MemSink {
       faults = s.faults;
     } };
 
-    ghost invariant = { λ s. (vec_len s.taken ≤ s.room) × (s.room ≤ vec_capacity s.taken) × (0 < s.piece) };
+    ghost invariant = { λ s. (vec_len s.taken ≤ s.room)
+        × (s.room ≤ vec_capacity s.taken) × (0 < s.piece) };
 }
 
 impl MemSink {

@@ -116,7 +116,8 @@ impl Source for SureSource {
         ensures succeeds { IsOk result }
         ensures count { IfOk result (λ n. n ≡ read_count self.old.piece into.old self.old.left) }
         ensures buffer { into.new ≡ buffer_after self.old.left into.old result }
-        ensures after { IfOk result (λ n. self.new ≡ record self.old { left = drop n self.old.left }) }
+        ensures after { IfOk result (λ n.
+            self.new ≡ record self.old { left = drop n self.old.left }) }
     {
         Ok(self.portions.move_into(into))
     }

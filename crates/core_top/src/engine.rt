@@ -20,7 +20,8 @@ fn write_pair<K: Sink>(
     start: Pos,
     end: Pos,
 ) -> Result<(), OrMemory<WriteFault>>
-    ensures bytes { TookBy (K.taken out.old) (K.taken out.new) (line 1 end (pair end start)) result }
+    ensures bytes { TookBy (K.taken out.old) (K.taken out.new)
+        (line 1 end (pair end start)) result }
     ensures cause { HasCauseOrMemory (K.faults out.old) (K.faults out.new) result }
 {
     let text = line(alloc, 1, start, end, &[start, end])?;

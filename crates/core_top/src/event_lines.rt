@@ -65,7 +65,8 @@ fn next_event<'a>(
     second: &[u8],
 ) -> Result<(Event, &'a [u8]), OrMemory<EventFault>>
     ensures ok { IfOk result (λ x. IsNextEvent first.now second.now text.now x.0 x.1.now) }
-    ensures refused { result ≡ Err (OrMemory.Fault EventFault.NotYet) → event_at first.now second.now text.now ≡ None }
+    ensures refused { result ≡ Err (OrMemory.Fault EventFault.NotYet)
+        → event_at first.now second.now text.now ≡ None }
 {
     match event_line(text, first, second) {
         None => Err(OrMemory::Fault(EventFault::NotYet)),
@@ -80,8 +81,12 @@ pub fn event_lines(
     first: &[u8],
     second: &[u8],
 ) -> Result<Vec<Event>, OrMemory<EventFault>>
-    ensures ok { IfOk result (λ events. (n : Names) → n.first_type ≡ first.now → n.second_type ≡ second.now → AreLinesOf n events.items bytes.now) }
-    ensures refused { result ≡ Err (OrMemory.Fault EventFault.NotYet) → (n : Names) → n.first_type ≡ first.now → n.second_type ≡ second.now → AreNames n → (events : List Event) → AreLinesOf n events bytes.now → ⊥ }
+    ensures ok { IfOk result (λ events.
+        (n : Names) → n.first_type ≡ first.now → n.second_type ≡ second.now
+        → AreLinesOf n events.items bytes.now) }
+    ensures refused { result ≡ Err (OrMemory.Fault EventFault.NotYet)
+        → (n : Names) → n.first_type ≡ first.now → n.second_type ≡ second.now → AreNames n
+        → (events : List Event) → AreLinesOf n events bytes.now → ⊥ }
 {
     let mut events = Vec::new(alloc);
     let mut rest = bytes;

@@ -5,7 +5,7 @@ ghost use Rattle.cer_outside.specs.Causes.{AllStay};
 ghost use Rattle.core_top.specs.SourceBytes.{AreFirstOf};
 ghost use Rattle.core_top.specs.Run.{ReadingStops, StopCounts};
 
-use super::files::read_whole;
+use super::files::{MOST_READ, read_whole};
 use super::{Cause, File};
 use cer_base::OrMemory;
 use cer_outside::{Host, OpenError, Source};
@@ -39,8 +39,10 @@ pub fn take_whole<H: Host>(
     file: File,
     name: &str,
 ) -> Result<Vec<u8>, Stop<H::Src>>
-    ensures bytes { IfOk result (λ bytes. AreFirstOf 1048577 (H.content host.old name.now) bytes.items) }
-    ensures stop { IfErr result (λ stop. ReadingStops (record { faults = H.Src.faults; left = H.Src.left })
+    ensures bytes { IfOk result (λ bytes.
+        AreFirstOf MOST_READ (H.content host.old name.now) bytes.items) }
+    ensures stop { IfErr result (λ stop.
+        ReadingStops (record { faults = H.Src.faults; left = H.Src.left })
         file (H.content host.old name.now)
         (H.faults host.old name.now) (H.faults host.new name.now) stop.cause stop.failed) }
     ensures counts { IfOk result (λ bytes. AllStay (H.faults host.old) (H.faults host.new)) }

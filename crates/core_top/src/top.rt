@@ -37,7 +37,8 @@ pub fn core_main<H: Host, K: Sink, N: Sink, L: Ledger>(
 ) -> Done<H::Src>
     // The headline: with status 0 the output has taken exactly the answers; and what it has taken
     // after each other cause.
-    ensures wrote { Wrote result.cause (AreRunAnswers (map string_bytes words.items) (H.content host.old))
+    ensures wrote { Wrote result.cause
+        (AreRunAnswers (map string_bytes words.items) (H.content host.old))
         (K.taken out.old) (K.taken out.new) }
     ensures status { result.status ≡ status_of result.cause }
 
@@ -52,7 +53,8 @@ pub fn core_main<H: Host, K: Sink, N: Sink, L: Ledger>(
         → H.content host.old queries ≡ Holds text
         → H.content host.old events ≡ Holds lines
         → Exactly result.cause (Cause.Event line fault) (IsStopped text lines line fault) }
-    ensures open_fault { (file : File) (before after : ℕ) → result.cause ≡ Cause.OpenFault file before after
+    ensures open_fault { (file : File) (before after : ℕ)
+        → result.cause ≡ Cause.OpenFault file before after
         → HasOpenFault (map string_bytes words.items) (H.content host.old)
         (H.faults host.old) (H.faults host.new) file before after }
     ensures read_fault { (file : File) (after : ℕ) → result.cause ≡ Cause.ReadFault file after
@@ -80,12 +82,13 @@ pub fn core_main<H: Host, K: Sink, N: Sink, L: Ledger>(
         → OpensInTurn H.opens (H.content host.old queries) queries events result.cause
         host.old host.new }
     ensures unopened { AskNothing (map string_bytes words.items) → host.new ≡ host.old }
-    ensures counts_opens { (queries events : List ℕ) → IsRun (map string_bytes words.items) queries events
+    ensures counts_opens { (queries events : List ℕ)
+        → IsRun (map string_bytes words.items) queries events
         → CountsOpens result.cause queries events (H.faults host.old) (H.faults host.new) }
     ensures counts_writes { CountsWrites result.cause (K.faults out.old) (K.faults out.new) }
 
-    ensures note { TookNote (N.taken notes.old) (N.taken notes.new) (N.faults notes.old) (N.faults notes.new)
-        (note_of result.cause) }
+    ensures note { TookNote (N.taken notes.old) (N.taken notes.new)
+        (N.faults notes.old) (N.faults notes.new) (note_of result.cause) }
     ensures kept { (name : List ℕ) → H.content host.new name ≡ H.content host.old name }
     ensures counted { steps.new ≡ steps.old }
 {

@@ -1,13 +1,12 @@
 -- The first file of a name, by its place, and what stays where one fault of a name is counted.
 use Rattle.std.proofs.Common.{◌≡◌, ℕ, ◌+◌, ◌<◌, ◌⊎◌, inl, inr, suc, List, [], ◌∷◌, length, map, take, drop, ◌++◌, zero, add-one, get_or, Option, Some, None, Bool, true, false, not, refl, sym, ◌∙◌, ap, subst, arith, cond, is_some, IfSome}
-use Rattle.std.specs.List.{position, find, position_or_len}
-use Rattle.std.specs.Prelude.{slice_get}
+use Rattle.std.specs.List.{position, position_or_len}
 use Rattle.std.proofs.Math.ListN.{set}
 use Rattle.std.proofs.lemmas.Grind.{common_steps}
 use Rattle.std.proofs.lemmas.Bool.{ltb-true, ltb-false}
 use Rattle.std.proofs.lemmas.List.Folds.{find_at}
 use Rattle.std.proofs.lemmas.Option.{slice_get-get_or, slice_get_past}
-use Rattle.cer_outside.specs.Causes.{one_more, Rose, AllStay, RoseAt}
+use Rattle.cer_outside.specs.Causes.{one_more, Rose, RoseAt}
 use Rattle.cer_outside.specs.States.{CallState, PortionState, SourceState, FileState, HostState, SureHostState}
 use Rattle.cer_outside.specs.Content.{HasOpened}
 use Rattle.cer_outside.specs.Calls.{FailsNext, OpenFails, source_of}

@@ -1,5 +1,5 @@
 -- What one call does to the objects in memory, exactly.
-use Rattle.std.specs.Prelude.{◌≡◌, ℕ, ◌-◌, ◌≤◌, ◌⊎◌, min, List, ◌++◌, length, take, drop, Contains, Option, Some, None, Result, Ok, Err}
+use Rattle.std.specs.Prelude.{◌≡◌, ℕ, ◌-◌, ◌≤◌, ◌⊎◌, min, List, ◌++◌, length, take, drop, Contains, None, Result, Ok, Err}
 use Rattle.cer_outside.specs.declared.OpenError.{OpenError}
 use Rattle.cer_outside.specs.declared.OpenError.TheVariants.{Failed, Memory}
 use Rattle.cer_outside.specs.Causes.{one_more}

@@ -11,7 +11,7 @@ use Rattle.core_top.specs.declared.Cause.{Cause}
 use Rattle.core_top.specs.declared.Cause.TheVariants as cause
 use Rattle.core_top.specs.FirstForm.{Names, IsQueryFile, IsEventFile}
 use Rattle.core_top.specs.Command.{IsRun}
-use Rattle.core_top.specs.Causes.{IsAccepted, IsRefused, IsStopped, IsFromOutside, IsFineOrOutside, IsReading, EndsWithout, name_of}
+use Rattle.core_top.specs.Causes.{IsAcceptedText, IsRefusedText, IsStopped, IsFromOutside, IsFineOrOutside, IsReading, EndsWithout, name_of}
 use Rattle.core_top.specs.Output.{AreAnswers, AreFileAnswers, AreRunAnswers, Wrote}
 use Rattle.core_top.specs.SourceBytes.{IsRestOf}
 use Rattle.core_top.specs.Run.{Sources, FailedWith, Outside, RunEnds, HasAccepted, WroteNothing}
@@ -28,7 +28,7 @@ pub told : (content : Content) (text : List ℕ) (P : List ℕ → Type 0) → c
 told content text P same fact = let Q : Content → Type 0 = λ w. OfOpened w P in subst Q same fact
 
 -- a text is not both accepted and refused
-pub not_both : (text : List ℕ) (fault : QueryFault) (place : Place) → IsAccepted text → IsRefused text fault place → ⊥
+pub not_both : (text : List ℕ) (fault : QueryFault) (place : Place) → IsAcceptedText text → IsRefusedText text fault place → ⊥
 not_both text fault place accepted refused = refused.other accepted.0 accepted.1
 
 -- an event file is not both accepted and refused
@@ -41,13 +41,13 @@ at_cause {S} sources o given want failed same ends = let P : Cause → Type 0 = 
 
 -- a refused query text has its cause
 pub queries_whenever : {S : Type 0} (sources : Sources S) (o : Outside) (given : Cause) (failed : Option S) (text : List ℕ) (fault : QueryFault) (place : Place) →
-    o.content o.queries ≡ Holds text → RunEnds sources o given failed → IsRefused text fault place → (given ≡ cause.Queries fault place) ⊎ IsFromOutside given
-queries_whenever sources o cause.Fine failed text fault place same ends refused = absurd (not_both text fault place (told _ text IsAccepted same ends.1) refused)
+    o.content o.queries ≡ Holds text → RunEnds sources o given failed → IsRefusedText text fault place → (given ≡ cause.Queries fault place) ⊎ IsFromOutside given
+queries_whenever sources o cause.Fine failed text fault place same ends refused = absurd (not_both text fault place (told _ text IsAcceptedText same ends.1) refused)
 queries_whenever sources o cause.Usage failed text fault place same ends refused = absurd ends
 queries_whenever sources o (cause.Queries other there) failed text fault place same ends refused =
-    let had = told _ text (λ w. IsRefused w other there) same ends.2 in
+    let had = told _ text (λ w. IsRefusedText w other there) same ends.2 in
     inl (ap (λ f. cause.Queries f there) (had.not_yet ∙ sym refused.not_yet) ∙ ap (λ p. cause.Queries fault p) (had.at_start ∙ sym refused.at_start))
-queries_whenever sources o (cause.Event line other) failed text fault place same ends refused = absurd (not_both text fault place (told _ text IsAccepted same ends.2) refused)
+queries_whenever sources o (cause.Event line other) failed text fault place same ends refused = absurd (not_both text fault place (told _ text IsAcceptedText same ends.2) refused)
 queries_whenever sources o (cause.OpenFault opened before after) failed text fault place same ends refused = inr tt
 queries_whenever sources o (cause.ReadFault read after) failed text fault place same ends refused = inr tt
 queries_whenever sources o (cause.WriteFault before after) failed text fault place same ends refused = inr tt
@@ -58,7 +58,7 @@ pub event_whenever : {S : Type 0} (sources : Sources S) (o : Outside) (given : C
     o.content o.queries ≡ Holds text → o.content o.events ≡ Holds lines → RunEnds sources o given failed → IsStopped text lines line fault → (given ≡ cause.Event line fault) ⊎ IsFromOutside given
 event_whenever sources o cause.Fine failed text lines line fault first second ends stopped = absurd (not_stopped text lines _ line fault (ends.2.1.answers text lines first second) stopped)
 event_whenever sources o cause.Usage failed text lines line fault first second ends stopped = absurd ends
-event_whenever sources o (cause.Queries other there) failed text lines line fault first second ends stopped = absurd (not_both text other there stopped.accepted (told _ text (λ w. IsRefused w other there) first ends.2))
+event_whenever sources o (cause.Queries other there) failed text lines line fault first second ends stopped = absurd (not_both text other there stopped.accepted (told _ text (λ w. IsRefusedText w other there) first ends.2))
 event_whenever sources o (cause.Event there other) failed text lines line fault first second ends stopped =
     let had = ends.3 text lines first second in
     inl (ap (λ l. cause.Event l other) (had.at_start ∙ sym stopped.at_start) ∙ ap (λ f. cause.Event line f) (had.not_yet ∙ sym stopped.not_yet))
@@ -72,7 +72,7 @@ pub accepted_ends : {S : Type 0} (sources : Sources S) (o : Outside) (given : Ca
     o.content o.queries ≡ Holds text → o.content o.events ≡ Holds lines → IsQueryFile text n → IsEventFile n lines events → RunEnds sources o given failed → IsFineOrOutside given
 accepted_ends sources o cause.Fine failed text lines n events first second query file ends = tt
 accepted_ends sources o cause.Usage failed text lines n events first second query file ends = absurd ends
-accepted_ends sources o (cause.Queries fault place) failed text lines n events first second query file ends = absurd (not_both text fault place (n, query) (told _ text (λ w. IsRefused w fault place) first ends.2))
+accepted_ends sources o (cause.Queries fault place) failed text lines n events first second query file ends = absurd (not_both text fault place (n, query) (told _ text (λ w. IsRefusedText w fault place) first ends.2))
 accepted_ends sources o (cause.Event line fault) failed text lines n events first second query file ends = absurd ((ends.3 text lines first second).other n query events file)
 accepted_ends sources o (cause.OpenFault opened before after) failed text lines n events first second query file ends = tt
 accepted_ends sources o (cause.ReadFault read after) failed text lines n events first second query file ends = tt
@@ -133,17 +133,17 @@ pub ends_without : {S : Type 0} (sources : Sources S) (o : Outside) (given : Cau
     o.content (name_of lost o.queries o.events) ≡ Missing → RunEnds sources o given failed → EndsWithout lost given × WroteNothing o
 ends_without sources o cause.Fine failed lost missing ends = absurd (not_answered o.content o.queries o.events _ lost missing ends.2.1)
 ends_without sources o cause.Usage failed lost missing ends = absurd ends
-ends_without sources o (cause.Queries fault place) failed file.Queries missing ends = absurd (not_opened _ (λ text. IsRefused text fault place) missing ends.2)
+ends_without sources o (cause.Queries fault place) failed file.Queries missing ends = absurd (not_opened _ (λ text. IsRefusedText text fault place) missing ends.2)
 ends_without sources o (cause.Queries fault place) failed file.Events missing ends = (tt, ends.1)
-ends_without sources o (cause.Event line fault) failed file.Queries missing ends = absurd (not_opened _ IsAccepted missing ends.2)
+ends_without sources o (cause.Event line fault) failed file.Queries missing ends = absurd (not_opened _ IsAcceptedText missing ends.2)
 ends_without sources o (cause.Event line fault) failed file.Events missing ends = absurd (ends.4 missing)
 ends_without sources o (cause.OpenFault file.Queries before after) failed file.Queries missing ends = (inl refl, ends.1)
 ends_without sources o (cause.OpenFault file.Queries before after) failed file.Events missing ends = (inr tt, ends.1)
-ends_without sources o (cause.OpenFault file.Events before after) failed file.Queries missing ends = absurd (not_opened _ IsAccepted missing ends.2)
+ends_without sources o (cause.OpenFault file.Events before after) failed file.Queries missing ends = absurd (not_opened _ IsAcceptedText missing ends.2)
 ends_without sources o (cause.OpenFault file.Events before after) failed file.Events missing ends = (inl refl, ends.1)
 ends_without sources o (cause.ReadFault file.Queries after) failed file.Queries missing ends = absurd (not_read sources _ after failed missing ends.2)
 ends_without sources o (cause.ReadFault file.Queries after) failed file.Events missing ends = (tt, ends.0)
-ends_without sources o (cause.ReadFault file.Events after) failed file.Queries missing ends = absurd (not_opened _ IsAccepted missing ends.1)
+ends_without sources o (cause.ReadFault file.Events after) failed file.Queries missing ends = absurd (not_opened _ IsAcceptedText missing ends.1)
 ends_without sources o (cause.ReadFault file.Events after) failed file.Events missing ends = absurd (not_read sources _ after failed missing ends.2)
 ends_without sources o (cause.WriteFault before after) failed lost missing ends = absurd (not_answered o.content o.queries o.events _ lost missing ends.5.1)
 ends_without sources o cause.Memory failed lost missing ends =

@@ -19,7 +19,7 @@ use Rattle.core_top.specs.FirstForm.{Names, AreNames, IsQueryFile, IsEventFile}
 use Rattle.core_top.specs.Pairs.{pairs_output}
 use Rattle.core_top.specs.Plan.{IsPlanOf}
 use Rattle.core_top.specs.SourceBytes.{AreFirstOf}
-use Rattle.core_top.specs.Causes.{IsAccepted, IsRefused, IsStopped, ComesInTurn, name_of, CountsOpens, CountsWrites}
+use Rattle.core_top.specs.Causes.{IsAcceptedText, IsRefusedText, IsStopped, ComesInTurn, name_of, CountsOpens, CountsWrites}
 use Rattle.core_top.specs.Opening.{files_to, AreOpened, OpensInTurn}
 use Rattle.core_top.specs.Output.{AreFileAnswers}
 use Rattle.core_top.proofs.PairOutput.{pairs_are_output}
@@ -59,13 +59,13 @@ pub only_event_fault : (fault : EventFault) → fault ≡ event_fault.NotYet
 only_event_fault event_fault.NotYet = refl
 
 -- a query file that was refused
-pub refused_text : (content : Content) (read : List ℕ) (fault : QueryFault) → AreFirstOf 1048577 content read → ((n : Names) → IsQueryFile read n → ⊥) → OfOpened content (λ text. IsRefused text fault (record { line = 1; col = 1 }))
+pub refused_text : (content : Content) (read : List ℕ) (fault : QueryFault) → AreFirstOf 1048577 content read → ((n : Names) → IsQueryFile read n → ⊥) → OfOpened content (λ text. IsRefusedText text fault (record { line = 1; col = 1 }))
 refused_text Untold read fault first other = tt
 refused_text Missing read fault first other = first
 refused_text (Holds text) read fault first other = record { not_yet = only_query_fault fault; at_start = refl; other = λ n is. other n (query_file_read text read n first is) }
 
 -- a query file that was accepted
-pub accepted_text : (content : Content) (read : List ℕ) (n : Names) → AreFirstOf 1048577 content read → IsQueryFile read n → OfOpened content IsAccepted
+pub accepted_text : (content : Content) (read : List ℕ) (n : Names) → AreFirstOf 1048577 content read → IsQueryFile read n → OfOpened content IsAcceptedText
 accepted_text Untold read n first is = tt
 accepted_text Missing read n first is = first
 accepted_text (Holds text) read n first is = (n, query_file_whole text read n first is)
@@ -101,7 +101,7 @@ opened_one call text q e given first last are step = record { files = files_to f
 
 -- or both.
 pub opened_both : {H : Type 0} (call : H → List ℕ → H → Type 0) (text : Content) (q e : List ℕ) (given : Cause) (first middle last : H) →
-    AreOpened given (files_to file.Events) → OfOpened text IsAccepted → call first q middle → call middle e last → OpensInTurn call text q e given first last
+    AreOpened given (files_to file.Events) → OfOpened text IsAcceptedText → call first q middle → call middle e last → OpensInTurn call text q e given first last
 opened_both call text q e given first middle last are accepted one other = record {
   files = files_to file.Events;
   told = are;

@@ -10,7 +10,7 @@ use Rattle.core_top.specs.declared.Cause.{Cause}
 use Rattle.core_top.specs.declared.Cause.TheVariants as cause
 use Rattle.core_top.specs.FirstForm.{Names, IsQueryFile, IsEventFile}
 use Rattle.core_top.specs.Command.{IsRun, AskNothing}
-use Rattle.core_top.specs.Causes.{IsRefused, IsStopped, Exactly, IsFineOrOutside, IsReading, HasOpenFault, HasReadFault, HasWriteFault, CountsOpens, CountsWrites, EndsWithout, name_of}
+use Rattle.core_top.specs.Causes.{IsRefusedText, IsStopped, Exactly, IsFineOrOutside, IsReading, HasOpenFault, HasReadFault, HasWriteFault, CountsOpens, CountsWrites, EndsWithout, name_of}
 use Rattle.core_top.specs.Opening.{OpensInTurn}
 use Rattle.core_top.specs.Output.{AreRunAnswers, Wrote}
 use Rattle.core_top.specs.Run.{Sources, Outside, Finished}
@@ -28,13 +28,13 @@ usage_clause sources call words o first last given failed finished =
     ]
 
 pub queries_clause : {S H : Type 0} (sources : Sources S) (call : H → List ℕ → H → Type 0) (words : List (List ℕ)) (o : Outside) (first last : H) (given : Cause) (failed : Option S) → Finished sources call words o first last given failed →
-    (q e text : List ℕ) (fault : QueryFault) (place : Place) → IsRun words q e → o.content q ≡ Holds text → Exactly given (cause.Queries fault place) (IsRefused text fault place)
+    (q e text : List ℕ) (fault : QueryFault) (place : Place) → IsRun words q e → o.content q ≡ Holds text → Exactly given (cause.Queries fault place) (IsRefusedText text fault place)
 queries_clause sources call words o first last given failed finished q e text fault place is told_text =
     elim finished.way [
       | inl run ↦
           let first_told = ap o.content (same_queries words run.0 run.1 q e run.2 is) ∙ told_text in
           record {
-            only = λ same. told _ text (λ w. IsRefused w fault place) first_told (at_cause sources (record o { queries = run.0; events = run.1 }) given (cause.Queries fault place) failed same run.3.holds).2;
+            only = λ same. told _ text (λ w. IsRefusedText w fault place) first_told (at_cause sources (record o { queries = run.0; events = run.1 }) given (cause.Queries fault place) failed same run.3.holds).2;
             whenever = λ refused. queries_whenever sources (record o { queries = run.0; events = run.1 }) given failed text fault place first_told run.3.holds refused;
           }
       | inr none ↦ absurd (none.asked q e is)

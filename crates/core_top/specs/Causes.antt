@@ -44,11 +44,11 @@ pub record Exactly (given answer : Cause) (fact : Type 0) : Type 0 where
   pub whenever : fact → (given ≡ answer) ⊎ IsFromOutside given
 
 -- the query text is of the form that is read
-abbrev pub IsAccepted : List ℕ → Type 0
-IsAccepted text = (names : Names) × IsQueryFile text names
+abbrev pub IsAcceptedText : List ℕ → Type 0
+IsAcceptedText text = (names : Names) × IsQueryFile text names
 
 -- The query text is of another form.
-pub record IsRefused (text : List ℕ) (fault : QueryFault) (place : Place) : Type 0 where
+pub record IsRefusedText (text : List ℕ) (fault : QueryFault) (place : Place) : Type 0 where
   pub not_yet : fault ≡ query_fault.NotYet
   pub at_start : place ≡ record { line = 1; col = 1 }
   pub other : (names : Names) → IsQueryFile text names → ⊥
@@ -57,7 +57,7 @@ pub record IsRefused (text : List ℕ) (fault : QueryFault) (place : Place) : Ty
 pub record IsStopped (text lines : List ℕ) (line : ℕ) (fault : EventFault) : Type 0 where
   pub not_yet : fault ≡ event_fault.NotYet
   pub at_start : line ≡ 1
-  pub accepted : IsAccepted text
+  pub accepted : IsAcceptedText text
   pub other : (names : Names) → IsQueryFile text names → (events : List Event) → IsEventFile names lines events → ⊥
 
 -- the name of the file on the command line
@@ -68,7 +68,7 @@ name_of file.Events queries events = events
 -- the event file is opened only after the query file, whose text, where it is told, is accepted
 abbrev pub ComesInTurn : File → Content → Type 0
 ComesInTurn file.Queries text = Unit {0}
-ComesInTurn file.Events text = OfOpened text IsAccepted
+ComesInTurn file.Events text = OfOpened text IsAcceptedText
 
 -- The host's count for the file's name rose in the call, from before to after.
 pub record HasOpenFault (words : List (List ℕ)) (content : List ℕ → Content) (old new : List ℕ → ℕ) (opened : File) (before after : ℕ) : Type 0 where

@@ -6,7 +6,7 @@ use Rattle.cer_outside.specs.Bytes.{TookAll, TookPart}
 use Rattle.core_top.specs.declared.File.{File}
 use Rattle.core_top.specs.declared.Cause.{Cause}
 use Rattle.core_top.specs.declared.Cause.TheVariants as cause
-use Rattle.core_top.specs.Causes.{IsAccepted, IsRefused, IsStopped, ComesInTurn, name_of, CountsOpens, CountsWrites}
+use Rattle.core_top.specs.Causes.{IsAcceptedText, IsRefusedText, IsStopped, ComesInTurn, name_of, CountsOpens, CountsWrites}
 use Rattle.core_top.specs.Output.{AreFileAnswers}
 use Rattle.core_top.specs.Taken.{TookPrefix}
 use Rattle.core_top.specs.SourceBytes.{IsRestOf}
@@ -50,7 +50,7 @@ pub record Outside : Type 0 where
 
 -- the query text, where it is told, is accepted
 abbrev pub HasAccepted : Outside → Type 0
-HasAccepted o = OfOpened (o.content o.queries) IsAccepted
+HasAccepted o = OfOpened (o.content o.queries) IsAcceptedText
 
 -- the bytes are the answers
 abbrev pub HasAnswers : Outside → List ℕ → Type 0
@@ -64,7 +64,7 @@ WroteNothing o = o.after ≡ o.before
 abbrev pub RunEnds : {S : Type 0} → Sources S → Outside → Cause → Option S → Type 0
 RunEnds sources o cause.Fine failed = (failed ≡ None) × HasAccepted o × ((bytes : List ℕ) × HasAnswers o bytes × TookAll o.before o.after bytes)
 RunEnds sources o cause.Usage failed = ⊥
-RunEnds sources o (cause.Queries fault place) failed = (failed ≡ None) × WroteNothing o × OfOpened (o.content o.queries) (λ text. IsRefused text fault place)
+RunEnds sources o (cause.Queries fault place) failed = (failed ≡ None) × WroteNothing o × OfOpened (o.content o.queries) (λ text. IsRefusedText text fault place)
 RunEnds sources o (cause.Event line fault) failed = (failed ≡ None) × WroteNothing o × HasAccepted o × ((text lines : List ℕ) → o.content o.queries ≡ Holds text → o.content o.events ≡ Holds lines → IsStopped text lines line fault) × (o.content o.events ≢ Missing)
 RunEnds sources o (cause.OpenFault opened from to) failed = (failed ≡ None) × WroteNothing o × ComesInTurn opened (o.content o.queries) × (from ≡ o.old (name_of opened o.queries o.events)) × (to ≡ o.new (name_of opened o.queries o.events)) × Rose from to
 RunEnds sources o (cause.ReadFault read to) failed = WroteNothing o × ComesInTurn read (o.content o.queries) × IsSomeAnd failed (FailedWith sources (o.content (name_of read o.queries o.events)) to)

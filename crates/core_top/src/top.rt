@@ -9,7 +9,7 @@ ghost use Rattle.core_top.specs.declared.EventFault.{EventFault};
 ghost use Rattle.core_top.specs.declared.File.{File};
 ghost use Rattle.core_top.specs.FirstForm.{Names, IsQueryFile, IsEventFile};
 ghost use Rattle.core_top.specs.Command.{IsRun, AskNothing};
-ghost use Rattle.core_top.specs.Causes.{status_of, name_of, Exactly, IsRefused, IsStopped, IsFineOrOutside, IsReading, HasOpenFault, HasReadFault, HasWriteFault, CountsOpens, CountsWrites, EndsWithout};
+ghost use Rattle.core_top.specs.Causes.{status_of, name_of, Exactly, IsRefusedText, IsStopped, IsFineOrOutside, IsReading, HasOpenFault, HasReadFault, HasWriteFault, CountsOpens, CountsWrites, EndsWithout};
 ghost use Rattle.core_top.specs.Opening.{OpensInTurn};
 ghost use Rattle.core_top.specs.Output.{AreRunAnswers, Wrote};
 ghost use Rattle.core_top.specs.Notes.{note_of, TookNote};
@@ -47,7 +47,7 @@ pub fn core_main<H: Host, K: Sink, N: Sink, L: Ledger>(
     ensures queries { (queries events text : List ℕ) (fault : QueryFault) (place : Place)
         → IsRun (map string_bytes words.items) queries events
         → H.content host.old queries ≡ Holds text
-        → Exactly result.cause (Cause.Queries fault place) (IsRefused text fault place) }
+        → Exactly result.cause (Cause.Queries fault place) (IsRefusedText text fault place) }
     ensures event { (queries events text lines : List ℕ) (line : ℕ) (fault : EventFault)
         → IsRun (map string_bytes words.items) queries events
         → H.content host.old queries ≡ Holds text

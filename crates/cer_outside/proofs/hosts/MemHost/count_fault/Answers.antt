@@ -1,10 +1,8 @@
 -- The count of the file at the place, or of the names without a file, is one more.
-use Rattle.std.proofs.Common.{◌≡◌, Some, None, ap, sym, ◌∙◌, cond, is_some, Option}
+use Rattle.std.proofs.Common.{◌≡◌, Some, None, sym}
 use Rattle.std.specs.List.{position}
-use Rattle.cer_outside.specs.Causes.{one_more}
-use Rattle.cer_outside.specs.States.{FileState, HostState}
-use Rattle.cer_outside.specs.Files.{is_named, file_under}
-use Rattle.cer_outside.proofs.Named.{found_file, no_file, file_fault, other_fault}
+use Rattle.cer_outside.specs.Files.{is_named}
+use Rattle.cer_outside.proofs.Named.{file_fault, other_fault}
 use Rattle.cer_outside.proofs.hosts.MemHost.count_fault.Goals as goal
 
 pub returns-in-Some : goal.returns-in-Some

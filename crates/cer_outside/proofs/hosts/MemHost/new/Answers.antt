@@ -1,5 +1,5 @@
-use Rattle.std.proofs.Common.{arith, length}
-use Rattle.cer_outside.proofs.Named.{fresh_more, fresh_all}
+use Rattle.std.proofs.Common.{arith}
+use Rattle.cer_outside.proofs.Named.{fresh_more}
 use Rattle.cer_outside.proofs.hosts.MemHost.new.Goals as goal
 
 pub loop-file-preserved : goal.loop-file-preserved

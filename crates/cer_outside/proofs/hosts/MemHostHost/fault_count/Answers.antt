@@ -1,4 +1,4 @@
-use Rattle.std.proofs.Common.{◌≡◌, Some, None, ap, sym, ◌∙◌}
+use Rattle.std.proofs.Common.{◌≡◌, Some, None, ap, sym}
 use Rattle.std.specs.List.{position}
 use Rattle.cer_outside.specs.Files.{is_named, faults_of}
 use Rattle.cer_outside.proofs.Named.{found_file, no_file}

@@ -1,11 +1,11 @@
 -- The place of the name tells its file, and each way out is that of a call that fails or does not.
-use Rattle.std.proofs.Common.{◌≡◌, Some, None, Err, Ok, ap, sym, subst, ◌∙◌, inl, inr, refl}
+use Rattle.std.proofs.Common.{◌≡◌, Some, None, Err, ap, sym, ◌∙◌, inl, inr, refl}
 use Rattle.std.specs.List.{position}
 use Rattle.std.proofs.lemmas.Result.{err_from_is_err_and}
 use Rattle.cer_outside.specs.declared.OpenError.TheVariants as wanted
-use Rattle.cer_outside.specs.States.{CallState, HostState}
+use Rattle.cer_outside.specs.States.{HostState}
 use Rattle.cer_outside.specs.Calls.{FailsNext, OpenFails}
-use Rattle.cer_outside.specs.Files.{is_named, file_under}
+use Rattle.cer_outside.specs.Files.{is_named}
 use Rattle.cer_outside.proofs.Named.{found_file, no_file, may_open, bytes_found, source_found, content_stays, rose_at}
 use Rattle.cer_outside.proofs.hosts.MemHostHost.take_file.Goals as goal
 use Rattle.cer_outside.proofs.hosts.MemHostHost.take_file.Goals.{in_default-via-in-Some+else-not-fails, in_default-via-in_default}

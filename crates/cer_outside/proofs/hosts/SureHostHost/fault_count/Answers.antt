@@ -1,4 +1,4 @@
-use Rattle.std.proofs.Common.{◌≡◌, [], Some, None, Option, ap, sym, ◌∙◌, cond, is_some}
+use Rattle.std.proofs.Common.{◌≡◌, [], Some, None, Option, ap, sym, cond, is_some}
 use Rattle.std.specs.List.{position}
 use Rattle.cer_outside.specs.States.{FileState}
 use Rattle.cer_outside.specs.Files.{is_named}

@@ -1,12 +1,12 @@
 -- The place of the name tells its file.
-use Rattle.std.proofs.Common.{◌≡◌, Some, None, Err, Ok, ap, sym, ◌∙◌, refl, cond, is_some, Option}
+use Rattle.std.proofs.Common.{◌≡◌, Some, None, Err, ap, sym, ◌∙◌, refl, cond, is_some, Option}
 use Rattle.std.specs.List.{position}
 use Rattle.std.proofs.lemmas.Result.{err_from_is_err_and}
 use Rattle.cer_outside.specs.declared.OpenError.TheVariants as wanted
 use Rattle.cer_outside.specs.Causes.{one_more}
 use Rattle.cer_outside.specs.States.{FileState, SureHostState}
-use Rattle.cer_outside.specs.Files.{is_named, file_under}
-use Rattle.cer_outside.proofs.Named.{found_file, no_file, bytes_found, sure_found, sure_stays, sure_rose_at, sure_missed}
+use Rattle.cer_outside.specs.Files.{is_named}
+use Rattle.cer_outside.proofs.Named.{found_file, no_file, bytes_found, sure_found, sure_stays, sure_missed}
 use Rattle.cer_outside.proofs.hosts.SureHostHost.take_file.Goals as goal
 
 pub returns-in_err-open-in-Some-clause-opened : goal.returns-in_err-open-in-Some-clause-opened

@@ -1,1 +1,2 @@
+-- the text of positions, position by position
 pub mod PositionsText

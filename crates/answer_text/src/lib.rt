@@ -7,6 +7,7 @@
 ghost use Rattle.std.specs.Prelude.{◌≡◌, ◌++◌, decimal, IfOk, OnOk};
 ghost use Rattle.answer_text.specs.Output.{positions_text, line};
 
+use cer_base::bytes::COMMA;
 use cer_base::{Memory, Pos};
 use itoa::Buffer;
 use std::alloc::Global;
@@ -33,7 +34,7 @@ fn push_positions(text: &mut Vec<u8>, positions: &[Pos]) -> Result<(), Memory>
 {
     for (index, position) in positions.iter().enumerate() {
         if index > 0 {
-            text.push(b',')?;
+            text.push(COMMA)?;
         }
         push_number(text, *position)?;
     }
@@ -51,13 +52,14 @@ pub fn line(
     end: Pos,
     positions: &[Pos],
 ) -> Result<Vec<u8>, Memory>
-    ensures { IfOk result (λ v. v.items ≡ line query end (record { start = start; marks = positions.now })) }
+    ensures { IfOk result (λ v.
+        v.items ≡ line query end (record { start = start; marks = positions.now })) }
 {
     let mut text = Vec::new(alloc);
     push_number(&mut text, query)?;
     text.extend_from_slice(b" [")?;
     push_number(&mut text, start)?;
-    text.push(b',')?;
+    text.push(COMMA)?;
     push_number(&mut text, end)?;
     text.extend_from_slice(b"] {")?;
     push_positions(&mut text, positions)?;

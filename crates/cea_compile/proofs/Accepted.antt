@@ -1,4 +1,4 @@
--- A query's answers are the accepted determinised runs over its substream.
+-- A query's answers are the accepted determinised runs over its substream. For callers of the crate too.
 use Rattle.std.proofs.Common.{◌≡◌, refl, sym, subst, ◌∙◌, ℕ, ◌≤◌, ◌⊎◌, inl, inr, ◌↔◌, Bool, true, false, ◌&&◌, List, [], ◌∷◌, map, length, eqb, nat_le, Option, None, arith}
 use Rattle.std.specs.Prelude.{if◌then◌else◌}
 use Rattle.std.specs.List.{list_all}
@@ -8,14 +8,14 @@ use Rattle.stream_schema.specs.declared.Event.{Event}
 use Rattle.cel_terms.specs.declared.Query.{Query}
 use Rattle.cel_terms.specs.Answers.{Answer, IsAnswer, IsAscending, IsInWindow, IsOfSubstream, substream}
 use Rattle.cel_terms.specs.Laws.{IsSpan}
-use Rattle.cel_terms.specs.Expand.{tree_of}
-use Rattle.cel_terms.specs.Leaves.{occurrences}
+use Rattle.query_leaves.specs.Expand.{tree_of}
+use Rattle.query_leaves.specs.Leaves.{occurrences}
 use Rattle.cel_terms.proofs.Marked.{lies_selected}
 use Rattle.cea_determinise.specs.Strict.{Standing, begin, run_standing, accepted_standing}
 use Rattle.cea_compile.specs.Paths.{reading}
 use Rattle.cea_compile.specs.Covers.{Cover, AreWithin, is_listed}
 use Rattle.cea_compile.specs.Compiled.{automaton_of}
-use Rattle.cea_compile.specs.DeterminisedRuns.{ListsSubstream, from_to, entry_at, IsAccepted, AnswersAreAcceptedRuns}
+use Rattle.cea_compile.specs.DeterminisedRuns.{ListsSubstream, from_to, entry_at, IsAcceptedRun, AnswersAreAcceptedRuns}
 use Rattle.cea_compile.proofs.Answers.{listed_is}
 use Rattle.cea_compile.proofs.Queries.{answer_iff}
 use Rattle.cea_compile.proofs.Entries.{ascends, ascends_filter, listed_filter, cover_from, is_entry}
@@ -85,13 +85,13 @@ module _ (schema : Declared) (q : Query) (events : List Event) (end : ℕ) (posi
   is_taken true h = (refl, h)
   is_taken false h = absurd (false≢true h)
 
-  accepted_from_answer : IsAnswer schema q events end answer → IsAscending answer.marks × IsAccepted schema q events positions end answer × IsInWindow schema q events answer.start end
+  accepted_from_answer : IsAnswer schema q events end answer → IsAscending answer.marks × IsAcceptedRun schema q events positions end answer × IsInWindow schema q events answer.start end
   accepted_from_answer a =
       let s = span_of schema q events end answer a in
       let h = (answer_iff schema q events end answer (map (entry_at schema q events) span) (covers s.begins s.ends s.ordered)).0 a in
       (h.0.ascending, taken is_there (there s h.0) h.1, h.2)
 
-  answer_from_accepted : IsAscending answer.marks × IsAccepted schema q events positions end answer × IsInWindow schema q events answer.start end → IsAnswer schema q events end answer
+  answer_from_accepted : IsAscending answer.marks × IsAcceptedRun schema q events positions end answer × IsInWindow schema q events answer.start end → IsAnswer schema q events end answer
   answer_from_accepted h =
       let run = is_taken is_there h.1 in
       let first = and_parts (is_listed span answer.start) (is_listed span end && list_all (is_listed span) answer.marks) run.0 in

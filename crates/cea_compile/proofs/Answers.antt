@@ -1,14 +1,14 @@
--- A valuation with the marks, or a determinised run that accepts: one exactly where the other.
+-- A valuation with the marks, or a determinised run that accepts: one exactly where the other. For callers of the crate too.
 use Rattle.std.proofs.Common.{◌≡◌, refl, sym, subst, ◌∙◌, ℕ, zero, suc, ◌<◌, ◌≤◌, ◌⊎◌, inl, inr, ◌↔◌, Bool, true, List, [], ◌∷◌, length, Decides, Contains, eqb, slice_get, slice_index_or, arith}
 use Rattle.std.specs.List.{list_any}
 use Rattle.std.proofs.lemmas.Bool.{eqb-true, eq-eqb, or_cases, or_left, or_right, false≢true}
-use Rattle.cel_terms.specs.Answers.{HasMarks, IsBoundAt, is_named}
-use Rattle.cel_terms.specs.Tree.{Tree}
-use Rattle.cel_terms.specs.Expand.{Occurrence}
-use Rattle.cel_terms.specs.Leaves.{occurrences, numbered, names_in, marked}
-use Rattle.cea_determinise.specs.Runs.{LeafSet, Automaton, start, Entry, run, accepted}
+use Rattle.cel_terms.specs.Answers.{HasMarks, IsBoundAt, is_bound}
+use Rattle.query_leaves.specs.LeafTree.{LeafTree}
+use Rattle.query_leaves.specs.Expand.{Occurrence}
+use Rattle.query_leaves.specs.Leaves.{occurrences, numbered, names_in, leaf_is_marked}
+use Rattle.cea_determinise.specs.Runs.{LeafSet, Automaton, start, Entry, run, accepted_run}
 use Rattle.cea_compile.specs.Paths.{Step, Reading, tree_meaning, reading, valuation}
-use Rattle.cea_compile.specs.Positions.{Steps, done, step, Walk, walk, Follows, IsAutomatonOf}
+use Rattle.cea_compile.specs.Positions.{Steps, done, step, Walk, walk, HasFollower, IsAutomatonOf}
 use Rattle.cea_compile.specs.Covers.{Cover, MarkedAt, is_listed, AreWithin}
 use Rattle.cel_terms.specs.Meaning.{Stream, Meaning}
 use Rattle.cea_compile.proofs.Glushkov.{path_iff_walk}
@@ -43,17 +43,17 @@ listed_is (m ∷ ms) p = (λ h. to (listed_is ms p) (or_cases (eqb p m) (list_an
     back rest (inr h) = or_right (eqb p m) (list_any (eqb p) ms) (rest.1 h)
 
 -- a path's marked steps are what its valuation binds
-bound_from_marked : (ls : List Occurrence) (w : List Step) (p : ℕ) → MarkedAt (marked ls) w p → IsBoundAt (valuation ls w) p
+bound_from_marked : (ls : List Occurrence) (w : List Step) (p : ℕ) → MarkedAt (leaf_is_marked ls) w p → IsBoundAt (valuation ls w) p
 bound_from_marked ls [] p h = absurd h
 bound_from_marked ls (s ∷ w) p (inl h) = (0, record { position = s.position; names = names_in (slice_get ls s.leaf) }, omega arith, refl, h)
 bound_from_marked ls (s ∷ w) p (inr h) = let i = bound_from_marked ls w p h in (suc i.0, i.1, omega (arith, i.2), i.3, i.4)
 
-marked_from_bound : (ls : List Occurrence) (w : List Step) (p : ℕ) → IsBoundAt (valuation ls w) p → MarkedAt (marked ls) w p
+marked_from_bound : (ls : List Occurrence) (w : List Step) (p : ℕ) → IsBoundAt (valuation ls w) p → MarkedAt (leaf_is_marked ls) w p
 marked_from_bound ls [] p h = absurd (let l = h.2 in omega arith)
 marked_from_bound ls (s ∷ w) p h = go (marked_from_bound ls w p) h.0 h.2 h.3
   where
-    go : (IsBoundAt (valuation ls w) p → MarkedAt (marked ls) w p) → (k : ℕ) → k < length (valuation ls (s ∷ w)) → slice_index_or (valuation ls (s ∷ w)) k h.1 ≡ h.1 → MarkedAt (marked ls) (s ∷ w) p
-    go rest zero l e = inl (subst (λ b. (b.position ≡ p) × (is_named b.names ≡ true)) (sym e) h.4)
+    go : (IsBoundAt (valuation ls w) p → MarkedAt (leaf_is_marked ls) w p) → (k : ℕ) → k < length (valuation ls (s ∷ w)) → slice_index_or (valuation ls (s ∷ w)) k h.1 ≡ h.1 → MarkedAt (leaf_is_marked ls) (s ∷ w) p
+    go rest zero l e = inl (subst (λ b. (b.position ≡ p) × (is_bound b.names ≡ true)) (sym e) h.4)
     go rest (suc k) l e = inr (rest (k, h.1, omega arith, e, h.4))
 
 -- where the steps of a path lie
@@ -62,14 +62,14 @@ steps_within r F m j q l e p w within done h = absurd h
 steps_within r F m j q l e p w within (step {k = k} {q = q'} f a y s) (inl h) = let eq = h.0 in let le = steps_rise s in let lt = a.later in (subst r.Has h.0 (within k q' y), omega arith, omega arith)
 steps_within r F m j q l e p w within (step {k = k} {q = q'} {w = w'} f a y s) (inr h) = let x = steps_within r F m k q' l e p w' within s h in let lt = a.later in (x.0, omega (arith, x.1), x.2)
 
-walk_within : (r : Reading) (t : Tree ℕ) (m : LeafSet) (s e p : ℕ) (w : List Step) → ReadsWithin r → Walk r t s e w → MarkedAt m w p → r.Has p × (s ≤ p) × (p ≤ e)
+walk_within : (r : Reading) (t : LeafTree ℕ) (m : LeafSet) (s e p : ℕ) (w : List Step) → ReadsWithin r → Walk r t s e w → MarkedAt m w p → r.Has p × (s ≤ p) × (p ≤ e)
 walk_within r t m s e p w within (walk {j = j} f y x l) (inl h) = let eq = h.0 in let le = steps_rise x in (subst r.Has h.0 (within j s y), omega arith, omega arith)
-walk_within r t m s e p w within (walk {j = j} {l = l'} {w = w'} f y x l) (inr h) = steps_within r (Follows t) m j s l' e p w' within x h
+walk_within r t m s e p w within (walk {j = j} {l = l'} {w = w'} f y x l) (inr h) = steps_within r (HasFollower t) m j s l' e p w' within x h
 
 -- It is the automaton of a tree of leaves: over the leaves' numbers, and with their marks.
-pub record IsLeafAutomaton (t : Tree Occurrence) (a : Automaton) : Type 0 where
+pub record IsLeafAutomaton (t : LeafTree Occurrence) (a : Automaton) : Type 0 where
   pub pairs : IsAutomatonOf (numbered 0 t) a
-  pub marks : (k : ℕ) → a.marked k ≡ marked (occurrences t) k
+  pub marks : (k : ℕ) → a.marked k ≡ leaf_is_marked (occurrences t) k
 
 reads_within : (stream : Stream) (ls : List Occurrence) → ReadsWithin (reading stream ls)
 reads_within stream ls k p h = h.2.typed.within
@@ -80,7 +80,7 @@ marked_same m n f [] p h = h
 marked_same m n f (s ∷ w) p (inl h) = inl (h.0, sym (f s.leaf) ∙ h.1)
 marked_same m n f (s ∷ w) p (inr h) = inr (marked_same m n f w p h)
 
-module _ (stream : Stream) (t : Tree Occurrence) (part : Meaning) (means : Same part (tree_meaning stream t)) (a : Automaton) (of_tree : IsLeafAutomaton t a) (from end : ℕ) (marks : List ℕ) where
+module _ (stream : Stream) (t : LeafTree Occurrence) (part : Meaning) (means : Same part (tree_meaning stream t)) (a : Automaton) (of_tree : IsLeafAutomaton t a) (from end : ℕ) (marks : List ℕ) where
   path_of_marks : HasMarks part from end marks → HasPath (reading stream (occurrences t)) (numbered 0 t) a.marked (is_listed marks) from end
   path_of_marks h =
       let b = (binds_iff stream t from end h.valuation).0 (means.to from end h.valuation h.means) in
@@ -88,8 +88,8 @@ module _ (stream : Stream) (t : Tree Occurrence) (part : Meaning) (means : Same 
         path = b.path;
         through = b.through;
         agree = λ x hx lo hi. (
-          λ m. marked_same (marked (occurrences t)) a.marked (λ k. sym (of_tree.marks k)) b.path x (marked_from_bound (occurrences t) b.path x (subst (λ v. IsBoundAt v x) b.bound ((h.are_marks.bound x).0 ((listed_is marks x).0 m)))),
-          λ m. (listed_is marks x).1 ((h.are_marks.bound x).1 (subst (λ v. IsBoundAt v x) (sym b.bound) (bound_from_marked (occurrences t) b.path x (marked_same a.marked (marked (occurrences t)) of_tree.marks b.path x m)))),
+          λ m. marked_same (leaf_is_marked (occurrences t)) a.marked (λ k. sym (of_tree.marks k)) b.path x (marked_from_bound (occurrences t) b.path x (subst (λ v. IsBoundAt v x) b.bound ((h.are_marks.bound x).0 ((listed_is marks x).0 m)))),
+          λ m. (listed_is marks x).1 ((h.are_marks.bound x).1 (subst (λ v. IsBoundAt v x) (sym b.bound) (bound_from_marked (occurrences t) b.path x (marked_same a.marked (leaf_is_marked (occurrences t)) of_tree.marks b.path x m)))),
         );
       }
 
@@ -98,7 +98,7 @@ module _ (stream : Stream) (t : Tree Occurrence) (part : Meaning) (means : Same 
       let b = (binds_iff stream t from end h.valuation).0 (means.to from end h.valuation h.means) in
       record {
         ascending = h.are_marks.ascending;
-        within = λ p c. walk_within (reading stream (occurrences t)) (numbered 0 t) (marked (occurrences t)) from end p b.path (reads_within stream (occurrences t)) ((path_iff_walk (reading stream (occurrences t)) (numbered 0 t) (numbered_linear t 0) from end b.path).0 b.through) (marked_from_bound (occurrences t) b.path p (subst (λ v. IsBoundAt v p) b.bound ((h.are_marks.bound p).0 c)));
+        within = λ p c. walk_within (reading stream (occurrences t)) (numbered 0 t) (leaf_is_marked (occurrences t)) from end p b.path (reads_within stream (occurrences t)) ((path_iff_walk (reading stream (occurrences t)) (numbered 0 t) (numbered_linear t 0) from end b.path).0 b.through) (marked_from_bound (occurrences t) b.path p (subst (λ v. IsBoundAt v p) b.bound ((h.are_marks.bound p).0 c)));
       }
 
   marks_of_path : AreWithin stream from end marks → HasPath (reading stream (occurrences t)) (numbered 0 t) a.marked (is_listed marks) from end → HasMarks part from end marks
@@ -110,9 +110,9 @@ module _ (stream : Stream) (t : Tree Occurrence) (part : Meaning) (means : Same 
         are_marks = record {
           ascending = within.ascending;
           bound = λ x. (
-            λ c. (let w = within.within x c in bound_from_marked (occurrences t) p.path x (marked_same a.marked (marked (occurrences t)) of_tree.marks p.path x ((p.agree x w.0 w.1 w.2).0 ((listed_is marks x).1 c)))),
+            λ c. (let w = within.within x c in bound_from_marked (occurrences t) p.path x (marked_same a.marked (leaf_is_marked (occurrences t)) of_tree.marks p.path x ((p.agree x w.0 w.1 w.2).0 ((listed_is marks x).1 c)))),
             λ b. (
-                let m = marked_same (marked (occurrences t)) a.marked (λ k. sym (of_tree.marks k)) p.path x (marked_from_bound (occurrences t) p.path x b) in
+                let m = marked_same (leaf_is_marked (occurrences t)) a.marked (λ k. sym (of_tree.marks k)) p.path x (marked_from_bound (occurrences t) p.path x b) in
                 let w = walk_within (reading stream (occurrences t)) (numbered 0 t) a.marked from end x p.path (reads_within stream (occurrences t)) through m in
                 (listed_is marks x).0 ((p.agree x w.0 w.1 w.2).1 m)),
           );
@@ -120,7 +120,7 @@ module _ (stream : Stream) (t : Tree Occurrence) (part : Meaning) (means : Same 
       }
 
   -- Some valuation from the start to the end has exactly these marks where the determinised run that takes them accepts.
-  pub marks_iff_run : (xs : List Entry) → Cover (reading stream (occurrences t)) a.size from xs end → HasMarks part from end marks ↔ (AreWithin stream from end marks × (accepted a (run a (is_listed marks) start xs) ≡ true))
+  pub marks_iff_run : (xs : List Entry) → Cover (reading stream (occurrences t)) a.size from xs end → HasMarks part from end marks ↔ (AreWithin stream from end marks × (accepted_run a (run a (is_listed marks) start xs) ≡ true))
   marks_iff_run xs cover =
       let iff = path_iff_run (reading stream (occurrences t)) (numbered 0 t) a (numbered_linear t 0) of_tree.pairs (reads_within stream (occurrences t)) (is_listed marks) from end xs cover in
       (λ h. (within_of_marks h, iff.0 (path_of_marks h)), λ h. marks_of_path h.0 (iff.1 h.1))

@@ -3,17 +3,17 @@ use Rattle.std.proofs.Common.{◌≡◌, refl, sym, subst, ℕ, ◌<◌, ◌⊎�
 use Rattle.std.specs.List.{range_with_len}
 use Rattle.std.proofs.lemmas.List.Elements.{Contains-append_left, Contains-append_right}
 use Rattle.std.proofs.lemmas.List.FromFn.{get_or-range_with_len, length-range_with_len}
-use Rattle.cel_terms.specs.declared.leaves.Leaves.{Leaves}
-use Rattle.cel_terms.specs.Lawful.{numbers, AreNumbered}
+use Rattle.query_leaves.specs.declared.Leaves.{Leaves}
+use Rattle.query_leaves.specs.Lawful.{numbers, AreNumbered}
 use Rattle.std.proofs.lemmas.Bool.{eqb-true, and_parts, or_cases, false≢true}
-use Rattle.cel_terms.specs.declared.leaves.Shape.{Shape}
-use Rattle.cel_terms.specs.Shapes.{tree_of_shape}
-use Rattle.cel_terms.specs.Tree.{Tree, leaf, none, sequence, either, plus}
+use Rattle.query_leaves.specs.declared.Shape.{Shape}
+use Rattle.query_leaves.specs.Shapes.{tree_of_shape}
+use Rattle.query_leaves.specs.LeafTree.{LeafTree, leaf, none, sequence, either, plus}
 use Rattle.cea_determinise.specs.Runs.{agrees}
 use Rattle.cea_compile.specs.Compiled.{first_set, last_set, follow_set}
 use Rattle.cea_compile.specs.Found.{AreBelow}
 
-pub last_below : (size : ℕ) (t : Tree ℕ) → AreBelow size t → (k : ℕ) → last_set t k ≡ true → k < size
+pub last_below : (size : ℕ) (t : LeafTree ℕ) → AreBelow size t → (k : ℕ) → last_set t k ≡ true → k < size
 last_below size (leaf n) h k e = subst (λ m. m < size) (sym (eqb-true k n e)) h
 last_below size none h k e = absurd (false≢true e)
 last_below size (sequence tight a b) h k e = last_below size b h.1 k e
@@ -28,7 +28,7 @@ last_below size (plus tight a) h k e = last_below size a h k e
 pub last_at : (size : ℕ) (s u : Shape) → u ≡ s → AreBelow size (tree_of_shape s) → (k : ℕ) → last_set (tree_of_shape u) k ≡ true → k < size
 last_at size s u e h k l = last_below size (tree_of_shape s) h k (subst (λ x. last_set (tree_of_shape x) k ≡ true) e l)
 
-pub first_below : (size : ℕ) (t : Tree ℕ) → AreBelow size t → (k : ℕ) → first_set t k ≡ true → k < size
+pub first_below : (size : ℕ) (t : LeafTree ℕ) → AreBelow size t → (k : ℕ) → first_set t k ≡ true → k < size
 first_below size (leaf n) h k e = subst (λ m. m < size) (sym (eqb-true k n e)) h
 first_below size none h k e = absurd (false≢true e)
 first_below size (sequence tight a b) h k e = first_below size a h.0 k e
@@ -39,11 +39,11 @@ first_below size (either a b) h k e = go (λ l. first_below size a h.0 k l) (λ 
     go f g (inr l) = g l
 first_below size (plus tight a) h k e = first_below size a h k e
 
-linked_below : (size : ℕ) (b l : Bool) (t : Tree ℕ) → AreBelow size t → (k : ℕ) → (b && (l && first_set t k)) ≡ true → k < size
+linked_below : (size : ℕ) (b l : Bool) (t : LeafTree ℕ) → AreBelow size t → (k : ℕ) → (b && (l && first_set t k)) ≡ true → k < size
 linked_below size b l t h k e = first_below size t h k (and_parts l (first_set t k) (and_parts b (l && first_set t k) e).1).1
 
 -- what follows is a number of the tree too
-pub follow_below : (size : ℕ) (t : Tree ℕ) → AreBelow size t → (tight : Bool) (j k : ℕ) → follow_set t tight j k ≡ true → k < size
+pub follow_below : (size : ℕ) (t : LeafTree ℕ) → AreBelow size t → (tight : Bool) (j k : ℕ) → follow_set t tight j k ≡ true → k < size
 follow_below size (leaf n) h tight j k e = absurd (false≢true e)
 follow_below size none h tight j k e = absurd (false≢true e)
 follow_below size (sequence u a b) h tight j k e = go (λ l. follow_below size a h.0 tight j k l) (λ l. follow_below size b h.1 tight j k l) (or_cases (follow_set a tight j k) (follow_set b tight j k || (agrees u tight && (last_set a j && first_set b k))) e)
@@ -67,7 +67,7 @@ follow_below size (plus u a) h tight j k e = go (λ l. follow_below size a h tig
     go f (inr l) = linked_below size (agrees u tight) (last_set a j) a h k l
 
 -- numbers that are all listed below a size
-below_of_numbers : (size : ℕ) (t : Tree ℕ) → ((k : ℕ) → Contains (numbers t) k → k < size) → AreBelow size t
+below_of_numbers : (size : ℕ) (t : LeafTree ℕ) → ((k : ℕ) → Contains (numbers t) k → k < size) → AreBelow size t
 below_of_numbers size (leaf n) f = f n (0, omega arith, refl)
 below_of_numbers size none f = tt
 below_of_numbers size (sequence tight a b) f = (below_of_numbers size a (λ k c. f k (Contains-append_left (numbers a) (numbers b) k c)), below_of_numbers size b (λ k c. f k (Contains-append_right (numbers a) (numbers b) k c)))

@@ -8,10 +8,10 @@ use Rattle.stream_schema.specs.declared.Event.{Event}
 use Rattle.cel_terms.specs.declared.Pred.{Pred}
 use Rattle.cel_terms.specs.declared.Query.{Query}
 use Rattle.cel_terms.specs.Predicate.{holds}
-use Rattle.cel_terms.specs.Meaning.{Stream, type_name}
+use Rattle.cel_terms.specs.Meaning.{Stream, event_type_name}
 use Rattle.cel_terms.specs.Answers.{IsAscending, substream}
-use Rattle.cel_terms.specs.Expand.{Occurrence, tree_of}
-use Rattle.cel_terms.specs.Leaves.{occurrences, is_typed, all_hold, reads}
+use Rattle.query_leaves.specs.Expand.{Occurrence, tree_of}
+use Rattle.query_leaves.specs.Leaves.{occurrences, is_typed, all_hold, occurrence_reads}
 use Rattle.cea_compile.specs.Paths.{Reading, reading, AllTestsHold}
 use Rattle.cea_compile.specs.Covers.{IsEntry, Cover, CoverAfter, is_listed}
 use Rattle.cea_compile.specs.DeterminisedRuns.{reads_at, entry_at}
@@ -62,7 +62,7 @@ pub ascends_filter : (t : ℕ → Bool) (xs : List ℕ) → Ascends xs → Ascen
 ascends_filter t [] a = tt
 ascends_filter t (x ∷ xs) a = ascends_cons (t x) x (filter t xs) (λ y h. a.0 y (listed_within t xs y h)) (ascends_filter t xs a.1)
 
--- the numbers list what the reading has behind a position up to the end
+-- the numbers list what the reading has after a position up to the end
 abbrev pub ListsAfter : Reading → ℕ → ℕ → List ℕ → Type 0
 ListsAfter r p end xs = (q : ℕ) → (is_listed xs q ≡ true) ↔ (r.Has q × (p < q) × (q ≤ end))
 
@@ -70,7 +70,7 @@ module _ (r : Reading) (size : ℕ) (schema : Declared) (q : Query) (events : Li
   head_listed : (x : ℕ) (xs : List ℕ) → is_listed (x ∷ xs) x ≡ true
   head_listed x xs = or_left (eqb x x) (is_listed xs x) (eq-eqb x x refl)
 
-  -- a listed number is the first or behind it
+  -- a listed number is the first or after it
   first_least : (x : ℕ) (xs : List ℕ) → Ascends (x ∷ xs) → (y : ℕ) → is_listed (x ∷ xs) y ≡ true → x ≤ y
   first_least x xs a y h = go (or_cases (eqb y x) (is_listed xs y) h)
     where
@@ -147,10 +147,10 @@ module _ (schema : Declared) (q : Query) (events : List Event) (end : ℕ) where
   abbrev listed_leaves : List Occurrence
   listed_leaves = occurrences (tree_of q)
 
-  bits_to : (k p : ℕ) (l : Occurrence) (event : Event) → slice_get listed_leaves k ≡ Some l → slice_get events p ≡ Some event → reads schema l event ≡ true → reads_at schema (slice_get listed_leaves k) (slice_get events p) ≡ true
+  bits_to : (k p : ℕ) (l : Occurrence) (event : Event) → slice_get listed_leaves k ≡ Some l → slice_get events p ≡ Some event → occurrence_reads schema l event ≡ true → reads_at schema (slice_get listed_leaves k) (slice_get events p) ≡ true
   bits_to k p l event e f h = ap (λ o. reads_at schema o (slice_get events p)) e ∙ (ap (reads_at schema (Some l)) f ∙ h)
 
-  bits_from : (o : Option Occurrence) (v : Option Event) → reads_at schema o v ≡ true → (l : Occurrence) × (event : Event) × (o ≡ Some l) × (v ≡ Some event) × (reads schema l event ≡ true)
+  bits_from : (o : Option Occurrence) (v : Option Event) → reads_at schema o v ≡ true → (l : Occurrence) × (event : Event) × (o ≡ Some l) × (v ≡ Some event) × (occurrence_reads schema l event ≡ true)
   bits_from None v h = absurd (false≢true h)
   bits_from (Some l) None h = absurd (false≢true h)
   bits_from (Some l) (Some event) h = (l, event, refl, refl, h)
@@ -161,11 +161,11 @@ module _ (schema : Declared) (q : Query) (events : List Event) (end : ℕ) where
     bits = λ k. (
       λ r. (
         slice_get_within listed_leaves k r.0 r.1,
-        bits_to k p r.0 r.2.typed.event r.1 r.2.typed.at (and_from (is_typed (type_name schema r.2.typed.event) r.0.type) (all_hold schema r.0.tests r.2.typed.event) (typed_to (type_name schema r.2.typed.event) r.0.type r.2.typed.typed) (tests_to (substream schema q events end) r.0.tests r.2.typed.event r.2.tests)),
+        bits_to k p r.0 r.2.typed.event r.1 r.2.typed.at (and_from (is_typed (event_type_name schema r.2.typed.event) r.0.type) (all_hold schema r.0.tests r.2.typed.event) (typed_to (event_type_name schema r.2.typed.event) r.0.type r.2.typed.typed) (tests_to (substream schema q events end) r.0.tests r.2.typed.event r.2.tests)),
       ),
       λ h. (
           let b = bits_from (slice_get listed_leaves k) (slice_get events p) h.1 in
-          let parts = and_parts (is_typed (type_name schema b.1) b.0.type) (all_hold schema b.0.tests b.1) b.4 in
-          (b.0, b.2, record { typed = record { event = b.1; at = b.3; typed = typed_from (type_name schema b.1) b.0.type parts.0; within = has }; tests = tests_from (substream schema q events end) b.0.tests b.1 parts.1 })),
+          let parts = and_parts (is_typed (event_type_name schema b.1) b.0.type) (all_hold schema b.0.tests b.1) b.4 in
+          (b.0, b.2, record { typed = record { event = b.1; at = b.3; typed = typed_from (event_type_name schema b.1) b.0.type parts.0; within = has }; tests = tests_from (substream schema q events end) b.0.tests b.1 parts.1 })),
     );
   }

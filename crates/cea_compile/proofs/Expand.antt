@@ -9,8 +9,8 @@ use Rattle.cel_terms.specs.declared.Postfix.TheVariants.{Plus, NextPlus, Named, 
 use Rattle.cel_terms.specs.declared.Filter.{Filter, On, All', Any', Row_of-Filter, end_of-Filter, more_of-Filter}
 use Rattle.cel_terms.specs.declared.Formula.{Formula, Of, Chain', Linked', Either', Post', Under', Row_of-Formula, end_of-Formula, more_of-Formula, Row_of-Link, end_of-Link, more_of-Link}
 use Rattle.cel_terms.specs.Predicate.{holds}
-use Rattle.cel_terms.specs.Tree.{Tree, leaf, none, sequence, either, plus}
-use Rattle.cel_terms.specs.Expand.{Occurrence, at_leaves, rename_leaf, test_leaf, filtered, filtered_by_all, filtered_by_any, under_all, repeated, postfixed, postfixed_by_all, expand, expand_chain, expand_on, expand_links, expand_choices}
+use Rattle.query_leaves.specs.LeafTree.{LeafTree, leaf, none, sequence, either, plus}
+use Rattle.query_leaves.specs.Expand.{Occurrence, at_leaves, rename_leaf, test_leaf, filtered, filtered_by_all, filtered_by_any, under_all, one_or_more, postfixed, postfixed_by_all, expand, expand_chain, expand_on, expand_links, expand_choices}
 use Rattle.cea_compile.specs.Paths.{AtLeaf, tree_meaning, AllTestsHold}
 use Rattle.cel_terms.specs.Meaning.{Stream, Meaning, Bound, Valuation, MayFollow, Single, Sequence, Repeated, once, again, OneOf, lists_name, with_name, only_names, Renamed, PassesAt, AllHold, Meets, MeetsAll, MeetsAny, Filtered, under, with_postfix, with_postfixes, meaning, first_of_chain, chained, linked, one_of}
 
@@ -136,7 +136,7 @@ renamed_leaf stream g l = record {
   back = λ s e v h. (record { position = s; names = l.names } ∷ [], record { reads = record { typed = h.reads.typed; tests = h.reads.tests }; ends = h.ends; bound = refl }, h.bound);
 }
 
-pub renamed_tree : (stream : Stream) (g : List (List ℕ) → List (List ℕ)) (t : Tree Occurrence) → Same (Renamed g (tree_meaning stream t)) (tree_meaning stream (at_leaves (rename_leaf g) t))
+pub renamed_tree : (stream : Stream) (g : List (List ℕ) → List (List ℕ)) (t : LeafTree Occurrence) → Same (Renamed g (tree_meaning stream t)) (tree_meaning stream (at_leaves (rename_leaf g) t))
 renamed_tree stream g (leaf l) = renamed_leaf stream g l
 renamed_tree stream g none = record { to = λ s e v h. h.1; back = λ s e v h. absurd h }
 renamed_tree stream g (sequence u a b) = Same_trans _ _ _ (renamed_sequence stream u g (tree_meaning stream a) (tree_meaning stream b)) (sequence_same stream u _ _ _ _ (renamed_tree stream g a) (renamed_tree stream g b))
@@ -231,7 +231,7 @@ checked_leaf stream name pred l = record { to = to; back = back }
         let here : PassesAt stream name (holds stream.schema pred) (record { position = s; names = l.names }) = λ i event at. subst (λ x. IsTrue (holds stream.schema pred x)) (let q = sym h.reads.typed.at ∙ at in cc) (p.1 i) in
         (record { reads = record { typed = h.reads.typed; tests = p.0 }; ends = h.ends; bound = h.bound }, subst (AllHold stream name (holds stream.schema pred)) (sym h.bound) (here, tt))
 
-checked_tree : (stream : Stream) (name : List ℕ) (pred : Pred) (t : Tree Occurrence) → Same (Checked stream name (holds stream.schema pred) (tree_meaning stream t)) (tree_meaning stream (at_leaves (test_leaf name pred) t))
+checked_tree : (stream : Stream) (name : List ℕ) (pred : Pred) (t : LeafTree Occurrence) → Same (Checked stream name (holds stream.schema pred) (tree_meaning stream t)) (tree_meaning stream (at_leaves (test_leaf name pred) t))
 checked_tree stream name pred (leaf l) = checked_leaf stream name pred l
 checked_tree stream name pred none = record { to = λ s e v h. h.0; back = λ s e v h. absurd h }
 checked_tree stream name pred (sequence u a b) = Same_trans _ _ _ (checked_sequence stream u name (holds stream.schema pred) (tree_meaning stream a) (tree_meaning stream b)) (sequence_same stream u _ _ _ _ (checked_tree stream name pred a) (checked_tree stream name pred b))
@@ -263,20 +263,20 @@ where_either a C D = record { to = λ s e v h. to s e v h.0 h.1; back = back }
     back s e v (inr h) = (h.0, inr h.1)
 
 mutual
-  filtered_tree : (stream : Stream) (c : Filter) (t : Tree Occurrence) → Same (Where (tree_meaning stream t) (Meets stream c)) (tree_meaning stream (filtered c t))
+  filtered_tree : (stream : Stream) (c : Filter) (t : LeafTree Occurrence) → Same (Where (tree_meaning stream t) (Meets stream c)) (tree_meaning stream (filtered c t))
   filtered_tree stream (On name pred) t = checked_tree stream name.text pred t
   filtered_tree stream (All' s filters) t = all_filtered stream filters t
   filtered_tree stream (Any' s filters) t = any_filtered stream filters t
 
-  all_filtered : (stream : Stream) {m : _} (cs : Row_of-Filter m) (t : Tree Occurrence) → Same (Where (tree_meaning stream t) (MeetsAll stream cs)) (tree_meaning stream (filtered_by_all cs t))
+  all_filtered : (stream : Stream) {m : _} (cs : Row_of-Filter m) (t : LeafTree Occurrence) → Same (Where (tree_meaning stream t) (MeetsAll stream cs)) (tree_meaning stream (filtered_by_all cs t))
   all_filtered stream end_of-Filter t = record { to = λ s e v h. h.0; back = λ s e v h. (h, tt) }
   all_filtered stream (more_of-Filter c cs) t = Same_trans _ _ _ (where_both (tree_meaning stream t) (Meets stream c) (MeetsAll stream cs)) (Same_trans _ _ _ (where_same _ _ (MeetsAll stream cs) (filtered_tree stream c t)) (all_filtered stream cs (filtered c t)))
 
-  any_filtered : (stream : Stream) {m : _} (cs : Row_of-Filter m) (t : Tree Occurrence) → Same (Where (tree_meaning stream t) (MeetsAny stream cs)) (tree_meaning stream (filtered_by_any cs t))
+  any_filtered : (stream : Stream) {m : _} (cs : Row_of-Filter m) (t : LeafTree Occurrence) → Same (Where (tree_meaning stream t) (MeetsAny stream cs)) (tree_meaning stream (filtered_by_any cs t))
   any_filtered stream end_of-Filter t = record { to = λ s e v h. h.1; back = λ s e v h. absurd h }
   any_filtered stream (more_of-Filter c cs) t = Same_trans _ _ _ (where_either (tree_meaning stream t) (Meets stream c) (MeetsAny stream cs)) (either_same _ _ _ _ (filtered_tree stream c t) (any_filtered stream cs t))
 
-under_tree : (stream : Stream) (cs : List Filter) (part : Meaning) (t : Tree Occurrence) → Same part (tree_meaning stream t) → Same (under stream cs part) (tree_meaning stream (under_all cs t))
+under_tree : (stream : Stream) (cs : List Filter) (part : Meaning) (t : LeafTree Occurrence) → Same part (tree_meaning stream t) → Same (under stream cs part) (tree_meaning stream (under_all cs t))
 under_tree stream [] part t h = h
 under_tree stream (c ∷ cs) part t h = under_tree stream cs (Filtered stream c part) (filtered c t) (Same_trans _ _ _ (where_same _ _ (Meets stream c) h) (filtered_tree stream c t))
 
@@ -294,7 +294,7 @@ second_looser : (stream : Stream) (tight u : Bool) (a b : ℕ) → MayFollow str
 second_looser stream true u a b f = f
 second_looser stream false u a b f = follows_later stream u a b f
 
--- a repetition, and behind it another one of the same part
+-- a repetition, and after it another one of the same part
 joined_rounds : (stream : Stream) (tight : Bool) (part : Meaning) (s m n e : ℕ) (v w : Valuation) → Repeated stream tight part s m v → MayFollow stream tight m n → Repeated stream tight part n e w → Repeated stream tight part s e (v ++ w)
 joined_rounds stream tight part s m n e v w (once h) f r = again h f r
 joined_rounds stream tight part s m n e v w (again {middle = k} {next = j} {v = x} {w = y} h g q) f r = subst (Repeated stream tight part s e) (sym (append_assoc x y w)) (again h g (joined_rounds stream tight part j m n e y w q f r))
@@ -316,20 +316,20 @@ rounds_in_rounds : (stream : Stream) (tight u : Bool) (part : Meaning) (s e : �
 rounds_in_rounds stream true u part s e v h = once h
 rounds_in_rounds stream false u part s e v h = each_round_alone stream u part s e v h
 
-repeated_tree : (stream : Stream) (tight : Bool) (part : Meaning) (t : Tree Occurrence) → Same part (tree_meaning stream t) → Same (Repeated stream tight part) (tree_meaning stream (repeated tight t))
+repeated_tree : (stream : Stream) (tight : Bool) (part : Meaning) (t : LeafTree Occurrence) → Same part (tree_meaning stream t) → Same (Repeated stream tight part) (tree_meaning stream (one_or_more tight t))
 repeated_tree stream tight part (leaf l) h = repeated_same stream tight _ _ h
 repeated_tree stream tight part none h = repeated_same stream tight _ _ h
 repeated_tree stream tight part (sequence u a b) h = repeated_same stream tight _ _ h
 repeated_tree stream tight part (either a b) h = repeated_same stream tight _ _ h
 repeated_tree stream tight part (plus u a) h = Same_trans _ _ _ (repeated_same stream tight _ _ h) record { to = rounds_of_rounds stream tight u (tree_meaning stream a); back = rounds_in_rounds stream tight u (tree_meaning stream a) }
 
-postfixed_tree : (stream : Stream) (p : Postfix) (part : Meaning) (t : Tree Occurrence) → Same part (tree_meaning stream t) → Same (with_postfix stream p part) (tree_meaning stream (postfixed p t))
+postfixed_tree : (stream : Stream) (p : Postfix) (part : Meaning) (t : LeafTree Occurrence) → Same part (tree_meaning stream t) → Same (with_postfix stream p part) (tree_meaning stream (postfixed p t))
 postfixed_tree stream Plus part t h = repeated_tree stream false part t h
 postfixed_tree stream NextPlus part t h = repeated_tree stream true part t h
 postfixed_tree stream (Named name) part t h = Same_trans _ _ _ (renamed_same (with_name name.text) _ _ h) (renamed_tree stream (with_name name.text) t)
 postfixed_tree stream (Keep names) part t h = Same_trans _ _ _ (renamed_same (only_names names) _ _ h) (renamed_tree stream (only_names names) t)
 
-all_postfixed : (stream : Stream) (ps : List Postfix) (part : Meaning) (t : Tree Occurrence) → Same part (tree_meaning stream t) → Same (with_postfixes stream ps part) (tree_meaning stream (postfixed_by_all ps t))
+all_postfixed : (stream : Stream) (ps : List Postfix) (part : Meaning) (t : LeafTree Occurrence) → Same part (tree_meaning stream t) → Same (with_postfixes stream ps part) (tree_meaning stream (postfixed_by_all ps t))
 all_postfixed stream [] part t h = h
 all_postfixed stream (p ∷ ps) part t h = all_postfixed stream ps (with_postfix stream p part) (postfixed p t) (postfixed_tree stream p part t h)
 
@@ -353,11 +353,11 @@ mutual
   chain_expanded stream end_of-Formula = Same_refl _
   chain_expanded stream (more_of-Formula f rest) = on_expanded stream (meaning stream f) (expand f) rest (expanded stream f)
 
-  on_expanded : (stream : Stream) {m : _} (before : Meaning) (t : Tree Occurrence) (fs : Row_of-Formula m) → Same before (tree_meaning stream t) → Same (chained stream before fs) (tree_meaning stream (expand_on t fs))
+  on_expanded : (stream : Stream) {m : _} (before : Meaning) (t : LeafTree Occurrence) (fs : Row_of-Formula m) → Same before (tree_meaning stream t) → Same (chained stream before fs) (tree_meaning stream (expand_on t fs))
   on_expanded stream before t end_of-Formula h = h
   on_expanded stream before t (more_of-Formula f rest) h = on_expanded stream (Sequence stream false before (meaning stream f)) (sequence false t (expand f)) rest (sequence_same stream false _ _ _ _ h (expanded stream f))
 
-  links_expanded : (stream : Stream) {m : _} (before : Meaning) (t : Tree Occurrence) (ls : Row_of-Link m) → Same before (tree_meaning stream t) → Same (linked stream before ls) (tree_meaning stream (expand_links t ls))
+  links_expanded : (stream : Stream) {m : _} (before : Meaning) (t : LeafTree Occurrence) (ls : Row_of-Link m) → Same before (tree_meaning stream t) → Same (linked stream before ls) (tree_meaning stream (expand_links t ls))
   links_expanded stream before t end_of-Link h = h
   links_expanded stream before t (more_of-Link tight next rest) h = links_expanded stream (Sequence stream tight before (meaning stream next)) (sequence tight t (expand next)) rest (sequence_same stream tight _ _ _ _ h (expanded stream next))
 

@@ -5,12 +5,12 @@ use Rattle.stream_schema.specs.declared.Event.{Event}
 use Rattle.cel_terms.specs.declared.Name.{Name}
 use Rattle.cel_terms.specs.declared.Query.{Query}
 use Rattle.cel_terms.specs.Answers.{IsInWindow, Answer, IsAnswer, selected, substream}
-use Rattle.cel_terms.specs.Tree.{Tree}
-use Rattle.cel_terms.specs.Expand.{Occurrence, expand, selected_tree, tree_of}
-use Rattle.cel_terms.specs.Leaves.{occurrences}
+use Rattle.query_leaves.specs.LeafTree.{LeafTree}
+use Rattle.query_leaves.specs.Expand.{Occurrence, expand, selected_tree, tree_of}
+use Rattle.query_leaves.specs.Leaves.{occurrences}
 use Rattle.cea_determinise.specs.Runs.{Automaton, Entry}
 use Rattle.cea_determinise.specs.Strict.{Standing, begin, next_standing, run_standing, accepted_standing}
-use Rattle.cea_compile.specs.Paths.{Reading, IsAfter, tree_meaning, reading}
+use Rattle.cea_compile.specs.Paths.{Reading, MayComeAfter, tree_meaning, reading}
 use Rattle.cea_compile.specs.Covers.{IsEntry, Cover, CoverAfter, AreWithin, is_listed}
 use Rattle.cea_compile.specs.Compiled.{automaton_of}
 use Rattle.cel_terms.specs.Meaning.{Stream, Meaning, meaning, only_names}
@@ -18,7 +18,7 @@ use Rattle.cea_compile.proofs.Expand.{Same, Same_trans, renamed_same, renamed_tr
 use Rattle.cea_compile.proofs.Compiled.{automaton_is}
 use Rattle.cea_compile.proofs.Strict.{marks_iff_standing}
 
-selected_expanded : (stream : Stream) (select : Option (List Name)) (part : Meaning) (t : Tree Occurrence) → Same part (tree_meaning stream t) → Same (selected select part) (tree_meaning stream (selected_tree select t))
+selected_expanded : (stream : Stream) (select : Option (List Name)) (part : Meaning) (t : LeafTree Occurrence) → Same part (tree_meaning stream t) → Same (selected select part) (tree_meaning stream (selected_tree select t))
 selected_expanded stream None part t h = h
 selected_expanded stream (Some names) part t h = Same_trans _ _ _ (renamed_same (only_names names) _ _ h) (renamed_tree stream (only_names names) t)
 
@@ -48,11 +48,11 @@ run_more a strict marks [] x s = and_then_some (next_standing a strict s x.bits 
 run_more a strict marks (y ∷ xs) x s = run_more_step a strict marks xs x (run_more a strict marks xs x) (next_standing a strict s y.bits (marks y.position))
 
 -- The entries from a start, and one more.
-cover_after_more : (r : Reading) (size p middle : ℕ) (xs : List Entry) (x : Entry) → CoverAfter r size p xs middle → IsAfter r.Has true middle x.position → IsEntry r size x → CoverAfter r size p (xs ++ (x ∷ [])) x.position
-cover_after_more r size p middle [] x c after entry = (subst (λ n. IsAfter r.Has true n x.position) (sym c) after, entry, refl)
+cover_after_more : (r : Reading) (size p middle : ℕ) (xs : List Entry) (x : Entry) → CoverAfter r size p xs middle → MayComeAfter r.Has true middle x.position → IsEntry r size x → CoverAfter r size p (xs ++ (x ∷ [])) x.position
+cover_after_more r size p middle [] x c after entry = (subst (λ n. MayComeAfter r.Has true n x.position) (sym c) after, entry, refl)
 cover_after_more r size p middle (y ∷ xs) x c after entry = (c.0, c.1, cover_after_more r size y.position middle xs x c.2 after entry)
 
-pub cover_more : (r : Reading) (size from middle : ℕ) (xs : List Entry) (x : Entry) → Cover r size from xs middle → IsAfter r.Has true middle x.position → IsEntry r size x → Cover r size from (xs ++ (x ∷ [])) x.position
+pub cover_more : (r : Reading) (size from middle : ℕ) (xs : List Entry) (x : Entry) → Cover r size from xs middle → MayComeAfter r.Has true middle x.position → IsEntry r size x → Cover r size from (xs ++ (x ∷ [])) x.position
 cover_more r size from middle [] x c after entry = absurd c
 cover_more r size from middle (y ∷ xs) x c after entry = (c.0, c.1, cover_after_more r size y.position middle xs x c.2 after entry)
 

@@ -32,22 +32,22 @@ blank_more size count rows b h room empty = record {
     past : (j : ℕ) → length rows < j → slice_index_or (rows ++ b ∷ []) j [] ≡ []
     past j more = get_or_past (rows ++ b ∷ []) j [] (omega (arith, length-append rows (b ∷ [])))
 
-    empty_behind : (j k : ℕ) → (length rows < j) ⊎ (j ≤ length rows) → length rows ≤ j → row (rows ++ b ∷ []) j k ≡ false
-    empty_behind j k (inl more) high = ap (λ s. has s k) (past j more) ∙ get_or_past [] k false (omega arith)
-    empty_behind j k (inr low) high = ap (λ s. has s k) (last j (omega arith)) ∙ empty k
+    empty_after : (j k : ℕ) → (length rows < j) ⊎ (j ≤ length rows) → length rows ≤ j → row (rows ++ b ∷ []) j k ≡ false
+    empty_after j k (inl more) high = ap (λ s. has s k) (past j more) ∙ get_or_past [] k false (omega arith)
+    empty_after j k (inr low) high = ap (λ s. has s k) (last j (omega arith)) ∙ empty k
 
     empty_at : (j k : ℕ) → (j < length rows) ⊎ (length rows ≤ j) → row (rows ++ b ∷ []) j k ≡ false
     empty_at j k (inl low) = ap (λ s. has s k) (get_or_append_left rows (b ∷ []) [] j low) ∙ h.empty j k
-    empty_at j k (inr high) = empty_behind j k (cases_lt (length rows) j) high
+    empty_at j k (inr high) = empty_after j k (cases_lt (length rows) j) high
 
 -- the rows before a number are linked, and the others are as they were
 pub record AreLinked (size : ℕ) (old rows : List (List Bool)) (from to : List Bool) (i : ℕ) : Type 0 where
   pub room : HaveRoom size rows
   pub before : (j k : ℕ) → j < i → row rows j k ≡ row old j k || (has from j && has to k)
-  pub behind : (j k : ℕ) → i ≤ j → row rows j k ≡ row old j k
+  pub from_there : (j k : ℕ) → i ≤ j → row rows j k ≡ row old j k
 
 pub linked_none : (size : ℕ) (old : List (List Bool)) (from to : List Bool) → HaveRoom size old → AreLinked size old old from to 0
-linked_none size old from to room = record { room = room; before = λ j k less. absurd (omega arith); behind = λ j k le. refl }
+linked_none size old from to room = record { room = room; before = λ j k less. absurd (omega arith); from_there = λ j k le. refl }
 
 or_nothing : (b : Bool) → b ≡ b || false
 or_nothing true = refl
@@ -58,21 +58,21 @@ pub linked_past : (size : ℕ) (old rows : List (List Bool)) (from to : List Boo
 linked_past size old rows from to i h not_in = record {
   room = h.room;
   before = λ j k less. at j k (cases_lt j i) less;
-  behind = λ j k le. h.behind j k (omega arith);
+  from_there = λ j k le. h.from_there j k (omega arith);
 }
   where
     at : (j k : ℕ) → (j < i) ⊎ (i ≤ j) → j < i + 1 → row rows j k ≡ row old j k || (has from j && has to k)
     at j k (inl low) less = h.before j k low
     at j k (inr high) less =
         let same : j ≡ i = omega arith in
-        h.behind j k high ∙ (or_nothing (row old j k) ∙ ap (λ b. row old j k || (b && has to k)) (sym (ap (has from) same ∙ not_in)))
+        h.from_there j k high ∙ (or_nothing (row old j k) ∙ ap (λ b. row old j k || (b && has to k)) (sym (ap (has from) same ∙ not_in)))
 
 -- the row of a leaf that is in the set is united with the other set
 pub linked_more : (size : ℕ) (old rows : List (List Bool)) (from to b : List Bool) (i : ℕ) → AreLinked size old rows from to i → i < size → has from i ≡ true → ((k : ℕ) → has b k ≡ has (slice_index_or rows i []) k || has to k) → length b ≡ length (slice_index_or rows i []) → AreLinked size old (slice_set rows i b) from to (i + 1)
 linked_more size old rows from to b i h within is_in united room = record {
   room = record { count = length_set ∙ h.room.count; each = λ j less. room_at j less (cases_order j i) };
   before = λ j k less. at j k less (cases_order j i);
-  behind = λ j k le. (let more : i < j = omega arith in ap (λ s. has s k) (other j (above j more)) ∙ h.behind j k (omega arith));
+  from_there = λ j k le. (let more : i < j = omega arith in ap (λ s. has s k) (other j (above j more)) ∙ h.from_there j k (omega arith));
 }
   where
     there : i < length rows
@@ -101,7 +101,7 @@ linked_more size old rows from to b i h within is_in united room = record {
     at : (j k : ℕ) → j < i + 1 → (j ≡ i) ⊎ ((j < i) ⊎ (i < j)) → row (slice_set rows i b) j k ≡ row old j k || (has from j && has to k)
     at j k less (inr (inl low)) = ap (λ s. has s k) (other j (below j low)) ∙ h.before j k low
     at j k less (inl e) =
-        ap (λ s. has s k) (here j e) ∙ (united k ∙ ap₂ (λ x y. x || y) (h.behind i k (omega arith) ∙ ap (λ n. row old n k) (sym e)) (ap (λ c. c && has to k) (sym (ap (has from) e ∙ is_in))))
+        ap (λ s. has s k) (here j e) ∙ (united k ∙ ap₂ (λ x y. x || y) (h.from_there i k (omega arith) ∙ ap (λ n. row old n k) (sym e)) (ap (λ c. c && has to k) (sym (ap (has from) e ∙ is_in))))
     at j k less (inr (inr high)) = absurd (omega arith)
 
 -- all rows are linked
@@ -110,7 +110,7 @@ linked_all size old rows from to h below j k = at (cases_lt j size)
   where
     at : (j < size) ⊎ (size ≤ j) → row rows j k ≡ row old j k || (has from j && has to k)
     at (inl low) = h.before j k low
-    at (inr high) = h.behind j k high ∙ (or_nothing (row old j k) ∙ ap (λ b. row old j k || (b && has to k)) (sym (false_from_ne_true (has from j) (λ e. (let l = below j e in omega arith)))))
+    at (inr high) = h.from_there j k high ∙ (or_nothing (row old j k) ∙ ap (λ b. row old j k || (b && has to k)) (sym (false_from_ne_true (has from j) (λ e. (let l = below j e in omega arith)))))
 
 -- the same, as the row is read from the list at another default
 pub linked_here : (size : ℕ) (old rows after : List (List Bool)) (from to b d : List Bool) (i : ℕ) → AreLinked size old rows from to i → i < size → has from i ≡ true → ((k : ℕ) → has b k ≡ has (slice_index_or rows i d) k || has to k) → length b ≡ length (slice_index_or rows i d) → after ≡ slice_set rows i b → AreLinked size old after from to (i + 1)

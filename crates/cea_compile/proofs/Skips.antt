@@ -2,7 +2,7 @@
 use Rattle.std.proofs.Common.{◌≡◌, refl, sym, ap, subst, ◌∙◌, ℕ, ◌<◌, ◌≤◌, ◌⊎◌, inl, inr, Bool, true, false, List, [], ◌∷◌, Decides, arith}
 use Rattle.std.proofs.lemmas.Bool.{not-true, not_from_false, false≢true, false_from_ne_true, cases_order}
 use Rattle.cea_determinise.specs.Runs.{LeafSet, Automaton, follow, agrees, Entry}
-use Rattle.cea_compile.specs.Paths.{Step, Reading, IsAfter}
+use Rattle.cea_compile.specs.Paths.{Step, Reading, MayComeAfter}
 use Rattle.cea_compile.specs.Positions.{Steps, done, step}
 use Rattle.cea_compile.specs.Covers.{IsEntry, CoverAfter, MarkedAt}
 use Rattle.cea_compile.proofs.Subsets.{IsMove, Leads, ends, reads, skips}
@@ -71,7 +71,7 @@ beyond_before : (p q : ℕ) (w : List Step) → p ≤ q → IsBeyond q w → IsB
 beyond_before p q [] h b = tt
 beyond_before p q (s ∷ w) h b = omega arith
 
-read_one : (r : Reading) (a : Automaton) (marks : ℕ → Bool) (e q p : ℕ) (fresh : Bool) (j k : ℕ) (x : Entry) → IsMove a fresh j k → k < a.size → x.bits k ≡ true → agrees (marks x.position) (a.marked k) ≡ true → HasRead r fresh q p → IsAfter r.Has true p x.position → IsEntry r a.size x → HasSteps r a marks k x.position x.position e → HasSteps r a marks j q p e
+read_one : (r : Reading) (a : Automaton) (marks : ℕ → Bool) (e q p : ℕ) (fresh : Bool) (j k : ℕ) (x : Entry) → IsMove a fresh j k → k < a.size → x.bits k ≡ true → agrees (marks x.position) (a.marked k) ≡ true → HasRead r fresh q p → MayComeAfter r.Has true p x.position → IsEntry r a.size x → HasSteps r a marks k x.position x.position e → HasSteps r a marks j q p e
 read_one r a marks e q p fresh j k x m b y g h after entry rest = record {
   path = record { leaf = k; position = x.position } ∷ rest.path;
   to = rest.to;
@@ -97,7 +97,7 @@ read_one r a marks e q p fresh j k x m b y g h after entry rest = record {
         back (inr n) = (rest.agree z hz lt hi).1 n
     go z hz lo hi (inr (inr gt)) = absurd (after.next refl z hz lo gt)
 
-skip_one : (r : Reading) (a : Automaton) (marks : ℕ → Bool) (e q p : ℕ) (j : ℕ) (x : Entry) → marks x.position ≡ false → IsAfter r.Has true p x.position → HasSteps r a marks j q x.position e → HasSteps r a marks j q p e
+skip_one : (r : Reading) (a : Automaton) (marks : ℕ → Bool) (e q p : ℕ) (j : ℕ) (x : Entry) → marks x.position ≡ false → MayComeAfter r.Has true p x.position → HasSteps r a marks j q x.position e → HasSteps r a marks j q p e
 skip_one r a marks e q p j x m after rest = record {
   path = rest.path;
   to = rest.to;
@@ -134,7 +134,7 @@ at_end r a marks false j q p l e w c h done b t = absurd (omega arith)
 at_end r a marks fresh j q p l e w c h (step f x y s) b t = let le = steps_rise s in absurd (omega arith)
 
 -- the event is read by the next step of the walk
-reads_it : (r : Reading) (a : Automaton) (marks : ℕ → Bool) (fresh tight : Bool) (j k q p l e : ℕ) (x : Entry) (xs : List Entry) (w : List Step) → p < x.position → IsEntry r a.size x → HasRead r fresh q p → Follow a tight j k → IsAfter r.Has tight q x.position → r.Reads k x.position → Steps r (Follow a) k x.position w l e → HaveMarks r marks a.marked p e (record { leaf = k; position = x.position } ∷ w) → (HaveMarks r marks a.marked x.position e w → Leads a marks true k xs) → Leads a marks fresh j (x ∷ xs)
+reads_it : (r : Reading) (a : Automaton) (marks : ℕ → Bool) (fresh tight : Bool) (j k q p l e : ℕ) (x : Entry) (xs : List Entry) (w : List Step) → p < x.position → IsEntry r a.size x → HasRead r fresh q p → Follow a tight j k → MayComeAfter r.Has tight q x.position → r.Reads k x.position → Steps r (Follow a) k x.position w l e → HaveMarks r marks a.marked p e (record { leaf = k; position = x.position } ∷ w) → (HaveMarks r marks a.marked x.position e w → Leads a marks true k xs) → Leads a marks fresh j (x ∷ xs)
 reads_it r a marks fresh tight j k q p l e x xs w lt entry h f after y s agree rest =
     reads (record { tight = tight; follows = f; free = free fresh h }) b.0 b.1 (agrees_from (marks x.position) (a.marked k) marked_then (λ m. here.1 (inl (refl, m)))) (rest later)
   where
@@ -174,7 +174,7 @@ skips_it r a marks fresh j q p l e x xs w lt le entry s b agree rest =
 abbrev pub LeadsOn : Reading → Automaton → (ℕ → Bool) → ℕ → ℕ → ℕ → List Entry → Type 0
 LeadsOn r a marks e l p xs = (q : ℕ) (fresh : Bool) (j : ℕ) (w : List Step) → HasRead r fresh q p → Steps r (Follow a) j q w l e → IsBeyond p w → HaveMarks r marks a.marked p e w → Leads a marks fresh j xs
 
-one_entry : (r : Reading) (a : Automaton) (marks : ℕ → Bool) → ReadsWithin r → (e p l : ℕ) (x : Entry) (xs : List Entry) → IsAfter r.Has true p x.position → IsEntry r a.size x → x.position ≤ e → LeadsOn r a marks e l x.position xs → LeadsOn r a marks e l p (x ∷ xs)
+one_entry : (r : Reading) (a : Automaton) (marks : ℕ → Bool) → ReadsWithin r → (e p l : ℕ) (x : Entry) (xs : List Entry) → MayComeAfter r.Has true p x.position → IsEntry r a.size x → x.position ≤ e → LeadsOn r a marks e l x.position xs → LeadsOn r a marks e l p (x ∷ xs)
 one_entry r a marks within e p l x xs after entry le rest q fresh j w h done b agree = let le' = has_read_before r fresh q p h in let lt = after.later in absurd (omega arith)
 one_entry r a marks within e p l x xs after entry le rest q fresh j w h (step {tight = tight} {k = k} {q = q'} {w = w'} f y z s) b agree = go (cases_order x.position q')
   where
@@ -182,7 +182,7 @@ one_entry r a marks within e p l x xs after entry le rest q fresh j w h (step {t
     go (inl eq) = same x eq after.later entry rest
       where
         same : (x : Entry) → x.position ≡ q' → p < x.position → IsEntry r a.size x → LeadsOn r a marks e l x.position xs → Leads a marks fresh j (x ∷ xs)
-        same x eq lt entry rest = reads_it r a marks fresh tight j k q p l e x xs w' lt entry h f (subst (λ n. IsAfter r.Has tight q n) (sym eq) y) (subst (λ n. r.Reads k n) (sym eq) z) (subst (λ n. Steps r (Follow a) k n w' l e) (sym eq) s) (subst (λ n. HaveMarks r marks a.marked p e (record { leaf = k; position = n } ∷ w')) (sym eq) agree) (λ m. rest x.position true k w' refl (subst (λ n. Steps r (Follow a) k n w' l e) (sym eq) s) (subst (λ n. IsBeyond n w') (sym eq) (steps_beyond s)) m)
+        same x eq lt entry rest = reads_it r a marks fresh tight j k q p l e x xs w' lt entry h f (subst (λ n. MayComeAfter r.Has tight q n) (sym eq) y) (subst (λ n. r.Reads k n) (sym eq) z) (subst (λ n. Steps r (Follow a) k n w' l e) (sym eq) s) (subst (λ n. HaveMarks r marks a.marked p e (record { leaf = k; position = n } ∷ w')) (sym eq) agree) (λ m. rest x.position true k w' refl (subst (λ n. Steps r (Follow a) k n w' l e) (sym eq) s) (subst (λ n. IsBeyond n w') (sym eq) (steps_beyond s)) m)
     go (inr (inl lt)) = skips_it r a marks fresh j q p l e x xs (record { leaf = k; position = q' } ∷ w') after.later le entry (step f y z s) lt agree (λ m. rest q false j (record { leaf = k; position = q' } ∷ w') ((let le' = has_read_before r fresh q p h in let lt' = after.later in omega arith), entry.within) (step f y z s) lt m)
     go (inr (inr gt)) = absurd (after.next refl q' (within k q' z) b gt)
 

@@ -2,7 +2,7 @@
 use Rattle.std.proofs.Common.{◌≡◌, refl, sym, ◌∙◌, ℕ, ◌<◌, ◌⊎◌, inl, inr, Bool, true, false, not, ◌&&◌, ◌||◌, cond, List, [], ◌∷◌, Option, Some, None, option_and_then, Decides}
 use Rattle.std.proofs.lemmas.Bool.{and_parts, and_from, or_cases, or_left, or_right, not-true, not_from_false, false≢true}
 use Rattle.std.proofs.lemmas.Bool.Decides.{Decides-below_or}
-use Rattle.cea_determinise.specs.Runs.{LeafSet, some_below, Automaton, follow, State, pair, candidates, patient, agrees, has_leaf, Entry, run, accepted}
+use Rattle.cea_determinise.specs.Runs.{LeafSet, some_below, Automaton, follow, State, pair, candidates, patient, agrees, has_leaf, Entry, run, accepted_run}
 
 some_below_is : (p : LeafSet) (n : ℕ) → Decides (some_below n p) ((k : ℕ) × (k < n) × (p k ≡ true))
 some_below_is p = Decides-below_or p (λ k. p k ≡ true) (λ n. some_below n p) (λ k. (λ h. h, λ h. h)) refl (λ n. refl)
@@ -77,11 +77,11 @@ candidate_is a fresh waiting k = (λ h. from ((some_below_is test a.size).0 h), 
     to : (j : ℕ) × (j < a.size) × HasMove a fresh waiting k j → (j : ℕ) × (j < a.size) × (test j ≡ true)
     to h = (h.0, h.1, back h.0 h.2)
 
-pub kept_accepts : (a : Automaton) (g : State → Option State) (t : State) (b : Bool) → accepted a (option_and_then g (cond b (Some t) None)) ≡ true → accepted a (g t) ≡ true
+pub kept_accepts : (a : Automaton) (g : State → Option State) (t : State) (b : Bool) → accepted_run a (option_and_then g (cond b (Some t) None)) ≡ true → accepted_run a (g t) ≡ true
 kept_accepts a g t true h = h
 kept_accepts a g t false h = absurd (false≢true h)
 
-pub accepts_kept : (a : Automaton) (g : State → Option State) (t : State) (b : Bool) → b ≡ true → accepted a (g t) ≡ true → accepted a (option_and_then g (cond b (Some t) None)) ≡ true
+pub accepts_kept : (a : Automaton) (g : State → Option State) (t : State) (b : Bool) → b ≡ true → accepted_run a (g t) ≡ true → accepted_run a (option_and_then g (cond b (Some t) None)) ≡ true
 accepts_kept a g t true e h = h
 accepts_kept a g t false e h = absurd (false≢true e)
 
@@ -150,7 +150,7 @@ live_has_leaf a marks xs fresh waiting live = (some_below_is (λ k. fresh k || w
     go (inr h) = or_right (fresh live.leaf) (waiting live.leaf) h.0
 
 -- A state accepts after the entries exactly where one of its leaves leads over them.
-pub sound : (a : Automaton) (marks : ℕ → Bool) (xs : List Entry) (fresh waiting : LeafSet) → accepted a (run a marks (pair fresh waiting) xs) ≡ true → IsLive a marks fresh waiting xs
+pub sound : (a : Automaton) (marks : ℕ → Bool) (xs : List Entry) (fresh waiting : LeafSet) → accepted_run a (run a marks (pair fresh waiting) xs) ≡ true → IsLive a marks fresh waiting xs
 sound a marks [] fresh waiting h =
     let k = (some_below_is (λ k. fresh k && a.last k) a.size).0 h in
     let p = and_parts (fresh k.0) (a.last k.0) k.2 in
@@ -160,7 +160,7 @@ sound a marks (x ∷ xs) fresh waiting h =
     let w = waiting_after a marks (pair fresh waiting) x in
     live_before a marks x xs fresh waiting (sound a marks xs f w (kept_accepts a (λ t. run a marks t xs) (pair f w) (has_leaf a (pair f w)) h))
 
-pub complete : (a : Automaton) (marks : ℕ → Bool) (xs : List Entry) (fresh waiting : LeafSet) → IsLive a marks fresh waiting xs → accepted a (run a marks (pair fresh waiting) xs) ≡ true
+pub complete : (a : Automaton) (marks : ℕ → Bool) (xs : List Entry) (fresh waiting : LeafSet) → IsLive a marks fresh waiting xs → accepted_run a (run a marks (pair fresh waiting) xs) ≡ true
 complete a marks [] fresh waiting live = go live.leaf live.below live.leads
   where
     at_end : (k : ℕ) → k < a.size → fresh k ≡ true → Leads a marks true k [] → some_below a.size (λ k. fresh k && a.last k) ≡ true

@@ -1,25 +1,25 @@
 -- The position automaton of a tree, computed.
 use Rattle.std.specs.Prelude.{ℕ, Bool, true, false, ◌&&◌, ◌||◌, length, eqb}
-use Rattle.cel_terms.specs.Tree.{Tree, leaf, none, sequence, either, plus}
-use Rattle.cel_terms.specs.Expand.{Occurrence}
-use Rattle.cel_terms.specs.Leaves.{occurrences, numbered, marked}
+use Rattle.query_leaves.specs.LeafTree.{LeafTree, leaf, none, sequence, either, plus}
+use Rattle.query_leaves.specs.Expand.{Occurrence}
+use Rattle.query_leaves.specs.Leaves.{occurrences, numbered, leaf_is_marked}
 use Rattle.cea_determinise.specs.Runs.{LeafSet, Automaton, agrees}
 
-abbrev pub first_set : Tree ℕ → LeafSet
+abbrev pub first_set : LeafTree ℕ → LeafSet
 first_set (leaf n) k = eqb k n
 first_set none k = false
 first_set (sequence u a b) k = first_set a k
 first_set (either a b) k = first_set a k || first_set b k
 first_set (plus u a) k = first_set a k
 
-abbrev pub last_set : Tree ℕ → LeafSet
+abbrev pub last_set : LeafTree ℕ → LeafSet
 last_set (leaf n) k = eqb k n
 last_set none k = false
 last_set (sequence u a b) k = last_set b k
 last_set (either a b) k = last_set a k || last_set b k
 last_set (plus u a) k = last_set a k
 
-abbrev pub follow_set : Tree ℕ → Bool → ℕ → LeafSet
+abbrev pub follow_set : LeafTree ℕ → Bool → ℕ → LeafSet
 follow_set (leaf n) t j k = false
 follow_set none t j k = false
 follow_set (sequence u a b) t j k = follow_set a t j k || (follow_set b t j k || (agrees u t && (last_set a j && first_set b k)))
@@ -27,7 +27,7 @@ follow_set (either a b) t j k = follow_set a t j k || follow_set b t j k
 follow_set (plus u a) t j k = follow_set a t j k || (agrees u t && (last_set a j && first_set a k))
 
 -- the position automaton of a tree of so many leaves
-abbrev pub automaton_over : Tree ℕ → ℕ → LeafSet → Automaton
+abbrev pub automaton_over : LeafTree ℕ → ℕ → LeafSet → Automaton
 automaton_over t size marks = record {
   size = size;
   first = first_set t;
@@ -37,5 +37,5 @@ automaton_over t size marks = record {
   marked = marks;
 }
 
-abbrev pub automaton_of : Tree Occurrence → Automaton
-automaton_of t = automaton_over (numbered 0 t) (length (occurrences t)) (marked (occurrences t))
+abbrev pub automaton_of : LeafTree Occurrence → Automaton
+automaton_of t = automaton_over (numbered 0 t) (length (occurrences t)) (leaf_is_marked (occurrences t))

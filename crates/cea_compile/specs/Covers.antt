@@ -4,7 +4,7 @@ use Rattle.std.specs.List.{list_any}
 use Rattle.cel_terms.specs.Meaning.{Stream}
 use Rattle.cel_terms.specs.Answers.{IsAscending}
 use Rattle.cea_determinise.specs.Runs.{LeafSet, Entry}
-use Rattle.cea_compile.specs.Paths.{Step, Reading, IsAfter}
+use Rattle.cea_compile.specs.Paths.{Step, Reading, MayComeAfter}
 
 -- The entry tells the substream's event at its position.
 pub record IsEntry (r : Reading) (size : ℕ) (x : Entry) : Type 0 where
@@ -14,7 +14,7 @@ pub record IsEntry (r : Reading) (size : ℕ) (x : Entry) : Type 0 where
 -- The entries tell the substream's events after a position, each the next of the one before, up to the end.
 abbrev pub CoverAfter : Reading → ℕ → ℕ → List Entry → ℕ → Type 0
 CoverAfter r size p [] end = p ≡ end
-CoverAfter r size p (x ∷ xs) end = IsAfter r.Has true p x.position × IsEntry r size x × CoverAfter r size x.position xs end
+CoverAfter r size p (x ∷ xs) end = MayComeAfter r.Has true p x.position × IsEntry r size x × CoverAfter r size x.position xs end
 
 -- The entries tell the substream's events from a start to an end.
 abbrev pub Cover : Reading → ℕ → ℕ → List Entry → ℕ → Type 0

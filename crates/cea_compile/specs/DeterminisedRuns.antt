@@ -5,8 +5,8 @@ use Rattle.stream_schema.specs.Types.{Declared}
 use Rattle.stream_schema.specs.declared.Event.{Event}
 use Rattle.cel_terms.specs.declared.Query.{Query}
 use Rattle.cel_terms.specs.Answers.{Answer, IsAnswer, IsAscending, IsInWindow, IsOfSubstream}
-use Rattle.cel_terms.specs.Expand.{Occurrence, tree_of}
-use Rattle.cel_terms.specs.Leaves.{occurrences, reads}
+use Rattle.query_leaves.specs.Expand.{Occurrence, tree_of}
+use Rattle.query_leaves.specs.Leaves.{occurrences, occurrence_reads}
 use Rattle.cea_determinise.specs.Runs.{Entry}
 use Rattle.cea_determinise.specs.Strict.{Standing, begin, run_standing, accepted_standing}
 use Rattle.cea_compile.specs.Covers.{is_listed}
@@ -25,7 +25,7 @@ from_to start end positions = filter (λ p. nat_le start p && nat_le p end) posi
 abbrev pub reads_at : Declared → Option Occurrence → Option Event → Bool
 reads_at schema None event = false
 reads_at schema (Some o) None = false
-reads_at schema (Some o) (Some event) = reads schema o event
+reads_at schema (Some o) (Some event) = occurrence_reads schema o event
 
 -- a position, and the leaves of the query that can read the event there
 abbrev pub entry_at : Declared → Query → List Event → ℕ → Entry
@@ -39,12 +39,12 @@ determinised_run schema q events positions start end marks =
     if is_listed span start && (is_listed span end && list_all (is_listed span) marks) then run_standing (automaton_of (tree_of q)) q.strict (is_listed marks) begin (map (entry_at schema q events) span) else None
 
 -- the determinised run of the answer's marks accepts
-abbrev pub IsAccepted : Declared → Query → List Event → List ℕ → ℕ → Answer → Type 0
-IsAccepted schema q events positions end answer =
+abbrev pub IsAcceptedRun : Declared → Query → List Event → List ℕ → ℕ → Answer → Type 0
+IsAcceptedRun schema q events positions end answer =
     accepted_standing (automaton_of (tree_of q)) (determinised_run schema q events positions answer.start end answer.marks) ≡ true
 
 -- A query has an answer at an end exactly where its marks ascend, the determinised run that takes them accepts, and it is in the window.
 abbrev pub AnswersAreAcceptedRuns : Type 0
 AnswersAreAcceptedRuns = (schema : Declared) (q : Query) (events : List Event) (end : ℕ) (positions : List ℕ) (answer : Answer) →
     ListsSubstream schema q events end positions →
-    IsAnswer schema q events end answer ↔ (IsAscending answer.marks × IsAccepted schema q events positions end answer × IsInWindow schema q events answer.start end)
+    IsAnswer schema q events end answer ↔ (IsAscending answer.marks × IsAcceptedRun schema q events positions end answer × IsInWindow schema q events answer.start end)

@@ -1,7 +1,7 @@
 -- What is found of an automaton so far: sets with room for all leaves, and which leaf follows which.
 use Rattle.std.specs.Prelude.{◌≡◌, ℕ, ◌<◌, Bool, true, false, List, [], length, slice_index_or, ⊤}
 use Rattle.cer_base.specs.Bits.{room_for}
-use Rattle.cel_terms.specs.Tree.{Tree, leaf, none, sequence, either, plus}
+use Rattle.query_leaves.specs.LeafTree.{LeafTree, leaf, none, sequence, either, plus}
 use Rattle.cea_determinise.specs.Cea.{row}
 use Rattle.cea_compile.specs.declared.followers.Followers.{Followers}
 use Rattle.cea_compile.specs.declared.ends.Ends.{Ends}
@@ -11,7 +11,7 @@ pub record HaveRoom (size : ℕ) (rows : List (List Bool)) : Type 0 where
   pub count : length rows ≡ size
   pub each : (j : ℕ) → j < size → length (slice_index_or rows j []) ≡ room_for size
 
-pub record HasRoom (size : ℕ) (f : Followers) : Type 0 where
+pub record FollowersHaveRoom (size : ℕ) (f : Followers) : Type 0 where
   pub near : HaveRoom size f.near.items
   pub far : HaveRoom size f.far.items
 
@@ -25,7 +25,7 @@ pub record EndsHaveRoom (size : ℕ) (e : Ends) : Type 0 where
   pub last : length e.last ≡ room_for size
 
 -- each number in the tree is below the size
-abbrev pub AreBelow : ℕ → Tree ℕ → Type 0
+abbrev pub AreBelow : ℕ → LeafTree ℕ → Type 0
 AreBelow size (leaf n) = n < size
 AreBelow size none = ⊤
 AreBelow size (sequence tight a b) = AreBelow size a × AreBelow size b

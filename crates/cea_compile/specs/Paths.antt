@@ -4,9 +4,9 @@ use Rattle.stream_schema.specs.declared.Event.{Event}
 use Rattle.cel_terms.specs.declared.Pred.{Pred}
 use Rattle.cel_terms.specs.Predicate.{holds}
 use Rattle.cel_terms.specs.Meaning.{Stream, IsTyped, Meaning, Valuation, Sequence, Repeated, OneOf, Nothing}
-use Rattle.cel_terms.specs.Tree.{Tree, leaf, none, sequence, either, plus}
-use Rattle.cel_terms.specs.Expand.{Occurrence}
-use Rattle.cel_terms.specs.Leaves.{names_in}
+use Rattle.query_leaves.specs.LeafTree.{LeafTree, leaf, none, sequence, either, plus}
+use Rattle.query_leaves.specs.Expand.{Occurrence}
+use Rattle.query_leaves.specs.Leaves.{names_in}
 
 abbrev pub AllTestsHold : Stream → List Pred → Event → Type 0
 AllTestsHold stream [] event = Unit {0}
@@ -23,7 +23,7 @@ pub record AtLeaf (stream : Stream) (l : Occurrence) (start end : ℕ) (v : Valu
   pub ends : end ≡ start
   pub bound : v ≡ record { position = start; names = l.names } ∷ []
 
-abbrev pub tree_meaning : Stream → Tree Occurrence → Meaning
+abbrev pub tree_meaning : Stream → LeafTree Occurrence → Meaning
 tree_meaning stream (leaf l) = AtLeaf stream l
 tree_meaning stream none = Nothing
 tree_meaning stream (sequence tight a b) = Sequence stream tight (tree_meaning stream a) (tree_meaning stream b)
@@ -41,32 +41,32 @@ pub record Reading : Type 1 where
   pub Reads : ℕ → ℕ → Type 0
 
 -- What may come after what: anything later, or, where tight, the next of the substream.
-pub record IsAfter (Has : ℕ → Type 0) (tight : Bool) (from to : ℕ) : Type 0 where
+pub record MayComeAfter (Has : ℕ → Type 0) (tight : Bool) (from to : ℕ) : Type 0 where
   pub later : from < to
   pub next : tight ≡ true → (p : ℕ) → Has p → from < p → p < to → ⊥
 
 -- The path leads through the tree from the start to the end.
-pub data Path (r : Reading) : Tree ℕ → ℕ → ℕ → List Step → Type 0 where
+pub data Path (r : Reading) : LeafTree ℕ → ℕ → ℕ → List Step → Type 0 where
   at : {k p : ℕ} → r.Reads k p → Path r (leaf k) p p (record { leaf = k; position = p } ∷ [])
-  then : {tight : Bool} {a b : Tree ℕ} {start middle next end : ℕ} {v w : List Step} → Path r a start middle v → IsAfter r.Has tight middle next → Path r b next end w → Path r (sequence tight a b) start end (v ++ w)
-  left : {a b : Tree ℕ} {start end : ℕ} {v : List Step} → Path r a start end v → Path r (either a b) start end v
-  right : {a b : Tree ℕ} {start end : ℕ} {v : List Step} → Path r b start end v → Path r (either a b) start end v
-  once : {tight : Bool} {a : Tree ℕ} {start end : ℕ} {v : List Step} → Path r a start end v → Path r (plus tight a) start end v
-  again : {tight : Bool} {a : Tree ℕ} {start middle next end : ℕ} {v w : List Step} → Path r a start middle v → IsAfter r.Has tight middle next → Path r (plus tight a) next end w → Path r (plus tight a) start end (v ++ w)
+  then : {tight : Bool} {a b : LeafTree ℕ} {start middle next end : ℕ} {v w : List Step} → Path r a start middle v → MayComeAfter r.Has tight middle next → Path r b next end w → Path r (sequence tight a b) start end (v ++ w)
+  left : {a b : LeafTree ℕ} {start end : ℕ} {v : List Step} → Path r a start end v → Path r (either a b) start end v
+  right : {a b : LeafTree ℕ} {start end : ℕ} {v : List Step} → Path r b start end v → Path r (either a b) start end v
+  once : {tight : Bool} {a : LeafTree ℕ} {start end : ℕ} {v : List Step} → Path r a start end v → Path r (plus tight a) start end v
+  again : {tight : Bool} {a : LeafTree ℕ} {start middle next end : ℕ} {v w : List Step} → Path r a start middle v → MayComeAfter r.Has tight middle next → Path r (plus tight a) next end w → Path r (plus tight a) start end (v ++ w)
 
 -- the leaf is in the tree
-abbrev pub HasLeaf : Tree ℕ → ℕ → Type 0
+abbrev pub HasLeaf : LeafTree ℕ → ℕ → Type 0
 HasLeaf (leaf n) k = k ≡ n
 HasLeaf none k = ⊥
 HasLeaf (sequence tight a b) k = HasLeaf a k ⊎ HasLeaf b k
 HasLeaf (either a b) k = HasLeaf a k ⊎ HasLeaf b k
 HasLeaf (plus tight a) k = HasLeaf a k
 
-abbrev pub AreApart : Tree ℕ → Tree ℕ → Type 0
+abbrev pub AreApart : LeafTree ℕ → LeafTree ℕ → Type 0
 AreApart a b = (k : ℕ) → HasLeaf a k → HasLeaf b k → ⊥
 
 -- no number names two leaves
-abbrev pub IsLinear : Tree ℕ → Type 0
+abbrev pub IsLinear : LeafTree ℕ → Type 0
 IsLinear (leaf n) = Unit {0}
 IsLinear none = Unit {0}
 IsLinear (sequence tight a b) = IsLinear a × IsLinear b × AreApart a b

@@ -2,23 +2,23 @@
 
 ghost use Rattle.std.specs.Prelude.{◌≡◌, ℕ, Bool, length, slice_get, IfOk};
 ghost use Rattle.cer_base.specs.Bits.{has, room_for};
-ghost use Rattle.cea_determinise.specs.Cea.{automaton_of as automaton_of_cea};
-ghost use Rattle.cea_compile.specs.LeafAutomaton.{automaton_of_leaves, is_marked};
-ghost use Rattle.cel_terms.specs.Lawful.{AreNumbered};
+ghost use Rattle.cea_determinise.specs.Cea.{automaton_of_cea};
+ghost use Rattle.cea_compile.specs.LeafAutomaton.{automaton_of_leaves, is_marked_leaf};
+ghost use Rattle.query_leaves.specs.Lawful.{AreNumbered};
 ghost use Rattle.cea_determinise.specs.Cea.{IsWellFormed};
 
 use crate::ends::ends_of;
 use crate::followers::Followers;
 use cea_determinise::cea::Cea;
-use cel_terms::leaves::{Leaf, Leaves};
 use cer_base::Memory;
 use cer_base::bits::Bits;
+use query_leaves::{Leaf, Leaves};
 use std::alloc::Global;
 
 /// The numbers of the marked leaves.
 fn marked(alloc: Global, list: &[Leaf]) -> Result<Bits, Memory>
     ensures room { IfOk result (λ b. length b ≡ room_for (length list.now)) }
-    ensures members { IfOk result (λ b. (k : ℕ) → has b k ≡ is_marked (slice_get list.now k)) }
+    ensures members { IfOk result (λ b. (k : ℕ) → has b k ≡ is_marked_leaf (slice_get list.now k)) }
 {
     let mut marked = Bits::blank(alloc, list.len())?;
     for (k, leaf) in list.iter().enumerate() {

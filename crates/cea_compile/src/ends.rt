@@ -2,14 +2,14 @@
 
 ghost use Rattle.std.specs.Prelude.{◌≡◌, ℕ, ◌<◌, ◌||◌, Bool, false, eqb, length, IfOk, OnOk};
 ghost use Rattle.cer_base.specs.Bits.{has, room_for};
-ghost use Rattle.cel_terms.specs.Shapes.{tree_of_shape};
+ghost use Rattle.query_leaves.specs.Shapes.{tree_of_shape};
 ghost use Rattle.cea_compile.specs.Compiled.{first_set, last_set, follow_set};
-ghost use Rattle.cea_compile.specs.Found.{HasRoom, pairs, AreBelow, EndsHaveRoom};
+ghost use Rattle.cea_compile.specs.Found.{FollowersHaveRoom, pairs, AreBelow, EndsHaveRoom};
 
 use crate::followers::Followers;
-use cel_terms::leaves::Shape;
 use cer_base::Memory;
 use cer_base::bits::Bits;
+use query_leaves::Shape;
 use std::alloc::Global;
 
 /// The leaves that a part may begin with, and those that it may end with.
@@ -51,13 +51,16 @@ pub fn ends_of(
     shape: &Shape,
     followers: &mut Followers,
 ) -> Result<Ends, Memory>
-    requires room { HasRoom size followers.old }
+    requires room { FollowersHaveRoom size followers.old }
     requires below { AreBelow size (tree_of_shape shape.now) }
     ensures ends { IfOk result (λ e. EndsHaveRoom size e) }
-    ensures first { IfOk result (λ e. (k : ℕ) → has e.first k ≡ first_set (tree_of_shape shape.now) k) }
-    ensures last { IfOk result (λ e. (k : ℕ) → has e.last k ≡ last_set (tree_of_shape shape.now) k) }
-    ensures room { OnOk result (HasRoom size followers.new) }
-    ensures pairs { OnOk result ((tight : Bool) (j k : ℕ) → pairs followers.new tight j k ≡ pairs followers.old tight j k || follow_set (tree_of_shape shape.now) tight j k) }
+    ensures first { IfOk result (λ e. (k : ℕ) → has e.first k
+        ≡ first_set (tree_of_shape shape.now) k) }
+    ensures last { IfOk result (λ e. (k : ℕ) → has e.last k
+        ≡ last_set (tree_of_shape shape.now) k) }
+    ensures room { OnOk result (FollowersHaveRoom size followers.new) }
+    ensures pairs { OnOk result ((tight : Bool) (j k : ℕ) → pairs followers.new tight j k
+        ≡ pairs followers.old tight j k || follow_set (tree_of_shape shape.now) tight j k) }
 {
     match shape {
         Shape::Never => none(alloc, size),

@@ -4,7 +4,7 @@ ghost use Rattle.std.specs.Prelude.{◌≡◌, ℕ, ◌<◌, ◌&&◌, ◌||◌,
 ghost use Rattle.cer_base.specs.Bits.{has, room_for};
 ghost use Rattle.cea_determinise.specs.Cea.{row};
 ghost use Rattle.cea_determinise.specs.Runs.{agrees};
-ghost use Rattle.cea_compile.specs.Found.{HaveRoom, HasRoom, pairs};
+ghost use Rattle.cea_compile.specs.Found.{HaveRoom, FollowersHaveRoom, pairs};
 
 use cer_base::Memory;
 use cer_base::bits::Bits;
@@ -35,7 +35,8 @@ fn link(rows: &mut [Bits], size: usize, from: &Bits, to: &Bits)
     requires same_room { length to.now ≡ room_for size }
     requires below { (j : ℕ) → has from.now j ≡ true → j < size }
     ensures room { HaveRoom size rows.new }
-    ensures pairs { (j k : ℕ) → row rows.new j k ≡ row rows.old j k || (has from.now j && has to.now k) }
+    ensures pairs { (j k : ℕ) → row rows.new j k
+        ≡ row rows.old j k || (has from.now j && has to.now k) }
 {
     for j in 0..size {
         if from.contains(j) {
@@ -47,7 +48,7 @@ fn link(rows: &mut [Bits], size: usize, from: &Bits, to: &Bits)
 impl Followers {
     /// No leaf follows any.
     pub fn none(alloc: Global, size: usize) -> Result<Followers, Memory>
-        ensures room { IfOk result (HasRoom size) }
+        ensures room { IfOk result (FollowersHaveRoom size) }
         ensures empty { IfOk result (λ f. (tight : Bool) (j k : ℕ) → pairs f tight j k ≡ false) }
     {
         Ok(Followers {
@@ -58,11 +59,12 @@ impl Followers {
 
     /// Each leaf of the one set is followed by each of the other.
     pub fn link(&mut self, size: usize, tight: bool, from: &Bits, to: &Bits)
-        requires room { HasRoom size self.old }
+        requires room { FollowersHaveRoom size self.old }
         requires same_room { length to.now ≡ room_for size }
         requires below { (j : ℕ) → has from.now j ≡ true → j < size }
-        ensures room { HasRoom size self.new }
-        ensures pairs { (u : Bool) (j k : ℕ) → pairs self.new u j k ≡ pairs self.old u j k || (agrees u tight && (has from.now j && has to.now k)) }
+        ensures room { FollowersHaveRoom size self.new }
+        ensures pairs { (u : Bool) (j k : ℕ) → pairs self.new u j k
+            ≡ pairs self.old u j k || (agrees u tight && (has from.now j && has to.now k)) }
     {
         if tight {
             link(self.near.as_mut_slice(), size, from, to);

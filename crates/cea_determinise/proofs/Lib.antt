@@ -2,3 +2,4 @@ pub mod Some
 pub mod Below
 pub mod Reached
 pub mod Growth
+pub mod Classes

@@ -1,9 +1,9 @@
 -- The stored successor is that of the definition.
-use Rattle.std.proofs.Common.{◌≡◌, ℕ, ◌<◌, Bool, true, false, ◌&&◌, ◌||◌, cond, List, Option, Some, None, refl, sym, ap, ◌∙◌, ◌⊎◌, inl, inr, arith, option_map}
-use Rattle.std.specs.Prelude.{not, option_and_then}
-use Rattle.std.proofs.lemmas.Bool.{and_parts, or_cases, false≢true}
-use Rattle.cea_determinise.specs.Runs.{LeafSet, Automaton, State, start, pair, some_below, candidates, patient, agrees, successor, has_leaf, next}
-use Rattle.cea_determinise.specs.Strict.{Phase, Standing, phase_after, next_standing}
+use Rattle.std.proofs.Common.{◌≡◌, ℕ, Bool, true, false, ◌&&◌, Some, None, refl, sym, ap, ◌∙◌}
+use Rattle.std.specs.Prelude.{not}
+use Rattle.cea_determinise.specs.Runs.{LeafSet, Automaton, pair, candidates, patient, agrees, successor, has_leaf}
+use Rattle.cea_determinise.specs.declared.cea.Phase.{Phase}
+use Rattle.cea_determinise.specs.Strict.{Standing, phase_after, next_standing}
 
 module _ (a : Automaton) (strict : Bool) (s : Standing) (bits : LeafSet) (mark : Bool) where
   -- the two sets are those of the successor

@@ -1,22 +1,19 @@
 -- The stored automaton and its stored states, as the automaton and the states that they mean.
--- This project's profile.
 use Rattle.std.specs.Prelude.{◌≡◌, ℕ, ◌<◌, Bool, true, false, List, [], Option, Some, None, slice_index_or, length}
 use Rattle.cer_base.specs.Bits.{has, room_for}
 use Rattle.cea_determinise.specs.declared.cea.Cea.{Cea}
-use Rattle.cea_determinise.specs.declared.cea.Place.{Place}
-use Rattle.cea_determinise.specs.declared.cea.Stage.{Stage}
-use Rattle.cea_determinise.specs.declared.cea.Stage.TheVariants.{Before, Within, After}
+use Rattle.cea_determinise.specs.declared.cea.StateSets.{StateSets}
 use Rattle.cea_determinise.specs.declared.cea.Side.{Side}
 use Rattle.cea_determinise.specs.declared.cea.Side.TheVariants.{Marked, Unmarked}
-use Rattle.cea_determinise.specs.Runs.{LeafSet, Automaton, State, pair}
-use Rattle.cea_determinise.specs.Strict.{Phase, before, within, after, Standing, begin}
+use Rattle.cea_determinise.specs.Runs.{LeafSet, Automaton, pair}
+use Rattle.cea_determinise.specs.Strict.{Standing, begin}
 
 -- the set of a row; a row that is not there is empty
 abbrev pub row : List (List Bool) → ℕ → LeafSet
 row rows j k = has (slice_index_or rows j []) k
 
-abbrev pub automaton_of : Cea → Automaton
-automaton_of c = record {
+abbrev pub automaton_of_cea : Cea → Automaton
+automaton_of_cea c = record {
   size = c.size;
   first = has c.first;
   last = has c.last;
@@ -43,24 +40,19 @@ pub record IsWellFormed (c : Cea) : Type 0 where
   pub far : AreRows c.size c.far.items
   pub marked : IsSet c.size c.marked
 
-abbrev pub phase_of : Stage → Phase
-phase_of Before = before
-phase_of Within = within
-phase_of After = after
-
-abbrev pub standing_of : Place → Standing
-standing_of p = record { sets = pair (has p.fresh) (has p.waiting); phase = phase_of p.stage }
+abbrev pub standing_of : StateSets → Standing
+standing_of p = record { sets = pair (has p.fresh) (has p.waiting); phase = p.phase }
 
 -- each set of the state is one of leaves below the size
-pub record IsPlace (size : ℕ) (p : Place) : Type 0 where
+pub record HasLeavesBelow (size : ℕ) (p : StateSets) : Type 0 where
   pub fresh : IsSet size p.fresh
   pub waiting : IsSet size p.waiting
 
--- the place of a state, no place being that of the start
-abbrev pub standing : Option Place → Standing
+-- the state of these sets, no sets being those of the start
+abbrev pub standing : Option StateSets → Standing
 standing None = begin
 standing (Some p) = standing_of p
 
-abbrev pub is_marked : Side → Bool
-is_marked Marked = true
-is_marked Unmarked = false
+abbrev pub takes_marked : Side → Bool
+takes_marked Marked = true
+takes_marked Unmarked = false

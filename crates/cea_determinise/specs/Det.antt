@@ -1,78 +1,96 @@
--- A table of numbered states and of the pairs whose successors are known. This project's profile.
-use Rattle.std.specs.Prelude.{◌≡◌, ℕ, zero, suc, ◌<◌, ◌≤◌, Bool, true, false, List, [], ◌∷◌, ◌++◌, Option, Some, None, option_map, length, slice_get, slice_index_or, IfSome, All}
+-- A table of numbered states, of numbered classes of events, and of the pairs of state and class whose
+-- successors are known. Events that the same leaves can read are of one class.
+use Rattle.std.specs.Prelude.{◌≡◌, ℕ, zero, suc, ◌<◌, ◌≤◌, Bool, true, false, List, [], ◌++◌, Option, Some, None, option_map, length, slice_get, slice_index_or, IfSome, All}
 use Rattle.cer_base.specs.Bits.{has, room_for}
 use Rattle.cea_determinise.specs.declared.cea.Cea.{Cea}
-use Rattle.cea_determinise.specs.declared.cea.Place.{Place}
-use Rattle.cea_determinise.specs.declared.table.Pair.{Pair}
+use Rattle.cea_determinise.specs.declared.cea.StateSets.{StateSets}
+use Rattle.cea_determinise.specs.declared.table.TransitionKey.{TransitionKey}
 use Rattle.cea_determinise.specs.declared.table.Both.{Both}
 use Rattle.cea_determinise.specs.declared.table.Successors.{Successors}
 use Rattle.cea_determinise.specs.Strict.{Standing, next_standing}
-use Rattle.cea_determinise.specs.Cea.{automaton_of, standing_of, standing, IsWellFormed, IsPlace}
+use Rattle.cea_determinise.specs.Cea.{automaton_of_cea, standing_of, standing, IsWellFormed, HasLeavesBelow}
 
--- The automaton, the states other than the start, and the known pairs with their successors, each list oldest first.
+-- The automaton, the states other than the start, for each class the leaves that can read its events, and the known pairs with their successors, each list oldest first.
 pub record Table : Type 0 where
   pub cea : Cea
-  pub places : List Place
-  pub pairs : List (Pair × Successors)
+  pub states : List StateSets
+  pub classes : List (List Bool)
+  pub transitions : List (TransitionKey × Successors)
 
--- the place of a number: none for the start, which is 0
-abbrev pub place_at : List Place → ℕ → Option Place
-place_at places zero = None
-place_at places (suc n) = slice_get places n
+-- the sets of a number: none for the start, which is 0
+abbrev pub sets_at : List StateSets → ℕ → Option StateSets
+sets_at states zero = None
+sets_at states (suc n) = slice_get states n
 
 -- the state of a number
-abbrev pub standing_at : List Place → ℕ → Standing
-standing_at places n = standing (place_at places n)
+abbrev pub standing_at : List StateSets → ℕ → Standing
+standing_at states n = standing (sets_at states n)
+
+-- the leaves that can read the events of the class with this number
+abbrev pub class_at : List (List Bool) → ℕ → List Bool
+class_at classes k = slice_index_or classes k []
 
 -- the state after the state of a number on an event
-abbrev pub after : Cea → List Place → ℕ → List Bool → Bool → Option Standing
-after cea places state bits mark = next_standing (automaton_of cea) cea.strict (standing_at places state) (has bits) mark
+abbrev pub standing_after : Cea → List StateSets → ℕ → List Bool → Bool → Option Standing
+standing_after cea states state bits mark = next_standing (automaton_of_cea cea) cea.strict (standing_at states state) (has bits) mark
 
 -- The number is that of the successor, and there is none exactly where the successor is none.
-pub record Leads (cea : Cea) (places : List Place) (state : ℕ) (bits : List Bool) (mark : Bool) (to : Option ℕ) : Type 0 where
-  pub known : IfSome to (λ n. n ≤ length places)
-  pub exact : option_map (standing_at places) to ≡ after cea places state bits mark
+pub record Leads (cea : Cea) (states : List StateSets) (state : ℕ) (bits : List Bool) (mark : Bool) (to : Option ℕ) : Type 0 where
+  pub known : IfSome to (λ n. n ≤ length states)
+  pub exact : option_map (standing_at states) to ≡ standing_after cea states state bits mark
 
--- The successors of the pair are those of the definition.
-pub record AreSuccessors (cea : Cea) (places : List Place) (p : Pair) (s : Successors) : Type 0 where
-  pub state : p.state ≤ length places
-  pub marked : Leads cea places p.state p.bits true s.marked
-  pub unmarked : Leads cea places p.state p.bits false s.unmarked
+-- The successors of the pair of state and class are those of the definition.
+pub record AreSuccessors (cea : Cea) (states : List StateSets) (classes : List (List Bool)) (p : TransitionKey) (s : Successors) : Type 0 where
+  pub state : p.state ≤ length states
+  pub class : p.class < length classes
+  pub marked : Leads cea states p.state (class_at classes p.class) true s.marked
+  pub unmarked : Leads cea states p.state (class_at classes p.class) false s.unmarked
 
--- Each state's sets are ones of leaves, and each pair's successors are those of the definition.
+-- Each state's sets are ones of leaves, each class has room for the leaves, and each pair's successors are those of the definition.
 pub record IsSound (t : Table) : Type 0 where
   pub well_formed : IsWellFormed t.cea
-  pub places : All (IsPlace t.cea.size) t.places
-  pub pairs : All (λ (e : Pair × Successors). AreSuccessors t.cea t.places e.0 e.1) t.pairs
+  pub states : All (HasLeavesBelow t.cea.size) t.states
+  pub classes : All (λ (bits : List Bool). length bits ≡ room_for t.cea.size) t.classes
+  pub transitions : All (λ (e : TransitionKey × Successors). AreSuccessors t.cea t.states t.classes e.0 e.1) t.transitions
 
 -- The old states keep their numbers, and each new one is a successor of the state on the event.
 pub record Reached (old : Table) (state : ℕ) (bits : List Bool) (new : Table) : Type 0 where
   pub cea : new.cea ≡ old.cea
-  pub more : List Place
-  pub places : new.places ≡ old.places ++ more
-  pub reached : All (λ p. (mark : Bool) × (Some (standing_of p) ≡ after old.cea old.places state bits mark)) more
+  pub more : List StateSets
+  pub states : new.states ≡ old.states ++ more
+  pub classes : new.classes ≡ old.classes
+  pub reached : All (λ p. (mark : Bool) × (Some (standing_of p) ≡ standing_after old.cea old.states state bits mark)) more
 
--- the pair leads from one of so many states, to such states
-abbrev pub StaysWithin : ℕ → Pair × Successors → Type 0
-StaysWithin n e = (e.0.state ≤ n) × IfSome e.1.marked (λ m. m ≤ n) × IfSome e.1.unmarked (λ m. m ≤ n)
+-- The pair is of one of so many states and one of so many classes, and leads to such states.
+pub record StaysWithin (states classes : ℕ) (e : TransitionKey × Successors) : Type 0 where
+  pub state : e.0.state ≤ states
+  pub class : e.0.class < classes
+  pub marked : IfSome e.1.marked (λ m. m ≤ states)
+  pub unmarked : IfSome e.1.unmarked (λ m. m ≤ states)
 
--- The place is the successor, with its sets below the size.
-pub record IsNext (t : Table) (state : ℕ) (bits : List Bool) (mark : Bool) (place : Option Place) : Type 0 where
-  pub exact : option_map standing_of place ≡ after t.cea t.places state bits mark
-  pub sets : IfSome place (IsPlace t.cea.size)
+-- The sets are those of the successor, of leaves below the size.
+pub record IsNext (t : Table) (state : ℕ) (bits : List Bool) (mark : Bool) (state_sets : Option StateSets) : Type 0 where
+  pub exact : option_map standing_of state_sets ≡ standing_after t.cea t.states state bits mark
+  pub sets : IfSome state_sets (HasLeavesBelow t.cea.size)
 
 -- both are the successors
 pub record AreBoth (t : Table) (state : ℕ) (bits : List Bool) (b : Both) : Type 0 where
   pub marked : IsNext t state bits true b.marked
   pub unmarked : IsNext t state bits false b.unmarked
 
--- the number is that of the place's state
-pub record IsNumber (places : List Place) (place : Option Place) (n : Option ℕ) : Type 0 where
-  pub exact : option_map (standing_at places) n ≡ option_map standing_of place
-  pub known : IfSome n (λ m. m ≤ length places)
+-- the number is that of the state with these sets
+pub record IsNumber (states : List StateSets) (state_sets : Option StateSets) (n : Option ℕ) : Type 0 where
+  pub exact : option_map (standing_at states) n ≡ option_map standing_of state_sets
+  pub known : IfSome n (λ m. m ≤ length states)
 
--- the old states stay, and what comes after them is the place alone
-pub record Adds (place : Option Place) (old new : List Place) : Type 0 where
-  pub more : List Place
-  pub places : new ≡ old ++ more
-  pub only : All (λ p. place ≡ Some p) more
+-- the old states stay, and what comes after them is the state with these sets alone
+pub record Adds (state_sets : Option StateSets) (old new : List StateSets) : Type 0 where
+  pub more : List StateSets
+  pub states : new ≡ old ++ more
+  pub only : All (λ p. state_sets ≡ Some p) more
+
+-- The table knows one class more, if it is new, and all else stays.
+pub record AddsClass (bits : List Bool) (old new : Table) : Type 0 where
+  pub more : List (List Bool)
+  pub only : All (λ (b : List Bool). b ≡ bits) more
+  pub grown : new ≡ record old { classes = old.classes ++ more }

@@ -1,6 +1,6 @@
 -- The position automaton of a pattern as sets of leaf numbers, and its determinised runs.
 -- Position automata are Glushkov's; that a waiting leaf lets events pass is "CORE: a Complex Event
--- Recognition Engine" (PVLDB 2022), near and far followers are this project's profile.
+-- Recognition Engine" (PVLDB 2022).
 use Rattle.std.specs.Prelude.{ℕ, zero, suc, Bool, true, false, not, ◌&&◌, ◌||◌, cond, List, [], ◌∷◌, Option, Some, None, option_and_then}
 
 -- A set of leaf numbers, by its test.
@@ -70,6 +70,6 @@ abbrev pub accepts : Automaton → State → Bool
 accepts a start = false
 accepts a (pair fresh waiting) = some_below a.size (λ k. fresh k && a.last k)
 
-abbrev pub accepted : Automaton → Option State → Bool
-accepted a None = false
-accepted a (Some s) = accepts a s
+abbrev pub accepted_run : Automaton → Option State → Bool
+accepted_run a None = false
+accepted_run a (Some s) = accepts a s

@@ -1,29 +1,25 @@
 -- Determinised runs that also watch that the marks are contiguous.
 use Rattle.std.specs.Prelude.{ℕ, Bool, true, false, List, [], ◌∷◌, Option, Some, None, option_and_then, option_map}
+use Rattle.cea_determinise.specs.declared.cea.Phase.{Phase}
+use Rattle.cea_determinise.specs.declared.cea.Phase.TheVariants.{Before, Within, After}
 use Rattle.cea_determinise.specs.Runs.{LeafSet, Automaton, State, start, next, Entry, accepts}
-
--- where the entries stand to the marked ones
-pub data Phase : Type 0 where
-  before : Phase
-  within : Phase
-  after : Phase
 
 -- Where marks need not be contiguous the phase stays.
 abbrev pub phase_after : Bool → Phase → Bool → Option Phase
 phase_after false p m = Some p
-phase_after true before true = Some within
-phase_after true before false = Some before
-phase_after true within true = Some within
-phase_after true within false = Some after
-phase_after true after true = None
-phase_after true after false = Some after
+phase_after true Before true = Some Within
+phase_after true Before false = Some Before
+phase_after true Within true = Some Within
+phase_after true Within false = Some After
+phase_after true After true = None
+phase_after true After false = Some After
 
 pub record Standing : Type 0 where
   pub sets : State
   pub phase : Phase
 
 abbrev pub begin : Standing
-begin = record { sets = start; phase = before }
+begin = record { sets = start; phase = Before }
 
 abbrev pub next_standing : Automaton → Bool → Standing → LeafSet → Bool → Option Standing
 next_standing a strict s bits mark = option_and_then (λ p. option_map (λ t. record { sets = t; phase = p }) (next a s.sets bits mark)) (phase_after strict s.phase mark)

@@ -23,7 +23,7 @@ pub struct Cea {
 
 /// Where a run stands to its marked events.
 #[derive(Drop, Debug, Clone, Copy)]
-pub enum Stage {
+pub enum Phase {
     Before,
     Within,
     After,
@@ -32,10 +32,10 @@ pub enum Stage {
 /// A state other than the start: the leaves that read the last event, those that read an earlier one
 /// and wait for a far follower, and where the run stands to its marks.
 #[derive(Drop, Debug)]
-pub struct Place {
+pub struct StateSets {
     pub fresh: Bits,
     pub waiting: Bits,
-    pub stage: Stage,
+    pub phase: Phase,
 }
 
 /// Whether an event is taken as marked.

@@ -1,19 +1,19 @@
 //! The determinised automaton, which finds its states as events come.
-ghost use Rattle.std.specs.Prelude.{◌≡◌, ◌≢◌, ℕ, ◌+◌, ◌<◌, ◌≤◌, Bool, true, false, List, [], ◌∷◌, ◌++◌, length, take, min, option_map, IfOk, IfErr, OnOk, OnErr, IfSome, All, Some, None, Ok};
+ghost use Rattle.std.specs.Prelude.{◌≡◌, ◌≢◌, ℕ, ◌+◌, ◌<◌, ◌≤◌, Bool, true, false, List, [], ◌∷◌, ◌++◌, length, take, min, option_map, IfOk, IfErr, OnOk, OnErr, IfSome, All, Contains, IsOk, Some, None, Ok, slice_get};
 ghost use Rattle.std.specs.Option.{option_copied};
 ghost use Rattle.std.specs.List.{IsDistinct};
 ghost use Rattle.std.specs.Map.{lookup};
 ghost use Rattle.cer_base.specs.Bits.{has, room_for};
-ghost use Rattle.cea_determinise.specs.Keys.{is_same_pair, is_same_place};
+ghost use Rattle.cea_determinise.specs.Keys.{is_same_key, are_same_sets};
 ghost use Rattle.cea_determinise.specs.Runs.{accepts};
-ghost use Rattle.cea_determinise.specs.Cea.{automaton_of, standing, standing_of, IsWellFormed, IsPlace};
-ghost use Rattle.cea_determinise.specs.declared.cea.Place.{Place};
+ghost use Rattle.cea_determinise.specs.Cea.{automaton_of_cea, standing, standing_of, IsWellFormed, HasLeavesBelow};
+ghost use Rattle.cea_determinise.specs.declared.cea.StateSets.{StateSets};
 ghost use Rattle.cea_determinise.specs.declared.table.Successors.{Successors};
-ghost use Rattle.cea_determinise.specs.Det.{place_at, standing_at, AreSuccessors, IsSound, Reached, StaysWithin, AreBoth, IsNumber, Adds};
+ghost use Rattle.cea_determinise.specs.Det.{sets_at, standing_at, class_at, AreSuccessors, IsSound, Reached, StaysWithin, AreBoth, IsNumber, Adds, AddsClass};
 
-use crate::cea::{Cea, Place, Side};
+use crate::cea::{Cea, Side, StateSets};
 use crate::successor::successor;
-use crate::table::{Both, Mark, Pair, State, Successors};
+use crate::table::{Both, EventClass, Mark, State, Successors, TransitionKey};
 use cer_base::Memory;
 use cer_base::bits::Bits;
 use cer_base::steps::Steps;
@@ -25,43 +25,41 @@ use std::sync::ledger::Ledger;
 /// The determinised automaton of a pattern, with the states met so far: seen as a `Table`.
 ///
 /// Each state has one number, the start 0 and the others from 1 in the order in which they were met.
-/// A pair of state and event is worked out once, and after that it is one look-up without memory.
+/// Events that the same leaves can read are of one class, which has a number too, from 0. A pair of
+/// state and class is worked out once, and after that it is one look-up of two numbers.
 #[derive(Drop)]
 pub struct Det {
     alloc: Global,
     cea: Cea,
-    places: IndexSet<Place>,
-    pairs: IndexMap<Pair, Successors>,
-    /// Where the key of a look-up is written, so that it takes no memory.
-    probe: Pair,
+    states: IndexSet<StateSets>,
+    /// For each class the leaves that can read its events.
+    classes: IndexSet<Bits>,
+    transitions: IndexMap<TransitionKey, Successors>,
 }
 
 impl Model for Det {
-    ghost use Rattle.std.specs.Prelude.{◌≡◌, length};
-    ghost use Rattle.cer_base.specs.Bits.{room_for};
     ghost use Rattle.cea_determinise.specs.Det.{Table, IsSound};
 
     ghost Value = { Table };
 
-    ghost view = { λ d. record { cea = d.cea; places = d.places.keys; pairs = d.pairs.entries } };
+    ghost view = { λ d. record { cea = d.cea; states = d.states.keys; classes = d.classes.keys; transitions = d.transitions.entries } };
 
-    ghost invariant = { λ d. IsSound (record { cea = d.cea; places = d.places.keys; pairs = d.pairs.entries }) × (length d.probe.bits ≡ room_for d.cea.size) };
+    ghost invariant = { λ d. IsSound (record { cea = d.cea; states = d.states.keys; classes = d.classes.keys; transitions = d.transitions.entries }) };
 }
 
 impl Det {
-    /// The automaton with no state met yet.
-    pub fn new(alloc: Global, cea: Cea) -> Result<Det, Memory>
+    /// The automaton with no state met yet. It takes no memory.
+    pub fn new(alloc: Global, cea: Cea) -> Det
         requires { IsWellFormed cea }
-        ensures { IfOk result (λ d. d ≡ record { cea = cea; places = []; pairs = [] }) }
+        ensures { result ≡ record { cea = cea; states = []; classes = []; transitions = [] } }
     {
-        let bits = Bits::blank(alloc, cea.size)?;
-        Ok(Det {
+        Det {
             alloc,
             cea,
-            places: IndexSet::new(alloc),
-            pairs: IndexMap::new(alloc),
-            probe: Pair { state: 0, bits },
-        })
+            states: IndexSet::new(alloc),
+            classes: IndexSet::new(alloc),
+            transitions: IndexMap::new(alloc),
+        }
     }
 
     /// The start.
@@ -73,151 +71,207 @@ impl Det {
 
     /// How many states other than the start were met. No state has two numbers.
     pub fn found(&self) -> u64
-        ensures count { result ≡ length self.now.places }
-        ensures once { IsDistinct is_same_place self.now.places }
+        ensures count { result ≡ length self.now.states }
+        ensures once { IsDistinct are_same_sets self.now.states }
     {
-        self.places.len() as u64
+        self.states.len() as u64
     }
 
-    /// How many states other than the start and how many pairs there are.
+    /// How many states other than the start, how many known pairs and how many classes there are.
     pub fn mark(&self) -> Mark
-        ensures states { result.states ≡ length self.now.places }
-        ensures pairs { result.pairs ≡ length self.now.pairs }
+        ensures states { result.states ≡ length self.now.states }
+        ensures pairs { result.pairs ≡ length self.now.transitions }
+        ensures classes { result.classes ≡ length self.now.classes }
         ensures sound { IsSound self.now }
     {
         Mark {
-            states: self.places.len() as u64,
-            pairs: self.pairs.len() as u64,
+            states: self.states.len() as u64,
+            pairs: self.transitions.len() as u64,
+            classes: self.classes.len() as u64,
         }
     }
 
-    /// The place of a state, None for the start.
-    fn place(&self, state: State) -> Option<&Place>
-        requires { state ≤ length self.now.places }
-        ensures place { option_copied result ≡ place_at self.now.places state }
-        ensures sets { IfSome result (λ p. IsPlace self.now.cea.size p.now) }
+    /// The leaves that can read the events of the class.
+    fn readers(&self, class: EventClass) -> &Bits
+        requires { class < length self.now.classes }
+        ensures bits { result.now ≡ class_at self.now.classes class }
+        ensures room { length result.now ≡ room_for self.now.cea.size }
+    {
+        &self.classes.as_slice()[class as usize]
+    }
+
+    /// The sets of a state, None for the start.
+    fn state_sets(&self, state: State) -> Option<&StateSets>
+        requires { state ≤ length self.now.states }
+        ensures value { option_copied result ≡ sets_at self.now.states state }
+        ensures below { IfSome result (λ p. HasLeavesBelow self.now.cea.size p.now) }
     {
         if state == 0 {
             return None;
         }
-        self.places.get_index((state - 1) as usize)
+        self.states.get_index((state - 1) as usize)
     }
 
     /// Whether the state accepts: one of the leaves that read the last event may be the last.
     pub fn accepts(&self, state: State) -> bool
-        requires { state ≤ length self.now.places }
-        ensures { result ≡ accepts (automaton_of self.now.cea) (standing_at self.now.places state).sets }
+        requires { state ≤ length self.now.states }
+        ensures { result ≡ accepts (automaton_of_cea self.now.cea)
+            (standing_at self.now.states state).sets }
     {
-        match self.place(state) {
+        match self.state_sets(state) {
             None => false,
-            Some(place) => place.fresh.meets(&self.cea.last),
+            Some(state_sets) => state_sets.fresh.meets(&self.cea.last),
         }
     }
 
-    /// Keeps the first so many states and pairs. The pairs that stay lead from states that stay, to
-    /// states that stay.
+    /// Keeps the first so many states, pairs and classes. The pairs that stay are of states and
+    /// classes that stay, and lead to states that stay.
     pub fn back(&mut self, mark: Mark)
-        requires states { mark.states ≤ length self.old.places }
-        requires pairs { mark.pairs ≤ length self.old.pairs }
-        requires within { All (StaysWithin mark.states) (take mark.pairs self.old.pairs) }
-        ensures { self.new ≡ record { cea = self.old.cea; places = take mark.states self.old.places; pairs = take mark.pairs self.old.pairs } }
+        requires states { mark.states ≤ length self.old.states }
+        requires pairs { mark.pairs ≤ length self.old.transitions }
+        requires classes { mark.classes ≤ length self.old.classes }
+        requires within { All (StaysWithin mark.states mark.classes)
+            (take mark.pairs self.old.transitions) }
+        ensures { self.new ≡ record {
+          cea = self.old.cea;
+          states = take mark.states self.old.states;
+          classes = take mark.classes self.old.classes;
+          transitions = take mark.pairs
+              self.old.transitions;
+        } }
     {
-        self.places.truncate(mark.states as usize);
-        self.pairs.truncate(mark.pairs as usize);
+        self.states.truncate(mark.states as usize);
+        self.transitions.truncate(mark.pairs as usize);
+        self.classes.truncate(mark.classes as usize);
+    }
+
+    /// The number of the class of the events that these leaves can read. One step.
+    ///
+    /// Only a new class takes memory. After `Memory` nothing has changed.
+    pub fn class<L: Ledger>(
+        &mut self,
+        bits: &Bits,
+        steps: &mut Steps<L>,
+    ) -> Result<EventClass, Memory>
+        requires { length bits.now ≡ room_for self.old.cea.size }
+        ensures class { IfOk result (λ c. slice_get self.new.classes c ≡ Some bits.now) }
+        ensures inside { IfOk result (λ c. c < length self.new.classes) }
+        ensures same { (self.new.cea ≡ self.old.cea) × (self.new.states ≡ self.old.states) }
+        ensures added { AddsClass bits.now self.old self.new }
+        ensures known { Contains self.old.classes bits.now → IsOk result × (self.new ≡ self.old) }
+        ensures refused { OnErr result (self.new ≡ self.old) }
+        ensures steps { steps.new ≡ steps.old + 1 }
+    {
+        steps.tick();
+        if let Some(class) = self.classes.get_index_of(bits) {
+            return Ok(class as u64);
+        }
+        let copy = bits.copy(self.alloc)?;
+        let (class, _) = self.classes.insert_full(copy)?;
+        Ok(class as u64)
     }
 
     /// The successors of the pair, where it is known.
-    fn known(&mut self, state: State, bits: &Bits) -> Option<Successors>
-        requires { length bits.now ≡ room_for self.old.cea.size }
-        ensures same { self.new ≡ self.old }
-        ensures value { result ≡ lookup (is_same_pair (record { state = state; bits = bits.now })) self.old.pairs }
-        ensures right { IfSome result (AreSuccessors self.old.cea self.old.places (record { state = state; bits = bits.now })) }
+    fn known(&self, key: TransitionKey) -> Option<Successors>
+        ensures value { result ≡ lookup (is_same_key key) self.now.transitions }
+        ensures right { IfSome result (AreSuccessors self.now.cea self.now.states self.now.classes
+            key) }
     {
-        self.probe.state = state;
-        self.probe.bits.clear();
-        self.probe.bits.unite(bits);
-        self.pairs.get(&self.probe).copied()
+        self.transitions.get(&key).copied()
     }
 
-    /// Both successors of the state on the event.
-    fn both(&self, state: State, bits: &Bits) -> Result<Both, Memory>
-        requires state { state ≤ length self.now.places }
-        requires bits { length bits.now ≡ room_for self.now.cea.size }
-        ensures { IfOk result (AreBoth self.now state bits.now) }
+    /// Both successors of the state on an event of the class.
+    fn both(&self, key: TransitionKey) -> Result<Both, Memory>
+        requires state { key.state ≤ length self.now.states }
+        requires class { key.class < length self.now.classes }
+        ensures { IfOk result (AreBoth self.now key.state (class_at self.now.classes key.class)) }
     {
-        let place = self.place(state);
-        let marked = successor(self.alloc, &self.cea, place, bits, Side::Marked)?;
-        let unmarked = successor(self.alloc, &self.cea, place, bits, Side::Unmarked)?;
+        let state_sets = self.state_sets(key.state);
+        let bits = self.readers(key.class);
+        let marked = successor(self.alloc, &self.cea, state_sets, bits, Side::Marked)?;
+        let unmarked = successor(self.alloc, &self.cea, state_sets, bits, Side::Unmarked)?;
         Ok(Both { marked, unmarked })
     }
 
-    /// Numbers both, and puts the pair into the table.
+    /// Numbers both, and puts them into the table of transitions. Two steps.
     fn enter<L: Ledger>(
         &mut self,
-        pair: Pair,
+        key: TransitionKey,
         both: Both,
         steps: &mut Steps<L>,
     ) -> Result<Successors, Memory>
-        requires state { pair.state ≤ length self.old.places }
-        requires both { AreBoth self.old pair.state pair.bits both }
-        requires new { lookup (is_same_pair pair) self.old.pairs ≡ None }
-        ensures successors { IfOk result (AreSuccessors self.new.cea self.new.places pair) }
-        ensures states { Reached self.old pair.state pair.bits self.new }
-        ensures pairs { OnErr result (self.new.pairs ≡ self.old.pairs) }
-        ensures entered { IfOk result (λ s. self.new.pairs ≡ self.old.pairs ++ (pair, s) ∷ []) }
-        ensures steps { steps.new ≤ steps.old + 2 }
+        requires state { key.state ≤ length self.old.states }
+        requires class { key.class < length self.old.classes }
+        requires both { AreBoth self.old key.state (class_at self.old.classes key.class) both }
+        requires new { lookup (is_same_key key) self.old.transitions ≡ None }
+        ensures successors { IfOk result (AreSuccessors self.new.cea self.new.states
+            self.new.classes key) }
+        ensures states { Reached self.old key.state (class_at self.old.classes key.class) self.new }
+        ensures pairs { OnErr result (self.new.transitions ≡ self.old.transitions) }
+        ensures entered { IfOk result (λ s. self.new.transitions ≡ self.old.transitions
+            ++ (key, s) ∷ []) }
+        ensures steps { steps.new ≡ steps.old + 2 }
     {
-        steps.tick();
-        let marked = number(&mut self.places, both.marked)?;
-        steps.tick();
-        let unmarked = number(&mut self.places, both.unmarked)?;
+        steps.tick_times(2);
+        let marked = number(&mut self.states, both.marked)?;
+        let unmarked = number(&mut self.states, both.unmarked)?;
         let found = Successors { marked, unmarked };
-        self.pairs.insert(pair, found)?;
+        self.transitions.insert(key, found)?;
         Ok(found)
     }
 
-    /// The successors of the state on the event. At most three steps.
+    /// The successors of the state on an event of the class.
     ///
-    /// A pair that is known is one step, takes no memory and changes nothing. After `Memory` all is as
-    /// it was, but that states may stand last that are successors of this pair.
+    /// A known pair is one step, takes no memory and changes nothing. A new one is worked out and
+    /// kept, which is three steps: the look-up, and a number for each of the two successors; after
+    /// `Memory` there were no more. After `Memory` all is as it was, but that states may stand last
+    /// that are successors of this pair.
     pub fn next<L: Ledger>(
         &mut self,
         state: State,
-        bits: &Bits,
+        class: EventClass,
         steps: &mut Steps<L>,
     ) -> Result<Successors, Memory>
-        requires state { state ≤ length self.old.places }
-        requires bits { length bits.now ≡ room_for self.old.cea.size }
-        ensures successors { IfOk result (λ s. AreSuccessors self.new.cea self.new.places (record { state = state; bits = bits.now }) s) }
-        ensures known { (s : Successors) → lookup (is_same_pair (record { state = state; bits = bits.now })) self.old.pairs ≡ Some s → (result ≡ Ok s) × (self.new ≡ self.old) × (steps.new ≡ steps.old + 1) }
-        ensures states { Reached self.old state bits.now self.new }
-        ensures pairs { OnErr result (self.new.pairs ≡ self.old.pairs) }
-        ensures new { lookup (is_same_pair (record { state = state; bits = bits.now })) self.old.pairs ≡ None → IfOk result (λ s. self.new.pairs ≡ self.old.pairs ++ (record { state = state; bits = bits.now }, s) ∷ []) }
+        requires state { state ≤ length self.old.states }
+        requires class { class < length self.old.classes }
+        ensures successors { IfOk result (AreSuccessors self.new.cea self.new.states
+            self.new.classes (record { state = state; class = class })) }
+        ensures known { (s : Successors) → lookup
+            (is_same_key (record { state = state; class = class })) self.old.transitions ≡ Some s
+            → (result ≡ Ok s) × (self.new ≡ self.old) × (steps.new ≡ steps.old + 1) }
+        ensures states { Reached self.old state (class_at self.old.classes class) self.new }
+        ensures pairs { OnErr result (self.new.transitions ≡ self.old.transitions) }
+        ensures new { lookup (is_same_key (record { state = state; class = class }))
+            self.old.transitions ≡ None → IfOk result
+            (λ s. self.new.transitions ≡ self.old.transitions
+            ++ (record { state = state; class = class }, s) ∷ []) }
+        ensures new_steps { lookup (is_same_key (record { state = state; class = class }))
+            self.old.transitions ≡ None → OnOk result (steps.new ≡ steps.old + 3) }
         ensures steps { steps.new ≤ steps.old + 3 }
     {
+        let key = TransitionKey { state, class };
         steps.tick();
-        if let Some(known) = self.known(state, bits) {
+        if let Some(known) = self.known(key) {
             return Ok(known);
         }
-        let both = self.both(state, bits)?;
-        let pair = Pair {
-            state,
-            bits: bits.copy(self.alloc)?,
-        };
-        self.enter(pair, both, steps)
+        let both = self.both(key)?;
+        self.enter(key, both, steps)
     }
 }
 
 /// The number of the state, which is the next one where the state is new.
-fn number(places: &mut IndexSet<Place>, place: Option<Place>) -> Result<Option<State>, Memory>
-    ensures numbered { IfOk result (IsNumber places.new.keys place) }
-    ensures added { Adds place places.old.keys places.new.keys }
+fn number(
+    states: &mut IndexSet<StateSets>,
+    state_sets: Option<StateSets>,
+) -> Result<Option<State>, Memory>
+    ensures numbered { IfOk result (IsNumber states.new.keys state_sets) }
+    ensures added { Adds state_sets states.old.keys states.new.keys }
 {
-    match place {
+    match state_sets {
         None => Ok(None),
-        Some(place) => {
-            let (index, _) = places.insert_full(place)?;
-            Ok(Some(index.min(places.len()) as u64 + 1))
+        Some(state_sets) => {
+            let (index, _) = states.insert_full(state_sets)?;
+            Ok(Some(index.min(states.len()) as u64 + 1))
         }
     }
 }

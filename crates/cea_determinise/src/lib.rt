@@ -1,8 +1,9 @@
 //! Position automata of patterns, determinised as events come.
 //!
 //! Promised: the successors of a state on an event are exactly those of the definition (`specs/Runs`,
-//! and `specs/Strict` for the phase); a state keeps its number, and no state has two; a pair of state
-//! and event that is known costs one look-up and no memory.
+//! and `specs/Strict` for the phase); a state keeps its number, and no state has two. Events that
+//! the same leaves can read are of one class, which is looked up once an event; a pair of state and
+//! class that is known is then one look-up of two numbers, without memory.
 //!
 //! It stands on `cer_base` for sets of leaves and counts of steps, and on `indexmap` for its tables.
 #![tactic(auto)]

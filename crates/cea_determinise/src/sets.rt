@@ -4,18 +4,20 @@ ghost use Rattle.std.specs.Option.{option_copied};
 ghost use Rattle.cer_base.specs.Bits.{has, room_for};
 ghost use Rattle.cea_determinise.specs.Runs.{some_below, candidates, patient, agrees, pair};
 ghost use Rattle.cea_determinise.specs.Strict.{phase_after, next_standing};
-ghost use Rattle.cea_determinise.specs.Cea.{row, automaton_of, IsSet, IsWellFormed, IsPlace, phase_of, standing_of, standing, is_marked};
+ghost use Rattle.cea_determinise.specs.Cea.{row, automaton_of_cea, IsSet, IsWellFormed, HasLeavesBelow, standing_of, standing, takes_marked};
 
-use crate::cea::{Cea, Place, Side, Stage};
+use crate::cea::{Cea, Phase, Side, StateSets};
 use cer_base::Memory;
 use cer_base::bits::Bits;
 use std::alloc::Global;
 
 /// Puts the rows of the members of the set in.
 fn unite_rows(into: &mut Bits, from: &Bits, rows: &[Bits])
-    requires rooms { (j : ℕ) (d : List Bool) → j < length rows.now → length (slice_index_or rows.now j d) ≡ length into.old }
+    requires rooms { (j : ℕ) (d : List Bool) → j < length rows.now
+        → length (slice_index_or rows.now j d) ≡ length into.old }
     ensures room { length into.new ≡ length into.old }
-    ensures members { (k : ℕ) → has into.new k ≡ has into.old k || some_below (length rows.now) (λ j. has from.now j && row rows.now j k) }
+    ensures members { (k : ℕ) → has into.new k ≡ has into.old k || some_below (length rows.now)
+        (λ j. has from.now j && row rows.now j k) }
 {
     for j in 0..rows.len() {
         if from.contains(j) {
@@ -25,15 +27,17 @@ fn unite_rows(into: &mut Bits, from: &Bits, rows: &[Bits])
 }
 
 /// The leaves that may read the next event after the state.
-pub fn may_read(alloc: Global, cea: &Cea, place: &Place) -> Result<Bits, Memory>
+pub fn may_read(alloc: Global, cea: &Cea, state_sets: &StateSets) -> Result<Bits, Memory>
     requires well_formed { IsWellFormed cea.now }
     ensures room { IfOk result (λ c. length c ≡ room_for cea.now.size) }
-    ensures members { IfOk result (λ c. (k : ℕ) → has c k ≡ candidates (automaton_of cea.now) (pair (has place.now.fresh) (has place.now.waiting)) k) }
+    ensures members { IfOk result (λ c. (k : ℕ) → has c k
+        ≡ candidates (automaton_of_cea cea.now) (pair (has state_sets.now.fresh)
+        (has state_sets.now.waiting)) k) }
 {
     let mut leaves = Bits::blank(alloc, cea.size)?;
-    unite_rows(&mut leaves, &place.fresh, cea.near.as_slice());
-    unite_rows(&mut leaves, &place.fresh, cea.far.as_slice());
-    unite_rows(&mut leaves, &place.waiting, cea.far.as_slice());
+    unite_rows(&mut leaves, &state_sets.fresh, cea.near.as_slice());
+    unite_rows(&mut leaves, &state_sets.fresh, cea.far.as_slice());
+    unite_rows(&mut leaves, &state_sets.waiting, cea.far.as_slice());
     Ok(leaves)
 }
 
@@ -55,22 +59,24 @@ fn has_far(cea: &Cea, leaf: usize) -> bool
 }
 
 /// Whether the leaf has read the last event or an earlier one.
-fn has_read(place: &Place, leaf: usize) -> bool
-    ensures { result ≡ has place.now.fresh leaf || has place.now.waiting leaf }
+fn has_read(state_sets: &StateSets, leaf: usize) -> bool
+    ensures { result ≡ has state_sets.now.fresh leaf || has state_sets.now.waiting leaf }
 {
-    place.fresh.contains(leaf) || place.waiting.contains(leaf)
+    state_sets.fresh.contains(leaf) || state_sets.waiting.contains(leaf)
 }
 
 /// The leaves of the state that let the next event pass.
-pub fn all_waiting(alloc: Global, cea: &Cea, place: &Place) -> Result<Bits, Memory>
+pub fn all_waiting(alloc: Global, cea: &Cea, state_sets: &StateSets) -> Result<Bits, Memory>
     requires well_formed { IsWellFormed cea.now }
-    requires place { IsPlace cea.now.size place.now }
+    requires state_sets { HasLeavesBelow cea.now.size state_sets.now }
     ensures set { IfOk result (IsSet cea.now.size) }
-    ensures members { IfOk result (λ w. (k : ℕ) → has w k ≡ patient (automaton_of cea.now) (pair (has place.now.fresh) (has place.now.waiting)) k) }
+    ensures members { IfOk result (λ w. (k : ℕ) → has w k
+        ≡ patient (automaton_of_cea cea.now) (pair (has state_sets.now.fresh)
+        (has state_sets.now.waiting)) k) }
 {
     let mut leaves = Bits::blank(alloc, cea.size)?;
     for leaf in 0..cea.size {
-        if has_read(place, leaf) && has_far(cea, leaf) {
+        if has_read(state_sets, leaf) && has_far(cea, leaf) {
             leaves.insert(leaf);
         }
     }
@@ -83,7 +89,9 @@ pub fn keep_readers(leaves: &mut Bits, cea: &Cea, bits: &Bits, side: Side)
     requires room { length leaves.old ≡ room_for cea.now.size }
     requires bits { length bits.now ≡ room_for cea.now.size }
     ensures room { length leaves.new ≡ length leaves.old }
-    ensures members { (k : ℕ) → has leaves.new k ≡ has leaves.old k && (has bits.now k && agrees (is_marked side) (has cea.now.marked k)) }
+    ensures members { (k : ℕ) → has leaves.new k
+        ≡ has leaves.old k && (has bits.now k && agrees (takes_marked side)
+        (has cea.now.marked k)) }
 {
     leaves.intersect(bits);
     match side {
@@ -93,16 +101,16 @@ pub fn keep_readers(leaves: &mut Bits, cea: &Cea, bits: &Bits, side: Side)
 }
 
 /// Where the run stands after the event, or None where marks would not be contiguous.
-pub fn stage_after(strict: bool, stage: Stage, side: Side) -> Option<Stage>
-    ensures { option_map phase_of result ≡ phase_after strict (phase_of stage) (is_marked side) }
+pub fn phase_after(strict: bool, phase: Phase, side: Side) -> Option<Phase>
+    ensures { result ≡ phase_after strict phase (takes_marked side) }
 {
     if !strict {
-        return Some(stage);
+        return Some(phase);
     }
-    match (stage, side) {
-        (Stage::Before | Stage::Within, Side::Marked) => Some(Stage::Within),
-        (Stage::Before, Side::Unmarked) => Some(Stage::Before),
-        (Stage::Within | Stage::After, Side::Unmarked) => Some(Stage::After),
-        (Stage::After, Side::Marked) => None,
+    match (phase, side) {
+        (Phase::Before | Phase::Within, Side::Marked) => Some(Phase::Within),
+        (Phase::Before, Side::Unmarked) => Some(Phase::Before),
+        (Phase::Within | Phase::After, Side::Unmarked) => Some(Phase::After),
+        (Phase::After, Side::Marked) => None,
     }
 }

@@ -4,33 +4,35 @@ ghost use Rattle.std.specs.Option.{option_copied};
 ghost use Rattle.cer_base.specs.Bits.{has, room_for};
 ghost use Rattle.cea_determinise.specs.Runs.{candidates, patient, agrees, has_leaf, pair};
 ghost use Rattle.cea_determinise.specs.Strict.{next_standing};
-ghost use Rattle.cea_determinise.specs.Cea.{automaton_of, IsSet, IsWellFormed, IsPlace, phase_of, standing_of, standing, is_marked};
+ghost use Rattle.cea_determinise.specs.Cea.{automaton_of_cea, IsSet, IsWellFormed, HasLeavesBelow, standing_of, standing, takes_marked};
 
-use crate::cea::{Cea, Place, Side, Stage};
-use crate::sets::{all_waiting, keep_readers, may_read, some_leaf, stage_after};
+use crate::cea::{Cea, Phase, Side, StateSets};
+use crate::sets::{all_waiting, keep_readers, may_read, phase_after, some_leaf};
 use cer_base::Memory;
 use cer_base::bits::Bits;
 use std::alloc::Global;
 
 /// Where the run stands to its marked events.
-fn stage_of(place: Option<&Place>) -> Stage
-    ensures { phase_of result ≡ (standing (option_copied place.entry)).phase }
+fn phase_of(state_sets: Option<&StateSets>) -> Phase
+    ensures { result ≡ (standing (option_copied state_sets.entry)).phase }
 {
-    match place {
-        None => Stage::Before,
-        Some(place) => place.stage,
+    match state_sets {
+        None => Phase::Before,
+        Some(state_sets) => state_sets.phase,
     }
 }
 
 /// The leaves that may read the next event.
-fn all_next(alloc: Global, cea: &Cea, place: Option<&Place>) -> Result<Bits, Memory>
+fn all_next(alloc: Global, cea: &Cea, state_sets: Option<&StateSets>) -> Result<Bits, Memory>
     requires { IsWellFormed cea.now }
     ensures room { IfOk result (λ c. length c ≡ room_for cea.now.size) }
-    ensures members { IfOk result (λ c. (k : ℕ) → has c k ≡ candidates (automaton_of cea.now) (standing (option_copied place.entry)).sets k) }
+    ensures members { IfOk result (λ c. (k : ℕ) → has c k
+        ≡ candidates (automaton_of_cea cea.now) (standing (option_copied state_sets.entry)).sets
+        k) }
 {
-    match place {
+    match state_sets {
         None => cea.first.copy(alloc),
-        Some(place) => may_read(alloc, cea, place),
+        Some(state_sets) => may_read(alloc, cea, state_sets),
     }
 }
 
@@ -38,16 +40,18 @@ fn all_next(alloc: Global, cea: &Cea, place: Option<&Place>) -> Result<Bits, Mem
 fn fresh_after(
     alloc: Global,
     cea: &Cea,
-    place: Option<&Place>,
+    state_sets: Option<&StateSets>,
     bits: &Bits,
     side: Side,
 ) -> Result<Bits, Memory>
     requires well_formed { IsWellFormed cea.now }
     requires bits { length bits.now ≡ room_for cea.now.size }
     ensures set { IfOk result (IsSet cea.now.size) }
-    ensures members { IfOk result (λ c. (k : ℕ) → has c k ≡ candidates (automaton_of cea.now) (standing (option_copied place.entry)).sets k && (has bits.now k && agrees (is_marked side) (has cea.now.marked k))) }
+    ensures members { IfOk result (λ c. (k : ℕ) → has c k
+        ≡ candidates (automaton_of_cea cea.now) (standing (option_copied state_sets.entry)).sets k
+        && (has bits.now k && agrees (takes_marked side) (has cea.now.marked k))) }
 {
-    let mut leaves = all_next(alloc, cea, place)?;
+    let mut leaves = all_next(alloc, cea, state_sets)?;
     keep_readers(&mut leaves, cea, bits, side);
     Ok(leaves)
 }
@@ -56,16 +60,18 @@ fn fresh_after(
 fn waiting_after(
     alloc: Global,
     cea: &Cea,
-    place: Option<&Place>,
+    state_sets: Option<&StateSets>,
     side: Side,
 ) -> Result<Bits, Memory>
     requires well_formed { IsWellFormed cea.now }
-    requires place { IfSome place (λ p. IsPlace cea.now.size p.now) }
+    requires state_sets { IfSome state_sets (λ p. HasLeavesBelow cea.now.size p.now) }
     ensures set { IfOk result (IsSet cea.now.size) }
-    ensures members { IfOk result (λ w. (k : ℕ) → has w k ≡ not (is_marked side) && patient (automaton_of cea.now) (standing (option_copied place.entry)).sets k) }
+    ensures members { IfOk result (λ w. (k : ℕ) → has w k
+        ≡ not (takes_marked side) && patient (automaton_of_cea cea.now)
+        (standing (option_copied state_sets.entry)).sets k) }
 {
-    match (place, side) {
-        (Some(place), Side::Unmarked) => all_waiting(alloc, cea, place),
+    match (state_sets, side) {
+        (Some(state_sets), Side::Unmarked) => all_waiting(alloc, cea, state_sets),
         _ => Bits::blank(alloc, cea.size),
     }
 }
@@ -74,7 +80,8 @@ fn waiting_after(
 fn have_leaf(cea: &Cea, fresh: &Bits, waiting: &Bits) -> bool
     requires fresh { IsSet cea.now.size fresh.now }
     requires waiting { IsSet cea.now.size waiting.now }
-    ensures { result ≡ has_leaf (automaton_of cea.now) (pair (has fresh.now) (has waiting.now)) }
+    ensures { result ≡ has_leaf (automaton_of_cea cea.now)
+        (pair (has fresh.now) (has waiting.now)) }
 {
     some_leaf(cea, fresh) || some_leaf(cea, waiting)
 }
@@ -83,28 +90,30 @@ fn have_leaf(cea: &Cea, fresh: &Bits, waiting: &Bits) -> bool
 pub fn successor(
     alloc: Global,
     cea: &Cea,
-    place: Option<&Place>,
+    state_sets: Option<&StateSets>,
     bits: &Bits,
     side: Side,
-) -> Result<Option<Place>, Memory>
+) -> Result<Option<StateSets>, Memory>
     requires well_formed { IsWellFormed cea.now }
-    requires place { IfSome place (λ p. IsPlace cea.now.size p.now) }
+    requires state_sets { IfSome state_sets (λ p. HasLeavesBelow cea.now.size p.now) }
     requires bits { length bits.now ≡ room_for cea.now.size }
-    ensures place { IfOk result (λ r. IfSome r (IsPlace cea.now.size)) }
-    ensures exact { IfOk result (λ r. option_map standing_of r ≡ next_standing (automaton_of cea.now) cea.now.strict (standing (option_copied place.entry)) (has bits.now) (is_marked side)) }
+    ensures state_sets { IfOk result (λ r. IfSome r (HasLeavesBelow cea.now.size)) }
+    ensures exact { IfOk result (λ r. option_map standing_of r
+        ≡ next_standing (automaton_of_cea cea.now) cea.now.strict
+        (standing (option_copied state_sets.entry)) (has bits.now) (takes_marked side)) }
 {
-    let stage = match stage_after(cea.strict, stage_of(place), side) {
-        Some(stage) => stage,
+    let phase = match phase_after(cea.strict, phase_of(state_sets), side) {
+        Some(phase) => phase,
         None => return Ok(None),
     };
-    let fresh = fresh_after(alloc, cea, place, bits, side)?;
-    let waiting = waiting_after(alloc, cea, place, side)?;
+    let fresh = fresh_after(alloc, cea, state_sets, bits, side)?;
+    let waiting = waiting_after(alloc, cea, state_sets, side)?;
     if !have_leaf(cea, &fresh, &waiting) {
         return Ok(None);
     }
-    Ok(Some(Place {
+    Ok(Some(StateSets {
         fresh,
         waiting,
-        stage,
+        phase,
     }))
 }

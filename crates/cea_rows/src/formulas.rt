@@ -75,7 +75,7 @@ fn post(alloc: Global, base: Formula, postfix: Postfix) -> Result<Formula, Memor
     Ok(Formula::Post(Box::new(alloc, base)?, postfixes))
 }
 
-/// A with a postfix, and another behind it.
+/// A with a postfix, and another after it.
 fn twice(alloc: Global, inner: Postfix, outer: Postfix) -> Result<Formula, Memory> {
     let once = post(alloc, of(alloc, "A")?, inner)?;
     post(alloc, once, outer)

@@ -6,10 +6,10 @@ use cea_compile::compile;
 use cea_determinise::det::Det;
 use cea_determinise::table::{State, Successors};
 use cel_terms::Query;
-use cel_terms::query_leaves::leaves;
 use cer_base::Memory;
 use cer_base::steps::Steps;
-use predicate_bits::conditions::Conditions;
+use predicate_bits::Conditions;
+use query_leaves::leaves_of;
 use std::alloc::Global;
 use std::marker::Model;
 use std::sync::ledger::Ledger;
@@ -36,8 +36,8 @@ impl Model for Machine {
 impl Machine {
     /// The machine of the query, with no state met yet.
     pub fn of(alloc: Global, schema: &Schema, query: &Query) -> Result<Machine, Memory> {
-        let leaves = leaves(alloc, schema, query)?;
-        let det = Det::new(alloc, compile(alloc, &leaves)?)?;
+        let leaves = leaves_of(alloc, schema, query)?;
+        let det = Det::new(alloc, compile(alloc, &leaves)?);
         let conditions = Conditions::of(alloc, leaves.list)?;
         Ok(Machine { conditions, det })
     }
@@ -65,6 +65,7 @@ impl Machine {
         }
         let mut bits = self.conditions.blank(alloc)?;
         self.conditions.fill(event, &mut bits);
-        Ok(Some(self.det.next(state, &bits, steps)?))
+        let class = self.det.class(&bits, steps)?;
+        Ok(Some(self.det.next(state, class, steps)?))
     }
 }

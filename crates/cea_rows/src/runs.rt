@@ -14,7 +14,7 @@ use std::sync::ledger::{Blank, Ledger};
 use stream_schema::Event;
 
 /// The state after the event, None where there is none.
-fn after<L: Ledger>(
+fn successor_on<L: Ledger>(
     alloc: Global,
     machine: &mut Machine,
     state: State,
@@ -44,7 +44,7 @@ fn is_accepted<L: Ledger>(
             break;
         }
         let is_marked = marks.contains(&(p as u64));
-        match after(alloc, machine, state, &events[p], is_marked, steps)? {
+        match successor_on(alloc, machine, state, &events[p], is_marked, steps)? {
             Some(number) => state = number,
             None => return Ok(false),
         }
@@ -175,7 +175,7 @@ fn count<L: Ledger>(
     let mut state = 0;
     let mut accepting: u64 = 0;
     for taken in 0..100 {
-        match after(alloc, machine, state, event, true, steps)? {
+        match successor_on(alloc, machine, state, event, true, steps)? {
             Some(number) => state = number,
             None => return Ok((taken, accepting)),
         }

@@ -44,7 +44,7 @@ const CHOICE: [Look; 3] = [
     (1, 0, 1, None, None),
 ];
 
-/// STRICT A ; B: 1 is {0}{} within the marks, 2 is {1}{} within them, 3 is {}{0} behind them.
+/// STRICT A ; B: 1 is {0}{} within the marks, 2 is {1}{} within them, 3 is {}{0} after them.
 const STRICT: [Look; 4] = [
     (0, 0, 1, Some(1), None),
     (1, 1, 1, Some(2), Some(3)),

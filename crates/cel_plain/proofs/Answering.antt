@@ -16,8 +16,9 @@ use Rattle.cel_terms.specs.Laws.{stream_of}
 use Rattle.cel_terms.proofs.Marked.{Binds, bound_within, lies_selected}
 use Rattle.cel_plain.specs.declared.found.Match.{Match}
 use Rattle.cel_plain.specs.Lists.{matches_of}
-use Rattle.cel_plain.specs.Below.{positions_of, marks_of, is_in_window, is_strict_enough, answer_of, same_answer, with_new, answers_from}
-use Rattle.cel_plain.specs.Valuations.{HasNoRepeats, AreAnswersAt}
+use Rattle.cel_plain.specs.Below.{substream_positions, marks_of, is_in_window, is_strict_enough, answer_of, same_answer, with_new, answers_from}
+use Rattle.cer_base.specs.Repeats.{HasNoRepeats}
+use Rattle.cel_plain.specs.Valuations.{AreAnswersAt}
 use Rattle.cel_plain.proofs.Members.{Among, contains_from, among_from, among_left, among_right, among_cases, any_among, among_any}
 use Rattle.cel_plain.proofs.Sequences.{and_from, and_to}
 use Rattle.cel_plain.proofs.Places.{rises, one_list}
@@ -159,10 +160,10 @@ some_if_from false a c e = absurd cc
 
 -- What a match gives is an answer,
 answer_from : (schema : Declared) (q : Query) (events : List Event) (end : ℕ) (m : Match) (a : Answer) →
-    Among m (matches_of schema events (positions_of schema q events end) q.formula) →
-    answer_of schema q events (positions_of schema q events end) end m ≡ Some a → IsAnswer schema q events end a
+    Among m (matches_of schema events (substream_positions schema q events end) q.formula) →
+    answer_of schema q events (substream_positions schema q events end) end m ≡ Some a → IsAnswer schema q events end a
 answer_from schema q events end m a has gives =
-    let positions = positions_of schema q events end in
+    let positions = substream_positions schema q events end in
     let marks = marks_of q.select events m.bounds in
     let i = some_if_from ((m.end == end) && (is_in_window schema q.window events m.start end && is_strict_enough q.strict positions marks)) (record { start = m.start; marks = marks }) a gives in
     let b = and_from (m.end == end) (is_in_window schema q.window events m.start end && is_strict_enough q.strict positions marks) i.0 in
@@ -180,9 +181,9 @@ answer_from schema q events end m a has gives =
 
 -- and each answer is given by one.
 answer_to : (schema : Declared) (q : Query) (events : List Event) (end : ℕ) (a : Answer) → IsAnswer schema q events end a →
-    (m : Match) × Among m (matches_of schema events (positions_of schema q events end) q.formula) × (answer_of schema q events (positions_of schema q events end) end m ≡ Some a)
+    (m : Match) × Among m (matches_of schema events (substream_positions schema q events end) q.formula) × (answer_of schema q events (substream_positions schema q events end) end m ≡ Some a)
 answer_to schema q events end a is =
-    let positions = positions_of schema q events end in
+    let positions = substream_positions schema q events end in
     let v = marks_from (substream schema q events end) q.select q.formula a.start end a.marks is.marks in
     let marks = marks_of q.select events v.0 in
     let m : Match = record { start = a.start; end = end; bounds = v.0 } in
@@ -201,11 +202,11 @@ answer_to schema q events end a is =
 
 -- A list that is computed so has exactly the answers, each once.
 pub are_answers : (schema : Declared) (q : Query) (events : List Event) (end : ℕ) (positions : List ℕ) (ms : List Match) (answers : List Answer) →
-    positions ≡ positions_of schema q events end → ms ≡ matches_of schema events positions q.formula → answers ≡ answers_from schema q events positions end ms →
+    positions ≡ substream_positions schema q events end → ms ≡ matches_of schema events positions q.formula → answers ≡ answers_from schema q events positions end ms →
     AreAnswersAt schema q events end answers
 are_answers schema q events end positions ms answers p m a =
-    let of = answer_of schema q events (positions_of schema q events end) end in
-    let all = matches_of schema events (positions_of schema q events end) q.formula in
+    let of = answer_of schema q events (substream_positions schema q events end) end in
+    let all = matches_of schema events (substream_positions schema q events end) q.formula in
     let same : answers ≡ fold (λ x y. with_new x (of y)) [] all =
     a ∙ (ap (answers_from schema q events positions end) m ∙ ap (λ (ps : List ℕ). answers_from schema q events ps end (matches_of schema events ps q.formula)) p) in
     subst (AreAnswersAt schema q events end) (sym same) record {
@@ -214,6 +215,6 @@ are_answers schema q events end positions ms answers p m a =
       once = once_through of [] all tt;
     }
   where
-    from_gathered : (x : Answer) → Among x [] ⊎ ((y : Match) × Among y (matches_of schema events (positions_of schema q events end) q.formula) × (answer_of schema q events (positions_of schema q events end) end y ≡ Some x)) → IsAnswer schema q events end x
+    from_gathered : (x : Answer) → Among x [] ⊎ ((y : Match) × Among y (matches_of schema events (substream_positions schema q events end) q.formula) × (answer_of schema q events (substream_positions schema q events end) end y ≡ Some x)) → IsAnswer schema q events end x
     from_gathered x (inl h) = absurd h
     from_gathered x (inr r) = answer_from schema q events end r.0 x r.1 r.2

@@ -9,14 +9,14 @@ use Rattle.cel_terms.specs.declared.Filter.{Filter}
 use Rattle.cel_terms.specs.declared.Postfix.{Postfix}
 use Rattle.cel_terms.specs.declared.Postfix.TheVariants.{Plus, NextPlus, Named, Keep}
 use Rattle.cel_terms.specs.declared.Formula.{Formula, Of, Chain', Linked', Either', Post', Under', Row_of-Formula, end_of-Formula, more_of-Formula, Row_of-Link, end_of-Link, more_of-Link}
-use Rattle.cel_terms.specs.Meaning.{Meaning, Valuation, Single, IsTyped, Sequence, Repeated, OneOf, Renamed, Filtered, type_name, under, with_postfix, with_postfixes, meaning, first_of_chain, chained, linked, one_of}
+use Rattle.cel_terms.specs.Meaning.{Meaning, Valuation, Single, IsTyped, Sequence, Repeated, OneOf, Renamed, Filtered, event_type_name, under, with_postfix, with_postfixes, meaning, first_of_chain, chained, linked, one_of}
 use Rattle.cel_terms.specs.Laws.{stream_of}
 use Rattle.std.proofs.lemmas.Slice.Eq.{bytes_eq-Decides}
 use Rattle.cel_terms.proofs.Operations.{Within, Moves-refl, sequence_within, repeated_within}
 use Rattle.cel_terms.proofs.Induction.{Every, Always, every_postfix}
 use Rattle.cel_terms.proofs.Intervals.{Lies, lies, lies_kept}
 use Rattle.cel_plain.specs.declared.found.Match.{Match}
-use Rattle.cel_plain.specs.Lists.{change, changed, has_type, single, single_at, singles, meets, filtered, in_sequence, up_to, after_postfix, matches_of, matches_of_first, matches_of_chain, matches_of_links, matches_of_choices}
+use Rattle.cel_plain.specs.Lists.{change, changed, is_of_type, single, single_at, singles, meets, filtered, in_sequence, up_to, after_postfix, matches_of, matches_of_first, matches_of_chain, matches_of_links, matches_of_choices}
 use Rattle.cel_plain.proofs.Members.{Among, contains_from, among_from, among_left, among_right, among_cases, among_map, map_among, among_filter_map, filter_map_among, among_filter, filter_among}
 use Rattle.cel_plain.proofs.Sequences.{In, if_to, if_from, sequence_in, in_sequence_means, up_to_repeat, repeat_up_to}
 use Rattle.cel_plain.proofs.Meets.{meets_from, meets_to}
@@ -27,23 +27,23 @@ pub record Same (part : Meaning) (ms : List Match) : Type 0 where
   pub back : Within (In ms) part
 
 -- a type
-typed_to : (schema : Declared) (name : List ℕ) (found : Option Event) (event : Event) → found ≡ Some event → type_name schema event ≡ Some name → option_map_or (has_type schema name) found false ≡ true
+typed_to : (schema : Declared) (name : List ℕ) (found : Option Event) (event : Event) → found ≡ Some event → event_type_name schema event ≡ Some name → option_map_or (is_of_type schema name) found false ≡ true
 typed_to schema name found event at typed =
-    let same : option_map_or (λ n. bytes_eq n name) (type_name schema event) false ≡ bytes_eq name name = ap (λ o. option_map_or (λ n. bytes_eq n name) o false) typed in
-    ap (λ o. option_map_or (has_type schema name) o false) at ∙ same ∙ (bytes_eq-Decides name name).1 refl
+    let same : option_map_or (λ n. bytes_eq n name) (event_type_name schema event) false ≡ bytes_eq name name = ap (λ o. option_map_or (λ n. bytes_eq n name) o false) typed in
+    ap (λ o. option_map_or (is_of_type schema name) o false) at ∙ same ∙ (bytes_eq-Decides name name).1 refl
 
 record TypedFrom (schema : Declared) (name : List ℕ) (found : Option Event) : Type 0 where
   event : Event
   at : found ≡ Some event
-  typed : type_name schema event ≡ Some name
+  typed : event_type_name schema event ≡ Some name
 
 named : (name : List ℕ) (found : Option (List ℕ)) → option_map_or (λ n. bytes_eq n name) found false ≡ true → found ≡ Some name
 named name None e = absurd cc
 named name (Some n) e = ap Some ((bytes_eq-Decides n name).0 e)
 
-typed_from : (schema : Declared) (name : List ℕ) (found : Option Event) → option_map_or (has_type schema name) found false ≡ true → TypedFrom schema name found
+typed_from : (schema : Declared) (name : List ℕ) (found : Option Event) → option_map_or (is_of_type schema name) found false ≡ true → TypedFrom schema name found
 typed_from schema name None e = absurd cc
-typed_from schema name (Some event) e = record { event = event; at = refl; typed = named name (type_name schema event) e }
+typed_from schema name (Some event) e = record { event = event; at = refl; typed = named name (event_type_name schema event) e }
 
 single_same : (schema : Declared) (events : List Event) (positions : List ℕ) (name : List ℕ) → Same (Single (stream_of schema events positions) name) (singles schema events positions name)
 single_same schema events positions name = record { to = to; back = back }
@@ -61,7 +61,7 @@ single_same schema events positions name = record { to = to; back = back }
     back s e v h =
         let m : Match = record { start = s; end = e; bounds = v } in
         let x = filter_map_among (single_at schema events name) m positions h in
-        let j = if_from (option_map_or (has_type schema name) (slice_get events x.0) false) (single name x.0) m x.2 in
+        let j = if_from (option_map_or (is_of_type schema name) (slice_get events x.0) false) (single name x.0) m x.2 in
         let t = typed_from schema name (slice_get events x.0) j.0 in
         let start : x.0 ≡ s = ap (λ (k : Match). k.start) j.1 in
         let end : x.0 ≡ e = ap (λ (k : Match). k.end) j.1 in

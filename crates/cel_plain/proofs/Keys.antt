@@ -14,7 +14,7 @@ use Rattle.cel_terms.specs.declared.Name.{Name}
 use Rattle.cel_terms.specs.declared.Query.{Query}
 use Rattle.cel_terms.specs.Predicate.{attr_value}
 use Rattle.cel_terms.specs.Answers.{query_types, values_at, IsOfSubstream}
-use Rattle.cel_plain.specs.Below.{below, same_flag, same_value, both_same, same_attr, reads, shares, shares_at, positions_of}
+use Rattle.cel_plain.specs.Below.{below, same_flag, same_value, both_same, same_attr, query_reads, shares, shares_at, substream_positions}
 use Rattle.cel_plain.proofs.Members.{Among, contains_from, among_from, any_among, among_any}
 use Rattle.cel_plain.proofs.Sequences.{and_from, and_to}
 use Rattle.cel_plain.proofs.Places.{below_to, below_from}
@@ -91,12 +91,12 @@ keys_to schema a b (n ∷ ns) key x y =
     (both_to (attr_value schema a n.text) (attr_value schema b n.text) p.0 p.2 (q.2 ∙ ap Some head))
     (keys_to schema a b ns p.1 p.3 (q.3 ∙ ap Some tail))
 
-reads_from : (schema : Declared) (q : Query) (event : Event) → reads schema q event ≡ true → Contains (query_types schema q.streams) event.ty
+reads_from : (schema : Declared) (q : Query) (event : Event) → query_reads schema q event ≡ true → Contains (query_types schema q.streams) event.ty
 reads_from schema q event e =
     let s = among_any (λ ty. ty == event.ty) (query_types schema q.streams) e in
     contains_from event.ty (query_types schema q.streams) (subst (λ (ty : ℕ). Among ty (query_types schema q.streams)) ((Decides-eqb s.0 event.ty).0 s.2) s.1)
 
-reads_to : (schema : Declared) (q : Query) (event : Event) → Contains (query_types schema q.streams) event.ty → reads schema q event ≡ true
+reads_to : (schema : Declared) (q : Query) (event : Event) → Contains (query_types schema q.streams) event.ty → query_reads schema q event ≡ true
 reads_to schema q event h = any_among (λ ty. ty == event.ty) event.ty (query_types schema q.streams) (among_from event.ty (query_types schema q.streams) h) ((Decides-eqb event.ty event.ty).1 refl)
 
 pub some_from : (test : Event → Bool) (o : Option Event) → option_map_or test o false ≡ true → (event : Event) × (o ≡ Some event) × (test event ≡ true)
@@ -108,8 +108,8 @@ listed_from schema q events end p None at h = absurd h
 listed_from schema q events end p (Some there) at h =
     let b = below_from (shares_at schema q events there) (length events) p h in
     let s = some_from (λ here. shares schema q here there) (slice_get events p) b.1 in
-    let r = and_from (reads schema q s.0) (reads schema q there && list_all (same_attr schema s.0 there) q.partition) s.2 in
-    let t = and_from (reads schema q there) (list_all (same_attr schema s.0 there) q.partition) r.1 in
+    let r = and_from (query_reads schema q s.0) (query_reads schema q there && list_all (same_attr schema s.0 there) q.partition) s.2 in
+    let t = and_from (query_reads schema q there) (list_all (same_attr schema s.0 there) q.partition) r.1 in
     let k = keys_from schema s.0 there q.partition t.1 in
     record {
       here = s.0;
@@ -122,16 +122,16 @@ listed_from schema q events end p (Some there) at h =
     }
 
 -- A position that is listed is of the substream,
-pub positions_from : (schema : Declared) (q : Query) (events : List Event) (end p : ℕ) → Contains (positions_of schema q events end) p → IsOfSubstream schema q events end p
-positions_from schema q events end p h = listed_from schema q events end p (slice_get events end) refl (among_from p (positions_of schema q events end) h)
+pub positions_from : (schema : Declared) (q : Query) (events : List Event) (end p : ℕ) → Contains (substream_positions schema q events end) p → IsOfSubstream schema q events end p
+positions_from schema q events end p h = listed_from schema q events end p (slice_get events end) refl (among_from p (substream_positions schema q events end) h)
 
 -- and each of the substream is listed.
-pub positions_to : (schema : Declared) (q : Query) (events : List Event) (end p : ℕ) → IsOfSubstream schema q events end p → Contains (positions_of schema q events end) p
+pub positions_to : (schema : Declared) (q : Query) (events : List Event) (end p : ℕ) → IsOfSubstream schema q events end p → Contains (substream_positions schema q events end) p
 positions_to schema q events end p i =
     let shared : shares schema q i.here i.there ≡ true =
-    and_to (reads schema q i.here) (reads schema q i.there && list_all (same_attr schema i.here i.there) q.partition) (reads_to schema q i.here i.here_has.0)
-    (and_to (reads schema q i.there) (list_all (same_attr schema i.here i.there) q.partition) (reads_to schema q i.there i.there_has.0) (keys_to schema i.here i.there q.partition i.key i.here_has.1 i.there_has.1)) in
+    and_to (query_reads schema q i.here) (query_reads schema q i.there && list_all (same_attr schema i.here i.there) q.partition) (reads_to schema q i.here i.here_has.0)
+    (and_to (query_reads schema q i.there) (list_all (same_attr schema i.here i.there) q.partition) (reads_to schema q i.there i.there_has.0) (keys_to schema i.here i.there q.partition i.key i.here_has.1 i.there_has.1)) in
     let passes : shares_at schema q events i.there p ≡ true = ap (λ o. option_map_or (λ here. shares schema q here i.there) o false) i.here_is ∙ shared in
     let listed : Among p (below (shares_at schema q events i.there) (length events)) = below_to (shares_at schema q events i.there) (length events) p (slice_get_within events p i.here i.here_is) passes in
-    contains_from p (positions_of schema q events end)
+    contains_from p (substream_positions schema q events end)
     (subst (λ (o : Option Event). Among p (option_map_or (λ there. below (shares_at schema q events there) (length events)) o [])) (sym i.there_is) listed)

@@ -7,19 +7,19 @@ use Rattle.std.proofs.lemmas.Bool.Decides.{Decides-eqb}
 use Rattle.stream_schema.specs.declared.Event.{Event}
 use Rattle.cel_terms.specs.declared.Name.{Name}
 use Rattle.cel_terms.specs.Meaning.{Bound, Valuation, lists_name, only_names}
-use Rattle.cel_terms.specs.Answers.{is_named, AreMarks, AreContiguous, WhereStrict}
+use Rattle.cel_terms.specs.Answers.{is_bound, AreMarks, AreContiguous, WhereStrict}
 use Rattle.cel_terms.proofs.Induction.{renamed}
 use Rattle.cel_terms.proofs.Marked.{Binds, any_from_binds, binds_from_any}
-use Rattle.cel_plain.specs.Below.{is_kept, marks_at, is_marked, marks_of, is_inside, is_contiguous, is_strict_enough}
+use Rattle.cel_plain.specs.Below.{is_kept, marks_at, is_mark, marks_of, is_inside, is_contiguous, is_strict_enough}
 use Rattle.cel_plain.proofs.Members.{Among, contains_from, among_from, any_among, among_any, or_here, or_later, or_cases}
 use Rattle.cel_plain.proofs.Sequences.{and_from, and_to}
 use Rattle.cel_plain.proofs.Places.{below_to, below_from, below_rises, ascends}
 
-named_if : (b : Bool) (n : List ℕ) (ns : List (List ℕ)) → is_named (cond b (n ∷ ns) ns) ≡ (b || is_named ns)
+named_if : (b : Bool) (n : List ℕ) (ns : List (List ℕ)) → is_bound (cond b (n ∷ ns) ns) ≡ (b || is_bound ns)
 named_if true n ns = refl
 named_if false n ns = refl
 
-kept_is : (q : List ℕ → Bool) (names : List (List ℕ)) → is_named (filter q names) ≡ list_any q names
+kept_is : (q : List ℕ → Bool) (names : List (List ℕ)) → is_bound (filter q names) ≡ list_any q names
 kept_is q [] = refl
 kept_is q (n ∷ ns) = named_if (q n) n (filter q ns) ∙ ap (λ b. q n || b) (kept_is q ns)
 
@@ -31,35 +31,35 @@ left_by (Some names) v = renamed (only_names names) v
 at_from : (b : Bound) (p : ℕ) (k : Bool) → ((b.position == p) && k) ≡ true → (b.position ≡ p) × (k ≡ true)
 at_from b p k e = let s = and_from (b.position == p) k e in ((Decides-eqb b.position p).0 s.0, s.1)
 
-marked_from : (select : Option (List Name)) (p : ℕ) (v : Valuation) → is_marked select v p ≡ true → Binds p (left_by select v)
+marked_from : (select : Option (List Name)) (p : ℕ) (v : Valuation) → is_mark select v p ≡ true → Binds p (left_by select v)
 marked_from None p [] e = absurd cc
 marked_from (Some names) p [] e = absurd cc
 marked_from None p (b ∷ v) e =
-    elim (or_cases (marks_at None p b) (is_marked None v p) e) [
+    elim (or_cases (marks_at None p b) (is_mark None v p) e) [
       | inl h ↦ inl (at_from b p (is_kept None b.names) h)
       | inr h ↦ inr (marked_from None p v h)
     ]
 marked_from (Some names) p (b ∷ v) e =
-    elim (or_cases (marks_at (Some names) p b) (is_marked (Some names) v p) e) [
+    elim (or_cases (marks_at (Some names) p b) (is_mark (Some names) v p) e) [
       | inl h ↦ (let a = at_from b p (is_kept (Some names) b.names) h in inl (a.0, kept_is (lists_name (map (λ n. n.text) names)) b.names ∙ a.1))
       | inr h ↦ inr (marked_from (Some names) p v h)
     ]
 
-marked_to : (select : Option (List Name)) (p : ℕ) (v : Valuation) → Binds p (left_by select v) → is_marked select v p ≡ true
+marked_to : (select : Option (List Name)) (p : ℕ) (v : Valuation) → Binds p (left_by select v) → is_mark select v p ≡ true
 marked_to None p [] h = absurd h
 marked_to (Some names) p [] h = absurd h
-marked_to None p (b ∷ v) (inl h) = or_here (marks_at None p b) (is_marked None v p) (and_to (b.position == p) (is_kept None b.names) ((Decides-eqb b.position p).1 h.0) h.1)
-marked_to None p (b ∷ v) (inr h) = or_later (marks_at None p b) (is_marked None v p) (marked_to None p v h)
-marked_to (Some names) p (b ∷ v) (inl h) = or_here (marks_at (Some names) p b) (is_marked (Some names) v p) (and_to (b.position == p) (is_kept (Some names) b.names) ((Decides-eqb b.position p).1 h.0) (sym (kept_is (lists_name (map (λ n. n.text) names)) b.names) ∙ h.1))
-marked_to (Some names) p (b ∷ v) (inr h) = or_later (marks_at (Some names) p b) (is_marked (Some names) v p) (marked_to (Some names) p v h)
+marked_to None p (b ∷ v) (inl h) = or_here (marks_at None p b) (is_mark None v p) (and_to (b.position == p) (is_kept None b.names) ((Decides-eqb b.position p).1 h.0) h.1)
+marked_to None p (b ∷ v) (inr h) = or_later (marks_at None p b) (is_mark None v p) (marked_to None p v h)
+marked_to (Some names) p (b ∷ v) (inl h) = or_here (marks_at (Some names) p b) (is_mark (Some names) v p) (and_to (b.position == p) (is_kept (Some names) b.names) ((Decides-eqb b.position p).1 h.0) (sym (kept_is (lists_name (map (λ n. n.text) names)) b.names) ∙ h.1))
+marked_to (Some names) p (b ∷ v) (inr h) = or_later (marks_at (Some names) p b) (is_mark (Some names) v p) (marked_to (Some names) p v h)
 
 -- The marks are those of what SELECT leaves, where all that it binds are positions of events.
 pub are_marks : (select : Option (List Name)) (events : List Event) (v : Valuation) → ((p : ℕ) → Binds p (left_by select v) → p < length events) → AreMarks (left_by select v) (marks_of select events v)
 are_marks select events v there = record {
-  ascending = ascends (marks_of select events v) (below_rises (is_marked select v) (length events));
+  ascending = ascends (marks_of select events v) (below_rises (is_mark select v) (length events));
   bound = λ p. (
-    λ has. any_from_binds p (left_by select v) (marked_from select p v (below_from (is_marked select v) (length events) p (among_from p (marks_of select events v) has)).1),
-    λ bound. (let b = binds_from_any p (left_by select v) bound in contains_from p (marks_of select events v) (below_to (is_marked select v) (length events) p (there p b) (marked_to select p v b))),
+    λ has. any_from_binds p (left_by select v) (marked_from select p v (below_from (is_mark select v) (length events) p (among_from p (marks_of select events v) has)).1),
+    λ bound. (let b = binds_from_any p (left_by select v) bound in contains_from p (marks_of select events v) (below_to (is_mark select v) (length events) p (there p b) (marked_to select p v b))),
   );
 }
 

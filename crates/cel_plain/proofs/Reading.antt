@@ -1,4 +1,4 @@
--- Which types a query reads.
+-- Which types a query reads. For callers of the crate too.
 use Rattle.std.proofs.Common.{◌≡◌, refl, sym, ap, ◌∙◌, ℕ, ◌+◌, add-one, cond, Bool, true, false, ◌||◌, List, [], ◌∷◌, Option, Some, None}
 use Rattle.std.specs.Prelude.{bytes_eq, slice_get, option_map, option_and_then, ◌==◌}
 use Rattle.std.specs.List.{list_any, position_from}

@@ -16,7 +16,7 @@ use Rattle.cel_terms.specs.declared.Window.{Window}
 use Rattle.cel_terms.specs.declared.Window.TheVariants.{Free, Events, Clock}
 use Rattle.cel_terms.specs.Predicate.{attr_value}
 use Rattle.cel_terms.specs.Meaning.{Bound, Valuation, lists_name}
-use Rattle.cel_terms.specs.Answers.{Answer, query_types, is_named}
+use Rattle.cel_terms.specs.Answers.{Answer, query_types, is_bound}
 use Rattle.cel_plain.specs.declared.found.Match.{Match}
 
 -- the numbers below a bound that pass, ascending
@@ -44,31 +44,31 @@ abbrev pub same_attr : Declared → Event → Event → Name → Bool
 same_attr schema a b name = both_same (attr_value schema a name.text) (attr_value schema b name.text)
 
 -- the query reads the event's type
-abbrev pub reads : Declared → Query → Event → Bool
-reads schema q event = list_any (λ ty. ty == event.ty) (query_types schema q.streams)
+abbrev pub query_reads : Declared → Query → Event → Bool
+query_reads schema q event = list_any (λ ty. ty == event.ty) (query_types schema q.streams)
 
 -- both are of the query's types and have equal keys
 abbrev pub shares : Declared → Query → Event → Event → Bool
-shares schema q here there = reads schema q here && (reads schema q there && list_all (same_attr schema here there) q.partition)
+shares schema q here there = query_reads schema q here && (query_reads schema q there && list_all (same_attr schema here there) q.partition)
 
 abbrev pub shares_at : Declared → Query → List Event → Event → ℕ → Bool
 shares_at schema q events there p = option_map_or (λ here. shares schema q here there) (slice_get events p) false
 
 -- the positions of the substream that the event at end is in
-abbrev pub positions_of : Declared → Query → List Event → ℕ → List ℕ
-positions_of schema q events end =
+abbrev pub substream_positions : Declared → Query → List Event → ℕ → List ℕ
+substream_positions schema q events end =
     option_map_or (λ there. below (shares_at schema q events there) (length events)) (slice_get events end) []
 
 -- SELECT leaves some name of the position
 abbrev pub is_kept : Option (List Name) → List (List ℕ) → Bool
-is_kept None names = is_named names
+is_kept None names = is_bound names
 is_kept (Some listed) names = list_any (lists_name (map (λ n. n.text) listed)) names
 
 abbrev pub marks_at : Option (List Name) → ℕ → Bound → Bool
 marks_at select p b = (b.position == p) && is_kept select b.names
 
-abbrev pub is_marked : Option (List Name) → Valuation → ℕ → Bool
-is_marked select v p = list_any (marks_at select p) v
+abbrev pub is_mark : Option (List Name) → Valuation → ℕ → Bool
+is_mark select v p = list_any (marks_at select p) v
 
 abbrev pub is_inside : List ℕ → ℕ → Bool
 is_inside marks p = list_any (λ m. nat_lt m p) marks && list_any (λ m. nat_lt p m) marks
@@ -92,7 +92,7 @@ is_in_window schema window events start end =
     option_map_or (λ first. option_map_or (window_holds schema window start end first) (slice_get events end) false) (slice_get events start) false
 
 abbrev pub marks_of : Option (List Name) → List Event → Valuation → List ℕ
-marks_of select events v = below (is_marked select v) (length events)
+marks_of select events v = below (is_mark select v) (length events)
 
 -- STRICT asks for contiguous marks
 abbrev pub is_strict_enough : Bool → List ℕ → List ℕ → Bool

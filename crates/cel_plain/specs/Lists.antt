@@ -12,7 +12,7 @@ use Rattle.cel_terms.specs.declared.Postfix.TheVariants.{Plus, NextPlus, Named, 
 use Rattle.cel_terms.specs.declared.Formula.{Formula, Of, Chain', Linked', Either', Post', Under', Row_of-Formula, end_of-Formula, more_of-Formula, Row_of-Link, end_of-Link, more_of-Link}
 use Rattle.cel_terms.specs.declared.Link.{Link, out-Link}
 use Rattle.cel_terms.specs.Predicate.{holds}
-use Rattle.cel_terms.specs.Meaning.{Bound, Valuation, type_name, lists_name, with_name, only_names}
+use Rattle.cel_terms.specs.Meaning.{Bound, Valuation, event_type_name, lists_name, with_name, only_names}
 use Rattle.cel_plain.specs.declared.found.Match.{Match}
 
 abbrev pub is_between : ℕ → ℕ → ℕ → Bool
@@ -54,15 +54,15 @@ changed_bound p b = record { position = b.position; names = change p b.names }
 abbrev pub changed : Postfix → Match → Match
 changed p m = record { start = m.start; end = m.end; bounds = map (changed_bound p) m.bounds }
 
-abbrev pub has_type : Declared → List ℕ → Event → Bool
-has_type schema name event = option_map_or (λ n. bytes_eq n name) (type_name schema event) false
+abbrev pub is_of_type : Declared → List ℕ → Event → Bool
+is_of_type schema name event = option_map_or (λ n. bytes_eq n name) (event_type_name schema event) false
 
 abbrev pub single : List ℕ → ℕ → Match
 single name position = record { start = position; end = position; bounds = record { position = position; names = name ∷ [] } ∷ [] }
 
 abbrev pub single_at : Declared → List Event → List ℕ → ℕ → Option Match
 single_at schema events name position =
-    if option_map_or (has_type schema name) (slice_get events position) false then Some (single name position) else None
+    if option_map_or (is_of_type schema name) (slice_get events position) false then Some (single name position) else None
 
 abbrev pub singles : Declared → List Event → List ℕ → List ℕ → List Match
 singles schema events positions name = filter_map (single_at schema events name) positions
@@ -122,14 +122,14 @@ abbrev mutual
   matches_of_choices schema events positions (more_of-Formula f rest) = matches_of schema events positions f ++ matches_of_choices schema events positions rest
 
 -- the formulas one after another
-abbrev pub chain_of : Declared → List Event → List ℕ → List Formula → List Match
-chain_of schema events positions [] = []
-chain_of schema events positions (f ∷ fs) = fold (λ before g. in_sequence positions false before (matches_of schema events positions g)) (matches_of schema events positions f) fs
+abbrev pub listed_chain : Declared → List Event → List ℕ → List Formula → List Match
+listed_chain schema events positions [] = []
+listed_chain schema events positions (f ∷ fs) = fold (λ before g. in_sequence positions false before (matches_of schema events positions g)) (matches_of schema events positions f) fs
 
 -- the links one after another, after what stands before them
-abbrev pub links_of : Declared → List Event → List ℕ → List Match → List Link → List Match
-links_of schema events positions = fold (λ before l. in_sequence positions (out-Link l).tight before (matches_of schema events positions (out-Link l).next))
+abbrev pub listed_links : Declared → List Event → List ℕ → List Match → List Link → List Match
+listed_links schema events positions = fold (λ before l. in_sequence positions (out-Link l).tight before (matches_of schema events positions (out-Link l).next))
 
 -- those of each formula
-abbrev pub choices_of : Declared → List Event → List ℕ → List Formula → List Match
-choices_of schema events positions = flat_map (matches_of schema events positions)
+abbrev pub listed_choices : Declared → List Event → List ℕ → List Formula → List Match
+listed_choices schema events positions = flat_map (matches_of schema events positions)

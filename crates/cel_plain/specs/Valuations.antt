@@ -1,5 +1,6 @@
 -- What the evaluation promises.
-use Rattle.std.specs.Prelude.{ℕ, List, [], ◌∷◌, Contains}
+use Rattle.std.specs.Prelude.{ℕ, List, Contains}
+use Rattle.cer_base.specs.Repeats.{HasNoRepeats}
 use Rattle.stream_schema.specs.Types.{Declared}
 use Rattle.stream_schema.specs.declared.Event.{Event}
 use Rattle.cel_terms.specs.declared.Query.{Query}
@@ -11,11 +12,6 @@ use Rattle.cel_plain.specs.declared.found.Match.{Match}
 pub record AreMatchesOf (part : Meaning) (found : List Match) : Type 0 where
   pub each : (m : Match) → Contains found m → part m.start m.end m.bounds
   pub all : (start end : ℕ) (v : Valuation) → part start end v → Contains found (record { start = start; end = end; bounds = v })
-
--- no element stands twice
-abbrev pub HasNoRepeats : List Answer → Type 0
-HasNoRepeats [] = Unit {0}
-HasNoRepeats (a ∷ as') = (Contains as' a → ⊥) × HasNoRepeats as'
 
 -- The list has exactly the answers of the query at the end, each once.
 pub record AreAnswersAt (schema : Declared) (q : Query) (events : List Event) (end : ℕ) (answers : List Answer) : Type 0 where

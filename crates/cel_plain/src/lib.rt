@@ -3,7 +3,7 @@
 //! Promised: `answers::answers` lists exactly the complex events of a query at a position, each
 //! once; `matches::valuations` exactly the valuations of a formula with their intervals;
 //! `predicate::holds` tells exactly whether a predicate holds of an event. The only other answer is
-//! want of memory. It may take exponential time, and ends.
+//! memory that ran out. It may take exponential time, and ends.
 //! It stands on `cel_terms` and `stream_schema`.
 #![tactic(auto)]
 

@@ -2,9 +2,9 @@
 
 ghost use Rattle.std.specs.Prelude.{◌≡◌, ◌==◌, ◌||◌, not, IfOk, Some, None, map, nat_lt};
 ghost use Rattle.std.specs.List.{list_any, list_all};
-ghost use Rattle.cel_terms.specs.Answers.{is_named};
+ghost use Rattle.cel_terms.specs.Answers.{is_bound};
 ghost use Rattle.cel_terms.specs.Meaning.{lists_name};
-ghost use Rattle.cel_plain.specs.Below.{is_kept, marks_at, is_marked, marks_of, is_inside, is_contiguous};
+ghost use Rattle.cel_plain.specs.Below.{is_kept, marks_at, is_mark, marks_of, is_inside, is_contiguous};
 
 use crate::found::BoundAt;
 use crate::postfix::lists;
@@ -36,8 +36,8 @@ fn marks_at(select: &Option<Names>, position: Pos, bound: &BoundAt) -> bool
 }
 
 /// Whether the position is in the set of some name that SELECT leaves.
-fn is_marked(select: &Option<Names>, bounds: &[BoundAt], position: Pos) -> bool
-    ensures { result ≡ is_marked select.now bounds.now position }
+fn is_mark(select: &Option<Names>, bounds: &[BoundAt], position: Pos) -> bool
+    ensures { result ≡ is_mark select.now bounds.now position }
 {
     bounds.iter().any(|bound| marks_at(select, position, bound))
 }
@@ -53,7 +53,7 @@ pub fn marks(
 {
     let mut found = Vec::new(alloc);
     for position in 0..events.len() {
-        if is_marked(select, bounds, position as u64) {
+        if is_mark(select, bounds, position as u64) {
             found.push(position as u64)?;
         }
     }

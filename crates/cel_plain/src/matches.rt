@@ -4,7 +4,7 @@ ghost use Rattle.std.specs.Prelude.{◌≡◌, IfOk};
 ghost use Rattle.cel_terms.specs.Laws.{stream_of};
 ghost use Rattle.cel_terms.specs.Meaning.{meaning};
 ghost use Rattle.cel_plain.specs.Valuations.{AreMatchesOf};
-ghost use Rattle.cel_plain.specs.Lists.{matches_of, chain_of, links_of, choices_of};
+ghost use Rattle.cel_plain.specs.Lists.{matches_of, listed_chain, listed_links, listed_choices};
 
 use crate::filter::all_filtered;
 use crate::found::{Match, add_copies};
@@ -25,7 +25,7 @@ fn chain(
     positions: &[Pos],
     parts: &[Formula],
 ) -> Result<Vec<Match>, Memory>
-    ensures { IfOk result (λ found. found.items ≡ chain_of schema.now events.now positions.now parts.now) }
+    ensures { IfOk result (λ found. found.items ≡ listed_chain schema.now events.now positions.now parts.now) }
 {
     let mut found = Vec::new(alloc);
     for (i, part) in parts.iter().enumerate() {
@@ -49,7 +49,7 @@ fn linked(
     before: Vec<Match>,
     links: &[Link],
 ) -> Result<Vec<Match>, Memory>
-    ensures { IfOk result (λ found. found.items ≡ links_of schema.now events.now positions.now before.items links.now) }
+    ensures { IfOk result (λ found. found.items ≡ listed_links schema.now events.now positions.now before.items links.now) }
 {
     let mut found = before;
     for link in links {
@@ -74,7 +74,7 @@ fn either(
     positions: &[Pos],
     choices: &[Formula],
 ) -> Result<Vec<Match>, Memory>
-    ensures { IfOk result (λ found. found.items ≡ choices_of schema.now events.now positions.now choices.now) }
+    ensures { IfOk result (λ found. found.items ≡ listed_choices schema.now events.now positions.now choices.now) }
 {
     let mut found = Vec::new(alloc);
     for choice in choices {

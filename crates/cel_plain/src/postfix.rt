@@ -6,7 +6,7 @@ ghost use Rattle.cel_terms.specs.Meaning.{with_name, only_names, lists_name};
 ghost use Rattle.cel_plain.specs.Lists.{change, changed, changed_bound, after_postfix};
 
 use crate::found::{BoundAt, Match};
-use crate::sequence::repeated;
+use crate::sequence::repetitions;
 use cel_terms::{Name, Postfix};
 use cer_base::{Listed, Memory, Pos, Text};
 use std::alloc::Global;
@@ -121,8 +121,8 @@ fn after_postfix(
     ensures { IfOk result (λ after. after.items ≡ after_postfix events.now positions.now part.now postfix.now) }
 {
     match postfix {
-        Postfix::Plus => repeated(alloc, positions, false, part, events.len()),
-        Postfix::NextPlus => repeated(alloc, positions, true, part, events.len()),
+        Postfix::Plus => repetitions(alloc, positions, false, part, events.len()),
+        Postfix::NextPlus => repetitions(alloc, positions, true, part, events.len()),
         Postfix::Named(_) => changed(alloc, postfix, part),
         Postfix::Keep(_) => changed(alloc, postfix, part),
     }

@@ -6,8 +6,7 @@ ghost use Rattle.std.specs.List.{list_all, list_any, position_from};
 ghost use Rattle.cel_terms.specs.Predicate.{attr_value, some_meets, holds};
 
 use cel_terms::Pred;
-use cel_terms::compare::is_met_by;
-use stream_schema::{Attr, Event, Schema, Value};
+use stream_schema::{Attr, Event, Schema, Value, is_met_by};
 
 /// Whether the attribute has the name.
 fn is_named(attr: &Attr, name: &str) -> bool

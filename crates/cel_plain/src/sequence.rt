@@ -60,7 +60,7 @@ pub fn in_sequence(
 }
 
 /// The matches again and again, each after the one before: at most `rounds` times more.
-pub fn repeated(
+pub fn repetitions(
     alloc: Global,
     positions: &[Pos],
     tight: bool,

@@ -3,7 +3,7 @@
 ghost use Rattle.std.specs.Prelude.{◌≡◌, IfOk, false, slice_get};
 ghost use Rattle.std.specs.List.{filter_map};
 ghost use Rattle.std.specs.Option.{option_map_or};
-ghost use Rattle.cel_plain.specs.Lists.{has_type, single, single_at, singles};
+ghost use Rattle.cel_plain.specs.Lists.{is_of_type, single, single_at, singles};
 
 use crate::found::{BoundAt, Match};
 use cer_base::{Listed, Memory, Pos, Text};
@@ -11,8 +11,8 @@ use std::alloc::Global;
 use stream_schema::{Event, Schema};
 
 /// Whether the event's type has the name.
-fn has_type(schema: &Schema, name: &str, event: &Event) -> bool
-    ensures { result ≡ has_type schema.now name.now event.now }
+fn is_of_type(schema: &Schema, name: &str, event: &Event) -> bool
+    ensures { result ≡ is_of_type schema.now name.now event.now }
 {
     match schema.type_name(event.ty) {
         Some(declared) => declared == name,
@@ -21,11 +21,11 @@ fn has_type(schema: &Schema, name: &str, event: &Event) -> bool
 }
 
 /// Whether there is an event of the type at the position.
-fn has_type_at(schema: &Schema, events: &[Event], name: &str, position: Pos) -> bool
-    ensures { result ≡ option_map_or (has_type schema.now name.now) (slice_get events.now position) false }
+fn is_of_type_at(schema: &Schema, events: &[Event], name: &str, position: Pos) -> bool
+    ensures { result ≡ option_map_or (is_of_type schema.now name.now) (slice_get events.now position) false }
 {
     match events.get(position as usize) {
-        Some(event) => has_type(schema, name, event),
+        Some(event) => is_of_type(schema, name, event),
         None => false,
     }
 }
@@ -57,7 +57,7 @@ pub fn singles(
 {
     let mut found = Vec::new(alloc);
     for position in positions {
-        if has_type_at(schema, events, name, *position) {
+        if is_of_type_at(schema, events, name, *position) {
             found.push(single(alloc, name, *position)?)?;
         }
     }

@@ -5,7 +5,7 @@ ghost use Rattle.std.specs.List.{list_any, list_all};
 ghost use Rattle.std.specs.Option.{option_map_or};
 ghost use Rattle.std.specs.Prelude.{slice_get};
 ghost use Rattle.cel_terms.specs.Answers.{types_of_stream};
-ghost use Rattle.cel_plain.specs.Below.{below, same_value, same_attr, reads, shares, shares_at, positions_of};
+ghost use Rattle.cel_plain.specs.Below.{below, same_value, same_attr, query_reads, shares, shares_at, substream_positions};
 
 use crate::predicate::value_of;
 use cel_terms::{Name, Query};
@@ -81,8 +81,8 @@ fn some_stream_has(schema: &Schema, names: &[Name], ty: TypeId) -> bool
 }
 
 /// Whether one of the streams has the event's type.
-fn reads(schema: &Schema, query: &Query, event: &Event) -> bool
-    ensures { result ≡ reads schema.now query.now event.now }
+fn query_reads(schema: &Schema, query: &Query, event: &Event) -> bool
+    ensures { result ≡ query_reads schema.now query.now event.now }
 {
     some_stream_has(schema, query.streams.as_slice(), event.ty)
 }
@@ -91,8 +91,8 @@ fn reads(schema: &Schema, query: &Query, event: &Event) -> bool
 fn shares(schema: &Schema, query: &Query, here: &Event, there: &Event) -> bool
     ensures { result ≡ shares schema.now query.now here.now there.now }
 {
-    reads(schema, query, here)
-        && reads(schema, query, there)
+    query_reads(schema, query, here)
+        && query_reads(schema, query, there)
         && same_key(schema, here, there, query.partition.as_slice())
 }
 
@@ -138,7 +138,7 @@ pub fn positions(
     events: &[Event],
     end: Pos,
 ) -> Result<Vec<Pos>, Memory>
-    ensures { IfOk result (λ found. found.items ≡ positions_of schema.now query.now events.now end) }
+    ensures { IfOk result (λ found. found.items ≡ substream_positions schema.now query.now events.now end) }
 {
     match events.get(end as usize) {
         Some(there) => positions_with(alloc, schema, query, events, there),

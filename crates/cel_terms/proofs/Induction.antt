@@ -1,4 +1,4 @@
--- What the operations of the meaning keep holds of every valuation of a formula.
+-- What the operations of the meaning keep holds of every valuation of a formula. For callers of the crate too.
 use Rattle.std.proofs.Common.{sym, subst, ℕ, ◌<◌, inl, inr, Bool, true, false, List, [], ◌∷◌, ◌++◌, map}
 use Rattle.cel_terms.specs.declared.Name.{Name}
 use Rattle.cel_terms.specs.declared.Filter.{Filter}

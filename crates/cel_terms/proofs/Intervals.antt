@@ -1,4 +1,4 @@
--- The interval of each valuation of a formula is one of the substream, and so are the positions that it binds.
+-- The interval of each valuation of a formula is one of the substream, and so are the positions that it binds. For callers of the crate too.
 use Rattle.std.proofs.Common.{refl, sym, subst, ℕ, ◌<◌, ◌≤◌, List, [], ◌∷◌, ◌++◌, arith}
 use Rattle.std.proofs.lemmas.Option.{slice_get_within}
 use Rattle.cel_terms.specs.declared.Formula.{Formula}

@@ -1,15 +1,10 @@
-pub mod Numbers
-pub mod Naming
-pub mod Changes
-pub mod Expanded
-pub mod Found
-pub mod Pairs
-pub mod Read
-pub mod Places
-pub mod Tested
+-- what sequences, choices and repetitions keep
 pub mod Operations
+-- induction over formulas
 pub mod Induction
+-- where the intervals of a formula lie
 pub mod Intervals
+-- the marks of an answer
 pub mod Marked
-pub mod Counts
-pub mod Lawfulness
+-- events whose type number is not declared
+pub mod Undeclared

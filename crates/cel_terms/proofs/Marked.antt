@@ -1,4 +1,4 @@
--- The marks of an answer: where they lie, and that without SELECT and KEEP the ends are among them.
+-- The marks of an answer: where they lie, and that without SELECT and KEEP the ends are among them. For callers of the crate too.
 use Rattle.std.proofs.Common.{◌≡◌, refl, sym, subst, ℕ, zero, suc, ◌⊎◌, inl, inr, true, List, [], ◌∷◌, ◌++◌, Option, Some, None, arith}
 use Rattle.std.specs.Prelude.{Any, Contains}
 use Rattle.stream_schema.specs.Types.{Declared}
@@ -9,14 +9,14 @@ use Rattle.cel_terms.specs.declared.Postfix.{Postfix}
 use Rattle.cel_terms.specs.declared.Postfix.TheVariants.{Plus, NextPlus, Named, Keep}
 use Rattle.cel_terms.specs.declared.Formula.{Formula, Of, Chain', Linked', Either', Post', Under', Row_of-Formula, end_of-Formula, more_of-Formula, Row_of-Link, end_of-Link, more_of-Link}
 use Rattle.cel_terms.specs.Meaning.{Stream, Bound, Valuation, with_name, only_names, meaning}
-use Rattle.cel_terms.specs.Answers.{Answer, IsAnswer, IsOfSubstream, IsBoundAt, is_named, selected, substream}
+use Rattle.cel_terms.specs.Answers.{Answer, IsAnswer, IsOfSubstream, IsBoundAt, is_bound, selected, substream}
 use Rattle.cel_terms.specs.Laws.{IsWithin, HaveNoKeep, HasNoKeep, AllHaveNoKeep, LinksHaveNoKeep}
 use Rattle.cel_terms.proofs.Induction.{renamed, IsKept, AllCount, PostfixesCount, PartsCount, LinksCount, every}
 use Rattle.cel_terms.proofs.Intervals.{AllWithin, Lies, lies, same_positions}
 
 -- the position is in the set of some name
 abbrev pub IsHere : ℕ → Bound → Type 0
-IsHere p b = (b.position ≡ p) × (is_named b.names ≡ true)
+IsHere p b = (b.position ≡ p) × (is_bound b.names ≡ true)
 
 abbrev pub Binds : ℕ → Valuation → Type 0
 Binds p [] = ⊥
@@ -44,7 +44,7 @@ binds_right : (p : ℕ) (v w : Valuation) → Binds p w → Binds p (v ++ w)
 binds_right p [] w h = h
 binds_right p (b ∷ v) w h = inr (binds_right p v w h)
 
-still_named : (name : List ℕ) (names : List (List ℕ)) → is_named names ≡ true → is_named (with_name name names) ≡ true
+still_named : (name : List ℕ) (names : List (List ℕ)) → is_bound names ≡ true → is_bound (with_name name names) ≡ true
 still_named name [] h = h
 still_named name (n ∷ ns) h = refl
 

@@ -1,4 +1,4 @@
--- The operations of the meaning keep inclusion, and their laws.
+-- The operations of the meaning keep inclusion, and their laws. For callers of the crate too.
 use Rattle.std.proofs.Common.{refl, sym, ap, subst, ◌∙◌, ℕ, inl, inr, Bool, List, ◌++◌, append_assoc}
 use Rattle.cel_terms.specs.declared.Filter.{Filter}
 use Rattle.cel_terms.specs.Meaning.{Stream, Meaning, Valuation, MayFollow, Sequence, Repeated, once, again, OneOf, Renamed, Filtered}

@@ -73,13 +73,13 @@ abbrev pub IsAscending : List ℕ → Type 0
 IsAscending xs = (i j x y : ℕ) → i < j → slice_get xs i ≡ Some x → slice_get xs j ≡ Some y → x < y
 
 -- some name
-abbrev pub is_named : List (List ℕ) → Bool
-is_named [] = false
-is_named (n ∷ ns) = true
+abbrev pub is_bound : List (List ℕ) → Bool
+is_bound [] = false
+is_bound (n ∷ ns) = true
 
 -- the position is in the set of some name
 abbrev pub IsBoundAt : Valuation → ℕ → Type 0
-IsBoundAt v p = Any (λ b. (b.position ≡ p) × (is_named b.names ≡ true)) v
+IsBoundAt v p = Any (λ b. (b.position ≡ p) × (is_bound b.names ≡ true)) v
 
 -- the positions that are in the set of some name, in order
 pub record AreMarks (v : Valuation) (marks : List ℕ) : Type 0 where

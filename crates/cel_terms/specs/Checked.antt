@@ -1,15 +1,15 @@
 -- When a query is checked for a schema: what a reader of query texts has made sure of in its terms.
-use Rattle.std.specs.Prelude.{◌≡◌, ◌≢◌, ℕ, ◌+◌, ◌*◌, ◌-◌, ◌^◌, ◌≤◌, pos, ◌≤ℤ◌, List, [], ◌∷◌, ◌++◌, All, Any, Contains, IfSome, slice_get, ⊤}
+use Rattle.std.specs.Prelude.{◌≡◌, ◌≢◌, ℕ, ◌+◌, ◌*◌, ◌-◌, ◌^◌, ◌≤◌, pos, ◌≤ℤ◌, List, [], ◌∷◌, ◌++◌, map, All, Any, Contains, IfSome, slice_get, ⊤}
 use Rattle.std.specs.List.{filter_map}
+use Rattle.cer_base.specs.declared.limits.TheConstants.{MOST_LEAVES}
 use Rattle.stream_schema.specs.Types.{Declared, DeclaredType, DeclaredStream}
 use Rattle.stream_schema.specs.declared.Attr.{Attr}
 use Rattle.stream_schema.specs.declared.Kind.{Kind}
 use Rattle.stream_schema.specs.declared.Kind.TheVariants as kind
 use Rattle.stream_schema.specs.declared.Value.{Value}
-use Rattle.stream_schema.specs.declared.Value.TheVariants as value
+use Rattle.stream_schema.specs.declared.Op.{Op}
+use Rattle.stream_schema.specs.Comparing.{AreComparable, TakesLiteral, HasFewPlaces, KindHasFewPlaces}
 use Rattle.cel_terms.specs.declared.Name.{Name}
-use Rattle.cel_terms.specs.declared.Op.{Op}
-use Rattle.cel_terms.specs.declared.Op.TheVariants.{Eq, Ne}
 use Rattle.cel_terms.specs.declared.Pred.{Pred, Cmp, Not', All', Any', Row_of-Pred, end_of-Pred, more_of-Pred}
 use Rattle.cel_terms.specs.declared.Filter.{Filter, On, Row_of-Filter, end_of-Filter, more_of-Filter}
 use Rattle.cel_terms.specs.declared.Filter as filter
@@ -44,32 +44,6 @@ SomeHasAttr types name Passes = Any (λ t. Any (IsAttr name Passes) t.attrs) typ
 -- each type has the attribute, with a kind that passes
 abbrev pub EachHasAttr : List DeclaredType → List ℕ → (Kind → Type 0) → Type 0
 EachHasAttr types name Passes = All (λ t. Any (IsAttr name Passes) t.attrs) types
-
--- a literal and a kind that may be compared: of one kind, or both numbers
-abbrev pub AreComparable : Value → Kind → Type 0
-AreComparable (value.Int n) kind.Int = ⊤
-AreComparable (value.Int n) (kind.Dec k) = ⊤
-AreComparable (value.Dec n p) kind.Int = ⊤
-AreComparable (value.Dec n p) (kind.Dec k) = ⊤
-AreComparable (value.Text t) kind.Text = ⊤
-AreComparable (value.Flag b) kind.Flag = ⊤
-AreComparable _ _ = ⊥
-
--- truth values have no order
-abbrev pub TakesLiteral : Op → Value → Type 0
-TakesLiteral Eq _ = ⊤
-TakesLiteral Ne _ = ⊤
-TakesLiteral _ (value.Flag b) = ⊥
-TakesLiteral _ _ = ⊤
-
--- at most nine decimal places
-abbrev pub HasFewPlaces : Value → Type 0
-HasFewPlaces (value.Dec n places) = places ≤ 9
-HasFewPlaces _ = ⊤
-
-abbrev pub KindHasFewPlaces : Kind → Type 0
-KindHasFewPlaces (kind.Dec places) = places ≤ 9
-KindHasFewPlaces _ = ⊤
 
 -- a comparison that some type of the query can meet
 pub record IsCheckedComparison (types : List DeclaredType) (name : Name) (op : Op) (literal : Value) : Type 0 where
@@ -108,13 +82,18 @@ abbrev mutual
   MoreFiltersChecked types names end_of-Filter = ⊤
   MoreFiltersChecked types names (more_of-Filter c rest) = IsCheckedFilter types names c × MoreFiltersChecked types names rest
 
--- the names of a formula after a postfix: AS adds its own
+-- the listed names
+abbrev pub texts : List Name → List (List ℕ)
+texts = map (λ n. n.text)
+
+-- the names of a formula after its postfixes: AS adds its own, KEEP leaves those of its list alone
 abbrev pub names_after : List (List ℕ) → List Postfix → List (List ℕ)
 names_after names [] = names
 names_after names (Named name ∷ ps) = names_after (names ++ name.text ∷ []) ps
+names_after names (Keep listed ∷ ps) = names_after (texts listed) ps
 names_after names (p ∷ ps) = names_after names ps
 
--- the names of a formula: its types', and those after AS
+-- the names that are known of a formula: its types', and those after AS, as far as KEEP left them
 abbrev mutual
   pub names_of : Formula → List (List ℕ)
   names_of (Of name) = name.text ∷ []
@@ -137,11 +116,11 @@ pub record AreNamesOf (names : List (List ℕ)) (listed : List Name) : Type 0 wh
   pub some : listed ≢ []
   pub known : All (λ n. Contains names n.text) listed
 
--- a name after AS is no type's, and KEEP lists names of the formula before it
+-- a name after AS is no type's, and KEEP lists names that are known before it
 abbrev pub ArePostfixesChecked : List DeclaredType → List (List ℕ) → List Postfix → Type 0
 ArePostfixesChecked types names [] = ⊤
 ArePostfixesChecked types names (Named name ∷ ps) = (IsTypeName types name.text → ⊥) × ArePostfixesChecked types (names ++ name.text ∷ []) ps
-ArePostfixesChecked types names (Keep listed ∷ ps) = AreNamesOf names listed × ArePostfixesChecked types names ps
+ArePostfixesChecked types names (Keep listed ∷ ps) = AreNamesOf names listed × ArePostfixesChecked types (texts listed) ps
 ArePostfixesChecked types names (p ∷ ps) = ArePostfixesChecked types names ps
 
 -- each type is one of the query's, each name is known where it stands, and no list is empty
@@ -231,7 +210,7 @@ pub record IsChecked (schema : Declared) (q : Query) : Type 0 where
   pub streams : All (λ n. IsStreamName schema.streams n.text) q.streams
   pub formula : IsCheckedFormula (types_read schema q) q.formula
   pub select : IfSome q.select (AreNamesOf (names_of q.formula))
-  pub leaves : leaf_count q.formula ≤ 2048
+  pub leaves : leaf_count q.formula ≤ MOST_LEAVES
   pub partition : All (λ n. SomeHasAttr (types_read schema q) n.text AnyKind) q.partition
   pub window : IsCheckedWindow (types_read schema q) q.window
   pub places : HaveFewPlaces schema.types

@@ -1,11 +1,12 @@
 -- Laws of the meaning of formulas, which follow from its definition.
-use Rattle.std.specs.Prelude.{◌≡◌, ℕ, ◌<◌, ◌≤◌, ◌↔◌, Bool, List, [], ◌∷◌, Contains, None, length}
-use Rattle.stream_schema.specs.Types.{Declared}
+use Rattle.std.specs.Prelude.{◌≡◌, ℕ, ◌<◌, ◌≤◌, ◌↔◌, Bool, List, [], ◌∷◌, Contains, Some, None, length, slice_get}
+use Rattle.stream_schema.specs.Types.{Declared, IsWellDeclared}
 use Rattle.stream_schema.specs.declared.Event.{Event}
 use Rattle.cel_terms.specs.declared.Postfix.{Postfix}
 use Rattle.cel_terms.specs.declared.Postfix.TheVariants.{Keep}
 use Rattle.cel_terms.specs.declared.Formula.{Formula, Of, Chain', Linked', Either', Post', Under', Row_of-Formula, end_of-Formula, more_of-Formula, Row_of-Link, end_of-Link, more_of-Link}
 use Rattle.cel_terms.specs.declared.Query.{Query}
+use Rattle.cel_terms.specs.Predicate.{attr_value}
 use Rattle.cel_terms.specs.Meaning.{Stream, Meaning, Valuation, Sequence, Repeated, OneOf, meaning}
 use Rattle.cel_terms.specs.Answers.{Answer, IsAnswer, IsOfSubstream}
 
@@ -91,3 +92,9 @@ abbrev pub EndsAreMarked : Type 0
 EndsAreMarked = (schema : Declared) (q : Query) (events : List Event) (end : ℕ) (answer : Answer) →
     q.select ≡ None → HasNoKeep q.formula → IsAnswer schema q events end answer →
     Contains answer.marks answer.start × Contains answer.marks end
+
+-- An event whose type number is not declared is of no substream and has no attribute, so it can stand for a position that is left out.
+abbrev pub UndeclaredIsLeftOut : Type 0
+UndeclaredIsLeftOut = (schema : Declared) (q : Query) (events : List Event) (end position : ℕ) (event : Event) →
+    IsWellDeclared schema → slice_get events position ≡ Some event → length schema.types ≤ event.ty →
+    (IsOfSubstream schema q events end position → ⊥) × ((name : List ℕ) → attr_value schema event name ≡ None)

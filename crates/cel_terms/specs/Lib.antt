@@ -1,13 +1,5 @@
 pub mod Predicate
 pub mod Meaning
 pub mod Answers
-pub mod Tree
-pub mod Expand
-pub mod Leaves
-pub mod Shapes
 pub mod Checked
 pub mod Laws
-pub mod Conditions
-pub mod Drafts
-pub mod Lawful
-pub mod Tests

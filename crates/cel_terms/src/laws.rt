@@ -1,6 +1,6 @@
 //! Laws of the meaning of queries. Each function does nothing; its contract is the law.
 
-ghost use Rattle.cel_terms.specs.Laws.{ChainsBracketAnywhere, ChoicesCommute, EndsAreMarked, IntervalsSpan, MarksLieWithin, RepetitionUnfolds};
+ghost use Rattle.cel_terms.specs.Laws.{ChainsBracketAnywhere, ChoicesCommute, EndsAreMarked, IntervalsSpan, MarksLieWithin, RepetitionUnfolds, UndeclaredIsLeftOut};
 
 /// `(f ; g) ; h` means what `f ; (g ; h)` means, and so for `:` in either place.
 pub fn chains_bracket_anywhere()
@@ -30,4 +30,9 @@ pub fn marks_lie_within()
 /// Without SELECT and KEEP the start and the end of an answer are marked.
 pub fn ends_are_marked()
     ensures { EndsAreMarked }
+{}
+
+/// An event whose type number is not declared is of no substream and has no attribute.
+pub fn undeclared_is_left_out()
+    ensures { UndeclaredIsLeftOut }
 {}

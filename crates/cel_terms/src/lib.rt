@@ -1,10 +1,9 @@
 //! Queries as terms, and what they mean: predicates of an event, valuations of a formula, and the
 //! complex events that a query has at a position.
 //!
-//! The meaning stands in `specs/Predicate`, `specs/Meaning` and `specs/Answers`; it knows no
-//! automaton, run or node. Promised: `query_leaves::leaves` gives exactly the leaves of a query's
-//! tree, and its shape; `compare::is_met_by` tells whether a value compares so with a literal. The
-//! only other answer is want of memory. It stands on `stream_schema` for types and events.
+//! The meaning stands in `specs/Predicate`, `specs/Meaning` and `specs/Answers`, and when a query is
+//! checked for a schema in `specs/Checked`; they know no automaton, run or node. `laws` says what
+//! follows of the meaning. It stands on `stream_schema` for types and events.
 #![tactic(auto)]
 
 ghost use Rattle.std.specs.Prelude.{◌≡◌, List, ℕ};
@@ -12,19 +11,9 @@ ghost use Rattle.std.specs.Prelude.{◌≡◌, List, ℕ};
 use cer_base::{Listed, Place, Text};
 use stream_schema::Value;
 
-pub mod compare;
-mod draft;
-mod expand;
 pub mod laws;
-mod leaf_of;
-pub mod leaves;
-mod number;
-mod numbering;
-mod occurrence;
-pub mod query_leaves;
-mod test_of;
-#[cfg(test)]
-mod tests;
+
+pub use stream_schema::Op;
 
 /// A name as it stands in a text. Its meaning looks at the text alone.
 #[derive(Drop, Debug)]
@@ -34,16 +23,6 @@ pub struct Name {
 }
 
 pub type Names = Listed<Name>;
-
-#[derive(Debug, Clone, Copy, PartialEq, Eq)]
-pub enum Op {
-    Eq,
-    Ne,
-    Lt,
-    Le,
-    Gt,
-    Ge,
-}
 
 /// A predicate on one event.
 #[derive(Drop, Debug)]

@@ -8,7 +8,7 @@ use Rattle.ceql_lexer.specs.declared.LexFault.{LexFault}
 use Rattle.ceql_lexer.specs.declared.LexError.{LexError}
 use Rattle.ceql_lexer.specs.declared.Token.{Token}
 use Rattle.ceql_lexer.specs.Fronts.{HasSize, piece_at}
-use Rattle.ceql_lexer.specs.Tokens.{Part, behind, end_token, first_place, next_place, parts_from, place_after, token_of, tokens_in, with_end}
+use Rattle.ceql_lexer.specs.Tokens.{Part, with_part, end_token, first_place, next_place, parts_from, place_after, token_of, tokens_in, with_end}
 use Rattle.ceql_lexer.proofs.Places.{place_split}
 
 -- the tokens of the parts, with others in front
@@ -31,7 +31,7 @@ passes zero place bytes = refl
 passes (suc k) place [] = refl
 passes (suc k) place (byte ∷ bytes) = passes k (next_place place byte) bytes
 
-pushed : (tokens : List Token) (part : Part) (later : Result (List Part) LexError) → in_front tokens (behind part later) ≡ in_front (tokens ++ token_of part part.kind) later
+pushed : (tokens : List Token) (part : Part) (later : Result (List Part) LexError) → in_front tokens (with_part part later) ≡ in_front (tokens ++ token_of part part.kind) later
 pushed tokens part (Ok parts) = ap (λ (ts : List Token). Ok ts) (simp append_assoc)
 pushed tokens part (Err error) = refl
 
@@ -40,10 +40,10 @@ abbrev pub part_at : Piece → List ℕ → Place → Part
 part_at piece bytes place = record { kind = piece.kind; text = bytes; place = place }
 
 parts_step : (k : ℕ) (place : Place) (byte : ℕ) (bytes : List ℕ) (piece : Piece) → piece_at byte bytes ≡ Ok piece → piece.size ≡ suc k
-    → parts_from 0 place (byte ∷ bytes) ≡ behind (part_at piece (take piece.size (byte ∷ bytes)) place) (parts_from 0 (place_after place (take piece.size (byte ∷ bytes))) (drop piece.size (byte ∷ bytes)))
+    → parts_from 0 place (byte ∷ bytes) ≡ with_part (part_at piece (take piece.size (byte ∷ bytes)) place) (parts_from 0 (place_after place (take piece.size (byte ∷ bytes))) (drop piece.size (byte ∷ bytes)))
 parts_step k place byte bytes piece is size =
     let e : suc k - 1 ≡ k = omega arith in
-    rw (is, size, e) (ap (behind (part_at piece (byte ∷ take k bytes) place)) (passes k (next_place place byte) bytes))
+    rw (is, size, e) (ap (with_part (part_at piece (byte ∷ take k bytes) place)) (passes k (next_place place byte) bytes))
 
 pub nonempty : (rest : List ℕ) → 1 ≤ length rest → rest ≡ get_or rest 0 0 ∷ drop 1 rest
 nonempty [] h = absurd (omega arith)
@@ -52,7 +52,7 @@ nonempty (byte ∷ bytes) h = refl
 tail_is : (rest : List ℕ) → take (length rest - 1) (drop 1 rest) ≡ drop 1 rest
 tail_is rest = grind (arith, common_steps)
 
--- what was read with the bytes behind the first as the slice's pattern gives them
+-- what was read with the bytes after the first as the slice's pattern gives them
 pub read_is : (rest : List ℕ) (read : Result Piece LexFault) (piece : Piece) → read ≡ piece_at (get_or rest 0 0) (take (length rest - 1) (drop 1 rest)) → read ≡ Ok piece → piece_at (get_or rest 0 0) (drop 1 rest) ≡ Ok piece
 read_is rest read piece e is = ap (piece_at (get_or rest 0 0)) (sym (tail_is rest)) ∙ sym e ∙ is
 
@@ -64,9 +64,9 @@ cuts_more text tokens place rest piece front back now more cuts some is size is_
     let succ : piece.size ≡ suc (piece.size - 1) = omega arith in
     let e = nonempty rest some in
     let step = parts_step (piece.size - 1) place (get_or rest 0 0) (drop 1 rest) piece is succ in
-    let same : parts_from 0 place rest ≡ behind (part_at piece (take piece.size rest) place) (parts_from 0 (place_after place (take piece.size rest)) (drop piece.size rest)) =
-    subst (λ (bytes : List ℕ). parts_from 0 place bytes ≡ behind (part_at piece (take piece.size bytes) place) (parts_from 0 (place_after place (take piece.size bytes)) (drop piece.size bytes))) (sym e) step in
-    let whole : parts_from 0 place rest ≡ behind (part_at piece front place) (parts_from 0 now back) = rw (is_now, is_front, is_back) same in
+    let same : parts_from 0 place rest ≡ with_part (part_at piece (take piece.size rest) place) (parts_from 0 (place_after place (take piece.size rest)) (drop piece.size rest)) =
+    subst (λ (bytes : List ℕ). parts_from 0 place bytes ≡ with_part (part_at piece (take piece.size bytes) place) (parts_from 0 (place_after place (take piece.size bytes)) (drop piece.size bytes))) (sym e) step in
+    let whole : parts_from 0 place rest ≡ with_part (part_at piece front place) (parts_from 0 now back) = rw (is_now, is_front, is_back) same in
     record {
       line = omega (arith, ap length is_front, ap length is_back, length-take {A = ℕ}, length-drop {A = ℕ}, cuts.line);
       col = omega (arith, ap length is_front, ap length is_back, length-take {A = ℕ}, length-drop {A = ℕ}, cuts.col);

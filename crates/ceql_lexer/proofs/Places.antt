@@ -1,4 +1,4 @@
--- Places behind the bytes of a text.
+-- Places after the bytes of a text.
 use Rattle.std.proofs.Common.{◌≡◌, ℕ, zero, suc, List, [], ◌∷◌, take, drop, refl}
 use Rattle.cer_base.specs.declared.Place.{Place}
 use Rattle.ceql_lexer.specs.Tokens.{next_place, place_after}

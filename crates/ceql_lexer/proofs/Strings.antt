@@ -51,7 +51,7 @@ closing_here : (quote byte next : ℕ) (bytes : List ℕ) → eqb byte 10 ≡ fa
 unfolding closing
 closing_here quote byte next bytes line same single = rw (line, same, single) refl
 
--- The closing quote of the whole is the one that is found behind the bytes that were passed.
+-- The closing quote of the whole is the one that is found after the bytes that were passed.
 pub record Passes (quote : ℕ) (text : List ℕ) (passed : ℕ) : Type 0 where
   pub within : passed ≤ length text
   pub found : later passed (closing quote (drop passed text)) ≡ closing quote text

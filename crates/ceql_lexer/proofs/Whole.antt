@@ -10,21 +10,21 @@ use Rattle.std.specs.Prelude.{IfOk}
 use Rattle.ceql_lexer.specs.declared.LexError.{LexError}
 use Rattle.ceql_lexer.specs.Fronts.{piece_at}
 use Rattle.cer_base.specs.Answers.{Gives}
-use Rattle.ceql_lexer.specs.Tokens.{Part, with_end, behind, behind_mark, first_place, goes_on, next_place, parts_from, parts_of, place_after}
-use Rattle.ceql_lexer.specs.Whole.{AreAtPlaces, AreLongest, AreWhole, IsCut, EndsBefore, text_of}
+use Rattle.ceql_lexer.specs.Tokens.{Part, with_end, with_part, behind_mark, first_place, parts_after, next_place, parts_from, parts_of, place_after}
+use Rattle.ceql_lexer.specs.Whole.{AreAtPlaces, AreLongest, AreWhole, IsCut, EndsBefore, text_of_parts}
 use Rattle.ceql_lexer.proofs.Longest.{ends_of, piece_ends}
 
-goes_on_takes : (place : Place) (read : Result Piece LexFault) (later : Piece → Result (List Part) LexError) (parts : List Part) → goes_on place read later ≡ Ok parts → (piece : Piece) × (read ≡ Ok piece) × (later piece ≡ Ok parts)
-goes_on_takes place (Ok piece) later parts e = (piece, refl, e)
-goes_on_takes place (Err fault) later parts e = absurd (cc)
+parts_after_takes : (place : Place) (read : Result Piece LexFault) (later : Piece → Result (List Part) LexError) (parts : List Part) → parts_after place read later ≡ Ok parts → (piece : Piece) × (read ≡ Ok piece) × (later piece ≡ Ok parts)
+parts_after_takes place (Ok piece) later parts e = (piece, refl, e)
+parts_after_takes place (Err fault) later parts e = absurd (cc)
 
-behind_takes : (part : Part) (later : Result (List Part) LexError) (parts : List Part) → behind part later ≡ Ok parts → (more : List Part) × (later ≡ Ok more) × (part ∷ more ≡ parts)
-behind_takes part (Ok more) parts e = (more, refl, cc)
-behind_takes part (Err error) parts e = absurd (cc)
+with_part_takes : (part : Part) (later : Result (List Part) LexError) (parts : List Part) → with_part part later ≡ Ok parts → (more : List Part) × (later ≡ Ok more) × (part ∷ more ≡ parts)
+with_part_takes part (Ok more) parts e = (more, refl, cc)
+with_part_takes part (Err error) parts e = absurd (cc)
 
 -- what is kept of the parts of a text, so many of its bytes being passed over
 record Kept (passed : ℕ) (place : Place) (bytes : List ℕ) (parts : List Part) : Type 0 where
-  nothing_lost : text_of parts ≡ drop passed bytes
+  nothing_lost : text_of_parts parts ≡ drop passed bytes
   placed : AreAtPlaces (place_after place (take passed bytes)) parts
   longest : AreLongest parts
 
@@ -46,9 +46,9 @@ kept (suc passed) place (byte ∷ bytes) parts e =
     let k = kept passed (next_place place byte) bytes parts e in
     record { nothing_lost = k.nothing_lost; placed = k.placed; longest = k.longest }
 kept zero place (byte ∷ bytes) parts e =
-    let taken = goes_on_takes place (piece_at byte bytes) _ parts e in
+    let taken = parts_after_takes place (piece_at byte bytes) _ parts e in
     let piece : Piece = taken.0 in
-    let last = behind_takes (record { kind = piece.kind; text = byte ∷ take (piece.size - 1) bytes; place = place }) (parts_from (piece.size - 1) (next_place place byte) bytes) parts taken.2 in
+    let last = with_part_takes (record { kind = piece.kind; text = byte ∷ take (piece.size - 1) bytes; place = place }) (parts_from (piece.size - 1) (next_place place byte) bytes) parts taken.2 in
     subst (Kept 0 place (byte ∷ bytes)) last.2 (kept_more place byte bytes piece last.0 taken.1 (kept (piece.size - 1) (next_place place byte) bytes last.0 last.1))
 
 pub parts_whole : (text : List ℕ) (parts : List Part) → parts_of text ≡ Ok parts → AreWhole (behind_mark text) parts

@@ -17,7 +17,7 @@ use Rattle.ceql_lexer.specs.declared.LexFault.{LexFault}
 use Rattle.ceql_lexer.specs.declared.LexFault.TheVariants as fault
 use Rattle.ceql_lexer.specs.Letters.{continues_word, is_blank, begins_word, sign_len, long_signs, short_signs}
 use Rattle.ceql_lexer.specs.Numerals.{digits_at, decimals_at}
-use Rattle.ceql_lexer.specs.Fronts.{IsText, token, gap, piece_at, word_at, number_at, number_of, dash_at, string_at, string_of, sign_at, is_quote}
+use Rattle.ceql_lexer.specs.Fronts.{IsTokenText, token, gap, piece_at, word_at, number_at, number_of, dash_at, string_at, string_of, sign_at, is_quote}
 
 chosen : {X : Type 0} (b : Bool) (x y z : X) → cond b x y ≡ z → ((b ≡ true) × (x ≡ z)) ⊎ ((b ≡ false) × (y ≡ z))
 chosen true x y z e = inl (refl, e)
@@ -27,9 +27,9 @@ and_parts : (a b : Bool) → (a && b) ≡ true → (a ≡ true) × (b ≡ true)
 and_parts true b e = (refl, e)
 and_parts false b e = absurd (false≢true e)
 
-text_of : (k : Option TokenKind) (bytes : List ℕ) → IsUtf8 bytes → IsText k bytes
-text_of None bytes h = tt
-text_of (Some k) bytes h = h
+text_is : (k : Option TokenKind) (bytes : List ℕ) → IsUtf8 bytes → IsTokenText k bytes
+text_is None bytes h = tt
+text_is (Some k) bytes h = h
 
 front_is_ascii : (n : ℕ) (bytes : List ℕ) → ((i : ℕ) → i < n → get_or bytes i 0 < 128) → (i : ℕ) → get_or (take n bytes) i 0 < 128
 front_is_ascii zero bytes h i = omega arith
@@ -121,21 +121,21 @@ dash_cases true b p number f piece P e here there = let is : p ≡ piece = cc in
 dash_cases false true p number f piece P e here there = there e
 dash_cases false false p number f piece P e here there = absurd (cc)
 
-dash_is_text : (bytes : List ℕ) (piece : Piece) → dash_at bytes ≡ Ok piece → IsText piece.kind (take piece.size (45 ∷ bytes))
+dash_is_text : (bytes : List ℕ) (piece : Piece) → dash_at bytes ≡ Ok piece → IsTokenText piece.kind (take piece.size (45 ∷ bytes))
 unfolding dash_at
 dash_is_text [] piece e = absurd (cc)
 dash_is_text (byte ∷ bytes) piece e =
-    dash_cases _ _ _ (number_at 1 (byte ∷ bytes)) _ piece (λ p. IsText p.kind (take p.size (45 ∷ byte ∷ bytes))) e tt
-    (λ is. text_of piece.kind _ (negative_is_utf8 (byte ∷ bytes) piece is))
+    dash_cases _ _ _ (number_at 1 (byte ∷ bytes)) _ piece (λ p. IsTokenText p.kind (take p.size (45 ∷ byte ∷ bytes))) e tt
+    (λ is. text_is piece.kind _ (negative_is_utf8 (byte ∷ bytes) piece is))
 
-string_case : (text : List ℕ) (size : ℕ) (piece : Piece) (f : LexFault) → ((is_utf8 (take size text) ≡ true) × (◌≡◌ {A = Result Piece LexFault} (Ok (token kind.Quoted size)) (Ok piece))) ⊎ ((is_utf8 (take size text) ≡ false) × (◌≡◌ {A = Result Piece LexFault} (Err f) (Ok piece))) → IsText piece.kind (take piece.size text)
+string_case : (text : List ℕ) (size : ℕ) (piece : Piece) (f : LexFault) → ((is_utf8 (take size text) ≡ true) × (◌≡◌ {A = Result Piece LexFault} (Ok (token kind.Quoted size)) (Ok piece))) ⊎ ((is_utf8 (take size text) ≡ false) × (◌≡◌ {A = Result Piece LexFault} (Err f) (Ok piece))) → IsTokenText piece.kind (take piece.size text)
 string_case text size piece f (inl h) =
     let e : ◌≡◌ {A = Result Piece LexFault} (Ok (token kind.Quoted size)) (Ok piece) = h.1 in
     let is : token kind.Quoted size ≡ piece = cc in
-    subst (λ (p : Piece). IsText p.kind (take p.size text)) is (IsUtf8-from_is_utf8 (take size text) h.0)
+    subst (λ (p : Piece). IsTokenText p.kind (take p.size text)) is (IsUtf8-from_is_utf8 (take size text) h.0)
 string_case text size piece f (inr h) = absurd (cc)
 
-string_is_text : (text : List ℕ) (size : Option ℕ) (piece : Piece) → string_of text size ≡ Ok piece → IsText piece.kind (take piece.size text)
+string_is_text : (text : List ℕ) (size : Option ℕ) (piece : Piece) → string_of text size ≡ Ok piece → IsTokenText piece.kind (take piece.size text)
 string_is_text text None piece e = absurd (cc)
 string_is_text text (Some size) piece e = string_case text size piece fault.NotUtf8 (chosen (is_utf8 (take size text)) _ _ _ e)
 
@@ -165,11 +165,11 @@ sign_cases false false text two one = refl
 sign_is_utf8 : (text : List ℕ) → IsUtf8 (take (sign_len text) text)
 sign_is_utf8 text = IsUtf8-from_ascii (take (sign_len text) text) (is_ascii_under (take (sign_len text) text) (sign_cases _ _ text (λ e. any_of is_ascii (take 2 text) long_signs e refl) (λ e. any_of is_ascii (take 1 text) short_signs e refl)))
 
-pub sign_case : (none : Bool) (f : LexFault) (p piece : Piece) (text : List ℕ) → cond none (Err f) (Ok p) ≡ Ok piece → IsText p.kind (take p.size text) → IsText piece.kind (take piece.size text)
+pub sign_case : (none : Bool) (f : LexFault) (p piece : Piece) (text : List ℕ) → cond none (Err f) (Ok p) ≡ Ok piece → IsTokenText p.kind (take p.size text) → IsTokenText piece.kind (take piece.size text)
 sign_case true f p piece text e h = absurd (cc)
-sign_case false f p piece text e h = let is : p ≡ piece = cc in subst (λ (x : Piece). IsText x.kind (take x.size text)) is h
+sign_case false f p piece text e h = let is : p ≡ piece = cc in subst (λ (x : Piece). IsTokenText x.kind (take x.size text)) is h
 
-sign_is_text : (byte : ℕ) (text : List ℕ) (piece : Piece) → sign_at byte text ≡ Ok piece → IsText piece.kind (take piece.size text)
+sign_is_text : (byte : ℕ) (text : List ℕ) (piece : Piece) → sign_at byte text ≡ Ok piece → IsTokenText piece.kind (take piece.size text)
 unfolding sign_at
 sign_is_text byte text piece e = sign_case (eqb (sign_len text) 0) _ (token kind.Sign (sign_len text)) piece text e (sign_is_utf8 text)
 
@@ -183,18 +183,18 @@ piece_cases false false false true q blank word number dash string sign piece P 
 piece_cases false false false false true blank word number dash string sign piece P e h1 h2 h3 h4 h5 h6 = h5 e
 piece_cases false false false false false blank word number dash string sign piece P e h1 h2 h3 h4 h5 h6 = h6 e
 
-word_is_text : (bytes : List ℕ) → IsText (word_at bytes).kind (take (word_at bytes).size bytes)
+word_is_text : (bytes : List ℕ) → IsTokenText (word_at bytes).kind (take (word_at bytes).size bytes)
 unfolding word_at
 word_is_text bytes = front_is_utf8 (prefix_len continues_word bytes) bytes (λ i lt. continues_under (get_or bytes i 0) (prefix_len_passes continues_word bytes i 0 lt))
 
-pub piece_is_text : (byte : ℕ) (bytes : List ℕ) (piece : Piece) → piece_at byte bytes ≡ Ok piece → IsText piece.kind (take piece.size (byte ∷ bytes))
+pub piece_is_text : (byte : ℕ) (bytes : List ℕ) (piece : Piece) → piece_at byte bytes ≡ Ok piece → IsTokenText piece.kind (take piece.size (byte ∷ bytes))
 unfolding piece_at string_at
 piece_is_text byte bytes piece e =
     piece_cases (is_blank byte) (begins_word byte) (is_ascii_digit byte) (eqb byte 45) (is_quote byte) (gap 1) (word_at (byte ∷ bytes)) (number_at 0 (byte ∷ bytes)) (dash_at bytes) (string_at byte bytes) (sign_at byte (byte ∷ bytes)) piece
-    (λ p. IsText p.kind (take p.size (byte ∷ bytes))) e
+    (λ p. IsTokenText p.kind (take p.size (byte ∷ bytes))) e
     tt
     (λ begins. word_is_text (byte ∷ bytes))
-    (λ digit is. text_of piece.kind _ (number_is_utf8 (byte ∷ bytes) piece is))
-    (λ dash is. subst (λ (b : ℕ). IsText piece.kind (take piece.size (b ∷ bytes))) (sym (eqb-true byte 45 dash)) (dash_is_text bytes piece is))
+    (λ digit is. text_is piece.kind _ (number_is_utf8 (byte ∷ bytes) piece is))
+    (λ dash is. subst (λ (b : ℕ). IsTokenText piece.kind (take piece.size (b ∷ bytes))) (sym (eqb-true byte 45 dash)) (dash_is_text bytes piece is))
     (λ is. string_is_text (byte ∷ bytes) _ piece is)
     (λ is. sign_is_text byte (byte ∷ bytes) piece is)

@@ -1,16 +1,18 @@
 -- What stands at the front of a text: a blank, a comment, a token or a fault.
--- This project's profile.
+--
 use Rattle.std.specs.Prelude.{ℕ, ◌+◌, ◌==◌, ◌<◌, ◌≤◌, Bool, ◌||◌, List, [], ◌∷◌, length, take, drop, nat_lt, nat_le, if◌then◌else◌, Option, Some, None, option_map, IfSome, Result, Ok, Err}
 use Rattle.std.specs.Char.{is_ascii_digit}
 use Rattle.std.specs.Str.{IsUtf8, is_utf8}
 use Rattle.std.specs.List.{prefix_len}
+use Rattle.cer_base.specs.Digits.{farthest, read_on}
+use Rattle.cer_base.specs.declared.limits.TheConstants.{MOST_PLACES}
 use Rattle.ceql_lexer.specs.declared.front.Piece.{Piece}
 use Rattle.ceql_lexer.specs.declared.LexFault.{LexFault}
 use Rattle.ceql_lexer.specs.declared.LexFault.TheVariants as fault
 use Rattle.ceql_lexer.specs.declared.TokenKind.{TokenKind}
 use Rattle.ceql_lexer.specs.declared.TokenKind.TheVariants as kind
 use Rattle.ceql_lexer.specs.Letters.{is_blank, is_in_line, begins_word, continues_word, is_keyword, sign_len}
-use Rattle.ceql_lexer.specs.Numerals.{digits_at, decimals_at, read_on, farthest, most_decimals}
+use Rattle.ceql_lexer.specs.Numerals.{digits_at, decimals_at}
 
 -- so many bytes that are a token of this kind
 abbrev pub token : TokenKind → ℕ → Piece
@@ -37,26 +39,26 @@ abbrev pub number_of : ℕ → ℕ → ℕ → Piece
 number_of sign whole decimals =
     if decimals == 0 then token kind.Number (sign + whole) else token kind.Decimal (sign + whole + 1 + decimals)
 
--- the number behind so many bytes of sign, where it has few decimals and is in range
+-- the number after so many bytes of sign, where it has few decimals and is in range
 abbrev pub checked_number : ℕ → List ℕ → List ℕ → Result Piece LexFault
 checked_number sign whole decimals =
-    if nat_lt most_decimals (length decimals) then Err fault.TooFine
-    else (if nat_le (read_on (read_on 0 whole) decimals) (farthest sign) then Ok (number_of sign (length whole) (length decimals))
+    if nat_lt MOST_PLACES (length decimals) then Err fault.TooFine
+    else (if nat_le (read_on (read_on 0 whole) decimals) (farthest (nat_lt 0 sign)) then Ok (number_of sign (length whole) (length decimals))
     else Err fault.NumberTooLarge)
 
--- the longest number whose digits are at the front, behind so many bytes of sign
+-- the longest number whose digits are at the front, after so many bytes of sign
 unfoldable pub number_at : ℕ → List ℕ → Result Piece LexFault
 number_at sign bytes =
     checked_number sign (digits_at bytes) (decimals_at (drop (prefix_len is_ascii_digit bytes) bytes))
 
--- a comment, a negative number, or neither, the bytes being those behind a `-`
+-- a comment, a negative number, or neither, the bytes being those after a `-`
 unfoldable pub dash_at : List ℕ → Result Piece LexFault
 dash_at [] = Err (fault.BadByte 45)
 dash_at (byte ∷ bytes) =
     if byte == 45 then Ok (gap (2 + prefix_len is_in_line bytes))
     else (if is_ascii_digit byte then number_at 1 (byte ∷ bytes) else Err (fault.BadByte 45))
 
--- how many bytes a string has up to and with its closing quote, the bytes being those behind its
+-- how many bytes a string has up to and with its closing quote, the bytes being those after its
 -- opening quote: a doubled quote goes on, and a line feed or the end comes too early
 unfoldable pub closing : ℕ → List ℕ → Option ℕ
 closing quote [] = None
@@ -66,12 +68,12 @@ closing quote (byte ∷ next ∷ bytes) =
     else (if byte == quote then (if next == quote then option_map (λ n. n + 2) (closing quote bytes) else Some 1)
     else option_map (λ n. n + 1) (closing quote (next ∷ bytes)))
 
--- a string that is closed behind so many bytes has to be UTF-8
+-- a string that is closed after so many bytes has to be UTF-8
 abbrev pub string_of : List ℕ → Option ℕ → Result Piece LexFault
 string_of bytes None = Err fault.OpenString
 string_of bytes (Some size) = if is_utf8 (take size bytes) then Ok (token kind.Quoted size) else Err fault.NotUtf8
 
--- the string behind an opening quote
+-- the string after an opening quote
 unfoldable pub string_at : ℕ → List ℕ → Result Piece LexFault
 string_at quote bytes = string_of (quote ∷ bytes) (option_map (λ n. n + 1) (closing quote bytes))
 
@@ -84,7 +86,7 @@ sign_at byte bytes =
 abbrev pub is_quote : ℕ → Bool
 is_quote byte = (byte == 39) || (byte == 34)
 
--- what stands at the front: a byte, and the bytes behind it
+-- what stands at the front: a byte, and the bytes after it
 unfoldable pub piece_at : ℕ → List ℕ → Result Piece LexFault
 piece_at byte bytes =
     if is_blank byte then Ok (gap 1)
@@ -95,5 +97,5 @@ piece_at byte bytes =
     else sign_at byte (byte ∷ bytes)))))
 
 -- where the piece is a token, its bytes are UTF-8
-abbrev pub IsText : Option TokenKind → List ℕ → Type 0
-IsText k bytes = IfSome k (λ _. IsUtf8 bytes)
+abbrev pub IsTokenText : Option TokenKind → List ℕ → Type 0
+IsTokenText k bytes = IfSome k (λ _. IsUtf8 bytes)

@@ -1,5 +1,5 @@
 -- The bytes of which blanks, words and signs are made, and which words are keywords.
--- This project's profile.
+--
 use Rattle.std.specs.Prelude.{ℕ, Bool, ◌||◌, ◌==◌, not, List, [], ◌∷◌, take, if◌then◌else◌, bytes_eq, codes}
 use Rattle.std.specs.Char.{is_ascii_alphabetic, is_ascii_alphanumeric}
 use Rattle.std.specs.Str.{str_to_ascii_uppercase}

@@ -1,4 +1,4 @@
--- The tokens of a text, with their places, or the first fault. This project's profile.
+-- The tokens of a text, with their places, or the first fault.
 use Rattle.std.specs.Prelude.{◌≡◌, ℕ, zero, suc, ◌+◌, ◌-◌, ◌==◌, List, [], ◌∷◌, ◌++◌, take, drop, if◌then◌else◌, bytes_eq, Option, Some, None, Result, Ok, Err}
 use Rattle.cer_base.specs.declared.Place.{Place}
 use Rattle.ceql_lexer.specs.declared.front.Piece.{Piece}
@@ -13,12 +13,12 @@ use Rattle.ceql_lexer.specs.Fronts.{piece_at}
 abbrev pub first_place : Place
 first_place = record { line = 1; col = 1 }
 
--- the place behind a byte: a line feed ends a line
+-- the place after a byte: a line feed ends a line
 abbrev pub next_place : Place → ℕ → Place
 next_place place byte =
     if byte == 10 then record { line = place.line + 1; col = 1 } else record { line = place.line; col = place.col + 1 }
 
--- the place behind these bytes
+-- the place after these bytes
 abbrev pub place_after : Place → List ℕ → Place
 place_after place [] = place
 place_after place (byte ∷ bytes) = place_after (next_place place byte) bytes
@@ -30,14 +30,14 @@ pub record Part : Type 0 where
   pub place : Place
 
 -- the parts that go on from a piece at this place, or its fault there
-abbrev pub goes_on : Place → Result Piece LexFault → (Piece → Result (List Part) LexError) → Result (List Part) LexError
-goes_on place (Ok piece) later = later piece
-goes_on place (Err fault) later = Err (record { fault = fault; place = place })
+abbrev pub parts_after : Place → Result Piece LexFault → (Piece → Result (List Part) LexError) → Result (List Part) LexError
+parts_after place (Ok piece) later = later piece
+parts_after place (Err fault) later = Err (record { fault = fault; place = place })
 
 -- the part in front of those that come later
-abbrev pub behind : Part → Result (List Part) LexError → Result (List Part) LexError
-behind part (Ok parts) = Ok (part ∷ parts)
-behind part (Err error) = Err error
+abbrev pub with_part : Part → Result (List Part) LexError → Result (List Part) LexError
+with_part part (Ok parts) = Ok (part ∷ parts)
+with_part part (Err error) = Err error
 
 -- the parts of the bytes, the first byte being at the place, from left to right up to the first
 -- fault; so many bytes at the front are passed over, since they are of a part before
@@ -45,11 +45,11 @@ abbrev pub parts_from : ℕ → Place → List ℕ → Result (List Part) LexErr
 parts_from passed place [] = Ok []
 parts_from (suc passed) place (byte ∷ bytes) = parts_from passed (next_place place byte) bytes
 parts_from zero place (byte ∷ bytes) =
-    goes_on place (piece_at byte bytes) (λ piece.
-    behind (record { kind = piece.kind; text = byte ∷ take (piece.size - 1) bytes; place = place })
+    parts_after place (piece_at byte bytes) (λ piece.
+    with_part (record { kind = piece.kind; text = byte ∷ take (piece.size - 1) bytes; place = place })
     (parts_from (piece.size - 1) (next_place place byte) bytes))
 
--- what stands behind a byte order mark at the very beginning
+-- what stands after a byte order mark at the very beginning
 abbrev pub behind_mark : List ℕ → List ℕ
 behind_mark text = if bytes_eq (take 3 text) (239 ∷ 187 ∷ 191 ∷ []) then drop 3 text else text
 
@@ -63,7 +63,7 @@ abbrev pub tokens_in : List Part → List Token
 tokens_in [] = []
 tokens_in (part ∷ parts) = token_of part part.kind ++ tokens_in parts
 
--- the token behind all others, at the place behind the last byte
+-- the token after all others, at the place after the last byte
 abbrev pub end_token : Place → Token
 end_token place = record { kind = kind.End; text = []; place = place }
 

@@ -1,5 +1,5 @@
 -- What makes the parts of a text believable: they are the whole text, their places are counted,
--- and no name or number among them could go on. This project's profile.
+-- and no name or number among them could go on.
 use Rattle.std.specs.Prelude.{◌≡◌, ◌<◌, ℕ, Bool, false, List, [], ◌∷◌, ◌++◌, length, Option, Some, None}
 use Rattle.std.specs.Char.{is_ascii_digit}
 use Rattle.cer_base.specs.declared.Place.{Place}
@@ -10,10 +10,10 @@ use Rattle.ceql_lexer.specs.Letters.{continues_word, is_in_line}
 use Rattle.ceql_lexer.specs.Numerals.{decimals_at}
 use Rattle.ceql_lexer.specs.Tokens.{Part, end_token, first_place, place_after, tokens_in}
 
--- the bytes of the parts, one part behind the other
-abbrev pub text_of : List Part → List ℕ
-text_of [] = []
-text_of (part ∷ parts) = part.text ++ text_of parts
+-- the bytes of the parts, one part after the other
+abbrev pub text_of_parts : List Part → List ℕ
+text_of_parts [] = []
+text_of_parts (part ∷ parts) = part.text ++ text_of_parts parts
 
 -- each part stands where the bytes of the parts before it end
 abbrev pub AreAtPlaces : Place → List Part → Type 0
@@ -41,15 +41,15 @@ EndsBefore None size bytes = 1 < size → StopsAt is_in_line bytes
 -- no part could go on
 abbrev pub AreLongest : List Part → Type 0
 AreLongest [] = Unit {0}
-AreLongest (part ∷ parts) = EndsBefore part.kind (length part.text) (text_of parts) × AreLongest parts
+AreLongest (part ∷ parts) = EndsBefore part.kind (length part.text) (text_of_parts parts) × AreLongest parts
 
 -- The parts are the whole text, each at its place and as long as it may be.
 pub record AreWhole (text : List ℕ) (parts : List Part) : Type 0 where
-  pub nothing_lost : text_of parts ≡ text
+  pub nothing_lost : text_of_parts parts ≡ text
   pub placed : AreAtPlaces first_place parts
   pub longest : AreLongest parts
 
--- The tokens are those of the text's parts, and then the end at the place behind the last byte.
+-- The tokens are those of the text's parts, and then the end at the place after the last byte.
 pub record IsCut (text : List ℕ) (tokens : List Token) : Type 0 where
   pub parts : List Part
   pub whole : AreWhole text parts

@@ -1,6 +1,6 @@
 //! A text cut into its tokens from left to right.
 
-ghost use Rattle.ceql_lexer.specs.Fronts.{IsText};
+ghost use Rattle.ceql_lexer.specs.Fronts.{IsTokenText};
 ghost use Rattle.cer_base.specs.Answers.{Gives};
 ghost use Rattle.ceql_lexer.specs.Tokens.{behind_mark, first_place, parts_from, place_after, token_of, tokens_of, with_end};
 ghost use Rattle.ceql_lexer.specs.Whole.{IsCut};
@@ -15,7 +15,7 @@ use std::alloc::Global;
 /// The place of a text's first byte.
 const FIRST: Place = Place { line: 1, col: 1 };
 
-/// What stands behind a byte order mark at the very beginning, else the whole text.
+/// What stands after a byte order mark at the very beginning, else the whole text.
 fn behind_mark(text: &[u8]) -> &[u8]
     ensures value { result.now ≡ behind_mark text.now }
     ensures within { length result.now ≤ length text.now }
@@ -26,7 +26,7 @@ fn behind_mark(text: &[u8]) -> &[u8]
     }
 }
 
-/// The place behind these bytes.
+/// The place after these bytes.
 fn place_after(place: Place, bytes: &[u8]) -> Place
     requires line { place.line + length bytes.now < 2 ^ 64 }
     requires col { place.col + length bytes.now < 2 ^ 64 }
@@ -68,7 +68,7 @@ fn push_piece(
     bytes: &[u8],
     place: Place,
 ) -> Result<(), Memory>
-    requires { IsText kind bytes.now }
+    requires { IsTokenText kind bytes.now }
     ensures { OnOk result (tokens.new.items ≡ tokens.old.items ++ token_of (record { kind = kind; text = bytes.now; place = place }) kind) }
 {
     if let Some(kind) = kind {
@@ -106,7 +106,7 @@ fn cut(alloc: Global, text: &[u8]) -> Result<Tokens, OrMemory<LexError>>
     Ok(Listed::of(tokens))
 }
 
-/// The tokens of a text, in order and with the end behind them, or its first fault and the place
+/// The tokens of a text, in order and with the end after them, or its first fault and the place
 /// of that. A byte order mark at the very beginning is no part of the text; a later one is a bad
 /// byte. Besides these only an allocation that is refused is answered, as `Memory`, at which the
 /// tokens so far are dropped.

@@ -1,16 +1,15 @@
 //! The tokens of a query text.
 //!
 //! Promised: `lex` gives exactly the tokens of the text, each with its slice and its place, or
-//! exactly the first fault with its place; nothing but want of memory comes besides. What the
+//! exactly the first fault with its place; the only other answer is that memory ran out. What the
 //! tokens of a text are is defined in `specs/Tokens`; that the definition loses no byte, counts
 //! each place and takes the longest token is proved in `laws`. What a reader of tokens does with
-//! words and digits too stands here for it: `in_capitals_is`, `with_digit`.
+//! words too stands here for it: `in_capitals_is`.
 //! It stands on `cer_base` alone.
 #![tactic(auto)]
 
 use cer_base::{Listed, Place, Text};
 pub use cutting::lex;
-pub use numbers::{MOST_DECIMALS, with_digit};
 pub use words::in_capitals_is;
 
 mod cutting;
@@ -33,7 +32,7 @@ pub enum LexFault {
     NumberTooLarge,
     /// The string is closed, but its bytes are not UTF-8. Its place is the opening quote's.
     NotUtf8,
-    /// More than 9 digits stand behind the point, in range or not. Its place is the number's
+    /// More than 9 digits stand after the point, in range or not. Its place is the number's
     /// first byte.
     TooFine,
 }
@@ -53,7 +52,7 @@ pub enum TokenKind {
     Keyword,
     /// A whole number in signed 64 bits.
     Number,
-    /// A number with 1 to 9 digits behind its point; without the point it is in signed 64 bits.
+    /// A number with 1 to 9 digits after its point; without the point it is in signed 64 bits.
     Decimal,
     /// A string with its two quotes, and with inner quotes still doubled.
     Quoted,

@@ -1,16 +1,16 @@
 //! Numbers.
 
 ghost use Rattle.ceql_lexer.specs.Fronts.{checked_number, number_at, number_of};
-ghost use Rattle.ceql_lexer.specs.Numerals.{decimals_at, farthest, read_on};
+ghost use Rattle.ceql_lexer.specs.Numerals.{decimals_at};
+ghost use Rattle.cer_base.specs.Digits.{farthest, read_on};
 ghost use Rattle.std.specs.Char.{is_ascii_digit};
 ghost use Rattle.std.specs.List.{prefix_len};
-ghost use Rattle.std.specs.Prelude.{◌≡◌, ◌+◌, ◌-◌, ◌*◌, ◌==◌, ◌<◌, ◌≤◌, ◌^◌, if◌then◌else◌, IfOk, MatchOption, length, nat_le};
+ghost use Rattle.std.specs.Prelude.{◌≡◌, ◌+◌, ◌==◌, ◌<◌, ◌≤◌, ◌^◌, if◌then◌else◌, IfOk, length, nat_le, nat_lt};
 
 use crate::front::Piece;
 use crate::{LexFault, TokenKind};
-
-/// The most digits behind a point.
-pub const MOST_DECIMALS: usize = 9;
+use cer_base::digits::{farthest, with_digits};
+use cer_base::limits::MOST_PLACES;
 
 /// How many digits stand at the front.
 fn digits_len(text: &[u8]) -> usize
@@ -20,7 +20,7 @@ fn digits_len(text: &[u8]) -> usize
     text.iter().take_while(|byte| byte.is_ascii_digit()).count()
 }
 
-/// The digits behind a point at the front, none where no point stands there.
+/// The digits after a point at the front, none where no point stands there.
 fn decimals_at(text: &[u8]) -> &[u8]
     ensures value { result.now ≡ decimals_at text.now }
     ensures within { 0 < length result.now → length result.now < length text.now }
@@ -31,47 +31,11 @@ fn decimals_at(text: &[u8]) -> &[u8]
     }
 }
 
-/// The value with the digit behind its digits, where that is at most the limit.
-pub fn with_digit(limit: u64, value: u64, digit: u8) -> Option<u64>
-    ensures { MatchOption result (limit < value * 10 + (digit - 48)) (λ x. (x ≡ value * 10 + (digit - 48)) × (x ≤ limit)) }
-{
-    let value = value
-        .checked_mul(10)?
-        .checked_add(u64::from(digit.saturating_sub(48)))?;
-    if value <= limit { Some(value) } else { None }
-}
-
-/// The value with these digits behind its digits, where that is at most the limit.
-fn with_digits(limit: u64, start: u64, digits: &[u8]) -> Option<u64>
-    requires { start ≤ limit }
-    ensures { MatchOption result (limit < read_on start digits.now) (λ x. (x ≡ read_on start digits.now) × (x ≤ limit)) }
-{
-    let mut value = start;
-    for digit in digits {
-        match with_digit(limit, value, *digit) {
-            None => return None,
-            Some(more) => value = more,
-        }
-    }
-    Some(value)
-}
-
-/// How far from 0 the number may be, behind so many bytes of sign.
-fn farthest(sign: usize) -> u64
-    ensures { result ≡ farthest sign }
-{
-    if sign == 0 {
-        9_223_372_036_854_775_807
-    } else {
-        9_223_372_036_854_775_808
-    }
-}
-
-/// Whether the number that the digits write is in signed 64 bits, behind so many bytes of sign.
+/// Whether the number that the digits write is in signed 64 bits, after so many bytes of sign.
 fn is_in_range(sign: usize, whole: &[u8], decimals: &[u8]) -> bool
-    ensures { result ≡ nat_le (read_on (read_on 0 whole.now) decimals.now) (farthest sign) }
+    ensures { result ≡ nat_le (read_on (read_on 0 whole.now) decimals.now) (farthest (nat_lt 0 sign)) }
 {
-    let limit = farthest(sign);
+    let limit = farthest(sign > 0);
     match with_digits(limit, 0, whole) {
         None => false,
         Some(value) => with_digits(limit, value, decimals).is_some(),
@@ -92,7 +56,7 @@ fn number_of(sign: usize, whole: usize, decimals: usize) -> Piece
     }
 }
 
-/// The longest number whose digits are at the front, behind so many bytes of sign.
+/// The longest number whose digits are at the front, after so many bytes of sign.
 #[tactic(auto, unfolding(crate::specs::Fronts::number_at))]
 pub fn number_at(sign: usize, text: &[u8]) -> Result<Piece, LexFault>
     requires digit { 0 < prefix_len is_ascii_digit text.now }
@@ -102,7 +66,7 @@ pub fn number_at(sign: usize, text: &[u8]) -> Result<Piece, LexFault>
 {
     let (whole, behind) = text.split_at(digits_len(text));
     let decimals = decimals_at(behind);
-    if decimals.len() > MOST_DECIMALS {
+    if decimals.len() > MOST_PLACES as usize {
         return Err(LexFault::TooFine);
     }
     if !is_in_range(sign, whole, decimals) {

@@ -17,7 +17,7 @@ fn is_utf8(bytes: &[u8]) -> bool
     std::str::from_utf8(bytes).is_ok()
 }
 
-/// How many bytes a string has behind its opening quote, with its closing quote. None where a
+/// How many bytes a string has after its opening quote, with its closing quote. None where a
 /// line feed or the end comes before that.
 fn closing(quote: u8, text: &[u8]) -> Option<usize>
     ensures value { result ≡ closing quote text.now }

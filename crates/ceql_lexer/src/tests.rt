@@ -237,3 +237,18 @@ fn texts_are_cut_into_their_tokens(rt: HostRuntime) -> Result<(), Fail> {
     }
     Ok(())
 }
+
+#[test]
+fn a_text_longer_than_a_block_is_cut_whole(rt: HostRuntime) -> Result<(), Fail> {
+    let alloc = rt.alloc();
+    let mut text = String::new(alloc);
+    for _ in 0..20_000u64 {
+        text.push_str("ab ; ")?;
+    }
+    let tokens = match lex(alloc, text.as_bytes()) {
+        Ok(tokens) => tokens.as_slice().len(),
+        Err(_) => 0,
+    };
+    assert_eq!(rt; tokens, 40_001);
+    Ok(())
+}

@@ -4,8 +4,8 @@ use Rattle.std.specs.Prelude.{Err}
 use Rattle.std.specs.Option.{option_or}
 use Rattle.cer_base.specs.declared.OrMemory.{OrMemory}
 use Rattle.cer_base.specs.declared.OrMemory.TheVariants as wanted
-use Rattle.ceql_parser.specs.declared.faults.QueryError.{QueryError}
-use Rattle.ceql_parser.specs.FirstFaults.{first_in, Tells}
+use Rattle.ceql_grammar.specs.declared.faults.QueryError.{QueryError}
+use Rattle.ceql_parser.specs.FirstFaults.{first_in, FindsFault}
 
 or_none : {X : Type 0} (o : Option X) → option_or o None ≡ o
 or_none None = refl
@@ -51,6 +51,6 @@ kept_at find xs i x h at none here = first_more find xs i x h ∙ both (first_in
     both (Some y) p e f = absurd cc
 
 -- the fault at an item is that of the list
-pub told_at : {X : Type 0} (find : X → Option QueryError) (xs : List X) (i : ℕ) (x : X) (stop : OrMemory QueryError) → i < length xs → x ≡ get_or xs i x → first_in find (take i xs) ≡ None → Tells {T = Unit {0}} (Err stop) (find x) → Tells {T = Unit {0}} (Err stop) (first_in find xs)
+pub told_at : {X : Type 0} (find : X → Option QueryError) (xs : List X) (i : ℕ) (x : X) (stop : OrMemory QueryError) → i < length xs → x ≡ get_or xs i x → first_in find (take i xs) ≡ None → FindsFault {T = Unit {0}} (Err stop) (find x) → FindsFault {T = Unit {0}} (Err stop) (first_in find xs)
 told_at find xs i x (wanted.Fault e) h at none told = found_at find xs i x e h none (ap find (sym at) ∙ told)
 told_at find xs i x wanted.Memory h at none told = tt

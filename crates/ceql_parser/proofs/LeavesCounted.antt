@@ -8,7 +8,7 @@ use Rattle.cel_terms.specs.declared.Filter.{Filter, All, Any, Row_of-Filter, end
 use Rattle.cel_terms.specs.declared.Link.{Link}
 use Rattle.cel_terms.specs.declared.Formula.{Formula, Chain, Linked, Either, Row_of-Formula, end_of-Formula, more_of-Formula, items-the_row-Formula, items_hidden-the_row-Formula-0, Row_of-Link, end_of-Link, more_of-Link, items-the_row-Link, items_hidden-the_row-Link-1}
 use Rattle.cel_terms.specs.Checked.{leaf_count, leaf_count_of_all, leaf_count_of_links, weight, product_of_weights, sum_of_weights, times_weights}
-use Rattle.ceql_parser.specs.Walks.{capped, link_leaves, sum_of, product_of}
+use Rattle.ceql_parser.specs.LinksAndCounts.{capped, link_leaves, sum_of, product_of}
 use Rattle.ceql_parser.proofs.TermRows.{row_of, links_in, filters_in}
 
 pub capped_at_most : (n : ℕ) → capped n ≤ 2049

@@ -16,22 +16,23 @@ use Rattle.cel_terms.specs.declared.Name.{Name}
 use Rattle.cel_terms.specs.declared.Query.{Query}
 use Rattle.cel_terms.specs.declared.Window.{Window}
 use Rattle.cel_terms.specs.declared.Window.TheVariants.{Free, Events, Clock}
-use Rattle.cel_terms.specs.Checked.{types_read, names_of, leaf_count, AnyKind, SomeHasAttr, AreNamesOf, IsCheckedFormula, IsCheckedWindow, IsStreamName, KindHasFewPlaces, HaveFewPlaces, IsChecked}
-use Rattle.ceql_parser.specs.declared.faults.QueryFault.TheVariants.{UnknownStream, UnknownAttribute, TooManyLeaves, WindowKind, BadCount}
-use Rattle.ceql_parser.specs.declared.terms.NumberAt.{NumberAt}
-use Rattle.ceql_parser.specs.declared.terms.KindDecl.{KindDecl}
-use Rattle.ceql_parser.specs.declared.terms.KindDecl.TheVariants as declared
-use Rattle.ceql_parser.specs.declared.terms.AttrDecl.{AttrDecl}
-use Rattle.ceql_parser.specs.declared.terms.Select.{Select}
-use Rattle.ceql_parser.specs.declared.terms.Statement.{Statement}
-use Rattle.ceql_parser.specs.declared.terms.Statement.TheVariants as said
+use Rattle.cel_terms.specs.Checked.{types_read, names_of, leaf_count, AnyKind, SomeHasAttr, AreNamesOf, IsCheckedFormula, IsCheckedWindow, IsStreamName, HaveFewPlaces, IsChecked}
+use Rattle.ceql_grammar.specs.declared.faults.QueryFault.TheVariants.{UnknownStream, UnknownAttribute, TooManyLeaves, WindowKind, BadCount}
+use Rattle.ceql_grammar.specs.declared.terms.NumberAt.{NumberAt}
+use Rattle.ceql_grammar.specs.declared.terms.KindDecl.{KindDecl}
+use Rattle.ceql_grammar.specs.declared.terms.KindDecl.TheVariants as declared
+use Rattle.ceql_grammar.specs.declared.terms.AttrDecl.{AttrDecl}
+use Rattle.ceql_grammar.specs.declared.terms.Select.{Select}
+use Rattle.ceql_grammar.specs.declared.terms.Statement.{Statement}
+use Rattle.ceql_grammar.specs.declared.terms.Statement.TheVariants as said
+use Rattle.stream_schema.specs.Comparing.{KindHasFewPlaces}
 use Rattle.ceql_parser.specs.FirstFaults.{first_in, unless_named}
 use Rattle.ceql_parser.specs.TypesAsked.{some_has_attr, each_has_attr, any_kind, is_whole}
 use Rattle.ceql_parser.specs.StatementFaults.{scale_of, count_of, any_fault, is_stream, list_fault, window_fault, select_fault}
-use Rattle.ceql_parser.specs.ScriptFaults.{kind_declared, attr_declared, numbers_of, declaring, query_said, queries_of, statements_fault, nothing, script_fault, schema_of}
-use Rattle.ceql_parser.specs.Statements.{statement_tree}
-use Rattle.ceql_parser.specs.LawfulTexts.{IsLawfulWindow, IsLawful}
-use Rattle.ceql_parser.proofs.Taken.{head_none, rest_none, passed}
+use Rattle.ceql_parser.specs.ScriptFaults.{kind_declared, attr_declared, numbers_of, declaring, query_said, queries_of, statements_fault, no_declarations, script_fault, declared_schema}
+use Rattle.ceql_grammar.specs.Statements.{statement_tree}
+use Rattle.ceql_grammar.specs.LawfulTexts.{IsLawfulWindow, IsLawfulStatement}
+use Rattle.ceql_parser.proofs.AcceptedDeclarations.{head_none, rest_none, passed}
 use Rattle.ceql_parser.proofs.TermsChecked.{all_cons, all_nil, all_first, all_later, all_told, any_map, some_from, each_from, names_from, formula_checked}
 use Rattle.ceql_parser.proofs.SchemasGrown.{AreBelow, HaveTypesBelow, below_append, streams_more, streams_append, AreStreams, Grows, append_none, grows_self, grows_on, grown_reads, grown_streams}
 
@@ -88,7 +89,7 @@ pub record Known (schema : Declared) (q : Query) : Type 0 where
   pub checked : IsChecked schema q
   pub streams : AreStreams schema.streams q.streams
 
-select_known : (schema : Declared) (before : ℕ) (s : Select) → Stands schema → IsLawful (statement_tree (said.Select s)) → select_fault schema before s ≡ None → Known schema (query_said s)
+select_known : (schema : Declared) (before : ℕ) (s : Select) → Stands schema → IsLawfulStatement (statement_tree (said.Select s)) → select_fault schema before s ≡ None → Known schema (query_said s)
 select_known schema before s stands l e =
     let e1 = rest_none _ _ e in
     let e2 = rest_none _ _ e1 in
@@ -210,17 +211,17 @@ all_stand : (schema : Declared) (ss : List Statement) → Stands schema → Stan
 all_stand schema [] st = st
 all_stand schema (s ∷ ss) st = all_stand (declaring schema s) ss (declaring_stands schema s st)
 
-all_checked : (schema : Declared) (before : ℕ) (ss : List Statement) → Stands schema → All IsLawful (map statement_tree ss) → statements_fault schema before ss ≡ None → All (IsChecked (fold declaring schema ss)) (queries_of ss)
+all_checked : (schema : Declared) (before : ℕ) (ss : List Statement) → Stands schema → All IsLawfulStatement (map statement_tree ss) → statements_fault schema before ss ≡ None → All (IsChecked (fold declaring schema ss)) (queries_of ss)
 all_checked schema before [] st l e = all_nil (IsChecked schema)
-all_checked schema before (said.Event name attrs ∷ ss) st l e = all_checked (declaring schema (said.Event name attrs)) _ ss (declaring_stands schema (said.Event name attrs) st) (all_later IsLawful (statement_tree (said.Event name attrs)) (map statement_tree ss) l) (rest_none _ _ e)
-all_checked schema before (said.Stream name types ∷ ss) st l e = all_checked (declaring schema (said.Stream name types)) _ ss (declaring_stands schema (said.Stream name types) st) (all_later IsLawful (statement_tree (said.Stream name types)) (map statement_tree ss) l) (rest_none _ _ e)
+all_checked schema before (said.Event name attrs ∷ ss) st l e = all_checked (declaring schema (said.Event name attrs)) _ ss (declaring_stands schema (said.Event name attrs) st) (all_later IsLawfulStatement (statement_tree (said.Event name attrs)) (map statement_tree ss) l) (rest_none _ _ e)
+all_checked schema before (said.Stream name types ∷ ss) st l e = all_checked (declaring schema (said.Stream name types)) _ ss (declaring_stands schema (said.Stream name types) st) (all_later IsLawfulStatement (statement_tree (said.Stream name types)) (map statement_tree ss) l) (rest_none _ _ e)
 all_checked schema before (said.Select s ∷ ss) st l e =
     all_cons (IsChecked (fold declaring schema ss)) (query_said s) (queries_of ss)
-    (grown_known schema (fold declaring schema ss) (query_said s) (all_grow schema ss) st (all_stand schema ss st) (select_known schema before s st (all_first IsLawful (statement_tree (said.Select s)) (map statement_tree ss) l) (head_none _ _ e))).checked
-    (all_checked schema _ ss st (all_later IsLawful (statement_tree (said.Select s)) (map statement_tree ss) l) (rest_none _ _ e))
+    (grown_known schema (fold declaring schema ss) (query_said s) (all_grow schema ss) st (all_stand schema ss st) (select_known schema before s st (all_first IsLawfulStatement (statement_tree (said.Select s)) (map statement_tree ss) l) (head_none _ _ e))).checked
+    (all_checked schema _ ss st (all_later IsLawfulStatement (statement_tree (said.Select s)) (map statement_tree ss) l) (rest_none _ _ e))
 
-nothing_stands : Stands nothing
-nothing_stands = record { within = tt; few = all_nil HasFew }
+none_stands : Stands no_declarations
+none_stands = record { within = tt; few = all_nil HasFew }
 
-pub queries_checked : (statements : List Statement) (end : Place) → All IsLawful (map statement_tree statements) → script_fault statements end ≡ None → All (IsChecked (schema_of statements)) (queries_of statements)
-queries_checked statements end l e = all_checked nothing 0 statements nothing_stands l (head_none _ _ e)
+pub queries_checked : (statements : List Statement) (end : Place) → All IsLawfulStatement (map statement_tree statements) → script_fault statements end ≡ None → All (IsChecked (declared_schema statements)) (queries_of statements)
+queries_checked statements end l e = all_checked no_declarations 0 statements none_stands l (head_none _ _ e)

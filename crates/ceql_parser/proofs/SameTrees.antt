@@ -9,15 +9,16 @@ use Rattle.stream_schema.specs.Declaring.{with_type, with_stream}
 use Rattle.cel_terms.specs.declared.Name.{Name}
 use Rattle.cel_terms.specs.Answers.{query_types}
 use Rattle.cel_terms.specs.Checked.{types_read}
-use Rattle.ceql_parser.specs.declared.terms.Statement.{Statement}
-use Rattle.ceql_parser.specs.declared.terms.Statement.TheVariants as said
-use Rattle.ceql_parser.specs.declared.faults.QueryFault.TheVariants.{UnknownStream, UnknownAttribute, TooManyLeaves, TooManyQueries, NoQuery}
-use Rattle.ceql_parser.specs.declared.faults.QueryError.{QueryError}
-use Rattle.ceql_parser.specs.FirstFaults.{first_in, first, unless, unless_named}
+use Rattle.ceql_grammar.specs.declared.terms.Statement.{Statement}
+use Rattle.ceql_grammar.specs.declared.terms.Statement.TheVariants as said
+use Rattle.ceql_grammar.specs.declared.faults.QueryFault.TheVariants.{UnknownStream, UnknownAttribute, TooManyLeaves, TooManyQueries, NoQuery}
+use Rattle.ceql_grammar.specs.declared.faults.QueryError.{QueryError}
+use Rattle.cer_base.specs.declared.limits.TheConstants.{MOST_LEAVES, MOST_QUERIES}
+use Rattle.ceql_parser.specs.FirstFaults.{first_in, first_fault, unless, unless_named}
 use Rattle.ceql_parser.specs.TypesAsked.{some_has_attr, any_kind}
-use Rattle.ceql_parser.specs.StatementFaults.{count_of, most_queries, most_leaves, event_fault, stream_fault, any_fault, is_stream, list_fault, window_fault, statement_fault}
-use Rattle.ceql_parser.specs.ScriptFaults.{attr_declared, numbers_of, declaring, query_said, queries_of, statements_fault, nothing, script_fault, schema_of}
-use Rattle.ceql_parser.specs.Statements.{StatementTree, event, stream, select, statement_tree}
+use Rattle.ceql_parser.specs.StatementFaults.{count_of, event_fault, stream_fault, any_fault, is_stream, list_fault, window_fault, statement_fault}
+use Rattle.ceql_parser.specs.ScriptFaults.{attr_declared, numbers_of, declaring, query_said, queries_of, statements_fault, no_declarations, script_fault, declared_schema}
+use Rattle.ceql_grammar.specs.Statements.{StatementTree, event, stream, select, statement_tree}
 use Rattle.ceql_parser.specs.QueryTrees.{QueryTree, query_tree}
 use Rattle.ceql_parser.proofs.TreesTold.{names_in, names_as, leaves_in, leaves_as, formula_told, formula_as}
 
@@ -30,14 +31,14 @@ types_in schema streams = filter_map (slice_get schema.types) (query_types schem
 abbrev told_with : Declared → ℕ → StatementTree → Option QueryError → List (List ℕ) → ℕ → Option QueryError
 told_with schema before (event name attrs) told names leaves = event_fault schema name attrs
 told_with schema before (stream name types) told names leaves = stream_fault schema name types
-told_with schema before (select s) told names leaves = first (
-    unless (nat_lt before most_queries) TooManyQueries s.place
+told_with schema before (select s) told names leaves = first_fault (
+    unless (nat_lt before MOST_QUERIES) TooManyQueries s.place
     ∷ any_fault s.any
     ∷ first_in (λ n. unless_named (is_stream schema n.text) UnknownStream n) s.streams
-    ∷ first (
+    ∷ first_fault (
     told
     ∷ list_fault names s.select
-    ∷ unless (nat_le leaves most_leaves) TooManyLeaves s.place
+    ∷ unless (nat_le leaves MOST_LEAVES) TooManyLeaves s.place
     ∷ first_in (λ n. unless_named (some_has_attr (types_in schema s.streams) n.text any_kind) UnknownAttribute n) s.partition
     ∷ window_fault (types_in schema s.streams) s.window
     ∷ [])
@@ -120,10 +121,10 @@ statements_as schema before (said.Select s ∷ ss) =
     ap₂ (λ a b. option_or a b) (statement_as schema before (said.Select s)) (statements_as schema (before + 1) ss)
 
 abbrev script_told : List StatementTree → Place → Option QueryError
-script_told ts end = option_or (statements_told nothing 0 ts) (unless (nat_lt 0 (length (queries_told ts))) NoQuery end)
+script_told ts end = option_or (statements_told no_declarations 0 ts) (unless (nat_lt 0 (length (queries_told ts))) NoQuery end)
 
 script_as : (ss : List Statement) (end : Place) → script_fault ss end ≡ script_told (map statement_tree ss) end
-script_as ss end = ap₂ (λ a b. option_or a b) (statements_as nothing 0 ss) (ap (λ n. unless (nat_lt 0 n) NoQuery end) (counted_as ss))
+script_as ss end = ap₂ (λ a b. option_or a b) (statements_as no_declarations 0 ss) (ap (λ n. unless (nat_lt 0 n) NoQuery end) (counted_as ss))
 
 -- SAME TREES
 
@@ -132,8 +133,8 @@ pub same_fault : (ss ts : List Statement) (end : Place) → map statement_tree s
 same_fault ss ts end e = script_as ss end ∙ ap (λ (us : List StatementTree). script_told us end) e ∙ sym (script_as ts end)
 
 -- they declare the same
-pub same_schema : (ss ts : List Statement) → map statement_tree ss ≡ map statement_tree ts → schema_of ss ≡ schema_of ts
-same_schema ss ts e = schema_as nothing ss ∙ ap (λ (us : List StatementTree). fold declared_by nothing us) e ∙ sym (schema_as nothing ts)
+pub same_schema : (ss ts : List Statement) → map statement_tree ss ≡ map statement_tree ts → declared_schema ss ≡ declared_schema ts
+same_schema ss ts e = schema_as no_declarations ss ∙ ap (λ (us : List StatementTree). fold declared_by no_declarations us) e ∙ sym (schema_as no_declarations ts)
 
 -- and their queries say the same
 pub same_queries : (ss ts : List Statement) → map statement_tree ss ≡ map statement_tree ts → map query_tree (queries_of ss) ≡ map query_tree (queries_of ts)

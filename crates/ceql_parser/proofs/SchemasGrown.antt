@@ -76,7 +76,7 @@ reads_kept schema types streams names within known =
     ap (filter_map (slice_get (schema.types ++ types))) (query_types_kept schema (schema.types ++ types) streams names known)
     ∙ types_kept schema.types types (query_types schema names) (query_types_below schema names within)
 
--- the second schema declares what the first does, and more behind it
+-- the second schema declares what the first does, and more after it
 pub record Grows (a b : Declared) : Type 0 where
   pub more_types : List DeclaredType
   pub more_streams : List DeclaredStream

@@ -6,10 +6,10 @@ use Rattle.cer_base.specs.declared.OrMemory.{OrMemory}
 use Rattle.cer_base.specs.declared.OrMemory.TheVariants as wanted
 use Rattle.stream_schema.specs.Types.{Declared}
 use Rattle.stream_schema.specs.declared.registry.Schema.{Schema}
-use Rattle.ceql_parser.specs.declared.faults.QueryError.{QueryError}
-use Rattle.ceql_parser.specs.declared.terms.Statement.{Statement}
-use Rattle.ceql_parser.specs.declared.terms.Statement.TheVariants as said
-use Rattle.ceql_parser.specs.FirstFaults.{Tells}
+use Rattle.ceql_grammar.specs.declared.faults.QueryError.{QueryError}
+use Rattle.ceql_grammar.specs.declared.terms.Statement.{Statement}
+use Rattle.ceql_grammar.specs.declared.terms.Statement.TheVariants as said
+use Rattle.ceql_parser.specs.FirstFaults.{FindsFault}
 use Rattle.ceql_parser.specs.StatementFaults.{statement_fault}
 use Rattle.ceql_parser.specs.ScriptFaults.{declaring, query_said, queries_of, statements_fault}
 
@@ -79,7 +79,7 @@ faults_at schema before count (s ∷ ss) (suc i) d e h n none here =
     later (Some z) p q y e f = absurd cc
 
 -- the fault at a statement is that of the text
-pub told_there : (schema here : Declared) (count : ℕ) (ss : List Statement) (i : ℕ) (s : Statement) (stop : OrMemory QueryError) (end : Option QueryError) → i < length ss → s ≡ get_or ss i s → count ≡ length (queries_of (take i ss)) → here ≡ fold declaring schema (take i ss) → statements_fault schema 0 (take i ss) ≡ None → Tells {T = Unit {0}} (Err stop) (statement_fault here count s) → Tells {T = Schema} (Err stop) (option_or (statements_fault schema 0 ss) end)
+pub told_there : (schema here : Declared) (count : ℕ) (ss : List Statement) (i : ℕ) (s : Statement) (stop : OrMemory QueryError) (end : Option QueryError) → i < length ss → s ≡ get_or ss i s → count ≡ length (queries_of (take i ss)) → here ≡ fold declaring schema (take i ss) → statements_fault schema 0 (take i ss) ≡ None → FindsFault {T = Unit {0}} (Err stop) (statement_fault here count s) → FindsFault {T = Schema} (Err stop) (option_or (statements_fault schema 0 ss) end)
 told_there schema here count ss i s (wanted.Fault e) end h at n are none told =
     ap (λ o. option_or o end) (faults_at schema 0 count ss i s e h (let m : count ≡ 0 + length (queries_of (take i ss)) = omega (arith, n) in m) none (ap₂ (λ sch x. statement_fault sch count x) (sym are) (sym at) ∙ told))
 told_there schema here count ss i s wanted.Memory end h at n are none told = tt

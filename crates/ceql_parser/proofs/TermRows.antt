@@ -1,4 +1,4 @@
--- The terms in a list of a formula or a filter, as the row that lies behind the list.
+-- The terms in a list of a formula or a filter, as the row that the list is kept in.
 use Rattle.cel_terms.specs.declared.Formula.{Formula, Chain', Linked', Either', Row_of-Formula, end_of-Formula, Row_of-Link, end_of-Link}
 use Rattle.cel_terms.specs.declared.Filter.{Filter, Row_of-Filter, end_of-Filter}
 use Rattle.cel_terms.specs.declared.Filter as filter

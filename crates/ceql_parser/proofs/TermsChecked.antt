@@ -10,8 +10,8 @@ use Rattle.stream_schema.specs.declared.Kind.TheVariants as kind
 use Rattle.stream_schema.specs.declared.Value.{Value}
 use Rattle.stream_schema.specs.declared.Value.TheVariants as value
 use Rattle.cel_terms.specs.declared.Name.{Name}
-use Rattle.cel_terms.specs.declared.Op.{Op}
-use Rattle.cel_terms.specs.declared.Op.TheVariants.{Eq, Ne, Lt, Le, Gt, Ge}
+use Rattle.stream_schema.specs.declared.Op.{Op}
+use Rattle.stream_schema.specs.declared.Op.TheVariants.{Eq, Ne, Lt, Le, Gt, Ge}
 use Rattle.cel_terms.specs.declared.Pred.{Pred, Cmp, Not', All', Any', Row_of-Pred, end_of-Pred, more_of-Pred}
 use Rattle.cel_terms.specs.declared.Filter.{Filter, On, Row_of-Filter, end_of-Filter, more_of-Filter}
 use Rattle.cel_terms.specs.declared.Filter as filter
@@ -19,15 +19,16 @@ use Rattle.cel_terms.specs.declared.Postfix.{Postfix}
 use Rattle.cel_terms.specs.declared.Postfix.TheVariants.{Plus, NextPlus, Named, Keep}
 use Rattle.cel_terms.specs.declared.Formula.{Formula, Of, Chain', Linked', Either', Post', Under', Row_of-Formula, end_of-Formula, more_of-Formula, Row_of-Link, end_of-Link, more_of-Link}
 use Rattle.cel_terms.specs.Meaning.{lists_name}
-use Rattle.cel_terms.specs.Checked.{IsTypeName, IsAttr, SomeHasAttr, EachHasAttr, AreComparable, TakesLiteral, HasFewPlaces, IsCheckedComparison, IsCheckedPred, AreCheckedPreds, MorePredsChecked, IsCheckedFilter, AreCheckedFilters, MoreFiltersChecked, names_of, AreNamesOf, ArePostfixesChecked, IsCheckedFormula, AreCheckedFormulas, MoreFormulasChecked, AreCheckedLinks, MoreLinksChecked}
-use Rattle.ceql_parser.specs.declared.faults.QueryFault.TheVariants.{NameTaken, UnknownType, UnknownName, NeverKind, NoOrder}
-use Rattle.ceql_parser.specs.declared.faults.QueryError.{QueryError}
+use Rattle.cel_terms.specs.Checked.{IsTypeName, IsAttr, SomeHasAttr, EachHasAttr, IsCheckedComparison, IsCheckedPred, AreCheckedPreds, MorePredsChecked, IsCheckedFilter, AreCheckedFilters, MoreFiltersChecked, names_of, AreNamesOf, ArePostfixesChecked, IsCheckedFormula, AreCheckedFormulas, MoreFormulasChecked, AreCheckedLinks, MoreLinksChecked}
+use Rattle.ceql_grammar.specs.declared.faults.QueryFault.TheVariants.{NameTaken, UnknownType, UnknownName, NeverKind, NoOrder}
+use Rattle.ceql_grammar.specs.declared.faults.QueryError.{QueryError}
+use Rattle.stream_schema.specs.Comparing.{AreComparable, TakesLiteral, HasFewPlaces}
 use Rattle.ceql_parser.specs.FirstFaults.{first_in, unless_named}
-use Rattle.ceql_parser.specs.TypesAsked.{is_type_of, has_attr, some_has_attr, each_has_attr, kind_of, are_alike, is_flag, is_order}
+use Rattle.ceql_parser.specs.TypesAsked.{is_type_name, has_attr, some_has_attr, each_has_attr, kind_of, are_alike, is_flag, is_order}
 use Rattle.ceql_parser.specs.FormulaFaults.{comparison_fault, pred_fault, preds_fault, name_fault, filter_fault, filters_fault, postfixes_fault, formula_fault, formulas_fault, links_fault}
-use Rattle.ceql_parser.specs.Trees.{pred_tree, pred_trees, filters, filter_tree, filter_trees, formula_tree, formula_trees, link_trees}
-use Rattle.ceql_parser.specs.LawfulTexts.{IsLawfulPred, AreLawfulPreds, MorePredsLawful, IsLawfulFilter, AreLawfulFilters, MoreFiltersLawful, KeepsSome, IsLawfulFormula, AreLawfulFormulas, MoreFormulasLawful, AreLawfulLinks, MoreLinksLawful}
-use Rattle.ceql_parser.proofs.Taken.{head_none, rest_none, passed}
+use Rattle.ceql_grammar.specs.Trees.{pred_tree, pred_trees, filters, filter_tree, filter_trees, formula_tree, formula_trees, link_trees}
+use Rattle.ceql_grammar.specs.LawfulTexts.{IsLawfulPred, AreLawfulPreds, MorePredsLawful, IsLawfulFilter, AreLawfulFilters, MoreFiltersLawful, KeepsSome, IsLawfulFormula, AreLawfulFormulas, MoreFormulasLawful, AreLawfulLinks, MoreLinksLawful}
+use Rattle.ceql_parser.proofs.AcceptedDeclarations.{head_none, rest_none, passed}
 
 pub any_map : {X : Type 0} (P Q : X → Type 0) (xs : List X) → ((x : X) → P x → Q x) → Any P xs → Any Q xs
 any_map P Q xs f h = (h.0, h.1, h.2, h.3, f h.1 h.4)
@@ -74,10 +75,10 @@ some_from types name passes Passes f e =
 pub each_from : (types : List DeclaredType) (name : List ℕ) (passes : Kind → Bool) (Passes : Kind → Type 0) → ((k : Kind) → passes k ≡ true → Passes k) → each_has_attr types name passes ≡ true → EachHasAttr types name Passes
 each_from types name passes Passes f e = λ k d h. has_from name passes Passes f (slice_index_or types k d) (AllPass-from_list_all (has_attr name passes) types e k d h)
 
-type_from : (types : List DeclaredType) (name : List ℕ) → is_type_of types name ≡ true → IsTypeName types name
+type_from : (types : List DeclaredType) (name : List ℕ) → is_type_name types name ≡ true → IsTypeName types name
 type_from types name e = any_map (λ t. bytes_eq t.name name ≡ true) (λ t. t.name ≡ name) types (λ t h. (bytes_eq-Decides t.name name).0 h) (Any-from_list_any (λ t. bytes_eq t.name name) types e)
 
-type_to : (types : List DeclaredType) (name : List ℕ) → IsTypeName types name → is_type_of types name ≡ true
+type_to : (types : List DeclaredType) (name : List ℕ) → IsTypeName types name → is_type_name types name ≡ true
 type_to [] name h = absurd (let k = h.2 in omega (arith, k))
 type_to (t ∷ ts) name (zero, x, h, at, p) = front (bytes_eq t.name name) _ ((bytes_eq-Decides t.name name).1 (ap (λ (y : DeclaredType). y.name) at ∙ p))
   where
@@ -179,8 +180,8 @@ mutual
   more_filters types names end_of-Filter l e = tt
   more_filters types names (more_of-Filter f rest) l e = (filter_checked types names f l.0 (head_none _ _ e), more_filters types names rest l.1 (rest_none _ _ e))
 
-new_name : (types : List DeclaredType) (n : Name) → unless_named (not (is_type_of types n.text)) NameTaken n ≡ None → IsTypeName types n.text → ⊥
-new_name types n e h = clash (is_type_of types n.text) (type_to types n.text h) (passed (not (is_type_of types n.text)) (NameTaken n.text) n.place e)
+new_name : (types : List DeclaredType) (n : Name) → unless_named (not (is_type_name types n.text)) NameTaken n ≡ None → IsTypeName types n.text → ⊥
+new_name types n e h = clash (is_type_name types n.text) (type_to types n.text h) (passed (not (is_type_name types n.text)) (NameTaken n.text) n.place e)
   where
     clash : (b : Bool) → b ≡ true → not b ≡ true → ⊥
     clash true p q = absurd cc
@@ -194,7 +195,7 @@ postfixes_checked types names [] l e = tt
 postfixes_checked types names (Plus ∷ ps) l e = postfixes_checked types names ps (all_later KeepsSome Plus ps l) e
 postfixes_checked types names (NextPlus ∷ ps) l e = postfixes_checked types names ps (all_later KeepsSome NextPlus ps l) e
 postfixes_checked types names (Named n ∷ ps) l e = (new_name types n (head_none _ _ e), postfixes_checked types (names ++ n.text ∷ []) ps (all_later KeepsSome (Named n) ps l) (rest_none _ _ e))
-postfixes_checked types names (Keep listed ∷ ps) l e = (names_from names listed (all_first KeepsSome (Keep listed) ps l) (head_none _ _ e), postfixes_checked types names ps (all_later KeepsSome (Keep listed) ps l) (rest_none _ _ e))
+postfixes_checked types names (Keep listed ∷ ps) l e = (names_from names listed (all_first KeepsSome (Keep listed) ps l) (head_none _ _ e), postfixes_checked types (map (λ n. n.text) listed) ps (all_later KeepsSome (Keep listed) ps l) (rest_none _ _ e))
 
 some_filters : (cs : List Filter) → AreLawfulFilters (filters (map filter_tree cs)) → cs ≢ []
 some_filters [] l = absurd l
@@ -210,7 +211,7 @@ each_filter (c ∷ cs) l = all_cons (λ c. IsLawfulFilter (filter_tree c)) c cs 
 
 mutual
   pub formula_checked : (types : List DeclaredType) (f : Formula) → IsLawfulFormula (formula_tree f) → formula_fault types f ≡ None → IsCheckedFormula types f
-  formula_checked types (Of name) l e = type_from types name.text (passed (is_type_of types name.text) (UnknownType name.text) name.place e)
+  formula_checked types (Of name) l e = type_from types name.text (passed (is_type_name types name.text) (UnknownType name.text) name.place e)
   formula_checked types (Chain' s row) l e = formulas_checked types row l e
   formula_checked types (Linked' p first s links) l e = (formula_checked types first l.0 (head_none _ _ e), links_checked types links l.1 (rest_none _ _ e))
   formula_checked types (Either' s row) l e = formulas_checked types row l e

@@ -7,11 +7,11 @@ use Rattle.cel_terms.specs.declared.Filter.{Filter, On, Row_of-Filter, end_of-Fi
 use Rattle.cel_terms.specs.declared.Filter as filter
 use Rattle.cel_terms.specs.declared.Formula.{Formula, Of, Chain', Linked', Either', Post', Under', Row_of-Formula, end_of-Formula, more_of-Formula, Row_of-Link, end_of-Link, more_of-Link}
 use Rattle.cel_terms.specs.Checked.{names_of, names_of_all, names_of_links, names_after, weight, product_of_weights, sum_of_weights, times_weights, leaf_count, leaf_count_of_all, leaf_count_of_links}
-use Rattle.ceql_parser.specs.Trees.{PredTree, PredTrees, compares, negates, every_pred, some_pred, no_preds, pred_then, FilterTree, FilterTrees, on, every_filter, some_filter, no_filters, filter_then, FormulaTree, FormulaTrees, LinkTrees, of_type, chain, linked, either, post, under, no_formulas, formula_then, no_links, link_then, filters, pred_tree, pred_trees, filter_tree, filter_trees, formula_tree, formula_trees, link_trees}
-use Rattle.ceql_parser.specs.declared.faults.QueryFault.TheVariants.{UnknownType}
-use Rattle.ceql_parser.specs.declared.faults.QueryError.{QueryError}
+use Rattle.ceql_grammar.specs.Trees.{PredTree, PredTrees, compares, negates, every_pred, some_pred, no_preds, pred_then, FilterTree, FilterTrees, on, every_filter, some_filter, no_filters, filter_then, FormulaTree, FormulaTrees, LinkTrees, of_type, chain, linked, either, post, under, no_formulas, formula_then, no_links, link_then, filters, pred_tree, pred_trees, filter_tree, filter_trees, formula_tree, formula_trees, link_trees}
+use Rattle.ceql_grammar.specs.declared.faults.QueryFault.TheVariants.{UnknownType}
+use Rattle.ceql_grammar.specs.declared.faults.QueryError.{QueryError}
 use Rattle.ceql_parser.specs.FirstFaults.{first_in, unless_named}
-use Rattle.ceql_parser.specs.TypesAsked.{is_type_of}
+use Rattle.ceql_parser.specs.TypesAsked.{is_type_name}
 use Rattle.ceql_parser.specs.FormulaFaults.{comparison_fault, pred_fault, preds_fault, name_fault, filter_fault, filters_fault, postfixes_fault, formula_fault, formulas_fault, links_fault}
 
 -- NAMES
@@ -174,7 +174,7 @@ filters_as types names (c ∷ cs) = ap₂ (λ a b. option_or a b) (filter_as typ
 
 abbrev mutual
   pub formula_told : List DeclaredType → FormulaTree → Option QueryError
-  formula_told types (of_type name) = unless_named (is_type_of types name.text) UnknownType name
+  formula_told types (of_type name) = unless_named (is_type_name types name.text) UnknownType name
   formula_told types (chain fs) = formulas_told types fs
   formula_told types (linked f ls) = option_or (formula_told types f) (links_told types ls)
   formula_told types (either fs) = formulas_told types fs

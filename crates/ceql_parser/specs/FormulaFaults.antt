@@ -1,11 +1,10 @@
 -- The first fault of a formula in the order of its tokens, read with the types of its query.
--- This project's profile.
 use Rattle.std.specs.Prelude.{ℕ, not, ◌&&◌, List, [], ◌∷◌, Option, None}
 use Rattle.std.specs.Option.{option_or}
 use Rattle.stream_schema.specs.Types.{DeclaredType}
 use Rattle.stream_schema.specs.declared.Value.{Value}
 use Rattle.cel_terms.specs.declared.Name.{Name}
-use Rattle.cel_terms.specs.declared.Op.{Op}
+use Rattle.stream_schema.specs.declared.Op.{Op}
 use Rattle.cel_terms.specs.declared.Pred.{Pred, Cmp, Not', All', Any', Row_of-Pred, end_of-Pred, more_of-Pred}
 use Rattle.cel_terms.specs.declared.Filter.{Filter, On, Row_of-Filter, end_of-Filter, more_of-Filter}
 use Rattle.cel_terms.specs.declared.Filter as filter
@@ -14,14 +13,14 @@ use Rattle.cel_terms.specs.declared.Postfix.TheVariants.{Plus, NextPlus, Named, 
 use Rattle.cel_terms.specs.declared.Formula.{Formula, Of, Chain', Linked', Either', Post', Under', Row_of-Formula, end_of-Formula, more_of-Formula, Row_of-Link, end_of-Link, more_of-Link}
 use Rattle.cel_terms.specs.Meaning.{lists_name}
 use Rattle.cel_terms.specs.Checked.{names_of, names_after}
-use Rattle.ceql_parser.specs.declared.faults.QueryFault.TheVariants.{NameTaken, UnknownType, UnknownName, UnknownAttribute, NeverKind, NoOrder}
-use Rattle.ceql_parser.specs.declared.faults.QueryError.{QueryError}
-use Rattle.ceql_parser.specs.FirstFaults.{first_in, first, unless, unless_named}
-use Rattle.ceql_parser.specs.TypesAsked.{is_type_of, some_has_attr, any_kind, are_alike, kind_of, is_order, is_flag}
+use Rattle.ceql_grammar.specs.declared.faults.QueryFault.TheVariants.{NameTaken, UnknownType, UnknownName, UnknownAttribute, NeverKind, NoOrder}
+use Rattle.ceql_grammar.specs.declared.faults.QueryError.{QueryError}
+use Rattle.ceql_parser.specs.FirstFaults.{first_in, first_fault, unless, unless_named}
+use Rattle.ceql_parser.specs.TypesAsked.{is_type_name, some_has_attr, any_kind, are_alike, kind_of, is_order, is_flag}
 
 -- the attribute is unknown, or never of a kind like the literal's, or has no order
 abbrev pub comparison_fault : List DeclaredType → Name → Op → Value → Option QueryError
-comparison_fault types name op literal = first (
+comparison_fault types name op literal = first_fault (
     unless_named (some_has_attr types name.text any_kind) UnknownAttribute name
     ∷ unless_named (some_has_attr types name.text (are_alike (kind_of literal))) (λ text. NeverKind text (kind_of literal)) name
     ∷ unless (not (is_order op && is_flag literal)) NoOrder name.place
@@ -57,7 +56,7 @@ abbrev mutual
 abbrev pub postfix_fault : List DeclaredType → List (List ℕ) → Postfix → Option QueryError
 postfix_fault types names Plus = None
 postfix_fault types names NextPlus = None
-postfix_fault types names (Named name) = unless_named (not (is_type_of types name.text)) NameTaken name
+postfix_fault types names (Named name) = unless_named (not (is_type_name types name.text)) NameTaken name
 postfix_fault types names (Keep listed) = first_in (name_fault names) listed
 
 abbrev pub postfixes_fault : List DeclaredType → List (List ℕ) → List Postfix → Option QueryError
@@ -66,7 +65,7 @@ postfixes_fault types names (p ∷ ps) = option_or (postfix_fault types names p)
 
 abbrev mutual
   pub formula_fault : List DeclaredType → Formula → Option QueryError
-  formula_fault types (Of name) = unless_named (is_type_of types name.text) UnknownType name
+  formula_fault types (Of name) = unless_named (is_type_name types name.text) UnknownType name
   formula_fault types (Chain' s parts) = formulas_fault types parts
   formula_fault types (Linked' p first s links) = option_or (formula_fault types first) (links_fault types links)
   formula_fault types (Either' s choices) = formulas_fault types choices

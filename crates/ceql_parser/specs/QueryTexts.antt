@@ -1,41 +1,25 @@
 -- What a query text declares and asks, or the first of its faults: that it is too long, else of its
--- tokens, else of its nesting and grammar, else of its statements. This project's profile.
+-- tokens, else of its nesting and grammar, else of its statements.
 use Rattle.std.specs.Prelude.{◌≡◌, ℕ, ◌≤◌, ◌<◌, List, length, map, Option, Some, None, Result, Ok, Err}
 use Rattle.cer_base.specs.declared.Place.{Place}
+use Rattle.cer_base.specs.declared.limits.TheConstants.{LONGEST_TEXT}
 use Rattle.stream_schema.specs.Types.{Declared}
 use Rattle.ceql_lexer.specs.declared.Token.{Token}
 use Rattle.ceql_lexer.specs.declared.LexError.{LexError}
-use Rattle.ceql_lexer.specs.declared.LexFault.{LexFault}
-use Rattle.ceql_lexer.specs.declared.LexFault.TheVariants as token
 use Rattle.ceql_lexer.specs.Tokens.{tokens_of, first_place}
-use Rattle.ceql_parser.specs.declared.faults.QueryFault.{QueryFault}
-use Rattle.ceql_parser.specs.declared.faults.QueryFault.TheVariants.{BadByte, OpenString, NumberTooLarge, NotUtf8, TooFine, TextTooLong}
-use Rattle.ceql_parser.specs.declared.faults.QueryError.{QueryError}
-use Rattle.ceql_parser.specs.declared.terms.Statement.{Statement}
+use Rattle.ceql_grammar.specs.declared.faults.QueryFault.TheVariants.{TextTooLong}
+use Rattle.ceql_grammar.specs.declared.faults.QueryError.{QueryError}
+use Rattle.ceql_grammar.specs.declared.terms.Statement.{Statement}
 use Rattle.ceql_parser.specs.declared.checking.Accepted.{Accepted}
-use Rattle.ceql_parser.specs.Statements.{StatementTree, statement_tree}
-use Rattle.ceql_parser.specs.Texts.{Answer, IsAnswerOf}
-use Rattle.ceql_parser.specs.ScriptFaults.{script_fault, schema_of, queries_of}
+use Rattle.ceql_grammar.specs.Statements.{StatementTree, statement_tree}
+use Rattle.ceql_grammar.specs.TokenFaults.{token_error}
+use Rattle.ceql_grammar.specs.Texts.{ParseAnswer, IsParseOf}
+use Rattle.ceql_parser.specs.ScriptFaults.{script_fault, declared_schema, queries_of}
 use Rattle.ceql_parser.specs.QueryTrees.{QueryTree, query_tree}
-
--- a query text has at most so many bytes
-abbrev pub longest_text : ℕ
-longest_text = 1048576
 
 -- what a text declares and its queries, or its first fault
 abbrev pub TextAnswer : Type 0
 TextAnswer = Result (Declared × List QueryTree) QueryError
-
--- a fault of tokens, as one of a query text
-abbrev pub token_fault : LexFault → QueryFault
-token_fault (token.BadByte byte) = BadByte byte
-token_fault token.OpenString = OpenString
-token_fault token.NumberTooLarge = NumberTooLarge
-token_fault token.NotUtf8 = NotUtf8
-token_fault token.TooFine = TooFine
-
-abbrev pub token_error : LexError → QueryError
-token_error error = record { fault = token_fault error.fault; place = error.place }
 
 abbrev pub unless_faulty : Option QueryError → TextAnswer → TextAnswer
 unless_faulty None answer = answer
@@ -44,7 +28,7 @@ unless_faulty (Some error) answer = Err error
 -- what the statements declare and ask, or their first fault
 abbrev pub checked : List Statement → Place → TextAnswer
 checked statements end =
-    unless_faulty (script_fault statements end) (Ok (schema_of statements, map query_tree (queries_of statements)))
+    unless_faulty (script_fault statements end) (Ok (declared_schema statements, map query_tree (queries_of statements)))
 
 -- The answer is that of statements which say this.
 pub record IsAnswerOfStatements (trees : List StatementTree) (end : Place) (answer : TextAnswer) : Type 0 where
@@ -53,15 +37,15 @@ pub record IsAnswerOfStatements (trees : List StatementTree) (end : Place) (answ
   pub is : answer ≡ checked statements end
 
 -- the answer of statements, or of the fault in their nesting or grammar
-abbrev pub IsAnswerBehind : Answer → TextAnswer → Type 0
-IsAnswerBehind (Ok script) answer = IsAnswerOfStatements script.0 script.1 answer
-IsAnswerBehind (Err error) answer = answer ≡ Err error
+abbrev pub IsAnswerAfter : ParseAnswer → TextAnswer → Type 0
+IsAnswerAfter (Ok script) answer = IsAnswerOfStatements script.0 script.1 answer
+IsAnswerAfter (Err error) answer = answer ≡ Err error
 
 -- The answer is that of the statements that the tokens are, or of the fault in their nesting or grammar.
 pub record IsAnswerOfTokens (tokens : List Token) (answer : TextAnswer) : Type 0 where
-  pub parsed : Answer
-  pub read : IsAnswerOf tokens parsed
-  pub behind : IsAnswerBehind parsed answer
+  pub parsed : ParseAnswer
+  pub read : IsParseOf tokens parsed
+  pub behind : IsAnswerAfter parsed answer
 
 -- the answer of tokens, or of the fault of a text that has none
 abbrev pub IsAnswerOfLexed : Result (List Token) LexError → TextAnswer → Type 0
@@ -70,8 +54,8 @@ IsAnswerOfLexed (Err error) answer = answer ≡ Err (token_error error)
 
 -- The answer of a text.
 pub data IsAnswerOfText : List ℕ → TextAnswer → Type 0 where
-  too_long : {text : List ℕ} {answer : TextAnswer} → longest_text < length text → answer ≡ Err (record { fault = TextTooLong; place = first_place }) → IsAnswerOfText text answer
-  short : {text : List ℕ} {answer : TextAnswer} → length text ≤ longest_text → IsAnswerOfLexed (tokens_of text) answer → IsAnswerOfText text answer
+  too_long : {text : List ℕ} {answer : TextAnswer} → LONGEST_TEXT < length text → answer ≡ Err (record { fault = TextTooLong; place = first_place }) → IsAnswerOfText text answer
+  short : {text : List ℕ} {answer : TextAnswer} → length text ≤ LONGEST_TEXT → IsAnswerOfLexed (tokens_of text) answer → IsAnswerOfText text answer
 
 -- what an accepted text says
 abbrev pub accepted_view : Accepted → Declared × List QueryTree

@@ -4,9 +4,9 @@ use Rattle.cer_base.specs.declared.Place.{Place}
 use Rattle.cel_terms.specs.declared.Name.{Name}
 use Rattle.cel_terms.specs.declared.Query.{Query}
 use Rattle.cel_terms.specs.declared.Window.{Window}
-use Rattle.ceql_parser.specs.Trees.{FormulaTree, formula_tree}
+use Rattle.ceql_grammar.specs.Trees.{FormulaTree, formula_tree}
 
--- What a query says. `any` is the number behind ANY.
+-- What a query says. `any` is the number after ANY.
 pub record QueryTree : Type 0 where
   pub strict : Bool
   pub any : Option ℕ

@@ -1,5 +1,4 @@
 -- When the statements of a text are refused, and else its schema and its queries.
--- This project's profile.
 use Rattle.std.specs.Prelude.{ℕ, ◌+◌, List, [], ◌∷◌, map, fold, length, Option, None, option_and_then, nat_lt}
 use Rattle.std.specs.Option.{option_or, option_map_or}
 use Rattle.cer_base.specs.declared.Place.{Place}
@@ -10,14 +9,14 @@ use Rattle.stream_schema.specs.declared.Kind.{Kind}
 use Rattle.stream_schema.specs.declared.Kind.TheVariants as kind
 use Rattle.cel_terms.specs.declared.Name.{Name}
 use Rattle.cel_terms.specs.declared.Query.{Query}
-use Rattle.ceql_parser.specs.declared.terms.KindDecl.{KindDecl}
-use Rattle.ceql_parser.specs.declared.terms.KindDecl.TheVariants as declared
-use Rattle.ceql_parser.specs.declared.terms.AttrDecl.{AttrDecl}
-use Rattle.ceql_parser.specs.declared.terms.Select.{Select}
-use Rattle.ceql_parser.specs.declared.terms.Statement.{Statement}
-use Rattle.ceql_parser.specs.declared.terms.Statement.TheVariants as said
-use Rattle.ceql_parser.specs.declared.faults.QueryFault.TheVariants.{NoQuery}
-use Rattle.ceql_parser.specs.declared.faults.QueryError.{QueryError}
+use Rattle.ceql_grammar.specs.declared.terms.KindDecl.{KindDecl}
+use Rattle.ceql_grammar.specs.declared.terms.KindDecl.TheVariants as declared
+use Rattle.ceql_grammar.specs.declared.terms.AttrDecl.{AttrDecl}
+use Rattle.ceql_grammar.specs.declared.terms.Select.{Select}
+use Rattle.ceql_grammar.specs.declared.terms.Statement.{Statement}
+use Rattle.ceql_grammar.specs.declared.terms.Statement.TheVariants as said
+use Rattle.ceql_grammar.specs.declared.faults.QueryFault.TheVariants.{NoQuery}
+use Rattle.ceql_grammar.specs.declared.faults.QueryError.{QueryError}
 use Rattle.ceql_parser.specs.FirstFaults.{unless}
 use Rattle.ceql_parser.specs.StatementFaults.{scale_of, count_of, statement_fault}
 
@@ -41,7 +40,7 @@ declaring schema (said.Event name attrs) = with_type schema name.text (map attr_
 declaring schema (said.Stream name types) = with_stream schema name.text (numbers_of schema types)
 declaring schema (said.Select s) = schema
 
--- the query of a SELECT, with the number behind its ANY
+-- the query of a SELECT, with the number after its ANY
 abbrev pub query_said : Select → Query
 query_said s = record s.query { any = option_and_then (λ number. count_of number.value) s.any }
 
@@ -57,14 +56,14 @@ statements_fault schema before [] = None
 statements_fault schema before (s ∷ rest) =
     option_or (statement_fault schema before s) (statements_fault (declaring schema s) (before + length (queries_of (s ∷ []))) rest)
 
-abbrev pub nothing : Declared
-nothing = record { types = []; streams = [] }
+abbrev pub no_declarations : Declared
+no_declarations = record { types = []; streams = [] }
 
 -- the first fault of a text: of its statements, or at its end where there is no query
 abbrev pub script_fault : List Statement → Place → Option QueryError
 script_fault statements end =
-    option_or (statements_fault nothing 0 statements) (unless (nat_lt 0 (length (queries_of statements))) NoQuery end)
+    option_or (statements_fault no_declarations 0 statements) (unless (nat_lt 0 (length (queries_of statements))) NoQuery end)
 
 -- what the statements declare
-abbrev pub schema_of : List Statement → Declared
-schema_of statements = fold declaring nothing statements
+abbrev pub declared_schema : List Statement → Declared
+declared_schema statements = fold declaring no_declarations statements

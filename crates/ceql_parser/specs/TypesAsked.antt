@@ -1,4 +1,4 @@
--- What is asked of the types that a query reads. This project's profile.
+-- What is asked of the types that a query reads.
 use Rattle.std.specs.Prelude.{ℕ, Bool, true, false, ◌&&◌, List, bytes_eq, slice_get}
 use Rattle.std.specs.List.{list_any, list_all, filter_map}
 use Rattle.stream_schema.specs.Types.{Declared, DeclaredType}
@@ -6,16 +6,16 @@ use Rattle.stream_schema.specs.declared.Kind.{Kind}
 use Rattle.stream_schema.specs.declared.Kind.TheVariants as kind
 use Rattle.stream_schema.specs.declared.Value.{Value}
 use Rattle.stream_schema.specs.declared.Value.TheVariants as value
-use Rattle.cel_terms.specs.declared.Op.{Op}
-use Rattle.cel_terms.specs.declared.Op.TheVariants.{Eq, Ne, Lt, Le, Gt, Ge}
+use Rattle.stream_schema.specs.declared.Op.{Op}
+use Rattle.stream_schema.specs.declared.Op.TheVariants.{Eq, Ne, Lt, Le, Gt, Ge}
 
 -- the declared types of these numbers
 abbrev pub types_at : Declared → List ℕ → List DeclaredType
 types_at schema numbers = filter_map (slice_get schema.types) numbers
 
 -- some type has the name
-abbrev pub is_type_of : List DeclaredType → List ℕ → Bool
-is_type_of types name = list_any (λ t. bytes_eq t.name name) types
+abbrev pub is_type_name : List DeclaredType → List ℕ → Bool
+is_type_name types name = list_any (λ t. bytes_eq t.name name) types
 
 -- the type has an attribute of the name, with a kind that passes
 abbrev pub has_attr : List ℕ → (Kind → Bool) → DeclaredType → Bool

@@ -2,18 +2,17 @@
 
 ghost use Rattle.std.specs.Prelude.{◌≡◌, ℕ, ◌+◌, List, [], ◌∷◌, ◌++◌, length, map, All, IfOk, OnOk, option_and_then};
 ghost use Rattle.cel_terms.specs.Checked.{IsChecked};
-ghost use Rattle.ceql_parser.specs.FirstFaults.{Tells};
-ghost use Rattle.ceql_parser.specs.LawfulTexts.{IsLawful};
+ghost use Rattle.ceql_parser.specs.FirstFaults.{FindsFault};
+ghost use Rattle.ceql_grammar.specs.LawfulTexts.{IsLawfulStatement};
 ghost use Rattle.ceql_parser.specs.StatementFaults.{statement_fault, count_of};
-ghost use Rattle.ceql_parser.specs.ScriptFaults.{declaring, queries_of, query_said, script_fault, schema_of};
-ghost use Rattle.ceql_parser.specs.Statements.{statement_tree};
+ghost use Rattle.ceql_parser.specs.ScriptFaults.{declaring, queries_of, query_said, script_fault, declared_schema};
+ghost use Rattle.ceql_grammar.specs.Statements.{statement_tree};
 
 use crate::declaring::{declare_event, declare_stream};
-use crate::faults::{QueryError, QueryFault};
 use crate::refusals::{Checked, unless};
 use crate::select_checks::{check_select, count_of};
-use crate::terms::{NumberAt, Script, Select, Statement};
 use cel_terms::Query;
+use ceql_grammar::{NumberAt, QueryError, QueryFault, Script, Select, Statement};
 use cer_base::{Listed, Memory, OrMemory, Place};
 use std::alloc::Global;
 use stream_schema::Schema;
@@ -25,7 +24,7 @@ fn check_statement(
     before: u64,
     statement: &Statement,
 ) -> Checked
-    ensures told { Tells result (statement_fault schema.old before statement.now) }
+    ensures told { FindsFault result (statement_fault schema.old before statement.now) }
     ensures declared { OnOk result (schema.new ≡ declaring schema.old statement.now) }
 {
     match statement {
@@ -47,7 +46,7 @@ fn queries_in(statement: &Statement) -> u64
 }
 
 /// What the statements declare, each checked with what those before it declare, and `end` being the place
-/// just behind the text.
+/// just after the text.
 ///
 /// Errors: the first fault of the first statement that has one; `NoQuery` at the end where there is no
 /// query. Besides only `Memory`, where an allocation is refused.
@@ -56,8 +55,8 @@ pub fn check_statements(
     statements: &[Statement],
     end: Place,
 ) -> Result<Schema, OrMemory<QueryError>>
-    ensures told { Tells result (script_fault statements.now end) }
-    ensures schema { IfOk result (λ schema. schema ≡ schema_of statements.now) }
+    ensures told { FindsFault result (script_fault statements.now end) }
+    ensures schema { IfOk result (λ schema. schema ≡ declared_schema statements.now) }
 {
     let mut schema = Schema::new(alloc);
     let mut count = 0;
@@ -83,7 +82,7 @@ fn any_of(any: Option<NumberAt>) -> Option<u64>
     }
 }
 
-/// The query of the SELECT, with the number behind its ANY.
+/// The query of the SELECT, with the number after its ANY.
 fn query_said(select: Select) -> Query
     ensures { result ≡ query_said select }
 {
@@ -93,7 +92,7 @@ fn query_said(select: Select) -> Query
     }
 }
 
-/// Puts the query of a SELECT behind the others.
+/// Puts the query of a SELECT after the others.
 fn add_query(queries: &mut Vec<Query>, statement: Statement) -> Result<(), Memory>
     ensures { OnOk result (queries.new.items ≡ queries.old.items ++ queries_of (statement ∷ [])) }
 {
@@ -129,9 +128,9 @@ pub struct Accepted {
 /// Errors: the first fault of the first statement that has one; `NoQuery` at the end where there is no
 /// query. Besides only `Memory`, where an allocation is refused.
 pub fn check(alloc: Global, script: Script) -> Result<Accepted, OrMemory<QueryError>>
-    requires lawful { All IsLawful (map statement_tree script.statements) }
-    ensures told { Tells result (script_fault script.statements script.end) }
-    ensures schema { IfOk result (λ a. a.schema ≡ schema_of script.statements) }
+    requires lawful { All IsLawfulStatement (map statement_tree script.statements) }
+    ensures told { FindsFault result (script_fault script.statements script.end) }
+    ensures schema { IfOk result (λ a. a.schema ≡ declared_schema script.statements) }
     ensures queries { IfOk result (λ a. a.queries ≡ queries_of script.statements) }
     ensures checked { IfOk result (λ a. All (IsChecked a.schema) a.queries) }
 {

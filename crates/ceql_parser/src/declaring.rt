@@ -1,22 +1,22 @@
 //! Declarations of types and streams, checked and put into a schema.
 
-ghost use Rattle.std.specs.Prelude.{◌≡◌, ℕ, List, [], map, not, IfOk, OnOk, OnErr};
-ghost use Rattle.std.specs.List.{list_any};
-ghost use Rattle.std.specs.Prelude.{bytes_eq};
+ghost use Rattle.std.specs.Prelude.{◌≡◌, ℕ, List, [], ◌∷◌, ◌++◌, map, not, IfOk, OnOk, OnErr};
 ghost use Rattle.stream_schema.specs.Names.{is_taken};
 ghost use Rattle.cel_terms.specs.Meaning.{lists_name};
-ghost use Rattle.ceql_parser.specs.declared.terms.Statement.TheVariants as said;
-ghost use Rattle.ceql_parser.specs.declared.faults.QueryFault.TheVariants.{NameTaken, UnknownType};
-ghost use Rattle.ceql_parser.specs.FirstFaults.{first_in, unless_named, Tells};
-ghost use Rattle.ceql_parser.specs.TypesAsked.{is_type_of};
+ghost use Rattle.ceql_grammar.specs.declared.terms.Statement.TheVariants as said;
+ghost use Rattle.ceql_grammar.specs.declared.faults.QueryFault.TheVariants.{NameTaken, UnknownType};
+ghost use Rattle.ceql_parser.specs.FirstFaults.{first_in, unless_named, FindsFault};
+ghost use Rattle.ceql_parser.specs.NameSets.{HaveSameNames};
+ghost use Rattle.ceql_parser.specs.TypesAsked.{is_type_name};
 ghost use Rattle.ceql_parser.specs.StatementFaults.{scale_of, repeats_fault, scale_fault, attr_fault, event_fault, stream_fault};
 ghost use Rattle.ceql_parser.specs.ScriptFaults.{kind_declared, attr_declared, declaring};
 
-use crate::faults::QueryFault;
+use crate::name_sets::NameSet;
 use crate::refusals::{Checked, Wrong, unless, unless_named};
-use crate::terms::{AttrDecl, AttrDecls, KindDecl};
-use crate::type_tests::{is_taken, is_type};
+use crate::schema_lookups::{is_taken, is_type};
 use cel_terms::{Name, Names};
+use ceql_grammar::{AttrDecl, AttrDecls, KindDecl, QueryFault};
+use cer_base::limits::MOST_PLACES;
 use cer_base::{Listed, Memory, OrMemory, Text};
 use std::alloc::Global;
 use stream_schema::{Attr, Attrs, Kind, Schema, Texts};
@@ -25,7 +25,7 @@ use stream_schema::{Attr, Attrs, Kind, Schema, Texts};
 fn scale_of(value: i64) -> Option<u8>
     ensures { result ≡ scale_of value }
 {
-    if value < 0 || 9 < value {
+    if value < 0 || i64::from(MOST_PLACES) < value {
         None
     } else {
         Some(value as u8)
@@ -34,33 +34,35 @@ fn scale_of(value: i64) -> Option<u8>
 
 /// Answers the fault of a name that a type or a stream has.
 fn check_new(alloc: Global, schema: &Schema, name: &Name) -> Checked
-    ensures { Tells result (unless_named (not (is_taken schema.now name.now.text)) NameTaken name.now) }
+    ensures { FindsFault result (unless_named (not (is_taken schema.now name.now.text)) NameTaken name.now) }
 {
     let taken = is_taken(schema, name.text.as_str());
     unless_named(alloc, !taken, Wrong::NameTaken, name)
 }
 
-fn has_attr(attrs: &[AttrDecl], name: &str) -> bool
-    ensures { result ≡ list_any (λ a. bytes_eq a.name.text name.now) attrs.now }
+/// Adds the attribute's name to those of the earlier ones, or answers its fault where it is one of them.
+fn add_earlier(alloc: Global, earlier: &mut NameSet, name: &Name) -> Checked
+    ensures told { FindsFault result (unless_named (not (lists_name earlier.old name.now.text)) NameTaken name.now) }
+    ensures names { OnOk result (HaveSameNames earlier.new (earlier.old ++ name.now.text ∷ [])) }
 {
-    attrs.iter().any(|a| a.name.text.as_str() == name)
-}
-
-/// Answers the fault of an attribute with a name of an earlier one.
-#[tactic(auto, using(crate::proofs::Declared::names_listed))]
-fn check_earlier(alloc: Global, earlier: &[AttrDecl], name: &Name) -> Checked
-    ensures { Tells result (unless_named (not (lists_name (map (λ a. a.name.text) earlier.now) name.now.text)) NameTaken name.now) }
-{
-    let taken = has_attr(earlier, name.text.as_str());
-    unless_named(alloc, !taken, Wrong::NameTaken, name)
+    let taken = earlier.has(name.text.as_str());
+    match unless_named(alloc, !taken, Wrong::NameTaken, name) {
+        Ok(()) => {}
+        Err(stop) => return Err(stop),
+    }
+    match earlier.add(alloc, name.text.as_str()) {
+        Ok(()) => Ok(()),
+        Err(Memory) => Err(OrMemory::Memory),
+    }
 }
 
 /// Answers the fault at the first attribute with a name of an earlier one.
 fn check_repeats(alloc: Global, attrs: &[AttrDecl]) -> Checked
-    ensures { Tells result (repeats_fault [] attrs.now) }
+    ensures { FindsFault result (repeats_fault [] attrs.now) }
 {
-    for (i, attr) in attrs.iter().enumerate() {
-        match check_earlier(alloc, &attrs[..i], &attr.name) {
+    let mut earlier = NameSet::new(alloc);
+    for attr in attrs {
+        match add_earlier(alloc, &mut earlier, &attr.name) {
             Ok(()) => {}
             Err(stop) => return Err(stop),
         }
@@ -69,7 +71,7 @@ fn check_repeats(alloc: Global, attrs: &[AttrDecl]) -> Checked
 }
 
 fn check_scale(kind: KindDecl) -> Checked
-    ensures { Tells result (scale_fault kind) }
+    ensures { FindsFault result (scale_fault kind) }
 {
     match kind {
         KindDecl::Int => Ok(()),
@@ -84,7 +86,7 @@ fn check_scale(kind: KindDecl) -> Checked
 
 /// Answers the fault at the first attribute whose number of places is none.
 fn check_scales(attrs: &[AttrDecl]) -> Checked
-    ensures { Tells result (first_in attr_fault attrs.now) }
+    ensures { FindsFault result (first_in attr_fault attrs.now) }
 {
     for attr in attrs {
         match check_scale(attr.kind) {
@@ -96,7 +98,7 @@ fn check_scales(attrs: &[AttrDecl]) -> Checked
 }
 
 fn check_event(alloc: Global, schema: &Schema, name: &Name, attrs: &[AttrDecl]) -> Checked
-    ensures { Tells result (event_fault schema.now name.now attrs.now) }
+    ensures { FindsFault result (event_fault schema.now name.now attrs.now) }
 {
     match check_new(alloc, schema, name) {
         Ok(()) => {}
@@ -111,14 +113,14 @@ fn check_event(alloc: Global, schema: &Schema, name: &Name, attrs: &[AttrDecl]) 
 
 /// Answers the fault of a name that is no type's.
 fn check_type(alloc: Global, schema: &Schema, name: &Name) -> Checked
-    ensures { Tells result (unless_named (is_type_of schema.now.types name.now.text) UnknownType name.now) }
+    ensures { FindsFault result (unless_named (is_type_name schema.now.types name.now.text) UnknownType name.now) }
 {
     let known = is_type(schema, name.text.as_str());
     unless_named(alloc, known, Wrong::UnknownType, name)
 }
 
 fn check_types(alloc: Global, schema: &Schema, types: &[Name]) -> Checked
-    ensures { Tells result (first_in (λ t. unless_named (is_type_of schema.now.types t.text) UnknownType t) types.now) }
+    ensures { FindsFault result (first_in (λ t. unless_named (is_type_name schema.now.types t.text) UnknownType t) types.now) }
 {
     for name in types {
         match check_type(alloc, schema, name) {
@@ -130,7 +132,7 @@ fn check_types(alloc: Global, schema: &Schema, types: &[Name]) -> Checked
 }
 
 fn check_stream(alloc: Global, schema: &Schema, name: &Name, types: &[Name]) -> Checked
-    ensures { Tells result (stream_fault schema.now name.now types.now) }
+    ensures { FindsFault result (stream_fault schema.now name.now types.now) }
 {
     match check_new(alloc, schema, name) {
         Ok(()) => check_types(alloc, schema, types),
@@ -138,7 +140,7 @@ fn check_stream(alloc: Global, schema: &Schema, name: &Name, types: &[Name]) -> 
     }
 }
 
-fn kind_of(kind: KindDecl) -> Kind
+fn kind_declared(kind: KindDecl) -> Kind
     ensures { result ≡ kind_declared kind }
 {
     match kind {
@@ -154,7 +156,7 @@ fn attr_of(alloc: Global, attr: &AttrDecl) -> Result<Attr, Memory>
 {
     Ok(Attr {
         name: Text::copy_of(alloc, attr.name.text.as_str())?,
-        kind: kind_of(attr.kind),
+        kind: kind_declared(attr.kind),
     })
 }
 
@@ -181,7 +183,7 @@ fn texts_of(alloc: Global, names: &[Name]) -> Result<Texts, Memory>
 /// Declares the type, or answers the first fault of the declaration. After an error nothing has
 /// changed.
 pub fn declare_event(alloc: Global, schema: &mut Schema, name: &Name, attrs: &AttrDecls) -> Checked
-    ensures told { Tells result (event_fault schema.old name.now attrs.now) }
+    ensures told { FindsFault result (event_fault schema.old name.now attrs.now) }
     ensures declared { OnOk result (schema.new ≡ declaring schema.old (said.Event name.now attrs.now)) }
     ensures unchanged { OnErr result (schema.new ≡ schema.old) }
 {
@@ -203,7 +205,7 @@ pub fn declare_event(alloc: Global, schema: &mut Schema, name: &Name, attrs: &At
 /// Declares the stream, or answers the first fault of the declaration. After an error nothing has
 /// changed.
 pub fn declare_stream(alloc: Global, schema: &mut Schema, name: &Name, types: &Names) -> Checked
-    ensures told { Tells result (stream_fault schema.old name.now types.now) }
+    ensures told { FindsFault result (stream_fault schema.old name.now types.now) }
     ensures declared { OnOk result (schema.new ≡ declaring schema.old (said.Stream name.now types.now)) }
     ensures unchanged { OnErr result (schema.new ≡ schema.old) }
 {

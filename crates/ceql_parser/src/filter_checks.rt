@@ -1,48 +1,39 @@
 //! The faults of a filter, in the order of its tokens.
 
 ghost use Rattle.std.specs.Prelude.{◌≡◌, ℕ, List, []};
-ghost use Rattle.cel_terms.specs.Checked.{names_of};
-ghost use Rattle.ceql_parser.specs.FirstFaults.{first_in, Tells};
-ghost use Rattle.ceql_parser.specs.TypesAsked.{types_at};
+ghost use Rattle.ceql_parser.specs.FirstFaults.{first_in, FindsFault};
 ghost use Rattle.ceql_parser.specs.FormulaFaults.{filter_fault, name_fault, pred_fault};
 ghost use Rattle.std.specs.Option.{option_or};
 
-use crate::name_tests::name_known;
+use crate::name_checks::name_known;
+use crate::name_sets::NameSet;
 use crate::pred_checks::check_pred;
+use crate::query_types::QueryTypes;
 use crate::refusals::Checked;
-use cel_terms::{Filter, Formula, Name, Pred};
+use cel_terms::{Filter, Name, Pred};
 use std::alloc::Global;
-use stream_schema::{Schema, TypeId};
 
-fn named(
-    alloc: Global,
-    schema: &Schema,
-    numbers: &[TypeId],
-    base: &Formula,
-    name: &Name,
-    pred: &Pred,
-) -> Checked
-    ensures { Tells result (option_or (name_fault (names_of base.now) name.now) (pred_fault (types_at schema.now numbers.now) pred.now)) }
+fn named(alloc: Global, types: &QueryTypes, names: &NameSet, name: &Name, pred: &Pred) -> Checked
+    ensures { FindsFault result (option_or (name_fault names.now name.now) (pred_fault types.now pred.now)) }
 {
-    match name_known(alloc, base, &[], name) {
-        Ok(()) => check_pred(alloc, schema, numbers, pred),
+    match name_known(alloc, names, name) {
+        Ok(()) => check_pred(alloc, types, pred),
         Err(stop) => Err(stop),
     }
 }
 
-/// Answers the first fault of filters of the formula.
+/// Answers the first fault of filters of a formula with these names.
 #[cycle(filters)]
 pub fn check_filters(
     alloc: Global,
-    schema: &Schema,
-    numbers: &[TypeId],
+    types: &QueryTypes,
     filters: &[Filter],
-    base: &Formula,
+    names: &NameSet,
 ) -> Checked
-    ensures { Tells result (first_in (filter_fault (types_at schema.now numbers.now) (names_of base.now)) filters.now) }
+    ensures { FindsFault result (first_in (filter_fault types.now names.now) filters.now) }
 {
     for filter in filters {
-        match check_filter(alloc, schema, numbers, filter, base) {
+        match check_filter(alloc, types, filter, names) {
             Ok(()) => {}
             Err(stop) => return Err(stop),
         }
@@ -51,18 +42,12 @@ pub fn check_filters(
 }
 
 #[cycle(filters)]
-fn check_filter(
-    alloc: Global,
-    schema: &Schema,
-    numbers: &[TypeId],
-    filter: &Filter,
-    base: &Formula,
-) -> Checked
-    ensures { Tells result (filter_fault (types_at schema.now numbers.now) (names_of base.now) filter.now) }
+fn check_filter(alloc: Global, types: &QueryTypes, filter: &Filter, names: &NameSet) -> Checked
+    ensures { FindsFault result (filter_fault types.now names.now filter.now) }
 {
     match filter {
-        Filter::On(name, pred) => named(alloc, schema, numbers, base, name, pred),
-        Filter::All(filters) => check_filters(alloc, schema, numbers, filters, base),
-        Filter::Any(filters) => check_filters(alloc, schema, numbers, filters, base),
+        Filter::On(name, pred) => named(alloc, types, names, name, pred),
+        Filter::All(filters) => check_filters(alloc, types, filters, names),
+        Filter::Any(filters) => check_filters(alloc, types, filters, names),
     }
 }

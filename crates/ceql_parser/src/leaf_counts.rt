@@ -2,22 +2,23 @@
 
 ghost use Rattle.std.specs.Prelude.{◌≡◌, ℕ, ◌+◌, ◌≤◌, ◌*◌, List};
 ghost use Rattle.cel_terms.specs.Checked.{leaf_count, weight};
-ghost use Rattle.ceql_parser.specs.Walks.{capped, link_leaves, sum_of, product_of};
+ghost use Rattle.ceql_parser.specs.LinksAndCounts.{capped, link_leaves, sum_of, product_of};
 
 use cel_terms::{Filter, Formula, Link};
+use cer_base::limits::MOST_LEAVES;
 
 /// One more than the most leaves: all that are more count as this.
-const CAP: u64 = 2049;
+const CAP: u64 = MOST_LEAVES + 1;
 
 fn capped_sum(a: u64, b: u64) -> u64
-    requires { (a ≤ 2049) × (b ≤ 2049) }
+    requires { (a ≤ CAP) × (b ≤ CAP) }
     ensures { result ≡ capped (a + b) }
 {
     (a + b).min(CAP)
 }
 
 fn capped_product(a: u64, b: u64) -> u64
-    requires { (a ≤ 2049) × (b ≤ 2049) }
+    requires { (a ≤ CAP) × (b ≤ CAP) }
     ensures { result ≡ capped (a * b) }
 {
     (a * b).min(CAP)

@@ -1,17 +1,18 @@
 //! The faults of a predicate, in the order of its tokens.
 
 ghost use Rattle.std.specs.Prelude.{◌≡◌, ℕ, List, not, ◌&&◌};
-ghost use Rattle.ceql_parser.specs.declared.faults.QueryFault.TheVariants.{UnknownAttribute, NeverKind, NoOrder};
-ghost use Rattle.ceql_parser.specs.FirstFaults.{first_in, unless, unless_named, Tells};
-ghost use Rattle.ceql_parser.specs.TypesAsked.{types_at, is_flag, is_order, some_has_attr, any_kind, are_alike, kind_of};
+ghost use Rattle.ceql_grammar.specs.declared.faults.QueryFault.TheVariants.{UnknownAttribute, NeverKind, NoOrder};
+ghost use Rattle.ceql_parser.specs.FirstFaults.{first_in, unless, unless_named, FindsFault};
+ghost use Rattle.ceql_parser.specs.TypesAsked.{is_flag, is_order, some_has_attr, any_kind, are_alike, kind_of};
 ghost use Rattle.ceql_parser.specs.FormulaFaults.{comparison_fault, pred_fault};
 
-use crate::faults::QueryFault;
+use crate::query_types::QueryTypes;
 use crate::refusals::{Checked, Wrong, unless, unless_named};
-use crate::type_tests::{Wanted, kind_of, some_has_attr};
+use crate::schema_lookups::{Wanted, kind_of};
 use cel_terms::{Name, Op, Pred};
+use ceql_grammar::QueryFault;
 use std::alloc::Global;
-use stream_schema::{Schema, TypeId, Value};
+use stream_schema::Value;
 
 fn is_flag(literal: &Value) -> bool
     ensures { result ≡ is_flag literal.now }
@@ -33,51 +34,38 @@ fn is_order(op: Op) -> bool
 }
 
 /// Answers the fault of an attribute that none of the types has.
-pub fn check_known(alloc: Global, schema: &Schema, numbers: &[TypeId], name: &Name) -> Checked
-    ensures { Tells result (unless_named (some_has_attr (types_at schema.now numbers.now) name.now.text any_kind) UnknownAttribute name.now) }
+pub fn check_known(alloc: Global, types: &QueryTypes, name: &Name) -> Checked
+    ensures { FindsFault result (unless_named (some_has_attr types.now name.now.text any_kind) UnknownAttribute name.now) }
 {
-    let known = some_has_attr(schema, numbers, name.text.as_str(), Wanted::Any);
+    let known = types.some_has_attr(name.text.as_str(), Wanted::Any);
     unless_named(alloc, known, Wrong::UnknownAttribute, name)
 }
 
 /// Answers the fault of an attribute that compares with the literal in none of the types.
-fn check_alike(
-    alloc: Global,
-    schema: &Schema,
-    numbers: &[TypeId],
-    name: &Name,
-    literal: &Value,
-) -> Checked
-    ensures { Tells result (unless_named (some_has_attr (types_at schema.now numbers.now) name.now.text (are_alike (kind_of literal.now))) (λ text. NeverKind text (kind_of literal.now)) name.now) }
+fn check_alike(alloc: Global, types: &QueryTypes, name: &Name, literal: &Value) -> Checked
+    ensures { FindsFault result (unless_named (some_has_attr types.now name.now.text (are_alike (kind_of literal.now))) (λ text. NeverKind text (kind_of literal.now)) name.now) }
 {
     let kind = kind_of(literal);
-    let alike = some_has_attr(schema, numbers, name.text.as_str(), Wanted::Like(kind));
+    let alike = types.some_has_attr(name.text.as_str(), Wanted::Like(kind));
     unless_named(alloc, alike, Wrong::NeverKind(kind), name)
 }
 
 /// Answers the fault of an order between truth values.
 fn check_order(name: &Name, op: Op, literal: &Value) -> Checked
-    ensures { Tells result (unless (not (is_order op && is_flag literal.now)) NoOrder name.now.place) }
+    ensures { FindsFault result (unless (not (is_order op && is_flag literal.now)) NoOrder name.now.place) }
 {
     let ordered = !(is_order(op) && is_flag(literal));
     unless(ordered, QueryFault::NoOrder, name.place)
 }
 
-fn comparison(
-    alloc: Global,
-    schema: &Schema,
-    numbers: &[TypeId],
-    name: &Name,
-    op: Op,
-    literal: &Value,
-) -> Checked
-    ensures { Tells result (comparison_fault (types_at schema.now numbers.now) name.now op literal.now) }
+fn comparison(alloc: Global, types: &QueryTypes, name: &Name, op: Op, literal: &Value) -> Checked
+    ensures { FindsFault result (comparison_fault types.now name.now op literal.now) }
 {
-    match check_known(alloc, schema, numbers, name) {
+    match check_known(alloc, types, name) {
         Ok(()) => {}
         Err(stop) => return Err(stop),
     }
-    match check_alike(alloc, schema, numbers, name, literal) {
+    match check_alike(alloc, types, name, literal) {
         Ok(()) => {}
         Err(stop) => return Err(stop),
     }
@@ -85,11 +73,11 @@ fn comparison(
 }
 
 #[cycle(preds)]
-fn check_preds(alloc: Global, schema: &Schema, numbers: &[TypeId], preds: &[Pred]) -> Checked
-    ensures { Tells result (first_in (pred_fault (types_at schema.now numbers.now)) preds.now) }
+fn check_preds(alloc: Global, types: &QueryTypes, preds: &[Pred]) -> Checked
+    ensures { FindsFault result (first_in (pred_fault types.now) preds.now) }
 {
     for pred in preds {
-        match check_pred(alloc, schema, numbers, pred) {
+        match check_pred(alloc, types, pred) {
             Ok(()) => {}
             Err(stop) => return Err(stop),
         }
@@ -99,13 +87,13 @@ fn check_preds(alloc: Global, schema: &Schema, numbers: &[TypeId], preds: &[Pred
 
 /// Answers the first fault of the predicate.
 #[cycle(preds)]
-pub fn check_pred(alloc: Global, schema: &Schema, numbers: &[TypeId], pred: &Pred) -> Checked
-    ensures { Tells result (pred_fault (types_at schema.now numbers.now) pred.now) }
+pub fn check_pred(alloc: Global, types: &QueryTypes, pred: &Pred) -> Checked
+    ensures { FindsFault result (pred_fault types.now pred.now) }
 {
     match pred {
-        Pred::Cmp(name, op, literal) => comparison(alloc, schema, numbers, name, *op, literal),
-        Pred::Not(inner) => check_pred(alloc, schema, numbers, inner),
-        Pred::All(preds) => check_preds(alloc, schema, numbers, preds),
-        Pred::Any(preds) => check_preds(alloc, schema, numbers, preds),
+        Pred::Cmp(name, op, literal) => comparison(alloc, types, name, *op, literal),
+        Pred::Not(inner) => check_pred(alloc, types, inner),
+        Pred::All(preds) => check_preds(alloc, types, preds),
+        Pred::Any(preds) => check_preds(alloc, types, preds),
     }
 }

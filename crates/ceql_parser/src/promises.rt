@@ -1,11 +1,11 @@
 //! What holds of statements and their faults. Each function does nothing; its contract is the law.
 
 ghost use Rattle.cer_base.specs.declared.Place.{Place};
-ghost use Rattle.ceql_parser.specs.Promised.{LawfulFormulasAreChecked, LawfulQueriesAreChecked};
+ghost use Rattle.ceql_parser.specs.CheckedTerms.{LawfulFormulasAreChecked, LawfulQueriesAreChecked};
 ghost use Rattle.ceql_parser.specs.QueryTrees.{query_tree};
-ghost use Rattle.ceql_parser.specs.ScriptFaults.{queries_of, script_fault, schema_of};
-ghost use Rattle.ceql_parser.specs.Statements.{statement_tree};
-ghost use Rattle.ceql_parser.specs.declared.terms.Statement.{Statement};
+ghost use Rattle.ceql_parser.specs.ScriptFaults.{queries_of, script_fault, declared_schema};
+ghost use Rattle.ceql_grammar.specs.Statements.{statement_tree};
+ghost use Rattle.ceql_grammar.specs.declared.terms.Statement.{Statement};
 ghost use Rattle.std.specs.Prelude.{◌≡◌, List, map};
 
 /// A lawful formula in which no fault is found is checked for the types of its query.
@@ -14,7 +14,7 @@ pub fn lawful_formulas_are_checked()
 {}
 
 /// The queries of lawful statements in which no fault is found are checked for what all the statements
-/// declare, those behind them too.
+/// declare, those after them too.
 pub fn lawful_queries_are_checked()
     ensures { LawfulQueriesAreChecked }
 {}
@@ -23,6 +23,6 @@ pub fn lawful_queries_are_checked()
 /// first fault, what they declare, and what their queries say.
 pub fn trees_tell_all()
     ensures fault { (ss ts : List Statement) (end : Place) → map statement_tree ss ≡ map statement_tree ts → script_fault ss end ≡ script_fault ts end }
-    ensures schema { (ss ts : List Statement) → map statement_tree ss ≡ map statement_tree ts → schema_of ss ≡ schema_of ts }
+    ensures schema { (ss ts : List Statement) → map statement_tree ss ≡ map statement_tree ts → declared_schema ss ≡ declared_schema ts }
     ensures queries { (ss ts : List Statement) → map statement_tree ss ≡ map statement_tree ts → map query_tree (queries_of ss) ≡ map query_tree (queries_of ts) }
 {}

@@ -3,17 +3,14 @@
 ghost use Rattle.std.specs.Prelude.{◌≡◌, All, IfOk};
 ghost use Rattle.cel_terms.specs.Checked.{IsChecked};
 ghost use Rattle.ceql_parser.specs.QueryTexts.{IsAnswerOfText, TextAnswer, accepted_view};
-ghost use Rattle.ceql_parser.specs.Texts.{WhereAnswered};
+ghost use Rattle.ceql_grammar.specs.Texts.{WhereAnswered};
 
 use crate::checking::{Accepted, check};
-use crate::faults::{QueryError, QueryFault};
-use crate::parsing::parse;
+use ceql_grammar::{QueryError, QueryFault, parse};
 use ceql_lexer::lex;
+use cer_base::limits::LONGEST_TEXT;
 use cer_base::{OrMemory, Place};
 use std::alloc::Global;
-
-/// How many bytes a query text has at most.
-const LONGEST: usize = 1_048_576;
 
 /// The place of a text's first byte.
 const FIRST: Place = Place { line: 1, col: 1 };
@@ -30,7 +27,7 @@ pub fn read_queries(alloc: Global, text: &[u8]) -> Result<Accepted, OrMemory<Que
     ensures only { (answer : TextAnswer) → IsAnswerOfText text.now answer → WhereAnswered accepted_view result (λ given. given ≡ answer) }
     ensures checked { IfOk result (λ accepted. All (IsChecked accepted.schema) accepted.queries) }
 {
-    if text.len() > LONGEST {
+    if text.len() > LONGEST_TEXT {
         let fault = QueryFault::TextTooLong;
         return Err(OrMemory::Fault(QueryError {
             fault,

@@ -1,11 +1,11 @@
 //! Faults with their places.
 
 ghost use Rattle.std.specs.Prelude.{◌≡◌, List, ℕ, IfOk};
-ghost use Rattle.ceql_parser.specs.FirstFaults.{Tells, unless, unless_named};
-ghost use Rattle.ceql_parser.specs.Wrongs.{fault_of};
+ghost use Rattle.ceql_parser.specs.FirstFaults.{FindsFault, unless, unless_named};
+ghost use Rattle.ceql_parser.specs.NameFaults.{fault_of};
 
-use crate::faults::{QueryError, QueryFault};
 use cel_terms::Name;
+use ceql_grammar::{QueryError, QueryFault};
 use cer_base::{Memory, OrMemory, Place, Text};
 use std::alloc::Global;
 use stream_schema::Kind;
@@ -44,7 +44,7 @@ fn fault_of(alloc: Global, wrong: Wrong, name: &str) -> Result<QueryFault, Memor
 
 /// Answers the fault at the place, unless the test passes.
 pub fn unless(passes: bool, fault: QueryFault, place: Place) -> Checked
-    ensures { Tells result (unless passes fault place) }
+    ensures { FindsFault result (unless passes fault place) }
 {
     if passes {
         Ok(())
@@ -55,7 +55,7 @@ pub fn unless(passes: bool, fault: QueryFault, place: Place) -> Checked
 
 /// Answers the fault with the name, at its place, unless the test passes.
 pub fn unless_named(alloc: Global, passes: bool, wrong: Wrong, name: &Name) -> Checked
-    ensures { Tells result (unless_named passes (fault_of wrong) name.now) }
+    ensures { FindsFault result (unless_named passes (fault_of wrong) name.now) }
 {
     if passes {
         return Ok(());

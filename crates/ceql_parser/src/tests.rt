@@ -1,232 +1,341 @@
-//! Texts and the statements that they are.
+//! The first fault of a text, in its words and with its place, or what the text declares and asks.
 
-mod refused;
-mod shown;
+mod limits;
+mod rows;
 
-use crate::tests::shown::{answer, rows_hold};
-use std::alloc::{AllocError, Global};
-use std::process::Abort;
+use crate::tests::rows::{BASE, answer, texts_hold};
 use std::test::*;
 
-/// Formulas: what a row shows, the formula, and what it is read as or its fault.
-const FORMULAS: &[(&str, &str, &str)] = &[
-    ("a_type", "A", "A"),
-    ("a_sequence", "A ; B", "(A;B)"),
-    ("a_sequence_is_one_list", "A;B;C", "(A;B;C)"),
-    ("or_is_looser_than_sequence", "A OR B ; C", "(A|(B;C))"),
-    ("alternatives_are_one_list", "A OR B or C", "(A|B|C)"),
+/// Queries after the base: the query, and its fault or what the text declares.
+const QUERIES: &[(&str, &str)] = &[
+    ("SELECT * FROM S WHERE A", "2 types, 2 in S, 1 queries"),
+    ("SELECT * FROM S WHERE C", "4:23 unknown type C"),
+    ("SELECT * FROM T WHERE A", "4:15 unknown stream T"),
+    ("SELECT x FROM S WHERE A", "4:8 unknown name x"),
+    ("SELECT * FROM S WHERE A AS B", "4:28 name B taken"),
     (
-        "filter_is_the_loosest",
-        "A OR B ; C FILTER A[v = 1]",
-        "((A|(B;C)) under A[v=1])",
+        "SELECT * FROM S WHERE A FILTER A[w = 1]",
+        "4:34 unknown attribute w",
     ),
     (
-        "filters_are_one_list",
-        "A FILTER A[v = 1] FILTER A[v = 2]",
-        "(A under A[v=1] A[v=2])",
+        "SELECT * FROM S WHERE A WITHIN 5 [w]",
+        "4:35 window attribute w is not INT in every type",
     ),
-    ("parentheses_leave_no_node", "((A)) ; (B)", "(A;B)"),
-    ("parentheses_keep_their_lists", "(A ; B) ; C", "((A;B);C)"),
+    ("", "5:1 no query"),
+    ("DECLARE EVENT A(x INT)", "4:15 name A taken"),
     (
-        "parentheses_keep_alternatives",
-        "(A OR B) OR C",
-        "((A|B)|C)",
+        "SELECT * FROM S WHERE A FILTER A[v = 'x']",
+        "4:34 attribute v is never STRING",
     ),
     (
-        "filters_of_a_parenthesis_stay_its_own",
-        "(A FILTER A[v = 1]) FILTER A[v = 2]",
-        "((A under A[v=1]) under A[v=2])",
-    ),
-    ("postfix_is_the_tightest", "A ; B+", "(A;B+)"),
-    (
-        "postfixes_are_one_list",
-        "A AS x + KEEP [x, A] :+",
-        "A as x+ keep[x,A]:+",
-    ),
-    ("postfixes_of_a_parenthesis", "(A ; B) AS x", "(A;B) as x"),
-    (
-        "postfixes_in_and_outside_of_parentheses_are_two_lists",
-        "(A+)+",
-        "(A+)+",
-    ),
-    ("tight", "A : B", "(A:B)"),
-    ("tight_and_loose_in_one_list", "A ; B : C ; D", "(A;B:C;D)"),
-    ("tight_behind_a_parenthesis", "(A ; B) : C", "((A;B):C)"),
-    ("tight_before_or", "A : B OR C", "((A:B)|C)"),
-    (
-        "colon_and_plus_apart_are_no_postfix",
-        "A : + B",
-        "40 at 1:27",
-    ),
-    ("next_plus", "A :+ ; B", "(A:+;B)"),
-    (
-        "and_is_tighter_than_or_in_filters",
-        "A FILTER a[v=1] OR b[v=2] AND c[v=3]",
-        "(A under (a[v=1]|(b[v=2]&c[v=3])))",
+        "SELECT * FROM S WHERE A FILTER A[v = TRUE]",
+        "4:34 attribute v is never BOOL",
     ),
     (
-        "filters_in_parentheses",
-        "A FILTER (a[v=1] OR b[v=2]) AND c[v=3]",
-        "(A under ((a[v=1]|b[v=2])&c[v=3]))",
+        "SELECT * FROM S WHERE A FILTER A[v = 1.5]",
+        "2 types, 2 in S, 1 queries",
     ),
     (
-        "and_is_tighter_than_or_in_predicates",
-        "A FILTER a[v<1 OR NOT v<>2 AND v>=3]",
-        "(A under a[(v<1|(!v!=2&v>=3))])",
+        "SELECT * FROM S WHERE A FILTER A[v < TRUE]",
+        "4:34 attribute v is never BOOL",
     ),
     (
-        "not_before_a_parenthesis",
-        "A FILTER a[NOT (v > 1 AND v <= 2)]",
-        "(A under a[!(v>1&v<=2)])",
-    ),
-    (
-        "not_not_is_refused",
-        "A FILTER a[NOT NOT v = 1]",
-        "40 at 1:38",
-    ),
-    (
-        "not_not_with_parentheses",
-        "A FILTER a[NOT (NOT v == 1)]",
-        "(A under a[!!v=1])",
-    ),
-    (
-        "literals",
-        "A FILTER a[s = 'it''s' OR b = True OR n = -5 OR d = -1.50]",
-        "(A under a[(s='it's'|b=true|n=-5|d=-150/2)])",
-    ),
-    (
-        "double_quotes_and_other_quotes_inside",
-        "A FILTER a[s = \"a\"\"b'c\"]",
-        "(A under a[s='a\"b'c'])",
-    ),
-    (
-        "keywords_in_any_case",
-        "a filter a[v=1 And v=2]",
-        "(a under a[(v=1&v=2)])",
-    ),
-];
-
-/// What is wanted of a query whose formula is read as this, the end being in this column; or the fault.
-fn wanted_of(alloc: Global, read: &str, column: usize) -> Result<String, AllocError> {
-    if read.starts_with("40") {
-        format!(in alloc; "{read}")
-    } else {
-        format!(in alloc; "1:1 select * from S where {read}\nend 1:{column}")
-    }
-}
-
-fn formulas_hold(rt: &impl Abort, alloc: Global, rows: &[(&str, &str, &str)]) -> Result<(), Fail> {
-    for (name, formula, read) in rows {
-        let text = format!(in alloc; "SELECT * FROM S WHERE {formula}")?;
-        let shown = answer(alloc, text.as_bytes())?;
-        let wanted = wanted_of(alloc, read, text.len() + 1)?;
-        assert_eq!(rt; shown.as_str(), wanted.as_str(), "{name}");
-    }
-    Ok(())
-}
-
-#[test]
-fn formulas_are_read_by_their_precedence(rt: HostRuntime) -> Result<(), Fail> {
-    formulas_hold(&rt, rt.alloc(), FORMULAS)
-}
-
-/// Texts: what a row shows, the text, and its statements.
-const TEXTS: &[(&str, &str, &str)] = &[
-    ("an_empty_text_has_no_statement", "", "end 1:1"),
-    ("comments_are_no_statement", "-- x\n", "end 2:1"),
-    (
-        "a_type",
-        "DECLARE EVENT A(v INT, s string, b BOOL)",
-        "event A(v int,s text,b flag)\nend 1:41",
-    ),
-    (
-        "a_type_without_attributes",
-        "declare event A()",
-        "event A()\nend 1:18",
-    ),
-    (
-        "decimal_numbers_keep_their_place",
-        "DECLARE EVENT A(p DECIMAL(10), q DECIMAL(-2))",
-        "event A(p dec 10@1:27,q dec -2@1:42)\nend 1:46",
-    ),
-    (
-        "a_stream",
-        "DECLARE STREAM S(A, B)",
-        "stream S(A,B)\nend 1:23",
-    ),
-    (
-        "the_next_word_begins_a_statement",
-        "DECLARE EVENT A() DECLARE STREAM S(A) SELECT * FROM S WHERE A SELECT * FROM S WHERE A",
-        "event A()\nstream S(A)\n1:39 select * from S where A\n1:63 select * from S where A\nend 1:86",
-    ),
-    (
-        "names_and_streams",
-        "SELECT x, A FROM S, T WHERE A AS x",
-        "1:1 select x,A from S,T where A as x\nend 1:35",
-    ),
-    (
-        "strict",
-        "SELECT STRICT * FROM S WHERE A ; B",
-        "1:1 select strict * from S where (A;B)\nend 1:35",
-    ),
-    (
-        "any_keeps_its_number_and_place",
         "SELECT ANY 0 * FROM S WHERE A",
-        "1:1 select any 0@1:12 * from S where A\nend 1:30",
+        "4:12 ANY takes 1 to 4294967295",
     ),
     (
-        "strict_and_then_any",
-        "SELECT STRICT ANY -3 b FROM S WHERE A AS b",
-        "1:1 select strict any -3@1:19 b from S where A as b\nend 1:43",
+        "SELECT ANY -1 * FROM S WHERE A",
+        "4:12 ANY takes 1 to 4294967295",
     ),
     (
-        "partition",
-        "SELECT * FROM S WHERE A PARTITION BY [u, v]",
-        "1:1 select * from S where A by u,v\nend 1:44",
+        "SELECT ANY 1 * FROM S WHERE A",
+        "2 types, 2 in S, 1 queries",
     ),
     (
-        "a_window_of_events",
-        "SELECT * FROM S WHERE A WITHIN 8 EVENTS",
-        "1:1 select * from S where A within 8 events\nend 1:40",
+        "SELECT ANY 4294967295 * FROM S WHERE A",
+        "2 types, 2 in S, 1 queries",
     ),
     (
-        "one_event_and_no_event",
-        "SELECT * FROM S WHERE A WITHIN 1 event SELECT * FROM S WHERE A WITHIN 0 EVENTS",
-        "1:1 select * from S where A within 1 events\n1:40 select * from S where A within 0 events\nend 1:79",
+        "SELECT ANY 4294967296 * FROM S WHERE A",
+        "4:12 ANY takes 1 to 4294967295",
     ),
     (
-        "a_window_without_unit",
-        "SELECT * FROM S WHERE A WITHIN 5 [t]",
-        "1:1 select * from S where A within 5 of t\nend 1:37",
+        "SELECT ANY 0 * FROM T WHERE C",
+        "4:12 ANY takes 1 to 4294967295",
+    ),
+    ("SELECT x FROM S WHERE C", "4:23 unknown type C"),
+    ("SELECT x FROM T WHERE C", "4:15 unknown stream T"),
+    (
+        "SELECT x, A FROM S WHERE A AS x",
+        "2 types, 2 in S, 1 queries",
+    ),
+    ("SELECT A, y FROM S WHERE A AS x", "4:11 unknown name y"),
+    (
+        "SELECT * FROM S WHERE A FILTER B[v = 1]",
+        "4:32 unknown name B",
     ),
     (
-        "seconds_minutes_and_hours",
-        "SELECT * FROM S WHERE A WITHIN 5 SECOND [t] SELECT * FROM S WHERE A WITHIN 2 MINUTES [t] SELECT * FROM S WHERE A WITHIN 9223372036854775807 HOURS [t]",
-        "1:1 select * from S where A within 5 of t\n1:45 select * from S where A within 120 of t\n1:90 select * from S where A within 33204139332677192905200 of t\nend 1:150",
+        "SELECT * FROM S WHERE (A FILTER x[v = 1]) AS x",
+        "4:33 unknown name x",
     ),
     (
-        "partition_and_then_window",
-        "SELECT * FROM S WHERE A PARTITION BY [u] WITHIN 1 HOUR [t]",
-        "1:1 select * from S where A by u within 3600 of t\nend 1:59",
+        "SELECT * FROM S WHERE B ; (A AS x FILTER B[v = 1])",
+        "4:42 unknown name B",
     ),
     (
-        "lines_and_columns",
-        "DECLARE EVENT A()\n  SELECT *\nFROM S WHERE A\n",
-        "event A()\n2:3 select * from S where A\nend 4:1",
+        "SELECT * FROM S WHERE B ; A AS x FILTER B[v = 1]",
+        "2 types, 2 in S, 1 queries",
     ),
     (
-        "a_mark_at_the_beginning_takes_no_column",
-        "\u{FEFF}SELECT * FROM S WHERE A",
-        "1:1 select * from S where A\nend 1:24",
+        "SELECT * FROM S WHERE A AS x KEEP [y] AS y",
+        "4:36 unknown name y",
     ),
     (
-        "names_differ_by_case",
-        "DECLARE STREAM s(a, A)",
-        "stream s(a,A)\nend 1:23",
+        "SELECT * FROM S WHERE A AS x AS y KEEP [x, y, A]",
+        "2 types, 2 in S, 1 queries",
+    ),
+    (
+        "SELECT * FROM S WHERE A AS x ; B AS x",
+        "2 types, 2 in S, 1 queries",
+    ),
+    (
+        "SELECT * FROM S WHERE A : B :+ AS x FILTER x[v = 1]",
+        "2 types, 2 in S, 1 queries",
+    ),
+    ("SELECT * FROM S WHERE A : C", "4:27 unknown type C"),
+    (
+        "SELECT * FROM S WHERE A OR B ; C OR D",
+        "4:32 unknown type C",
+    ),
+    (
+        "SELECT * FROM S WHERE A FILTER A[v = 1] OR A[w = 1] AND C[v = 1]",
+        "4:46 unknown attribute w",
+    ),
+    (
+        "SELECT * FROM S WHERE A FILTER A[v = 1 AND NOT (v = 2 OR w = 1)]",
+        "4:58 unknown attribute w",
+    ),
+    (
+        "SELECT * FROM S WHERE A PARTITION BY [v]",
+        "2 types, 2 in S, 1 queries",
+    ),
+    (
+        "SELECT * FROM S WHERE A PARTITION BY [v, w]",
+        "4:42 unknown attribute w",
+    ),
+    (
+        "SELECT y FROM S WHERE A PARTITION BY [w] WITHIN 1 [w]",
+        "4:8 unknown name y",
+    ),
+    (
+        "SELECT * FROM S WHERE A PARTITION BY [w] WITHIN 1 [w]",
+        "4:39 unknown attribute w",
+    ),
+    (
+        "SELECT * FROM S WHERE A WITHIN 1 HOUR [v]",
+        "2 types, 2 in S, 1 queries",
+    ),
+    ("SELECT * FROM S WHERE A ; B", "2 types, 2 in S, 1 queries"),
+    ("SELECT * FROM S WHERE A ;", "5:1 unexpected end of text"),
+    ("SELECT * FROM S WHERE A ? B", "4:25 byte 3f not allowed"),
+    (
+        "SELECT * FROM S WHERE A FILTER A[v = 'x]",
+        "4:38 string not closed",
+    ),
+    (
+        "SELECT * FROM S WHERE A FILTER A[v = 9223372036854775808]",
+        "4:38 number too large",
+    ),
+    ("SELECT * FROM S WHERE A B", "4:25 unexpected token"),
+    ("SELECT * FROM S WHERE A : B", "2 types, 2 in S, 1 queries"),
+    ("SELECT * FROM S WHERE A:+", "2 types, 2 in S, 1 queries"),
+    (
+        "SELECT STRICT b FROM S WHERE A AS a ; B AS b",
+        "2 types, 2 in S, 1 queries",
+    ),
+    (
+        "SELECT * FROM S WHERE A FILTER A[v = 1.0123456789]",
+        "4:38 more than 9 decimals",
+    ),
+    (
+        "SELECT * FROM S WHERE A FILTER A[v = - 5]",
+        "4:38 byte 2d not allowed",
+    ),
+    ("SELECT * FROM S WHERE A WITHIN 5x", "4:33 unexpected token"),
+    ("SELECT * FROM S WHERE A --", "2 types, 2 in S, 1 queries"),
+    (
+        "SELECT * FROM S WHERE A FILTER A[v = 'it''s']",
+        "4:34 attribute v is never STRING",
+    ),
+    (
+        "SELECT * FROM S WHERE A FILTER A[v = -9223372036854775808 OR v = 9223372036854775807]",
+        "2 types, 2 in S, 1 queries",
+    ),
+    (
+        "SELECT * FROM S WHERE A FILTER A[v = -9223372036854775809]",
+        "4:38 number too large",
+    ),
+    ("SELECT * FROM S WHERE A )", "4:25 unexpected token"),
+    ("SELECT\t*\tFROM S WHERE C", "4:23 unknown type C"),
+    ("SELECT * FROM S WHERE C\r", "4:23 unknown type C"),
+    (
+        "Select * fROM S where A Filter A[v = 1 aNd v < 2] Within 3 Events",
+        "2 types, 2 in S, 1 queries",
+    ),
+    (
+        "SELECT * FROM S WHERE A AS a ; B AS b FILTER a[v < 64] AND b[v < 64] WITHIN 8 EVENTS SELECT * FROM S WHERE A+ ; B WITHIN 6 EVENTS",
+        "2 types, 2 in S, 2 queries",
+    ),
+    (
+        "SELECT * FROM S WHERE ((A AS a ; B AS b) KEEP [a]) FILTER b[v = 1]",
+        "4:59 unknown name b",
+    ),
+    (
+        "SELECT * FROM S WHERE ((A AS a ; B AS b) KEEP [a]) FILTER A[v = 1]",
+        "4:59 unknown name A",
+    ),
+    (
+        "SELECT * FROM S WHERE (A AS a ; B AS b) KEEP [a] KEEP [b]",
+        "4:56 unknown name b",
+    ),
+    (
+        "SELECT * FROM S WHERE (A AS a ; B AS b) KEEP [a] KEEP [A]",
+        "4:56 unknown name A",
+    ),
+    (
+        "SELECT b FROM S WHERE (A AS a ; B AS b) KEEP [a]",
+        "4:8 unknown name b",
+    ),
+    (
+        "SELECT B FROM S WHERE (A AS a ; B AS b) KEEP [a]",
+        "4:8 unknown name B",
+    ),
+    (
+        "SELECT a FROM S WHERE (A AS a ; B AS b) KEEP [a]",
+        "2 types, 2 in S, 1 queries",
+    ),
+    (
+        "SELECT b FROM S WHERE A AS a ; (B AS b KEEP [b])",
+        "2 types, 2 in S, 1 queries",
+    ),
+    (
+        "SELECT A, b FROM S WHERE A AS a ; (B AS b KEEP [b])",
+        "2 types, 2 in S, 1 queries",
+    ),
+    (
+        "SELECT * FROM S WHERE (A AS a ; B AS b) KEEP [a] AS b KEEP [b] FILTER b[v = 1]",
+        "2 types, 2 in S, 1 queries",
+    ),
+    (
+        "SELECT * FROM S WHERE A AS a KEEP [a] KEEP [a, a] FILTER a[v = 1]",
+        "2 types, 2 in S, 1 queries",
     ),
 ];
 
 #[test]
-fn texts_are_read_as_statements(rt: HostRuntime) -> Result<(), Fail> {
-    rows_hold(&rt, rt.alloc(), TEXTS)
+fn queries_after_the_base(rt: HostRuntime) -> Result<(), Fail> {
+    texts_hold(&rt, rt.alloc(), BASE, "\n", QUERIES)
+}
+
+/// Texts: the text, and its fault or what it declares.
+const TEXTS: &[(&str, &str)] = &[
+    ("", "1:1 no query"),
+    ("DECLARE EVENT A() DECLARE STREAM S(A)", "1:38 no query"),
+    (
+        "DECLARE EVENT A(p DECIMAL(10))",
+        "1:27 DECIMAL takes 0 to 9",
+    ),
+    (
+        "DECLARE EVENT A(p DECIMAL(-1))",
+        "1:27 DECIMAL takes 0 to 9",
+    ),
+    (
+        "DECLARE EVENT A(p DECIMAL(9)) DECLARE EVENT A()",
+        "1:45 name A taken",
+    ),
+    ("DECLARE EVENT A(p DECIMAL(10), p INT)", "1:32 name p taken"),
+    (
+        "DECLARE EVENT A() DECLARE EVENT A(p DECIMAL(10), p INT)",
+        "1:33 name A taken",
+    ),
+    (
+        "DECLARE EVENT A(p INT, q INT, q INT, p INT)",
+        "1:31 name q taken",
+    ),
+    (
+        "DECLARE EVENT A(p DECIMAL(10), q DECIMAL(11))",
+        "1:27 DECIMAL takes 0 to 9",
+    ),
+    ("DECLARE STREAM S(A)", "1:18 unknown type A"),
+    ("DECLARE EVENT A() DECLARE STREAM A(B)", "1:34 name A taken"),
+    (
+        "DECLARE EVENT A() DECLARE STREAM S(A, A, B, C)",
+        "1:42 unknown type B",
+    ),
+    (
+        "DECLARE EVENT A() DECLARE STREAM S(A) DECLARE STREAM S(A)",
+        "1:54 name S taken",
+    ),
+    (
+        "DECLARE EVENT A() DECLARE STREAM S(A) DECLARE EVENT S()",
+        "1:53 name S taken",
+    ),
+    (
+        "DECLARE EVENT A() DECLARE EVENT B() DECLARE STREAM S(B, A, B, B) SELECT * FROM S WHERE A",
+        "2 types, 2 in S, 1 queries",
+    ),
+    (
+        "SELECT * FROM S WHERE A DECLARE EVENT A() DECLARE STREAM S(A)",
+        "1:15 unknown stream S",
+    ),
+    (
+        "DECLARE EVENT A(b BOOL) DECLARE EVENT B(b INT) DECLARE STREAM S(A) SELECT * FROM S WHERE A FILTER A[b < TRUE]",
+        "1:101 BOOL has no order",
+    ),
+    (
+        "DECLARE EVENT A(b BOOL) DECLARE EVENT B(b INT) DECLARE STREAM S(A) SELECT * FROM S WHERE A FILTER A[b = 1]",
+        "1:101 attribute b is never INT",
+    ),
+    (
+        "DECLARE EVENT A(t INT) DECLARE EVENT B(t STRING) DECLARE STREAM S(A, B) SELECT * FROM S WHERE A WITHIN 1 [t]",
+        "1:107 window attribute t is not INT in every type",
+    ),
+    (
+        "DECLARE EVENT A(t DECIMAL(2)) DECLARE STREAM S(A) SELECT * FROM S WHERE A FILTER A[t = 1] WITHIN 1 [t]",
+        "1:101 window attribute t is not INT in every type",
+    ),
+    ("?", "1:1 byte 3f not allowed"),
+    ("A", "1:1 unexpected token"),
+    ("\u{FEFF}A", "1:1 unexpected token"),
+    ("\u{FEFF}\u{FEFF}A", "1:1 byte ef not allowed"),
+    ("DECLARE EVENT A()?", "1:18 byte 3f not allowed"),
+    ("DECLARE EVENT A() A", "1:19 unexpected token"),
+    ("A ?", "1:3 byte 3f not allowed"),
+    ("DECLARE STREAM S(A) A", "1:21 unexpected token"),
+    ("-- \u{E9} ?\nA", "2:1 unexpected token"),
+    (
+        "SELECT * FROM S WHERE A FILTER A[s = '\u{E9}'] ?",
+        "1:44 byte 3f not allowed",
+    ),
+    (
+        "DECLARE EVENT A()\r\nDECLARE STREAM S(A)\r\nSELECT * FROM S WHERE A ; B\r\n",
+        "3:27 unknown type B",
+    ),
+    (
+        "DECLARE EVENT A(b BOOL) DECLARE STREAM S(A) SELECT * FROM S WHERE A FILTER A[b < TRUE]",
+        "1:78 BOOL has no order",
+    ),
+];
+
+#[test]
+fn whole_texts(rt: HostRuntime) -> Result<(), Fail> {
+    texts_hold(&rt, rt.alloc(), "", "", TEXTS)
+}
+
+#[test]
+fn a_string_has_to_be_utf8(rt: HostRuntime) -> Result<(), Fail> {
+    let text: &[u8] = b"SELECT * FROM S WHERE A FILTER A[s = '\xFF']";
+    let shown = answer(rt.alloc(), text)?;
+    assert_eq!(rt; shown.as_str(), "1:38 string is not UTF-8");
+    Ok(())
 }

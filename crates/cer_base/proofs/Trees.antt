@@ -1,4 +1,4 @@
--- The trees of a store, as it grows and is cut.
+-- The trees of a store, as it grows and is cut. For callers of the crate too.
 use Rattle.std.proofs.Common.{◌≡◌, ◌≢◌, ℕ, zero, suc, ◌+◌, ◌<◌, ◌≤◌, List, [], ◌∷◌, ◌++◌, length, take, reverse, refl, sym, ap, subst, ◌∙◌, ◌⊎◌, inl, inr, Some, arith, length-append, eq-eqb, get_or, pos, max, append_assoc, All, Result, Ok, Err, OnOk, OnErr, IfOk}
 use Rattle.std.specs.Prelude.{slice_get, ℤ, ◌≤ℤ◌, Contains}
 use Rattle.std.proofs.lemmas.Int.{ints}
@@ -10,11 +10,11 @@ use Rattle.std.proofs.Math.Seq.{take-append_seam}
 use Rattle.cer_base.specs.declared.node.Stamp.{Stamp}
 use Rattle.cer_base.specs.declared.node.Node.{Node}
 use Rattle.cer_base.specs.declared.node.Node.TheVariants.{Bottom, Output, Union}
-use Rattle.cer_base.specs.Members.{Tree, Mark, Fork, IsLawful, newest, need, members, ComesAfter}
+use Rattle.cer_base.specs.Members.{SetTree, Extended, United, IsWellFormedTree, newest, need, members, ComesAfter}
 use Rattle.cer_base.specs.Fields.{max_of, need_of}
-use Rattle.cer_base.specs.Nodes.{grown, tree_in, tree, Tells, AreInStep, WellFormed, Grows, HasNode}
+use Rattle.cer_base.specs.Nodes.{grown, tree_in, tree, HasTrueFields, AreInStep, WellFormed, Grows, HasNode}
 
-pub newest-left : (l r : Tree) → (newest r).pos ≤ (newest l).pos → newest (Fork l r) ≡ newest l
+pub newest-left : (l r : SetTree) → (newest r).pos ≤ (newest l).pos → newest (United l r) ≡ newest l
 newest-left l r h = rw (le-leb (newest r).pos (newest l).pos h) refl
 
 -- older nodes keep their trees, whatever comes after them
@@ -33,10 +33,10 @@ unfolding tree
 tree-push xs n = rw (reverse-append, length-reverse, eq-eqb (length xs) (length xs) refl) refl
 
 -- a node's tree depends on its children's alone
-pub grown-agree : (f g at : ℕ → Tree) (id : ℕ) (n : Node) → Tells at id n → ((k : ℕ) → k < id → f k ≡ g k) → grown f n ≡ grown g n
+pub grown-agree : (f g at : ℕ → SetTree) (id : ℕ) (n : Node) → HasTrueFields at id n → ((k : ℕ) → k < id → f k ≡ g k) → grown f n ≡ grown g n
 grown-agree f g at id (Bottom s) t e = refl
-grown-agree f g at id (Output p c m k) t e = ap (Mark p) (e c t.0)
-grown-agree f g at id (Union l r m q k) t e = ap (λ x. Fork x (f r)) (e l t.0) ∙ ap (Fork (g l)) (e r t.1)
+grown-agree f g at id (Output p c m k) t e = ap (Extended p) (e c t.0)
+grown-agree f g at id (Union l r m q k) t e = ap (λ x. United x (f r)) (e l t.0) ∙ ap (United (g l)) (e r t.1)
 
 slice_get-push : (xs : List Node) (m n : Node) (id : ℕ) → slice_get (xs ++ m ∷ []) id ≡ Some n → ((id < length xs) × (slice_get xs id ≡ Some n)) ⊎ ((id ≡ length xs) × (m ≡ n))
 slice_get-push [] m n zero h = inr (refl, cc)
@@ -45,7 +45,7 @@ slice_get-push (x ∷ xs) m n zero h = inl (omega arith, h)
 slice_get-push (x ∷ xs) m n (suc id) h = elim (slice_get-push xs m n id h) [ inl w ↦ inl (omega arith, w.1) | inr w ↦ inr (omega arith, w.1) ]
 
 -- a node's tree is made of its children's
-older_at : (older : List Node) (id : ℕ) (n : Node) (at : ℕ → Tree) → slice_get (reverse older) id ≡ Some n → Tells at id n → tree_in older id ≡ grown (tree_in older) n
+older_at : (older : List Node) (id : ℕ) (n : Node) (at : ℕ → SetTree) → slice_get (reverse older) id ≡ Some n → HasTrueFields at id n → tree_in older id ≡ grown (tree_in older) n
 older_at [] id n at h t = absurd cc
 older_at (m ∷ older) id n at h t =
     elim (slice_get-push (reverse older) m n id (rw (reverse-append (m ∷ []) older) at h)) [
@@ -60,23 +60,23 @@ older_at (m ∷ older) id n at h t =
 
 pub tree-at : (nodes : List Node) → WellFormed nodes → (id : ℕ) (n : Node) → slice_get nodes id ≡ Some n → tree nodes id ≡ grown (tree nodes) n
 unfolding tree
-tree-at nodes w id n h = older_at (reverse nodes) id n (tree nodes) (rw reverse-reverse h) (w.tells id n h)
+tree-at nodes w id n h = older_at (reverse nodes) id n (tree nodes) (rw reverse-reverse h) (w.true_fields id n h)
 
-Tells-agree : (f g : ℕ → Tree) (id : ℕ) (n : Node) → ((k : ℕ) → k < id → f k ≡ g k) → Tells f id n → Tells g id n
-Tells-agree f g id (Bottom s) e t = tt
-Tells-agree f g id (Output p c m k) e t = let same = e c t.0 in (t.0, rw (← same) t.1, rw (← same) t.2)
-Tells-agree f g id (Union l r m q k) e t = let one = e l t.0 in let two = e r t.1 in (t.0, t.1, rw (← one, ← two) t.2, rw (← two) t.3, rw (← one, ← two) t.4)
+HasTrueFields-agree : (f g : ℕ → SetTree) (id : ℕ) (n : Node) → ((k : ℕ) → k < id → f k ≡ g k) → HasTrueFields f id n → HasTrueFields g id n
+HasTrueFields-agree f g id (Bottom s) e t = tt
+HasTrueFields-agree f g id (Output p c m k) e t = let same = e c t.0 in (t.0, rw (← same) t.1, rw (← same) t.2)
+HasTrueFields-agree f g id (Union l r m q k) e t = let one = e l t.0 in let two = e r t.1 in (t.0, t.1, rw (← one, ← two) t.2, rw (← two) t.3, rw (← one, ← two) t.4)
 
--- a node that tells what its tree has, and whose tree is lawful, keeps the store well-formed
-pub well_formed-push : (nodes : List Node) (n : Node) → WellFormed nodes → Tells (tree nodes) (length nodes) n → IsLawful (grown (tree nodes) n) → AreInStep (nodes ++ n ∷ []) → WellFormed (nodes ++ n ∷ [])
-well_formed-push nodes n w tells lawful step = record {
-  tells = λ id m at. elim (slice_get-push nodes n m id at) [
-    | inl o ↦ Tells-agree (tree nodes) _ id m (λ k below. sym (tree-append nodes (n ∷ []) k (omega arith))) (w.tells id m o.1)
-    | inr o ↦ Tells-agree (tree nodes) _ id m (λ k below. sym (tree-append nodes (n ∷ []) k (omega arith))) (subst (λ (i : ℕ). Tells (tree nodes) i m) (sym o.0) (subst (λ (x : Node). Tells (tree nodes) (length nodes) x) o.1 tells))
+-- a node that tells what its tree has, and whose tree is well-formed, keeps the store well-formed
+pub well_formed-push : (nodes : List Node) (n : Node) → WellFormed nodes → HasTrueFields (tree nodes) (length nodes) n → IsWellFormedTree (grown (tree nodes) n) → AreInStep (nodes ++ n ∷ []) → WellFormed (nodes ++ n ∷ [])
+well_formed-push nodes n w true_fields well_formed_tree step = record {
+  true_fields = λ id m at. elim (slice_get-push nodes n m id at) [
+    | inl o ↦ HasTrueFields-agree (tree nodes) _ id m (λ k below. sym (tree-append nodes (n ∷ []) k (omega arith))) (w.true_fields id m o.1)
+    | inr o ↦ HasTrueFields-agree (tree nodes) _ id m (λ k below. sym (tree-append nodes (n ∷ []) k (omega arith))) (subst (λ (i : ℕ). HasTrueFields (tree nodes) i m) (sym o.0) (subst (λ (x : Node). HasTrueFields (tree nodes) (length nodes) x) o.1 true_fields))
   ];
-  lawful = λ id inside. elim (cases_lt id (length nodes)) [
-    | inl lt ↦ rw (tree-append nodes (n ∷ []) id lt) (w.lawful id lt)
-    | inr ge ↦ let last : id ≡ length nodes = omega (arith, length-append nodes (n ∷ [])) in rw (last, tree-push nodes n) lawful
+  well_formed_tree = λ id inside. elim (cases_lt id (length nodes)) [
+    | inl lt ↦ rw (tree-append nodes (n ∷ []) id lt) (w.well_formed_tree id lt)
+    | inr ge ↦ let last : id ≡ length nodes = omega (arith, length-append nodes (n ∷ [])) in rw (last, tree-push nodes n) well_formed_tree
   ];
   in_step = step;
 }
@@ -113,20 +113,20 @@ slice_get-front (x ∷ xs) ys (suc id) n h = slice_get-front xs ys id n h
 -- Cut short, a store stays well-formed.
 pub well_formed-front : (xs ys : List Node) → WellFormed (xs ++ ys) → WellFormed xs
 well_formed-front xs ys w = record {
-  tells = λ id n at. let inside : id < length xs = slice_get_within xs id n at in Tells-agree (tree (xs ++ ys)) _ id n (λ k below. tree-append xs ys k (omega arith)) (w.tells id n (slice_get-front xs ys id n at));
-  lawful = λ id inside. rw (← tree-append xs ys id inside) (w.lawful id (omega (arith, length-append xs ys)));
+  true_fields = λ id n at. let inside : id < length xs = slice_get_within xs id n at in HasTrueFields-agree (tree (xs ++ ys)) _ id n (λ k below. tree-append xs ys k (omega arith)) (w.true_fields id n (slice_get-front xs ys id n at));
+  well_formed_tree = λ id inside. rw (← tree-append xs ys id inside) (w.well_formed_tree id (omega (arith, length-append xs ys)));
   in_step = λ s t a b le. w.in_step s t (Contains-append_left xs ys _ a) (Contains-append_left xs ys _ b) le;
 }
 
 -- what holds of a node where it holds of all older ones holds of each node
-by_fuel : (nodes : List Node) → WellFormed nodes → (P : ℕ → Tree → Type 0) → ((id : ℕ) (n : Node) → slice_get nodes id ≡ Some n → Tells (tree nodes) id n → ((c : ℕ) → c < id → P c (tree nodes c)) → P id (grown (tree nodes) n)) → (k id : ℕ) → id < k → id < length nodes → P id (tree nodes id)
+by_fuel : (nodes : List Node) → WellFormed nodes → (P : ℕ → SetTree → Type 0) → ((id : ℕ) (n : Node) → slice_get nodes id ≡ Some n → HasTrueFields (tree nodes) id n → ((c : ℕ) → c < id → P c (tree nodes c)) → P id (grown (tree nodes) n)) → (k id : ℕ) → id < k → id < length nodes → P id (tree nodes id)
 by_fuel nodes w P step zero id below inside = absurd (omega arith)
 by_fuel nodes w P step (suc k) id below inside =
     let n : Node = get_or nodes id (Bottom (record { pos = 0; clock = pos 0 })) in
     let at : slice_get nodes id ≡ Some n = slice_get-get_or nodes id (Bottom (record { pos = 0; clock = pos 0 })) inside in
-    rw (tree-at nodes w id n at) (step id n at (w.tells id n at) (λ c older. by_fuel nodes w P step k c (omega arith) (omega arith)))
+    rw (tree-at nodes w id n at) (step id n at (w.true_fields id n at) (λ c older. by_fuel nodes w P step k c (omega arith) (omega arith)))
 
-pub by_older : (nodes : List Node) → WellFormed nodes → (P : ℕ → Tree → Type 0) → ((id : ℕ) (n : Node) → slice_get nodes id ≡ Some n → Tells (tree nodes) id n → ((c : ℕ) → c < id → P c (tree nodes c)) → P id (grown (tree nodes) n)) → (id : ℕ) → id < length nodes → P id (tree nodes id)
+pub by_older : (nodes : List Node) → WellFormed nodes → (P : ℕ → SetTree → Type 0) → ((id : ℕ) (n : Node) → slice_get nodes id ≡ Some n → HasTrueFields (tree nodes) id n → ((c : ℕ) → c < id → P c (tree nodes c)) → P id (grown (tree nodes) n)) → (id : ℕ) → id < length nodes → P id (tree nodes id)
 by_older nodes w P step id inside = by_fuel nodes w P step (suc id) id (omega arith) inside
 
 pub Grows-refl : (nodes : List Node) → WellFormed nodes → Grows nodes nodes
@@ -147,11 +147,11 @@ tree-grows old new g id inside = rw g.appended (tree-append old g.more id inside
 pub length-grows : (old new : List Node) → Grows old new → length old ≤ length new
 length-grows old new g = let e = ap length g.appended in omega (arith, simp length-append at e)
 
-Grows-push : (nodes : List Node) (n : Node) → WellFormed nodes → ((s : Stamp) → n ≡ Bottom s → ⊥) → Tells (tree nodes) (length nodes) n → IsLawful (grown (tree nodes) n) → Grows nodes (nodes ++ n ∷ [])
-Grows-push nodes n w other tells lawful = record {
+Grows-push : (nodes : List Node) (n : Node) → WellFormed nodes → ((s : Stamp) → n ≡ Bottom s → ⊥) → HasTrueFields (tree nodes) (length nodes) n → IsWellFormedTree (grown (tree nodes) n) → Grows nodes (nodes ++ n ∷ [])
+Grows-push nodes n w other true_fields well_formed_tree = record {
   more = n ∷ [];
   appended = refl;
-  well_formed = well_formed-push nodes n w tells lawful (in_step-push nodes n other w.in_step);
+  well_formed = well_formed-push nodes n w true_fields well_formed_tree (in_step-push nodes n other w.in_step);
   no_new_start = λ s has. elim (Contains-push_cases nodes n (Bottom s) has) [ inl a ↦ a | inr a ↦ absurd (other s a) ];
 }
 
@@ -159,27 +159,27 @@ HasNode-push : (nodes : List Node) (n : Node) → HasNode (nodes ++ n ∷ []) (l
 HasNode-push nodes n = (omega (arith, length-append nodes (n ∷ [])), tree-push nodes n)
 
 pub output-grows : (nodes : List Node) (p c k : ℕ) (m : Stamp) → WellFormed nodes → c < length nodes → m ≡ newest (tree nodes c) → k ≡ need (tree nodes c) + 1 → All (ComesAfter p) (members (tree nodes c)) → Grows nodes (nodes ++ Output p c m k ∷ [])
-output-grows nodes p c k m w inside is_max is_need after = Grows-push nodes (Output p c m k) w (λ s e. cc) (inside, is_max, is_need) (w.lawful c inside, after)
+output-grows nodes p c k m w inside is_max is_need after = Grows-push nodes (Output p c m k) w (λ s e. cc) (inside, is_max, is_need) (w.well_formed_tree c inside, after)
 
-pub union-grows : (nodes : List Node) (l r k : ℕ) (m q : Stamp) → WellFormed nodes → l < length nodes → r < length nodes → m ≡ newest (tree nodes l) → q ≡ newest (tree nodes r) → k ≡ max (need (tree nodes l) + 1) (need (tree nodes r)) → IsLawful (Fork (tree nodes l) (tree nodes r)) → Grows nodes (nodes ++ Union l r m q k ∷ [])
-union-grows nodes l r k m q w in_l in_r is_max is_right is_need lawful = Grows-push nodes (Union l r m q k) w (λ s e. cc) (in_l, in_r, is_max ∙ sym (newest-left (tree nodes l) (tree nodes r) lawful.2.ordered), is_right, is_need) lawful
+pub union-grows : (nodes : List Node) (l r k : ℕ) (m q : Stamp) → WellFormed nodes → l < length nodes → r < length nodes → m ≡ newest (tree nodes l) → q ≡ newest (tree nodes r) → k ≡ max (need (tree nodes l) + 1) (need (tree nodes r)) → IsWellFormedTree (United (tree nodes l) (tree nodes r)) → Grows nodes (nodes ++ Union l r m q k ∷ [])
+union-grows nodes l r k m q w in_l in_r is_max is_right is_need well_formed_tree = Grows-push nodes (Union l r m q k) w (λ s e. cc) (in_l, in_r, is_max ∙ sym (newest-left (tree nodes l) (tree nodes r) well_formed_tree.2.ordered), is_right, is_need) well_formed_tree
 
 -- what a node's fields say of its tree
-Tells-max : (at : ℕ → Tree) (id : ℕ) (n : Node) → Tells at id n → max_of n ≡ newest (grown at n)
-Tells-max at id (Bottom s) t = refl
-Tells-max at id (Output p c m k) t = t.1
-Tells-max at id (Union l r m q k) t = t.2
+HasTrueFields-max : (at : ℕ → SetTree) (id : ℕ) (n : Node) → HasTrueFields at id n → max_of n ≡ newest (grown at n)
+HasTrueFields-max at id (Bottom s) t = refl
+HasTrueFields-max at id (Output p c m k) t = t.1
+HasTrueFields-max at id (Union l r m q k) t = t.2
 
-Tells-need : (at : ℕ → Tree) (id : ℕ) (n : Node) → Tells at id n → need_of n ≡ need (grown at n)
-Tells-need at id (Bottom s) t = refl
-Tells-need at id (Output p c m k) t = t.2
-Tells-need at id (Union l r m q k) t = t.4
+HasTrueFields-need : (at : ℕ → SetTree) (id : ℕ) (n : Node) → HasTrueFields at id n → need_of n ≡ need (grown at n)
+HasTrueFields-need at id (Bottom s) t = refl
+HasTrueFields-need at id (Output p c m k) t = t.2
+HasTrueFields-need at id (Union l r m q k) t = t.4
 
 pub max-tree : (nodes : List Node) → WellFormed nodes → (id : ℕ) (n : Node) → slice_get nodes id ≡ Some n → max_of n ≡ newest (tree nodes id)
-max-tree nodes w id n at = Tells-max (tree nodes) id n (w.tells id n at) ∙ ap newest (sym (tree-at nodes w id n at))
+max-tree nodes w id n at = HasTrueFields-max (tree nodes) id n (w.true_fields id n at) ∙ ap newest (sym (tree-at nodes w id n at))
 
 pub need-tree : (nodes : List Node) → WellFormed nodes → (id : ℕ) (n : Node) → slice_get nodes id ≡ Some n → need_of n ≡ need (tree nodes id)
-need-tree nodes w id n at = Tells-need (tree nodes) id n (w.tells id n at) ∙ ap need (sym (tree-at nodes w id n at))
+need-tree nodes w id n at = HasTrueFields-need (tree nodes) id n (w.true_fields id n at) ∙ ap need (sym (tree-at nodes w id n at))
 
 -- what a push leaves, done or refused
 pub pushed-grows : {E : Type 0} (r : Result ℕ E) (old new : List Node) (n : Node) → OnOk r (new ≡ old ++ n ∷ []) → OnErr r (new ≡ old) → WellFormed old → Grows old (old ++ n ∷ []) → Grows old new

@@ -1,22 +1,21 @@
--- Sets as the bits of words: one number in them, their room, and when two are equal.
-use Rattle.std.proofs.Common.{◌≡◌, ◌≢◌, ℕ, zero, suc, ◌+◌, ◌-◌, ◌*◌, ◌/◌, ◌%◌, ◌^◌, ◌<◌, ◌≤◌, Bool, true, false, List, [], ◌∷◌, ◌++◌, length, refl, sym, ap, subst, ◌∙◌, ◌⊎◌, inl, inr, arith, length-append, get_or, set, pow-suc, max, min, All}
-use Rattle.std.specs.Prelude.{◌&&◌, ◌||◌, not, eqb, cond, nat_eq, nat_le, nat_lt, map, replicate}
+-- Sets as the bits of words: one number in them, their room, and when two are equal. For callers of the crate too.
+use Rattle.std.proofs.Common.{◌≡◌, ◌≢◌, ℕ, zero, suc, ◌+◌, ◌-◌, ◌*◌, ◌/◌, ◌%◌, ◌^◌, ◌<◌, ◌≤◌, Bool, true, false, List, [], ◌∷◌, ◌++◌, length, refl, sym, ap, ◌∙◌, inl, inr, arith, length-append, get_or, set, pow-suc, max, min}
+use Rattle.std.specs.Prelude.{◌&&◌, ◌||◌, not, eqb, cond, nat_le, nat_lt, map, replicate}
 use Rattle.std.specs.Bool.{Decides, beq}
 use Rattle.std.specs.Cmp.{booleans_Decides}
-use Rattle.std.specs.Cmp.Lexicographic.{pointwise, pointwise_decides, bytes_decides}
+use Rattle.std.specs.Cmp.Lexicographic.{pointwise, pointwise_decides}
 use Rattle.std.specs.Int.{bit_at, bit_not, w64, trailing_zeros}
 use Rattle.std.specs.Int.RustNames.{bit_or}
 use Rattle.std.specs.List.{range_with_len}
 use lib.Bits.{bit_and}
 use Rattle.std.proofs.lemmas.Grind.{common_steps}
 use Rattle.std.proofs.lemmas.Bool.{cases_lt, cases_eq, eq-eqb, ne_eqb, le-leb, false≢true, false_from_ne_true}
-use Rattle.std.proofs.lemmas.Bool.Decides.{same_from_decides}
-use Rattle.std.proofs.lemmas.List.{get_or_append_left, get_or-append_right, get_or_past, get_or-set_same, get_or-set_other, get_or-replicate, length-replicate}
+use Rattle.std.proofs.lemmas.List.{get_or_append_left, get_or-append_right, get_or_past, get_or-set_same, get_or-set_other, get_or-replicate}
 use Rattle.std.proofs.lemmas.List.FromFn.{length-map-range_with_len, get_or-map-range_with_len, fill_by_all}
 use Rattle.std.proofs.lemmas.List.Edits.{fill_by_more}
 use Rattle.std.proofs.lemmas.Nat.{and_le_l}
 use Rattle.std.proofs.lemmas.Nat.Bits.{bit_at_and, bit_at_or, bit_at_not, bit_at-trailing_zeros, bit_at-lt, bit_at-suc, bit_at_lowest, bit_at-zero, bit_at_set_same, bit_at_set_other, bit_at_mask_inside, bit_at_mask_below, ones_shl, shr_and_one}
-use Rattle.cer_base.specs.Bits.{has, room_for, bit, word_bits, bits_of, number, word_of, words_of}
+use Rattle.cer_base.specs.Bits.{has, room_for, bit, word_bits, bits_of_words, word_with_bits, word_of, words_of}
 
 pub length-word_bits : (w : ℕ) → length (word_bits w) ≡ 64
 unfolding word_bits
@@ -26,26 +25,26 @@ pub has-word_bits : (w k : ℕ) → k < 64 → has (word_bits w) k ≡ bit w k
 unfolding word_bits
 has-word_bits w k h = get_or-map-range_with_len (bit w) 0 64 k k false h (omega arith)
 
-pub length_bits_of : (ws : List ℕ) → length (bits_of ws) ≡ length ws * 64
+pub length_bits_of : (ws : List ℕ) → length (bits_of_words ws) ≡ length ws * 64
 length_bits_of [] = refl
-length_bits_of (w ∷ ws) = omega (arith, length-append (word_bits w) (bits_of ws), length-word_bits w, length_bits_of ws)
+length_bits_of (w ∷ ws) = omega (arith, length-append (word_bits w) (bits_of_words ws), length-word_bits w, length_bits_of ws)
 
 pub bit-zero : (i : ℕ) → bit 0 i ≡ false
 bit-zero i = rw (bit_at-zero i) refl
 
 -- number 64 q + i is bit i of word q
-pub has-bits_of_at : (ws : List ℕ) (q i : ℕ) → i < 64 → has (bits_of ws) (64 * q + i) ≡ bit (get_or ws q 0) i
-has-bits_of_at [] q i h = sym (bit-zero i)
-has-bits_of_at (w ∷ ws) zero i h =
-    ap (has (word_bits w ++ bits_of ws)) (omega arith) ∙ get_or_append_left (word_bits w) (bits_of ws) false i (omega (arith, length-word_bits w)) ∙ has-word_bits w i h
-has-bits_of_at (w ∷ ws) (suc q) i h =
-    get_or-append_right (word_bits w) (bits_of ws) 64 (64 * suc q + i) false (length-word_bits w) (omega arith) ∙
-    ap (has (bits_of ws)) (omega arith) ∙ has-bits_of_at ws q i h
+pub has-bits_of_words_at : (ws : List ℕ) (q i : ℕ) → i < 64 → has (bits_of_words ws) (64 * q + i) ≡ bit (get_or ws q 0) i
+has-bits_of_words_at [] q i h = sym (bit-zero i)
+has-bits_of_words_at (w ∷ ws) zero i h =
+    ap (has (word_bits w ++ bits_of_words ws)) (omega arith) ∙ get_or_append_left (word_bits w) (bits_of_words ws) false i (omega (arith, length-word_bits w)) ∙ has-word_bits w i h
+has-bits_of_words_at (w ∷ ws) (suc q) i h =
+    get_or-append_right (word_bits w) (bits_of_words ws) 64 (64 * suc q + i) false (length-word_bits w) (omega arith) ∙
+    ap (has (bits_of_words ws)) (omega arith) ∙ has-bits_of_words_at ws q i h
 
-pub has-bits_of : (ws : List ℕ) (k : ℕ) → has (bits_of ws) k ≡ bit (get_or ws (k / 64) 0) (k % 64)
-has-bits_of ws k =
+pub has-bits_of_words : (ws : List ℕ) (k : ℕ) → has (bits_of_words ws) k ≡ bit (get_or ws (k / 64) 0) (k % 64)
+has-bits_of_words ws k =
     let e : k ≡ 64 * (k / 64) + k % 64 = omega arith in
-    ap (has (bits_of ws)) e ∙ has-bits_of_at ws (k / 64) (k % 64) (omega arith)
+    ap (has (bits_of_words ws)) e ∙ has-bits_of_words_at ws (k / 64) (k % 64) (omega arith)
 
 eqb-max : (x y : ℕ) → x < 2 → y < 2 → eqb (max x y) 1 ≡ eqb x 1 || eqb y 1
 eqb-max x y h k = grind arith
@@ -66,38 +65,38 @@ pub bit-not : (a i : ℕ) → a < 2 ^ 64 → i < 64 → bit (bit_not w64 a) i �
 bit-not a i h k = rw (bit_at_not w64 a i h k) (eqb-other (bit_at a i) (bit_at-lt a i))
 
 -- Where each word of the new words is made of the two others' by an operation on bits, so are the sets.
-pub made_of_both : (on : Bool → Bool → Bool) (old other new : List ℕ) → on false false ≡ false → ((k i : ℕ) → k < length old → i < 64 → bit (get_or new k 0) i ≡ on (bit (get_or old k 0) i) (bit (get_or other k 0) i)) → length old ≡ length other → length new ≡ length old → (k : ℕ) → has (bits_of new) k ≡ on (has (bits_of old) k) (has (bits_of other) k)
+pub made_of_both : (on : Bool → Bool → Bool) (old other new : List ℕ) → on false false ≡ false → ((k i : ℕ) → k < length old → i < 64 → bit (get_or new k 0) i ≡ on (bit (get_or old k 0) i) (bit (get_or other k 0) i)) → length old ≡ length other → length new ≡ length old → (k : ℕ) → has (bits_of_words new) k ≡ on (has (bits_of_words old) k) (has (bits_of_words other) k)
 made_of_both on old other new none word same kept k =
     elim (cases_lt (k / 64) (length old)) [
-      | inl h ↦ rw (has-bits_of new k, has-bits_of old k, has-bits_of other k) (word (k / 64) (k % 64) h (omega arith))
-      | inr h ↦ rw (has-bits_of new k, has-bits_of old k, has-bits_of other k, get_or_past new (k / 64) 0 (omega arith), get_or_past old (k / 64) 0 h, get_or_past other (k / 64) 0 (omega arith), bit-zero (k % 64)) (sym none)
+      | inl h ↦ rw (has-bits_of_words new k, has-bits_of_words old k, has-bits_of_words other k) (word (k / 64) (k % 64) h (omega arith))
+      | inr h ↦ rw (has-bits_of_words new k, has-bits_of_words old k, has-bits_of_words other k, get_or_past new (k / 64) 0 (omega arith), get_or_past old (k / 64) 0 h, get_or_past other (k / 64) 0 (omega arith), bit-zero (k % 64)) (sym none)
     ]
 
-pub lowest_is_in : (ws : List ℕ) (q : ℕ) → 0 < get_or ws q 0 → get_or ws q 0 < 2 ^ 64 → has (bits_of ws) (64 * q + trailing_zeros w64 (get_or ws q 0)) ≡ true
+pub lowest_is_in : (ws : List ℕ) (q : ℕ) → 0 < get_or ws q 0 → get_or ws q 0 < 2 ^ 64 → has (bits_of_words ws) (64 * q + trailing_zeros w64 (get_or ws q 0)) ≡ true
 lowest_is_in ws q some fits =
     let low = bit_at-trailing_zeros w64 (get_or ws q 0) some fits in
-    has-bits_of_at ws q _ low.0 ∙ ap (λ b. eqb b 1) low.1
+    has-bits_of_words_at ws q _ low.0 ∙ ap (λ b. eqb b 1) low.1
 
 -- two words with a bit in common give a number in both sets
-pub in_both : (ws os : List ℕ) (q : ℕ) → 0 < bit_and (get_or ws q 0) (get_or os q 0) → get_or ws q 0 < 2 ^ 64 → (k : ℕ) × (has (bits_of ws) k && has (bits_of os) k ≡ true)
+pub in_both : (ws os : List ℕ) (q : ℕ) → 0 < bit_and (get_or ws q 0) (get_or os q 0) → get_or ws q 0 < 2 ^ 64 → (k : ℕ) × (has (bits_of_words ws) k && has (bits_of_words os) k ≡ true)
 in_both ws os q some fits =
     let both = bit_and (get_or ws q 0) (get_or os q 0) in
     let low = bit_at-trailing_zeros w64 both some (omega (arith, and_le_l (get_or ws q 0) (get_or os q 0))) in
     let i = trailing_zeros w64 both in
-    (64 * q + i, rw (has-bits_of_at ws q i low.0, has-bits_of_at os q i low.0, ← bit-and (get_or ws q 0) (get_or os q 0) i) (ap (λ b. eqb b 1) low.1))
+    (64 * q + i, rw (has-bits_of_words_at ws q i low.0, has-bits_of_words_at os q i low.0, ← bit-and (get_or ws q 0) (get_or os q 0) i) (ap (λ b. eqb b 1) low.1))
 
-pub in_neither : (ws os : List ℕ) (n : ℕ) → ((q : ℕ) → q < n → bit_and (get_or ws q 0) (get_or os q 0) ≡ 0) → length ws ≤ n → (k : ℕ) → has (bits_of ws) k && has (bits_of os) k ≡ false
+pub in_neither : (ws os : List ℕ) (n : ℕ) → ((q : ℕ) → q < n → bit_and (get_or ws q 0) (get_or os q 0) ≡ 0) → length ws ≤ n → (k : ℕ) → has (bits_of_words ws) k && has (bits_of_words os) k ≡ false
 in_neither ws os n none long k =
     elim (cases_lt (k / 64) n) [
-      | inl h ↦ rw (has-bits_of ws k, has-bits_of os k, ← bit-and (get_or ws (k / 64) 0) (get_or os (k / 64) 0) (k % 64), none (k / 64) h) (bit-zero (k % 64))
-      | inr h ↦ rw (has-bits_of ws k, get_or_past ws (k / 64) 0 (omega arith), bit-zero (k % 64)) refl
+      | inl h ↦ rw (has-bits_of_words ws k, has-bits_of_words os k, ← bit-and (get_or ws (k / 64) 0) (get_or os (k / 64) 0) (k % 64), none (k / 64) h) (bit-zero (k % 64))
+      | inr h ↦ rw (has-bits_of_words ws k, get_or_past ws (k / 64) 0 (omega arith), bit-zero (k % 64)) refl
     ]
 
-pub all_out : (ws : List ℕ) → ((q : ℕ) → q < length ws → get_or ws q 0 ≡ 0) → (k : ℕ) → has (bits_of ws) k ≡ false
+pub all_out : (ws : List ℕ) → ((q : ℕ) → q < length ws → get_or ws q 0 ≡ 0) → (k : ℕ) → has (bits_of_words ws) k ≡ false
 all_out ws none k =
     elim (cases_lt (k / 64) (length ws)) [
-      | inl h ↦ rw (has-bits_of ws k, none (k / 64) h) (bit-zero (k % 64))
-      | inr h ↦ rw (has-bits_of ws k, get_or_past ws (k / 64) 0 h) (bit-zero (k % 64))
+      | inl h ↦ rw (has-bits_of_words ws k, none (k / 64) h) (bit-zero (k % 64))
+      | inr h ↦ rw (has-bits_of_words ws k, get_or_past ws (k / 64) 0 h) (bit-zero (k % 64))
     ]
 
 pub bit-and_not : (a b i : ℕ) → b < 2 ^ 64 → i < 64 → bit (bit_and a (bit_not w64 b)) i ≡ bit a i && not (bit b i)
@@ -121,25 +120,25 @@ map-shift : {X : Type 0} (f : ℕ → X) (a n : ℕ) → map f (range_with_len (
 map-shift f a zero = refl
 map-shift f a (suc n) = let e : a + 1 ≡ suc a = omega arith in rw (map-shift f (a + 1) n, e) refl
 
--- a number is that of its bits
-number-bits : (n w : ℕ) → w < 2 ^ n → number (map (bit w) (range_with_len 0 n)) ≡ w
-number-bits zero w h = omega arith
-number-bits (suc n) w h =
+-- a word is that with its bits
+word_with_bits-bits : (n w : ℕ) → w < 2 ^ n → word_with_bits (map (bit w) (range_with_len 0 n)) ≡ w
+word_with_bits-bits zero w h = omega arith
+word_with_bits-bits (suc n) w h =
     let shift : map (bit w) (range_with_len 1 n) ≡ map (bit (w / 2)) (range_with_len 0 n) =
     map-shift (bit w) 0 n ∙ map-agree (λ j. bit w (suc j)) (bit (w / 2)) 0 n (λ j _ _. ap (λ x. eqb x 1) (bit_at-suc w j)) in
     let low : cond (bit w 0) 1 0 ≡ w % 2 = rw (bit_at_lowest w) (grind arith) in
     let half : w / 2 < 2 ^ n = omega (arith, pow-suc 2 n) in
-    rw (shift, number-bits n (w / 2) half, low) (omega arith)
+    rw (shift, word_with_bits-bits n (w / 2) half, low) (omega arith)
 
-pub word_of-bits_of : (ws : List ℕ) (i : ℕ) → get_or ws i 0 < 2 ^ 64 → word_of (bits_of ws) i ≡ get_or ws i 0
+pub word_of-bits_of_words : (ws : List ℕ) (i : ℕ) → get_or ws i 0 < 2 ^ 64 → word_of (bits_of_words ws) i ≡ get_or ws i 0
 unfolding word_of
-word_of-bits_of ws i h =
-    ap number (map-agree (λ j. has (bits_of ws) (64 * i + j)) (bit (get_or ws i 0)) 0 64 (λ j _ k. has-bits_of_at ws i j (omega arith))) ∙ number-bits 64 (get_or ws i 0) h
+word_of-bits_of_words ws i h =
+    ap word_with_bits (map-agree (λ j. has (bits_of_words ws) (64 * i + j)) (bit (get_or ws i 0)) 0 64 (λ j _ k. has-bits_of_words_at ws i j (omega arith))) ∙ word_with_bits-bits 64 (get_or ws i 0) h
 
-pub words_of-bits_of : (ws : List ℕ) → ((i : ℕ) → get_or ws i 0 < 2 ^ 64) → words_of (bits_of ws) ≡ ws
-words_of-bits_of ws fits =
-    let n : length (bits_of ws) / 64 ≡ length ws = omega (arith, length_bits_of ws) in
-    rw n (sym (fill_by_all (word_of (bits_of ws)) ws (length ws) 0 refl (λ k h. sym (word_of-bits_of ws k (fits k)))))
+pub words_of-bits_of_words : (ws : List ℕ) → ((i : ℕ) → get_or ws i 0 < 2 ^ 64) → words_of (bits_of_words ws) ≡ ws
+words_of-bits_of_words ws fits =
+    let n : length (bits_of_words ws) / 64 ≡ length ws = omega (arith, length_bits_of ws) in
+    rw n (sym (fill_by_all (word_of (bits_of_words ws)) ws (length ws) 0 refl (λ k h. sym (word_of-bits_of_words ws k (fits k)))))
 
 -- a set of a room is told by its numbers
 pub same_bits : (a b : List Bool) → length a ≡ length b → ((k : ℕ) → has a k ≡ has b k) → a ≡ b
@@ -154,38 +153,38 @@ pub Decides-same : (a b : List Bool) → Decides (pointwise beq a b) (a ≡ b)
 Decides-same a b = pointwise_decides booleans_Decides a b
 
 -- equal words make equal sets, and words that differ make sets that differ
-pub same_sets : (ws os : List ℕ) → ws ≡ os → pointwise beq (bits_of ws) (bits_of os) ≡ true
-same_sets ws os e = (Decides-same (bits_of ws) (bits_of os)).1 (ap bits_of e)
+pub same_sets : (ws os : List ℕ) → ws ≡ os → pointwise beq (bits_of_words ws) (bits_of_words os) ≡ true
+same_sets ws os e = (Decides-same (bits_of_words ws) (bits_of_words os)).1 (ap bits_of_words e)
 
-pub other_sets : (ws os : List ℕ) → ((i : ℕ) → get_or ws i 0 < 2 ^ 64) → ((i : ℕ) → get_or os i 0 < 2 ^ 64) → (ws ≡ os → ⊥) → pointwise beq (bits_of ws) (bits_of os) ≡ false
+pub other_sets : (ws os : List ℕ) → ((i : ℕ) → get_or ws i 0 < 2 ^ 64) → ((i : ℕ) → get_or os i 0 < 2 ^ 64) → (ws ≡ os → ⊥) → pointwise beq (bits_of_words ws) (bits_of_words os) ≡ false
 other_sets ws os f g differ =
-    let back : bits_of ws ≡ bits_of os → ws ≡ os =
-    λ e. sym (words_of-bits_of ws f) ∙ ap words_of e ∙ words_of-bits_of os g in
-    false_from_ne_true _ (λ t. differ (back ((Decides-same (bits_of ws) (bits_of os)).0 t)))
+    let back : bits_of_words ws ≡ bits_of_words os → ws ≡ os =
+    λ e. sym (words_of-bits_of_words ws f) ∙ ap words_of e ∙ words_of-bits_of_words os g in
+    false_from_ne_true _ (λ t. differ (back ((Decides-same (bits_of_words ws) (bits_of_words os)).0 t)))
 
-pub same_lengths : (ws os : List ℕ) → length (bits_of ws) ≡ length (bits_of os) → length ws ≡ length os
+pub same_lengths : (ws os : List ℕ) → length (bits_of_words ws) ≡ length (bits_of_words os) → length ws ≡ length os
 same_lengths ws os e = omega (arith, e, length_bits_of ws, length_bits_of os)
 
-pub contained : (ws : List ℕ) (k w : ℕ) → w ≡ get_or ws (k / 64) 0 → eqb (bit_and (w / 2 ^ (k % 64)) 1) 1 ≡ has (bits_of ws) k
-contained ws k w is = rw (is, has-bits_of ws k, shr_and_one (get_or ws (k / 64) 0) (k % 64)) refl
+pub contained : (ws : List ℕ) (k w : ℕ) → w ≡ get_or ws (k / 64) 0 → eqb (bit_and (w / 2 ^ (k % 64)) 1) 1 ≡ has (bits_of_words ws) k
+contained ws k w is = rw (is, has-bits_of_words ws k, shr_and_one (get_or ws (k / 64) 0) (k % 64)) refl
 
-pub past_end : (ws : List ℕ) (k : ℕ) → length ws ≤ k / 64 → has (bits_of ws) k ≡ false
-past_end ws k h = rw (has-bits_of ws k, get_or_past ws (k / 64) 0 h) (bit-zero (k % 64))
+pub past_end : (ws : List ℕ) (k : ℕ) → length ws ≤ k / 64 → has (bits_of_words ws) k ≡ false
+past_end ws k h = rw (has-bits_of_words ws k, get_or_past ws (k / 64) 0 h) (bit-zero (k % 64))
 
 -- one bit is put in
-pub inserted : (ws : List ℕ) (k : ℕ) → k < length ws * 64 → (j : ℕ) → has (bits_of (set ws (k / 64) (bit_or (get_or ws (k / 64) 0) (1 * 2 ^ (k % 64) % 2 ^ 64)))) j ≡ eqb j k || has (bits_of ws) j
+pub inserted : (ws : List ℕ) (k : ℕ) → k < length ws * 64 → (j : ℕ) → has (bits_of_words (set ws (k / 64) (bit_or (get_or ws (k / 64) 0) (1 * 2 ^ (k % 64) % 2 ^ 64)))) j ≡ eqb j k || has (bits_of_words ws) j
 inserted ws k h j =
     let w = get_or ws (k / 64) 0 in
     let v = bit_or w (1 * 2 ^ (k % 64) % 2 ^ 64) in
     elim (cases_eq (j / 64) (k / 64)) [
       | inl q ↦ elim (cases_eq (j % 64) (k % 64)) [
         | inl i ↦ let e : j ≡ k = omega (arith, q, i) in
-            rw (e, has-bits_of (set ws (k / 64) v) k, get_or-set_same ws (k / 64) v 0 (omega arith), bit_at_set_same w64 w (k % 64) (omega arith), eq-eqb k k refl) refl
+            rw (e, has-bits_of_words (set ws (k / 64) v) k, get_or-set_same ws (k / 64) v 0 (omega arith), bit_at_set_same w64 w (k % 64) (omega arith), eq-eqb k k refl) refl
         | inr i ↦ let e : j ≢ k = λ s. i (ap (λ n. n % 64) s) in
-            rw (ne_eqb j k e, has-bits_of (set ws (k / 64) v) j, has-bits_of ws j, q, get_or-set_same ws (k / 64) v 0 (omega arith), bit_at_set_other w64 w (k % 64) (omega arith) (j % 64) i) refl
+            rw (ne_eqb j k e, has-bits_of_words (set ws (k / 64) v) j, has-bits_of_words ws j, q, get_or-set_same ws (k / 64) v 0 (omega arith), bit_at_set_other w64 w (k % 64) (omega arith) (j % 64) i) refl
       ]
       | inr q ↦ let e : j ≢ k = λ s. q (ap (λ n. n / 64) s) in
-          rw (ne_eqb j k e, has-bits_of (set ws (k / 64) v) j, has-bits_of ws j, get_or-set_other ws (k / 64) (j / 64) v 0 q) refl
+          rw (ne_eqb j k e, has-bits_of_words (set ws (k / 64) v) j, has-bits_of_words ws j, get_or-set_other ws (k / 64) (j / 64) v 0 q) refl
     ]
 
 -- the bits of a word from one on
@@ -220,53 +219,53 @@ in_front w s v i front low h = front i low ∙ ap (λ x. bit w i && x) (le-leb s
 le_from : (s i : ℕ) → nat_le s i ≡ true → s ≤ i
 le_from s i e = grind arith
 
-pub front_found : (ws : List ℕ) (from v : ℕ) → IsFront (get_or ws (from / 64) 0) (from % 64) v → 0 < v → v < 2 ^ 64 → (from ≤ from / 64 * 64 + trailing_zeros w64 v) × (has (bits_of ws) (from / 64 * 64 + trailing_zeros w64 v) ≡ true)
+pub front_found : (ws : List ℕ) (from v : ℕ) → IsFront (get_or ws (from / 64) 0) (from % 64) v → 0 < v → v < 2 ^ 64 → (from ≤ from / 64 * 64 + trailing_zeros w64 v) × (has (bits_of_words ws) (from / 64 * 64 + trailing_zeros w64 v) ≡ true)
 front_found ws from v front some fits =
     let low = bit_at-trailing_zeros w64 v some fits in
     let tz = trailing_zeros w64 v in
     let one : bit v tz ≡ true = ap (λ b. eqb b 1) low.1 in
     let parts = both_true (bit (get_or ws (from / 64) 0) tz) (nat_le (from % 64) tz) (sym (front tz low.0) ∙ one) in
     let after : from % 64 ≤ tz = le_from (from % 64) tz parts.1 in
-    (omega (arith, after), ap (has (bits_of ws)) (omega arith) ∙ has-bits_of_at ws (from / 64) tz low.0 ∙ parts.0)
+    (omega (arith, after), ap (has (bits_of_words ws)) (omega arith) ∙ has-bits_of_words_at ws (from / 64) tz low.0 ∙ parts.0)
 
-pub front_first : (ws : List ℕ) (from v : ℕ) → IsFront (get_or ws (from / 64) 0) (from % 64) v → 0 < v → v < 2 ^ 64 → (k : ℕ) → from ≤ k → k < from / 64 * 64 + trailing_zeros w64 v → has (bits_of ws) k ≡ false
+pub front_first : (ws : List ℕ) (from v : ℕ) → IsFront (get_or ws (from / 64) 0) (from % 64) v → 0 < v → v < 2 ^ 64 → (k : ℕ) → from ≤ k → k < from / 64 * 64 + trailing_zeros w64 v → has (bits_of_words ws) k ≡ false
 front_first ws from v front some fits k more less =
     let low = bit_at-trailing_zeros w64 v some fits in
     let within : trailing_zeros w64 v < 64 = low.0 in
     let here : k / 64 ≡ from / 64 = omega (arith, within) in
     let zero : bit v (k % 64) ≡ false = ap (λ b. eqb b 1) (low.2 (k % 64) (omega (arith, here))) in
-    rw (has-bits_of ws k, here) (sym (in_front (get_or ws (from / 64) 0) (from % 64) v (k % 64) front (omega arith) (omega (arith, here))) ∙ zero)
+    rw (has-bits_of_words ws k, here) (sym (in_front (get_or ws (from / 64) 0) (from % 64) v (k % 64) front (omega arith) (omega (arith, here))) ∙ zero)
 
-pub later_found : (ws : List ℕ) (from i : ℕ) → from / 64 + 1 ≤ i → 0 < get_or ws i 0 → get_or ws i 0 < 2 ^ 64 → (from ≤ i * 64 + trailing_zeros w64 (get_or ws i 0)) × (has (bits_of ws) (i * 64 + trailing_zeros w64 (get_or ws i 0)) ≡ true)
+pub later_found : (ws : List ℕ) (from i : ℕ) → from / 64 + 1 ≤ i → 0 < get_or ws i 0 → get_or ws i 0 < 2 ^ 64 → (from ≤ i * 64 + trailing_zeros w64 (get_or ws i 0)) × (has (bits_of_words ws) (i * 64 + trailing_zeros w64 (get_or ws i 0)) ≡ true)
 later_found ws from i h some fits =
-    (omega arith, ap (has (bits_of ws)) (omega arith) ∙ lowest_is_in ws i some fits)
+    (omega arith, ap (has (bits_of_words ws)) (omega arith) ∙ lowest_is_in ws i some fits)
 
-pub none_before : (ws : List ℕ) (from i : ℕ) → IsFront (get_or ws (from / 64) 0) (from % 64) 0 → ((j : ℕ) → from / 64 + 1 ≤ j → j < i → get_or ws j 0 ≡ 0) → (k : ℕ) → from ≤ k → k / 64 < i → has (bits_of ws) k ≡ false
+pub none_before : (ws : List ℕ) (from i : ℕ) → IsFront (get_or ws (from / 64) 0) (from % 64) 0 → ((j : ℕ) → from / 64 + 1 ≤ j → j < i → get_or ws j 0 ≡ 0) → (k : ℕ) → from ≤ k → k / 64 < i → has (bits_of_words ws) k ≡ false
 none_before ws from i front none k more less =
     elim (cases_lt (from / 64) (k / 64)) [
-      | inl h ↦ rw (has-bits_of ws k, none (k / 64) (omega arith) less) (bit-zero (k % 64))
+      | inl h ↦ rw (has-bits_of_words ws k, none (k / 64) (omega arith) less) (bit-zero (k % 64))
       | inr h ↦ let here : k / 64 ≡ from / 64 = omega (arith, h) in
-          rw (has-bits_of ws k, here) (sym (in_front (get_or ws (from / 64) 0) (from % 64) 0 (k % 64) front (omega arith) (omega (arith, here))) ∙ bit-zero (k % 64))
+          rw (has-bits_of_words ws k, here) (sym (in_front (get_or ws (from / 64) 0) (from % 64) 0 (k % 64) front (omega arith) (omega (arith, here))) ∙ bit-zero (k % 64))
     ]
 
-pub later_first : (ws : List ℕ) (from i : ℕ) → IsFront (get_or ws (from / 64) 0) (from % 64) 0 → ((j : ℕ) → from / 64 + 1 ≤ j → j < i → get_or ws j 0 ≡ 0) → 0 < get_or ws i 0 → get_or ws i 0 < 2 ^ 64 → (k : ℕ) → from ≤ k → k < i * 64 + trailing_zeros w64 (get_or ws i 0) → has (bits_of ws) k ≡ false
+pub later_first : (ws : List ℕ) (from i : ℕ) → IsFront (get_or ws (from / 64) 0) (from % 64) 0 → ((j : ℕ) → from / 64 + 1 ≤ j → j < i → get_or ws j 0 ≡ 0) → 0 < get_or ws i 0 → get_or ws i 0 < 2 ^ 64 → (k : ℕ) → from ≤ k → k < i * 64 + trailing_zeros w64 (get_or ws i 0) → has (bits_of_words ws) k ≡ false
 later_first ws from i front none some fits k more less =
     let low = bit_at-trailing_zeros w64 (get_or ws i 0) some fits in
     let within : trailing_zeros w64 (get_or ws i 0) < 64 = low.0 in
     elim (cases_lt (k / 64) i) [
       | inl h ↦ none_before ws from i front none k more h
       | inr h ↦ let here : k / 64 ≡ i = omega (arith, h, within) in
-          rw (has-bits_of ws k, here) (ap (λ b. eqb b 1) (low.2 (k % 64) (omega (arith, here))))
+          rw (has-bits_of_words ws k, here) (ap (λ b. eqb b 1) (low.2 (k % 64) (omega (arith, here))))
     ]
 
-pub kept_room : (ws os : List ℕ) → length os ≡ length ws → length (bits_of os) ≡ length (bits_of ws)
+pub kept_room : (ws os : List ℕ) → length os ≡ length ws → length (bits_of_words os) ≡ length (bits_of_words ws)
 kept_room ws os e = omega (arith, e, length_bits_of ws, length_bits_of os)
 
-pub blank_room : (ws : List ℕ) (size : ℕ) → length ws ≡ size / 64 + min 1 (size % 64) → length (bits_of ws) ≡ room_for size
+pub blank_room : (ws : List ℕ) (size : ℕ) → length ws ≡ size / 64 + min 1 (size % 64) → length (bits_of_words ws) ≡ room_for size
 blank_room ws size e = omega (arith, e, length_bits_of ws)
 
-pub below_room : (ws : List ℕ) (k : ℕ) → nat_lt (k / 64) (length ws) ≡ nat_lt k (length (bits_of ws))
+pub below_room : (ws : List ℕ) (k : ℕ) → nat_lt (k / 64) (length ws) ≡ nat_lt k (length (bits_of_words ws))
 below_room ws k = rw (length_bits_of ws) (grind arith)
 
-pub zeros_out : (n k : ℕ) → has (bits_of (replicate n 0)) k ≡ false
+pub zeros_out : (n k : ℕ) → has (bits_of_words (replicate n 0)) k ≡ false
 zeros_out n k = all_out (replicate n 0) (λ q h. grind (arith, common_steps, get_or-replicate)) k

@@ -1,5 +1,5 @@
 -- Sets of numbers below a room, as the list that tells of each number whether it is in the set; and
--- the words of 64 bits that keep such a list, the lowest number first. This project's profile.
+-- the words of 64 bits that keep such a list, the lowest number first.
 use Rattle.std.specs.Prelude.{ℕ, ◌+◌, ◌*◌, ◌/◌, Bool, cond, false, List, [], ◌∷◌, ◌++◌, map, eqb, slice_index_or, length}
 use Rattle.std.specs.Int.{bit_at}
 use Rattle.std.specs.List.{range_with_len}
@@ -21,18 +21,18 @@ unfoldable pub word_bits : ℕ → List Bool
 word_bits word = map (bit word) (range_with_len 0 64)
 
 -- the bits of the words, the first word's first
-abbrev pub bits_of : List ℕ → List Bool
-bits_of [] = []
-bits_of (w ∷ ws) = word_bits w ++ bits_of ws
+abbrev pub bits_of_words : List ℕ → List Bool
+bits_of_words [] = []
+bits_of_words (w ∷ ws) = word_bits w ++ bits_of_words ws
 
--- the number with these bits, the lowest first
-abbrev pub number : List Bool → ℕ
-number [] = 0
-number (b ∷ bs) = cond b 1 0 + 2 * number bs
+-- the word with these bits, the lowest first
+abbrev pub word_with_bits : List Bool → ℕ
+word_with_bits [] = 0
+word_with_bits (b ∷ bs) = cond b 1 0 + 2 * word_with_bits bs
 
 -- the word that keeps the 64 numbers from 64 i on
 unfoldable pub word_of : List Bool → ℕ → ℕ
-word_of set i = number (map (λ j. has set (64 * i + j)) (range_with_len 0 64))
+word_of set i = word_with_bits (map (λ j. has set (64 * i + j)) (range_with_len 0 64))
 
 -- the words that keep the set
 abbrev pub words_of : List Bool → List ℕ

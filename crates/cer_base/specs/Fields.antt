@@ -1,4 +1,4 @@
--- What the stored fields of a node say, of every kind of node. This project's profile.
+-- What the stored fields of a node say, of every kind of node.
 use Rattle.std.specs.Prelude.{ℕ}
 use Rattle.cer_base.specs.declared.node.Stamp.{Stamp}
 use Rattle.cer_base.specs.declared.node.Node.{Node}

@@ -28,9 +28,9 @@ impl Model for Bits {
 
     ghost Value = { List Bool };
 
-    ghost use Rattle.cer_base.specs.Bits.{bits_of};
+    ghost use Rattle.cer_base.specs.Bits.{bits_of_words};
 
-    ghost view = { λ b. bits_of b.words.items };
+    ghost view = { λ b. bits_of_words b.words.items };
 
     ghost invariant = { λ b. length b.words.items * 64 ≤ 2 ^ 64 };
 }

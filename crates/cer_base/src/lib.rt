@@ -1,5 +1,5 @@
-//! What every crate of the engine speaks of: positions in a stream, places in a text, want of
-//! memory, the small types that contracts see as a text, a list or a count, and the nodes of
+//! What every crate of the engine speaks of: positions in a stream, places in a text, running
+//! out of memory, the small types that contracts see as a text, a list or a count, and the nodes of
 //! enumerable compact sets with the store that keeps them.
 //!
 //! Promised: each of the small types is exactly its value; nothing else of it can be seen. What a
@@ -15,6 +15,7 @@ use std::marker::Model;
 
 pub mod bits;
 pub mod bytes;
+pub mod digits;
 pub mod limits;
 pub mod node;
 pub mod steps;

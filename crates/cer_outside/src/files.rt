@@ -1,10 +1,13 @@
 //! Files in memory.
 
-ghost use Rattle.std.specs.Prelude.{◌≡◌, ℕ, ◌+◌, ◌-◌, ◌^◌, ◌<◌, ◌≤◌, min, IfOk};
+ghost use Rattle.std.specs.Prelude.{◌≡◌, ◌<◌, [], IfOk};
 ghost use Rattle.std.specs.List.{position};
+ghost use Rattle.cer_outside.specs.Causes.{one_more};
 ghost use Rattle.cer_outside.specs.States.{FileState};
 ghost use Rattle.cer_outside.specs.Files.{is_named};
+ghost use Rattle.cer_outside.specs.Calls.{source_of};
 
+use crate::calls::one_more;
 use crate::sources::{MemSource, SureSource};
 use cer_base::{Memory, Text};
 use std::alloc::Global;
@@ -23,7 +26,13 @@ pub struct MemFile {
 impl Model for MemFile {
     ghost Value = { FileState };
 
-    ghost view = { λ f. record { name = f.name; bytes = f.bytes.items; faults = f.faults } };
+    ghost view = { λ f. record {
+      name = f.name;
+      bytes = f.bytes.items;
+      piece = f.piece;
+      fails = f.fails.items;
+      faults = f.faults;
+    } };
 
     ghost invariant = { λ f. 0 < f.piece };
 }
@@ -33,7 +42,13 @@ impl MemFile {
     /// `fails` lists the numbers of the reads that fail, from 1, of each source that is opened.
     pub fn new(name: Text, bytes: Vec<u8>, piece: usize, fails: Vec<u64>) -> MemFile
         requires { 0 < piece }
-        ensures { result ≡ record { name = name; bytes = bytes.items; faults = 0 } }
+        ensures { result ≡ record {
+          name = name;
+          bytes = bytes.items;
+          piece = piece;
+          fails = fails.items;
+          faults = 0;
+        } }
     {
         MemFile {
             name,
@@ -46,8 +61,7 @@ impl MemFile {
 
     /// A source over a copy of the bytes.
     pub(crate) fn open(&self, alloc: Global) -> Result<MemSource, Memory>
-        ensures left { IfOk result (λ s. s.left ≡ self.now.bytes) }
-        ensures faults { IfOk result (λ s. s.faults ≡ 0) }
+        ensures { IfOk result (λ source. source ≡ source_of self.now) }
     {
         let bytes = Vec::from_slice(alloc, self.bytes.as_slice())?;
         let fails = Vec::from_slice(alloc, self.fails.as_slice())?;
@@ -63,10 +77,9 @@ impl MemFile {
 
     /// Counts one more fault.
     pub(crate) fn count_fault(&mut self)
-        ensures counted { self.new ≡ record self.old { faults = min (self.old.faults + 1) (2 ^ 64 - 1) } }
-        ensures later { self.old.faults ≤ self.new.faults }
+        ensures { self.new ≡ record self.old { faults = one_more self.old.faults } }
     {
-        self.faults = self.faults.saturating_add(1);
+        self.faults = one_more(self.faults);
     }
 
     /// Counts from 0 again.
@@ -95,7 +108,13 @@ pub struct SureFile {
 impl Model for SureFile {
     ghost Value = { FileState };
 
-    ghost view = { λ f. record { name = f.name; bytes = f.bytes.items; faults = 0 } };
+    ghost view = { λ f. record {
+      name = f.name;
+      bytes = f.bytes.items;
+      piece = f.piece;
+      fails = [];
+      faults = 0;
+    } };
 
     ghost invariant = { λ f. 0 < f.piece };
 }
@@ -104,14 +123,20 @@ impl SureFile {
     /// The file of this name with these bytes, of which one read moves at most `piece`, at least 1.
     pub fn new(name: Text, bytes: Vec<u8>, piece: usize) -> SureFile
         requires { 0 < piece }
-        ensures { result ≡ record { name = name; bytes = bytes.items; faults = 0 } }
+        ensures { result ≡ record {
+          name = name;
+          bytes = bytes.items;
+          piece = piece;
+          fails = [];
+          faults = 0;
+        } }
     {
         SureFile { name, bytes, piece }
     }
 
     /// A source over a copy of the bytes.
     pub(crate) fn open(&self, alloc: Global) -> Result<SureSource, Memory>
-        ensures { IfOk result (λ s. s ≡ self.now.bytes) }
+        ensures { IfOk result (λ s. s ≡ record { left = self.now.bytes; piece = self.now.piece }) }
     {
         let bytes = Vec::from_slice(alloc, self.bytes.as_slice())?;
         Ok(SureSource::new(bytes, self.piece))

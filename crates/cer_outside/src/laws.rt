@@ -3,7 +3,8 @@
 ghost use Rattle.std.specs.Prelude.{◌≡◌, ◌<◌, length, IsOk, IsSome, IfErr, IfOk, Some};
 ghost use Rattle.cer_outside.specs.declared.OpenError.TheVariants as wanted;
 ghost use Rattle.cer_outside.specs.Bytes.{Reads};
-ghost use Rattle.cer_outside.specs.Files.{bytes_under};
+ghost use Rattle.cer_outside.specs.Content.{HasOpened};
+ghost use Rattle.cer_outside.specs.Files.{file_under, content_under};
 
 use crate::hosts::SureHost;
 use crate::sources::SureSource;
@@ -14,7 +15,7 @@ use std::alloc::Global;
 pub fn read_sure(source: &mut SureSource, into: &mut [u8]) -> Result<usize, Failed>
     requires { 0 < length into.old }
     ensures succeeds { IsOk result }
-    ensures bytes { Reads (Some source.old) (Some source.new) into.new result }
+    ensures bytes { Reads (Some source.old.left) (Some source.new.left) into.new result }
 {
     source.read(into)
 }
@@ -22,9 +23,10 @@ pub fn read_sure(source: &mut SureSource, into: &mut [u8]) -> Result<usize, Fail
 /// Takes a file that the host has: it answers no error but `OpenError::Memory`, which follows from
 /// the host's own contract.
 pub fn take_known(host: &mut SureHost, alloc: Global, name: &str) -> Result<SureSource, OpenError>
-    requires { IsSome (bytes_under host.old.files name.now) }
+    requires { IsSome (file_under host.old.files name.now) }
     ensures memory { IfErr result (λ e. e ≡ wanted.Memory) }
-    ensures bytes { IfOk result (λ source. Some source ≡ bytes_under host.old.files name.now) }
+    ensures bytes { IfOk result (λ s.
+        HasOpened (content_under host.old.files name.now) (Some s.left)) }
 {
     host.take_file(alloc, name)
 }

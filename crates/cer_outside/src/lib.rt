@@ -1,20 +1,22 @@
 //! The outside: where bytes come from, where they go, and who has files, each with a count of its
 //! faults and, where it tells them, its bytes.
 //!
-//! Promised: a call answers a fault only where the count of the object that was asked rose, and
-//! says which bytes moved. So a program's "cannot read" has a cause that the outside gave.
+//! Promised: the count of the object that was asked rises by one where a call failed, and stays
+//! where it went well; and a call says which bytes moved. So a program's "cannot read" has a cause
+//! that the outside gave.
 //! It stands on `cer_base`.
 #![tactic(auto)]
 
-ghost use Rattle.std.specs.Prelude.{◌≡◌, ℕ, List, [], ◌<◌, ◌≤◌, length, Option, IfOk, OnOk, OnErr};
+ghost use Rattle.std.specs.Prelude.{◌≡◌, ℕ, List, ◌<◌, ◌≤◌, length, Option, IfOk};
 ghost use Rattle.cer_outside.specs.declared.OpenError.TheVariants as wanted;
 ghost use Rattle.cer_outside.specs.Causes.{HasCause, HasOpenCause};
+ghost use Rattle.cer_outside.specs.Content.{Content, HasOpened};
 ghost use Rattle.cer_outside.specs.Bytes.{Reads, Takes};
 
 use cer_base::Memory;
 use std::alloc::Global;
 
-mod calls;
+pub mod calls;
 pub mod files;
 pub mod hosts;
 pub mod laws;
@@ -25,14 +27,14 @@ pub mod sources;
 mod tests;
 pub mod writing;
 
-/// The call failed, and the object's count of faults has risen.
+/// The call failed, and the object's count of faults rose by one.
 #[derive(Clone, Copy, Debug, PartialEq, Eq)]
 pub struct Failed;
 
 /// Why a file was not opened.
 #[derive(Clone, Copy, Debug, PartialEq, Eq)]
 pub enum OpenError {
-    /// The host could not open it, and its count of faults for that name has risen.
+    /// The host could not open it, and its count of faults for that name rose by one.
     Failed,
     /// Memory ran out.
     Memory,
@@ -94,20 +96,24 @@ pub trait Sink {
 pub trait Host {
     type Src: Source + Drop;
 
-    /// The bytes under a name, where the host has it and tells them.
-    ghost content: { Self → List ℕ → Option (List ℕ) };
+    /// What the host tells of a name: nothing, that it has no such file, or the file's bytes.
+    ghost content: { Self → List ℕ → Content };
 
     /// How often a call for this name failed.
     ghost faults: { Self → List ℕ → ℕ };
+
+    /// What one call of `take_file` for this name may make of the host. So a caller can say which
+    /// calls it makes, in which order, and that it makes no other.
+    ghost opens: { Self → List ℕ → Self → Type 0 };
 
     /// A source that has left what the host has under the name. The host's bytes stay as they
     /// were. A name that the host does not have is a failure.
     fn take_file(&mut self, alloc: Global, name: &str) -> Result<Self::Src, OpenError>
         ensures fresh { IfOk result (λ source. Self.Src.faults source ≡ 0) }
-        ensures bytes { IfOk result (λ source. Self.Src.left source ≡ content self.old name.now) }
+        ensures bytes { IfOk result (λ s. HasOpened (content self.old name.now) (Self.Src.left s)) }
         ensures kept { (any : List ℕ) → content self.new any ≡ content self.old any }
-        ensures later { (any : List ℕ) → faults self.old any ≤ faults self.new any }
-        ensures cause { HasOpenCause (faults self.old name.now) (faults self.new name.now) result };
+        ensures cause { HasOpenCause name.now (faults self.old) (faults self.new) result }
+        ensures opened { opens self.old name.now self.new };
 
     /// How often a call for this name failed; the counter stays at its last value.
     fn fault_count(&self, name: &str) -> u64

@@ -1,10 +1,13 @@
 //! A sink in memory, of a fixed room, whose calls fail as chosen.
 
-ghost use Rattle.std.specs.Prelude.{◌≡◌, ℕ, ◌<◌, ◌≤◌, [], List, Some, length, vec_len, IfOk};
+ghost use Rattle.std.specs.Prelude.{◌≡◌, ℕ, ◌<◌, ◌≤◌, ◌↔◌, [], Some, length, vec_len, IfOk, IsErr};
 ghost use Rattle.std.specs.Vec.{vec_capacity};
+ghost use Rattle.cer_outside.specs.Causes.{HasCause};
+ghost use Rattle.cer_outside.specs.Bytes.{Takes};
 ghost use Rattle.cer_outside.specs.States.{SinkState};
+ghost use Rattle.cer_outside.specs.Calls.{WriteFails, write_count, sink_after};
 
-use crate::calls::Calls;
+use crate::calls::{Calls, one_more};
 use crate::{Failed, Sink};
 use cer_base::Memory;
 use std::alloc::Global;
@@ -17,14 +20,22 @@ pub struct MemSink {
     room: usize,
     piece: usize,
     calls: Calls,
+    faults: u64,
 }
 
 impl Model for MemSink {
     ghost Value = { SinkState };
 
-    ghost view = { λ s. record { taken = s.taken.items; room = s.room; faults = s.calls.faults } };
+    ghost view = { λ s. record {
+      taken = s.taken.items;
+      room = s.room;
+      piece = s.piece;
+      calls = s.calls;
+      faults = s.faults;
+    } };
 
-    ghost invariant = { λ s. (vec_len s.taken ≤ s.room) × (s.room ≤ vec_capacity s.taken) × (0 < s.piece) };
+    ghost invariant = { λ s. (vec_len s.taken ≤ s.room)
+        × (s.room ≤ vec_capacity s.taken) × (0 < s.piece) };
 }
 
 impl MemSink {
@@ -33,15 +44,20 @@ impl MemSink {
     /// of the calls that fail before, from 1.
     pub fn new(alloc: Global, piece: usize, room: usize, fails: Vec<u64>) -> Result<MemSink, Memory>
         requires { 0 < piece }
-        ensures taken { IfOk result (λ s. s.taken ≡ []) }
-        ensures room { IfOk result (λ s. s.room ≡ room) }
-        ensures faults { IfOk result (λ s. s.faults ≡ 0) }
+        ensures { IfOk result (λ s. s ≡ record {
+          taken = [];
+          room = room;
+          piece = piece;
+          calls = record { fails = fails.items; made = 0 };
+          faults = 0;
+        }) }
     {
         Ok(MemSink {
             taken: Vec::with_capacity(alloc, room)?,
             room,
             piece,
             calls: Calls::new(fails),
+            faults: 0,
         })
     }
 
@@ -59,23 +75,34 @@ impl Sink for MemSink {
 
     ghost faults = { λ s. s.faults };
 
-    fn write(&mut self, piece: &[u8]) -> Result<usize, Failed> {
+    /// Exactly the chosen calls fail and, once it is full, all; every other one takes as many bytes
+    /// as it may.
+    fn write(&mut self, piece: &[u8]) -> Result<usize, Failed>
+        requires { 0 < length piece.now }
+        ensures low { IfOk result (λ n. 0 < n) }
+        ensures high { IfOk result (λ n. n ≤ length piece.now) }
+        ensures bytes { Takes (Some self.old.taken) (Some self.new.taken) piece.now result }
+        ensures cause { HasCause self.old.faults self.new.faults result }
+        ensures fails { IsErr result ↔ WriteFails self.old }
+        ensures count { IfOk result (λ n. n ≡ write_count self.old piece.now) }
+        ensures after { self.new ≡ sink_after self.old piece.now result }
+    {
         let left = self.room - self.taken.len();
         if self.calls.next_fails() || left == 0 {
-            self.calls.count_fault();
+            self.faults = one_more(self.faults);
             return Err(Failed);
         }
         let count = piece.len().min(self.piece).min(left);
         match self.taken.extend_from_slice(&piece[..count]) {
             Ok(()) => Ok(count),
             Err(_) => {
-                self.calls.count_fault();
+                self.faults = one_more(self.faults);
                 Err(Failed)
             }
         }
     }
 
     fn fault_count(&self) -> u64 {
-        self.calls.faults
+        self.faults
     }
 }

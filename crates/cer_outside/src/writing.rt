@@ -8,8 +8,8 @@ use crate::{Failed, Sink, WriteFault};
 
 /// Writes all of the bytes, in order, in as many calls as the sink needs.
 ///
-/// After an error the sink has taken a proper first part of the bytes, and its count of faults has
-/// risen. With no bytes the sink is not asked, and the answer is `Ok`.
+/// After an error the sink has taken a proper first part of the bytes, and its count of faults rose
+/// by one. With no bytes the sink is not asked, and the answer is `Ok`.
 pub fn put_all<K: Sink>(sink: &mut K, bytes: &[u8]) -> Result<(), WriteFault>
     ensures all { OnOk result (TookAll (K.taken sink.old) (K.taken sink.new) bytes.now) }
     ensures part { OnErr result (TookPart (K.taken sink.old) (K.taken sink.new) bytes.now) }

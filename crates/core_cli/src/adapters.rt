@@ -1,8 +1,12 @@
-//! Real files and streams as the program's outside. Each error of std is counted and is a fault.
+//! Real files and streams as the program's outside. Each error of std is counted once, and is a
+//! fault.
 //! None of them tells its bytes, since no contract can say what a disk or a pipe gives or takes.
 
-ghost use Rattle.std.specs.Prelude.{None};
+ghost use Rattle.std.specs.Prelude.{◌≡◌, ◌⊎◌, None};
+ghost use Rattle.cer_outside.specs.Content.{Untold};
+ghost use Rattle.cer_outside.specs.Causes.{Rose};
 
+use cer_outside::calls::one_more;
 use cer_outside::{Failed, Host, OpenError, Sink, Source};
 use std::alloc::Global;
 use std::fs;
@@ -25,7 +29,7 @@ impl<R: Read + Drop> Source for CountedReader<R> {
         match self.reader.read(into) {
             Ok(count) => Ok(count),
             Err(_) => {
-                self.faults = self.faults.saturating_add(1);
+                self.faults = one_more(self.faults);
                 Err(Failed)
             }
         }
@@ -60,7 +64,7 @@ impl<W: Write + Drop> Sink for CountedWriter<W> {
         match self.writer.write(piece) {
             Ok(count) if count > 0 => Ok(count),
             _ => {
-                self.faults = self.faults.saturating_add(1);
+                self.faults = one_more(self.faults);
                 Err(Failed)
             }
         }
@@ -88,9 +92,12 @@ impl<R: Files + Drop> SystemFiles<R> {
 impl<R: Files + Drop> Host for SystemFiles<R> {
     type Src = CountedReader<R::File>;
 
-    ghost content = { λ h name. None };
+    ghost content = { λ h name. Untold };
 
     ghost faults = { λ h name. h.faults };
+
+    ghost opens = { λ before name after.
+        (after.faults ≡ before.faults) ⊎ Rose before.faults after.faults };
 
     fn take_file(
         &mut self,
@@ -100,7 +107,7 @@ impl<R: Files + Drop> Host for SystemFiles<R> {
         match fs::open(&self.files, name) {
             Ok(reader) => Ok(CountedReader { reader, faults: 0 }),
             Err(_) => {
-                self.faults = self.faults.saturating_add(1);
+                self.faults = one_more(self.faults);
                 Err(OpenError::Failed)
             }
         }

@@ -12,7 +12,7 @@ use Rattle.std.proofs.lemmas.List.Folds.{length-prefix_len}
 use Rattle.std.proofs.lemmas.List.{get_or-take}
 use Rattle.stream_schema.specs.declared.Event.{Event}
 use Rattle.core_top.specs.FirstForm.{Names, AreNames, continues_name, IsEventLine, AreLinesOf}
-use Rattle.core_top.specs.Reading.{◌>>=◌, run_then, type_number, event_at, IsNumeral, IsNextEvent}
+use Rattle.core_top.specs.Reading.{◌>>=◌, run_then, number_of_name, event_at, IsNumeral, IsNextEvent}
 use Rattle.core_top.proofs.Reading.{bind_some, run_takes, run_again}
 use Rattle.core_top.proofs.QueryFile.{number_takes, number_again, contains_from_slice_get, word_from_name, name_of_type}
 
@@ -63,11 +63,11 @@ unfolding event_at
 event_takes first second text x e =
     let Read : Type 0 = Option (ℕ × List ℕ × List ℕ) in
     let f3 : List ℕ × List ℕ → ℕ → Read = λ digits number. cond (nat_lt 0 (length digits.0) && nat_le (length digits.0) 18) (Some (number, digits.0, digits.1)) None in
-    let f2 : List ℕ → List ℕ × List ℕ → Read = λ type digits. type_number first second type >>= f3 digits in
+    let f2 : List ℕ → List ℕ × List ℕ → Read = λ type digits. number_of_name first second type >>= f3 digits in
     let f1 : List ℕ × List ℕ → Read = λ type. run_then is_ascii_digit (10 ∷ []) type.1 >>= f2 type.0 in
     option_and_then_some f1 (run_then continues_name (44 ∷ []) text) x e (λ type is1 e1.
     option_and_then_some (f2 type.0) (run_then is_ascii_digit (10 ∷ []) type.1) x e1 (λ digits is2 e2.
-    option_and_then_some (f3 digits) (type_number first second type.0) x e2 (λ number is3 e3.
+    option_and_then_some (f3 digits) (number_of_name first second type.0) x e2 (λ number is3 e3.
     let h = cond_some _ _ _ e3 in
     let count = few_digits digits.0 h.0 in
     let h1 = run_takes continues_name (44 ∷ []) text type.0 type.1 is1 in

@@ -6,7 +6,8 @@ use Rattle.std.proofs.lemmas.Option.{none-some, slice_get_within, get_or_from_sl
 use Rattle.std.proofs.lemmas.List.{append-nil, length-append}
 use Rattle.stream_schema.specs.declared.Event.{Event}
 use Rattle.cel_terms.specs.Answers.{Answer, IsAscending}
-use Rattle.answer_text.specs.Output.{ComesBefore, AreDistinct, EachBeforeNext}
+use Rattle.cer_base.specs.Repeats.{HasNoRepeats}
+use Rattle.answer_text.specs.Output.{ComesBefore, EachBeforeNext}
 use Rattle.core_top.specs.Pairs.{has_type, positions_of, pair}
 use Rattle.core_top.proofs.PairAnswers.{IsOfType}
 
@@ -133,8 +134,15 @@ pairs_in_order end xs up i j a b order p q =
     subst (λ (x : Answer). ComesBefore x b) from.2 (subst (λ (y : Answer). ComesBefore (pair end from.0) y) to.2 (inl less))
 
 -- and none comes twice.
-pub pairs_distinct : (end : ℕ) (xs : List ℕ) → IsAscending xs → AreDistinct (map (pair end) xs)
-pairs_distinct end xs up i j a p q =
+no_repeats : {A : Type 0} (xs : List A) → ((i j : ℕ) (a : A) → slice_get xs i ≡ Some a → slice_get xs j ≡ Some a → i ≡ j) → HasNoRepeats xs
+no_repeats [] apart = tt
+no_repeats (x ∷ xs) apart = (
+  λ held. let at = got_from_contains xs x held in let same : 0 ≡ suc at.0 = apart 0 (suc at.0) x refl at.1 in absurd (omega arith),
+  no_repeats xs (λ i j a p q. let same : suc i ≡ suc j = apart (suc i) (suc j) a p q in omega arith),
+)
+
+places_differ : (end : ℕ) (xs : List ℕ) → IsAscending xs → (i j : ℕ) (a : Answer) → slice_get (map (pair end) xs) i ≡ Some a → slice_get (map (pair end) xs) j ≡ Some a → i ≡ j
+places_differ end xs up i j a p q =
     let from = got_of_map (pair end) xs i a p in
     let to = got_of_map (pair end) xs j a q in
     let same : from.0 ≡ to.0 = ap (λ (x : Answer). x.start) (from.2 ∙ sym to.2) in
@@ -142,3 +150,6 @@ pairs_distinct end xs up i j a p q =
     (⊎_elim (λ (h : i < j). let less = up i j from.0 to.0 h from.1 to.1 in absurd (omega arith))
     (λ (h : j < i). let less = up j i to.0 from.0 h to.1 from.1 in absurd (omega arith)))
     (cases_order i j)
+
+pub pairs_distinct : (end : ℕ) (xs : List ℕ) → IsAscending xs → HasNoRepeats (map (pair end) xs)
+pairs_distinct end xs up = no_repeats (map (pair end) xs) (places_differ end xs up)

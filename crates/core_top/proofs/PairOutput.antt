@@ -7,7 +7,8 @@ use Rattle.stream_schema.specs.declared.Event.{Event}
 use Rattle.cel_terms.specs.declared.Query.{Query}
 use Rattle.cel_terms.specs.Answers.{Answer, IsAnswer, IsAscending}
 use Rattle.answer_text.specs.declared.Order.TheVariants.{Sorted}
-use Rattle.answer_text.specs.Output.{AreDistinct, EachBeforeNext, AreEnough, IsBlock, IsOutputOf, IsOutput}
+use Rattle.cer_base.specs.Repeats.{HasNoRepeats}
+use Rattle.answer_text.specs.Output.{EachBeforeNext, AreEnough, IsBlock, IsOutputOf, IsOutput}
 use Rattle.core_top.specs.FirstForm.{Names, AreNames, IsQueryOf, type_names, schema_of}
 use Rattle.core_top.specs.Pairs.{has_type, positions_of, pair, pair_answers, pair_lines, pairs_output_of, pairs_output}
 use Rattle.core_top.proofs.PairAnswers.{IsPair, pair_from_answer, answer_from_pair}
@@ -58,9 +59,9 @@ order_step : (end : ℕ) (xs : List ℕ) → IsAscending xs → (b : Bool) → E
 order_step end xs up true = pairs_in_order end xs up
 order_step end xs up false = λ i j a b order p q. absurd (none-some a p)
 
-distinct_step : (end : ℕ) (xs : List ℕ) → IsAscending xs → (b : Bool) → AreDistinct (if b then map (pair end) xs else [])
+distinct_step : (end : ℕ) (xs : List ℕ) → IsAscending xs → (b : Bool) → HasNoRepeats (if b then map (pair end) xs else [])
 distinct_step end xs up true = pairs_distinct end xs up
-distinct_step end xs up false = λ i j a p q. absurd (none-some a p)
+distinct_step end xs up false = tt
 
 -- The lines at one position are those of the query's answers.
 pub block_of_pairs : (n : Names) → AreNames n → (q : Query) → IsQueryOf n q → (events : List Event) (before after : ℕ) →

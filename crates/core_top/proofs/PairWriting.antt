@@ -10,9 +10,9 @@ use Rattle.answer_text.specs.Output.{line}
 use Rattle.cer_base.specs.declared.OrMemory.{OrMemory}
 use Rattle.cer_base.specs.declared.OrMemory.TheVariants.{Fault, Memory}
 use Rattle.cer_outside.specs.Bytes.{TookAll, TookPart}
-use Rattle.cer_outside.specs.Causes.{Rose}
+use Rattle.cer_outside.specs.Causes.{HasCauseOrMemory}
 use Rattle.core_top.specs.Pairs.{has_type, positions_of, pair, pair_lines, pairs_output_of}
-use Rattle.core_top.specs.Taken.{TookPrefix, OnFault, OnMemory, TookBy, HasWriteCause}
+use Rattle.core_top.specs.Taken.{TookPrefix, TookBy}
 
 pub took_none : (now : Option (List ℕ)) → TookAll now now []
 took_none None = refl
@@ -72,17 +72,11 @@ pub error_after : {F : Type 0} (first middle last : Option (List ℕ)) (xs ys re
 error_after first middle last xs ys rest bytes (Fault f) split p q = part_after first middle last xs ys rest bytes split p q
 error_after first middle last xs ys rest bytes Memory split p q = prefix_after first middle last xs ys rest bytes split p q
 
-rose_before : (first middle last : ℕ) → first ≤ middle → Rose middle last → Rose first last
-rose_before first middle last later rose = omega arith
-
 -- A cause in a later call is one from the start.
-pub cause_after : {F : Type 0} (first middle last : ℕ) (e : OrMemory F) → first ≤ middle →
-    HasWriteCause {T = Unit {0}} middle last (Err e) → HasWriteCause {T = Unit {0}} first last (Err e)
-cause_after first middle last (Fault f) later cause = record {
-  later = omega (arith, cause.later);
-  fault = rose_before first middle last later cause.fault;
-}
-cause_after first middle last Memory later cause = record { later = omega (arith, cause.later); fault = tt }
+pub cause_after : {F : Type 0} (first middle last : ℕ) (e : OrMemory F) → middle ≡ first →
+    HasCauseOrMemory {T = Unit {0}} middle last (Err e) → HasCauseOrMemory {T = Unit {0}} first last (Err e)
+cause_after {F} first middle last e same cause =
+    let P : ℕ → Type 0 = λ n. HasCauseOrMemory {T = Unit {0}} n last (Err e) in subst P same cause
 
 -- What is made by steps begins with what was made before.
 rest_after : (made step : ℕ → List ℕ) → ((n : ℕ) → made (suc n) ≡ made n ++ step n) →
@@ -177,12 +171,3 @@ pub position_failed : {F : Type 0} (first middle last : Option (List ℕ)) (befo
     TookBy {T = Unit {0}} first last (pairs_output_of n before after types) (Err refused)
 position_failed first middle last before after types i n refused below p q =
     error_in_step (λ n. pairs_output_of n before after types) (pair_lines before after types) (λ n. refl) first middle last i n refused below p q
-
--- What an error says, by its kind.
-pub part_of_wrote : {F : Type 0} (first last : Option (List ℕ)) (bytes : List ℕ) (e : OrMemory F) → TookBy {T = Unit {0}} first last bytes (Err e) → OnFault e (TookPart first last bytes)
-part_of_wrote first last bytes (Fault f) w = w
-part_of_wrote first last bytes Memory w = tt
-
-pub prefix_of_wrote : {F : Type 0} (first last : Option (List ℕ)) (bytes : List ℕ) (e : OrMemory F) → TookBy {T = Unit {0}} first last bytes (Err e) → OnMemory e (TookPrefix first last bytes)
-prefix_of_wrote first last bytes (Fault f) w = tt
-prefix_of_wrote first last bytes Memory w = w

@@ -10,7 +10,7 @@ use Rattle.std.proofs.lemmas.Bool.Decides.{nat_tests}
 use Rattle.std.specs.Str.{IsAscii}
 use Rattle.std.proofs.lemmas.Str.Ascii.{IsAscii-nil, IsAscii-cons}
 use Rattle.core_top.specs.FirstForm.{Names, AreNames, begins_name, continues_name, is_word, is_keyword, is_name, event_declaration, stream_declaration, selection, query_text, type_names}
-use Rattle.core_top.specs.Reading.{◌>>=◌, event_declaration_at, stream_declaration_at, selection_at, names_at, are_named, are_apart, type_number, query_at, IsQueryText, Gives}
+use Rattle.core_top.specs.Reading.{◌>>=◌, event_declaration_at, stream_declaration_at, selection_at, names_at, are_named, are_apart, number_of_name, query_at, IsQueryText, ReadsAs}
 use Rattle.core_top.proofs.Reading.{bind_some, event_takes, event_again, stream_takes, stream_again, selection_takes, selection_again}
 
 empty_from_length : (xs : List ℕ) → eqb (length xs) 0 ≡ true → xs ≡ []
@@ -68,7 +68,7 @@ number_takes_by f s name k true b h g e = rw (sym (same_Some _ _ e)) (ap (λ x. 
 number_takes_by f s name k false true h g e = rw (sym (same_Some _ _ e)) (ap (λ x. Some x) (g refl))
 number_takes_by f s name k false false h g e = absurd (none-some k e)
 
-pub number_takes : (f s name : List ℕ) (k : ℕ) → type_number f s name ≡ Some k → slice_get (f ∷ s ∷ []) k ≡ Some name
+pub number_takes : (f s name : List ℕ) (k : ℕ) → number_of_name f s name ≡ Some k → slice_get (f ∷ s ∷ []) k ≡ Some name
 number_takes f s name k e =
     number_takes_by f s name k (bytes_eq f name) (bytes_eq s name) (bytes_eq-Decides f name).0 (bytes_eq-Decides s name).0 e
 
@@ -83,7 +83,7 @@ one_of_two f s name (zero, l, e) = inl e
 one_of_two f s name (suc zero, l, e) = inr e
 one_of_two f s name (suc (suc k), l, e) = absurd (omega arith)
 
-pub number_again : (f s name : List ℕ) → Contains (f ∷ s ∷ []) name → (k : ℕ) × (type_number f s name ≡ Some k)
+pub number_again : (f s name : List ℕ) → Contains (f ∷ s ∷ []) name → (k : ℕ) × (number_of_name f s name ≡ Some k)
 number_again f s name h =
     number_again_by (bytes_eq f name) (bytes_eq s name) (⊎_elim (λ e. inl ((bytes_eq-Decides f name).1 e)) (λ e. inr ((bytes_eq-Decides s name).1 e)) (one_of_two f s name h))
 
@@ -154,11 +154,11 @@ unfolding query_at
 query_takes text x e =
     let Read : Type 0 = Option (Names × ℕ × ℕ) in
     let f3 : Names → ℕ → ℕ → Read = λ n before later. cond (are_named n && are_apart n) (Some (n, before, later)) None in
-    let f2 : Names → ℕ → Read = λ n before. type_number n.first_type n.second_type n.after >>= f3 n before in
-    let f1 : Names → Read = λ n. type_number n.first_type n.second_type n.before >>= f2 n in
+    let f2 : Names → ℕ → Read = λ n before. number_of_name n.first_type n.second_type n.after >>= f3 n before in
+    let f1 : Names → Read = λ n. number_of_name n.first_type n.second_type n.before >>= f2 n in
     option_and_then_some f1 (names_at text) x e (λ n is1 e1.
-    option_and_then_some (f2 n) (type_number n.first_type n.second_type n.before) x e1 (λ before is2 e2.
-    option_and_then_some (f3 n before) (type_number n.first_type n.second_type n.after) x e2 (λ later is3 e3.
+    option_and_then_some (f2 n) (number_of_name n.first_type n.second_type n.before) x e1 (λ before is2 e2.
+    option_and_then_some (f3 n before) (number_of_name n.first_type n.second_type n.after) x e2 (λ later is3 e3.
     let h = cond_some _ _ _ e3 in
     let both = and_parts (are_named n) (are_apart n) h.0 in
     let b = number_takes n.first_type n.second_type n.before before is2 in
@@ -184,10 +184,10 @@ query_none text e n h spelled =
     let again = query_again n h in
     none-some (n, again.0, again.1) (sym e ∙ ap query_at spelled ∙ again.2)
 
-pub query_found : {X : Type 0} (view : X → Names × ℕ × ℕ) (r : Option X) (text : List ℕ) → Gives view r (query_at text) → IfSome r (λ x. IsQueryText text (view x).0 (view x).1 (view x).2)
+pub query_found : {X : Type 0} (view : X → Names × ℕ × ℕ) (r : Option X) (text : List ℕ) → ReadsAs view r (query_at text) → IfSome r (λ x. IsQueryText text (view x).0 (view x).1 (view x).2)
 query_found view None text h = tt
 query_found view (Some x) text h = query_takes text (view x) h
 
-pub query_only : {X : Type 0} (view : X → Names × ℕ × ℕ) (r : Option X) (text : List ℕ) → Gives view r (query_at text) → r ≡ None → (n : Names) → AreNames n → text ≡ query_text n → ⊥
+pub query_only : {X : Type 0} (view : X → Names × ℕ × ℕ) (r : Option X) (text : List ℕ) → ReadsAs view r (query_at text) → r ≡ None → (n : Names) → AreNames n → text ≡ query_text n → ⊥
 query_only view None text h e = query_none text h
 query_only view (Some x) text h e = absurd (none-some x (sym e))

@@ -1,6 +1,9 @@
--- A run over a host that never fails ends well or for want of memory.
+-- A run over a host that never fails ends well, or memory ran out.
 use Rattle.std.proofs.Common.{◌≡◌, ℕ, List, Option, Some, None, refl, sym, ◌∙◌, ap, arith, IsSomeAnd, cond, is_some}
 use Rattle.cer_outside.specs.Causes.{Rose}
+use Rattle.cer_outside.specs.Content.{Content, Missing, Holds}
+use Rattle.cer_outside.specs.States.{FileState}
+use Rattle.cer_outside.specs.Files.{file_under, content_of, content_under, sure_faults_under}
 use Rattle.core_top.specs.declared.File.{File}
 use Rattle.core_top.specs.declared.File.TheVariants as file
 use Rattle.core_top.specs.declared.Cause.{Cause}
@@ -14,8 +17,12 @@ pub never_rose : (before after : ℕ) → after ≡ 0 → Rose before after → 
 never_rose before after none rose = omega arith
 
 -- a name that has bytes has no faults
-pub no_faults : (content : Option (List ℕ)) (bytes : List ℕ) (others : ℕ) → content ≡ Some bytes → cond (is_some content) 0 others ≡ 0
-no_faults content bytes others told = ap (λ (w : Option (List ℕ)). cond (is_some w) 0 others) told
+none_of : (under : Option FileState) (bytes : List ℕ) (others : ℕ) → content_of under ≡ Holds bytes → cond (is_some under) 0 others ≡ 0
+none_of None bytes others told = absurd (let wrong : Missing ≡ Holds bytes = told in cc)
+none_of (Some file) bytes others told = refl
+
+pub no_faults : (files : List FileState) (others : ℕ) (name bytes : List ℕ) → content_under files name ≡ Holds bytes → sure_faults_under files others name ≡ 0
+no_faults files others name bytes told = none_of (file_under files name) bytes others told
 
 -- neither name has faults
 pub neither : (new : List ℕ → ℕ) (q e : List ℕ) → new q ≡ 0 → new e ≡ 0 → (opened : File) → new (name_of opened q e) ≡ 0
@@ -23,14 +30,14 @@ neither new q e first second file.Queries = first
 neither new q e first second file.Events = second
 
 -- no file of the words failed to open
-pub never_open : (words : List (List ℕ)) (content : List ℕ → Option (List ℕ)) (old new : List ℕ → ℕ) (q e : List ℕ) (opened : File) (before after : ℕ) →
+pub never_open : (words : List (List ℕ)) (content : List ℕ → Content) (old new : List ℕ → ℕ) (q e : List ℕ) (opened : File) (before after : ℕ) →
     IsRun words q e → new q ≡ 0 → new e ≡ 0 → HasOpenFault words content old new opened before after → ⊥
 never_open words content old new q e opened before after is first second fault =
     let here = neither new fault.queries fault.events (ap new (same_queries words fault.queries fault.events q e fault.asked is) ∙ first) (ap new (same_events words fault.queries fault.events q e fault.asked is) ∙ second) opened in
     never_rose before after (fault.to ∙ here) fault.rose
 
 -- no source failed
-pub never_read : {S : Type 0} (words : List (List ℕ)) (content : List ℕ → Option (List ℕ)) (failed : Option S) (read : File) (after : ℕ) (faults : S → ℕ) (left : S → Option (List ℕ)) →
+pub never_read : {S : Type 0} (words : List (List ℕ)) (content : List ℕ → Content) (failed : Option S) (read : File) (after : ℕ) (faults : S → ℕ) (left : S → Option (List ℕ)) →
     ((source : S) → faults source ≡ 0) → IsSomeAnd failed (λ source. HasReadFault words content read after (faults source) (left source)) → ⊥
 never_read words content None read after faults left none fault = fault
 never_read words content (Some source) read after faults left none fault = never_rose 0 after (sym fault.told ∙ none source) fault.rose

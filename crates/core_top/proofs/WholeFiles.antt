@@ -1,8 +1,10 @@
 -- What is read so far and what is left, read after read.
-use Rattle.std.proofs.Common.{◌≡◌, ℕ, ◌≤◌, List, [], ◌++◌, length, take, Option, Some, None, refl, sym, ◌∙◌, ap, append_assoc}
+use Rattle.std.proofs.Common.{◌≡◌, ℕ, ◌≤◌, List, [], ◌++◌, length, take, Option, Some, None, refl, sym, ◌∙◌, ap, subst, append_assoc}
 use Rattle.std.proofs.Math.Seq.{take-append_seam}
 use Rattle.std.proofs.lemmas.List.{append-nil, take_all}
-use Rattle.core_top.specs.SourceBytes.{ReadsOn, IsAtEnd, AreFirst, IsRest}
+use Rattle.cer_outside.specs.Bytes.{ReadsOn, IsAtEnd}
+use Rattle.cer_outside.specs.Content.{Content, Untold, Missing, Holds, HasOpened}
+use Rattle.core_top.specs.SourceBytes.{AreFirst, AreFirstOf, IsRest, IsRestOf}
 
 -- nothing read yet
 pub reads_none : (left : Option (List ℕ)) → ReadsOn left left [] []
@@ -45,3 +47,15 @@ first_full n None b y read full = tt
 first_full n (Some a) None y read full = absurd read
 first_full n (Some a) (Some b) y read full =
     sym (take-append_seam y b) ∙ ap (λ k. take k (y ++ b)) full ∙ ap (take n) read
+
+-- what was read of a source is of the file that was opened
+pub first_opened : (n : ℕ) (file : Content) (left : Option (List ℕ)) (y : List ℕ) → HasOpened file left → AreFirst n left y → AreFirstOf n file y
+first_opened n Untold left y opened first = tt
+first_opened n Missing left y opened first = opened
+first_opened n (Holds bytes) left y opened first = let P : Option (List ℕ) → Type 0 = λ w. AreFirst n w y in subst P opened first
+
+-- and so is what is left
+pub rest_opened : (file : Content) (left last : Option (List ℕ)) → HasOpened file left → IsRest left last → IsRestOf file last
+rest_opened Untold left last opened rest = tt
+rest_opened Missing left last opened rest = opened
+rest_opened (Holds bytes) left last opened rest = let P : Option (List ℕ) → Type 0 = λ w. IsRest w last in subst P opened rest

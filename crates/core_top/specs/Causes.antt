@@ -1,9 +1,9 @@
 -- How a call of the program ended, and when each answer may come.
--- This project's profile.
-use Rattle.std.specs.Prelude.{◌≡◌, ℕ, ◌⊎◌, List, Option, IfSome}
+use Rattle.std.specs.Prelude.{◌≡◌, ℕ, ◌⊎◌, List, Option}
 use Rattle.cer_base.specs.declared.Place.{Place}
 use Rattle.stream_schema.specs.declared.Event.{Event}
-use Rattle.cer_outside.specs.Causes.{Rose}
+use Rattle.cer_outside.specs.Causes.{Rose, AllStay, RoseAt}
+use Rattle.cer_outside.specs.Content.{Content, OfOpened}
 use Rattle.core_top.specs.declared.QueryFault.{QueryFault}
 use Rattle.core_top.specs.declared.QueryFault.TheVariants as query_fault
 use Rattle.core_top.specs.declared.EventFault.{EventFault}
@@ -14,7 +14,7 @@ use Rattle.core_top.specs.declared.Cause.{Cause}
 use Rattle.core_top.specs.declared.Cause.TheVariants as cause
 use Rattle.core_top.specs.FirstForm.{Names, IsQueryFile, IsEventFile}
 use Rattle.core_top.specs.Command.{IsRun}
-use Rattle.core_top.specs.SourceBytes.{IsRest}
+use Rattle.core_top.specs.SourceBytes.{IsRestOf}
 
 -- the exit status of each cause
 abbrev pub status_of : Cause → ℕ
@@ -44,11 +44,11 @@ pub record Exactly (given answer : Cause) (fact : Type 0) : Type 0 where
   pub whenever : fact → (given ≡ answer) ⊎ IsFromOutside given
 
 -- the query text is of the form that is read
-abbrev pub IsAccepted : List ℕ → Type 0
-IsAccepted text = (names : Names) × IsQueryFile text names
+abbrev pub IsAcceptedText : List ℕ → Type 0
+IsAcceptedText text = (names : Names) × IsQueryFile text names
 
 -- The query text is of another form.
-pub record IsRefused (text : List ℕ) (fault : QueryFault) (place : Place) : Type 0 where
+pub record IsRefusedText (text : List ℕ) (fault : QueryFault) (place : Place) : Type 0 where
   pub not_yet : fault ≡ query_fault.NotYet
   pub at_start : place ≡ record { line = 1; col = 1 }
   pub other : (names : Names) → IsQueryFile text names → ⊥
@@ -57,7 +57,7 @@ pub record IsRefused (text : List ℕ) (fault : QueryFault) (place : Place) : Ty
 pub record IsStopped (text lines : List ℕ) (line : ℕ) (fault : EventFault) : Type 0 where
   pub not_yet : fault ≡ event_fault.NotYet
   pub at_start : line ≡ 1
-  pub accepted : IsAccepted text
+  pub accepted : IsAcceptedText text
   pub other : (names : Names) → IsQueryFile text names → (events : List Event) → IsEventFile names lines events → ⊥
 
 -- the name of the file on the command line
@@ -65,13 +65,13 @@ abbrev pub name_of : File → List ℕ → List ℕ → List ℕ
 name_of file.Queries queries events = queries
 name_of file.Events queries events = events
 
--- the event file is opened only where the query text, where it is told, is accepted
-abbrev pub ComesInTurn : File → Option (List ℕ) → Type 0
+-- the event file is opened only after the query file, whose text, where it is told, is accepted
+abbrev pub ComesInTurn : File → Content → Type 0
 ComesInTurn file.Queries text = Unit {0}
-ComesInTurn file.Events text = IfSome text IsAccepted
+ComesInTurn file.Events text = OfOpened text IsAcceptedText
 
 -- The host's count for the file's name rose in the call, from before to after.
-pub record HasOpenFault (words : List (List ℕ)) (content : List ℕ → Option (List ℕ)) (old new : List ℕ → ℕ) (opened : File) (before after : ℕ) : Type 0 where
+pub record HasOpenFault (words : List (List ℕ)) (content : List ℕ → Content) (old new : List ℕ → ℕ) (opened : File) (before after : ℕ) : Type 0 where
   pub queries : List ℕ
   pub events : List ℕ
   pub asked : IsRun words queries events
@@ -81,14 +81,14 @@ pub record HasOpenFault (words : List (List ℕ)) (content : List ℕ → Option
   pub rose : Rose before after
 
 -- The count of the source that failed rose from 0 to after, and it has left the last part of the host's bytes under the file's name.
-pub record HasReadFault (words : List (List ℕ)) (content : List ℕ → Option (List ℕ)) (read : File) (after : ℕ) (faults : ℕ) (left : Option (List ℕ)) : Type 0 where
+pub record HasReadFault (words : List (List ℕ)) (content : List ℕ → Content) (read : File) (after : ℕ) (faults : ℕ) (left : Option (List ℕ)) : Type 0 where
   pub queries : List ℕ
   pub events : List ℕ
   pub asked : IsRun words queries events
   pub turn : ComesInTurn read (content queries)
   pub told : faults ≡ after
   pub rose : Rose 0 after
-  pub rest : IsRest (content (name_of read queries events)) left
+  pub rest : IsRestOf (content (name_of read queries events)) left
 
 -- all was well, or memory or the outside ended the call
 abbrev pub IsFineOrOutside : Cause → Type 0
@@ -128,3 +128,27 @@ IsFineOrMemory (cause.Event line fault) = ⊥
 IsFineOrMemory (cause.OpenFault opened before after) = ⊥
 IsFineOrMemory (cause.ReadFault read after) = ⊥
 IsFineOrMemory (cause.WriteFault before after) = ⊥
+
+-- The host's counts: as they were, but for the file that could not be opened.
+abbrev pub CountsOpens : Cause → List ℕ → List ℕ → (List ℕ → ℕ) → (List ℕ → ℕ) → Type 0
+CountsOpens (cause.OpenFault opened before after) queries events old new = RoseAt (name_of opened queries events) old new
+CountsOpens _ queries events old new = AllStay old new
+
+-- The output's count: as it was, but where a write failed.
+abbrev pub CountsWrites : Cause → ℕ → ℕ → Type 0
+CountsWrites (cause.WriteFault before after) old new = Rose old new
+CountsWrites _ old new = new ≡ old
+
+-- this file is opened before that one
+abbrev pub ComesBefore : File → File → Type 0
+ComesBefore file.Queries file.Events = Unit {0}
+ComesBefore _ _ = ⊥
+
+-- The call ended where it needed a file that the host lacks: that file could not be opened, or a fault of the file before
+-- it or running out of memory came first.
+abbrev pub EndsWithout : File → Cause → Type 0
+EndsWithout missing (cause.OpenFault opened before after) = (opened ≡ missing) ⊎ ComesBefore opened missing
+EndsWithout missing (cause.ReadFault read after) = ComesBefore read missing
+EndsWithout missing (cause.Queries fault place) = ComesBefore file.Queries missing
+EndsWithout missing cause.Memory = Unit {0}
+EndsWithout missing _ = ⊥

@@ -1,10 +1,10 @@
 -- The one form of query file and of event file that is read so far: two event types, a stream of both, and one sequence.
--- This project's profile.
 use Rattle.std.specs.Prelude.{◌≡◌, ℕ, ◌<◌, ◌≤◌, pos, Bool, true, false, ◌&&◌, ◌||◌, ◌==◌, not, List, [], ◌∷◌, ◌++◌, length, map, All, Contains, Some, None, slice_get, bytes_eq, codes}
 use Rattle.std.specs.Char.{IsAsciiDigit, is_ascii_alphabetic, is_ascii_alphanumeric}
 use Rattle.std.specs.Str.{str_to_ascii_uppercase}
 use Rattle.std.specs.Str.Parse.{digits_value}
 use Rattle.std.specs.List.{list_all, list_any}
+use Rattle.cer_base.specs.declared.limits.TheConstants.{LONGEST_TEXT}
 use Rattle.stream_schema.specs.Types.{Declared}
 use Rattle.stream_schema.specs.declared.Event.{Event}
 use Rattle.stream_schema.specs.declared.Kind.TheVariants as kind
@@ -12,10 +12,6 @@ use Rattle.stream_schema.specs.declared.Value.TheVariants as value
 use Rattle.cel_terms.specs.declared.Query.{Query}
 use Rattle.cel_terms.specs.declared.Window.TheVariants.{Free}
 use Rattle.cel_terms.specs.declared.Formula.{Formula, Of, Chain', Row_of-Formula, end_of-Formula, more_of-Formula}
-
--- the most bytes that a query file or an event file may have
-abbrev pub most_bytes : ℕ
-most_bytes = 1048576
 
 -- the words that are no names, in capitals
 abbrev pub keywords : List (List ℕ)
@@ -88,7 +84,7 @@ query_text n =
 
 -- The query file has these names.
 pub record IsQueryFile (text : List ℕ) (n : Names) : Type 0 where
-  pub small : length text ≤ most_bytes
+  pub small : length text ≤ LONGEST_TEXT
   pub spelled : text ≡ query_text n
   pub named : AreNames n
 
@@ -146,5 +142,5 @@ AreLinesOf n (event ∷ events) bytes = (line : List ℕ) × (rest : List ℕ) �
 
 -- The event file has these events.
 pub record IsEventFile (n : Names) (bytes : List ℕ) (events : List Event) : Type 0 where
-  pub small : length bytes ≤ most_bytes
+  pub small : length bytes ≤ LONGEST_TEXT
   pub lines : AreLinesOf n events bytes

@@ -8,4 +8,5 @@ pub mod Causes
 pub mod Output
 pub mod Notes
 pub mod Pairs
+pub mod Opening
 pub mod Run

@@ -1,12 +1,11 @@
 -- The note that goes to standard error, by the cause.
-use Rattle.std.specs.Prelude.{ℕ, List, [], ◌∷◌, ◌++◌, codes, Option}
+use Rattle.std.specs.Prelude.{◌≡◌, ◌⊎◌, ℕ, List, [], ◌∷◌, ◌++◌, codes, Option}
 use Rattle.cer_outside.specs.Causes.{Rose}
-use Rattle.cer_outside.specs.Bytes.{TookAll}
+use Rattle.cer_outside.specs.Bytes.{TookAll, TookPart}
 use Rattle.core_top.specs.declared.File.{File}
 use Rattle.core_top.specs.declared.File.TheVariants as file
 use Rattle.core_top.specs.declared.Cause.{Cause}
 use Rattle.core_top.specs.declared.Cause.TheVariants as cause
-use Rattle.core_top.specs.Taken.{TookPrefix}
 
 -- the word for a file in a note
 abbrev pub file_word : File → List ℕ
@@ -24,7 +23,7 @@ note_of (cause.ReadFault read after) = codes "core: cannot read " ++ file_word r
 note_of (cause.WriteFault before after) = codes "core: cannot write" ++ 10 ∷ []
 note_of cause.Memory = codes "core: out of memory" ++ 10 ∷ []
 
--- The note was taken whole where the count of faults did not rise, and else a first part of it.
-pub record TookNote (before after : Option (List ℕ)) (old new : ℕ) (note : List ℕ) : Type 0 where
-  pub part : TookPrefix before after note
-  pub whole : (Rose old new → ⊥) → TookAll before after note
+-- The note was taken whole and the count stays, or it rose and a proper first part was taken.
+abbrev pub TookNote : Option (List ℕ) → Option (List ℕ) → ℕ → ℕ → List ℕ → Type 0
+TookNote before after old new note =
+    (TookAll before after note × (new ≡ old)) ⊎ (TookPart before after note × Rose old new)

@@ -1,9 +1,10 @@
 -- What the program has written when it ends.
-use Rattle.std.specs.Prelude.{◌≡◌, ℕ, ◌⊎◌, List, [], ◌∷◌, Option, Some}
+use Rattle.std.specs.Prelude.{◌≡◌, ◌≢◌, ℕ, ◌⊎◌, List, [], ◌∷◌, Option}
 use Rattle.stream_schema.specs.declared.Event.{Event}
 use Rattle.cel_terms.specs.declared.Query.{Query}
 use Rattle.answer_text.specs.declared.Order.TheVariants.{Sorted}
 use Rattle.answer_text.specs.Output.{IsOutput}
+use Rattle.cer_outside.specs.Content.{Content, Missing, Holds}
 use Rattle.cer_outside.specs.Bytes.{TookAll, TookPart}
 use Rattle.core_top.specs.Taken.{TookPrefix}
 use Rattle.core_top.specs.declared.Cause.{Cause}
@@ -21,12 +22,20 @@ pub record AreAnswers (text lines bytes : List ℕ) : Type 0 where
   pub event_file : IsEventFile names lines events
   pub output : IsOutput Sorted (schema_of names) (query ∷ []) events bytes
 
--- The bytes are the answers of the run that the words ask for, where the host tells its files.
-pub record AreRunAnswers (words : List (List ℕ)) (content : List ℕ → Option (List ℕ)) (bytes : List ℕ) : Type 0 where
+-- The bytes are the answers of a run over the files of these names, of which the host lacks neither: those of their
+-- bytes, where they are told.
+pub record AreFileAnswers (content : List ℕ → Content) (queries events bytes : List ℕ) : Type 0 where
+  pub has_queries : content queries ≢ Missing
+  pub has_events : content events ≢ Missing
+  pub answers : (text lines : List ℕ) → content queries ≡ Holds text → content events ≡ Holds lines
+      → AreAnswers text lines bytes
+
+-- The bytes are the answers of the run that the words ask for.
+pub record AreRunAnswers (words : List (List ℕ)) (content : List ℕ → Content) (bytes : List ℕ) : Type 0 where
   pub queries : List ℕ
   pub events : List ℕ
   pub asked : IsRun words queries events
-  pub answers : (text lines : List ℕ) → content queries ≡ Some text → content events ≡ Some lines → AreAnswers text lines bytes
+  pub answers : AreFileAnswers content queries events bytes
 
 -- What the output has taken, by the cause: all the answers, a proper first part, a first part, or nothing.
 abbrev pub Wrote : Cause → (List ℕ → Type 0) → Option (List ℕ) → Option (List ℕ) → Type 0

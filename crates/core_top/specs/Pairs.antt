@@ -1,5 +1,4 @@
 -- The complex events of a sequence of two types, and their lines, as plain functions of the events' types.
--- This project's profile.
 use Rattle.std.specs.Prelude.{ℕ, zero, suc, ◌==◌, if◌then◌else◌, Bool, false, List, [], ◌∷◌, ◌++◌, length, map, flat_map}
 use Rattle.cel_terms.specs.Answers.{Answer}
 use Rattle.answer_text.specs.Output.{line}

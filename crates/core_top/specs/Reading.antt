@@ -1,5 +1,4 @@
 -- How the first form is read from the left: each function gives what it read and the bytes after it, or nothing.
--- This project's profile.
 use Rattle.std.specs.Prelude.{◌≡◌, ℕ, ◌<◌, ◌≤◌, Bool, ◌&&◌, ◌==◌, if◌then◌else◌, not, List, [], ◌∷◌, ◌++◌, length, take, drop, nat_lt, nat_le, Option, Some, None, option_and_then, bytes_eq, slice_get, codes, All, pos}
 use Rattle.std.specs.Char.{is_ascii_digit, IsAsciiDigit}
 use Rattle.std.specs.Str.Parse.{digits_value}
@@ -11,9 +10,9 @@ use Rattle.core_top.specs.declared.query_lines.NamesOfQuery.{NamesOfQuery}
 use Rattle.core_top.specs.FirstForm.{Names, AreNames, continues_name, is_name, query_text, type_names}
 
 -- What a call returned, seen by view, is what reading gives.
-abbrev pub Gives : {X Y : Type 0} → (X → Y) → Option X → Option Y → Type 0
-Gives view None read = read ≡ None
-Gives view (Some x) read = read ≡ Some (view x)
+abbrev pub ReadsAs : {X Y : Type 0} → (X → Y) → Option X → Option Y → Type 0
+ReadsAs view None read = read ≡ None
+ReadsAs view (Some x) read = read ≡ Some (view x)
 
 infixl 10 ◌>>=◌
 abbrev pub ◌>>=◌ : {A B : Type 0} → Option A → (A → Option B) → Option B
@@ -84,16 +83,16 @@ are_apart n =
     not (bytes_eq n.first_type n.second_type) && not (bytes_eq n.first_type n.stream) && not (bytes_eq n.second_type n.stream)
 
 -- which of the two types has the name
-abbrev pub type_number : List ℕ → List ℕ → List ℕ → Option ℕ
-type_number first second name =
+abbrev pub number_of_name : List ℕ → List ℕ → List ℕ → Option ℕ
+number_of_name first second name =
     if bytes_eq first name then Some 0 else if bytes_eq second name then Some 1 else None
 
 -- the names and the numbers of the two types of the sequence
 unfoldable pub query_at : List ℕ → Option (Names × ℕ × ℕ)
 query_at text = do
   n ← names_at text
-  before ← type_number n.first_type n.second_type n.before
-  later ← type_number n.first_type n.second_type n.after
+  before ← number_of_name n.first_type n.second_type n.before
+  later ← number_of_name n.first_type n.second_type n.after
   if are_named n && are_apart n then Some (n, before, later) else None
 
 -- the names of a query file, seen as bytes
@@ -119,7 +118,7 @@ unfoldable pub event_at : List ℕ → List ℕ → List ℕ → Option (ℕ × 
 event_at first second text = do
   type ← run_then continues_name (44 ∷ []) text
   digits ← run_then is_ascii_digit (10 ∷ []) type.1
-  number ← type_number first second type.0
+  number ← number_of_name first second type.0
   if nat_lt 0 (length digits.0) && nat_le (length digits.0) 18 then Some (number, digits.0, digits.1) else None
 
 -- From 1 to 18 digits.

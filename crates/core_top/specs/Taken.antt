@@ -1,10 +1,8 @@
 -- What a sink has of the bytes that were to be written, by how the call ended.
--- This project's profile.
-use Rattle.std.specs.Prelude.{◌≡◌, ℕ, ◌≤◌, List, ◌++◌, length, take, Option, Some, None, Result, Ok, Err, IfErr}
+use Rattle.std.specs.Prelude.{◌≡◌, ℕ, ◌≤◌, List, ◌++◌, length, take, Option, Some, None, Result, Ok, Err}
 use Rattle.cer_base.specs.declared.OrMemory.{OrMemory}
 use Rattle.cer_base.specs.declared.OrMemory.TheVariants.{Fault, Memory}
 use Rattle.cer_outside.specs.Bytes.{TookAll, TookPart}
-use Rattle.cer_outside.specs.Causes.{Rose}
 
 -- a first part of the bytes, perhaps all of them
 pub record IsPart (before after bytes : List ℕ) : Type 0 where
@@ -18,23 +16,8 @@ TookPrefix None after bytes = after ≡ None
 TookPrefix (Some before) None bytes = ⊥
 TookPrefix (Some before) (Some after) bytes = IsPart before after bytes
 
--- a fact for a fault of the call's own
-abbrev pub OnFault : {F : Type 0} → OrMemory F → Type 0 → Type 0
-OnFault (Fault f) P = P
-OnFault Memory P = Unit {0}
-
--- a fact for want of memory
-abbrev pub OnMemory : {F : Type 0} → OrMemory F → Type 0 → Type 0
-OnMemory (Fault f) P = Unit {0}
-OnMemory Memory P = P
-
 -- all of the bytes, after a fault a proper first part, and where memory ran out a first part
 abbrev pub TookBy : {T F : Type 0} → Option (List ℕ) → Option (List ℕ) → List ℕ → Result T (OrMemory F) → Type 0
 TookBy before after bytes (Ok done) = TookAll before after bytes
 TookBy before after bytes (Err (Fault f)) = TookPart before after bytes
 TookBy before after bytes (Err Memory) = TookPrefix before after bytes
-
--- The count never falls, and a fault is answered only where it rose.
-pub record HasWriteCause {T F : Type 0} (before now : ℕ) (result : Result T (OrMemory F)) : Type 0 where
-  pub later : before ≤ now
-  pub fault : IfErr result (λ e. OnFault e (Rose before now))

@@ -6,7 +6,8 @@ ghost use Rattle.core_top.specs.Command.{IsRun, AskNothing, begins_with_dash};
 /// The names of the query file and of the event file, where the words are `run QUERIES EVENTS`
 /// and no name begins with a dash.
 pub fn run_names(words: &[String]) -> Option<(&str, &str)>
-    ensures found { IfSome result (λ names. IsRun (map string_bytes words.now) names.0.now names.1.now) }
+    ensures found { IfSome result
+        (λ names. IsRun (map string_bytes words.now) names.0.now names.1.now) }
     ensures none { IfNone result (AskNothing (map string_bytes words.now)) }
 {
     if words.len() != 3 {

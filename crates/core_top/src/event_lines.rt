@@ -1,7 +1,7 @@
 //! The lines of an event file of the first form.
 
 ghost use Rattle.core_top.specs.FirstForm.{AreLinesOf, AreNames, Names};
-ghost use Rattle.core_top.specs.Reading.{Gives, IsNextEvent, IsNumeral, event_at, written};
+ghost use Rattle.core_top.specs.Reading.{ReadsAs, IsNextEvent, IsNumeral, event_at, written};
 ghost use Rattle.std.specs.Prelude.{◌≡◌, IfOk, IfSome, List, pos};
 ghost use Rattle.std.specs.Str.Parse.{digits_value};
 ghost use Rattle.stream_schema.specs.declared.Event.{Event};
@@ -21,7 +21,7 @@ fn event_line<'a>(
     first: &[u8],
     second: &[u8],
 ) -> Option<(TypeId, &'a [u8], &'a [u8])>
-    ensures { Gives (λ x. (x.0, x.1.now, x.2.now)) result (event_at first.now second.now text.now) }
+    ensures { ReadsAs (λ x. (x.0, x.1.now, x.2.now)) result (event_at first.now second.now text.now) }
 {
     let (name, rest) = word_then(text, b",")?;
     let (digits, rest) = numeral_then(rest, b"\n")?;
@@ -65,7 +65,8 @@ fn next_event<'a>(
     second: &[u8],
 ) -> Result<(Event, &'a [u8]), OrMemory<EventFault>>
     ensures ok { IfOk result (λ x. IsNextEvent first.now second.now text.now x.0 x.1.now) }
-    ensures refused { result ≡ Err (OrMemory.Fault EventFault.NotYet) → event_at first.now second.now text.now ≡ None }
+    ensures refused { result ≡ Err (OrMemory.Fault EventFault.NotYet)
+        → event_at first.now second.now text.now ≡ None }
 {
     match event_line(text, first, second) {
         None => Err(OrMemory::Fault(EventFault::NotYet)),
@@ -80,8 +81,12 @@ pub fn event_lines(
     first: &[u8],
     second: &[u8],
 ) -> Result<Vec<Event>, OrMemory<EventFault>>
-    ensures ok { IfOk result (λ events. (n : Names) → n.first_type ≡ first.now → n.second_type ≡ second.now → AreLinesOf n events.items bytes.now) }
-    ensures refused { result ≡ Err (OrMemory.Fault EventFault.NotYet) → (n : Names) → n.first_type ≡ first.now → n.second_type ≡ second.now → AreNames n → (events : List Event) → AreLinesOf n events bytes.now → ⊥ }
+    ensures ok { IfOk result (λ events.
+        (n : Names) → n.first_type ≡ first.now → n.second_type ≡ second.now
+        → AreLinesOf n events.items bytes.now) }
+    ensures refused { result ≡ Err (OrMemory.Fault EventFault.NotYet)
+        → (n : Names) → n.first_type ≡ first.now → n.second_type ≡ second.now → AreNames n
+        → (events : List Event) → AreLinesOf n events bytes.now → ⊥ }
 {
     let mut events = Vec::new(alloc);
     let mut rest = bytes;

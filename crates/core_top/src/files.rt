@@ -1,26 +1,26 @@
 //! The files, each read whole.
 
-ghost use Rattle.std.specs.Prelude.{◌≡◌, ◌+◌, ◌<◌, ◌≤◌, ℕ, List, [], length, vec_len, IfOk, IfErr};
-ghost use Rattle.cer_outside.specs.Causes.{Rose};
-ghost use Rattle.core_top.specs.SourceBytes.{ReadsOn, IsAtEnd, AreFirst, IsRest};
-ghost use Rattle.core_top.specs.Taken.{OnFault};
+ghost use Rattle.std.specs.Prelude.{◌≡◌, ◌+◌, ◌<◌, ◌≤◌, ℕ, List, [], length, vec_len, IfOk};
+ghost use Rattle.cer_outside.specs.Causes.{HasCauseOrMemory};
+ghost use Rattle.cer_outside.specs.Bytes.{ReadsOn, IsAtEnd};
+ghost use Rattle.core_top.specs.SourceBytes.{AreFirst, IsRest};
 
+use cer_base::limits::LONGEST_TEXT;
 use cer_base::{Memory, OrMemory};
 use cer_outside::{Failed, Source};
 use std::alloc::Global;
 
 /// The most bytes of a file that are read: one more than a file of the first form has.
-pub const MOST_READ: usize = 1_048_577;
+pub const MOST_READ: usize = LONGEST_TEXT + 1;
 
 /// The most bytes that one read asks for.
 const PIECE: usize = 65_536;
 
 /// Reads the source until its end or until `MOST_READ` bytes.
 pub fn read_whole<S: Source>(alloc: Global, source: &mut S) -> Result<Vec<u8>, OrMemory<Failed>>
-    ensures bytes { IfOk result (λ bytes. AreFirst 1048577 (S.left source.old) bytes.items) }
+    ensures bytes { IfOk result (λ bytes. AreFirst MOST_READ (S.left source.old) bytes.items) }
     ensures rest { IsRest (S.left source.old) (S.left source.new) }
-    ensures later { S.faults source.old ≤ S.faults source.new }
-    ensures cause { IfErr result (λ e. OnFault e (Rose (S.faults source.old) (S.faults source.new))) }
+    ensures cause { HasCauseOrMemory (S.faults source.old) (S.faults source.new) result }
 {
     let mut bytes = Vec::new(alloc);
     let mut buffer = buffer_of(alloc, PIECE)?;
@@ -49,14 +49,14 @@ fn read_piece<S: Source>(
     bytes: &mut Vec<u8>,
 ) -> Result<usize, OrMemory<Failed>>
     requires some { 0 < length buffer.old }
-    requires room { vec_len bytes.old < 1048577 }
-    ensures read { IfOk result (λ n. ReadsOn (S.left source.old) (S.left source.new) bytes.old.items bytes.new.items) }
+    requires room { vec_len bytes.old < MOST_READ }
+    ensures read { IfOk result (λ n. ReadsOn (S.left source.old) (S.left source.new)
+        bytes.old.items bytes.new.items) }
     ensures count { IfOk result (λ n. vec_len bytes.new ≡ vec_len bytes.old + n) }
-    ensures limit { IfOk result (λ n. vec_len bytes.new ≤ 1048577) }
+    ensures limit { IfOk result (λ n. vec_len bytes.new ≤ MOST_READ) }
     ensures end { IfOk result (λ n. n ≡ 0 → IsAtEnd (S.left source.new)) }
     ensures rest { IsRest (S.left source.old) (S.left source.new) }
-    ensures later { S.faults source.old ≤ S.faults source.new }
-    ensures cause { IfErr result (λ e. OnFault e (Rose (S.faults source.old) (S.faults source.new))) }
+    ensures cause { HasCauseOrMemory (S.faults source.old) (S.faults source.new) result }
 {
     let want = buffer.len().min(MOST_READ - bytes.len());
     let count = match source.read(&mut buffer[..want]) {

@@ -10,12 +10,10 @@ use crate::query_lines::query_lines;
 use crate::query_plan::plan_of;
 use crate::{EventFault, QueryFault};
 use cel_terms::Query;
+use cer_base::limits::LONGEST_TEXT;
 use cer_base::{OrMemory, Text};
 use std::alloc::Global;
 use stream_schema::{Event, TypeId};
-
-/// The most bytes that a query file or an event file may have.
-const MOST_BYTES: usize = 1_048_576;
 
 /// What is kept of a query file: the names of the types 0 and 1, the numbers of the two types of
 /// the sequence, and the query's term.
@@ -31,9 +29,10 @@ pub struct Plan {
 /// The plan of a query file of the first form, or `NotYet` exactly where it is of another form.
 pub fn read_query(alloc: Global, text: &[u8]) -> Result<Plan, OrMemory<QueryFault>>
     ensures ok { IfOk result (λ plan. (n : Names) × IsQueryFile text.now n × IsPlanOf n plan) }
-    ensures refused { result ≡ Err (OrMemory.Fault QueryFault.NotYet) → (n : Names) → IsQueryFile text.now n → ⊥ }
+    ensures refused { result ≡ Err (OrMemory.Fault QueryFault.NotYet)
+        → (n : Names) → IsQueryFile text.now n → ⊥ }
 {
-    if text.len() > MOST_BYTES {
+    if text.len() > LONGEST_TEXT {
         return Err(OrMemory::Fault(QueryFault::NotYet));
     }
     match query_lines(text) {
@@ -48,10 +47,13 @@ pub fn read_events(
     plan: &Plan,
     bytes: &[u8],
 ) -> Result<Vec<Event>, OrMemory<EventFault>>
-    ensures ok { IfOk result (λ events. (n : Names) → IsPlanOf n plan.now → IsEventFile n bytes.now events.items) }
-    ensures refused { result ≡ Err (OrMemory.Fault EventFault.NotYet) → (n : Names) → IsPlanOf n plan.now → AreNames n → (events : List Event) → IsEventFile n bytes.now events → ⊥ }
+    ensures ok { IfOk result (λ events.
+        (n : Names) → IsPlanOf n plan.now → IsEventFile n bytes.now events.items) }
+    ensures refused { result ≡ Err (OrMemory.Fault EventFault.NotYet)
+        → (n : Names) → IsPlanOf n plan.now → AreNames n
+        → (events : List Event) → IsEventFile n bytes.now events → ⊥ }
 {
-    if bytes.len() > MOST_BYTES {
+    if bytes.len() > LONGEST_TEXT {
         return Err(OrMemory::Fault(EventFault::NotYet));
     }
     event_lines(

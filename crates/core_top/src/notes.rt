@@ -41,7 +41,8 @@ fn note(cause: &Cause) -> &'static [u8]
 
 /// Writes the note of the cause. A fault of the notes is told by their count alone.
 pub fn write_note<N: Sink>(notes: &mut N, cause: &Cause)
-    ensures { TookNote (N.taken notes.old) (N.taken notes.new) (N.faults notes.old) (N.faults notes.new) (note_of cause.now) }
+    ensures { TookNote (N.taken notes.old) (N.taken notes.new)
+        (N.faults notes.old) (N.faults notes.new) (note_of cause.now) }
 {
     let _ = put_all(notes, note(cause));
 }

@@ -1,10 +1,11 @@
 //! A file, opened and read whole.
 
-ghost use Rattle.std.specs.Prelude.{◌≡◌, ◌≤◌, ℕ, List, IfOk, IfErr};
-ghost use Rattle.core_top.specs.SourceBytes.{AreFirst};
-ghost use Rattle.core_top.specs.Run.{ReadingStops};
+ghost use Rattle.std.specs.Prelude.{◌≡◌, ℕ, List, IfOk, IfErr};
+ghost use Rattle.cer_outside.specs.Causes.{AllStay};
+ghost use Rattle.core_top.specs.SourceBytes.{AreFirstOf};
+ghost use Rattle.core_top.specs.Run.{ReadingStops, StopCounts};
 
-use super::files::read_whole;
+use super::files::{MOST_READ, read_whole};
 use super::{Cause, File};
 use cer_base::OrMemory;
 use cer_outside::{Host, OpenError, Source};
@@ -30,21 +31,27 @@ impl<S> Stop<S> {
     }
 }
 
-/// The bytes that the host has under the name, at most `MOST_READ` of them. `before` is the
-/// host's count of faults for the name at an earlier moment, which an `OpenFault` names.
+/// The bytes that the host has under the name, at most `MOST_READ` of them. The host is asked once.
+/// An `OpenFault` names its count of faults for the name before and after.
 pub fn take_whole<H: Host>(
     alloc: Global,
     host: &mut H,
     file: File,
     name: &str,
-    before: u64,
 ) -> Result<Vec<u8>, Stop<H::Src>>
-    requires { before ≤ H.faults host.old name.now }
-    ensures bytes { IfOk result (λ bytes. AreFirst 1048577 (H.content host.old name.now) bytes.items) }
-    ensures stop { IfErr result (λ stop. ReadingStops (record { faults = H.Src.faults; left = H.Src.left }) file (H.content host.old name.now) before (H.faults host.new name.now) stop.cause stop.failed) }
+    ensures bytes { IfOk result (λ bytes.
+        AreFirstOf MOST_READ (H.content host.old name.now) bytes.items) }
+    ensures stop { IfErr result (λ stop.
+        ReadingStops (record { faults = H.Src.faults; left = H.Src.left })
+        file (H.content host.old name.now)
+        (H.faults host.old name.now) (H.faults host.new name.now) stop.cause stop.failed) }
+    ensures counts { IfOk result (λ bytes. AllStay (H.faults host.old) (H.faults host.new)) }
+    ensures counts_stop { IfErr result
+        (λ stop. StopCounts stop.cause name.now (H.faults host.old) (H.faults host.new)) }
+    ensures opened { H.opens host.old name.now host.new }
     ensures kept { (any : List ℕ) → H.content host.new any ≡ H.content host.old any }
-    ensures later { (any : List ℕ) → H.faults host.old any ≤ H.faults host.new any }
 {
+    let before = host.fault_count(name);
     let mut source = match host.take_file(alloc, name) {
         Ok(source) => source,
         Err(OpenError::Memory) => return Err(Stop::of(Cause::Memory)),

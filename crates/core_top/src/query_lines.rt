@@ -1,7 +1,7 @@
 //! The four lines of a query file of the first form.
 
 ghost use Rattle.core_top.specs.FirstForm.{AreNames, Names, query_text};
-ghost use Rattle.core_top.specs.Reading.{Gives, IsQueryText, are_apart, are_named, event_declaration_at, names_at, names_of, query_at, selection_at, sequence_at, stream_declaration_at, type_number};
+ghost use Rattle.core_top.specs.Reading.{ReadsAs, IsQueryText, are_apart, are_named, event_declaration_at, names_at, names_of, query_at, selection_at, sequence_at, stream_declaration_at, number_of_name};
 ghost use Rattle.std.specs.Prelude.{◌≡◌, IfSome};
 
 use crate::spelled::{after_literal, may_be_name, word_then};
@@ -22,7 +22,7 @@ pub struct NamesOfQuery<'a> {
 /// The type, the attribute and the text behind the line `DECLARE EVENT A(v INT)`.
 #[tactic(auto, unfolding(crate::specs::Reading::event_declaration_at))]
 fn event_declaration(text: &[u8]) -> Option<(&[u8], &[u8], &[u8])>
-    ensures { Gives (λ x. (x.0.now, x.1.now, x.2.now)) result (event_declaration_at text.now) }
+    ensures { ReadsAs (λ x. (x.0.now, x.1.now, x.2.now)) result (event_declaration_at text.now) }
 {
     let rest = after_literal(text, b"DECLARE EVENT ")?;
     let (name, rest) = word_then(rest, b"(")?;
@@ -37,7 +37,7 @@ fn stream_declaration<'a>(
     first: &[u8],
     second: &[u8],
 ) -> Option<(&'a [u8], &'a [u8])>
-    ensures { Gives (λ x. (x.0.now, x.1.now)) result (stream_declaration_at first.now second.now text.now) }
+    ensures { ReadsAs (λ x. (x.0.now, x.1.now)) result (stream_declaration_at first.now second.now text.now) }
 {
     let front = after_literal(text, b"DECLARE STREAM ")?;
     let (stream, behind_stream) = word_then(front, b"(")?;
@@ -51,7 +51,7 @@ fn stream_declaration<'a>(
 /// The two types and the text behind the end of the line `A ; B`.
 #[tactic(auto, unfolding(crate::specs::Reading::sequence_at))]
 fn sequence(text: &[u8]) -> Option<(&[u8], &[u8], &[u8])>
-    ensures { Gives (λ x. (x.0.now, x.1.now, x.2.now)) result (sequence_at text.now) }
+    ensures { ReadsAs (λ x. (x.0.now, x.1.now, x.2.now)) result (sequence_at text.now) }
 {
     let (before, behind_before) = word_then(text, b" ; ")?;
     let (after, rest) = word_then(behind_before, b"\n")?;
@@ -61,7 +61,7 @@ fn sequence(text: &[u8]) -> Option<(&[u8], &[u8], &[u8])>
 /// The two types of the sequence and the text behind the line `SELECT * FROM S WHERE A ; B`.
 #[tactic(auto, unfolding(crate::specs::Reading::selection_at))]
 fn selection<'a>(text: &'a [u8], stream: &[u8]) -> Option<(&'a [u8], &'a [u8], &'a [u8])>
-    ensures { Gives (λ x. (x.0.now, x.1.now, x.2.now)) result (selection_at stream.now text.now) }
+    ensures { ReadsAs (λ x. (x.0.now, x.1.now, x.2.now)) result (selection_at stream.now text.now) }
 {
     let front = after_literal(text, b"SELECT * FROM ")?;
     let behind_stream = after_literal(front, stream)?;
@@ -72,7 +72,7 @@ fn selection<'a>(text: &'a [u8], stream: &[u8]) -> Option<(&'a [u8], &'a [u8], &
 /// The names of the four lines, where nothing stands behind them.
 #[tactic(auto, unfolding(crate::specs::Reading::names_at))]
 fn names(text: &[u8]) -> Option<NamesOfQuery<'_>>
-    ensures { Gives names_of result (names_at text.now) }
+    ensures { ReadsAs names_of result (names_at text.now) }
 {
     let (first_type, first_attribute, rest) = event_declaration(text)?;
     let (second_type, second_attribute, rest) = event_declaration(rest)?;
@@ -112,7 +112,7 @@ fn have_different_names(n: &NamesOfQuery) -> bool
 
 /// The number of the type with the name, of two types.
 pub fn number_of_type(first: &[u8], second: &[u8], name: &[u8]) -> Option<TypeId>
-    ensures { result ≡ type_number first.now second.now name.now }
+    ensures { result ≡ number_of_name first.now second.now name.now }
 {
     if first == name {
         Some(0)
@@ -126,7 +126,7 @@ pub fn number_of_type(first: &[u8], second: &[u8], name: &[u8]) -> Option<TypeId
 /// The names of the four lines, and the numbers of the two types of the sequence.
 #[tactic(auto, unfolding(crate::specs::Reading::query_at))]
 fn numbered(text: &[u8]) -> Option<(NamesOfQuery<'_>, TypeId, TypeId)>
-    ensures { Gives (λ x. (names_of x.0, x.1, x.2)) result (query_at text.now) }
+    ensures { ReadsAs (λ x. (names_of x.0, x.1, x.2)) result (query_at text.now) }
 {
     let n = names(text)?;
     let before = number_of_type(n.first_type, n.second_type, n.before)?;

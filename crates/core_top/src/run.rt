@@ -1,8 +1,7 @@
 //! The order of work of a run: the query file, the event file, the answers.
 
-ghost use Rattle.std.specs.Prelude.{◌≡◌, ◌≤◌, ℕ, List, Ok, IfErr, OnOk};
+ghost use Rattle.std.specs.Prelude.{◌≡◌, ℕ, List};
 ghost use Rattle.core_top.specs.Run.{Ended};
-ghost use Rattle.core_top.specs.declared.Cause.TheVariants as cause;
 
 use super::engine::write_answers;
 use super::first_form::{read_events, read_query};
@@ -23,13 +22,22 @@ pub fn run_files<H: Host, K: Sink>(
     host: &mut H,
     out: &mut K,
 ) -> Stop<H::Src>
-    ensures ends { Ended (record { faults = H.Src.faults; left = H.Src.left }) (record { queries = queries.now; events = events.now; content = H.content host.old; old = H.faults host.old; new = H.faults host.new; out_old = K.faults out.old; out_new = K.faults out.new; before = K.taken out.old; after = K.taken out.new }) result.cause result.failed }
+    ensures ends { Ended (record { faults = H.Src.faults; left = H.Src.left }) H.opens
+        (record {
+          queries = queries.now;
+          events = events.now;
+          content = H.content host.old;
+          old = H.faults host.old;
+          new = H.faults host.new;
+          out_old = K.faults out.old;
+          out_new = K.faults out.new;
+          before = K.taken out.old;
+          after = K.taken out.new;
+        })
+        host.old host.new result.cause result.failed }
     ensures kept { (any : List ℕ) → H.content host.new any ≡ H.content host.old any }
-    ensures later { (any : List ℕ) → H.faults host.old any ≤ H.faults host.new any }
 {
-    let queries_before = host.fault_count(queries);
-    let events_before = host.fault_count(events);
-    let text = match take_whole(alloc, host, File::Queries, queries, queries_before) {
+    let text = match take_whole(alloc, host, File::Queries, queries) {
         Ok(text) => text,
         Err(stop) => return stop,
     };
@@ -43,7 +51,7 @@ pub fn run_files<H: Host, K: Sink>(
             });
         }
     };
-    let lines = match take_whole(alloc, host, File::Events, events, events_before) {
+    let lines = match take_whole(alloc, host, File::Events, events) {
         Ok(lines) => lines,
         Err(stop) => return stop,
     };

@@ -1,7 +1,7 @@
 //! Literals, names and numerals at the front of a text.
 
 ghost use Rattle.core_top.specs.FirstForm.{begins_name, continues_name, is_keyword, is_name, is_word};
-ghost use Rattle.core_top.specs.Reading.{Gives, after, run_then};
+ghost use Rattle.core_top.specs.Reading.{ReadsAs, after, run_then};
 ghost use Rattle.std.specs.Char.{is_ascii_digit, to_ascii_uppercase};
 ghost use Rattle.std.specs.List.{list_all, list_any, prefix_len};
 ghost use Rattle.std.specs.Str.{str_to_ascii_uppercase};
@@ -10,7 +10,7 @@ ghost use Rattle.std.specs.Prelude.{◌≡◌, ◌≤◌, ◌↔◌, IsTrue, len
 /// What stands after the literal, where the text begins with it.
 #[tactic(auto, unfolding(crate::specs::Reading::after))]
 pub fn after_literal<'a>(text: &'a [u8], literal: &[u8]) -> Option<&'a [u8]>
-    ensures { Gives (λ x. x.now) result (after literal.now text.now) }
+    ensures { ReadsAs (λ x. x.now) result (after literal.now text.now) }
 {
     text.strip_prefix(literal)
 }
@@ -48,7 +48,7 @@ fn numeral_len(text: &[u8]) -> usize
 /// The word at the front, and what stands after the literal behind it.
 #[tactic(auto, unfolding(crate::specs::Reading::run_then))]
 pub fn word_then<'a>(text: &'a [u8], literal: &[u8]) -> Option<(&'a [u8], &'a [u8])>
-    ensures { Gives (λ x. (x.0.now, x.1.now)) result (run_then continues_name literal.now text.now) }
+    ensures { ReadsAs (λ x. (x.0.now, x.1.now)) result (run_then continues_name literal.now text.now) }
 {
     let (word, rest) = text.split_at(word_len(text));
     let rest = after_literal(rest, literal)?;
@@ -58,7 +58,7 @@ pub fn word_then<'a>(text: &'a [u8], literal: &[u8]) -> Option<(&'a [u8], &'a [u
 /// The digits at the front, and what stands after the literal behind them.
 #[tactic(auto, unfolding(crate::specs::Reading::run_then))]
 pub fn numeral_then<'a>(text: &'a [u8], literal: &[u8]) -> Option<(&'a [u8], &'a [u8])>
-    ensures { Gives (λ x. (x.0.now, x.1.now)) result (run_then is_ascii_digit literal.now text.now) }
+    ensures { ReadsAs (λ x. (x.0.now, x.1.now)) result (run_then is_ascii_digit literal.now text.now) }
 {
     let (digits, rest) = text.split_at(numeral_len(text));
     let rest = after_literal(rest, literal)?;

@@ -1,9 +1,10 @@
 //! What follows of the top call over a host that never fails.
 
-ghost use Rattle.std.specs.Prelude.{◌≡◌, ℕ, List, Some, map, string_bytes};
+ghost use Rattle.std.specs.Prelude.{◌≡◌, ℕ, List, map, string_bytes};
 ghost use Rattle.stream_schema.specs.declared.Event.{Event};
 ghost use Rattle.cer_outside.specs.Causes.{Rose};
-ghost use Rattle.cer_outside.specs.Files.{bytes_under};
+ghost use Rattle.cer_outside.specs.Content.{Holds};
+ghost use Rattle.cer_outside.specs.Files.{content_under};
 ghost use Rattle.core_top.specs.FirstForm.{Names, IsQueryFile, IsEventFile};
 ghost use Rattle.core_top.specs.Command.{IsRun};
 ghost use Rattle.core_top.specs.Causes.{IsFineOrMemory};
@@ -27,8 +28,11 @@ pub fn run_over_sure<K: Sink, N: Sink, L: Ledger>(
     notes: &mut N,
     steps: &mut Steps<L>,
 ) -> Done<SureSource>
-    ensures { (queries events text lines : List ℕ) (names : Names) (list : List Event) → IsRun (map string_bytes words.items) queries events
-        → bytes_under host.old.files queries ≡ Some text → bytes_under host.old.files events ≡ Some lines → IsQueryFile text names → IsEventFile names lines list
+    ensures { (queries events text lines : List ℕ) (names : Names) (list : List Event)
+        → IsRun (map string_bytes words.items) queries events
+        → content_under host.old.files queries ≡ Holds text
+        → content_under host.old.files events ≡ Holds lines
+        → IsQueryFile text names → IsEventFile names lines list
         → (Rose (K.faults out.old) (K.faults out.new) → ⊥) → IsFineOrMemory result.cause }
 {
     core_main(alloc, words, host, out, notes, steps)

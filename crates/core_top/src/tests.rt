@@ -46,19 +46,21 @@ fn words_of(alloc: Global, text: &str) -> Result<Vec<String>, AllocError> {
     Ok(words)
 }
 
-/// What a call answers over the host: the status, a bar, the output, a bar, the note.
+/// What a call answers over the host: the status, a bar, the output, a bar, the note. The write of
+/// this number fails.
 fn answer<H: Host, L: Ledger>(
     alloc: Global,
     words: Vec<String>,
     host: &mut H,
     room: usize,
+    write_fails: u64,
     blank: Blank,
 ) -> Result<String, AllocError>
     requires name { blank.name ≡ L.name }
     requires parts { blank.parts ≡ L.parts }
     requires some { 0 < blank.parts }
 {
-    let Ok(mut out) = MemSink::new(alloc, 7, room, Vec::new(alloc)) else {
+    let Ok(mut out) = MemSink::new(alloc, 7, room, Vec::from_slice(alloc, &[write_fails])?) else {
         return Err(AllocError);
     };
     let Ok(mut notes) = MemSink::new(alloc, 7, AMPLE, Vec::new(alloc)) else {
@@ -104,8 +106,9 @@ fn over_faulty(
     words: Vec<String>,
     host: &mut MemHost,
     room: usize,
+    write_fails: u64,
 ) -> Result<String, AllocError> {
-    answer::<MemHost, Brand>(alloc, words, host, room, Blank::new(1))
+    answer::<MemHost, Brand>(alloc, words, host, room, write_fails, Blank::new(1))
 }
 
 /// What a call answers over a host that never fails.
@@ -115,7 +118,7 @@ fn over_sure(
     host: &mut SureHost,
     room: usize,
 ) -> Result<String, AllocError> {
-    answer::<SureHost, Brand>(alloc, words, host, room, Blank::new(1))
+    answer::<SureHost, Brand>(alloc, words, host, room, 0, Blank::new(1))
 }
 
 #[test]
@@ -180,10 +183,68 @@ fn calls_answer_their_causes(rt: HostRuntime) -> Result<(), Fail> {
         ),
     ] {
         let (mut faulty, mut sure) = hosts(alloc, queries, events)?;
-        let first = over_faulty(alloc, words_of(alloc, words)?, &mut faulty, room)?;
+        let first = over_faulty(alloc, words_of(alloc, words)?, &mut faulty, room, 0)?;
         assert_eq!(rt; first.as_str(), wanted, "{name}");
         let second = over_sure(alloc, words_of(alloc, words)?, &mut sure, room)?;
         assert_eq!(rt; second.as_str(), wanted, "{name}");
+    }
+    Ok(())
+}
+
+/// The host that has the query file of a sequence as `q` and three events as `e`. The open of the
+/// first number fails, of the query file the read of the second, of the event file that of the
+/// third.
+fn failing_host(
+    alloc: Global,
+    open: u64,
+    query_read: u64,
+    event_read: u64,
+) -> Result<MemHost, AllocError> {
+    let mut files = Vec::new(alloc);
+    for (name, text, read) in [
+        ("q", SEQUENCE, query_read),
+        ("e", "A,1\nA,2\nB,3\n", event_read),
+    ] {
+        let Ok(name) = Text::copy_of(alloc, name) else {
+            return Err(AllocError);
+        };
+        let bytes = Vec::from_slice(alloc, text.as_bytes())?;
+        files.push(MemFile::new(name, bytes, 5, Vec::from_slice(alloc, &[read])?))?;
+    }
+    Ok(MemHost::new(files, Vec::from_slice(alloc, &[open])?))
+}
+
+/// In pieces of 5 bytes the query file takes 21 reads and the event file 4, the end included. In
+/// pieces of 7 bytes the two lines of the output take 4 writes.
+#[test]
+fn each_failing_call_is_the_cause(rt: HostRuntime) -> Result<(), Fail> {
+    let alloc = rt.alloc();
+    let all = "0|1 [0,2] {0,2}\n1 [1,2] {1,2}\n|";
+    for (open, query_read, event_read, write, wanted) in [
+        (1, 0, 0, 0, "5||core: cannot open queries\n"),
+        (2, 0, 0, 0, "5||core: cannot open events\n"),
+        (3, 0, 0, 0, all),
+        (0, 1, 0, 0, "5||core: cannot read queries\n"),
+        (0, 12, 0, 0, "5||core: cannot read queries\n"),
+        (0, 21, 0, 0, "5||core: cannot read queries\n"),
+        (0, 22, 0, 0, all),
+        (0, 0, 1, 0, "5||core: cannot read events\n"),
+        (0, 0, 4, 0, "5||core: cannot read events\n"),
+        (0, 0, 5, 0, all),
+        (0, 0, 0, 1, "6||core: cannot write\n"),
+        (0, 0, 0, 2, "6|1 [0,2]|core: cannot write\n"),
+        (0, 0, 0, 3, "6|1 [0,2] {0,2}\n|core: cannot write\n"),
+        (0, 0, 0, 4, "6|1 [0,2] {0,2}\n1 [1,2]|core: cannot write\n"),
+        (0, 0, 0, 5, all),
+    ] {
+        let mut host = failing_host(alloc, open, query_read, event_read)?;
+        let words = words_of(alloc, "run q e")?;
+        let answer = over_faulty(alloc, words, &mut host, AMPLE, write)?;
+        assert_eq!(rt;
+            answer.as_str(),
+            wanted,
+            "{open} {query_read} {event_read} {write}"
+        );
     }
     Ok(())
 }

@@ -5,11 +5,12 @@ use Rattle.std.proofs.lemmas.List.{length-drop, length-take, take-take, drop-tak
 use Rattle.std.proofs.Math.Seq.{take-add, take-append-add}
 use Rattle.std.proofs.lemmas.List.Folds.{list_any-append, list_any_none}
 use Rattle.std.specs.List.{list_any}
-use Rattle.cer_outside.specs.Bytes.{Reads}
+use Rattle.cer_outside.specs.Bytes.{Reads, ReadsOn}
 use Rattle.std.proofs.lemmas.Grind.{get_or_default_zero}
 use Rattle.memchr.specs.Find.{NoneBefore, Nowhere, Passes, is_byte}
+use Rattle.cer_outside.specs.Bytes.{ReadsOn}
 use Rattle.event_reader.specs.Lines.{has_line_feed}
-use Rattle.event_reader.specs.LineBuffers.{Held, bytes_between, IsLineBuffer, IsFirstLineFeed, IsShort, ReadsOn}
+use Rattle.event_reader.specs.LineBuffers.{Held, bytes_between, IsLineBuffer, IsFirstLineFeed, IsShort}
 use Rattle.event_reader.proofs.LineBytes.{neither, any_take}
 use Rattle.event_reader.proofs.Texts.{by_cases}
 

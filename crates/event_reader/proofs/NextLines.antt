@@ -6,9 +6,10 @@ use Rattle.event_reader.specs.declared.LineFault.{LineFault}
 use Rattle.event_reader.specs.declared.LineFault.TheVariants.{ReadFault, LineTooLong, InputTooLong}
 use Rattle.event_reader.specs.declared.reader.Next.{Next}
 use Rattle.event_reader.specs.declared.reader.Next.TheVariants.{Line, End}
+use Rattle.cer_outside.specs.Bytes.{ReadsOn, IsAtEnd}
 use Rattle.event_reader.specs.Lines.{file_lines, line_text}
 use Rattle.event_reader.specs.Lines.{has_line_feed}
-use Rattle.event_reader.specs.LineBuffers.{Held, IsFirstLineFeed, IsShort, ReadsOn, IsAtEnd}
+use Rattle.event_reader.specs.LineBuffers.{Held, IsFirstLineFeed, IsShort}
 use Rattle.event_reader.specs.Reading.{LineReader, HasGiven, HasTakenFor, Follows}
 use Rattle.event_reader.proofs.GivenLines.{given_line, given_last, all_ended, all_at_end, all_long, all_full, cut_off, given_first, taken_so_far, taken_in_full}
 

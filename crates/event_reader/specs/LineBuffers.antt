@@ -1,8 +1,9 @@
 -- The bytes that a reader of lines has taken and still holds, and how reading changes them. Private clauses alone cite
 -- these, but for `IsShort`.
-use Rattle.std.specs.Prelude.{◌≡◌, ℕ, ◌+◌, ◌-◌, ◌<◌, ◌≤◌, ◌==◌, Bool, false, List, [], ◌++◌, length, take, drop, get_or, Option, Some, None, IfSome, Result, Ok, Err}
+use Rattle.std.specs.Prelude.{◌≡◌, ℕ, ◌+◌, ◌-◌, ◌<◌, ◌≤◌, ◌==◌, Bool, false, List, [], ◌++◌, length, take, drop, get_or, Option, Result, Ok, Err}
 use Rattle.cer_base.specs.declared.bytes.TheConstants.{LINE_FEED}
 use Rattle.cer_base.specs.declared.limits.TheConstants.{LONGEST_LINE}
+use Rattle.cer_outside.specs.Bytes.{IsAtEnd}
 use Rattle.event_reader.specs.Lines.{has_line_feed}
 use Rattle.event_reader.specs.declared.line_buffer.Stop.{Stop}
 use Rattle.event_reader.specs.declared.line_buffer.Stop.TheVariants.{LineFeed, Long, Full, End}
@@ -38,16 +39,6 @@ pub record IsFirstLineFeed (place : ℕ) (bytes : List ℕ) : Type 0 where
 pub record IsShort (bytes : List ℕ) : Type 0 where
   pub plain : has_line_feed bytes ≡ false
   pub short : length bytes ≤ LONGEST_LINE
-
--- the bytes at hand and what is left after them stay the same, where the source tells its bytes
-abbrev pub ReadsOn : Option (List ℕ) → Option (List ℕ) → List ℕ → List ℕ → Type 0
-ReadsOn None left old new = left ≡ None
-ReadsOn (Some before) None old new = ⊥
-ReadsOn (Some before) (Some after) old new = new ++ after ≡ old ++ before
-
--- nothing is left, where the source tells its bytes
-abbrev pub IsAtEnd : Option (List ℕ) → Type 0
-IsAtEnd left = IfSome left (λ bytes. bytes ≡ [])
 
 -- why reading stopped, of which these bytes are at hand and so many may be
 abbrev pub IsStop : {E : Type 0} → ℕ → List ℕ → Option (List ℕ) → Result Stop E → Type 0

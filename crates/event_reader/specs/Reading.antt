@@ -1,6 +1,7 @@
 -- What a reader of lines has given of a file, and what its next answer says.
 use Rattle.std.specs.Prelude.{◌≡◌, ℕ, ◌+◌, ◌-◌, ◌<◌, ◌≤◌, ◌==◌, Bool, true, false, if◌then◌else◌, List, [], ◌∷◌, ◌++◌, length, take, Option, Some, None, Result, Ok, Err}
 use Rattle.cer_base.specs.declared.bytes.TheConstants.{LINE_FEED}
+use Rattle.cer_outside.specs.Causes.{Rose}
 use Rattle.event_reader.specs.declared.LineFault.{LineFault}
 use Rattle.event_reader.specs.declared.LineFault.TheVariants.{ReadFault, LineTooLong, InputTooLong}
 use Rattle.event_reader.specs.declared.reader.Next.{Next}
@@ -100,6 +101,13 @@ HasTakenFor budget bytes (Some left) (Ok next) = HasTaken bytes left 0 budget
 HasTakenFor budget bytes (Some left) (Err ReadFault) = HasTaken bytes left 0 budget
 HasTakenFor budget bytes (Some left) (Err (LineTooLong line)) = HasTaken bytes left 0 budget
 HasTakenFor budget bytes (Some left) (Err (InputTooLong taken)) = HasTaken bytes left budget budget
+
+-- the source's count of faults rose where it failed, and else stays
+abbrev pub HasReadCause : ℕ → ℕ → Result Next LineFault → Type 0
+HasReadCause before now (Ok next) = now ≡ before
+HasReadCause before now (Err ReadFault) = Rose before now
+HasReadCause before now (Err (LineTooLong line)) = now ≡ before
+HasReadCause before now (Err (InputTooLong taken)) = now ≡ before
 
 -- a fact that holds where the source failed
 abbrev pub OnReadFault : Result Next LineFault → Type 0 → Type 0

@@ -1,9 +1,10 @@
 //! The bytes that a reader of lines has taken from its source and still holds.
 
 ghost use Rattle.std.specs.Prelude.{◌≡◌, ◌+◌, ◌-◌, ◌<◌, ◌≤◌, ℕ, List, [], false, length, take, drop, vec_len, IfOk, IfErr, OnErr, MatchOption};
-ghost use Rattle.cer_outside.specs.Causes.{Rose};
+ghost use Rattle.cer_outside.specs.Bytes.{ReadsOn, IsAtEnd};
+ghost use Rattle.cer_outside.specs.Causes.{HasCause};
 ghost use Rattle.event_reader.specs.Lines.{has_line_feed};
-ghost use Rattle.event_reader.specs.LineBuffers.{bytes_between, IsFirstLineFeed, IsShort, ReadsOn, IsAtEnd, IsStop};
+ghost use Rattle.event_reader.specs.LineBuffers.{bytes_between, IsFirstLineFeed, IsShort, IsStop};
 
 use cer_base::Memory;
 use cer_base::bytes::LINE_FEED;
@@ -135,8 +136,7 @@ impl LineBuffer {
         ensures count { IfOk result (λ n. length self.new.pending ≡ length self.old.pending + n) }
         ensures end { IfOk result (λ n. n ≡ 0 → IsAtEnd (Q.left source.new)) }
         ensures failed { OnErr result (self.new.pending ≡ self.old.pending) }
-        ensures later { Q.faults source.old ≤ Q.faults source.new }
-        ensures cause { OnErr result (Rose (Q.faults source.old) (Q.faults source.new)) }
+        ensures cause { HasCause (Q.faults source.old) (Q.faults source.new) result }
     {
         let len = self.to - self.from;
         move_to_front(&mut self.buffer, self.from, self.to);
@@ -158,8 +158,7 @@ impl LineBuffer {
         ensures bytes { ReadsOn (Q.left source.old) (Q.left source.new) self.old.pending self.new.pending }
         ensures room { length self.new.pending ≤ room }
         ensures stop { IsStop room self.new.pending (Q.left source.new) result }
-        ensures later { Q.faults source.old ≤ Q.faults source.new }
-        ensures cause { OnErr result (Rose (Q.faults source.old) (Q.faults source.new)) }
+        ensures cause { HasCause (Q.faults source.old) (Q.faults source.new) result }
     {
         loop {
             if let Some(place) = self.find() {
@@ -218,8 +217,7 @@ fn read_after<Q: Source>(
     ensures bytes { IfOk result (λ n. ReadsOn (Q.left source.old) (Q.left source.new) (take len buffer.old.items) (take (len + n) buffer.new.items)) }
     ensures end { IfOk result (λ n. n ≡ 0 → IsAtEnd (Q.left source.new)) }
     ensures failed { OnErr result (ReadsOn (Q.left source.old) (Q.left source.new) (take len buffer.old.items) (take len buffer.old.items)) }
-    ensures later { Q.faults source.old ≤ Q.faults source.new }
-    ensures cause { OnErr result (Rose (Q.faults source.old) (Q.faults source.new)) }
+    ensures cause { HasCause (Q.faults source.old) (Q.faults source.new) result }
 {
     match source.read(&mut buffer.as_mut_slice()[len..len + most]) {
         Ok(count) => Ok(count),

@@ -2,10 +2,9 @@
 
 ghost use Rattle.std.specs.Prelude.{◌≡◌, ◌+◌, ◌-◌, ◌<◌, ◌≤◌, ◌==◌, ℕ, List, [], true, false, length, take, drop, IfOk};
 ghost use Rattle.event_reader.specs.declared.reader.Next.TheVariants as next;
-ghost use Rattle.cer_outside.specs.Causes.{Rose};
 ghost use Rattle.event_reader.specs.Lines.{has_line_feed, without_mark, line_text};
 ghost use Rattle.event_reader.specs.LineBuffers.{IsShort};
-ghost use Rattle.event_reader.specs.Reading.{HasGiven, Follows, HasTakenFor, OnReadFault, MovesOn};
+ghost use Rattle.event_reader.specs.Reading.{HasGiven, Follows, HasTakenFor, HasReadCause, OnReadFault, MovesOn};
 
 use crate::LineFault;
 use crate::line_buffer::{LineBuffer, Stop};
@@ -102,8 +101,7 @@ impl Lines {
         ensures lines { (bytes : List ℕ) (texts : List (List ℕ)) → HasGiven self.old bytes (Q.left source.old) texts → Follows self.new bytes (Q.left source.new) texts result }
         ensures took { (bytes : List ℕ) (texts : List (List ℕ)) → HasGiven self.old bytes (Q.left source.old) texts → HasTakenFor self.old.budget bytes (Q.left source.new) result }
         ensures moves { MovesOn self.old self.new result }
-        ensures later { Q.faults source.old ≤ Q.faults source.new }
-        ensures cause { OnReadFault result (Rose (Q.faults source.old) (Q.faults source.new)) }
+        ensures cause { HasReadCause (Q.faults source.old) (Q.faults source.new) result }
         ensures rest { OnReadFault result (IsShort self.new.pending) }
     {
         if self.ended {

@@ -1,12 +1,13 @@
 -- How the leaves of a type are collected, and a set of those that can read an event.
-use Rattle.std.proofs.Common.{◌≡◌, ◌≢◌, refl, sym, ap, subst, ◌∙◌, ℕ, zero, suc, ◌+◌, ◌<◌, ◌≤◌, ◌⊎◌, inl, inr, Bool, true, false, List, [], ◌∷◌, ◌++◌, length, Option, Some, None, slice_get, slice_index_or, Contains, arith}
+use Rattle.std.proofs.Common.{◌≡◌, ◌≢◌, refl, sym, ap, subst, ◌∙◌, ℕ, zero, suc, ◌+◌, ◌<◌, ◌≤◌, ◌⊎◌, inl, inr, Bool, true, false, List, [], ◌∷◌, ◌++◌, length, Option, Some, None, slice_get, slice_index_or, Contains, All, get_or, take, max, arith}
 use Rattle.std.proofs.lemmas.Bool.{cases_lt, eqb-true, eq-eqb, false≢true}
-use Rattle.std.proofs.lemmas.Option.{slice_get_within}
-use Rattle.std.proofs.lemmas.List.Elements.{Contains-append_left, Contains-append_right, Contains-append_cases}
-use Rattle.cel_terms.specs.declared.leaves.Leaf.{Leaf}
-use Rattle.std.specs.Prelude.{Vec, nat_eq, if◌then◌else◌, is_some}
+use Rattle.std.proofs.lemmas.Option.{slice_get_within, get_or_from_slice_get, slice_get-get_or}
+use Rattle.std.proofs.lemmas.List.Elements.{Contains-append_left, Contains-append_right, Contains-append_cases, All-contains, All-more, All-weaker}
+use Rattle.query_leaves.specs.declared.Leaf.{Leaf}
+use Rattle.std.specs.Prelude.{Vec, nat_eq}
 use Rattle.std.specs.declared.alloc.Global.{Global}
-use Rattle.predicate_bits.specs.Groups.{IsGroup, AreGrouped}
+use Rattle.std.proofs.Math.ListN.{set, length-set}
+use Rattle.predicate_bits.specs.Groups.{IsGroup, AreGrouped, HasOneMore}
 
 -- the numbers are those of the leaves of the type before a number
 pub record IsGroupUpTo (n : ℕ) (list : List Leaf) (ty : ℕ) (numbers : List ℕ) : Type 0 where
@@ -64,55 +65,67 @@ collected_all list ty numbers n end h = record {
   whole = λ k l at is. (let less = slice_get_within list k l at in h.whole k l (omega arith) at is);
 }
 
--- each group that is found is that of its type, and the leaves before a number are in one
-pub record AreGroupedUpTo (n : ℕ) (list : List Leaf) (find : ℕ → Option (Vec ℕ Global)) : Type 0 where
-  pub groups : (ty : ℕ) (v : Vec ℕ Global) → find ty ≡ Some v → IsGroup list ty v.items
-  pub whole : (k : ℕ) (l : Leaf) → k < n → slice_get list k ≡ Some l → find l.ty ≢ None
+-- each group is that of its type as far as the leaves before a number go, and there is one for each type
+pub record AreGroupedUpTo (n : ℕ) (list : List Leaf) (groups : List (Vec ℕ Global)) : Type 0 where
+  pub each : (ty : ℕ) (v : Vec ℕ Global) → slice_get groups ty ≡ Some v → IsGroupUpTo n list ty v.items
+  pub above : All (λ l. l.ty < length groups) list
 
-pub grouped_none : (list : List Leaf) (find : ℕ → Option (Vec ℕ Global)) → ((ty : ℕ) → find ty ≡ None) → AreGroupedUpTo 0 list find
-grouped_none list find none = record {
-  groups = λ ty v at. absurd (let e = sym at ∙ none ty in cc);
-  whole = λ k l less at e. omega arith;
+pub grouped_none : (list : List Leaf) (groups : List (Vec ℕ Global)) (count : ℕ) → All (λ l. l.ty < count) list → length groups ≡ count → All (λ v. v.items ≡ []) groups → AreGroupedUpTo 0 list groups
+grouped_none list groups count above is empty = record {
+  each = λ ty v at. subst (IsGroupUpTo 0 list ty) (sym (All-contains (λ (u : Vec ℕ Global). u.items ≡ []) groups v empty (ty, slice_get_within groups ty v at, get_or_from_slice_get groups ty v v at))) (collected_none list ty);
+  above = subst (λ n. All (λ (l : Leaf). l.ty < n) list) (sym is) above;
 }
 
--- a leaf whose type was found before
-pub grouped_past : (n : ℕ) (list : List Leaf) (find : ℕ → Option (Vec ℕ Global)) (l : Leaf) → AreGroupedUpTo n list find → slice_get list n ≡ Some l → find l.ty ≢ None → AreGroupedUpTo (n + 1) list find
-grouped_past n list find l h here found = record {
-  groups = h.groups;
-  whole = λ k m less at. is_whole k m less at (cases_lt k n);
+-- one more leaf
+pub grouped_more : (n : ℕ) (list : List Leaf) (old new : List (Vec ℕ Global)) (l : Leaf) → AreGroupedUpTo n list old → slice_get list n ≡ Some l → HasOneMore old new l.ty n → AreGroupedUpTo (n + 1) list new
+grouped_more n list old new l h here m = record {
+  each = λ ty v at. by ty v (nat_eq ty l.ty) refl at;
+  above = subst (λ k. All (λ (x : Leaf). x.ty < k) list) (sym m.count) h.above;
 }
   where
-    is_whole : (k : ℕ) (m : Leaf) → k < n + 1 → slice_get list k ≡ Some m → (k < n) ⊎ (n ≤ k) → find m.ty ≢ None
-    is_whole k m less at (inl low) = h.whole k m low at
-    is_whole k m less at (inr high) =
-        let same : k ≡ n = omega arith in
-        let one : m ≡ l = one_leaf m l (sym at ∙ (ap (slice_get list) same ∙ here)) in
-        subst (λ x. find x.ty ≢ None) (sym one) found
+    by : (ty : ℕ) (v : Vec ℕ Global) (b : Bool) → nat_eq ty l.ty ≡ b → slice_get new ty ≡ Some v → IsGroupUpTo (n + 1) list ty v.items
+    by ty v true e at =
+        let same : ty ≡ l.ty = eqb-true ty l.ty e in
+        let w = m.more v (ap (slice_get new) (sym same) ∙ at) in
+        subst (IsGroupUpTo (n + 1) list ty) (sym w.2) (collected_more n list ty w.0.items l (h.each ty w.0 (ap (slice_get old) same ∙ w.1)) here (sym same))
+    by ty v false e at =
+        let other : l.ty ≢ ty = λ same. false≢true (sym e ∙ eq-eqb ty l.ty (sym same)) in
+        collected_past n list ty v.items l (h.each ty v (sym (m.others ty (λ same. other (sym same))) ∙ at)) here other
 
--- the group of a further type
-pub grouped_more : (n : ℕ) (list : List Leaf) (find after : ℕ → Option (Vec ℕ Global)) (l : Leaf) (v : Vec ℕ Global) → AreGroupedUpTo n list find → slice_get list n ≡ Some l → IsGroup list l.ty v.items → ((ty : ℕ) → after ty ≡ (if nat_eq l.ty ty then Some v else find ty)) → AreGroupedUpTo (n + 1) list after
-grouped_more n list find after l v h here group insert = grouped_past n list after l record { groups = λ ty w at. is_group ty w (nat_eq l.ty ty) refl at; whole = λ k m less at e. is_whole k m less at (nat_eq l.ty m.ty) refl e } here (is_there (nat_eq l.ty l.ty) refl)
-  where
-    pick : (b : Bool) (ty : ℕ) → nat_eq l.ty ty ≡ b → after ty ≡ (if b then Some v else find ty)
-    pick b ty e = insert ty ∙ ap (λ c. if c then Some v else find ty) e
+beyond : (xs : List (Vec ℕ Global)) (i : ℕ) → i < length xs → slice_get xs i ≡ None → ⊥
+beyond [] i less none = absurd (omega arith)
+beyond (x ∷ xs) zero less none = absurd cc
+beyond (x ∷ xs) (suc i) less none = beyond xs i (omega arith) none
 
-    is_group : (ty : ℕ) (w : Vec ℕ Global) (b : Bool) → nat_eq l.ty ty ≡ b → after ty ≡ Some w → IsGroup list ty w.items
-    is_group ty w true e at =
-        let one : v ≡ w = let x = sym (pick true ty e) ∙ at in cc in
-        subst (λ u. IsGroup list ty u.items) one (subst (λ t. IsGroup list t v.items) (eqb-true l.ty ty e) group)
-    is_group ty w false e at = h.groups ty w (sym (pick false ty e) ∙ at)
+pub grouped_all : (list : List Leaf) (groups : List (Vec ℕ Global)) (n : ℕ) → length list ≤ n → AreGroupedUpTo n list groups → AreGrouped list (slice_get groups)
+grouped_all list groups n end h = record {
+  groups = λ ty v at. collected_all list ty v.items n end (h.each ty v at);
+  whole = λ k l at none. beyond groups l.ty (All-contains (λ (x : Leaf). x.ty < length groups) list l h.above (k, slice_get_within list k l at, get_or_from_slice_get list k l l at)) none;
+}
 
-    is_whole : (k : ℕ) (m : Leaf) → k < n → slice_get list k ≡ Some m → (b : Bool) → nat_eq l.ty m.ty ≡ b → after m.ty ≢ None
-    is_whole k m less at true e x = let y = sym (pick true m.ty e) ∙ x in absurd cc
-    is_whole k m less at false e x = h.whole k m less at (sym (pick false m.ty e) ∙ x)
+-- what is read where a list was written
+pub written : {X : Type 0} (xs : List X) (i j : ℕ) (x : X) → j ≢ i → slice_get (set xs i x) j ≡ slice_get xs j
+written [] i j x other = refl
+written (y ∷ ys) zero zero x other = absurd (other refl)
+written (y ∷ ys) zero (suc j) x other = refl
+written (y ∷ ys) (suc i) zero x other = refl
+written (y ∷ ys) (suc i) (suc j) x other = written ys i j x (λ same. other (ap (λ n. suc n) same))
 
-    is_there : (b : Bool) → nat_eq l.ty l.ty ≡ b → after l.ty ≢ None
-    is_there true e x = let y = sym (pick true l.ty e) ∙ x in absurd cc
-    is_there false e x = false≢true (sym e ∙ eq-eqb l.ty l.ty refl)
+pub written_there : {X : Type 0} (xs : List X) (i : ℕ) (x v : X) → slice_get (set xs i x) i ≡ Some v → v ≡ x
+written_there [] i x v at = absurd cc
+written_there (y ∷ ys) zero x v at = cc
+written_there (y ∷ ys) (suc i) x v at = written_there ys i x v at
 
-pub grouped_all : (list : List Leaf) (find : ℕ → Option (Vec ℕ Global)) (n : ℕ) → length list ≤ n → AreGroupedUpTo n list find → AreGrouped list find
-grouped_all list find n end h = record { groups = h.groups; whole = λ k l at. (let less = slice_get_within list k l at in h.whole k l (omega arith) at) }
+-- a number above the types of the leaves, with one leaf more
+pub above_more : (list : List Leaf) (i : ℕ) (l : Leaf) (count next : ℕ) → i < length list → l ≡ get_or list i l → All (λ m. m.ty < count) (take i list) → next ≡ l.ty + 1 → All (λ m. m.ty < max count next) (take (i + 1) list)
+above_more list i l count next within at h is =
+    All-more (λ m. m.ty < max count next) list i l within (All-weaker (λ m. m.ty < count) (λ m. m.ty < max count next) (λ m less. omega arith) (take i list) h)
+    (subst (λ m. m.ty < max count next) at (omega arith))
 
-pub is_found : (o : Option (Vec ℕ Global)) → true ≡ is_some o → o ≢ None
-is_found (Some v) h e = absurd cc
-is_found None h e = false≢true (sym h)
+-- the list at the place with one number more
+pub pushed : (groups : List (Vec ℕ Global)) (ty number : ℕ) (d after : Vec ℕ Global) → ty < length groups → after.items ≡ (get_or groups ty d).items ++ number ∷ [] → HasOneMore groups (set groups ty after) ty number
+pushed groups ty number d after within is = record {
+  count = length-set groups ty after;
+  others = λ t other. written groups ty t after other;
+  more = λ v at. (get_or groups ty d, slice_get-get_or groups ty d within, ap (λ (u : Vec ℕ Global). u.items) (written_there groups ty after v at) ∙ is);
+}

@@ -4,8 +4,8 @@ use Rattle.std.specs.List.{list_all, list_any}
 use Rattle.std.specs.Prelude.{Vec}
 use Rattle.std.specs.declared.alloc.Global.{Global}
 use Rattle.stream_schema.specs.declared.Event.{Event}
-use Rattle.cel_terms.specs.declared.leaves.Test.{Test, All, Any, All', Any', Row_of-Test, end_of-Test, more_of-Test, items-the_row-Test, items_hidden-the_row-Test-0}
-use Rattle.cel_terms.specs.Shapes.{test_holds, all_tests_hold, any_test_holds, each_holds}
+use Rattle.query_leaves.specs.declared.Test.{Test, All, Any, All', Any', Row_of-Test, end_of-Test, more_of-Test, items-the_row-Test, items_hidden-the_row-Test-0}
+use Rattle.query_leaves.specs.Shapes.{test_holds, all_tests_hold, any_test_holds, each_holds}
 
 all_listed : (event : Event) (n : _) (row : Row_of-Test n) → all_tests_hold row event ≡ list_all (λ t. test_holds t event) (items-the_row-Test n row)
 all_listed event n end_of-Test = refl

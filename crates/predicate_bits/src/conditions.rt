@@ -1,18 +1,18 @@
 //! The conditions of a query's leaves.
 
 ghost use Rattle.std.specs.Prelude.{◌≡◌, ℕ, ◌<◌, Some, false, length, slice_get, IfOk};
+ghost use Rattle.std.specs.Option.{option_copied};
 ghost use Rattle.cer_base.specs.Bits.{has, room_for};
-ghost use Rattle.cel_terms.specs.Conditions.{bits_of};
-ghost use Rattle.cel_terms.specs.declared.leaves.Leaf.{Leaf};
-ghost use Rattle.cel_terms.specs.Shapes.{each_holds as tests_hold};
+ghost use Rattle.query_leaves.specs.Conditions.{leaf_conditions};
+ghost use Rattle.query_leaves.specs.declared.Leaf.{Leaf};
+ghost use Rattle.query_leaves.specs.Shapes.{each_holds as tests_hold};
 ghost use Rattle.predicate_bits.specs.Groups.{IsGroup};
 
 use crate::groups::grouped;
 use crate::holding::each_holds;
-use cel_terms::leaves::Leaf;
 use cer_base::bits::Bits;
 use cer_base::{Listed, Memory};
-use indexmap::IndexMap;
+use query_leaves::Leaf;
 use std::alloc::Global;
 use std::marker::Model;
 use stream_schema::{Event, TypeId};
@@ -21,16 +21,16 @@ use stream_schema::{Event, TypeId};
 #[derive(Drop)]
 pub struct Conditions {
     list: Listed<Leaf>,
-    groups: IndexMap<TypeId, Vec<usize>>,
+    /// The numbers of the leaves of each type, by the type's number.
+    groups: Vec<Vec<usize>>,
 }
 
 impl Model for Conditions {
     ghost use Rattle.std.specs.Prelude.{List};
-    ghost use Rattle.cel_terms.specs.declared.leaves.Leaf.{Leaf};
-    ghost use Rattle.std.specs.Prelude.{nat_eq};
-    ghost use Rattle.indexmap.specs.IndexMap.{get};
+    ghost use Rattle.query_leaves.specs.declared.Leaf.{Leaf};
+    ghost use Rattle.std.specs.Prelude.{slice_get};
     ghost use Rattle.predicate_bits.specs.Groups.{AreGrouped};
-    ghost use Rattle.cel_terms.specs.contracts.leaves.Test as test;
+    ghost use Rattle.query_leaves.specs.contracts.Test as test;
     ghost use Rattle.std.specs.Coded.{codes};
 
     ghost Value = { List Leaf };
@@ -39,7 +39,7 @@ impl Model for Conditions {
 
     ghost view = { λ c. c.list };
 
-    ghost invariant = { λ c. AreGrouped c.list (get nat_eq c.groups) };
+    ghost invariant = { λ c. AreGrouped c.list (slice_get c.groups.items) };
 }
 
 impl Conditions {
@@ -63,14 +63,21 @@ impl Conditions {
     /// that `blank` gives.
     pub fn fill(&self, event: &Event, into: &mut Bits)
         requires { length into.old ≡ room_for (length self.now) }
-        ensures members { (k : ℕ) → has into.new k ≡ bits_of self.now event.now k }
+        ensures members { (k : ℕ) → has into.new k ≡ leaf_conditions self.now event.now k }
         ensures room { length into.new ≡ length into.old }
     {
         into.clear();
-        if let Some(numbers) = self.groups.get(&event.ty) {
+        if let Some(numbers) = group_of(self.groups.as_slice(), event.ty) {
             add(self.list.as_slice(), numbers.as_slice(), event, into);
         }
     }
+}
+
+/// The numbers of the leaves of the type.
+fn group_of(groups: &[Vec<usize>], ty: TypeId) -> Option<&Vec<usize>>
+    ensures { option_copied result ≡ slice_get groups.now ty }
+{
+    groups.get(ty as usize)
 }
 
 /// Whether the tests of the leaf of this number hold of the event.
@@ -86,7 +93,7 @@ fn add(list: &[Leaf], numbers: &[usize], event: &Event, into: &mut Bits)
     requires group { IsGroup list.now event.now.ty numbers.now }
     requires room { length into.old ≡ room_for (length list.now) }
     requires empty { (k : ℕ) → has into.old k ≡ false }
-    ensures members { (k : ℕ) → has into.new k ≡ bits_of list.now event.now k }
+    ensures members { (k : ℕ) → has into.new k ≡ leaf_conditions list.now event.now k }
     ensures room { length into.new ≡ length into.old }
 {
     for number in numbers {

@@ -4,11 +4,10 @@ ghost use Rattle.std.specs.Prelude.{◌≡◌};
 ghost use Rattle.std.specs.List.{list_all, list_any};
 ghost use Rattle.std.specs.Option.{option_copied};
 ghost use Rattle.std.specs.Prelude.{slice_get};
-ghost use Rattle.cel_terms.specs.Shapes.{test_holds, each_holds};
+ghost use Rattle.query_leaves.specs.Shapes.{test_holds, each_holds};
 
-use cel_terms::compare::is_met_by;
-use cel_terms::leaves::Test;
-use stream_schema::{Event, Value};
+use query_leaves::Test;
+use stream_schema::{Event, Value, is_met_by};
 
 /// The value at the place.
 fn value_at(values: &[Value], place: usize) -> Option<&Value>

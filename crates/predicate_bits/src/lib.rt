@@ -2,11 +2,13 @@
 //!
 //! Promised: `Conditions::fill` puts in exactly the numbers of the leaves whose type is the event's
 //! and whose tests hold of it, without taking memory, and looks at no leaf of another type.
-//! It stands on `cel_terms`, `stream_schema`, `cer_base` and `indexmap`.
+//! It stands on `query_leaves` for leaves and `stream_schema` for events.
 #![tactic(auto)]
 
-pub mod conditions;
+mod conditions;
 mod groups;
 mod holding;
 #[cfg(test)]
 mod tests;
+
+pub use conditions::Conditions;

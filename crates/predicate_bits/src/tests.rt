@@ -1,10 +1,9 @@
-use crate::conditions::Conditions;
-use cel_terms::Op;
-use cel_terms::leaves::{Leaf, Test};
+use crate::Conditions;
 use cer_base::{Listed, Memory};
+use query_leaves::{Leaf, Test};
 use std::alloc::Global;
 use std::test::*;
-use stream_schema::{Event, Value};
+use stream_schema::{Event, Op, Value};
 
 /// Whether the first attribute is this number.
 fn is_number(number: i64) -> Test {

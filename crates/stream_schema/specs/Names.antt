@@ -13,10 +13,18 @@ type_number types name = position_from (λ t. bytes_eq t.name name) 0 types
 abbrev pub attr_index : List ℕ → List Attr → Option ℕ
 attr_index name attrs = position_from (λ a. bytes_eq a.name name) 0 attrs
 
--- the place and the kind of the attribute, where there is such a type and it has it
+-- the attribute that stands there among those of the type
+abbrev pub attr_of : List DeclaredType → ℕ → ℕ → Option Attr
+attr_of types ty i = option_and_then (λ t. slice_get t.attrs i) (slice_get types ty)
+
+-- the place and the kind of the attribute among these, where one has the name
+abbrev pub attr_among : List Attr → List ℕ → Option AttrAt
+attr_among attrs name =
+    option_and_then (λ i. option_map (λ a. record { index = i; kind = a.kind }) (slice_get attrs i)) (attr_index name attrs)
+
+-- the same among those of the type, where there is such a type
 abbrev pub attr_at : Declared → ℕ → List ℕ → Option AttrAt
-attr_at schema ty name =
-    option_and_then (λ t. option_and_then (λ i. option_map (λ a. record { index = i; kind = a.kind }) (slice_get t.attrs i)) (attr_index name t.attrs)) (slice_get schema.types ty)
+attr_at schema ty name = option_and_then (λ t. attr_among t.attrs name) (slice_get schema.types ty)
 
 -- the types of the stream of this name
 abbrev pub stream_types : List DeclaredStream → List ℕ → Option (List ℕ)

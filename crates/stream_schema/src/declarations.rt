@@ -1,18 +1,24 @@
 //! One declared type, and one declared stream.
 
-ghost use Rattle.std.specs.Prelude.{◌≡◌, map, IfOk};
+ghost use Rattle.std.specs.Prelude.{◌≡◌, ◌<◌, map, length, is_none, IfOk, IfSome};
+ghost use Rattle.cer_base.specs.Repeats.{HasNoRepeats};
+ghost use Rattle.stream_schema.specs.Names.{attr_index, attr_among};
+ghost use Rattle.stream_schema.specs.Declaring.{repeats_name};
 
-use crate::{Attr, Attrs, Kinds, TypeId, TypeIds};
+use crate::names::NameIndex;
+use crate::{Attr, AttrAt, Attrs, Kinds, TypeId, TypeIds};
 use cer_base::{Listed, Memory, Text};
 use std::alloc::Global;
 use std::marker::Model;
 
-/// A type: its name, and its attributes in the declared order. Their kinds are kept as a list too.
+/// A type: its name, and its attributes in the declared order. Their kinds are kept as a list too,
+/// and their names in an index.
 #[derive(Drop, Debug)]
 pub struct TypeDecl {
     name: Text,
     attrs: Attrs,
     kinds: Kinds,
+    names: NameIndex,
 }
 
 impl Model for TypeDecl {
@@ -23,18 +29,38 @@ impl Model for TypeDecl {
 
     ghost view = { λ t. record { name = t.name; attrs = t.attrs } };
 
-    ghost invariant = { λ t. t.kinds ≡ map (λ a. a.kind) t.attrs };
+    ghost invariant = { λ t. (t.kinds ≡ map (λ a. a.kind) t.attrs) × (t.names ≡ map (λ a. a.name) t.attrs) };
 }
 
 impl TypeDecl {
-    /// A type of its own with this name and these attributes.
-    pub fn copy_of(alloc: Global, name: &str, attrs: &[Attr]) -> Result<TypeDecl, Memory>
-        ensures { IfOk result (λ t. t ≡ record { name = name.now; attrs = attrs.now }) }
+    /// A type of its own with this name and these attributes, or `None` where two of them have one
+    /// name.
+    pub fn of(alloc: Global, name: &str, attrs: &[Attr]) -> Result<Option<TypeDecl>, Memory>
+        ensures value { IfOk result (λ made. IfSome made (λ t. t ≡ record { name = name.now; attrs = attrs.now })) }
+        ensures distinct { IfOk result (λ made. IfSome made (λ t. HasNoRepeats (map (λ a. a.name) t.attrs))) }
+        ensures none { IfOk result (λ made. is_none made ≡ repeats_name attrs.now) }
     {
-        Ok(TypeDecl {
+        let names = match index_of(alloc, attrs)? {
+            Some(names) => names,
+            None => return Ok(None),
+        };
+        Ok(Some(TypeDecl {
             name: Text::copy_of(alloc, name)?,
             attrs: copy_attrs(alloc, attrs)?,
             kinds: kinds_of(alloc, attrs)?,
+            names,
+        }))
+    }
+
+    /// A type of its own that equals this one.
+    pub fn copy(&self, alloc: Global) -> Result<TypeDecl, Memory>
+        ensures { IfOk result (λ t. t ≡ self.now) }
+    {
+        Ok(TypeDecl {
+            name: Text::copy_of(alloc, self.name.as_str())?,
+            attrs: copy_attrs(alloc, self.attrs.as_slice())?,
+            kinds: kinds_of(alloc, self.attrs.as_slice())?,
+            names: self.names.copy()?,
         })
     }
 
@@ -48,6 +74,25 @@ impl TypeDecl {
         ensures { result.now ≡ self.now.attrs }
     {
         self.attrs.as_slice()
+    }
+
+    /// The place and the kind of the attribute of this name.
+    pub fn attr(&self, name: &str) -> Option<AttrAt>
+        ensures { result ≡ attr_among self.now.attrs name.now }
+    {
+        let place = self.place(name)?;
+        Some(AttrAt {
+            index: place as u64,
+            kind: self.attrs()[place].kind,
+        })
+    }
+
+    /// Where the attribute of this name stands, from 0.
+    fn place(&self, name: &str) -> Option<usize>
+        ensures place { result ≡ attr_index name.now self.now.attrs }
+        ensures bound { IfSome result (λ i. i < length self.now.attrs) }
+    {
+        self.names.place(name.as_bytes())
     }
 
     /// The kinds of the attributes, in order.
@@ -75,13 +120,24 @@ impl Model for StreamDecl {
 
 impl StreamDecl {
     /// A stream of its own with this name and these types.
-    pub fn copy_of(alloc: Global, name: &str, types: &[TypeId]) -> Result<StreamDecl, Memory>
-        ensures { IfOk result (λ s. s ≡ record { name = name.now; types = types.now }) }
+    pub fn of(alloc: Global, name: &str, types: Vec<TypeId>) -> Result<StreamDecl, Memory>
+        ensures { IfOk result (λ s. s ≡ record { name = name.now; types = types.items }) }
     {
         Ok(StreamDecl {
             name: Text::copy_of(alloc, name)?,
-            types: Listed::of(Vec::from_slice(alloc, types)?),
+            types: Listed::of(types),
         })
+    }
+
+    /// A stream of its own that equals this one.
+    pub fn copy(&self, alloc: Global) -> Result<StreamDecl, Memory>
+        ensures { IfOk result (λ s. s ≡ self.now) }
+    {
+        StreamDecl::of(
+            alloc,
+            self.name.as_str(),
+            Vec::from_slice(alloc, self.types.as_slice())?,
+        )
     }
 
     pub fn name(&self) -> &str
@@ -95,6 +151,23 @@ impl StreamDecl {
     {
         &self.types
     }
+}
+
+/// The index of the names of the attributes, or `None` where two of them have one name.
+fn index_of(alloc: Global, attrs: &[Attr]) -> Result<Option<NameIndex>, Memory>
+    ensures names { IfOk result (λ made. IfSome made (λ n. n ≡ map (λ a. a.name) attrs.now)) }
+    ensures distinct { IfOk result (λ made. IfSome made (λ n. HasNoRepeats n)) }
+    ensures none { IfOk result (λ made. is_none made ≡ repeats_name attrs.now) }
+{
+    let mut names = NameIndex::new(alloc);
+    for attr in attrs {
+        let name = attr.name.as_str().as_bytes();
+        if names.has(name) {
+            return Ok(None);
+        }
+        names.push(name)?;
+    }
+    Ok(Some(names))
 }
 
 fn copy_attrs(alloc: Global, attrs: &[Attr]) -> Result<Attrs, Memory>

@@ -10,11 +10,17 @@ ghost use Rattle.std.specs.Prelude.{◌≡◌, List, ℕ};
 
 use cer_base::{Listed, Text};
 
+mod compare;
+mod copies;
 mod declarations;
+mod names;
+mod number;
 mod registry;
 #[cfg(test)]
 mod tests;
 
+pub use compare::is_met_by;
+pub use copies::{copy_event, copy_value, copy_values};
 pub use registry::Schema;
 
 /// The number of a declared type, from 0 in the order of declaration.
@@ -47,6 +53,17 @@ pub enum Value {
 
 pub type Values = Listed<Value>;
 
+/// How a comparison asks that a value compares with a literal.
+#[derive(Debug, Clone, Copy, PartialEq, Eq)]
+pub enum Op {
+    Eq,
+    Ne,
+    Lt,
+    Le,
+    Gt,
+    Ge,
+}
+
 /// An event has a type, and a value for each of the type's attributes in the declared order.
 #[derive(Drop, Debug)]
 pub struct Event {
@@ -77,10 +94,10 @@ pub type TypeIds = Listed<TypeId>;
 /// Why a declaration was refused.
 #[derive(Drop, Debug, Clone, Copy, PartialEq, Eq)]
 pub enum SchemaFault {
-    /// 1: a type or a stream has the name.
+    /// A type or a stream has the name.
     NameTaken,
-    /// 2: a name in the list of a stream is no declared type's.
+    /// A name in the list of a stream is no declared type's.
     UnknownType,
-    /// 3: two attributes of a type have one name.
+    /// Two attributes of a type have one name.
     AttrTwice,
 }

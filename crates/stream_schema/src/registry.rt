@@ -1,16 +1,19 @@
 //! The schema and its calls.
 
-ghost use Rattle.std.specs.Prelude.{◌≡◌, ℕ, List, [], ◌<◌, length, map, None, Some, slice_index_or, slice_get, IfOk, IfSome, OnOk, OnErr, option_and_then, option_map, bytes_eq};
+ghost use Rattle.std.specs.Prelude.{◌≡◌, ℕ, [], ◌<◌, length, map, None, Some, All, slice_get, IfOk, IfSome, OnOk, OnErr, option_map};
 ghost use Rattle.std.specs.Option.{option_copied};
-ghost use Rattle.std.specs.List.{list_any, position_from, HoldsAt};
-ghost use Rattle.stream_schema.specs.Types.{name_of_type};
-ghost use Rattle.stream_schema.specs.Names.{type_number, attr_index, attr_at, stream_types, is_taken};
+ghost use Rattle.std.specs.List.{HoldsAt};
 ghost use Rattle.cer_base.specs.Answers.{OnFault};
-ghost use Rattle.stream_schema.specs.Declaring.{event_refusal, stream_refusal, repeats_name, with_type, with_stream, numbers_from, added};
+ghost use Rattle.stream_schema.specs.Types.{IsWellDeclared, name_of_type};
+ghost use Rattle.stream_schema.specs.Names.{type_number, attr_at, stream_types, is_taken, attr_of};
+ghost use Rattle.stream_schema.specs.Declaring.{event_refusal, stream_refusal, with_type, with_stream, numbers_from};
+ghost use Rattle.stream_schema.specs.declared.Attr.{Attr};
 
 use crate::declarations::{StreamDecl, TypeDecl};
+use crate::names::NameIndex;
 use crate::{Attr, AttrAt, Attrs, Kinds, SchemaFault, Texts, TypeId, TypeIds};
 use cer_base::{Memory, OrMemory, Text};
+use indexmap::IndexSet;
 use std::alloc::Global;
 use std::marker::Model;
 
@@ -19,17 +22,20 @@ use std::marker::Model;
 pub struct Schema {
     alloc: Global,
     types: Vec<TypeDecl>,
+    type_names: NameIndex,
     streams: Vec<StreamDecl>,
+    stream_names: NameIndex,
 }
 
 impl Model for Schema {
-    ghost use Rattle.stream_schema.specs.Types.{Declared, HaveDistinctNames};
+    ghost use Rattle.stream_schema.specs.Types.{Declared};
+    ghost use Rattle.stream_schema.specs.Indexes.{IsIndexed};
 
     ghost Value = { Declared };
 
     ghost view = { λ s. record { types = s.types.items; streams = s.streams.items } };
 
-    ghost invariant = { λ s. HaveDistinctNames s.types.items };
+    ghost invariant = { λ s. IsIndexed (record { types = s.types.items; streams = s.streams.items }) s.type_names s.stream_names };
 }
 
 impl Schema {
@@ -40,7 +46,9 @@ impl Schema {
         Schema {
             alloc,
             types: Vec::new(alloc),
+            type_names: NameIndex::new(alloc),
             streams: Vec::new(alloc),
+            stream_names: NameIndex::new(alloc),
         }
     }
 
@@ -48,22 +56,20 @@ impl Schema {
     pub fn copy(&self, alloc: Global) -> Result<Schema, Memory>
         ensures { IfOk result (λ s. s ≡ self.now) }
     {
-        let mut types = Vec::with_capacity(alloc, self.types.len())?;
-        for declared in self.types.as_slice() {
-            types.push(TypeDecl::copy_of(alloc, declared.name(), declared.attrs())?)?;
-        }
         Ok(Schema {
             alloc,
-            types,
+            types: copy_types(alloc, self.types.as_slice())?,
+            type_names: self.type_names.copy()?,
             streams: copy_streams(alloc, self.streams.as_slice())?,
+            stream_names: self.stream_names.copy()?,
         })
     }
 
     /// Declares a type with these attributes, in order, and answers its number. After an error
     /// nothing has changed.
     ///
-    /// - 1 `NameTaken`: a type or a stream has the name.
-    /// - 3 `AttrTwice`: two attributes have one name.
+    /// - `NameTaken`: a type or a stream has the name.
+    /// - `AttrTwice`: two attributes have one name.
     /// - Memory ran out.
     pub fn declare_event(
         &mut self,
@@ -79,11 +85,13 @@ impl Schema {
         if self.is_taken(name) {
             return Err(OrMemory::Fault(SchemaFault::NameTaken));
         }
-        if has_repeated_name(attrs.as_slice()) {
-            return Err(OrMemory::Fault(SchemaFault::AttrTwice));
-        }
+        let declaration = match TypeDecl::of(self.alloc, name, attrs.as_slice())? {
+            Some(declaration) => declaration,
+            None => return Err(OrMemory::Fault(SchemaFault::AttrTwice)),
+        };
         let number = self.types.len() as u64;
-        let declaration = TypeDecl::copy_of(self.alloc, name, attrs.as_slice())?;
+        self.types.reserve(1)?;
+        self.type_names.push(name.as_bytes())?;
         self.types.push(declaration)?;
         Ok(number)
     }
@@ -91,8 +99,8 @@ impl Schema {
     /// Declares a stream of the types of these names. A type that is named twice counts once.
     /// After an error nothing has changed.
     ///
-    /// - 1 `NameTaken`: a type or a stream has the name.
-    /// - 2 `UnknownType`: one of the names is no declared type's.
+    /// - `NameTaken`: a type or a stream has the name.
+    /// - `UnknownType`: one of the names is no declared type's.
     /// - Memory ran out.
     pub fn declare_stream(&mut self, name: &str, types: &Texts) -> Result<(), OrMemory<SchemaFault>>
         ensures accepted { OnOk result (stream_refusal self.old name.now types.now ≡ None) }
@@ -107,7 +115,9 @@ impl Schema {
             Some(numbers) => numbers,
             None => return Err(OrMemory::Fault(SchemaFault::UnknownType)),
         };
-        let declaration = StreamDecl::copy_of(self.alloc, name, numbers.as_slice())?;
+        let declaration = StreamDecl::of(self.alloc, name, listed(self.alloc, &numbers)?)?;
+        self.streams.reserve(1)?;
+        self.stream_names.push(name.as_bytes())?;
         self.streams.push(declaration)?;
         Ok(())
     }
@@ -128,33 +138,39 @@ impl Schema {
         ensures bound { IfSome result (λ ty. ty < length self.now.types) }
         ensures only { (ty : ℕ) → name_of_type self.now.types ty ≡ Some name.now → result ≡ Some ty }
     {
-        match type_place(self.types.as_slice(), name) {
+        match self.type_names.place(name) {
             Some(place) => Some(place as u64),
             None => None,
         }
     }
 
     /// Where the attribute stands among those of the type, or `None` where there is no such type
-    /// or it has no such attribute.
+    /// or it has no such attribute. No other attribute of the type has the name.
     pub fn attr(&self, ty: TypeId, name: &str) -> Option<AttrAt>
-        ensures { result ≡ attr_at self.now ty name.now }
+        ensures place { result ≡ attr_at self.now ty name.now }
+        ensures only { (i : ℕ) (a : Attr) → attr_of self.now.types ty i ≡ Some a → a.name ≡ name.now → result ≡ Some (record { index = i; kind = a.kind }) }
     {
-        let declared = self.types.as_slice().get(ty as usize)?;
-        let attrs = declared.attrs();
-        let index = attr_place(attrs, name)?;
-        Some(AttrAt {
-            index: index as u64,
-            kind: attrs[index].kind,
-        })
+        match type_at(self.types.as_slice(), ty) {
+            Some(declared) => declared.attr(name),
+            None => None,
+        }
     }
 
     /// The types of the stream of this name, each once, or `None` where no stream has it.
     pub fn streams(&self, name: &str) -> Option<&TypeIds>
         ensures { option_copied result ≡ stream_types self.now.streams name.now }
     {
-        let streams = self.streams.as_slice();
-        let index = stream_place(streams, name)?;
-        Some(streams[index].types())
+        match self.stream_names.place(name.as_bytes()) {
+            Some(place) => Some(self.streams[place].types()),
+            None => None,
+        }
+    }
+
+    /// What each schema keeps. The call does nothing; its contract is the law.
+    pub fn well_declared(&self)
+        ensures { IsWellDeclared self.now }
+    {
+        let _ = &self.types;
     }
 
     /// How many types are declared. Their numbers are those below it.
@@ -177,7 +193,7 @@ impl Schema {
     pub fn attrs(&self, ty: TypeId) -> Option<&[Attr]>
         ensures { option_copied result ≡ option_map (λ t. t.attrs) (slice_get self.now.types ty) }
     {
-        match self.types.as_slice().get(ty as usize) {
+        match type_at(self.types.as_slice(), ty) {
             Some(declared) => Some(declared.attrs()),
             None => None,
         }
@@ -187,7 +203,7 @@ impl Schema {
     pub fn type_name(&self, ty: TypeId) -> Option<&str>
         ensures { option_copied result ≡ option_map (λ t. t.name) (slice_get self.now.types ty) }
     {
-        match self.types.as_slice().get(ty as usize) {
+        match type_at(self.types.as_slice(), ty) {
             Some(declared) => Some(declared.name()),
             None => None,
         }
@@ -196,19 +212,21 @@ impl Schema {
     fn is_taken(&self, name: &str) -> bool
         ensures { result ≡ is_taken self.now name.now }
     {
-        has_type(self.types.as_slice(), name) || has_stream(self.streams.as_slice(), name)
+        self.type_names.has(name.as_bytes()) || self.stream_names.has(name.as_bytes())
     }
 
     /// The numbers of the types of these names, each once, or `None` where one of them is no
     /// type's.
-    #[tactic(auto, using(crate::proofs::Walks::numbers_step))]
-    fn numbers_of(&self, names: &[Text]) -> Result<Option<Vec<TypeId>>, Memory>
-        ensures { IfOk result (λ numbers. option_map (λ v. v.items) numbers ≡ numbers_from [] self.now.types names.now) }
+    fn numbers_of(&self, names: &[Text]) -> Result<Option<IndexSet<TypeId>>, Memory>
+        ensures found { IfOk result (λ numbers. option_map (λ v. v.keys) numbers ≡ numbers_from [] self.now.types names.now) }
+        ensures declared { IfOk result (λ numbers. IfSome numbers (λ v. All (λ ty. ty < length self.now.types) v.keys)) }
     {
-        let mut numbers = Vec::new(self.alloc);
+        let mut numbers = IndexSet::new(self.alloc);
         for name in names {
             match self.type_of(name.as_str()) {
-                Some(number) => add_number(&mut numbers, number)?,
+                Some(number) => {
+                    numbers.insert(number)?;
+                }
                 None => return Ok(None),
             }
         }
@@ -216,84 +234,32 @@ impl Schema {
     }
 }
 
-fn is_type(declared: &TypeDecl, name: &[u8]) -> bool
-    ensures { result ≡ bytes_eq declared.now.name name.now }
+/// The type of the number.
+fn type_at(types: &[TypeDecl], ty: TypeId) -> Option<&TypeDecl>
+    ensures { option_copied result ≡ slice_get types.now ty }
 {
-    declared.name().as_bytes() == name
+    types.get(ty as usize)
 }
 
-fn is_stream(declared: &StreamDecl, name: &str) -> bool
-    ensures { result ≡ bytes_eq declared.now.name name.now }
+/// The numbers as a list, in order.
+fn listed(alloc: Global, numbers: &IndexSet<TypeId>) -> Result<Vec<TypeId>, Memory>
+    ensures { IfOk result (λ v. v.items ≡ numbers.now.keys) }
 {
-    declared.name() == name
-}
-
-fn is_attr(attr: &Attr, name: &str) -> bool
-    ensures { result ≡ bytes_eq attr.now.name name.now }
-{
-    attr.name.as_str() == name
-}
-
-fn type_place(types: &[TypeDecl], name: &[u8]) -> Option<usize>
-    ensures place { result ≡ type_number types.now name.now }
-    ensures bound { IfSome result (λ i. i < length types.now) }
-{
-    types.iter().position(|t| is_type(t, name))
-}
-
-fn stream_place(streams: &[StreamDecl], name: &str) -> Option<usize>
-    ensures place { result ≡ position_from (λ s. bytes_eq s.name name.now) 0 streams.now }
-    ensures bound { IfSome result (λ i. i < length streams.now) }
-{
-    streams.iter().position(|s| is_stream(s, name))
-}
-
-fn attr_place(attrs: &[Attr], name: &str) -> Option<usize>
-    ensures place { result ≡ attr_index name.now attrs.now }
-    ensures bound { IfSome result (λ i. i < length attrs.now) }
-{
-    attrs.iter().position(|a| is_attr(a, name))
-}
-
-fn has_type(types: &[TypeDecl], name: &str) -> bool
-    ensures { result ≡ list_any (λ t. bytes_eq t.name name.now) types.now }
-{
-    types.iter().any(|t| is_type(t, name.as_bytes()))
-}
-
-fn has_stream(streams: &[StreamDecl], name: &str) -> bool
-    ensures { result ≡ list_any (λ s. bytes_eq s.name name.now) streams.now }
-{
-    streams.iter().any(|s| is_stream(s, name))
-}
-
-fn has_attr(attrs: &[Attr], name: &str) -> bool
-    ensures { result ≡ list_any (λ a. bytes_eq a.name name.now) attrs.now }
-{
-    attrs.iter().any(|a| is_attr(a, name))
-}
-
-/// Puts the number at the end where it is not among them yet.
-fn add_number(numbers: &mut Vec<TypeId>, number: TypeId) -> Result<(), Memory>
-    ensures { OnOk result (numbers.new.items ≡ added numbers.old.items number) }
-{
-    if !numbers.as_slice().contains(&number) {
-        numbers.push(number)?;
+    let mut list = Vec::with_capacity(alloc, numbers.len())?;
+    for number in numbers {
+        list.push(*number)?;
     }
-    Ok(())
+    Ok(list)
 }
 
-/// Whether two of the attributes have one name.
-#[tactic(auto, using(crate::proofs::Walks::repeats_step))]
-fn has_repeated_name(attrs: &[Attr]) -> bool
-    ensures { result ≡ repeats_name attrs.now }
+fn copy_types(alloc: Global, types: &[TypeDecl]) -> Result<Vec<TypeDecl>, Memory>
+    ensures { IfOk result (λ copy. copy.items ≡ types.now) }
 {
-    for (i, attr) in attrs.iter().enumerate() {
-        if has_attr(&attrs[i + 1..], attr.name.as_str()) {
-            return true;
-        }
+    let mut copy = Vec::with_capacity(alloc, types.len())?;
+    for declared in types {
+        copy.push(declared.copy(alloc)?)?;
     }
-    false
+    Ok(copy)
 }
 
 fn copy_streams(alloc: Global, streams: &[StreamDecl]) -> Result<Vec<StreamDecl>, Memory>
@@ -301,8 +267,7 @@ fn copy_streams(alloc: Global, streams: &[StreamDecl]) -> Result<Vec<StreamDecl>
 {
     let mut copy = Vec::with_capacity(alloc, streams.len())?;
     for declared in streams {
-        let types = declared.types().as_slice();
-        copy.push(StreamDecl::copy_of(alloc, declared.name(), types)?)?;
+        copy.push(declared.copy(alloc)?)?;
     }
     Ok(copy)
 }

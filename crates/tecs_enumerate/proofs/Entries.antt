@@ -7,11 +7,11 @@ use Rattle.std.proofs.lemmas.Bool.{cases_lt, cases_Bool, eqb-true}
 use Rattle.std.proofs.lemmas.Option.{slice_get-map, slice_get-get_or}
 use Rattle.std.proofs.Math.Seq.{set-append_seam, map-set_same}
 use Rattle.cer_base.specs.declared.node.Node.{Node}
-use Rattle.cer_base.specs.Members.{Tree, Leaf, Mark, Fork, marked, members, newest, recent}
+use Rattle.cer_base.specs.Members.{SetTree, Start, Extended, United, with_position, members, newest, recent}
 use Rattle.cer_base.specs.Nodes.{tree}
-use Rattle.cer_base.proofs.Walks.{test_passes, recent-marked}
+use Rattle.cer_base.proofs.Walks.{test_passes, recent-with_position}
 use Rattle.tecs_enumerate.specs.declared.descent.Pending.{Pending}
-use Rattle.tecs_enumerate.specs.Rest.{behind, answers, rest_of, Room, AllHaveRoom, AreNested, id_of, prefix_of}
+use Rattle.tecs_enumerate.specs.Rest.{with_positions, answers, rest_of, Room, AllHaveRoom, AreNested, id_of, prefix_of}
 
 -- a list is turned round with a change at its place from the end
 pub reverse-set : {A : Type 0} (xs : List A) (k : ℕ) (v : A) → k < length xs → reverse (set xs (length xs - 1 - k) v) ≡ set (reverse xs) k v
@@ -64,11 +64,11 @@ none_mapped f [] e = refl
 none_mapped f (x ∷ xs) e = absurd (cc)
 
 -- a tree whose greatest start is recent has a recent member
-some_recent : (low : ℤ) (t : Tree) → low ≤ℤ (newest t).clock → recent low (members t) ≡ [] → ⊥
-some_recent low (Leaf s) h none =
-    let one : recent low (members (Leaf s)) ≡ record { start = s; positions = [] } ∷ [] = rw (test_passes low s.clock h) refl in cc
-some_recent low (Mark p t) h none = some_recent low t h (none_mapped (marked p) (recent low (members t)) (sym (recent-marked low p (members t)) ∙ none))
-some_recent low (Fork l r) h none =
+some_recent : (low : ℤ) (t : SetTree) → low ≤ℤ (newest t).clock → recent low (members t) ≡ [] → ⊥
+some_recent low (Start s) h none =
+    let one : recent low (members (Start s)) ≡ record { start = s; positions = [] } ∷ [] = rw (test_passes low s.clock h) refl in cc
+some_recent low (Extended p t) h none = some_recent low t h (none_mapped (with_position p) (recent low (members t)) (sym (recent-with_position low p (members t)) ∙ none))
+some_recent low (United l r) h none =
     let both : recent low (members l) ++ recent low (members r) ≡ [] = sym (filter-append _ (members l) (members r)) ∙ none in
     elim (cases_Bool (nat_le (newest r).pos (newest l).pos)) [
       | inl pass ↦ some_recent low l (rw pass at h) (none_left (recent low (members l)) (recent low (members r)) both)
@@ -79,7 +79,7 @@ some_recent low (Fork l r) h none =
 pub rest_none : (low : ℤ) (nodes : List Node) (room : Room) (path : List ℕ) (stack : List Pending) → AllHaveRoom low nodes room stack → rest_of low nodes path stack ≡ [] → stack ≡ []
 rest_none low nodes room path [] fits none = refl
 rest_none low nodes room path (e ∷ below) fits none =
-    absurd (some_recent low (tree nodes e.id) fits.0.recent (none_mapped (behind (take e.prefix path)) (recent low (members (tree nodes e.id))) (none_left (answers low (take e.prefix path) (tree nodes e.id)) (rest_of low nodes path below) none)))
+    absurd (some_recent low (tree nodes e.id) fits.0.recent (none_mapped (with_positions (take e.prefix path)) (recent low (members (tree nodes e.id))) (none_left (answers low (take e.prefix path) (tree nodes e.id)) (rest_of low nodes path below) none)))
 
 no_entry : (stack : List Pending) → length stack ≡ 0 → reverse stack ≡ []
 no_entry [] e = refl

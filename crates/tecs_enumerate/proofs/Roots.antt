@@ -9,7 +9,7 @@ use Rattle.cer_base.specs.Members.{Member, members, recent}
 use Rattle.cer_base.specs.Nodes.{tree, WellFormed, IsRoot}
 use Rattle.cer_base.proofs.Walks.{none_recent, test_tells}
 use Rattle.tecs_enumerate.specs.declared.descent.Pending.{Pending}
-use Rattle.tecs_enumerate.specs.Rest.{behind, rest_of, recent_of, Room, AllHaveRoom, AreNested}
+use Rattle.tecs_enumerate.specs.Rest.{with_positions, rest_of, recent_of, Room, AllHaveRoom, AreNested}
 use Rattle.tecs_enumerate.proofs.Visits.{AllHaveRoom-more}
 
 -- what the stack has of the last roots
@@ -18,9 +18,9 @@ pub record Begun (low : ℤ) (nodes : List Node) (room : Room) (roots : List Roo
   pub fits : AllHaveRoom low nodes room stack
   pub nested : AreNested 0 stack
 
-behind-nil : (ms : List Member) → map (behind []) ms ≡ ms
-behind-nil [] = refl
-behind-nil (m ∷ ms) = ap (λ xs. m ∷ xs) (behind-nil ms)
+with_positions-nil : (ms : List Member) → map (with_positions []) ms ≡ ms
+with_positions-nil [] = refl
+with_positions-nil (m ∷ ms) = ap (λ xs. m ∷ xs) (with_positions-nil ms)
 
 pub begun_none : (low : ℤ) (nodes : List Node) (room : Room) → Begun low nodes room [] []
 begun_none low nodes room = record { given = refl; fits = tt; nested = tt }
@@ -29,7 +29,7 @@ pub begun_kept : (low : ℤ) (nodes : List Node) (room room' : Room) (roots : Li
 begun_kept low nodes room room' roots stack r b is kept s p ge gf =
     let needs = is.is_need in
     record {
-      given = ap (λ ms. ms ++ rest_of low nodes [] stack) (behind-nil (recent low (members (tree nodes r.id))))
+      given = ap (λ ms. ms ++ rest_of low nodes [] stack) (with_positions-nil (recent low (members (tree nodes r.id))))
           ∙ ap (λ ms. recent low (members (tree nodes r.id)) ++ ms) b.given;
       fits = (record { inside = is.inside; recent = subst (λ (t : Stamp). low ≤ℤ t.clock) is.is_max (test_tells low r.max.clock kept); stack = omega arith; path = omega arith }, AllHaveRoom-more low nodes room room' stack ge gf b.fits);
       nested = (omega arith, b.nested);

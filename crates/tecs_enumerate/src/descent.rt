@@ -1,7 +1,7 @@
-//! How the next answer is found. Nodes are visited one below the other, behind the path, which has
+//! How the next answer is found. Nodes are visited one below the other, after the path, which has
 //! the positions that lead there.
 //!
-//! - At an output its position is put behind the path, and its child is next.
+//! - At an output its position is put after the path, and its child is next.
 //! - At a union the left child is next. The right child goes on the stack, with the length of the
 //!   path, unless its greatest start is too old.
 //! - At a bottom the path has the answer's positions, greatest first, and the bottom is its start.
@@ -46,7 +46,7 @@ use cer_base::steps::Steps;
 use cer_base::store::NodeStore;
 use std::sync::ledger::Ledger;
 
-/// A node that is still to be visited, behind the first `prefix` positions of the path.
+/// A node that is still to be visited, after the first `prefix` positions of the path.
 #[derive(Drop, Debug, Clone, Copy, PartialEq, Eq)]
 pub struct Pending {
     pub id: Id,
@@ -71,13 +71,23 @@ pub fn descend<S: NodeStore, L: Ledger>(
     steps: &mut Steps<L>,
 ) -> Stamp
     requires well_formed { WellFormed (S.nodes store.now) }
-    requires room { HasRoom low (S.nodes store.now) (record { stack = vec_capacity stack.old; path = vec_capacity path.old }) (length (reverse stack.old.items)) (length path.old.items) id }
-    requires others { AllHaveRoom low (S.nodes store.now) (record { stack = vec_capacity stack.old; path = vec_capacity path.old }) (reverse stack.old.items) }
+    requires room { HasRoom low (S.nodes store.now)
+        (record { stack = vec_capacity stack.old; path = vec_capacity path.old })
+        (length (reverse stack.old.items)) (length path.old.items) id }
+    requires others { AllHaveRoom low (S.nodes store.now)
+        (record { stack = vec_capacity stack.old; path = vec_capacity path.old })
+        (reverse stack.old.items) }
     requires nested { AreNested (length path.old.items) (reverse stack.old.items) }
-    ensures first { answers low path.old.items (tree (S.nodes store.now) id) ++ rest_of low (S.nodes store.now) path.old.items (reverse stack.old.items) ≡ record { start = result; positions = path.new.items } ∷ rest_of low (S.nodes store.now) path.new.items (reverse stack.new.items) }
-    ensures others { AllHaveRoom low (S.nodes store.now) (record { stack = vec_capacity stack.new; path = vec_capacity path.new }) (reverse stack.new.items) }
+    ensures first { answers low path.old.items (tree (S.nodes store.now) id)
+        ++ rest_of low (S.nodes store.now) path.old.items (reverse stack.old.items)
+        ≡ record { start = result; positions = path.new.items } ∷ rest_of low (S.nodes store.now)
+        path.new.items (reverse stack.new.items) }
+    ensures others { AllHaveRoom low (S.nodes store.now)
+        (record { stack = vec_capacity stack.new; path = vec_capacity path.new })
+        (reverse stack.new.items) }
     ensures nested { AreNested (length path.new.items) (reverse stack.new.items) }
-    ensures delay { steps.new + 4 * length path.old.items ≤ steps.old + 4 * (length path.new.items + 1) }
+    ensures delay { steps.new + 4 * length path.old.items
+        ≤ steps.old + 4 * (length path.new.items + 1) }
 {
     let mut at = id;
     'down: loop {

@@ -1,4 +1,4 @@
--- Parts that pass the test can be made, and what their nodes then are.
+-- Parts that pass the test can be made, and what their nodes then are. For callers of the crate too.
 use Rattle.std.proofs.Common.{◌≡◌, ℕ, zero, suc, eq-eqb, ◌<◌, ◌≤◌, ℤ, true, false, not, ◌&&◌, Bool, List, [], ◌∷◌, ◌++◌, length, get_or, refl, sym, ap, subst, ◌∙◌, ◌⊎◌, inl, inr, arith, length-append, Result, Ok, Err, IfOk, OnOk, All, Contains, nat_le, nat_lt}
 use Rattle.std.specs.Prelude.{◌≤ℤ◌, int_le, ◌==◌}
 use Rattle.std.proofs.lemmas.Int.{ints}
@@ -9,13 +9,14 @@ use Rattle.std.proofs.lemmas.Slice.Eq.{bytes_eq-Decides}
 use Rattle.cer_base.specs.declared.node.Stamp.{Stamp}
 use Rattle.cer_base.specs.declared.node.Node.{Node}
 use Rattle.cer_base.specs.declared.node.Node.TheVariants.{Bottom}
-use Rattle.cer_base.specs.Members.{Member, Tree, Leaf, Mark, Fork, members, newest, depth, ComesAfter, CanJoin, HasNoRepeats, IsSafe}
+use Rattle.cer_base.specs.Repeats.{HasNoRepeats}
+use Rattle.cer_base.specs.Members.{Member, SetTree, Start, Extended, United, members, newest, depth, ComesAfter, CanJoin, IsSafe}
 use Rattle.cer_base.specs.Nodes.{tree, WellFormed, AreInStep, HasNode, Grows}
 use Rattle.cer_base.proofs.Trees.{in_step-bottom, tree-append, tree-grows, length-grows}
 use Rattle.cer_base.proofs.Walks.{test_tells}
 use Rattle.tecs_nodes.specs.Unite.{CanUnite, united}
 use Rattle.tecs_rows.specs.declared.parts.Part.{Part}
-use Rattle.tecs_rows.specs.declared.parts.Part.TheVariants.{Start, Extend, Join, Unite}
+use Rattle.tecs_rows.specs.declared.parts.Part.TheVariants as kind_of_part
 use Rattle.tecs_rows.specs.Parts.{at, made, can_make, all_pass, is_before, is_after, is_same, all_differ, is_safe, trees_at, AreNodes}
 
 and_first : (a b : Bool) → a && b ≡ true → a ≡ true
@@ -48,10 +49,10 @@ pub all_differ_tells : (ms : List Member) → all_differ ms ≡ true → HasNoRe
 all_differ_tells [] e = tt
 all_differ_tells (m ∷ ms) e = (differ_tells m ms (and_first (all_pass (λ other. not (is_same other m)) ms) (all_differ ms) e), all_differ_tells ms (and_second (all_pass (λ other. not (is_same other m)) ms) (all_differ ms) e))
 
-safe_tells : (t : Tree) → is_safe t ≡ true → IsSafe t
-safe_tells (Leaf s) e = tt
-safe_tells (Mark p t) e = tt
-safe_tells (Fork l r) e = (eqb-true (depth l) 0 (and_first (depth l == 0) (nat_le (depth r) 2) e), leb-true (depth r) 2 (and_second (depth l == 0) (nat_le (depth r) 2) e))
+safe_tells : (t : SetTree) → is_safe t ≡ true → IsSafe t
+safe_tells (Start s) e = tt
+safe_tells (Extended p t) e = tt
+safe_tells (United l r) e = (eqb-true (depth l) 0 (and_first (depth l == 0) (nat_le (depth r) 2) e), leb-true (depth r) 2 (and_second (depth l == 0) (nat_le (depth r) 2) e))
 
 stamp_same : (s t : Stamp) → s.pos ≡ t.pos → s.clock ≡ t.clock → s ≡ t
 stamp_same s t e f = ap (λ (p : ℕ). record { pos = p; clock = s.clock }) e ∙ ap (λ (z : ℤ). record { pos = t.pos; clock = z }) f
@@ -60,12 +61,12 @@ clocks_same : (x y : ℤ) → x ≤ℤ y → y ≤ℤ x → x ≡ y
 clocks_same x y up down = omega (arith, ints)
 
 -- what a test on two trees tells
-join_tells : (l r : Tree) → nat_le (newest r).pos (newest l).pos && (all_differ (members l ++ members r) && nat_le (depth l) 2) ≡ true → CanJoin l r
+join_tells : (l r : SetTree) → nat_le (newest r).pos (newest l).pos && (all_differ (members l ++ members r) && nat_le (depth l) 2) ≡ true → CanJoin l r
 join_tells l r e =
     let more = and_second _ _ e in
     record { ordered = leb-true _ _ (and_first _ _ e); distinct = all_differ_tells _ (and_first _ _ more); shallow = leb-true _ _ (and_second _ _ more) }
 
-unite_tells : (a b : Tree) → is_safe a && (is_safe b && (((newest a).pos == (newest b).pos) && (int_le (newest a).clock (newest b).clock && (int_le (newest b).clock (newest a).clock && all_differ (members a ++ members b))))) ≡ true → CanUnite a b
+unite_tells : (a b : SetTree) → is_safe a && (is_safe b && (((newest a).pos == (newest b).pos) && (int_le (newest a).clock (newest b).clock && (int_le (newest b).clock (newest a).clock && all_differ (members a ++ members b))))) ≡ true → CanUnite a b
 unite_tells a b e =
     let e1 = and_second _ _ e in
     let e2 = and_second _ _ e1 in
@@ -85,25 +86,25 @@ at_is nodes [] k h = absurd (omega arith)
 at_is nodes (i ∷ is) zero h = refl
 at_is nodes (i ∷ is) (suc k) h = at_is nodes is k (omega arith)
 
-pub can_start : (nodes : List Node) (ids : List ℕ) (part : Part) (stamp : Stamp) → part ≡ Start stamp → AreNodes nodes ids → can_make (trees_at nodes ids) part ≡ true → AreInStep (nodes ++ Bottom stamp ∷ [])
+pub can_start : (nodes : List Node) (ids : List ℕ) (part : Part) (stamp : Stamp) → part ≡ kind_of_part.Start stamp → AreNodes nodes ids → can_make (trees_at nodes ids) part ≡ true → AreInStep (nodes ++ Bottom stamp ∷ [])
 can_start nodes ids part stamp is are can =
     let before : all_pass (is_before stamp) (trees_at nodes ids) ≡ true = subst (λ (p : Part). can_make (trees_at nodes ids) p ≡ true) is can in
     let all = all_tells (is_before stamp) (λ t. is_before stamp t ≡ true) (λ t e. e) (trees_at nodes ids) before in
     in_step-bottom nodes stamp are.well_formed.in_step (λ s has.
-    let e : nat_lt s.pos stamp.pos && int_le s.clock stamp.clock ≡ true = All-contains (λ t. is_before stamp t ≡ true) (trees_at nodes ids) (Leaf s) all (are.starts s has) in
+    let e : nat_lt s.pos stamp.pos && int_le s.clock stamp.clock ≡ true = All-contains (λ t. is_before stamp t ≡ true) (trees_at nodes ids) (Start s) all (are.starts s has) in
     (ltb-true _ _ (and_first _ _ e), test_tells _ _ (and_second _ _ e)))
 
-pub extend_inside : (nodes : List Node) (ids : List ℕ) (part : Part) (k p : ℕ) → part ≡ Extend k p → can_make (trees_at nodes ids) part ≡ true → k < length ids
+pub extend_inside : (nodes : List Node) (ids : List ℕ) (part : Part) (k p : ℕ) → part ≡ kind_of_part.Extend k p → can_make (trees_at nodes ids) part ≡ true → k < length ids
 extend_inside nodes ids part k p is can =
     let e : nat_lt k (length (trees_at nodes ids)) && all_pass (is_after p) (members (at (trees_at nodes ids) k)) ≡ true = subst (λ (x : Part). can_make (trees_at nodes ids) x ≡ true) is can in
     let l = length-map ids (tree nodes) in
     let h : k < length (trees_at nodes ids) = ltb-true _ _ (and_first _ _ e) in omega arith
 
-pub can_extend : (nodes : List Node) (ids : List ℕ) (part : Part) (k p : ℕ) → part ≡ Extend k p → can_make (trees_at nodes ids) part ≡ true → All (ComesAfter p) (members (tree nodes (get_or ids k 0)))
+pub can_extend : (nodes : List Node) (ids : List ℕ) (part : Part) (k p : ℕ) → part ≡ kind_of_part.Extend k p → can_make (trees_at nodes ids) part ≡ true → All (ComesAfter p) (members (tree nodes (get_or ids k 0)))
 can_extend nodes ids part k p is can =
     let e : nat_lt k (length (trees_at nodes ids)) && all_pass (is_after p) (members (at (trees_at nodes ids) k)) ≡ true = subst (λ (x : Part). can_make (trees_at nodes ids) x ≡ true) is can in
     let inside = extend_inside nodes ids part k p is can in
-    subst (λ (t : Tree). All (ComesAfter p) (members t)) (at_is nodes ids k inside) (after_tells p _ (and_second _ _ e))
+    subst (λ (t : SetTree). All (ComesAfter p) (members t)) (at_is nodes ids k inside) (after_tells p _ (and_second _ _ e))
 
 pub two_inside : (nodes : List Node) (ids : List ℕ) (a b : ℕ) (more : Bool) → nat_lt a (length (trees_at nodes ids)) && (nat_lt b (length (trees_at nodes ids)) && more) ≡ true → (a < length ids) × (b < length ids) × (more ≡ true)
 two_inside nodes ids a b more e =
@@ -111,31 +112,31 @@ two_inside nodes ids a b more e =
     let f : nat_lt b (length (trees_at nodes ids)) && more ≡ true = and_second _ _ e in
     (let h : a < length (trees_at nodes ids) = ltb-true _ _ (and_first _ _ e) in omega arith, let h : b < length (trees_at nodes ids) = ltb-true _ _ (and_first _ _ f) in omega arith, and_second _ _ f)
 
-pub can_join : (nodes : List Node) (ids : List ℕ) (part : Part) (a b : ℕ) → part ≡ Join a b → can_make (trees_at nodes ids) part ≡ true → CanJoin (tree nodes (get_or ids a 0)) (tree nodes (get_or ids b 0))
+pub can_join : (nodes : List Node) (ids : List ℕ) (part : Part) (a b : ℕ) → part ≡ kind_of_part.Join a b → can_make (trees_at nodes ids) part ≡ true → CanJoin (tree nodes (get_or ids a 0)) (tree nodes (get_or ids b 0))
 can_join nodes ids part a b is can =
     let e = subst (λ (x : Part). can_make (trees_at nodes ids) x ≡ true) is can in
     let h = two_inside nodes ids a b _ e in
     rw (← at_is nodes ids a h.0, ← at_is nodes ids b h.1) (join_tells _ _ h.2)
 
-pub can_unite : (nodes : List Node) (ids : List ℕ) (part : Part) (a b : ℕ) → part ≡ Unite a b → can_make (trees_at nodes ids) part ≡ true → CanUnite (tree nodes (get_or ids a 0)) (tree nodes (get_or ids b 0))
+pub can_unite : (nodes : List Node) (ids : List ℕ) (part : Part) (a b : ℕ) → part ≡ kind_of_part.Unite a b → can_make (trees_at nodes ids) part ≡ true → CanUnite (tree nodes (get_or ids a 0)) (tree nodes (get_or ids b 0))
 can_unite nodes ids part a b is can =
     let e = subst (λ (x : Part). can_make (trees_at nodes ids) x ≡ true) is can in
     let h = two_inside nodes ids a b _ e in
     rw (← at_is nodes ids a h.0, ← at_is nodes ids b h.1) (unite_tells _ _ h.2)
 
 -- the trees of the parts
-pub made_start : (nodes : List Node) (ids : List ℕ) (part : Part) (stamp : Stamp) → part ≡ Start stamp → made (trees_at nodes ids) part ≡ Leaf stamp
+pub made_start : (nodes : List Node) (ids : List ℕ) (part : Part) (stamp : Stamp) → part ≡ kind_of_part.Start stamp → made (trees_at nodes ids) part ≡ Start stamp
 made_start nodes ids part stamp is = ap (made (trees_at nodes ids)) is
 
-pub made_extend : (nodes : List Node) (ids : List ℕ) (part : Part) (k p : ℕ) → part ≡ Extend k p → k < length ids → made (trees_at nodes ids) part ≡ Mark p (tree nodes (get_or ids k 0))
-made_extend nodes ids part k p is inside = ap (made (trees_at nodes ids)) is ∙ ap (Mark p) (at_is nodes ids k inside)
+pub made_extend : (nodes : List Node) (ids : List ℕ) (part : Part) (k p : ℕ) → part ≡ kind_of_part.Extend k p → k < length ids → made (trees_at nodes ids) part ≡ Extended p (tree nodes (get_or ids k 0))
+made_extend nodes ids part k p is inside = ap (made (trees_at nodes ids)) is ∙ ap (Extended p) (at_is nodes ids k inside)
 
-pub made_join : (nodes : List Node) (ids : List ℕ) (part : Part) (a b : ℕ) → part ≡ Join a b → can_make (trees_at nodes ids) part ≡ true → made (trees_at nodes ids) part ≡ Fork (tree nodes (get_or ids a 0)) (tree nodes (get_or ids b 0))
+pub made_join : (nodes : List Node) (ids : List ℕ) (part : Part) (a b : ℕ) → part ≡ kind_of_part.Join a b → can_make (trees_at nodes ids) part ≡ true → made (trees_at nodes ids) part ≡ United (tree nodes (get_or ids a 0)) (tree nodes (get_or ids b 0))
 made_join nodes ids part a b is can =
     let h = two_inside nodes ids a b _ (subst (λ (x : Part). can_make (trees_at nodes ids) x ≡ true) is can) in
     rw (← at_is nodes ids a h.0, ← at_is nodes ids b h.1) (ap (made (trees_at nodes ids)) is)
 
-pub made_unite : (nodes : List Node) (ids : List ℕ) (part : Part) (a b : ℕ) → part ≡ Unite a b → can_make (trees_at nodes ids) part ≡ true → made (trees_at nodes ids) part ≡ united (tree nodes (get_or ids a 0)) (tree nodes (get_or ids b 0))
+pub made_unite : (nodes : List Node) (ids : List ℕ) (part : Part) (a b : ℕ) → part ≡ kind_of_part.Unite a b → can_make (trees_at nodes ids) part ≡ true → made (trees_at nodes ids) part ≡ united (tree nodes (get_or ids a 0)) (tree nodes (get_or ids b 0))
 made_unite nodes ids part a b is can =
     let h = two_inside nodes ids a b _ (subst (λ (x : Part). can_make (trees_at nodes ids) x ≡ true) is can) in
     rw (← at_is nodes ids a h.0, ← at_is nodes ids b h.1) (ap (made (trees_at nodes ids)) is)
@@ -146,49 +147,49 @@ kept old new same [] inside = refl
 kept old new same (i ∷ is) inside = rw (same i (All-head (λ (id : ℕ). id < length old) i is inside), kept old new same is (All-tail (λ (id : ℕ). id < length old) i is inside)) refl
 
 -- one more node
-record OneMore (old new : List Node) (ids : List ℕ) (id : ℕ) (t : Tree) : Type 0 where
+record OneMore (old new : List Node) (ids : List ℕ) (id : ℕ) (t : SetTree) : Type 0 where
   pub longer : length old ≤ length new
   pub same : (k : ℕ) → k < length old → tree new k ≡ tree old k
   pub has : HasNode new id t
   pub are : AreNodes old ids
 
-trees_more : (old new : List Node) (ids : List ℕ) (id : ℕ) (t : Tree) → OneMore old new ids id t → trees_at new (ids ++ id ∷ []) ≡ trees_at old ids ++ t ∷ []
+trees_more : (old new : List Node) (ids : List ℕ) (id : ℕ) (t : SetTree) → OneMore old new ids id t → trees_at new (ids ++ id ∷ []) ≡ trees_at old ids ++ t ∷ []
 trees_more old new ids id t m = map-append (tree new) ids (id ∷ []) ∙ ap (λ ts. ts ++ tree new id ∷ []) (kept old new m.same ids m.are.inside) ∙ ap (λ x. trees_at old ids ++ x ∷ []) m.has.1
 
-nodes_more : (old new : List Node) (ids : List ℕ) (id : ℕ) (t : Tree) → OneMore old new ids id t → WellFormed new → ((s : Stamp) → Contains new (Bottom s) → Contains old (Bottom s) ⊎ (t ≡ Leaf s)) → AreNodes new (ids ++ id ∷ [])
+nodes_more : (old new : List Node) (ids : List ℕ) (id : ℕ) (t : SetTree) → OneMore old new ids id t → WellFormed new → ((s : Stamp) → Contains new (Bottom s) → Contains old (Bottom s) ⊎ (t ≡ Start s)) → AreNodes new (ids ++ id ∷ [])
 nodes_more old new ids id t m w starts = record {
   well_formed = w;
   inside = All-append (λ (i : ℕ). i < length new) ids (id ∷ []) (All-weaker (λ (i : ℕ). i < length old) (λ (i : ℕ). i < length new) (λ i below. let le = m.longer in omega arith) ids m.are.inside) (All-cons (λ (i : ℕ). i < length new) id [] m.has.0 (All-nil (λ (i : ℕ). i < length new)));
-  starts = λ s has. subst (λ (ts : List Tree). Contains ts (Leaf s)) (sym (trees_more old new ids id t m)) (elim (starts s has) [
-    | inl old_start ↦ Contains-append_left (trees_at old ids) (t ∷ []) (Leaf s) (m.are.starts s old_start)
-    | inr new_start ↦ subst (λ (x : Tree). Contains (trees_at old ids ++ t ∷ []) x) new_start (Contains-push (trees_at old ids) t)
+  starts = λ s has. subst (λ (ts : List SetTree). Contains ts (Start s)) (sym (trees_more old new ids id t m)) (elim (starts s has) [
+    | inl old_start ↦ Contains-append_left (trees_at old ids) (t ∷ []) (Start s) (m.are.starts s old_start)
+    | inr new_start ↦ subst (λ (x : SetTree). Contains (trees_at old ids ++ t ∷ []) x) new_start (Contains-push (trees_at old ids) t)
   ]);
 }
 
-bottom_more : (old new : List Node) (ids : List ℕ) (id : ℕ) (s : Stamp) → AreNodes old ids → HasNode new id (Leaf s) → new ≡ old ++ Bottom s ∷ [] → OneMore old new ids id (Leaf s)
+bottom_more : (old new : List Node) (ids : List ℕ) (id : ℕ) (s : Stamp) → AreNodes old ids → HasNode new id (Start s) → new ≡ old ++ Bottom s ∷ [] → OneMore old new ids id (Start s)
 bottom_more old new ids id s are has appended = record { longer = rw appended (omega (arith, length-append old (Bottom s ∷ []))); same = λ k below. rw appended (tree-append old (Bottom s ∷ []) k below); has = has; are = are }
 
-pub bottom_nodes : {E : Type 0} (o : Result ℕ E) (old new : List Node) (ids : List ℕ) (s : Stamp) → AreNodes old ids → IfOk o (λ id. HasNode new id (Leaf s)) → OnOk o (new ≡ old ++ Bottom s ∷ []) → WellFormed new → IfOk o (λ id. AreNodes new (ids ++ id ∷ []))
-bottom_nodes (Ok id) old new ids s are has appended w = nodes_more old new ids id (Leaf s) (bottom_more old new ids id s are has appended) w (λ t in_new. elim (Contains-push_cases old (Bottom s) (Bottom t) (subst (λ (ns : List Node). Contains ns (Bottom t)) appended in_new)) [ inl there ↦ inl there | inr here ↦ inr (cc) ])
+pub bottom_nodes : {E : Type 0} (o : Result ℕ E) (old new : List Node) (ids : List ℕ) (s : Stamp) → AreNodes old ids → IfOk o (λ id. HasNode new id (Start s)) → OnOk o (new ≡ old ++ Bottom s ∷ []) → WellFormed new → IfOk o (λ id. AreNodes new (ids ++ id ∷ []))
+bottom_nodes (Ok id) old new ids s are has appended w = nodes_more old new ids id (Start s) (bottom_more old new ids id s are has appended) w (λ t in_new. elim (Contains-push_cases old (Bottom s) (Bottom t) (subst (λ (ns : List Node). Contains ns (Bottom t)) appended in_new)) [ inl there ↦ inl there | inr here ↦ inr (cc) ])
 bottom_nodes (Err e) old new ids s are has appended w = tt
 
-pub bottom_trees : {E : Type 0} (o : Result ℕ E) (old new : List Node) (ids : List ℕ) (s : Stamp) (u : Tree) → u ≡ Leaf s → AreNodes old ids → IfOk o (λ id. HasNode new id (Leaf s)) → OnOk o (new ≡ old ++ Bottom s ∷ []) → IfOk o (λ id. trees_at new (ids ++ id ∷ []) ≡ trees_at old ids ++ u ∷ [])
-bottom_trees (Ok id) old new ids s u is are has appended = rw is (trees_more old new ids id (Leaf s) (bottom_more old new ids id s are has appended))
+pub bottom_trees : {E : Type 0} (o : Result ℕ E) (old new : List Node) (ids : List ℕ) (s : Stamp) (u : SetTree) → u ≡ Start s → AreNodes old ids → IfOk o (λ id. HasNode new id (Start s)) → OnOk o (new ≡ old ++ Bottom s ∷ []) → IfOk o (λ id. trees_at new (ids ++ id ∷ []) ≡ trees_at old ids ++ u ∷ [])
+bottom_trees (Ok id) old new ids s u is are has appended = rw is (trees_more old new ids id (Start s) (bottom_more old new ids id s are has appended))
 bottom_trees (Err e) old new ids s u is are has appended = tt
 
-grown_more : (old new : List Node) (ids : List ℕ) (id : ℕ) (t : Tree) → AreNodes old ids → Grows old new → HasNode new id t → OneMore old new ids id t
+grown_more : (old new : List Node) (ids : List ℕ) (id : ℕ) (t : SetTree) → AreNodes old ids → Grows old new → HasNode new id t → OneMore old new ids id t
 grown_more old new ids id t are grows has = record { longer = length-grows old new grows; same = tree-grows old new grows; has = has; are = are }
 
-pub grown_nodes : {E : Type 0} (o : Result ℕ E) (old new : List Node) (ids : List ℕ) (t : Tree) → AreNodes old ids → Grows old new → IfOk o (λ id. HasNode new id t) → IfOk o (λ id. AreNodes new (ids ++ id ∷ []))
+pub grown_nodes : {E : Type 0} (o : Result ℕ E) (old new : List Node) (ids : List ℕ) (t : SetTree) → AreNodes old ids → Grows old new → IfOk o (λ id. HasNode new id t) → IfOk o (λ id. AreNodes new (ids ++ id ∷ []))
 grown_nodes (Ok id) old new ids t are grows has = nodes_more old new ids id t (grown_more old new ids id t are grows has) grows.well_formed (λ s in_new. inl (grows.no_new_start s in_new))
 grown_nodes (Err e) old new ids t are grows has = tt
 
-pub grown_trees : {E : Type 0} (o : Result ℕ E) (old new : List Node) (ids : List ℕ) (t u : Tree) → u ≡ t → AreNodes old ids → Grows old new → IfOk o (λ id. HasNode new id t) → IfOk o (λ id. trees_at new (ids ++ id ∷ []) ≡ trees_at old ids ++ u ∷ [])
+pub grown_trees : {E : Type 0} (o : Result ℕ E) (old new : List Node) (ids : List ℕ) (t u : SetTree) → u ≡ t → AreNodes old ids → Grows old new → IfOk o (λ id. HasNode new id t) → IfOk o (λ id. trees_at new (ids ++ id ∷ []) ≡ trees_at old ids ++ u ∷ [])
 grown_trees (Ok id) old new ids t u is are grows has = rw is (trees_more old new ids id t (grown_more old new ids id t are grows has))
 grown_trees (Err e) old new ids t u is are grows has = tt
 
 -- where the trees of some ids are known, so is each id's
-pub tree_known : (nodes : List Node) (ids : List ℕ) (ts : List Tree) (k : ℕ) → trees_at nodes ids ≡ ts → k < length ts → (k < length ids) × (tree nodes (get_or ids k 0) ≡ at ts k)
+pub tree_known : (nodes : List Node) (ids : List ℕ) (ts : List SetTree) (k : ℕ) → trees_at nodes ids ≡ ts → k < length ts → (k < length ids) × (tree nodes (get_or ids k 0) ≡ at ts k)
 tree_known nodes ids ts k e h =
     let l = length-map ids (tree nodes) in
     let same : length (trees_at nodes ids) ≡ length ts = ap length e in

@@ -1,4 +1,4 @@
--- When a blank opens a ledger. This project's profile.
+-- When a blank opens a ledger.
 use Rattle.std.specs.Prelude.{◌≡◌, ℕ, ◌<◌}
 
 -- the blank is for this ledger, and has a share

@@ -35,7 +35,9 @@ fn make<S: NodeStore, L: Ledger>(
     requires nodes { AreNodes (S.nodes store.old) ids.now }
     requires can { IsTrue (can_make (trees_at (S.nodes store.old) ids.now) part) }
     ensures nodes { IfOk result (λ id. AreNodes (S.nodes store.new) (ids.now ++ id ∷ [])) }
-    ensures trees { IfOk result (λ id. trees_at (S.nodes store.new) (ids.now ++ id ∷ []) ≡ trees_at (S.nodes store.old) ids.now ++ made (trees_at (S.nodes store.old) ids.now) part ∷ []) }
+    ensures trees { IfOk result (λ id. trees_at (S.nodes store.new) (ids.now ++ id ∷ [])
+        ≡ trees_at (S.nodes store.old) ids.now ++ made (trees_at (S.nodes store.old) ids.now) part ∷
+        []) }
 {
     match part {
         Part::Start(stamp) => bottom(store, stamp, steps),
@@ -55,7 +57,8 @@ pub fn make_all<S: NodeStore, L: Ledger>(
     requires empty { S.nodes store.old ≡ [] }
     requires can { IsTrue (can_make_all [] parts.now) }
     ensures nodes { IfOk result (λ ids. AreNodes (S.nodes store.new) ids.items) }
-    ensures trees { IfOk result (λ ids. trees_at (S.nodes store.new) ids.items ≡ trees_of [] parts.now) }
+    ensures trees { IfOk result (λ ids. trees_at (S.nodes store.new) ids.items
+        ≡ trees_of [] parts.now) }
 {
     let mut ids = Vec::new(alloc);
     for part in parts {

@@ -1,7 +1,7 @@
 //! What a cursor gives, answer by answer, and how many steps each takes.
 
 ghost use Rattle.std.specs.Prelude.{◌≡◌, ℕ, ◌+◌, ◌*◌, ◌<◌, ◌≤◌, ◌≤ℤ◌, List, [], ◌∷◌, length, pos, All, IfOk, IsTrue};
-ghost use Rattle.cer_base.specs.Members.{Member, Leaf, Mark, Fork};
+ghost use Rattle.cer_base.specs.Members.{Member, Start, Extended, United};
 ghost use Rattle.cer_base.specs.Nodes.{tree, WellFormed, IsRoot};
 ghost use Rattle.tecs_enumerate.specs.Rest.{rest, Fits};
 ghost use Rattle.tecs_rows.specs.Parts.{can_make_all, AreNodes};
@@ -28,8 +28,12 @@ pub fn next_is<S: NodeStore, L: Ledger>(
     requires well_formed { WellFormed (S.nodes store.now) }
     requires fits { Fits cursor.old (S.nodes store.now) }
     ensures fits { Fits cursor.new (S.nodes store.now) }
-    ensures gives { (more : List Member) → rest cursor.old (S.nodes store.now) ≡ record { start = start; positions = positions.now } ∷ more → IsTrue result × (rest cursor.new (S.nodes store.now) ≡ more) }
-    ensures delay { (more : List Member) → rest cursor.old (S.nodes store.now) ≡ record { start = start; positions = positions.now } ∷ more → steps.new ≤ steps.old + 4 * (length positions.now + 1) }
+    ensures gives { (more : List Member) → rest cursor.old (S.nodes store.now)
+        ≡ record { start = start; positions = positions.now } ∷ more → IsTrue result
+        × (rest cursor.new (S.nodes store.now) ≡ more) }
+    ensures delay { (more : List Member) → rest cursor.old (S.nodes store.now)
+        ≡ record { start = start; positions = positions.now } ∷ more → steps.new
+        ≤ steps.old + 4 * (length positions.now + 1) }
 {
     match cursor.next(store, steps) {
         Some(given) => given == start && cursor.positions() == positions,
@@ -47,7 +51,9 @@ pub fn join_of_two<S: NodeStore, L: Ledger>(
     requires empty { S.nodes store.old ≡ [] }
     ensures well_formed { IfOk result (λ root. WellFormed (S.nodes store.new)) }
     ensures root { IfOk result (λ root. IsRoot (S.nodes store.new) root) }
-    ensures tree { IfOk result (λ root. tree (S.nodes store.new) root.id ≡ Fork (Mark 1 (Leaf (record { pos = 1; clock = pos 1 }))) (Mark 1 (Mark 0 (Leaf (record { pos = 0; clock = pos 0 }))))) }
+    ensures tree { IfOk result (λ root. tree (S.nodes store.new) root.id
+        ≡ United (Extended 1 (Start (record { pos = 1; clock = pos 1 })))
+        (Extended 1 (Extended 0 (Start (record { pos = 0; clock = pos 0 }))))) }
 {
     let parts = [
         Part::Start(Stamp { pos: 0, clock: 0 }),
@@ -167,7 +173,7 @@ fn roots_at<S: NodeStore, L: Ledger>(
 
 /// Writes each answer that the cursor still gives, as `2 [5, 4]; `: its start's position, then its
 /// positions, greatest first.
-fn write_all<S: NodeStore, L: Ledger>(
+pub fn write_all<S: NodeStore, L: Ledger>(
     alloc: Global,
     cursor: &mut Cursor,
     store: &S,

@@ -28,4 +28,4 @@ returns-clause-grows g c =
     (c.max.ensures ∙ max-tree nodes w c.args.left c.get-first.result c.get-first.ensures.node)
     (c.max-2.ensures ∙ max-tree nodes w c.args.right c.get-second.result c.get-second.ensures.node)
     places
-    (w.lawful c.args.left c.requires.left_inside, w.lawful c.args.right c.requires.right_inside, c.requires.can))
+    (w.well_formed_tree c.args.left c.requires.left_inside, w.well_formed_tree c.args.right c.requires.right_inside, c.requires.can))

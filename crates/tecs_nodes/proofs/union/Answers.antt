@@ -13,4 +13,4 @@ returns-then-is_err-clause-grows g c =
 pub returns-else-is_err-clause-union : goal.returns-else-is_err-clause-union
 returns-else-is_err-clause-union g c =
     let w = c.requires.well_formed in
-    united_is c.unite-united.result _ _ _ _ (w.lawful _ c.requires.a_inside) (w.lawful _ c.requires.b_inside) c.requires.can c.unite-united.ensures.made
+    united_is c.unite-united.result _ _ _ _ (w.well_formed_tree _ c.requires.a_inside) (w.well_formed_tree _ c.requires.b_inside) c.requires.can c.unite-united.ensures.made

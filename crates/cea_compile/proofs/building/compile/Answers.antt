@@ -1,5 +1,5 @@
 use Rattle.std.proofs.Common.{refl, sym, subst, length}
-use Rattle.cel_terms.specs.Shapes.{tree_of_shape}
+use Rattle.query_leaves.specs.Shapes.{tree_of_shape}
 use Rattle.cea_compile.specs.Found.{AreBelow}
 use Rattle.cea_compile.proofs.Built.{built, well_formed}
 use Rattle.cea_compile.proofs.Below.{numbered_below}

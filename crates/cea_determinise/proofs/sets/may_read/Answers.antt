@@ -1,4 +1,3 @@
-use Rattle.std.proofs.Common.{ℕ}
 use Rattle.cer_base.specs.Bits.{has}
 use Rattle.cea_determinise.specs.Cea.{row}
 use Rattle.cea_determinise.proofs.Below.{three_unions, rows_are}
@@ -10,8 +9,8 @@ returns-clause-members c k =
     let wf = c.requires.well_formed in
     let near = cea.near.items in
     let far = cea.far.items in
-    let fresh = has c.args.place.now.fresh in
-    let waiting = has c.args.place.now.waiting in
+    let fresh = has c.args.state_sets.now.fresh in
+    let waiting = has c.args.state_sets.now.waiting in
     three_unions cea.size fresh waiting (λ j. row near j k) (λ j. row far j k) _ _ _ _ (c.in_ok-leaves.ensures.empty k)
     (rows_are cea.size k fresh c.as_slice.result.now near _ _ c.as_slice.ensures.value wf.near.count (c.unite_rows.ensures.members k))
     (rows_are cea.size k fresh c.as_slice-2.result.now far _ _ c.as_slice-2.ensures.value wf.far.count (c.unite_rows-2.ensures.members k))

@@ -1,6 +1,6 @@
 use Rattle.std.proofs.Common.{◌≡◌}
-use Rattle.cel_plain.specs.Below.{below, is_marked}
+use Rattle.cel_plain.specs.Below.{below, is_mark}
 use Rattle.cel_plain.proofs.marks.marks.Given as goal
 
 abbrev pub invariant-loop-position : goal.invariant-loop-position
-invariant-loop-position l = l.found.items ≡ below (is_marked l.select l.bounds) l.position
+invariant-loop-position l = l.found.items ≡ below (is_mark l.select l.bounds) l.position

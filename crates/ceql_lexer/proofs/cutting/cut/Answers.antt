@@ -1,5 +1,5 @@
 use Rattle.std.proofs.Common.{sym, subst, get_or, drop, take, List, ℕ}
-use Rattle.ceql_lexer.specs.Fronts.{IsText}
+use Rattle.ceql_lexer.specs.Fronts.{IsTokenText}
 use Rattle.ceql_lexer.proofs.Cuts.{cuts_more, nonempty, read_is}
 use Rattle.ceql_lexer.proofs.Written.{piece_is_text}
 use Rattle.ceql_lexer.proofs.cutting.cut.Goals as goal
@@ -9,7 +9,7 @@ push_piece-requires c =
     let rest : List ℕ = c.loop-rest.rest.now in
     let is = read_is rest c.piece_at.result c.in-Ok.piece c.piece_at.ensures.value c.in-Ok.is in
     let written = piece_is_text (get_or rest 0 0) (drop 1 rest) c.in-Ok.piece is in
-    rw c.split_at.ensures.front (subst (λ (bytes : List ℕ). IsText c.in-Ok.piece.kind (take c.in-Ok.piece.size bytes)) (sym (nonempty rest c.in-len1-up.len_at_least)) written)
+    rw c.split_at.ensures.front (subst (λ (bytes : List ℕ). IsTokenText c.in-Ok.piece.kind (take c.in-Ok.piece.size bytes)) (sym (nonempty rest c.in-len1-up.len_at_least)) written)
 
 pub loop-rest-preserved : goal.loop-rest-preserved
 loop-rest-preserved c =

@@ -1,4 +1,4 @@
-use Rattle.ceql_lexer.proofs.Digits.{out_of_range}
+use Rattle.cer_base.proofs.DigitLemmas.{out_of_range}
 use Rattle.ceql_lexer.proofs.numbers.is_in_range.Goals as goal
 
 pub returns-in-None : goal.returns-in-None

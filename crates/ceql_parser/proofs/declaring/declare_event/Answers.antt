@@ -1,7 +1,7 @@
 use Rattle.std.proofs.Common.{◌≡◌, ap, sym, ◌∙◌, map, None}
 use Rattle.ceql_parser.specs.StatementFaults.{event_fault}
 use Rattle.ceql_parser.specs.ScriptFaults.{attr_declared}
-use Rattle.ceql_parser.proofs.Taken.{event_accepted}
+use Rattle.ceql_parser.proofs.AcceptedDeclarations.{event_accepted}
 use Rattle.ceql_parser.proofs.declaring.declare_event.Goals as goal
 
 pub unreachable-requires : goal.unreachable-requires

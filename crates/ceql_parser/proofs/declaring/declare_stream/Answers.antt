@@ -1,6 +1,6 @@
 use Rattle.std.proofs.Common.{◌≡◌, ap, sym, ◌∙◌, map, None}
 use Rattle.ceql_parser.specs.StatementFaults.{stream_fault}
-use Rattle.ceql_parser.proofs.Taken.{stream_accepted}
+use Rattle.ceql_parser.proofs.AcceptedDeclarations.{stream_accepted}
 use Rattle.ceql_parser.proofs.declaring.declare_stream.Goals as goal
 
 pub unreachable-requires : goal.unreachable-requires

@@ -1,45 +1,118 @@
-use Rattle.std.proofs.Common.{◌≡◌, ap, sym, subst, ◌∙◌, Option, None}
-use Rattle.ceql_parser.specs.declared.faults.QueryError.{QueryError}
-use Rattle.ceql_parser.specs.FirstFaults.{first_in, Tells}
+use Rattle.std.proofs.Common.{◌≡◌, ap, ap₂, sym, subst, ◌∙◌, Option, None, ℕ, List, [], ◌++◌}
+use Rattle.std.specs.Prelude.{flat_map, IfOk}
+use Rattle.cel_terms.specs.Checked.{names_of, names_after}
+use Rattle.ceql_grammar.specs.declared.faults.QueryError.{QueryError}
+use Rattle.ceql_parser.specs.FirstFaults.{first_in, FindsFault}
+use Rattle.ceql_parser.specs.NameSets.{HaveSameNames, names_of_link}
 use Rattle.ceql_parser.proofs.FirstFound.{told_at, kept_at}
-use Rattle.ceql_parser.specs.TypesAsked.{types_at}
-use Rattle.ceql_parser.specs.FormulaFaults.{formula_fault}
-use Rattle.ceql_parser.specs.Walks.{link_fault}
-use Rattle.ceql_parser.proofs.RowFaults.{chain_faults, choice_faults, linked_passed}
+use Rattle.ceql_parser.specs.FormulaFaults.{formula_fault, filter_fault, postfixes_fault}
+use Rattle.ceql_parser.specs.LinksAndCounts.{link_fault}
+use Rattle.ceql_parser.proofs.NamesListed.{chain_names, choice_names, linked_names}
+use Rattle.ceql_parser.proofs.NameSetLemmas.{same_self, same_then, same_both, same_as, same_more, same_all, ok_same, after_same, postfixes_same, all_filters_same}
+use Rattle.ceql_parser.proofs.RowFaults.{chain_faults, choice_faults, linked_passed, post_passed, under_passed}
 use Rattle.ceql_parser.proofs.formula_checks.+formulas.Goals as goal
 
-pub check_formulas-returns-in-Err : goal.check_formulas-returns-in-Err
-check_formulas-returns-in-Err t c = told_at (formula_fault (types_at c.args.schema.now c.args.numbers.now)) c.args.formulas.now c.loop-formula.formula-index c.formula-item.result c.in-Err.stop c.loop-formula-test.true c.formula-item.is c.loop-formula.invariant c.in-Err.ensures
+pub add_formula-returns-in-Ok-join-clause-names : goal.add_formula-returns-in-Ok-join-clause-names
+add_formula-returns-in-Ok-join-clause-names t c =
+    same_then c.join.new.self (c.args.names.now ++ c.in-Ok.more) (c.args.names.now ++ names_of c.args.formula.now) c.in-Ok-join.ensures
+    (same_both c.args.names.now c.args.names.now c.in-Ok.more (names_of c.args.formula.now) (same_self c.args.names.now) c.in-Ok.ensures.names)
+
+pub check_formulas-returns-in-Err-clause-told : goal.check_formulas-returns-in-Err-clause-told
+check_formulas-returns-in-Err-clause-told t c = told_at (formula_fault c.args.types.now) c.args.formulas.now c.loop-formula.formula-index c.formula-item.result c.in-Err.stop c.loop-formula-test.true c.formula-item.is c.loop-formula.invariant.0 c.in-Err.ensures.told
 
 pub check_formulas-loop-formula-preserved : goal.check_formulas-loop-formula-preserved
-check_formulas-loop-formula-preserved t c = kept_at (formula_fault (types_at c.args.schema.now c.args.numbers.now)) c.args.formulas.now c.loop-formula.formula-index c.formula-item.result c.loop-formula-test.true c.formula-item.is c.loop-formula.invariant c.in-Ok.ensures
+check_formulas-loop-formula-preserved t c = (
+  kept_at (formula_fault c.args.types.now) c.args.formulas.now c.loop-formula.formula-index c.formula-item.result c.loop-formula-test.true c.formula-item.is c.loop-formula.invariant.0 c.in-Ok.ensures.told,
+  same_more names_of c.args.formulas.now c.loop-formula.formula-index c.formula-item.result [] c.loop-formula.names _ c.loop-formula-test.true c.formula-item.is c.loop-formula.invariant.1 c.in-Ok.ensures.names,
+)
 
-pub check_links-returns-in-Err : goal.check_links-returns-in-Err
-check_links-returns-in-Err t c = told_at (link_fault (types_at c.args.schema.now c.args.numbers.now)) c.args.links.now c.loop-link.link-index c.link-item.result c.in-Err.stop c.loop-link-test.true c.link-item.is c.loop-link.invariant c.in-Err.ensures
+pub check_formulas-returns-clause-names : goal.check_formulas-returns-clause-names
+check_formulas-returns-clause-names t c = same_all names_of c.args.formulas.now c.loop-formula.formula-index [] c.loop-formula.names c.loop-formula-test.false c.loop-formula.invariant.1
+
+pub check_links-returns-in-Err-clause-told : goal.check_links-returns-in-Err-clause-told
+check_links-returns-in-Err-clause-told t c = told_at (link_fault c.args.types.now) c.args.links.now c.loop-link.link-index c.link-item.result c.in-Err.stop c.loop-link-test.true c.link-item.is c.loop-link.invariant.0 c.in-Err.ensures.told
 
 pub check_links-loop-link-preserved : goal.check_links-loop-link-preserved
-check_links-loop-link-preserved t c = kept_at (link_fault (types_at c.args.schema.now c.args.numbers.now)) c.args.links.now c.loop-link.link-index c.link-item.result c.loop-link-test.true c.link-item.is c.loop-link.invariant c.in-Ok.ensures
+check_links-loop-link-preserved t c = (
+  kept_at (link_fault c.args.types.now) c.args.links.now c.loop-link.link-index c.link-item.result c.loop-link-test.true c.link-item.is c.loop-link.invariant.0 c.in-Ok.ensures.told,
+  same_more names_of_link c.args.links.now c.loop-link.link-index c.link-item.result c.args.before c.loop-link.names _ c.loop-link-test.true c.link-item.is c.loop-link.invariant.1 c.in-Ok.ensures.names,
+)
+
+pub check_links-returns-clause-names : goal.check_links-returns-clause-names
+check_links-returns-clause-names t c = same_all names_of_link c.args.links.now c.loop-link.link-index c.args.before c.loop-link.names c.loop-link-test.false c.loop-link.invariant.1
 
 pub check_formula-returns-in-Chain : goal.check_formula-returns-in-Chain
 check_formula-returns-in-Chain t c =
-    let types = types_at c.args.schema.now c.args.numbers.now in
-    subst (λ (o : Option QueryError). Tells c.check_formulas.result o)
-    (ap (first_in (formula_fault types)) c.deref.ensures.value ∙ sym (chain_faults types c.in-Chain.parts) ∙ sym (ap (formula_fault types) c.in-Chain.is))
-    c.check_formulas.ensures
+    let types = c.args.types.now in
+    record {
+      told = subst (λ (o : Option QueryError). FindsFault c.check_formulas.result o)
+          (ap (first_in (formula_fault types)) c.deref.ensures.value ∙ sym (chain_faults types c.in-Chain.parts) ∙ sym (ap (formula_fault types) c.in-Chain.is))
+          c.check_formulas.ensures.told;
+      names = subst (λ (l : List (List ℕ)). IfOk c.check_formulas.result (λ names. HaveSameNames names l))
+          (ap (flat_map names_of) c.deref.ensures.value ∙ sym (chain_names c.in-Chain.parts) ∙ sym (ap names_of c.in-Chain.is))
+          c.check_formulas.ensures.names;
+    }
 
 pub check_formula-returns-in-Either : goal.check_formula-returns-in-Either
 check_formula-returns-in-Either t c =
-    let types = types_at c.args.schema.now c.args.numbers.now in
-    subst (λ (o : Option QueryError). Tells c.check_formulas-in-Either.result o)
-    (ap (first_in (formula_fault types)) c.deref-in-Either.ensures.value ∙ sym (choice_faults types c.in-Either.choices) ∙ sym (ap (formula_fault types) c.in-Either.is))
-    c.check_formulas-in-Either.ensures
+    let types = c.args.types.now in
+    record {
+      told = subst (λ (o : Option QueryError). FindsFault c.check_formulas-in-Either.result o)
+          (ap (first_in (formula_fault types)) c.deref-in-Either.ensures.value ∙ sym (choice_faults types c.in-Either.choices) ∙ sym (ap (formula_fault types) c.in-Either.is))
+          c.check_formulas-in-Either.ensures.told;
+      names = subst (λ (l : List (List ℕ)). IfOk c.check_formulas-in-Either.result (λ names. HaveSameNames names l))
+          (ap (flat_map names_of) c.deref-in-Either.ensures.value ∙ sym (choice_names c.in-Either.choices) ∙ sym (ap names_of c.in-Either.is))
+          c.check_formulas-in-Either.ensures.names;
+    }
 
-pub check_formula-returns-in-Ok : goal.check_formula-returns-in-Ok
-check_formula-returns-in-Ok t c =
-    let types = types_at c.args.schema.now c.args.numbers.now in
-    let passes : formula_fault types c.deref-in-Linked.result.now ≡ None = c.in-Ok.ensures in
-    subst (λ (o : Option QueryError). Tells c.check_links.result o)
+pub check_formula-returns-in-Ok-clause-told : goal.check_formula-returns-in-Ok-clause-told
+check_formula-returns-in-Ok-clause-told t c =
+    let types = c.args.types.now in
+    let passes : formula_fault types c.deref-in-Linked.result.now ≡ None = c.in-Ok.ensures.told in
+    subst (λ (o : Option QueryError). FindsFault c.check_links.result o)
     (ap (first_in (link_fault types)) c.deref-in-Ok.ensures.value
     ∙ linked_passed types c.in-Linked.first c.in-Linked.links (ap (formula_fault types) (sym c.deref-in-Linked.ensures) ∙ passes)
     ∙ sym (ap (formula_fault types) c.in-Linked.is))
-    c.check_links.ensures
+    c.check_links.ensures.told
+
+pub check_formula-returns-in-Ok-clause-names : goal.check_formula-returns-in-Ok-clause-names
+check_formula-returns-in-Ok-clause-names t c =
+    let later = flat_map names_of_link c.deref-in-Ok.result.now in
+    let first = names_of c.deref-in-Linked.result.now in
+    ok_same c.check_links.result (c.in-Ok.names ++ later) (names_of c.args.formula.now)
+    (same_as (c.in-Ok.names ++ later) (first ++ later) (names_of c.args.formula.now)
+    (same_both c.in-Ok.names first later later c.in-Ok.ensures.names (same_self later))
+    (ap₂ (λ f ls. names_of f ++ flat_map names_of_link ls) c.deref-in-Linked.ensures c.deref-in-Ok.ensures.value ∙ sym (linked_names c.in-Linked.first c.in-Linked.links) ∙ sym (ap names_of c.in-Linked.is)))
+    c.check_links.ensures.names
+
+pub check_formula-returns-in-Ok-check_formula-clause-told : goal.check_formula-returns-in-Ok-check_formula-clause-told
+check_formula-returns-in-Ok-check_formula-clause-told t c =
+    let types = c.args.types.now in
+    let passes : formula_fault types c.deref-in-Post.result.now ≡ None = c.in-Ok-check_formula.ensures.told in
+    subst (λ (o : Option QueryError). FindsFault c.check_postfixes.result o)
+    (postfixes_same types c.in-Ok-check_formula.names (names_of c.deref-in-Post.result.now) c.in-Ok-check_formula.ensures.names c.deref-in-Ok-check_formula.result.now
+    ∙ ap₂ (λ f ps. postfixes_fault types (names_of f) ps) c.deref-in-Post.ensures c.deref-in-Ok-check_formula.ensures.value
+    ∙ post_passed types c.in-Post.base c.in-Post.postfixes (ap (formula_fault types) (sym c.deref-in-Post.ensures) ∙ passes)
+    ∙ sym (ap (formula_fault types) c.in-Post.is))
+    c.check_postfixes.ensures.told
+
+pub check_formula-returns-in-Ok-check_formula-clause-names : goal.check_formula-returns-in-Ok-check_formula-clause-names
+check_formula-returns-in-Ok-check_formula-clause-names t c =
+    let before = names_of c.deref-in-Post.result.now in
+    let ps = c.deref-in-Ok-check_formula.result.now in
+    ok_same c.check_postfixes.result (names_after c.in-Ok-check_formula.names ps) (names_of c.args.formula.now)
+    (same_as (names_after c.in-Ok-check_formula.names ps) (names_after before ps) (names_of c.args.formula.now)
+    (after_same c.in-Ok-check_formula.names before c.in-Ok-check_formula.ensures.names ps)
+    (ap₂ (λ f ps. names_after (names_of f) ps) c.deref-in-Post.ensures c.deref-in-Ok-check_formula.ensures.value ∙ sym (ap names_of c.in-Post.is)))
+    c.check_postfixes.ensures.names
+
+pub check_formula-returns-in-Ok-check_formula-2-clause-told : goal.check_formula-returns-in-Ok-check_formula-2-clause-told
+check_formula-returns-in-Ok-check_formula-2-clause-told t c =
+    let types = c.args.types.now in
+    let passes : formula_fault types c.deref-in-Under.result.now ≡ None = c.in-Ok-check_formula-2.ensures.told in
+    subst (λ (o : Option QueryError). FindsFault c.check_filtered.result o)
+    (all_filters_same types c.in-Ok-check_formula-2.names (names_of c.deref-in-Under.result.now) c.in-Ok-check_formula-2.ensures.names c.deref-in-Ok-check_formula-2.result.now
+    ∙ ap₂ (λ f cs. first_in (filter_fault types (names_of f)) cs) c.deref-in-Under.ensures c.deref-in-Ok-check_formula-2.ensures.value
+    ∙ under_passed types c.in-Under.base c.in-Under.filters (ap (formula_fault types) (sym c.deref-in-Under.ensures) ∙ passes)
+    ∙ sym (ap (formula_fault types) c.in-Under.is))
+    c.check_filtered.ensures.told

@@ -1,6 +1,6 @@
 use Rattle.std.proofs.Common.{ap, ap₂, sym, ◌∙◌, ◌+◌, ◌*◌}
 use Rattle.cel_terms.specs.Checked.{leaf_count}
-use Rattle.ceql_parser.specs.Walks.{capped, sum_of, product_of, link_leaves}
+use Rattle.ceql_parser.specs.LinksAndCounts.{capped, sum_of, product_of, link_leaves}
 use Rattle.ceql_parser.proofs.LeavesCounted.{capped_sum, capped_product, sum_kept, chain_leaves, choice_leaves, linked_leaves, times_is}
 use Rattle.ceql_parser.proofs.leaf_counts.+leaves.Goals as goal
 

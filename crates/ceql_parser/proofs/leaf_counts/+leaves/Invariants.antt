@@ -1,6 +1,6 @@
 use Rattle.std.proofs.Common.{◌≡◌, take}
 use Rattle.cel_terms.specs.Checked.{leaf_count}
-use Rattle.ceql_parser.specs.Walks.{capped, sum_of, link_leaves}
+use Rattle.ceql_parser.specs.LinksAndCounts.{capped, sum_of, link_leaves}
 use Rattle.ceql_parser.proofs.leaf_counts.+leaves.Given as goal
 
 abbrev pub invariant-leaves_of-loop-formula : goal.invariant-leaves_of-loop-formula

@@ -1,6 +1,6 @@
 use Rattle.std.proofs.Common.{ap, sym, ◌∙◌}
 use Rattle.cel_terms.specs.Checked.{weight}
-use Rattle.ceql_parser.specs.Walks.{capped, sum_of, product_of}
+use Rattle.ceql_parser.specs.LinksAndCounts.{capped, sum_of, product_of}
 use Rattle.ceql_parser.proofs.LeavesCounted.{product_kept, sum_kept, all_weigh, any_weigh}
 use Rattle.ceql_parser.proofs.leaf_counts.+weights.Goals as goal
 

@@ -1,6 +1,6 @@
 use Rattle.std.proofs.Common.{◌≡◌, take}
 use Rattle.cel_terms.specs.Checked.{weight}
-use Rattle.ceql_parser.specs.Walks.{capped, sum_of, product_of}
+use Rattle.ceql_parser.specs.LinksAndCounts.{capped, sum_of, product_of}
 use Rattle.ceql_parser.proofs.leaf_counts.+weights.Given as goal
 
 abbrev pub invariant-product_of-loop-filter : goal.invariant-product_of-loop-filter

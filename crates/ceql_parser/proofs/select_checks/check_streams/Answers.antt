@@ -1,7 +1,7 @@
 use Rattle.ceql_parser.specs.FirstFaults.{unless_named}
 use Rattle.ceql_parser.proofs.FirstFound.{told_at, kept_at}
 use Rattle.ceql_parser.specs.StatementFaults.{is_stream}
-use Rattle.ceql_parser.specs.declared.faults.QueryFault.TheVariants.{UnknownStream}
+use Rattle.ceql_grammar.specs.declared.faults.QueryFault.TheVariants.{UnknownStream}
 use Rattle.ceql_parser.proofs.select_checks.check_streams.Goals as goal
 
 pub returns-in-Err : goal.returns-in-Err

@@ -1,7 +1,7 @@
 use Rattle.std.proofs.Common.{◌≡◌, None, take}
 use Rattle.ceql_parser.specs.FirstFaults.{first_in, unless_named}
 use Rattle.ceql_parser.specs.StatementFaults.{is_stream}
-use Rattle.ceql_parser.specs.declared.faults.QueryFault.TheVariants.{UnknownStream}
+use Rattle.ceql_grammar.specs.declared.faults.QueryFault.TheVariants.{UnknownStream}
 use Rattle.ceql_parser.proofs.select_checks.check_streams.Given as goal
 
 abbrev pub invariant-loop-name : goal.invariant-loop-name

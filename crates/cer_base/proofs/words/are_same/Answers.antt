@@ -1,4 +1,4 @@
-use Rattle.std.proofs.Common.{arith, sym, ap, length, get_or, ℕ, ◌<◌, ◌≡◌}
+use Rattle.std.proofs.Common.{arith, sym, ap, length, get_or}
 use Rattle.std.proofs.lemmas.Grind.{same_number_lists}
 use Rattle.cer_base.proofs.WordBits.{same_sets, other_sets}
 use Rattle.cer_base.proofs.words.are_same.Goals as goal

@@ -1,6 +1,4 @@
-use Rattle.std.proofs.Common.{arith, ℕ, ◌≡◌, bit_and, get_or, ◌∙◌}
-use Rattle.std.proofs.lemmas.List.{get_or_past}
-use Rattle.std.proofs.lemmas.Bool.{cases_lt}
+use Rattle.std.proofs.Common.{arith}
 use Rattle.cer_base.proofs.WordBits.{in_both, in_neither}
 use Rattle.cer_base.proofs.words.meets.Goals as goal
 

@@ -1,8 +1,7 @@
-use Rattle.std.proofs.Common.{ℕ, arith, refl, bit_and, bit_or, get_or}
-use Rattle.std.specs.Prelude.{◌&&◌, ◌||◌, not}
+use Rattle.std.proofs.Common.{ℕ, arith, refl, bit_and}
+use Rattle.std.specs.Prelude.{◌&&◌, not}
 use Rattle.std.specs.Int.{bit_not, w64}
-use Rattle.cer_base.specs.Bits.{bit}
-use Rattle.cer_base.proofs.WordBits.{kept_room, made_of_both, written_more, written_rest, bit-or, bit-and, bit-and_not}
+use Rattle.cer_base.proofs.WordBits.{kept_room, made_of_both, written_more, written_rest, bit-and_not}
 use Rattle.cer_base.proofs.words.subtract.Goals as goal
 
 pub loop-i-preserved : goal.loop-i-preserved

@@ -1,5 +1,5 @@
 -- The loop goes on from a part to a longer part, and a fault stops it at a proper part.
-use Rattle.std.proofs.Common.{ℕ, length, arith, ap, refl}
+use Rattle.std.proofs.Common.{ℕ, length, arith, ap, refl, ◌∙◌}
 use Rattle.std.proofs.lemmas.List.{length-take, length-drop}
 use Rattle.cer_outside.proofs.Parts.{took_nothing, took_more, took_part, took_all}
 use Rattle.cer_outside.proofs.writing.put_all.Goals as goal
@@ -8,7 +8,7 @@ pub loop-done-init : goal.loop-done-init
 loop-done-init g c = record {
   within = omega arith;
   took = took_nothing (g.K.Sink.taken c.args.sink.now);
-  later = omega arith;
+  counted = refl;
   unasked = λ _. refl;
 }
 
@@ -16,7 +16,7 @@ pub loop-done-preserved : goal.loop-done-preserved
 loop-done-preserved g c = record {
   within = omega (arith, c.in-Ok.ensures.high, length-take {A = ℕ}, length-drop {A = ℕ});
   took = took_more _ _ _ _ c.args.bytes.now c.loop-done.done c.in-Ok.count c.loop-done.invariant.took c.in-Ok.ensures.bytes;
-  later = omega (arith, c.in-Ok.ensures.cause.later);
+  counted = c.in-Ok.ensures.cause.well ∙ c.loop-done.invariant.counted;
   unasked = λ empty. absurd (omega (arith, ap length empty));
 }
 

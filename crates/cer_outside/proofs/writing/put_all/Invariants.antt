@@ -1,4 +1,4 @@
--- What was done so far is taken, and the count has not fallen.
+-- What was done so far is taken, and no write has failed.
 use Rattle.std.proofs.Common.{length, ◌-◌, ◌≡◌, [], ◌≤◌, take}
 use Rattle.cer_outside.specs.Bytes.{TookAll}
 use Rattle.cer_outside.proofs.writing.put_all.Given as goal
@@ -7,7 +7,7 @@ abbrev pub invariant-loop-done : goal.invariant-loop-done
 invariant-loop-done g l = record {
   within : l.done ≤ length l.bytes;
   took : TookAll (g.K.Sink.taken l.fn.sink) (g.K.Sink.taken l.sink) (take l.done l.bytes);
-  later : g.K.Sink.faults l.fn.sink ≤ g.K.Sink.faults l.sink;
+  counted : g.K.Sink.faults l.sink ≡ g.K.Sink.faults l.fn.sink;
   unasked : l.bytes ≡ [] → l.sink ≡ l.fn.sink;
 }
 

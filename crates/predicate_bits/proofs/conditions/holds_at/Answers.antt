@@ -1,6 +1,6 @@
 use Rattle.std.proofs.Common.{ap, ◌∙◌}
 use Rattle.std.proofs.lemmas.Option.{get_or_from_slice_get}
-use Rattle.cel_terms.specs.Shapes.{each_holds}
+use Rattle.query_leaves.specs.Shapes.{each_holds}
 use Rattle.predicate_bits.proofs.conditions.holds_at.Goals as goal
 
 pub returns : goal.returns

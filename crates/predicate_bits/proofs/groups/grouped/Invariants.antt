@@ -1,7 +1,5 @@
-use Rattle.std.proofs.Common.{nat_eq}
-use Rattle.indexmap.specs.IndexMap.{get}
 use Rattle.predicate_bits.proofs.Collected.{AreGroupedUpTo}
 use Rattle.predicate_bits.proofs.groups.grouped.Given as goal
 
-abbrev pub invariant-loop-leaf : goal.invariant-loop-leaf
-invariant-loop-leaf l = AreGroupedUpTo l.leaf-index l.fn.list (get nat_eq l.groups)
+abbrev pub invariant-loop-k : goal.invariant-loop-k
+invariant-loop-k l = AreGroupedUpTo l.k l.list l.groups.items

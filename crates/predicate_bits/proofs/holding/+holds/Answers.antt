@@ -1,6 +1,6 @@
 use Rattle.std.proofs.Common.{ap, sym, ◌∙◌}
 use Rattle.std.specs.List.{list_all, list_any}
-use Rattle.cel_terms.specs.Shapes.{test_holds}
+use Rattle.query_leaves.specs.Shapes.{test_holds}
 use Rattle.predicate_bits.proofs.Listed.{holds_all, holds_any}
 use Rattle.predicate_bits.proofs.holding.+holds.Goals as goal
 

@@ -1,6 +1,6 @@
 use Rattle.std.proofs.Common.{◌≡◌, true, false, take}
 use Rattle.std.specs.List.{list_all, list_any}
-use Rattle.cel_terms.specs.Shapes.{test_holds}
+use Rattle.query_leaves.specs.Shapes.{test_holds}
 use Rattle.predicate_bits.proofs.holding.+holds.Given as goal
 
 abbrev pub invariant-all_hold-loop-test : goal.invariant-all_hold-loop-test

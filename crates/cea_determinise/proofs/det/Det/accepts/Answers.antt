@@ -8,7 +8,7 @@ use Rattle.cea_determinise.proofs.det.Det.accepts.Goals as goal
 pub returns-in-Some : goal.returns-in-Some
 returns-in-Some c =
     let r = c.meets.result in
-    let fresh = c.in-Some.place.now.fresh in
+    let fresh = c.in-Some.state_sets.now.fresh in
     let some = subst (λ (t : Table). r ≡ true → (k : ℕ) × (has fresh k && has t.cea.last k ≡ true)) c.self.view_is c.meets.ensures.some in
     let none = subst (λ (t : Table). r ≡ false → (k : ℕ) → has fresh k && has t.cea.last k ≡ false) c.self.view_is c.meets.ensures.none in
-    rw (← c.in-Some.ensures.place) (meets_tells c.args.self.now.cea fresh r c.in-Some.ensures.sets.fresh some none)
+    rw (← c.in-Some.ensures.value) (meets_tells c.args.self.now.cea fresh r c.in-Some.ensures.below.fresh some none)

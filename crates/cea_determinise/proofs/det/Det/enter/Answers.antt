@@ -1,87 +1,89 @@
-use Rattle.std.proofs.Common.{ap, sym, ◌∙◌, ◌≡◌, ◌≤◌, subst, length, None, true}
+use Rattle.std.proofs.Common.{ap, sym, ◌∙◌, ◌≡◌, ◌<◌, ◌≤◌, subst, length, None, true}
 use Rattle.std.specs.Map.{lookup}
 use Rattle.indexmap.proofs.CallerLemmas.{insert_entry-new}
-use Rattle.cea_determinise.specs.Keys.{is_same_pair}
-use Rattle.cea_determinise.specs.Det.{Table, AreBoth, Reached, IsSound}
+use Rattle.cea_determinise.specs.Keys.{is_same_key}
+use Rattle.cea_determinise.specs.Det.{Table, class_at, AreBoth, Reached}
 use Rattle.cea_determinise.proofs.Growth.{sound_one, sound_two, sound_pair, reached_two, successors_two}
 use Rattle.cea_determinise.proofs.det.Det.enter.Goals as goal
 
 pub invariant_of-self : goal.invariant_of-self
 invariant_of-self g c =
-    let t : Table = record { cea = c.self.inside.cea; places = c.self.inside.places.keys; pairs = c.self.inside.pairs.entries } in
-    let s = c.args.pair.state in
-    let b = c.args.pair.bits in
+    let t : Table = record { cea = c.self.inside.cea; states = c.self.inside.states.keys; classes = c.self.inside.classes.keys; transitions = c.self.inside.transitions.entries } in
+    let s = c.args.key.state in
+    let b = class_at c.args.self.now.classes c.args.key.class in
     let are = subst (λ (o : Table). AreBoth o s b c.args.both) (sym c.self.view_is) c.requires.both in
-    (sound_one t s b true c.args.both.marked c.number.new.places.keys are.marked c.number.ensures.added c.self.invariant.0, c.self.invariant.1)
+    sound_one t s b true c.args.both.marked c.number.new.states.keys are.marked c.number.ensures.added c.self.invariant
 
 pub invariant_of-self-in_err-unmarked : goal.invariant_of-self-in_err-unmarked
 invariant_of-self-in_err-unmarked g c =
-    let t : Table = record { cea = c.self.inside.cea; places = c.self.inside.places.keys; pairs = c.self.inside.pairs.entries } in
-    let s = c.args.pair.state in
-    let b = c.args.pair.bits in
+    let t : Table = record { cea = c.self.inside.cea; states = c.self.inside.states.keys; classes = c.self.inside.classes.keys; transitions = c.self.inside.transitions.entries } in
+    let s = c.args.key.state in
+    let b = class_at c.args.self.now.classes c.args.key.class in
     let are = subst (λ (o : Table). AreBoth o s b c.args.both) (sym c.self.view_is) c.requires.both in
-    (sound_two t s b c.args.both c.number.new.places.keys c.number-2.new.places.keys are c.number.ensures.added c.number-2.ensures.added c.self.invariant.0, c.self.invariant.1)
+    sound_two t s b c.args.both c.number.new.states.keys c.number-2.new.states.keys are c.number.ensures.added c.number-2.ensures.added c.self.invariant
 
 pub returns-in_err-unmarked-clause-states : goal.returns-in_err-unmarked-clause-states
 returns-in_err-unmarked-clause-states g c =
-    let t : Table = record { cea = c.self.inside.cea; places = c.self.inside.places.keys; pairs = c.self.inside.pairs.entries } in
-    let s = c.args.pair.state in
-    let b = c.args.pair.bits in
+    let t : Table = record { cea = c.self.inside.cea; states = c.self.inside.states.keys; classes = c.self.inside.classes.keys; transitions = c.self.inside.transitions.entries } in
+    let s = c.args.key.state in
+    let b = class_at c.args.self.now.classes c.args.key.class in
     let are = subst (λ (o : Table). AreBoth o s b c.args.both) (sym c.self.view_is) c.requires.both in
-    subst (λ (o : Table). Reached o s b (record { cea = t.cea; places = c.number-2.new.places.keys; pairs = t.pairs })) c.self.view_is
-    (reached_two t s b c.args.both c.number.new.places.keys c.number-2.new.places.keys t.pairs are c.number.ensures.added c.number-2.ensures.added)
+    subst (λ (o : Table). Reached o s b (record { cea = t.cea; classes = t.classes; states = c.number-2.new.states.keys; transitions = t.transitions })) c.self.view_is
+    (reached_two t s b c.args.both c.number.new.states.keys c.number-2.new.states.keys t.transitions are c.number.ensures.added c.number-2.ensures.added)
 
 pub invariant_of-self-in_err-insert : goal.invariant_of-self-in_err-insert
 invariant_of-self-in_err-insert g c =
-    let t : Table = record { cea = c.self.inside.cea; places = c.self.inside.places.keys; pairs = c.self.inside.pairs.entries } in
-    let s = c.args.pair.state in
-    let b = c.args.pair.bits in
+    let t : Table = record { cea = c.self.inside.cea; states = c.self.inside.states.keys; classes = c.self.inside.classes.keys; transitions = c.self.inside.transitions.entries } in
+    let s = c.args.key.state in
+    let b = class_at c.args.self.now.classes c.args.key.class in
     let are = subst (λ (o : Table). AreBoth o s b c.args.both) (sym c.self.view_is) c.requires.both in
-    rw c.in_err-insert.ensures.err (sound_two t s b c.args.both c.number.new.places.keys c.number-2.new.places.keys are c.number.ensures.added c.number-2.ensures.added c.self.invariant.0, c.self.invariant.1)
+    rw c.in_err-insert.ensures.err (sound_two t s b c.args.both c.number.new.states.keys c.number-2.new.states.keys are c.number.ensures.added c.number-2.ensures.added c.self.invariant)
 
 pub returns-in_err-insert-clause-states : goal.returns-in_err-insert-clause-states
 returns-in_err-insert-clause-states g c =
-    let t : Table = record { cea = c.self.inside.cea; places = c.self.inside.places.keys; pairs = c.self.inside.pairs.entries } in
-    let s = c.args.pair.state in
-    let b = c.args.pair.bits in
+    let t : Table = record { cea = c.self.inside.cea; states = c.self.inside.states.keys; classes = c.self.inside.classes.keys; transitions = c.self.inside.transitions.entries } in
+    let s = c.args.key.state in
+    let b = class_at c.args.self.now.classes c.args.key.class in
     let are = subst (λ (o : Table). AreBoth o s b c.args.both) (sym c.self.view_is) c.requires.both in
-    subst (λ (o : Table). Reached o s b (record { cea = t.cea; places = c.number-2.new.places.keys; pairs = c.insert.new.self.entries })) c.self.view_is
-    (reached_two t s b c.args.both c.number.new.places.keys c.number-2.new.places.keys c.insert.new.self.entries are c.number.ensures.added c.number-2.ensures.added)
+    subst (λ (o : Table). Reached o s b (record { cea = t.cea; classes = t.classes; states = c.number-2.new.states.keys; transitions = c.insert.new.self.entries })) c.self.view_is
+    (reached_two t s b c.args.both c.number.new.states.keys c.number-2.new.states.keys c.insert.new.self.entries are c.number.ensures.added c.number-2.ensures.added)
 
 pub invariant_of-self-2 : goal.invariant_of-self-2
 invariant_of-self-2 g c =
-    let t : Table = record { cea = c.self.inside.cea; places = c.self.inside.places.keys; pairs = c.self.inside.pairs.entries } in
-    let s = c.args.pair.state in
-    let b = c.args.pair.bits in
+    let t : Table = record { cea = c.self.inside.cea; states = c.self.inside.states.keys; classes = c.self.inside.classes.keys; transitions = c.self.inside.transitions.entries } in
+    let s = c.args.key.state in
+    let b = class_at c.args.self.now.classes c.args.key.class in
     let are = subst (λ (o : Table). AreBoth o s b c.args.both) (sym c.self.view_is) c.requires.both in
-    let state = subst (λ (o : Table). s ≤ length o.places) (sym c.self.view_is) c.requires.state in
-    let new = subst (λ (o : Table). lookup (is_same_pair c.args.pair) o.pairs ≡ None) (sym c.self.view_is) c.requires.new in
-    let right = successors_two t s b c.args.both c.number.new.places.keys c.number-2.new.places.keys c.in_ok-marked.marked c.in_ok-unmarked.unmarked are c.number.ensures.added c.number-2.ensures.added c.in_ok-marked.ensures.numbered c.in_ok-unmarked.ensures.numbered state in
-    let entered = c.in_ok-insert.ensures.entries ∙ insert_entry-new is_same_pair c.self.inside.pairs c.args.pair _ new in (
-      sound_pair t.cea c.number-2.new.places.keys t.pairs c.args.pair _ c.insert.new.self.entries entered right
-          (sound_two t s b c.args.both c.number.new.places.keys c.number-2.new.places.keys are c.number.ensures.added c.number-2.ensures.added c.self.invariant.0),
-      c.self.invariant.1,
-    )
+    let state = subst (λ (o : Table). s ≤ length o.states) (sym c.self.view_is) c.requires.state in
+    let new = subst (λ (o : Table). lookup (is_same_key c.args.key) o.transitions ≡ None) (sym c.self.view_is) c.requires.new in
+    let is_class : b ≡ class_at t.classes c.args.key.class = ap (λ (o : Table). class_at o.classes c.args.key.class) (sym c.self.view_is) in
+    let known = subst (λ (o : Table). c.args.key.class < length o.classes) (sym c.self.view_is) c.requires.class in
+    let right = successors_two t s b c.args.key.class is_class known c.args.both c.number.new.states.keys c.number-2.new.states.keys c.in_ok-marked.marked c.in_ok-unmarked.unmarked are c.number.ensures.added c.number-2.ensures.added c.in_ok-marked.ensures.numbered c.in_ok-unmarked.ensures.numbered state in
+    let entered = c.in_ok-insert.ensures.entries ∙ insert_entry-new is_same_key c.self.inside.transitions c.args.key _ new in
+    sound_pair t.cea c.number-2.new.states.keys t.classes t.transitions c.args.key _ c.insert.new.self.entries entered right
+    (sound_two t s b c.args.both c.number.new.states.keys c.number-2.new.states.keys are c.number.ensures.added c.number-2.ensures.added c.self.invariant)
 
 pub returns-clause-successors : goal.returns-clause-successors
 returns-clause-successors g c =
-    let t : Table = record { cea = c.self.inside.cea; places = c.self.inside.places.keys; pairs = c.self.inside.pairs.entries } in
-    let s = c.args.pair.state in
-    let b = c.args.pair.bits in
+    let t : Table = record { cea = c.self.inside.cea; states = c.self.inside.states.keys; classes = c.self.inside.classes.keys; transitions = c.self.inside.transitions.entries } in
+    let s = c.args.key.state in
+    let b = class_at c.args.self.now.classes c.args.key.class in
     let are = subst (λ (o : Table). AreBoth o s b c.args.both) (sym c.self.view_is) c.requires.both in
-    let state = subst (λ (o : Table). s ≤ length o.places) (sym c.self.view_is) c.requires.state in
-    successors_two t s b c.args.both c.number.new.places.keys c.number-2.new.places.keys c.in_ok-marked.marked c.in_ok-unmarked.unmarked are c.number.ensures.added c.number-2.ensures.added c.in_ok-marked.ensures.numbered c.in_ok-unmarked.ensures.numbered state
+    let state = subst (λ (o : Table). s ≤ length o.states) (sym c.self.view_is) c.requires.state in
+    let is_class : b ≡ class_at t.classes c.args.key.class = ap (λ (o : Table). class_at o.classes c.args.key.class) (sym c.self.view_is) in
+    let known = subst (λ (o : Table). c.args.key.class < length o.classes) (sym c.self.view_is) c.requires.class in
+    successors_two t s b c.args.key.class is_class known c.args.both c.number.new.states.keys c.number-2.new.states.keys c.in_ok-marked.marked c.in_ok-unmarked.unmarked are c.number.ensures.added c.number-2.ensures.added c.in_ok-marked.ensures.numbered c.in_ok-unmarked.ensures.numbered state
 
 pub returns-clause-states : goal.returns-clause-states
 returns-clause-states g c =
-    let t : Table = record { cea = c.self.inside.cea; places = c.self.inside.places.keys; pairs = c.self.inside.pairs.entries } in
-    let s = c.args.pair.state in
-    let b = c.args.pair.bits in
+    let t : Table = record { cea = c.self.inside.cea; states = c.self.inside.states.keys; classes = c.self.inside.classes.keys; transitions = c.self.inside.transitions.entries } in
+    let s = c.args.key.state in
+    let b = class_at c.args.self.now.classes c.args.key.class in
     let are = subst (λ (o : Table). AreBoth o s b c.args.both) (sym c.self.view_is) c.requires.both in
-    subst (λ (o : Table). Reached o s b (record { cea = t.cea; places = c.number-2.new.places.keys; pairs = c.insert.new.self.entries })) c.self.view_is
-    (reached_two t s b c.args.both c.number.new.places.keys c.number-2.new.places.keys c.insert.new.self.entries are c.number.ensures.added c.number-2.ensures.added)
+    subst (λ (o : Table). Reached o s b (record { cea = t.cea; classes = t.classes; states = c.number-2.new.states.keys; transitions = c.insert.new.self.entries })) c.self.view_is
+    (reached_two t s b c.args.both c.number.new.states.keys c.number-2.new.states.keys c.insert.new.self.entries are c.number.ensures.added c.number-2.ensures.added)
 
 pub returns-clause-entered : goal.returns-clause-entered
 returns-clause-entered g c =
-    let new = subst (λ (o : Table). lookup (is_same_pair c.args.pair) o.pairs ≡ None) (sym c.self.view_is) c.requires.new in
-    rw (← c.self.view_is) (c.in_ok-insert.ensures.entries ∙ insert_entry-new is_same_pair c.self.inside.pairs c.args.pair _ new)
+    let new = subst (λ (o : Table). lookup (is_same_key c.args.key) o.transitions ≡ None) (sym c.self.view_is) c.requires.new in
+    rw (← c.self.view_is) (c.in_ok-insert.ensures.entries ∙ insert_entry-new is_same_key c.self.inside.transitions c.args.key _ new)

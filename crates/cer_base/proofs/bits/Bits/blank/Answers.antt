@@ -1,4 +1,4 @@
-use Rattle.std.proofs.Common.{arith, ◌∙◌}
+use Rattle.std.proofs.Common.{◌∙◌}
 use Rattle.cer_base.proofs.WordBits.{blank_room, zeros_out}
 use Rattle.cer_base.proofs.bits.Bits.blank.Goals as goal
 

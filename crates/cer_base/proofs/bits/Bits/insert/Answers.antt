@@ -1,4 +1,3 @@
-use Rattle.std.proofs.Common.{arith}
 use Rattle.cer_base.proofs.WordBits.{length_bits_of}
 use Rattle.cer_base.proofs.bits.Bits.insert.Goals as goal
 

@@ -1,10 +1,7 @@
-use Rattle.std.proofs.Common.{◌≡◌, ℕ, ◌<◌, List, get_or}
-use Rattle.cer_outside.specs.States.{FileState}
-use Rattle.cer_outside.specs.Files.{bytes_under}
+-- The files so far have no fault.
+use Rattle.std.proofs.Common.{◌≡◌, ◌++◌, map, take, drop}
+use Rattle.cer_outside.proofs.Named.{fresh}
 use Rattle.cer_outside.proofs.hosts.MemHost.new.Given as goal
 
 abbrev pub invariant-loop-file : goal.invariant-loop-file
-invariant-loop-file l = record {
-  content : (any : List ℕ) → bytes_under l.file-items any ≡ bytes_under l.fn.files.items any;
-  fresh : (k : ℕ) (d : FileState) → k < l.file-index → (get_or l.file-items k d).faults ≡ 0;
-}
+invariant-loop-file l = l.file-items ≡ map fresh (take l.file-index l.fn.files.items) ++ drop l.file-index l.fn.files.items

@@ -1,13 +1,13 @@
--- What was taken and what is left stay the same, and the count has not fallen.
-use Rattle.std.proofs.Common.{◌-◌, ◌≤◌, length}
-use Rattle.event_reader.specs.LineBuffers.{ReadsOn}
+use Rattle.cer_outside.specs.Bytes.{ReadsOn}
+-- What was taken and what is left stay the same, and no read has failed.
+use Rattle.std.proofs.Common.{◌≡◌, ◌-◌, ◌≤◌, length}
 use Rattle.event_reader.proofs.line_buffer.LineBuffer.seek.Given as goal
 
 abbrev pub invariant-loop-place : goal.invariant-loop-place
 invariant-loop-place g l = record {
   bytes : ReadsOn (g.Q.Source.left l.fn.source) (g.Q.Source.left l.source) l.fn.self.pending l.self.pending;
   room : length l.self.pending ≤ l.room;
-  later : g.Q.Source.faults l.fn.source ≤ g.Q.Source.faults l.source;
+  counted : g.Q.Source.faults l.source ≡ g.Q.Source.faults l.fn.source;
 }
 
 abbrev pub decreases-loop-place : goal.decreases-loop-place

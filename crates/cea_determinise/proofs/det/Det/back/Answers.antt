@@ -1,0 +1,19 @@
+use Rattle.std.proofs.Common.{◌≡◌, subst, sym, take, All, length, ◌≤◌}
+use Rattle.cea_determinise.specs.Det.{Table, IsSound, StaysWithin}
+use Rattle.cea_determinise.proofs.Growth.{sound_cut}
+use Rattle.cea_determinise.proofs.det.Det.back.Goals as goal
+
+pub invariant_of-self : goal.invariant_of-self
+invariant_of-self c =
+    let m = c.args.mark in
+    let t : Table = record { cea = c.self.inside.cea; states = c.self.inside.states.keys; classes = c.self.inside.classes.keys; transitions = c.self.inside.transitions.entries } in
+    let few = subst (λ (o : Table). m.states ≤ length o.states) (sym c.self.view_is) c.requires.states in
+    let known = subst (λ (o : Table). m.classes ≤ length o.classes) (sym c.self.view_is) c.requires.classes in
+    let within = subst (λ (o : Table). All (StaysWithin m.states m.classes) (take m.pairs o.transitions)) (sym c.self.view_is) c.requires.within in
+    let states = sym c.truncate.ensures.keys in
+    let classes = sym c.truncate-3.ensures.keys in
+    let transitions = sym c.truncate-2.ensures.entries in
+    let cut : Table = record { cea = t.cea; states = take m.states t.states; classes = take m.classes t.classes; transitions = take m.pairs t.transitions } in
+    let after : Table = record { cea = t.cea; states = c.truncate.new.self.keys; classes = c.truncate-3.new.self.keys; transitions = c.truncate-2.new.self.entries } in
+    let same : cut ≡ after = λ i. record { cea = t.cea; states = states i; classes = classes i; transitions = transitions i } in
+    subst IsSound same (sound_cut t m.states m.pairs m.classes few known within c.self.invariant)

@@ -1,4 +1,0 @@
-use Rattle.cel_terms.proofs.number.+cmp_scaled_to.Given as goal
-
-abbrev pub decreases-cmp_scaled_to : goal.decreases-cmp_scaled_to
-decreases-cmp_scaled_to l = l.places

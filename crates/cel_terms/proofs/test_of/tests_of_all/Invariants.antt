@@ -1,6 +1,0 @@
-use Rattle.std.proofs.Common.{map, take}
-use Rattle.cel_terms.specs.Tests.{AreTestsOf}
-use Rattle.cel_terms.proofs.test_of.tests_of_all.Given as goal
-
-abbrev pub invariant-loop-pred : goal.invariant-loop-pred
-invariant-loop-pred l = AreTestsOf l.schema l.ty (map (λ p. p.now) (take l.pred-index l.preds)) l.tests.items

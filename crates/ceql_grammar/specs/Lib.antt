@@ -1,0 +1,15 @@
+pub mod WordsAndSigns
+pub mod Values
+pub mod Trees
+pub mod Conditions
+pub mod Formulas
+pub mod RuleForms
+pub mod Statements
+pub mod Texts
+pub mod Reading
+pub mod PartlyRead
+pub mod Joined
+pub mod LinkViews
+pub mod ReadResults
+pub mod LawfulTexts
+pub mod TokenFaults

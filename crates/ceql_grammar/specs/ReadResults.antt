@@ -1,0 +1,42 @@
+-- What a reading function returned is what its reader gives, unless memory ran out.
+use Rattle.std.specs.Prelude.{◌≡◌, List, [], Option, Some, None, Result, Ok, Err}
+use denote.Ref.{Bor}
+use Rattle.cer_base.specs.declared.OrMemory.{OrMemory}
+use Rattle.cer_base.specs.declared.OrMemory.TheVariants as wanted
+use Rattle.ceql_lexer.specs.declared.Token.{Token}
+use Rattle.ceql_grammar.specs.RuleForms.{Out}
+
+-- the tokens left at a failure are those of the reader; memory may run out at any time
+abbrev pub StopsAs : {Y : Type 0} → OrMemory (Bor (List Token)) → Out Y → Type 0
+StopsAs wanted.Memory out = Unit {0}
+StopsAs (wanted.Fault rest) out = out ≡ Err rest.now
+
+-- the value, seen by view, and the tokens after it are those of the reader
+abbrev pub ReadsAs : {X Y : Type 0} → (X → Y) → Result (X × Bor (List Token)) (OrMemory (Bor (List Token))) → Out Y → Type 0
+ReadsAs view (Ok p) out = out ≡ Ok (view p.0, p.1.now)
+ReadsAs view (Err e) out = StopsAs e out
+
+-- the tokens after a word or a sign are those of the reader
+abbrev pub ReadsPast : Result (Bor (List Token)) (OrMemory (Bor (List Token))) → Out (Unit {0}) → Type 0
+ReadsPast (Ok rest) out = out ≡ Ok (tt, rest.now)
+ReadsPast (Err e) out = StopsAs e out
+
+-- nothing is read, and what stands in front is as the reader wants it
+abbrev pub Stays : List Token → Result (Unit {0}) (OrMemory (Bor (List Token))) → Out (Unit {0}) → Type 0
+Stays tokens (Ok u) out = out ≡ Ok (tt, tokens)
+Stays tokens (Err e) out = StopsAs e out
+
+-- the tokens after a word or a sign, or none where another token stands in front
+abbrev pub Skips : Option (Bor (List Token)) → Option (Unit {0} × List Token) → Type 0
+Skips (Some rest) out = out ≡ Some (tt, rest.now)
+Skips None out = out ≡ None
+
+-- the same with a value
+abbrev pub SkipsTo : {X : Type 0} → Option (X × Bor (List Token)) → Option (X × List Token) → Type 0
+SkipsTo (Some p) out = out ≡ Some (p.0, p.1.now)
+SkipsTo None out = out ≡ None
+
+-- all of the tokens are read
+abbrev pub ReadsAllAs : {X Y : Type 0} → (X → Y) → Result X (OrMemory (Bor (List Token))) → Out Y → Type 0
+ReadsAllAs view (Ok x) out = out ≡ Ok (view x, [])
+ReadsAllAs view (Err e) out = StopsAs e out

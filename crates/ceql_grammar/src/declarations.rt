@@ -1,0 +1,164 @@
+//! Declarations of types and streams.
+
+ghost use Rattle.ceql_grammar.specs.ReadResults.{ReadsAs, Stays};
+ghost use Rattle.ceql_grammar.specs.PartlyRead.{with_front};
+ghost use Rattle.ceql_grammar.specs.Reading.{attr, attr_kind, attrs_closed, decimal_kind, declaration, ended, event_declared, more_attrs, some_attrs, stream_declared};
+ghost use Rattle.ceql_grammar.specs.Statements.{statement_tree};
+ghost use Rattle.std.specs.Prelude.{◌≡◌, ◌<◌, ◌≤◌, IfOk, length};
+
+use crate::names::names;
+use crate::terms::{AttrDecl, AttrDecls, KindDecl, Statement};
+use crate::tokens::{Read, expect, is, name, skip};
+use crate::values::whole_number;
+use ceql_lexer::Token;
+use cer_base::{Listed, OrMemory};
+use std::alloc::Global;
+
+/// Nothing, where a statement may end: before DECLARE, before SELECT and at the end.
+#[tactic(auto, unfolding(crate::specs::Reading::ended))]
+pub fn ended<'a>(tokens: &'a [Token]) -> Result<(), OrMemory<&'a [Token]>>
+    ensures { Stays tokens.now result (ended tokens.now) }
+{
+    match tokens.split_first() {
+        Some((first, _)) => {
+            if is(first, b"DECLARE") || is(first, b"SELECT") {
+                Ok(())
+            } else {
+                Err(OrMemory::Fault(tokens))
+            }
+        }
+        None => Ok(()),
+    }
+}
+
+/// The number of a DECIMAL, in parentheses.
+#[tactic(auto, unfolding(crate::specs::Reading::decimal_kind))]
+fn decimal_kind<'a>(tokens: &'a [Token]) -> Read<'a, KindDecl>
+    ensures value { ReadsAs (λ k. k) result (decimal_kind tokens.now) }
+    ensures shorter { IfOk result (λ p. length p.1.now < length tokens.now) }
+{
+    let inside = expect(tokens, b"(")?;
+    let (places, rest) = whole_number(inside)?;
+    let rest = expect(rest, b")")?;
+    Ok((KindDecl::Dec(places), rest))
+}
+
+/// What an attribute is declared to hold.
+#[tactic(auto, unfolding(crate::specs::Reading::attr_kind))]
+fn attr_kind<'a>(tokens: &'a [Token]) -> Read<'a, KindDecl>
+    ensures value { ReadsAs (λ k. k) result (attr_kind tokens.now) }
+    ensures shorter { IfOk result (λ p. length p.1.now < length tokens.now) }
+{
+    if let Some(rest) = skip(tokens, b"INT") {
+        return Ok((KindDecl::Int, rest));
+    }
+    if let Some(rest) = skip(tokens, b"STRING") {
+        return Ok((KindDecl::Text, rest));
+    }
+    if let Some(rest) = skip(tokens, b"BOOL") {
+        return Ok((KindDecl::Flag, rest));
+    }
+    let rest = expect(tokens, b"DECIMAL")?;
+    decimal_kind(rest)
+}
+
+/// An attribute.
+#[tactic(auto, unfolding(crate::specs::Reading::attr))]
+fn attr<'a>(alloc: Global, tokens: &'a [Token]) -> Read<'a, AttrDecl>
+    ensures value { ReadsAs (λ a. a) result (attr tokens.now) }
+    ensures shorter { IfOk result (λ p. length p.1.now < length tokens.now) }
+{
+    let (name, rest) = name(alloc, tokens)?;
+    let (kind, rest) = attr_kind(rest)?;
+    Ok((AttrDecl { name, kind }, rest))
+}
+
+/// The attributes after those that were read, a comma before each.
+fn more_attrs<'a>(
+    alloc: Global,
+    attrs: Vec<AttrDecl>,
+    tokens: &'a [Token],
+) -> Read<'a, Vec<AttrDecl>>
+    ensures value { ReadsAs (λ v. v.items) result (with_front attrs.items (more_attrs tokens.now)) }
+    ensures no_longer { IfOk result (λ p. length p.1.now ≤ length tokens.now) }
+{
+    let mut attrs = attrs;
+    let mut rest = tokens;
+    while let Some(later) = skip(rest, b",") {
+        let (next, behind_next) = attr(alloc, later)?;
+        attrs.push(next)?;
+        rest = behind_next;
+    }
+    Ok((attrs, rest))
+}
+
+/// Attributes with commas between them.
+#[tactic(auto, unfolding(crate::specs::Reading::some_attrs))]
+fn some_attrs<'a>(alloc: Global, tokens: &'a [Token]) -> Read<'a, AttrDecls>
+    ensures value { ReadsAs (λ l. l) result (some_attrs tokens.now) }
+    ensures shorter { IfOk result (λ p. length p.1.now < length tokens.now) }
+{
+    let (first, rest) = attr(alloc, tokens)?;
+    let mut attrs = Vec::new(alloc);
+    attrs.push(first)?;
+    let (attrs, rest) = more_attrs(alloc, attrs, rest)?;
+    Ok((Listed::of(attrs), rest))
+}
+
+/// Attributes, of which there may be none, and the `)` after them.
+#[tactic(auto, unfolding(crate::specs::Reading::attrs_closed))]
+fn attrs_closed<'a>(alloc: Global, tokens: &'a [Token]) -> Read<'a, AttrDecls>
+    ensures value { ReadsAs (λ l. l) result (attrs_closed tokens.now) }
+    ensures shorter { IfOk result (λ p. length p.1.now < length tokens.now) }
+{
+    match skip(tokens, b")") {
+        Some(rest) => Ok((Listed::of(Vec::new(alloc)), rest)),
+        None => {
+            let (attrs, rest) = some_attrs(alloc, tokens)?;
+            let rest = expect(rest, b")")?;
+            Ok((attrs, rest))
+        }
+    }
+}
+
+/// The name and the attributes of a type.
+#[tactic(auto, unfolding(crate::specs::Reading::event_declared))]
+fn event<'a>(alloc: Global, tokens: &'a [Token]) -> Read<'a, Statement>
+    ensures value { ReadsAs statement_tree result (event_declared tokens.now) }
+    ensures shorter { IfOk result (λ p. length p.1.now < length tokens.now) }
+{
+    let (name, rest) = name(alloc, tokens)?;
+    let inside = expect(rest, b"(")?;
+    let (attrs, rest) = attrs_closed(alloc, inside)?;
+    ended(rest)?;
+    Ok((Statement::Event(name, attrs), rest))
+}
+
+/// The name and the types of a stream.
+#[tactic(auto, unfolding(crate::specs::Reading::stream_declared))]
+fn stream<'a>(alloc: Global, tokens: &'a [Token]) -> Read<'a, Statement>
+    ensures value { ReadsAs statement_tree result (stream_declared tokens.now) }
+    ensures shorter { IfOk result (λ p. length p.1.now < length tokens.now) }
+{
+    let (name, rest) = name(alloc, tokens)?;
+    let inside = expect(rest, b"(")?;
+    let (types, rest) = names(alloc, inside)?;
+    let rest = expect(rest, b")")?;
+    ended(rest)?;
+    Ok((Statement::Stream(name, types), rest))
+}
+
+/// What stands after DECLARE.
+#[tactic(auto, unfolding(crate::specs::Reading::declaration))]
+pub fn declaration<'a>(alloc: Global, tokens: &'a [Token]) -> Read<'a, Statement>
+    ensures value { ReadsAs statement_tree result (declaration tokens.now) }
+    ensures shorter { IfOk result (λ p. length p.1.now < length tokens.now) }
+{
+    match skip(tokens, b"EVENT") {
+        Some(later) => event(alloc, later),
+        None => {
+            let later = expect(tokens, b"STREAM")?;
+            stream(alloc, later)
+        }
+    }
+}

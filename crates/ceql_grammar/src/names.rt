@@ -1,0 +1,41 @@
+//! Lists of names.
+
+ghost use Rattle.ceql_grammar.specs.ReadResults.{ReadsAs};
+ghost use Rattle.ceql_grammar.specs.Reading.{bracketed_names, names};
+ghost use Rattle.std.specs.Prelude.{◌≡◌, ◌<◌, IfOk, length};
+
+use crate::tokens::{Read, expect, name, skip};
+use cel_terms::Names;
+use ceql_lexer::Token;
+use cer_base::Listed;
+use std::alloc::Global;
+
+/// Names with commas between them.
+#[tactic(auto, unfolding(crate::specs::Reading::names))]
+pub fn names<'a>(alloc: Global, tokens: &'a [Token]) -> Read<'a, Names>
+    ensures value { ReadsAs (λ ns. ns) result (names tokens.now) }
+    ensures shorter { IfOk result (λ p. length p.1.now < length tokens.now) }
+{
+    let (first, behind_first) = name(alloc, tokens)?;
+    let mut names = Vec::new(alloc);
+    names.push(first)?;
+    let mut rest = behind_first;
+    while let Some(later) = skip(rest, b",") {
+        let (next, behind_next) = name(alloc, later)?;
+        names.push(next)?;
+        rest = behind_next;
+    }
+    Ok((Listed::of(names), rest))
+}
+
+/// Names with commas between them, in brackets.
+#[tactic(auto, unfolding(crate::specs::Reading::bracketed_names))]
+pub fn bracketed_names<'a>(alloc: Global, tokens: &'a [Token]) -> Read<'a, Names>
+    ensures value { ReadsAs (λ ns. ns) result (bracketed_names tokens.now) }
+    ensures shorter { IfOk result (λ p. length p.1.now < length tokens.now) }
+{
+    let inside = expect(tokens, b"[")?;
+    let (names, rest) = names(alloc, inside)?;
+    let rest = expect(rest, b"]")?;
+    Ok((names, rest))
+}

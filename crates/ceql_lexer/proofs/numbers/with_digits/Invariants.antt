@@ -1,6 +1,0 @@
-use Rattle.std.proofs.Common.{◌≡◌, ◌≤◌, drop}
-use Rattle.ceql_lexer.specs.Numerals.{read_on}
-use Rattle.ceql_lexer.proofs.numbers.with_digits.Given as goal
-
-abbrev pub invariant-loop-digit : goal.invariant-loop-digit
-invariant-loop-digit l = (l.value ≤ l.limit) × (read_on l.value (drop l.digit-index l.digits) ≡ read_on l.start l.digits)

@@ -1,5 +1,0 @@
-use Rattle.ceql_parser.proofs.TextRules.{one_reading}
-use Rattle.ceql_parser.proofs.laws.a_text_has_one_reading.Goals as goal
-
-pub returns : goal.returns
-returns c = one_reading

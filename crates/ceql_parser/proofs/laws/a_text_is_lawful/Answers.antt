@@ -1,5 +1,0 @@
-use Rattle.ceql_parser.proofs.LawfulRules.{text_lawful}
-use Rattle.ceql_parser.proofs.laws.a_text_is_lawful.Goals as goal
-
-pub returns : goal.returns
-returns c = text_lawful

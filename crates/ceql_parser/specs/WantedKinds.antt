@@ -1,0 +1,11 @@
+-- Which kinds of an attribute serve.
+use Rattle.std.specs.Prelude.{Bool}
+use Rattle.stream_schema.specs.declared.Kind.{Kind}
+use Rattle.ceql_parser.specs.declared.schema_lookups.Wanted.{Wanted}
+use Rattle.ceql_parser.specs.declared.schema_lookups.Wanted.TheVariants as wanted
+use Rattle.ceql_parser.specs.TypesAsked.{any_kind, is_whole, are_alike}
+
+abbrev pub serves : Wanted → Kind → Bool
+serves wanted.Any = any_kind
+serves (wanted.Like other) = are_alike other
+serves wanted.Whole = is_whole

@@ -1,0 +1,152 @@
+//! Look-ups in a schema: of names, and of the attributes of types that are given by their numbers.
+
+ghost use Rattle.std.specs.Prelude.{◌≡◌, ℕ, List, true, false, ◌&&◌, bytes_eq, slice_get};
+ghost use Rattle.std.specs.List.{list_any, list_all, filter_map};
+ghost use Rattle.std.specs.Option.{option_map_or};
+ghost use Rattle.cel_terms.specs.Answers.{types_of_stream};
+ghost use Rattle.stream_schema.specs.Names.{is_taken};
+ghost use Rattle.ceql_parser.specs.TypesAsked.{types_at, is_type_name, has_attr, some_has_attr, each_has_attr, is_whole, kind_of, are_alike};
+ghost use Rattle.ceql_parser.specs.WantedKinds.{serves};
+
+use stream_schema::{Attr, Kind, Schema, TypeId, Value};
+
+/// Which kinds of an attribute serve.
+#[derive(Debug, Clone, Copy, PartialEq, Eq)]
+pub enum Wanted {
+    Any,
+    /// Those that compare with this one.
+    Like(Kind),
+    Whole,
+}
+
+/// The kind of a literal.
+pub fn kind_of(literal: &Value) -> Kind
+    ensures { result ≡ kind_of literal.now }
+{
+    match literal {
+        Value::Int(_) => Kind::Int,
+        Value::Text(_) => Kind::Text,
+        Value::Flag(_) => Kind::Flag,
+        Value::Dec { scaled: _, places } => Kind::Dec(*places),
+    }
+}
+
+fn are_alike(a: Kind, b: Kind) -> bool
+    ensures { result ≡ are_alike a b }
+{
+    match (a, b) {
+        (Kind::Int, Kind::Int) => true,
+        (Kind::Int, Kind::Dec(_)) => true,
+        (Kind::Dec(_), Kind::Int) => true,
+        (Kind::Dec(_), Kind::Dec(_)) => true,
+        (Kind::Text, Kind::Text) => true,
+        (Kind::Flag, Kind::Flag) => true,
+        _ => false,
+    }
+}
+
+fn serves(wanted: Wanted, kind: Kind) -> bool
+    ensures { result ≡ serves wanted kind }
+{
+    match wanted {
+        Wanted::Any => true,
+        Wanted::Like(other) => are_alike(other, kind),
+        Wanted::Whole => match kind {
+            Kind::Int => true,
+            _ => false,
+        },
+    }
+}
+
+fn is_attr(attr: &Attr, name: &str, wanted: Wanted) -> bool
+    ensures { result ≡ (bytes_eq attr.now.name name.now && serves wanted attr.now.kind) }
+{
+    attr.name.as_str() == name && serves(wanted, attr.kind)
+}
+
+fn attrs_have(attrs: &[Attr], name: &str, wanted: Wanted) -> bool
+    ensures { result ≡ list_any (λ a. bytes_eq a.name name.now && serves wanted a.kind) attrs.now }
+{
+    attrs.iter().any(|a| is_attr(a, name, wanted))
+}
+
+/// Whether the type has the attribute; `otherwise` where there is no such type.
+fn type_has(schema: &Schema, number: TypeId, name: &str, wanted: Wanted, otherwise: bool) -> bool
+    ensures { result ≡ option_map_or (has_attr name.now (serves wanted)) (slice_get schema.now.types number) otherwise }
+{
+    match schema.attrs(number) {
+        Some(attrs) => attrs_have(attrs, name, wanted),
+        None => otherwise,
+    }
+}
+
+fn some_have(schema: &Schema, numbers: &[TypeId], name: &str, wanted: Wanted) -> bool
+    ensures { result ≡ list_any (λ n. option_map_or (has_attr name.now (serves wanted)) (slice_get schema.now.types n) false) numbers.now }
+{
+    for number in numbers {
+        if type_has(schema, *number, name, wanted, false) {
+            return true;
+        }
+    }
+    false
+}
+
+fn all_have(schema: &Schema, numbers: &[TypeId], name: &str, wanted: Wanted) -> bool
+    ensures { result ≡ list_all (λ n. option_map_or (has_attr name.now (serves wanted)) (slice_get schema.now.types n) true) numbers.now }
+{
+    for number in numbers {
+        if !type_has(schema, *number, name, wanted, true) {
+            return false;
+        }
+    }
+    true
+}
+
+/// Whether one of the types has the attribute, with a kind that serves.
+pub fn some_has_attr(schema: &Schema, numbers: &[TypeId], name: &str, wanted: Wanted) -> bool
+    ensures { result ≡ some_has_attr (types_at schema.now numbers.now) name.now (serves wanted) }
+{
+    some_have(schema, numbers, name, wanted)
+}
+
+/// Whether each of the types has the attribute, with a kind that serves.
+pub fn each_has_attr(schema: &Schema, numbers: &[TypeId], name: &str, wanted: Wanted) -> bool
+    ensures { result ≡ each_has_attr (types_at schema.now numbers.now) name.now (serves wanted) }
+{
+    all_have(schema, numbers, name, wanted)
+}
+
+/// Whether a stream has the name.
+pub fn is_stream(schema: &Schema, name: &str) -> bool
+    ensures { result ≡ list_any (λ s. bytes_eq s.name name.now) schema.now.streams }
+{
+    match schema.streams(name) {
+        Some(_) => true,
+        None => false,
+    }
+}
+
+/// Whether a type has the name.
+#[tactic(auto, using(crate::proofs::TypesFound::type_found))]
+pub fn is_type(schema: &Schema, name: &str) -> bool
+    ensures { result ≡ is_type_name schema.now.types name.now }
+{
+    schema.type_of(name).is_some()
+}
+
+/// Whether a type or a stream has the name.
+pub fn is_taken(schema: &Schema, name: &str) -> bool
+    ensures { result ≡ is_taken schema.now name.now }
+{
+    is_type(schema, name) || is_stream(schema, name)
+}
+
+/// The types of the stream, none where no stream has the name.
+pub fn types_in<'s>(schema: &'s Schema, name: &str) -> &'s [TypeId]
+    ensures { result.now ≡ types_of_stream schema.now.streams name.now }
+{
+    match schema.streams(name) {
+        Some(types) => types.as_slice(),
+        None => &[],
+    }
+}

@@ -1,0 +1,20 @@
+-- which names a list has
+pub mod Naming
+-- what changes make of a tree
+pub mod Changes
+-- what the expansion of a formula computes
+pub mod Expanded
+-- the first place at which a test passes
+pub mod Found
+-- lists whose elements are related one by one
+pub mod Pairs
+-- what the test of a predicate says
+pub mod Tested
+-- which events a leaf reads
+pub mod Read
+-- no literal of a checked query's leaves has too many decimal places
+pub mod Places
+-- how many leaves a formula has
+pub mod Counts
+-- that the leaves of a checked query are lawful
+pub mod Lawfulness

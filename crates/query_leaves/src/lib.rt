@@ -1,0 +1,74 @@
+//! The leaves of a query: the types that its formula reads, in order, each with the tests of all
+//! filters that speak of it, and the shape of the formula over their numbers.
+//!
+//! Promised: `leaves_of` gives exactly the leaves of a query's tree, and its shape; those of a
+//! checked query are lawful. The only other answer is that memory ran out. What a query means stands
+//! in `cel_terms`; here stands what the automaton needs of it. It stands on `cel_terms` for terms and
+//! `stream_schema` for types and values.
+#![tactic(auto)]
+
+use cel_terms::Op;
+use cer_base::Listed;
+use stream_schema::{TypeId, Value};
+
+mod draft;
+mod expand;
+mod leaf_of;
+mod numbering;
+mod occurrence;
+mod query;
+mod test_of;
+#[cfg(test)]
+mod tests;
+
+pub use query::leaves_of;
+
+/// A test of one event, whose type's attributes are known by their places.
+#[derive(Drop, Debug)]
+pub enum Test {
+    /// Holds of no event: the type lacks the attribute.
+    No,
+    /// The value at this place in the event, from 0, compares so with the literal.
+    Cmp(u64, Op, Value),
+    Not(Box<Test>),
+    All(Vec<Test>),
+    Any(Vec<Test>),
+}
+
+/// An occurrence of a type in a formula.
+#[derive(Drop, Debug)]
+pub struct Leaf {
+    pub ty: TypeId,
+    /// All of them hold of each event that it reads.
+    pub tests: Vec<Test>,
+    /// Whether the position that it reads is in the set of some name in the end.
+    pub marked: bool,
+}
+
+/// A formula over the numbers of its leaves, from 0.
+#[derive(Drop, Debug)]
+pub enum Shape {
+    /// Reads nothing.
+    Never,
+    Leaf(u64),
+    /// One after the other; where tight, with no event of the substream between.
+    Sequence {
+        tight: bool,
+        first: Box<Shape>,
+        second: Box<Shape>,
+    },
+    Either(Box<Shape>, Box<Shape>),
+    /// One or more, each after the one before.
+    Plus {
+        tight: bool,
+        part: Box<Shape>,
+    },
+}
+
+/// The leaves of a query, from left to right, and its shape over their numbers.
+#[derive(Drop, Debug)]
+pub struct Leaves {
+    pub list: Listed<Leaf>,
+    pub shape: Shape,
+    pub strict: bool,
+}

@@ -1,0 +1,81 @@
+//! The tests of predicates, for the events of one type.
+
+ghost use Rattle.std.specs.Prelude.{◌≡◌, IfOk, map};
+ghost use Rattle.cel_terms.specs.declared.Pred.{Cmp};
+ghost use Rattle.query_leaves.specs.Tests.{IsTestOf, AreTestsOf};
+
+use crate::Test;
+use cel_terms::{Name, Op, Pred};
+use cer_base::Memory;
+use std::alloc::Global;
+use stream_schema::{Schema, TypeId, Value, copy_value};
+
+/// The test of a comparison. Where the type lacks the attribute it holds of no event.
+fn comparison(
+    alloc: Global,
+    schema: &Schema,
+    ty: TypeId,
+    name: &Name,
+    op: Op,
+    literal: &Value,
+) -> Result<Test, Memory>
+    ensures { IfOk result (λ test. IsTestOf schema.now ty (Cmp name.now op literal.now) test) }
+{
+    match schema.attr(ty, name.text.as_str()) {
+        Some(at) => {
+            let literal = copy_value(alloc, literal)?;
+            Ok(Test::Cmp(at.index, op, literal))
+        }
+        None => Ok(Test::No),
+    }
+}
+
+/// The tests of predicates, in order.
+#[cycle(test_of)]
+fn tests_of(alloc: Global, schema: &Schema, ty: TypeId, preds: &[Pred]) -> Result<Vec<Test>, Memory>
+    ensures { IfOk result (λ tests. AreTestsOf schema.now ty preds.now tests.items) }
+{
+    let mut tests = Vec::new(alloc);
+    for pred in preds {
+        tests.push(test_of(alloc, schema, ty, pred)?)?;
+    }
+    Ok(tests)
+}
+
+/// The test of a predicate.
+#[cycle(test_of)]
+fn test_of(alloc: Global, schema: &Schema, ty: TypeId, pred: &Pred) -> Result<Test, Memory>
+    ensures { IfOk result (λ test. IsTestOf schema.now ty pred.now test) }
+{
+    match pred {
+        Pred::Cmp(name, op, literal) => comparison(alloc, schema, ty, name, *op, literal),
+        Pred::Not(inner) => {
+            let test = test_of(alloc, schema, ty, inner)?;
+            Ok(Test::Not(Box::new(alloc, test)?))
+        }
+        Pred::All(preds) => {
+            let tests = tests_of(alloc, schema, ty, preds)?;
+            Ok(Test::All(tests))
+        }
+        Pred::Any(preds) => {
+            let tests = tests_of(alloc, schema, ty, preds)?;
+            Ok(Test::Any(tests))
+        }
+    }
+}
+
+/// The tests of the predicates that are referred to, in order.
+pub fn tests_of_all(
+    alloc: Global,
+    schema: &Schema,
+    ty: TypeId,
+    preds: &[&Pred],
+) -> Result<Vec<Test>, Memory>
+    ensures { IfOk result (λ tests. AreTestsOf schema.now ty (map (λ p. p.now) preds.now) tests.items) }
+{
+    let mut tests = Vec::new(alloc);
+    for pred in preds {
+        tests.push(test_of(alloc, schema, ty, *pred)?)?;
+    }
+    Ok(tests)
+}

@@ -1,4 +1,4 @@
--- The order of answers is that of std on the start with the marks.
+-- The order of answers is that of std on the start with the marks. For callers of the crate too.
 use Rattle.std.proofs.Common.{Ordering, ◌≡◌, ℕ, ◌<◌, ◌⊎◌, inl, inr, ◌↔◌, List, [], ◌∷◌, refl, sym, ◌∙◌, ap, subst, arith}
 use Rattle.std.specs.declared.cmp.Ordering.TheVariants.{Less, Equal, Greater}
 use Rattle.std.specs.Ordering.{nat_cmp, ordering_then, ordering_reverse, MatchOrdering}
@@ -66,3 +66,8 @@ is_greater a b r e =
       λ g. before_from (key b) (key a) (turned (compared b a) (sym flip ∙ sym e ∙ g)),
       λ h. e ∙ flip ∙ ap ordering_reverse (before_to (key b) (key a) h),
     )
+
+-- What comes before what comes before a third comes before the third.
+pub before_chain : (a b c : Answer) → ComesBefore a b → ComesBefore b c → ComesBefore a c
+before_chain a b c h k =
+    before_from (key a) (key c) (nat_list_cmp_total.trans (key a) (key b) (key c) (before_to (key a) (key b) h) (before_to (key b) (key c) k))

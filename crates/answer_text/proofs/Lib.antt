@@ -1,2 +1,4 @@
 -- the text of positions, position by position
 pub mod PositionsText
+-- the order of answers
+pub mod Ordered

@@ -1,0 +1,4 @@
+-- answers put into order, as lists
+pub mod Sorting
+-- for callers of the crate too
+pub mod Blocks

@@ -2,3 +2,7 @@
 pub mod Agreeing
 -- answers at the same events
 pub mod Past
+-- blocks and outputs where more events come
+pub mod Growth
+-- one output at most
+pub mod Unique

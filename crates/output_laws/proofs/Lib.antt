@@ -1,0 +1,8 @@
+-- streams that agree at their first positions
+pub mod Agreeing
+-- answers at the same events
+pub mod Past
+-- blocks and outputs where more events come
+pub mod Growth
+-- one output at most
+pub mod Unique

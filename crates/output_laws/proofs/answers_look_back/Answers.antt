@@ -1,0 +1,5 @@
+use Rattle.output_laws.proofs.Past.{look_back}
+use Rattle.output_laws.proofs.answers_look_back.Goals as goal
+
+pub returns : goal.returns
+returns c = look_back

@@ -1,0 +1,5 @@
+use Rattle.output_laws.proofs.Past.{no_change}
+use Rattle.output_laws.proofs.later_events_change_no_answer.Goals as goal
+
+pub returns : goal.returns
+returns c = no_change

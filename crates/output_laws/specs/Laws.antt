@@ -1,0 +1,72 @@
+-- Laws of the answers and of the output, which follow from their definitions.
+use Rattle.std.specs.Prelude.{◌≡◌, ℕ, ◌<◌, ◌≤◌, ◌↔◌, List, [], ◌∷◌, ◌++◌, length, All, None, slice_get}
+use Rattle.stream_schema.specs.Types.{Declared}
+use Rattle.stream_schema.specs.declared.Event.{Event}
+use Rattle.cel_terms.specs.declared.Query.{Query}
+use Rattle.cel_terms.specs.Answers.{Answer, IsAnswer}
+use Rattle.answer_text.specs.declared.Order.{Order}
+use Rattle.answer_text.specs.declared.Order.TheVariants.{Sorted}
+use Rattle.answer_text.specs.Output.{IsBlock, AreBlocks, IsOutput, IsOutputOf}
+
+-- The two streams have the same events up to this position.
+abbrev pub AreSameUpTo : ℕ → List Event → List Event → Type 0
+AreSameUpTo end events others = (p : ℕ) → p ≤ end → slice_get events p ≡ slice_get others p
+
+-- An answer depends on the events up to its end alone.
+abbrev pub AnswersLookBack : Type 0
+AnswersLookBack = (schema : Declared) (q : Query) (events others : List Event) (end : ℕ) (answer : Answer) →
+    AreSameUpTo end events others → IsAnswer schema q events end answer → IsAnswer schema q others end answer
+
+-- Events that come later change no answer.
+abbrev pub LaterEventsChangeNoAnswer : Type 0
+LaterEventsChangeNoAnswer = (schema : Declared) (q : Query) (events more : List Event) (end : ℕ) (answer : Answer) →
+    end < length events → IsAnswer schema q events end answer ↔ IsAnswer schema q (events ++ more) end answer
+
+-- They change no block of a query either.
+abbrev pub LaterEventsChangeNoBlock : Type 0
+LaterEventsChangeNoBlock = (order : Order) (schema : Declared) (number : ℕ) (q : Query) (events more : List Event) (end : ℕ) (bytes : List ℕ) →
+    end < length events →
+    IsBlock order schema number q events end bytes ↔ IsBlock order schema number q (events ++ more) end bytes
+
+-- Nor the blocks of all queries at a position.
+abbrev pub LaterEventsChangeNoBlocks : Type 0
+LaterEventsChangeNoBlocks = (order : Order) (schema : Declared) (number : ℕ) (queries : List Query) (events more : List Event) (end : ℕ) (bytes : List ℕ) →
+    end < length events →
+    AreBlocks order schema number queries events end bytes ↔ AreBlocks order schema number queries (events ++ more) end bytes
+
+-- Nor what is written at the first n positions.
+abbrev pub LaterEventsChangeNoOutput : Type 0
+LaterEventsChangeNoOutput = (n : ℕ) (order : Order) (schema : Declared) (queries : List Query) (events more : List Event) (bytes : List ℕ) →
+    n ≤ length events →
+    IsOutputOf n order schema queries events bytes ↔ IsOutputOf n order schema queries (events ++ more) bytes
+
+-- Every query has its block at the position.
+abbrev pub HasBlocks : Order → Declared → List Query → List Event → ℕ → Type 0
+HasBlocks order schema queries events end = (bytes : List ℕ) × AreBlocks order schema 1 queries events end bytes
+
+-- One more event puts its blocks behind the output.
+abbrev pub OneMoreEventAddsItsBlocks : Type 0
+OneMoreEventAddsItsBlocks = (order : Order) (schema : Declared) (queries : List Query) (events : List Event) (event : Event) (bytes blocks : List ℕ) →
+    IsOutput order schema queries events bytes →
+    AreBlocks order schema 1 queries (events ++ event ∷ []) (length events) blocks →
+    IsOutput order schema queries (events ++ event ∷ []) (bytes ++ blocks)
+
+-- More events put more behind the output, where each position has its blocks.
+abbrev pub OutputGrowsAtItsEnd : Type 0
+OutputGrowsAtItsEnd = (order : Order) (schema : Declared) (queries : List Query) (events more : List Event) (bytes : List ℕ) →
+    ((end : ℕ) → HasBlocks order schema queries (events ++ more) end) →
+    IsOutput order schema queries events bytes →
+    (rest : List ℕ) × IsOutput order schema queries (events ++ more) (bytes ++ rest)
+
+-- The output of more events begins with an output of the first.
+abbrev pub OutputBeginsWithThatOfTheFirst : Type 0
+OutputBeginsWithThatOfTheFirst = (order : Order) (schema : Declared) (queries : List Query) (events more : List Event) (bytes : List ℕ) →
+    IsOutput order schema queries (events ++ more) bytes →
+    (front : List ℕ) × (rest : List ℕ) × IsOutput order schema queries events front × (bytes ≡ front ++ rest)
+
+-- In sorted order, and where no query has ANY, there is no second output.
+abbrev pub SortedOutputIsUnique : Type 0
+SortedOutputIsUnique = (schema : Declared) (queries : List Query) (events : List Event) (bytes others : List ℕ) →
+    All (λ q. q.any ≡ None) queries →
+    IsOutput Sorted schema queries events bytes → IsOutput Sorted schema queries events others →
+    bytes ≡ others

@@ -1,0 +1,52 @@
+//! Laws of the answers and of the output. Each function does nothing; its contract is the law.
+//!
+//! They tell a reader of the output what to expect of the definitions in `cel_terms` and
+//! `answer_text`. The lemmas behind them, in `proofs`, are for callers too.
+#![tactic(auto)]
+
+ghost use Rattle.output_laws.specs.Laws.{AnswersLookBack, LaterEventsChangeNoAnswer, LaterEventsChangeNoBlock, LaterEventsChangeNoBlocks, LaterEventsChangeNoOutput, OneMoreEventAddsItsBlocks, OutputBeginsWithThatOfTheFirst, OutputGrowsAtItsEnd, SortedOutputIsUnique};
+
+/// An answer depends on the events up to its end alone.
+pub fn answers_look_back()
+    ensures { AnswersLookBack }
+{}
+
+/// Events that come later change no answer.
+pub fn later_events_change_no_answer()
+    ensures { LaterEventsChangeNoAnswer }
+{}
+
+/// Events that come later change no block of a query.
+pub fn later_events_change_no_block()
+    ensures { LaterEventsChangeNoBlock }
+{}
+
+/// Events that come later change nothing of what is written at a position.
+pub fn later_events_change_no_blocks()
+    ensures { LaterEventsChangeNoBlocks }
+{}
+
+/// Events that come later change nothing of what is written at the first positions.
+pub fn later_events_change_no_output()
+    ensures { LaterEventsChangeNoOutput }
+{}
+
+/// One more event puts its blocks behind the output.
+pub fn one_more_event_adds_its_blocks()
+    ensures { OneMoreEventAddsItsBlocks }
+{}
+
+/// The output of more events is that of the first with more behind it.
+pub fn output_grows_at_its_end()
+    ensures { OutputGrowsAtItsEnd }
+{}
+
+/// Every output of more events begins with an output of the first.
+pub fn output_begins_with_that_of_the_first()
+    ensures { OutputBeginsWithThatOfTheFirst }
+{}
+
+/// In sorted order, and where no query has ANY, there is no second output.
+pub fn sorted_output_is_unique()
+    ensures { SortedOutputIsUnique }
+{}

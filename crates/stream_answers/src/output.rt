@@ -1,0 +1,89 @@
+//! The lines of a run, gathered and written.
+
+ghost use Rattle.std.specs.Prelude.{◌≡◌, ◌-◌, ◌<◌, ℕ, List, [], length};
+ghost use Rattle.stream_schema.specs.declared.Event.{Event};
+ghost use Rattle.cer_outside.specs.Causes.{HasCause, HasCauseOrMemory};
+ghost use Rattle.query_engine.specs.Engine.{StandsFor, count_of};
+ghost use Rattle.answer_text.specs.Output.{AreBlocks};
+ghost use Rattle.stream_answers.specs.Gathering.{Passed};
+
+use answer_blocks::{push_blocks, write_blocks};
+use answer_text::Order;
+use cer_base::OrMemory;
+use cer_base::steps::Steps;
+use cer_outside::writing::put_all;
+use cer_outside::{Sink, WriteFault};
+use query_engine::Engine;
+use std::alloc::Global;
+use std::marker::Model;
+use std::sync::ledger::Ledger;
+
+/// So many bytes are written at once, at the latest after the block that fills them.
+const PIECE: usize = 65_536;
+
+/// The lines that are to be written. In walk order none waits here.
+#[derive(Drop)]
+pub struct Output {
+    alloc: Global,
+    order: Order,
+    held: Vec<u8>,
+    line: Vec<u8>,
+}
+
+impl Model for Output {
+    ghost use Rattle.stream_answers.specs.Gathering.{Gathered};
+
+    ghost Value = { Gathered };
+
+    ghost view = { λ o. record { order = o.order; held = o.held.items } };
+}
+
+impl Output {
+    /// No line yet.
+    pub fn new(alloc: Global, order: Order) -> Output
+        ensures { result ≡ record { order = order; held = [] } }
+    {
+        Output {
+            alloc,
+            order,
+            held: Vec::new(alloc),
+            line: Vec::new(alloc),
+        }
+    }
+
+    /// The answers of all queries at the engine's last position. In walk order each line is written
+    /// before the next answer is pulled.
+    pub fn put<K: Sink, L: Ledger>(
+        &mut self,
+        engine: &Engine,
+        out: &mut K,
+        steps: &mut Steps<L>,
+    ) -> Result<(), OrMemory<WriteFault>>
+        requires seen { 0 < count_of engine.now }
+        ensures order { self.new.order ≡ self.old.order }
+        ensures passed { (events : List Event) → StandsFor engine.now events → (bytes : List ℕ)
+            × AreBlocks self.old.order engine.now.schema 1 engine.now.queries events
+            (length events - 1) bytes
+            × Passed (K.taken out.old) (K.taken out.new) self.old.held bytes self.new.held result }
+        ensures cause { HasCauseOrMemory (K.faults out.old) (K.faults out.new) result }
+    {
+        match self.order {
+            Order::Walk => write_blocks(self.alloc, engine, out, &mut self.line, steps),
+            Order::Sorted => {
+                push_blocks(self.alloc, engine, &mut self.held, steps)?;
+                if self.held.len() >= PIECE {
+                    self.flush(out)?;
+                }
+                Ok(())
+            }
+        }
+    }
+
+    /// Writes what is held.
+    pub fn flush<K: Sink>(&mut self, out: &mut K) -> Result<(), WriteFault>
+    {
+        put_all(out, self.held.as_slice())?;
+        self.held.clear();
+        Ok(())
+    }
+}

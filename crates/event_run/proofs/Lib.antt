@@ -1,0 +1,11 @@
+-- In reading order.
+-- whether a clock falls depends on what queries say
+mod Alike
+-- the first clock to fall is one, and computed
+mod FirstFalls
+-- a run is one, every file has one, and what was taken is where it begins; for callers
+pub mod ForCallers
+-- what a reader of lines has given, and the run; for callers
+pub mod Given
+-- one turn of reading
+mod Turns

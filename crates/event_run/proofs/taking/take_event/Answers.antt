@@ -1,0 +1,67 @@
+use Rattle.std.proofs.Common.{◌≡◌, ℕ, List, None, Some, subst, sym, ◌∙◌, arith, rules}
+use Rattle.event_run.specs.Taking.{HasTaken, AfterCall}
+use Rattle.event_run.proofs.Given.{at_end}
+use Rattle.event_run.proofs.Turns.{begins_before, no_line, taken_empty, taken_event, stopped_line}
+use Rattle.event_run.proofs.taking.take_event.Goals as goal
+
+pub returns-in-Ok-End-clause-took : goal.returns-in-Ok-End-clause-took
+returns-in-Ok-End-clause-took g c = λ events stands. (
+  c.loop-fault.invariant.stands events stands,
+  λ bytes had.
+      let t = c.loop-fault.invariant.taken events stands bytes had in
+      at_end _ _ _ bytes t.texts None events ((rw c.in-Ok-End.field-0-is at c.in-Ok-End.ensures.lines) bytes t.texts t.given) t.good,
+)
+
+pub returns-in-Err-clause-took : goal.returns-in-Err-clause-took
+returns-in-Err-clause-took g c = λ events stands.
+    rw c.fault_of.ensures (no_line _ _ c.loop-fault.lines c.next.new.self c.loop-fault.engine (g.Q.Source.left c.loop-fault.source) (g.Q.Source.left c.next.new.source) _ events c.in-Err.fault
+    c.in-Err.ensures.lines (c.loop-fault.invariant.taken events stands) (c.loop-fault.invariant.stands events stands))
+
+pub returns-in-Ok-true-clause-took : goal.returns-in-Ok-true-clause-took
+returns-in-Ok-true-clause-took g c = λ events stands.
+    let inv = c.loop-fault.invariant in
+    let took = (rw c.in-Ok-true.field-0-test at c.in-Ok-true.ensures.took) events (inv.stands events stands) in (
+      took.0,
+      took.2,
+      λ bytes had.
+          taken_event _ _ _ _ c.loop-fault.lines c.next.new.self bytes (g.Q.Source.left c.loop-fault.source) (g.Q.Source.left c.next.new.source) events took.0 inv.same.0 inv.same.1
+          ((rw c.in-Ok-Line.field-0-is at c.in-Ok-Line.ensures.lines) bytes) took.1 took.3 (inv.taken events stands bytes had),
+    )
+
+pub returns-in-Err-Memory-clause-took : goal.returns-in-Err-Memory-clause-took
+returns-in-Err-Memory-clause-took g c = λ events stands.
+    let inv = c.loop-fault.invariant in
+    let took = (rw c.in-Err-Memory.field-0-is at c.in-Err-Memory.ensures.took) events (inv.stands events stands) in (
+      took,
+      λ bytes had.
+          begins_before _ _ c.loop-fault.lines c.next.new.self bytes (g.Q.Source.left c.loop-fault.source) (g.Q.Source.left c.next.new.source) events
+          (rw c.in-Ok-Line.field-0-is at c.in-Ok-Line.ensures.moves).1.budget (inv.taken events stands bytes had),
+    )
+
+pub returns-in-Err-Fault-clause-took : goal.returns-in-Err-Fault-clause-took
+returns-in-Err-Fault-clause-took g c = λ events stands.
+    let inv = c.loop-fault.invariant in
+    let took = (rw c.in-Err-Fault.field-0-is at c.in-Err-Fault.ensures.took) events (inv.stands events stands) in (
+      took.0,
+      λ bytes had. rw c.in-Err-Fault.field-0-is (
+          stopped_line _ _ _ _ c.loop-fault.lines c.next.new.self bytes (g.Q.Source.left c.loop-fault.source) (g.Q.Source.left c.next.new.source) events c.number-line.result c.in-Err-Fault.fault inv.same.0 inv.same.1
+          c.number-line.ensures ((rw c.in-Ok-Line.field-0-is at c.in-Ok-Line.ensures.lines) bytes) took.1 (inv.taken events stands bytes had)),
+    )
+
+pub loop-fault-preserved : goal.loop-fault-preserved
+loop-fault-preserved g c =
+    let inv = c.loop-fault.invariant in
+    let moved = rw c.in-Ok-Line.field-0-is at c.in-Ok-Line.ensures.moves in
+    let took = rw c.in-Ok-false.field-0-test at c.in-Ok-false.ensures.took in
+    record {
+      open_is = moved.1.closed_is;
+      counted = c.give_line.ensures.counted;
+      same = (c.give_line.ensures.same.0 ∙ inv.same.0, c.give_line.ensures.same.1 ∙ inv.same.1);
+      budget = moved.1.budget ∙ inv.budget;
+      room = omega (arith, moved.1.room_within, inv.room);
+      faults = c.in-Ok-Line.ensures.cause ∙ inv.faults;
+      stands = λ events stands. (took events (inv.stands events stands)).1;
+      taken = λ events stands bytes had.
+          taken_empty _ _ _ c.loop-fault.lines c.next.new.self bytes (g.Q.Source.left c.loop-fault.source) (g.Q.Source.left c.next.new.source) events inv.same.0
+          ((rw c.in-Ok-Line.field-0-is at c.in-Ok-Line.ensures.lines) bytes) (took events (inv.stands events stands)).0 (inv.taken events stands bytes had);
+    }

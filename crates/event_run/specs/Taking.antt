@@ -1,0 +1,99 @@
+-- What a reader of lines and an engine have taken of a file together, and what one more event adds.
+use Rattle.std.specs.Prelude.{◌≡◌, ℕ, ◌<◌, ◌⊎◌, Bool, true, List, [], ◌∷◌, ◌++◌, Option, Some, None, Result, Ok, Err, false}
+use Rattle.cer_base.specs.declared.OrMemory.{OrMemory}
+use Rattle.cer_base.specs.declared.OrMemory.TheVariants.{Fault, Memory}
+use Rattle.cer_outside.specs.Causes.{Rose}
+use Rattle.stream_schema.specs.Types.{Declared}
+use Rattle.stream_schema.specs.declared.Event.{Event}
+use Rattle.cel_terms.specs.declared.Query.{Query}
+use Rattle.event_reader.specs.declared.EventFault.{EventFault}
+use Rattle.event_reader.specs.declared.EventFault.TheVariants as event
+use Rattle.event_reader.specs.declared.LineFault.{LineFault}
+use Rattle.event_reader.specs.declared.LineFault.TheVariants as line
+use Rattle.event_reader.specs.Events.{event_of_line}
+use Rattle.event_reader.specs.Reading.{LineReader, HasGiven, whole_lines}
+use Rattle.query_engine.specs.Clocks.{NoneFallsBack}
+use Rattle.query_engine.specs.Engine.{State, StandsFor}
+use Rattle.event_run.specs.declared.Taken.{Taken}
+use Rattle.event_run.specs.declared.Taken.TheVariants as taken
+use Rattle.event_run.specs.declared.RunFault.{RunFault}
+use Rattle.event_run.specs.declared.RunFault.TheVariants as fault
+use Rattle.event_run.specs.Runs.{Stop, StopsInTime, RunsTo, AreEventsOf}
+use Rattle.event_run.specs.Runs as stop
+
+-- The reader has given lines of a file of these bytes, all of them good, and these are their events; its source has the bytes left.
+pub record HasTaken (schema : Declared) (queries : List Query) (reader : LineReader) (bytes : List ℕ) (left : Option (List ℕ)) (events : List Event) : Type 0 where
+  pub texts : List (List ℕ)
+  pub given : HasGiven reader bytes left texts
+  pub good : AreEventsOf schema queries texts events
+
+-- The run over a file of these bytes begins with these events.
+pub record BeginsRun (schema : Declared) (queries : List Query) (most_bytes : ℕ) (bytes : List ℕ) (events : List Event) : Type 0 where
+  pub more : List Event
+  pub stop : Stop
+  pub runs : RunsTo schema queries most_bytes bytes (events ++ more) stop
+
+-- These are the events of all lines that end among the bytes that are no longer left; each of these lines is good.
+pub record AreEventsBefore (schema : Declared) (queries : List Query) (bytes rest : List ℕ) (events : List Event) : Type 0 where
+  pub read : List ℕ
+  pub whole : bytes ≡ read ++ rest
+  pub good : AreEventsOf schema queries (whole_lines read) events
+
+-- the same of a source that tells what it has left
+abbrev pub AreEventsRead : Declared → List Query → List ℕ → Option (List ℕ) → List Event → Type 0
+AreEventsRead schema queries bytes None events = ⊥
+AreEventsRead schema queries bytes (Some rest) events = AreEventsBefore schema queries bytes rest events
+
+-- What one call has made of an engine that stood for these events: it stands for one more, or for the same.
+-- Given `Had`, what the reader had taken before of a file of these bytes, this is what is known of the file.
+abbrev pub AfterCall : Declared → List Query → LineReader → State → (List ℕ → Type 0) → Option (List ℕ) → List Event → Result Taken (OrMemory RunFault) → Type 0
+AfterCall schema queries reader engine Had left events (Ok taken.Event) =
+    (next : Event) × StandsFor engine (events ++ next ∷ []) × ((bytes : List ℕ) → Had bytes → HasTaken schema queries reader bytes left (events ++ next ∷ []))
+AfterCall schema queries reader engine Had left events (Ok taken.End) =
+    StandsFor engine events × ((bytes : List ℕ) → Had bytes → RunsTo schema queries reader.budget bytes events stop.End)
+AfterCall schema queries reader engine Had left events (Err (Fault (fault.Event line refusal))) =
+    StandsFor engine events × ((bytes : List ℕ) → Had bytes → RunsTo schema queries reader.budget bytes events (stop.Event line refusal))
+AfterCall schema queries reader engine Had left events (Err (Fault (fault.InputTooLong most))) =
+    StandsFor engine events × ((bytes : List ℕ) → Had bytes → RunsTo schema queries reader.budget bytes events (stop.InputTooLong most))
+AfterCall schema queries reader engine Had left events (Err (Fault fault.ReadFault)) =
+    StandsFor engine events × ((bytes : List ℕ) → Had bytes → AreEventsRead schema queries bytes left events)
+AfterCall schema queries reader engine Had left events (Err Memory) =
+    StandsFor engine events × ((bytes : List ℕ) → Had bytes → BeginsRun schema queries reader.budget bytes events)
+
+-- the source's count of faults rose where it failed, and else stays
+abbrev pub HasSourceCause : ℕ → ℕ → Result Taken (OrMemory RunFault) → Type 0
+HasSourceCause before now (Err (Fault fault.ReadFault)) = Rose before now
+HasSourceCause before now _ = now ≡ before
+
+-- an event took room of the reader, which is still open
+abbrev pub TakesRoom : LineReader → LineReader → Result Taken (OrMemory RunFault) → Type 0
+TakesRoom old new (Ok taken.Event) = (new.room < old.room) × (new.closed ≡ false)
+TakesRoom old new _ = Unit {0}
+
+-- The line of this number stops the run: it is refused, or with its event the clock of a query falls.
+abbrev pub StopsHere : Declared → List Query → List ℕ → ℕ → List Event → EventFault → Type 0
+StopsHere schema queries text number events refusal =
+    (event_of_line schema text ≡ Err refusal)
+    ⊎ ((next : Event) × (event_of_line schema text ≡ Ok (Some next)) × StopsInTime schema queries events next number (stop.Event number refusal))
+
+-- What became of one event that was given to an engine that stood for these events. Private clauses alone cite this and the next.
+abbrev pub AfterEvent : Declared → List Query → ℕ → State → Event → List Event → {T : Type 0} → Result T (OrMemory EventFault) → Type 0
+AfterEvent schema queries number engine next events (Ok done) = StandsFor engine (events ++ next ∷ []) × NoneFallsBack schema queries events next
+AfterEvent schema queries number engine next events (Err (Fault refusal)) =
+    StandsFor engine events × StopsInTime schema queries events next number (stop.Event number refusal)
+AfterEvent schema queries number engine next events (Err Memory) = StandsFor engine events
+
+-- What became of one line: an event that was taken, none, or a stop.
+abbrev pub AfterText : Declared → List Query → ℕ → State → List ℕ → List Event → Result Bool (OrMemory EventFault) → Type 0
+AfterText schema queries number engine text events (Ok true) =
+    (next : Event) × (event_of_line schema text ≡ Ok (Some next)) × StandsFor engine (events ++ next ∷ []) × NoneFallsBack schema queries events next
+AfterText schema queries number engine text events (Ok false) = (event_of_line schema text ≡ Ok None) × StandsFor engine events
+AfterText schema queries number engine text events (Err (Fault refusal)) =
+    StandsFor engine events × StopsHere schema queries text number events refusal
+AfterText schema queries number engine text events (Err Memory) = StandsFor engine events
+
+-- why there is no further line, as a run's fault
+abbrev pub run_fault : LineFault → RunFault
+run_fault line.ReadFault = fault.ReadFault
+run_fault (line.LineTooLong number) = fault.Event number event.LineTooLong
+run_fault (line.InputTooLong most) = fault.InputTooLong most

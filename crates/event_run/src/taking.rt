@@ -1,0 +1,123 @@
+//! One more event of a file, given to an engine.
+
+ghost use Rattle.std.specs.Prelude.{◌≡◌, ◌+◌, ◌<◌, ◌≤◌, ℕ, List, [], ◌∷◌, ◌++◌, true, false, OnOk, OnErr, IfOk};
+ghost use Rattle.stream_schema.specs.declared.Event.{Event};
+ghost use Rattle.stream_schema.specs.Events.{IsOfSchema};
+ghost use Rattle.query_engine.specs.Engine.{StandsFor, count_of, SameQueries};
+ghost use Rattle.event_run.specs.Taking.{HasTaken, AfterCall, AfterText, AfterEvent, HasSourceCause, TakesRoom, run_fault};
+
+use crate::{RunFault, Taken};
+use cer_base::OrMemory;
+use cer_base::steps::Steps;
+use cer_outside::Source;
+use event_reader::{EventFault, LineFault, Lines, Next, read_event};
+use query_engine::{Engine, SeeFault};
+use std::alloc::Global;
+use std::sync::ledger::Ledger;
+use stream_schema::Event;
+
+/// Gives the engine the next event of the file.
+///
+/// Empty lines are passed over. Where it ends otherwise than by `Taken::Event`, the engine stands
+/// for the events that it stood for; after a fault or the end the reader is not asked again.
+/// `lines` has numbered at least as many lines as the engine has taken events.
+pub fn take_event<Q: Source, L: Ledger>(
+    alloc: Global,
+    lines: &mut Lines,
+    source: &mut Q,
+    engine: &mut Engine,
+    steps: &mut Steps<L>,
+) -> Result<Taken, OrMemory<RunFault>>
+    requires open { lines.old.closed ≡ false }
+    requires counted { count_of engine.old ≤ lines.old.number }
+    ensures took { (events : List Event) → StandsFor engine.old events
+        → AfterCall engine.old.schema engine.old.queries lines.new engine.new
+        (λ bytes. HasTaken engine.old.schema engine.old.queries lines.old bytes
+        (Q.left source.old) events) (Q.left source.new) events result }
+    ensures counted { count_of engine.new ≤ lines.new.number }
+    ensures some { result ≡ Ok Taken.Event → 0 < count_of engine.new }
+    ensures same { SameQueries engine.old engine.new }
+    ensures budget { lines.new.budget ≡ lines.old.budget }
+    ensures cause { HasSourceCause (Q.faults source.old) (Q.faults source.new) result }
+    ensures room { TakesRoom lines.old lines.new result }
+{
+    loop {
+        match lines.next(source) {
+            Ok(Next::Line) => {}
+            Ok(Next::End) => return Ok(Taken::End),
+            Err(fault) => return Err(OrMemory::Fault(fault_of(fault))),
+        }
+        match give_line(alloc, lines, engine, steps) {
+            Ok(true) => return Ok(Taken::Event),
+            Ok(false) => {}
+            Err(OrMemory::Memory) => return Err(OrMemory::Memory),
+            Err(OrMemory::Fault(fault)) => {
+                let line = lines.number();
+                return Err(OrMemory::Fault(RunFault::Event { line, fault }));
+            }
+        }
+    }
+}
+
+/// Why there is no further line.
+fn fault_of(fault: LineFault) -> RunFault
+    ensures { result ≡ run_fault fault }
+{
+    match fault {
+        LineFault::ReadFault => RunFault::ReadFault,
+        LineFault::LineTooLong { line } => RunFault::Event {
+            line,
+            fault: EventFault::LineTooLong,
+        },
+        LineFault::InputTooLong { taken } => RunFault::InputTooLong { taken },
+    }
+}
+
+/// Gives the engine the event of the line that the reader gave last, and says whether it is one.
+fn give_line<L: Ledger>(
+    alloc: Global,
+    lines: &Lines,
+    engine: &mut Engine,
+    steps: &mut Steps<L>,
+) -> Result<bool, OrMemory<EventFault>>
+    requires counted { count_of engine.old + 1 ≤ lines.now.number }
+    ensures took { (events : List Event) → StandsFor engine.old events
+        → AfterText engine.old.schema engine.old.queries lines.now.number engine.new
+        lines.now.text events result }
+    ensures counted { count_of engine.new ≤ lines.now.number }
+    ensures some { result ≡ Ok true → 0 < count_of engine.new }
+    ensures same { SameQueries engine.old engine.new }
+{
+    match read_event(alloc, engine.schema(), lines.text()) {
+        Ok(Some(event)) => {
+            give_event(lines.number(), &event, engine, steps)?;
+            Ok(true)
+        }
+        Ok(None) => Ok(false),
+        Err(stop) => Err(stop),
+    }
+}
+
+/// Gives the engine the event of the line of this number.
+fn give_event<L: Ledger>(
+    line: u64,
+    event: &Event,
+    engine: &mut Engine,
+    steps: &mut Steps<L>,
+) -> Result<(), OrMemory<EventFault>>
+    requires of_schema { IsOfSchema engine.old.schema event.now }
+    requires counted { count_of engine.old + 1 ≤ line }
+    ensures took { (events : List Event) → StandsFor engine.old events
+        → AfterEvent engine.old.schema engine.old.queries line engine.new event.now events result }
+    ensures counted { OnOk result (count_of engine.new ≡ count_of engine.old + 1) }
+    ensures unchanged { OnErr result (engine.new ≡ engine.old) }
+    ensures same { SameQueries engine.old engine.new }
+{
+    match engine.see(event, steps) {
+        Ok(_) => Ok(()),
+        Err(SeeFault::TimeBack { query, before, now }) => {
+            Err(OrMemory::Fault(EventFault::TimeBack { query, before, now }))
+        }
+        Err(SeeFault::Memory) => Err(OrMemory::Memory),
+    }
+}

@@ -6,3 +6,7 @@ pub mod Past
 pub mod Growth
 -- one output at most
 pub mod Unique
+-- what the tree of a formula tells
+pub mod TreesMean
+-- queries with the same trees
+pub mod SameTrees

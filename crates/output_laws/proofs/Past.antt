@@ -32,11 +32,11 @@ agree schema q events others end same = record {
   back = λ p less. of_substream schema q others events end (turned end events others same) p (omega arith);
 }
 
-strict_too : (strict : Bool) (P Q : Type 0) → (P → Q) → WhereStrict strict P → WhereStrict strict Q
+pub strict_too : (strict : Bool) (P Q : Type 0) → (P → Q) → WhereStrict strict P → WhereStrict strict Q
 strict_too true P Q f h = f h
 strict_too false P Q f h = tt
 
-contiguous_too : (P Q : ℕ → Type 0) (end : ℕ) (marks : List ℕ) → ((p : ℕ) → p ≤ end → Q p → P p) → ((p : ℕ) → Contains marks p → p ≤ end) → AreContiguous P marks → AreContiguous Q marks
+pub contiguous_too : (P Q : ℕ → Type 0) (end : ℕ) (marks : List ℕ) → ((p : ℕ) → p ≤ end → Q p → P p) → ((p : ℕ) → Contains marks p → p ≤ end) → AreContiguous P marks → AreContiguous Q marks
 contiguous_too P Q end marks back within h low p high has_low has_high above below has =
     let upto = within high has_high in
     h low p high has_low has_high above below (back p (omega arith) has)

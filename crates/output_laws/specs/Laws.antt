@@ -1,9 +1,10 @@
 -- Laws of the answers and of the output, which follow from their definitions.
-use Rattle.std.specs.Prelude.{◌≡◌, ℕ, ◌<◌, ◌≤◌, ◌↔◌, List, [], ◌∷◌, ◌++◌, length, All, None, slice_get}
+use Rattle.std.specs.Prelude.{◌≡◌, ℕ, ◌<◌, ◌≤◌, ◌↔◌, List, [], ◌∷◌, ◌++◌, length, map, All, None, slice_get}
 use Rattle.stream_schema.specs.Types.{Declared}
 use Rattle.stream_schema.specs.declared.Event.{Event}
 use Rattle.cel_terms.specs.declared.Query.{Query}
 use Rattle.cel_terms.specs.Answers.{Answer, IsAnswer}
+use Rattle.ceql_parser.specs.QueryTrees.{query_tree}
 use Rattle.answer_text.specs.declared.Order.{Order}
 use Rattle.answer_text.specs.declared.Order.TheVariants.{Sorted}
 use Rattle.answer_text.specs.Output.{IsBlock, AreBlocks, IsOutput, IsOutputOf}
@@ -70,3 +71,14 @@ SortedOutputIsUnique = (schema : Declared) (queries : List Query) (events : List
     All (λ q. q.any ≡ None) queries →
     IsOutput Sorted schema queries events bytes → IsOutput Sorted schema queries events others →
     bytes ≡ others
+
+-- The answers of a query depend on what it says, and not on where its parts lie in memory.
+abbrev pub TreesTellTheAnswers : Type 0
+TreesTellTheAnswers = (schema : Declared) (q r : Query) (events : List Event) (end : ℕ) (answer : Answer) →
+    query_tree q ≡ query_tree r → IsAnswer schema q events end answer → IsAnswer schema r events end answer
+
+-- And so does the output.
+abbrev pub TreesTellTheOutput : Type 0
+TreesTellTheOutput = (order : Order) (schema : Declared) (queries others : List Query) (events : List Event) (bytes : List ℕ) →
+    map query_tree queries ≡ map query_tree others →
+    IsOutput order schema queries events bytes → IsOutput order schema others events bytes

@@ -4,7 +4,7 @@
 //! `answer_text`. The lemmas behind them, in `proofs`, are for callers too.
 #![tactic(auto)]
 
-ghost use Rattle.output_laws.specs.Laws.{AnswersLookBack, LaterEventsChangeNoAnswer, LaterEventsChangeNoBlock, LaterEventsChangeNoBlocks, LaterEventsChangeNoOutput, OneMoreEventAddsItsBlocks, OutputBeginsWithThatOfTheFirst, OutputGrowsAtItsEnd, SortedOutputIsUnique};
+ghost use Rattle.output_laws.specs.Laws.{AnswersLookBack, LaterEventsChangeNoAnswer, LaterEventsChangeNoBlock, LaterEventsChangeNoBlocks, LaterEventsChangeNoOutput, OneMoreEventAddsItsBlocks, OutputBeginsWithThatOfTheFirst, OutputGrowsAtItsEnd, SortedOutputIsUnique, TreesTellTheAnswers, TreesTellTheOutput};
 
 /// An answer depends on the events up to its end alone.
 pub fn answers_look_back()
@@ -49,4 +49,14 @@ pub fn output_begins_with_that_of_the_first()
 /// In sorted order, and where no query has ANY, there is no second output.
 pub fn sorted_output_is_unique()
     ensures { SortedOutputIsUnique }
+{}
+
+/// The answers of a query depend on what it says, and not on where its parts lie in memory.
+pub fn trees_tell_the_answers()
+    ensures { TreesTellTheAnswers }
+{}
+
+/// The output depends on what the queries say, and not on where their parts lie in memory.
+pub fn trees_tell_the_output()
+    ensures { TreesTellTheOutput }
 {}

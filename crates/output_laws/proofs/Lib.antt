@@ -10,3 +10,7 @@ pub mod Unique
 pub mod TreesMean
 -- queries with the same trees
 pub mod SameTrees
+-- what a line tells
+pub mod LineText
+-- the output as the lines of rows
+pub mod RowsWritten

@@ -83,3 +83,10 @@ pub no_change : (schema : Declared) (q : Query) (events more : List Event) (end 
 no_change schema q events more end answer less =
     let same = same_up_to events more end less in
     (look_back schema q events (events ++ more) end answer same, look_back schema q (events ++ more) events end answer (turned end events (events ++ more) same))
+
+-- An answer does not end before it starts.
+pub starts_before : (schema : Declared) (q : Query) (events : List Event) (end : ℕ) (answer : Answer) → IsAnswer schema q events end answer → answer.start ≤ end
+starts_before schema q events end answer h =
+    let last : end < suc end = omega arith in
+    let stream = substream schema q events end in
+    (selected_carries (suc end) stream stream (agree schema q events events end (λ p upto. refl)) q.select q.formula answer.start end h.marks.valuation last h.marks.means).ordered

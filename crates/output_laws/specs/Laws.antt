@@ -21,25 +21,30 @@ AnswersLookBack = (schema : Declared) (q : Query) (events others : List Event) (
 -- Events that come later change no answer.
 abbrev pub LaterEventsChangeNoAnswer : Type 0
 LaterEventsChangeNoAnswer = (schema : Declared) (q : Query) (events more : List Event) (end : ℕ) (answer : Answer) →
-    end < length events → IsAnswer schema q events end answer ↔ IsAnswer schema q (events ++ more) end answer
+    end < length events → (IsAnswer schema q events end answer) ↔ (IsAnswer schema q (events ++ more) end answer)
 
 -- They change no block of a query either.
 abbrev pub LaterEventsChangeNoBlock : Type 0
 LaterEventsChangeNoBlock = (order : Order) (schema : Declared) (number : ℕ) (q : Query) (events more : List Event) (end : ℕ) (bytes : List ℕ) →
     end < length events →
-    IsBlock order schema number q events end bytes ↔ IsBlock order schema number q (events ++ more) end bytes
+    (IsBlock order schema number q events end bytes) ↔ (IsBlock order schema number q (events ++ more) end bytes)
 
 -- Nor the blocks of all queries at a position.
 abbrev pub LaterEventsChangeNoBlocks : Type 0
 LaterEventsChangeNoBlocks = (order : Order) (schema : Declared) (number : ℕ) (queries : List Query) (events more : List Event) (end : ℕ) (bytes : List ℕ) →
     end < length events →
-    AreBlocks order schema number queries events end bytes ↔ AreBlocks order schema number queries (events ++ more) end bytes
+    (AreBlocks order schema number queries events end bytes) ↔ (AreBlocks order schema number queries (events ++ more) end bytes)
 
 -- Nor what is written at the first n positions.
 abbrev pub LaterEventsChangeNoOutput : Type 0
 LaterEventsChangeNoOutput = (n : ℕ) (order : Order) (schema : Declared) (queries : List Query) (events more : List Event) (bytes : List ℕ) →
     n ≤ length events →
-    IsOutputOf n order schema queries events bytes ↔ IsOutputOf n order schema queries (events ++ more) bytes
+    (IsOutputOf n order schema queries events bytes) ↔ (IsOutputOf n order schema queries (events ++ more) bytes)
+
+-- Before the first event nothing is written.
+abbrev pub OutputStartsEmpty : Type 0
+OutputStartsEmpty = (order : Order) (schema : Declared) (queries : List Query) (bytes : List ℕ) →
+    (IsOutput order schema queries [] bytes) ↔ (bytes ≡ [])
 
 -- Every query has its block at the position.
 abbrev pub HasBlocks : Order → Declared → List Query → List Event → ℕ → Type 0

@@ -4,7 +4,8 @@
 //! `answer_text`. The lemmas behind them, in `proofs`, are for callers too.
 #![tactic(auto)]
 
-ghost use Rattle.output_laws.specs.Laws.{AnswersLookBack, LaterEventsChangeNoAnswer, LaterEventsChangeNoBlock, LaterEventsChangeNoBlocks, LaterEventsChangeNoOutput, OneMoreEventAddsItsBlocks, OutputBeginsWithThatOfTheFirst, OutputGrowsAtItsEnd, SortedOutputIsUnique, TreesTellTheAnswers, TreesTellTheOutput};
+ghost use Rattle.output_laws.specs.Laws.{AnswersLookBack, LaterEventsChangeNoAnswer, LaterEventsChangeNoBlock, LaterEventsChangeNoBlocks, LaterEventsChangeNoOutput, OneMoreEventAddsItsBlocks, OutputBeginsWithThatOfTheFirst, OutputGrowsAtItsEnd, OutputStartsEmpty, SortedOutputIsUnique, TreesTellTheAnswers, TreesTellTheOutput};
+ghost use Rattle.output_laws.specs.Rows.{LinesTellTheirRows, OutputIsRows};
 
 /// An answer depends on the events up to its end alone.
 pub fn answers_look_back()
@@ -29,6 +30,11 @@ pub fn later_events_change_no_blocks()
 /// Events that come later change nothing of what is written at the first positions.
 pub fn later_events_change_no_output()
     ensures { LaterEventsChangeNoOutput }
+{}
+
+/// Before the first event nothing is written.
+pub fn output_starts_empty()
+    ensures { OutputStartsEmpty }
 {}
 
 /// One more event puts its blocks behind the output.
@@ -59,4 +65,14 @@ pub fn trees_tell_the_answers()
 /// The output depends on what the queries say, and not on where their parts lie in memory.
 pub fn trees_tell_the_output()
     ensures { TreesTellTheOutput }
+{}
+
+/// Each line of the output is that of an answer, and no answer has two.
+pub fn output_is_rows()
+    ensures { OutputIsRows }
+{}
+
+/// A line tells its query, its position and its answer.
+pub fn lines_tell_their_rows()
+    ensures { LinesTellTheirRows }
 {}

@@ -6,8 +6,12 @@ pub mod Past
 pub mod Growth
 -- one output at most
 pub mod Unique
--- what the tree of a formula tells
-pub mod TreesMean
+-- what the words of a formula tell
+pub mod WordsMean
+-- queries that read and mean alike
+pub mod Alike
+-- queries of the same words
+pub mod SameWords
 -- queries with the same trees
 pub mod SameTrees
 -- what a line tells

@@ -6,6 +6,7 @@
 
 ghost use Rattle.output_laws.specs.Laws.{AnswersLookBack, LaterEventsChangeNoAnswer, LaterEventsChangeNoBlock, LaterEventsChangeNoBlocks, LaterEventsChangeNoOutput, OneMoreEventAddsItsBlocks, OutputBeginsWithThatOfTheFirst, OutputGrowsAtItsEnd, OutputStartsEmpty, SortedOutputIsUnique, TreesTellTheAnswers, TreesTellTheOutput};
 ghost use Rattle.output_laws.specs.Rows.{LinesTellTheirRows, OutputIsRows};
+ghost use Rattle.output_laws.specs.Words.{WordsTellTheAnswers, WordsTellTheOutput};
 
 /// An answer depends on the events up to its end alone.
 pub fn answers_look_back()
@@ -65,6 +66,16 @@ pub fn trees_tell_the_answers()
 /// The output depends on what the queries say, and not on where their parts lie in memory.
 pub fn trees_tell_the_output()
     ensures { TreesTellTheOutput }
+{}
+
+/// The answers of a query depend on its words, and not on where these stand in a text.
+pub fn words_tell_the_answers()
+    ensures { WordsTellTheAnswers }
+{}
+
+/// The output depends on the words of the queries, and not on where these stand in a text.
+pub fn words_tell_the_output()
+    ensures { WordsTellTheOutput }
 {}
 
 /// Each line of the output is that of an answer, and no answer has two.

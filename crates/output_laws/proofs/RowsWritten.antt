@@ -13,7 +13,7 @@ use Rattle.cel_terms.specs.Answers.{Answer, IsAnswer}
 use Rattle.answer_text.specs.declared.Order.{Order}
 use Rattle.answer_text.specs.Output.{IsBlock, AreBlocks, IsOutputOf, IsOutput}
 use Rattle.output_laws.proofs.Unique.{all_there}
-use Rattle.output_laws.specs.Rows.{Row, IsRow, AreLinesOf, row_line}
+use Rattle.output_laws.specs.Rows.{Row, IsRow, AreLinesOf, HaveSameRows, row_line}
 
 -- LISTS WITHOUT REPEATS
 
@@ -268,4 +268,16 @@ output_rows order schema queries events bytes h =
         all = λ none row is. r.1.all none row record { before = slice_get_within events row.end is.answers.window.last is.answers.window.last_is; is = is };
         written = r.1.written;
       },
+    )
+
+-- Where no query has ANY, the same lines are written in every order.
+pub same_lines : (order other : Order) (schema : Declared) (queries : List Query) (events : List Event) (bytes more : List ℕ) → HaveNoAny queries → IsOutput order schema queries events bytes → IsOutput other schema queries events more → (rows : List Row) × (others : List Row) × AreLinesOf schema queries events bytes rows × AreLinesOf schema queries events more others × HaveSameRows rows others
+same_lines order other schema queries events bytes more none h k =
+    let a = output_rows order schema queries events bytes h in
+    let b = output_rows other schema queries events more k in (
+      a.0,
+      b.0,
+      a.1,
+      b.1,
+      λ row. (λ has. b.1.all none row (a.1.right row has), λ has. a.1.all none row (b.1.right row has)),
     )

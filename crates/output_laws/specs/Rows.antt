@@ -1,5 +1,5 @@
 -- The output as rows: each line is that of one answer.
-use Rattle.std.specs.Prelude.{◌≡◌, ℕ, ◌+◌, ◌<◌, ◌≤◌, ◌^◌, List, All, Contains, Some, None, length, slice_get, flat_map}
+use Rattle.std.specs.Prelude.{◌≡◌, ℕ, ◌+◌, ◌<◌, ◌≤◌, ◌^◌, ◌↔◌, List, All, Contains, Some, None, length, slice_get, flat_map}
 use Rattle.cer_base.specs.Repeats.{HasNoRepeats}
 use Rattle.stream_schema.specs.Types.{Declared}
 use Rattle.stream_schema.specs.declared.Event.{Event}
@@ -37,6 +37,18 @@ abbrev pub OutputIsRows : Type 0
 OutputIsRows = (order : Order) (schema : Declared) (queries : List Query) (events : List Event) (bytes : List ℕ) →
     IsOutput order schema queries events bytes →
     (rows : List Row) × AreLinesOf schema queries events bytes rows
+
+-- Two lists of rows have the same rows.
+abbrev pub HaveSameRows : List Row → List Row → Type 0
+HaveSameRows rows others = (row : Row) → Contains rows row ↔ Contains others row
+
+-- Where no query has ANY, the same lines are written in every order.
+abbrev pub OrdersWriteTheSameLines : Type 0
+OrdersWriteTheSameLines = (order other : Order) (schema : Declared) (queries : List Query) (events : List Event) (bytes more : List ℕ) →
+    All (λ q. q.any ≡ None) queries →
+    IsOutput order schema queries events bytes → IsOutput other schema queries events more →
+    (rows : List Row) × (others : List Row) × AreLinesOf schema queries events bytes rows
+    × AreLinesOf schema queries events more others × HaveSameRows rows others
 
 -- A line tells its row, where numbers and positions are of 64 bits.
 abbrev pub LinesTellTheirRows : Type 0

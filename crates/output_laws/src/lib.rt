@@ -5,7 +5,7 @@
 #![tactic(auto)]
 
 ghost use Rattle.output_laws.specs.Laws.{AnswersLookBack, LaterEventsChangeNoAnswer, LaterEventsChangeNoBlock, LaterEventsChangeNoBlocks, LaterEventsChangeNoOutput, OneMoreEventAddsItsBlocks, OutputBeginsWithThatOfTheFirst, OutputGrowsAtItsEnd, OutputStartsEmpty, SortedOutputIsUnique, TreesTellTheAnswers, TreesTellTheOutput};
-ghost use Rattle.output_laws.specs.Rows.{LinesTellTheirRows, OutputIsRows};
+ghost use Rattle.output_laws.specs.Rows.{LinesTellTheirRows, OrdersWriteTheSameLines, OutputIsRows};
 ghost use Rattle.output_laws.specs.Words.{WordsTellTheAnswers, WordsTellTheOutput};
 
 /// An answer depends on the events up to its end alone.
@@ -86,4 +86,9 @@ pub fn output_is_rows()
 /// A line tells its query, its position and its answer.
 pub fn lines_tell_their_rows()
     ensures { LinesTellTheirRows }
+{}
+
+/// Where no query has ANY, the same lines are written in every order.
+pub fn orders_write_the_same_lines()
+    ensures { OrdersWriteTheSameLines }
 {}

@@ -1,5 +1,5 @@
 -- Blocks and outputs where more events come. For callers of the crate too.
-use Rattle.std.proofs.Common.{◌≡◌, refl, sym, ap, subst, ◌∙◌, ℕ, zero, suc, ◌+◌, ◌<◌, ◌≤◌, List, [], ◌∷◌, ◌++◌, length, Option, Some, None, slice_get, append_assoc, length-append, arith}
+use Rattle.std.proofs.Common.{◌≡◌, refl, sym, ap, subst, ◌∙◌, ℕ, zero, suc, ◌+◌, ◌-◌, ◌<◌, ◌≤◌, List, [], ◌∷◌, ◌++◌, length, Option, Some, None, slice_get, append_assoc, length-append, arith}
 use Rattle.std.proofs.lemmas.List.{append-nil}
 use Rattle.std.specs.Prelude.{◌↔◌}
 use Rattle.stream_schema.specs.Types.{Declared}
@@ -86,6 +86,12 @@ output_grows_by_blocks order schema queries events event bytes blocks h b =
     let count : suc (length events) ≡ length (events ++ event ∷ []) = omega (arith, length-append events (event ∷ [])) in
     let step : IsOutputOf (suc (length events)) order schema queries (events ++ event ∷ []) (bytes ++ blocks) = (bytes, blocks, before, b, refl) in
     subst (λ (n : ℕ). IsOutputOf n order schema queries (events ++ event ∷ []) (bytes ++ blocks)) count step
+
+-- the same, where the blocks are known as those of the last position
+pub output_grows_at_last : (order : Order) (schema : Declared) (queries : List Query) (events : List Event) (event : Event) (bytes blocks : List ℕ) → IsOutput order schema queries events bytes → AreBlocks order schema 1 queries (events ++ event ∷ []) (length (events ++ event ∷ []) - 1) blocks → IsOutput order schema queries (events ++ event ∷ []) (bytes ++ blocks)
+output_grows_at_last order schema queries events event bytes blocks h b =
+    let last : length (events ++ event ∷ []) - 1 ≡ length events = omega (arith, length-append events (event ∷ [])) in
+    output_grows_by_blocks order schema queries events event bytes blocks h (subst (λ (end : ℕ). AreBlocks order schema 1 queries (events ++ event ∷ []) end blocks) last b)
 
 -- the output at the first n positions, with what is written at k more
 longer : (order : Order) (schema : Declared) (queries : List Query) (events : List Event) → ((end : ℕ) → HasBlocks order schema queries events end) → (k n m : ℕ) → m ≡ n + k → (bytes : List ℕ) → IsOutputOf n order schema queries events bytes → (rest : List ℕ) × IsOutputOf m order schema queries events (bytes ++ rest)

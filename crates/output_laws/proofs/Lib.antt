@@ -6,3 +6,15 @@ pub mod Past
 pub mod Growth
 -- one output at most
 pub mod Unique
+-- what the words of a formula tell
+pub mod WordsMean
+-- queries that read and mean alike
+pub mod Alike
+-- queries of the same words
+pub mod SameWords
+-- queries with the same trees
+pub mod SameTrees
+-- what a line tells
+pub mod LineText
+-- the output as the lines of rows
+pub mod RowsWritten

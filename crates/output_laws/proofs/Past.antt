@@ -32,11 +32,11 @@ agree schema q events others end same = record {
   back = λ p less. of_substream schema q others events end (turned end events others same) p (omega arith);
 }
 
-strict_too : (strict : Bool) (P Q : Type 0) → (P → Q) → WhereStrict strict P → WhereStrict strict Q
+pub strict_too : (strict : Bool) (P Q : Type 0) → (P → Q) → WhereStrict strict P → WhereStrict strict Q
 strict_too true P Q f h = f h
 strict_too false P Q f h = tt
 
-contiguous_too : (P Q : ℕ → Type 0) (end : ℕ) (marks : List ℕ) → ((p : ℕ) → p ≤ end → Q p → P p) → ((p : ℕ) → Contains marks p → p ≤ end) → AreContiguous P marks → AreContiguous Q marks
+pub contiguous_too : (P Q : ℕ → Type 0) (end : ℕ) (marks : List ℕ) → ((p : ℕ) → p ≤ end → Q p → P p) → ((p : ℕ) → Contains marks p → p ≤ end) → AreContiguous P marks → AreContiguous Q marks
 contiguous_too P Q end marks back within h low p high has_low has_high above below has =
     let upto = within high has_high in
     h low p high has_low has_high above below (back p (omega arith) has)
@@ -83,3 +83,10 @@ pub no_change : (schema : Declared) (q : Query) (events more : List Event) (end 
 no_change schema q events more end answer less =
     let same = same_up_to events more end less in
     (look_back schema q events (events ++ more) end answer same, look_back schema q (events ++ more) events end answer (turned end events (events ++ more) same))
+
+-- An answer does not end before it starts.
+pub starts_before : (schema : Declared) (q : Query) (events : List Event) (end : ℕ) (answer : Answer) → IsAnswer schema q events end answer → answer.start ≤ end
+starts_before schema q events end answer h =
+    let last : end < suc end = omega arith in
+    let stream = substream schema q events end in
+    (selected_carries (suc end) stream stream (agree schema q events events end (λ p upto. refl)) q.select q.formula answer.start end h.marks.valuation last h.marks.means).ordered

@@ -77,7 +77,7 @@ in_one_order (x ∷ xs) (y ∷ ys) p q f g =
     (in_one_order xs ys (rest_in_order x xs p) (rest_in_order y ys q) (rest_includes x y xs ys same q f) (rest_includes y x ys xs (sym same) p g))
 
 -- without ANY all answers are there
-all_there : (any : Option ℕ) (Is : Answer → Type 0) (answers : List Answer) → any ≡ None → AreEnough any Is answers → (a : Answer) → Is a → Contains answers a
+pub all_there : (any : Option ℕ) (Is : Answer → Type 0) (answers : List Answer) → any ≡ None → AreEnough any Is answers → (a : Answer) → Is a → Contains answers a
 all_there None Is answers none h = h
 all_there (Some n) Is answers none h = absurd cc
 

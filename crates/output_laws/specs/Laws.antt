@@ -1,9 +1,10 @@
 -- Laws of the answers and of the output, which follow from their definitions.
-use Rattle.std.specs.Prelude.{◌≡◌, ℕ, ◌<◌, ◌≤◌, ◌↔◌, List, [], ◌∷◌, ◌++◌, length, All, None, slice_get}
+use Rattle.std.specs.Prelude.{◌≡◌, ℕ, ◌<◌, ◌≤◌, ◌↔◌, List, [], ◌∷◌, ◌++◌, length, map, All, None, slice_get}
 use Rattle.stream_schema.specs.Types.{Declared}
 use Rattle.stream_schema.specs.declared.Event.{Event}
 use Rattle.cel_terms.specs.declared.Query.{Query}
 use Rattle.cel_terms.specs.Answers.{Answer, IsAnswer}
+use Rattle.ceql_parser.specs.QueryTrees.{query_tree}
 use Rattle.answer_text.specs.declared.Order.{Order}
 use Rattle.answer_text.specs.declared.Order.TheVariants.{Sorted}
 use Rattle.answer_text.specs.Output.{IsBlock, AreBlocks, IsOutput, IsOutputOf}
@@ -20,25 +21,30 @@ AnswersLookBack = (schema : Declared) (q : Query) (events others : List Event) (
 -- Events that come later change no answer.
 abbrev pub LaterEventsChangeNoAnswer : Type 0
 LaterEventsChangeNoAnswer = (schema : Declared) (q : Query) (events more : List Event) (end : ℕ) (answer : Answer) →
-    end < length events → IsAnswer schema q events end answer ↔ IsAnswer schema q (events ++ more) end answer
+    end < length events → (IsAnswer schema q events end answer) ↔ (IsAnswer schema q (events ++ more) end answer)
 
 -- They change no block of a query either.
 abbrev pub LaterEventsChangeNoBlock : Type 0
 LaterEventsChangeNoBlock = (order : Order) (schema : Declared) (number : ℕ) (q : Query) (events more : List Event) (end : ℕ) (bytes : List ℕ) →
     end < length events →
-    IsBlock order schema number q events end bytes ↔ IsBlock order schema number q (events ++ more) end bytes
+    (IsBlock order schema number q events end bytes) ↔ (IsBlock order schema number q (events ++ more) end bytes)
 
 -- Nor the blocks of all queries at a position.
 abbrev pub LaterEventsChangeNoBlocks : Type 0
 LaterEventsChangeNoBlocks = (order : Order) (schema : Declared) (number : ℕ) (queries : List Query) (events more : List Event) (end : ℕ) (bytes : List ℕ) →
     end < length events →
-    AreBlocks order schema number queries events end bytes ↔ AreBlocks order schema number queries (events ++ more) end bytes
+    (AreBlocks order schema number queries events end bytes) ↔ (AreBlocks order schema number queries (events ++ more) end bytes)
 
 -- Nor what is written at the first n positions.
 abbrev pub LaterEventsChangeNoOutput : Type 0
 LaterEventsChangeNoOutput = (n : ℕ) (order : Order) (schema : Declared) (queries : List Query) (events more : List Event) (bytes : List ℕ) →
     n ≤ length events →
-    IsOutputOf n order schema queries events bytes ↔ IsOutputOf n order schema queries (events ++ more) bytes
+    (IsOutputOf n order schema queries events bytes) ↔ (IsOutputOf n order schema queries (events ++ more) bytes)
+
+-- Before the first event nothing is written.
+abbrev pub OutputStartsEmpty : Type 0
+OutputStartsEmpty = (order : Order) (schema : Declared) (queries : List Query) (bytes : List ℕ) →
+    (IsOutput order schema queries [] bytes) ↔ (bytes ≡ [])
 
 -- Every query has its block at the position.
 abbrev pub HasBlocks : Order → Declared → List Query → List Event → ℕ → Type 0
@@ -70,3 +76,14 @@ SortedOutputIsUnique = (schema : Declared) (queries : List Query) (events : List
     All (λ q. q.any ≡ None) queries →
     IsOutput Sorted schema queries events bytes → IsOutput Sorted schema queries events others →
     bytes ≡ others
+
+-- The answers of a query depend on what it says, and not on where its parts lie in memory.
+abbrev pub TreesTellTheAnswers : Type 0
+TreesTellTheAnswers = (schema : Declared) (q r : Query) (events : List Event) (end : ℕ) (answer : Answer) →
+    query_tree q ≡ query_tree r → IsAnswer schema q events end answer → IsAnswer schema r events end answer
+
+-- And so does the output.
+abbrev pub TreesTellTheOutput : Type 0
+TreesTellTheOutput = (order : Order) (schema : Declared) (queries others : List Query) (events : List Event) (bytes : List ℕ) →
+    map query_tree queries ≡ map query_tree others →
+    IsOutput order schema queries events bytes → IsOutput order schema others events bytes

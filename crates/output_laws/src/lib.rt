@@ -4,7 +4,9 @@
 //! `answer_text`. The lemmas behind them, in `proofs`, are for callers too.
 #![tactic(auto)]
 
-ghost use Rattle.output_laws.specs.Laws.{AnswersLookBack, LaterEventsChangeNoAnswer, LaterEventsChangeNoBlock, LaterEventsChangeNoBlocks, LaterEventsChangeNoOutput, OneMoreEventAddsItsBlocks, OutputBeginsWithThatOfTheFirst, OutputGrowsAtItsEnd, SortedOutputIsUnique};
+ghost use Rattle.output_laws.specs.Laws.{AnswersLookBack, LaterEventsChangeNoAnswer, LaterEventsChangeNoBlock, LaterEventsChangeNoBlocks, LaterEventsChangeNoOutput, OneMoreEventAddsItsBlocks, OutputBeginsWithThatOfTheFirst, OutputGrowsAtItsEnd, OutputStartsEmpty, SortedOutputIsUnique, TreesTellTheAnswers, TreesTellTheOutput};
+ghost use Rattle.output_laws.specs.Rows.{LinesTellTheirRows, OrdersWriteTheSameLines, OutputIsRows};
+ghost use Rattle.output_laws.specs.Words.{WordsTellTheAnswers, WordsTellTheOutput};
 
 /// An answer depends on the events up to its end alone.
 pub fn answers_look_back()
@@ -31,6 +33,11 @@ pub fn later_events_change_no_output()
     ensures { LaterEventsChangeNoOutput }
 {}
 
+/// Before the first event nothing is written.
+pub fn output_starts_empty()
+    ensures { OutputStartsEmpty }
+{}
+
 /// One more event puts its blocks behind the output.
 pub fn one_more_event_adds_its_blocks()
     ensures { OneMoreEventAddsItsBlocks }
@@ -49,4 +56,39 @@ pub fn output_begins_with_that_of_the_first()
 /// In sorted order, and where no query has ANY, there is no second output.
 pub fn sorted_output_is_unique()
     ensures { SortedOutputIsUnique }
+{}
+
+/// The answers of a query depend on what it says, and not on where its parts lie in memory.
+pub fn trees_tell_the_answers()
+    ensures { TreesTellTheAnswers }
+{}
+
+/// The output depends on what the queries say, and not on where their parts lie in memory.
+pub fn trees_tell_the_output()
+    ensures { TreesTellTheOutput }
+{}
+
+/// The answers of a query depend on its words, and not on where these stand in a text.
+pub fn words_tell_the_answers()
+    ensures { WordsTellTheAnswers }
+{}
+
+/// The output depends on the words of the queries, and not on where these stand in a text.
+pub fn words_tell_the_output()
+    ensures { WordsTellTheOutput }
+{}
+
+/// Each line of the output is that of an answer, and no answer has two.
+pub fn output_is_rows()
+    ensures { OutputIsRows }
+{}
+
+/// A line tells its query, its position and its answer.
+pub fn lines_tell_their_rows()
+    ensures { LinesTellTheirRows }
+{}
+
+/// Where no query has ANY, the same lines are written in every order.
+pub fn orders_write_the_same_lines()
+    ensures { OrdersWriteTheSameLines }
 {}

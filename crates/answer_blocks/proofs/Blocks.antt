@@ -16,12 +16,8 @@ use Rattle.cer_base.proofs.Repeats.{HasNoRepeats-permutation}
 use Rattle.answer_text.specs.declared.Order.{Order}
 use Rattle.answer_text.specs.declared.Order.TheVariants.{Walk, Sorted}
 use Rattle.answer_text.specs.Output.{line, AreEnough, AreInOrder, IsBlock, AreBlocks}
+use Rattle.answer_blocks.specs.Wanted.{wanted}
 use Rattle.answer_blocks.proofs.Sorting.{in_order, in_order_moves, in_order_is}
-
--- as many of the answers as ANY asks for
-abbrev pub wanted : Option ℕ → List Answer → List Answer
-wanted None all = all
-wanted (Some n) all = take n all
 
 taken_are_there : (n : ℕ) (all : List Answer) (a : Answer) → Contains (take n all) a → Contains all a
 taken_are_there zero all a (k, within, at) = absurd (omega arith)

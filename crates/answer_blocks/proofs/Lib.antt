@@ -2,3 +2,9 @@
 pub mod Sorting
 -- for callers of the crate too
 pub mod Blocks
+-- blocks one after another
+pub mod Joined
+-- what a sink has taken
+pub mod Writing
+-- what a text starts with
+pub mod Texts

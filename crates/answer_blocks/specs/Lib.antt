@@ -1,2 +1,4 @@
 pub mod Laws
 pub mod Taken
+pub mod Wanted
+pub mod Blocks

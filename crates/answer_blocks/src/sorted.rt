@@ -1,0 +1,117 @@
+//! The blocks of a position, each in order.
+
+ghost use Rattle.std.specs.Prelude.{◌≡◌, ℕ, ◌+◌, ◌-◌, ◌<◌, List, ◌++◌, length, take, flat_map, IfOk, OnOk, OnErr};
+ghost use Rattle.std.specs.List.Sorted.{IsPermutation};
+ghost use Rattle.stream_schema.specs.declared.Event.{Event};
+ghost use Rattle.cer_base.specs.Repeats.{HasNoRepeats};
+ghost use Rattle.query_engine.specs.Engine.{StandsFor, count_of, Fits, IsNumber};
+ghost use Rattle.answer_text.specs.declared.Order.TheVariants.{Sorted};
+ghost use Rattle.answer_text.specs.Output.{line, EachBeforeNext, AreBlocks};
+ghost use Rattle.answer_text.specs.Texts.{StartsWith};
+ghost use Rattle.answer_blocks.specs.Wanted.{to_give};
+ghost use Rattle.answer_blocks.specs.Blocks.{HasBlock, HasBlocks};
+
+use crate::pulling::Pulling;
+use answer_text::Answer;
+use answer_text::answer::order;
+use cer_base::steps::Steps;
+use cer_base::{Memory, Pos};
+use query_engine::Engine;
+use std::alloc::Global;
+use std::sync::ledger::Ledger;
+
+/// All that are wanted.
+fn pulled<L: Ledger>(
+    alloc: Global,
+    engine: &Engine,
+    pulling: &mut Pulling,
+    steps: &mut Steps<L>,
+) -> Result<Vec<Answer>, Memory>
+    requires fits { Fits engine.now pulling.old.cursor }
+    ensures { IfOk result (λ v.
+        v.items ≡ to_give engine.now pulling.old.left pulling.old.cursor) }
+{
+    let mut found = Vec::new(alloc);
+    while let Some(start) = pulling.next(engine, steps) {
+        found.push(Answer::new(alloc, start, pulling.positions())?)?;
+    }
+    Ok(found)
+}
+
+fn sort(answers: &mut Vec<Answer>)
+    ensures moved { IsPermutation answers.old.items answers.new.items }
+    ensures ordered { HasNoRepeats answers.old.items → EachBeforeNext answers.new.items }
+{
+    answers.sort_unstable_by(|a, b| order(a, b));
+}
+
+fn push_lines(text: &mut Vec<u8>, query: u64, end: Pos, answers: &[Answer]) -> Result<(), Memory>
+    ensures lines { OnOk result (text.new.items
+        ≡ text.old.items ++ flat_map (line query end) answers.now) }
+    ensures kept { OnErr result (StartsWith text.old.items text.new.items) }
+{
+    for answer in answers {
+        answer.push_line(text, query, end)?;
+    }
+    Ok(())
+}
+
+fn push_block<L: Ledger>(
+    alloc: Global,
+    engine: &Engine,
+    number: u64,
+    text: &mut Vec<u8>,
+    steps: &mut Steps<L>,
+) -> Result<(), Memory>
+    requires seen { 0 < count_of engine.now }
+    requires numbered { IsNumber engine.now number }
+    ensures block { OnOk result (HasBlock Sorted engine.now number
+        (λ bytes. text.new.items ≡ text.old.items ++ bytes)) }
+    ensures kept { StartsWith text.old.items text.new.items }
+{
+    let mut pulling = Pulling::start(engine, number, steps)?;
+    let mut answers = pulled(alloc, engine, &mut pulling, steps)?;
+    sort(&mut answers);
+    push_lines(text, number, engine.events() - 1, answers.as_slice())
+}
+
+fn push_each<L: Ledger>(
+    alloc: Global,
+    engine: &Engine,
+    text: &mut Vec<u8>,
+    steps: &mut Steps<L>,
+) -> Result<(), Memory>
+    requires seen { 0 < count_of engine.now }
+    ensures blocks { OnOk result (HasBlocks Sorted engine.now engine.now.queries
+        (λ bytes. text.new.items ≡ text.old.items ++ bytes)) }
+    ensures kept { StartsWith text.old.items text.new.items }
+{
+    for k in 0..engine.queries() {
+        push_block(alloc, engine, k + 1, text, steps)?;
+    }
+    Ok(())
+}
+
+/// Puts the blocks of all queries at the last position behind the text, each in order. An event was
+/// taken. Where memory runs out the text is as it was.
+pub fn push_blocks<L: Ledger>(
+    alloc: Global,
+    engine: &Engine,
+    text: &mut Vec<u8>,
+    steps: &mut Steps<L>,
+) -> Result<(), Memory>
+    requires seen { 0 < count_of engine.now }
+    ensures blocks { OnOk result ((events : List Event) → StandsFor engine.now events
+        → (bytes : List ℕ) × AreBlocks Sorted engine.now.schema 1 engine.now.queries events
+        (length events - 1) bytes × (text.new.items ≡ text.old.items ++ bytes)) }
+    ensures kept { OnErr result (text.new.items ≡ text.old.items) }
+{
+    let before = text.len();
+    match push_each(alloc, engine, text, steps) {
+        Ok(()) => Ok(()),
+        Err(memory) => {
+            text.truncate(before);
+            Err(memory)
+        }
+    }
+}

@@ -9,6 +9,8 @@
 
 pub mod laws;
 mod taking;
+#[cfg(test)]
+mod tests;
 
 use event_reader::EventFault;
 pub use taking::take_event;

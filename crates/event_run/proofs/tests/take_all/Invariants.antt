@@ -1,0 +1,10 @@
+-- The reader is open until the run stops, and each event takes room.
+use Rattle.std.proofs.Common.{◌≡◌, ◌≤◌, false}
+use Rattle.query_engine.specs.Engine.{count_of}
+use Rattle.event_run.proofs.tests.take_all.Given as goal
+
+abbrev pub invariant-loop-fault : goal.invariant-loop-fault
+invariant-loop-fault g l = (l.lines.closed ≡ false) × (count_of l.engine ≤ l.lines.number)
+
+abbrev pub decreases-loop-fault : goal.decreases-loop-fault
+decreases-loop-fault g l = l.lines.room

@@ -1,5 +1,5 @@
 -- What a reader of lines and an engine have taken of a file together, and what one more event adds.
-use Rattle.std.specs.Prelude.{◌≡◌, ℕ, ◌<◌, ◌⊎◌, Bool, true, List, [], ◌∷◌, ◌++◌, Option, Some, None, Result, Ok, Err, false}
+use Rattle.std.specs.Prelude.{◌≡◌, ℕ, ◌+◌, ◌<◌, ◌≤◌, ◌⊎◌, Bool, true, List, [], ◌∷◌, ◌++◌, Option, Some, None, Result, Ok, Err, false}
 use Rattle.cer_base.specs.declared.OrMemory.{OrMemory}
 use Rattle.cer_base.specs.declared.OrMemory.TheVariants.{Fault, Memory}
 use Rattle.cer_outside.specs.Causes.{Rose}
@@ -64,6 +64,13 @@ AfterCall schema queries reader engine Had left events (Err Memory) =
 abbrev pub HasSourceCause : ℕ → ℕ → Result Taken (OrMemory RunFault) → Type 0
 HasSourceCause before now (Err (Fault fault.ReadFault)) = Rose before now
 HasSourceCause before now _ = now ≡ before
+
+-- an event took at most so many steps; the end and a fault took none, and nothing is said where memory ran out
+abbrev pub TakesSteps : ℕ → ℕ → ℕ → Result Taken (OrMemory RunFault) → Type 0
+TakesSteps most before now (Ok taken.Event) = now ≤ before + most
+TakesSteps most before now (Ok taken.End) = now ≡ before
+TakesSteps most before now (Err (Fault stop)) = now ≡ before
+TakesSteps most before now (Err Memory) = Unit {0}
 
 -- an event took room of the reader, which is still open
 abbrev pub TakesRoom : LineReader → LineReader → Result Taken (OrMemory RunFault) → Type 0

@@ -3,8 +3,9 @@
 ghost use Rattle.std.specs.Prelude.{◌≡◌, ◌+◌, ◌<◌, ◌≤◌, ℕ, List, [], ◌∷◌, ◌++◌, true, false, OnOk, OnErr, IfOk};
 ghost use Rattle.stream_schema.specs.declared.Event.{Event};
 ghost use Rattle.stream_schema.specs.Events.{IsOfSchema};
-ghost use Rattle.query_engine.specs.Engine.{StandsFor, count_of, SameQueries};
-ghost use Rattle.event_run.specs.Taking.{HasTaken, AfterCall, AfterText, AfterEvent, HasSourceCause, TakesRoom, run_fault};
+ghost use Rattle.query_engine.specs.Engine.{StandsFor, count_of, SameQueries, update_bounds};
+ghost use Rattle.cer_base.specs.Answers.{OnFault};
+ghost use Rattle.event_run.specs.Taking.{HasTaken, AfterCall, AfterText, AfterEvent, HasSourceCause, TakesRoom, TakesSteps, run_fault};
 
 use crate::{RunFault, Taken};
 use cer_base::OrMemory;
@@ -40,6 +41,7 @@ pub fn take_event<Q: Source, L: Ledger>(
     ensures budget { lines.new.budget ≡ lines.old.budget }
     ensures cause { HasSourceCause (Q.faults source.old) (Q.faults source.new) result }
     ensures room { TakesRoom lines.old lines.new result }
+    ensures steps { TakesSteps (update_bounds engine.new) steps.old steps.new result }
 {
     loop {
         match lines.next(source) {
@@ -87,6 +89,9 @@ fn give_line<L: Ledger>(
     ensures counted { count_of engine.new ≤ lines.now.number }
     ensures some { result ≡ Ok true → 0 < count_of engine.new }
     ensures same { SameQueries engine.old engine.new }
+    ensures steps { OnOk result (steps.new ≤ steps.old + update_bounds engine.new) }
+    ensures no_step { OnFault result (λ fault. steps.new ≡ steps.old) }
+    ensures skipped { result ≡ Ok false → steps.new ≡ steps.old }
 {
     match read_event(alloc, engine.schema(), lines.text()) {
         Ok(Some(event)) => {
@@ -112,6 +117,8 @@ fn give_event<L: Ledger>(
     ensures counted { OnOk result (count_of engine.new ≡ count_of engine.old + 1) }
     ensures unchanged { OnErr result (engine.new ≡ engine.old) }
     ensures same { SameQueries engine.old engine.new }
+    ensures steps { OnOk result (steps.new ≤ steps.old + update_bounds engine.new) }
+    ensures no_step { OnFault result (λ fault. steps.new ≡ steps.old) }
 {
     match engine.see(event, steps) {
         Ok(_) => Ok(()),

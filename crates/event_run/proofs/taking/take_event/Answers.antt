@@ -1,4 +1,4 @@
-use Rattle.std.proofs.Common.{◌≡◌, ℕ, List, None, Some, subst, sym, ◌∙◌, arith, rules}
+use Rattle.std.proofs.Common.{◌≡◌, ℕ, List, None, Some, refl, subst, sym, ◌∙◌, arith, rules}
 use Rattle.event_run.specs.Taking.{HasTaken, AfterCall}
 use Rattle.event_run.proofs.Given.{at_end}
 use Rattle.event_run.proofs.Turns.{begins_before, no_line, taken_empty, taken_event, stopped_line}
@@ -53,6 +53,7 @@ loop-fault-preserved g c =
     let inv = c.loop-fault.invariant in
     let moved = rw c.in-Ok-Line.field-0-is at c.in-Ok-Line.ensures.moves in
     let took = rw c.in-Ok-false.field-0-test at c.in-Ok-false.ensures.took in
+    let skipped = rw c.in-Ok-false.field-0-test at c.in-Ok-false.ensures.skipped in
     record {
       open_is = moved.1.closed_is;
       counted = c.give_line.ensures.counted;
@@ -60,6 +61,7 @@ loop-fault-preserved g c =
       budget = moved.1.budget ∙ inv.budget;
       room = omega (arith, moved.1.room_within, inv.room);
       faults = c.in-Ok-Line.ensures.cause ∙ inv.faults;
+      steps = skipped refl ∙ inv.steps;
       stands = λ events stands. (took events (inv.stands events stands)).1;
       taken = λ events stands bytes had.
           taken_empty _ _ _ c.loop-fault.lines c.next.new.self bytes (g.Q.Source.left c.loop-fault.source) (g.Q.Source.left c.next.new.source) events inv.same.0

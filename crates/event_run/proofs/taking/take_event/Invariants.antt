@@ -13,6 +13,7 @@ invariant-loop-fault g l = record {
   budget : l.lines.budget ≡ l.fn.lines.budget;
   room : l.lines.room ≤ l.fn.lines.room;
   faults : g.Q.Source.faults l.source ≡ g.Q.Source.faults l.fn.source;
+  steps : l.steps ≡ l.fn.steps;
   stands : (events : List Event) → StandsFor l.fn.engine events → StandsFor l.engine events;
   taken : (events : List Event) → StandsFor l.fn.engine events → (bytes : List ℕ)
       → HasTaken l.fn.engine.schema l.fn.engine.queries l.fn.lines bytes (g.Q.Source.left l.fn.source) events

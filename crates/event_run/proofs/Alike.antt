@@ -1,5 +1,5 @@
 -- Whether a clock falls depends on what the queries say: on their streams and windows.
-use Rattle.std.proofs.Common.{◌≡◌, ℕ, suc, zero, ◌-◌, ◌<◌, ℤ, List, [], ◌∷◌, map, Contains, Option, Some, None, slice_get, refl, sym, ◌∙◌, ap, subst}
+use Rattle.std.proofs.Common.{◌≡◌, ℕ, suc, zero, ◌-◌, ℤ, List, [], ◌∷◌, map, Contains, Some, slice_get, refl, sym, ◌∙◌, ap, subst}
 use Rattle.stream_schema.specs.Types.{Declared}
 use Rattle.stream_schema.specs.declared.Event.{Event}
 use Rattle.cel_terms.specs.declared.Query.{Query}

@@ -1,5 +1,5 @@
 -- Which query's clock falls first is one thing, and computed.
-use Rattle.std.proofs.Common.{◌≡◌, ℕ, ◌+◌, ◌-◌, ◌<◌, ◌≤◌, ◌⊎◌, inl, inr, ℤ, List, Option, Some, None, slice_get, refl, sym, ◌∙◌, ap, subst, arith}
+use Rattle.std.proofs.Common.{◌≡◌, ℕ, ◌-◌, ◌⊎◌, inl, inr, ℤ, List, Option, Some, None, slice_get, refl, sym, ◌∙◌, subst, arith}
 use Rattle.std.proofs.lemmas.Bool.{cases_lt}
 use Rattle.stream_schema.specs.Types.{Declared}
 use Rattle.stream_schema.specs.declared.Event.{Event}
@@ -10,7 +10,7 @@ use Rattle.cel_terms.specs.declared.Window.{Window}
 use Rattle.cel_terms.specs.declared.Window.TheVariants.{Free, Events, Clock}
 use Rattle.cel_terms.specs.Answers.{HasClock}
 use Rattle.query_engine.specs.declared.clocks.FallOf.{FallOf}
-use Rattle.query_engine.specs.Clocks.{IsLastClock, FallsBack, NoneFallsBack, IsFirstToFall}
+use Rattle.query_engine.specs.Clocks.{FallsBack, NoneFallsBack, IsFirstToFall}
 use Rattle.query_engine.specs.Falls.{last_clock, first_fall}
 use Rattle.query_engine.proofs.Fallen.{is_last_clock, first_to_fall, none_to_fall}
 

@@ -1,5 +1,5 @@
 -- For callers: a run is one thing, every file has one, and the events that were taken so far are those with which it begins.
-use Rattle.std.proofs.Common.{◌≡◌, ℕ, ◌+◌, ℤ, ◌⊎◌, inl, inr, List, [], ◌∷◌, ◌++◌, length, map, Option, Some, None, Result, Ok, Err, refl, sym, ◌∙◌, ap, subst, append_assoc, arith}
+use Rattle.std.proofs.Common.{◌≡◌, ℕ, ◌+◌, inl, inr, List, [], ◌∷◌, ◌++◌, length, map, Option, Some, None, Result, Ok, Err, refl, sym, ◌∙◌, ap, subst, append_assoc, arith}
 use Rattle.std.proofs.lemmas.List.{append-nil}
 use Rattle.stream_schema.specs.Types.{Declared}
 use Rattle.stream_schema.specs.declared.Event.{Event}
@@ -10,7 +10,7 @@ use Rattle.event_reader.specs.declared.EventFault.TheVariants as event
 use Rattle.event_reader.specs.declared.LineFault.{LineFault}
 use Rattle.event_reader.specs.Events.{event_of_line}
 use Rattle.event_reader.specs.Lines.{file_lines}
-use Rattle.query_engine.specs.Clocks.{NoneFallsBack, IsFirstToFall}
+use Rattle.query_engine.specs.Clocks.{NoneFallsBack}
 use Rattle.event_run.specs.Runs.{Stop, stop_of, StopsInTime, AfterLine, RunsOn, RunsTo, AfterGood, AreEventsAfter}
 use Rattle.event_run.specs.Runs as runs
 use Rattle.event_run.proofs.Alike.{none_as, first_as}

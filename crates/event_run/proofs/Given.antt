@@ -1,20 +1,18 @@
 -- What a reader of lines has given of a file, and the run over the file.
-use Rattle.std.proofs.Common.{◌≡◌, ◌≢◌, ℕ, ◌+◌, ◌⊎◌, inl, inr, List, [], ◌∷◌, ◌++◌, length, Option, Some, None, Result, Ok, Err, refl, sym, ◌∙◌, ap, subst, append_assoc, length-append, arith}
+use Rattle.std.proofs.Common.{◌≡◌, ℕ, ◌+◌, inl, inr, List, [], ◌∷◌, ◌++◌, length, Option, Some, None, Result, refl, sym, ◌∙◌, ap, subst, append_assoc, length-append, arith}
 use Rattle.std.proofs.lemmas.List.{append-nil}
 use Rattle.stream_schema.specs.Types.{Declared}
 use Rattle.stream_schema.specs.declared.Event.{Event}
 use Rattle.cel_terms.specs.declared.Query.{Query}
 use Rattle.event_reader.specs.declared.EventFault.{EventFault}
 use Rattle.event_reader.specs.declared.LineFault.{LineFault}
-use Rattle.event_reader.specs.declared.LineFault.TheVariants as line
 use Rattle.event_reader.specs.Events.{event_of_line}
-use Rattle.event_reader.specs.Lines.{FileLines, file_lines, unmarked, lines_from}
-use Rattle.event_reader.specs.Reading.{LineReader, HasRead, HasGiven, HasTold, IsCutAt, to_come}
-use Rattle.query_engine.specs.Clocks.{NoneFallsBack}
+use Rattle.event_reader.specs.Lines.{FileLines, file_lines, unmarked}
+use Rattle.event_reader.specs.Reading.{LineReader, HasRead, HasGiven, IsCutAt, to_come}
 use Rattle.event_run.specs.Runs.{Stop, stop_of, StopsInTime, AfterLine, RunsOn, RunsTo, AreEventsOf}
 use Rattle.event_run.specs.Runs as stop
 use Rattle.event_run.specs.Taking.{HasTaken, BeginsRun, AreEventsRead, StopsHere}
-use Rattle.event_run.proofs.ForCallers.{HasRun, some_run, goes_on, one_empty, one_event}
+use Rattle.event_run.proofs.ForCallers.{some_run, goes_on}
 
 -- The texts are the first ones of the file.
 pub record AreFirstTexts (most_bytes : ℕ) (bytes : List ℕ) (texts : List (List ℕ)) : Type 0 where

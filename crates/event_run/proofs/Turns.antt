@@ -1,20 +1,16 @@
 -- One turn of reading: what its line adds to what was taken.
-use Rattle.std.proofs.Common.{◌≡◌, ℕ, List, [], ◌∷◌, ◌++◌, Option, Some, None, Result, Ok, Err, refl, sym, ◌∙◌, ap, subst}
-use Rattle.cer_base.specs.declared.OrMemory.{OrMemory}
-use Rattle.cer_base.specs.declared.OrMemory.TheVariants.{Fault, Memory}
+use Rattle.std.proofs.Common.{◌≡◌, ℕ, List, [], ◌∷◌, ◌++◌, Option, Some, None, Ok, Err, sym, subst}
+use Rattle.cer_base.specs.declared.OrMemory.TheVariants.{Fault}
 use Rattle.stream_schema.specs.Types.{Declared}
 use Rattle.stream_schema.specs.declared.Event.{Event}
 use Rattle.cel_terms.specs.declared.Query.{Query}
 use Rattle.event_reader.specs.declared.EventFault.{EventFault}
 use Rattle.event_reader.specs.declared.LineFault.{LineFault}
 use Rattle.event_reader.specs.declared.LineFault.TheVariants as line
-use Rattle.event_reader.specs.declared.reader.Next.{Next}
-use Rattle.event_reader.specs.declared.reader.Next.TheVariants as next
 use Rattle.event_reader.specs.Events.{event_of_line}
 use Rattle.event_reader.specs.Reading.{LineReader, HasGiven, Follows}
 use Rattle.query_engine.specs.Clocks.{NoneFallsBack}
 use Rattle.query_engine.specs.Engine.{State, StandsFor}
-use Rattle.event_run.specs.declared.Taken.{Taken}
 use Rattle.event_run.specs.Runs.{RunsTo}
 use Rattle.event_run.specs.Runs as stop
 use Rattle.event_run.specs.Taking.{HasTaken, AfterCall, BeginsRun, StopsHere, run_fault}

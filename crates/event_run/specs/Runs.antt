@@ -8,7 +8,7 @@ use Rattle.event_reader.specs.declared.EventFault.TheVariants as event
 use Rattle.event_reader.specs.declared.LineFault.{LineFault}
 use Rattle.event_reader.specs.declared.LineFault.TheVariants as line
 use Rattle.event_reader.specs.Events.{event_of_line}
-use Rattle.event_reader.specs.Lines.{FileLines, file_lines}
+use Rattle.event_reader.specs.Lines.{file_lines}
 use Rattle.query_engine.specs.Clocks.{NoneFallsBack, IsFirstToFall}
 
 -- the end of the file; a fault at the line of this number, from 1; or that so many bytes were taken, which are too many

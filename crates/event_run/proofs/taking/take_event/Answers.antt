@@ -1,5 +1,4 @@
-use Rattle.std.proofs.Common.{◌≡◌, ℕ, List, None, Some, refl, subst, sym, ◌∙◌, arith, rules}
-use Rattle.event_run.specs.Taking.{HasTaken, AfterCall}
+use Rattle.std.proofs.Common.{None, refl, ◌∙◌, arith}
 use Rattle.event_run.proofs.Given.{at_end}
 use Rattle.event_run.proofs.Turns.{begins_before, no_line, taken_empty, taken_event, stopped_line}
 use Rattle.event_run.proofs.taking.take_event.Goals as goal

@@ -1,9 +1,20 @@
--- Lines that are gathered before they are written. Private clauses alone cite this file.
-use Rattle.std.specs.Prelude.{◌≡◌, ℕ, List, [], ◌++◌, Option, Result, Ok, Err}
+-- Lines that are gathered before they are written, and how a run stands meanwhile. Private clauses alone cite this file.
+use Rattle.std.specs.Prelude.{◌≡◌, ◌≢◌, ℕ, ◌⊎◌, List, [], ◌++◌, Option, Some, Result, Ok, Err}
 use Rattle.cer_base.specs.declared.OrMemory.{OrMemory}
 use Rattle.cer_base.specs.declared.OrMemory.TheVariants.{Fault, Memory}
+use Rattle.cer_outside.specs.Causes.{Rose}
 use Rattle.cer_outside.specs.Bytes.{TookAll, TookPart}
+use Rattle.stream_schema.specs.declared.Event.{Event}
 use Rattle.answer_text.specs.declared.Order.{Order}
+use Rattle.answer_text.specs.Output.{IsOutput}
+use Rattle.event_reader.specs.Reading.{LineReader}
+use Rattle.query_engine.specs.Engine.{State, StandsFor}
+use Rattle.event_run.specs.declared.RunFault.{RunFault}
+use Rattle.event_run.specs.declared.RunFault.TheVariants as run
+use Rattle.event_run.specs.Taking.{HasTaken}
+use Rattle.stream_answers.specs.declared.StreamFault.{StreamFault}
+use Rattle.stream_answers.specs.declared.StreamFault.TheVariants as fault
+use Rattle.stream_answers.specs.Streams.{Asked}
 
 -- what is gathered, and how the lines of one position are ordered
 pub record Gathered : Type 0 where
@@ -21,3 +32,24 @@ abbrev pub Passed : {T F : Type 0} → Option (List ℕ) → Option (List ℕ) �
 Passed before after held came now (Ok done) = PassesOn before after held came now []
 Passed before after held came now (Err (Fault f)) = TookPart before after (held ++ came)
 Passed before after held came now (Err Memory) = (rest : List ℕ) × PassesOn before after held came now rest
+
+-- The engine stands for events, of which the first have their answers written or held; `lines` are those of the source, where it tells them.
+pub record Running (a : Asked) (source : Option (List ℕ)) (reader : LineReader) (left before after : Option (List ℕ)) (held : List ℕ) (engine : State) : Type 0 where
+  pub events : List Event
+  pub stands : StandsFor engine events
+  pub written : List ℕ
+  pub took : TookAll before after written
+  pub output : IsOutput a.order a.schema a.queries events (written ++ held)
+  pub taken : (lines : List ℕ) → source ≡ Some lines → HasTaken a.schema a.queries reader lines left events
+
+-- What was held was written, and the answer is the one that was to come; or a write failed, and that is the answer.
+pub record Finished {T : Type 0} (before after : Option (List ℕ)) (old new : ℕ) (held : List ℕ) (end result : Result T (OrMemory StreamFault)) : Type 0 where
+  pub way : ((result ≡ end) × TookAll before after held × (new ≡ old))
+      ⊎ ((result ≡ Err (Fault fault.WriteFault)) × TookPart before after held × Rose old new)
+
+-- why no further event was taken
+abbrev pub stream_fault : OrMemory RunFault → OrMemory StreamFault
+stream_fault Memory = Memory
+stream_fault (Fault run.ReadFault) = Fault fault.ReadFault
+stream_fault (Fault (run.Event line refusal)) = Fault (fault.Event line refusal)
+stream_fault (Fault (run.InputTooLong taken)) = Fault (fault.InputTooLong taken)

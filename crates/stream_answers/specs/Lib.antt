@@ -1,2 +1,2 @@
-pub mod Gathering
 pub mod Streams
+pub mod Gathering

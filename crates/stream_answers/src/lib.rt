@@ -1,13 +1,28 @@
-// A library with one function.
+//! The answers over the events of a source, written to a sink.
+//!
+//! Promised: `write_answers` gives an engine the events of a file one after the other and writes,
+//! after each, the answers of all queries there, as `specs/Streams` says: all of them up to the
+//! end or to the first fault, and where the sink fails or memory runs out a first part of them.
+//! In sorted order lines are gathered until they fill a piece; in walk order each line is written
+//! before the next answer is asked for.
+//! It stands on `event_run` for the events and on `answer_blocks` for the answers.
 #![tactic(auto)]
 
-ghost use Rattle.std.specs.Prelude.{◌≡◌};
-ghost use Rattle.stream_answers.specs.Echo.{echo_of};
+mod output;
+mod stream;
 
-// The `ensures` clause is the contract: what `echo` returns is `echo_of` of its argument, a definition
-// in `specs/Echo.antt`, which a caller's clause can cite too.
-pub fn echo(x: usize) -> usize
-    ensures { result ≡ echo_of x }
-{
-    x
+use event_reader::EventFault;
+pub use stream::write_answers;
+
+/// Why the answers ended before the end of the source.
+#[derive(Drop, Debug, Clone, Copy, PartialEq, Eq)]
+pub enum StreamFault {
+    /// The line of this number, from 1, is no event, or with its event the clock of a query falls.
+    Event { line: u64, fault: EventFault },
+    /// So many bytes were taken, which are too many.
+    InputTooLong { taken: u64 },
+    /// The source failed, and its count of faults rose.
+    ReadFault,
+    /// The sink failed, and its count of faults rose.
+    WriteFault,
 }

@@ -1,7 +1,8 @@
 //! The lines of a run, gathered and written.
 
-ghost use Rattle.std.specs.Prelude.{◌≡◌, ◌-◌, ◌<◌, ℕ, List, [], length};
+ghost use Rattle.std.specs.Prelude.{◌≡◌, ◌-◌, ◌<◌, ℕ, List, [], length, OnOk, OnErr};
 ghost use Rattle.stream_schema.specs.declared.Event.{Event};
+ghost use Rattle.cer_outside.specs.Bytes.{TookAll, TookPart};
 ghost use Rattle.cer_outside.specs.Causes.{HasCause, HasCauseOrMemory};
 ghost use Rattle.query_engine.specs.Engine.{StandsFor, count_of};
 ghost use Rattle.answer_text.specs.Output.{AreBlocks};
@@ -9,8 +10,8 @@ ghost use Rattle.stream_answers.specs.Gathering.{Passed};
 
 use answer_blocks::{push_blocks, write_blocks};
 use answer_text::Order;
-use cer_base::OrMemory;
 use cer_base::steps::Steps;
+use cer_base::{Memory, OrMemory};
 use cer_outside::writing::put_all;
 use cer_outside::{Sink, WriteFault};
 use query_engine::Engine;
@@ -31,11 +32,16 @@ pub struct Output {
 }
 
 impl Model for Output {
+    ghost use Rattle.std.specs.Prelude.{◌≡◌, []};
+    ghost use Rattle.answer_text.specs.declared.Order.{Order};
+    ghost use Rattle.answer_text.specs.declared.Order.TheVariants.{Walk};
     ghost use Rattle.stream_answers.specs.Gathering.{Gathered};
 
     ghost Value = { Gathered };
 
     ghost view = { λ o. record { order = o.order; held = o.held.items } };
+
+    ghost invariant = { λ o. o.order ≡ Walk → o.held.items ≡ [] };
 }
 
 impl Output {
@@ -68,19 +74,30 @@ impl Output {
         ensures cause { HasCauseOrMemory (K.faults out.old) (K.faults out.new) result }
     {
         match self.order {
-            Order::Walk => write_blocks(self.alloc, engine, out, &mut self.line, steps),
+            Order::Walk => write_blocks(engine, out, &mut self.line, steps),
             Order::Sorted => {
-                push_blocks(self.alloc, engine, &mut self.held, steps)?;
-                if self.held.len() >= PIECE {
-                    self.flush(out)?;
+                match push_blocks(self.alloc, engine, &mut self.held, steps) {
+                    Ok(()) => {}
+                    Err(Memory) => return Err(OrMemory::Memory),
                 }
-                Ok(())
+                if self.held.len() < PIECE {
+                    return Ok(());
+                }
+                match self.flush(out) {
+                    Ok(()) => Ok(()),
+                    Err(fault) => Err(OrMemory::Fault(fault)),
+                }
             }
         }
     }
 
     /// Writes what is held.
     pub fn flush<K: Sink>(&mut self, out: &mut K) -> Result<(), WriteFault>
+        ensures all { OnOk result (TookAll (K.taken out.old) (K.taken out.new) self.old.held) }
+        ensures part { OnErr result (TookPart (K.taken out.old) (K.taken out.new) self.old.held) }
+        ensures cause { HasCause (K.faults out.old) (K.faults out.new) result }
+        ensures empty { OnOk result (self.new.held ≡ []) }
+        ensures order { self.new.order ≡ self.old.order }
     {
         put_all(out, self.held.as_slice())?;
         self.held.clear();

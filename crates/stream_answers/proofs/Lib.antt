@@ -1,0 +1,11 @@
+-- In reading order.
+-- bytes that a sink took in turn
+mod Portions
+-- the blocks of one position, put behind what is held
+mod Putting
+-- a part of the answers over a whole file
+mod Wholes
+-- a run from event to event
+mod Running
+-- how a run ends
+mod Ends

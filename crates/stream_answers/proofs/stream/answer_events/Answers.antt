@@ -1,0 +1,74 @@
+use Rattle.std.proofs.Common.{refl, sym, ◌∙◌, Ok, Err}
+use Rattle.event_run.specs.declared.Taken.TheVariants as taken
+use Rattle.stream_answers.proofs.Running.{starts, as_asked, owes, came_as, runs_on}
+use Rattle.stream_answers.proofs.Ends.{ends_at_end, ends_by, ends_for_memory, ends_for_fault, read_cause}
+use Rattle.stream_answers.proofs.stream.answer_events.Goals as goal
+
+pub loop-output-init : goal.loop-output-init
+loop-output-init g c = record {
+  running = starts _ _ _ _ _ _ c.requires.fresh c.requires.given c.requires.empty;
+  open_is = c.requires.open;
+  counted = c.requires.counted;
+  same = (refl, refl);
+  budget = refl;
+  order = refl;
+  read_faults = refl;
+  write_faults = refl;
+}
+
+pub returns-in-Ok-End-clause-wrote : goal.returns-in-Ok-End-clause-wrote
+returns-in-Ok-End-clause-wrote g c =
+    let inv = c.loop-output.invariant in
+    let took = as_asked _ _ _ _ c.loop-output.lines c.take_event.new.lines c.loop-output.engine c.take_event.new.engine (g.Q.Source.left c.loop-output.source) (g.Q.Source.left c.take_event.new.source) (Ok taken.End) inv.same.0 inv.same.1 (rw c.in-Ok-End.field-0-is at c.in-Ok-End.ensures.took) in
+    ends_at_end _ _ c.loop-output.lines c.take_event.new.lines _ _ _ _ _ _ _ _ c.loop-output.engine c.take_event.new.engine _ c.finish.result
+    (c.take_event.ensures.budget ∙ inv.budget) inv.running (took inv.running.events inv.running.stands) c.finish.ensures
+
+pub returns-in-Err-clause-wrote : goal.returns-in-Err-clause-wrote
+returns-in-Err-clause-wrote g c =
+    let inv = c.loop-output.invariant in
+    let took = as_asked _ _ _ _ c.loop-output.lines c.take_event.new.lines c.loop-output.engine c.take_event.new.engine (g.Q.Source.left c.loop-output.source) (g.Q.Source.left c.take_event.new.source) (Err c.in-Err.stop) inv.same.0 inv.same.1 c.in-Err.ensures.took in
+    ends_by _ _ c.loop-output.lines c.take_event.new.lines _ _ _ _ _ _ _ _ c.loop-output.engine c.take_event.new.engine c.in-Err.stop c.finish-in-Err.result
+    (c.take_event.ensures.budget ∙ inv.budget) inv.budget inv.running (took inv.running.events inv.running.stands) (rw c.stream_fault.ensures at c.finish-in-Err.ensures)
+
+pub returns-in-Err-clause-read_cause : goal.returns-in-Err-clause-read_cause
+returns-in-Err-clause-read_cause g c =
+    rw (sym c.loop-output.invariant.read_faults) (read_cause _ _ _ _ _ _ _ c.in-Err.stop c.finish-in-Err.result c.in-Err.ensures.cause (rw c.stream_fault.ensures at c.finish-in-Err.ensures))
+
+pub loop-output-preserved : goal.loop-output-preserved
+loop-output-preserved g c =
+    let inv = c.loop-output.invariant in
+    let took = as_asked _ _ _ _ c.loop-output.lines c.take_event.new.lines c.loop-output.engine c.take_event.new.engine (g.Q.Source.left c.loop-output.source) (g.Q.Source.left c.take_event.new.source) (Ok taken.Event) inv.same.0 inv.same.1 (rw c.in-Ok-Event.field-0-is at c.in-Ok-Event.ensures.took) in
+    let owing = owes _ _ c.loop-output.lines c.take_event.new.lines (g.Q.Source.left c.loop-output.source) (g.Q.Source.left c.take_event.new.source) (g.K.Sink.taken c.args.out.now) (g.K.Sink.taken c.loop-output.out) c.loop-output.output.held c.loop-output.engine c.take_event.new.engine inv.running (took inv.running.events inv.running.stands) in
+    let same = c.take_event.ensures.same in
+    let put = c.in-Ok.ensures.passed _ owing.stands in
+    record {
+      running = runs_on _ _ c.take_event.new.lines (g.Q.Source.left c.take_event.new.source) (g.K.Sink.taken c.args.out.now) (g.K.Sink.taken c.loop-output.out) (g.K.Sink.taken c.put.new.out) c.loop-output.output.held put.0 c.put.new.self.held c.take_event.new.engine owing
+          (came_as _ _ _ _ _ put.0 inv.order (same.0 ∙ inv.same.0) (same.1 ∙ inv.same.1) put.1) put.2;
+      open_is = (rw c.in-Ok-Event.field-0-is at c.in-Ok-Event.ensures.room).1;
+      counted = c.take_event.ensures.counted;
+      same = (same.0 ∙ inv.same.0, same.1 ∙ inv.same.1);
+      budget = c.take_event.ensures.budget ∙ inv.budget;
+      order = c.put.ensures.order ∙ inv.order;
+      read_faults = c.in-Ok-Event.ensures.cause ∙ inv.read_faults;
+      write_faults = c.in-Ok.ensures.cause ∙ inv.write_faults;
+    }
+
+pub returns-in-Err-Memory-clause-wrote : goal.returns-in-Err-Memory-clause-wrote
+returns-in-Err-Memory-clause-wrote g c =
+    let inv = c.loop-output.invariant in
+    let took = as_asked _ _ _ _ c.loop-output.lines c.take_event.new.lines c.loop-output.engine c.take_event.new.engine (g.Q.Source.left c.loop-output.source) (g.Q.Source.left c.take_event.new.source) (Ok taken.Event) inv.same.0 inv.same.1 (rw c.in-Ok-Event.field-0-is at c.in-Ok-Event.ensures.took) in
+    let owing = owes _ _ c.loop-output.lines c.take_event.new.lines (g.Q.Source.left c.loop-output.source) (g.Q.Source.left c.take_event.new.source) (g.K.Sink.taken c.args.out.now) (g.K.Sink.taken c.loop-output.out) c.loop-output.output.held c.loop-output.engine c.take_event.new.engine inv.running (took inv.running.events inv.running.stands) in
+    let same = c.take_event.ensures.same in
+    let put = (rw c.in-Err-Memory.field-0-is at c.in-Err-Memory.ensures.passed) _ owing.stands in
+    ends_for_memory _ _ c.take_event.new.lines (g.Q.Source.left c.take_event.new.source) (g.K.Sink.taken c.args.out.now) (g.K.Sink.taken c.loop-output.out) (g.K.Sink.taken c.put.new.out) (g.K.Sink.taken c.finish-in-Err-Memory.new.out) c.loop-output.output.held put.0 c.put.new.self.held _ _ c.take_event.new.engine c.finish-in-Err-Memory.result (c.take_event.ensures.budget ∙ inv.budget) owing
+    (came_as _ _ _ _ _ put.0 inv.order (same.0 ∙ inv.same.0) (same.1 ∙ inv.same.1) put.1) put.2 c.finish-in-Err-Memory.ensures
+
+pub returns-in-Err-Fault-clause-wrote : goal.returns-in-Err-Fault-clause-wrote
+returns-in-Err-Fault-clause-wrote g c =
+    let inv = c.loop-output.invariant in
+    let took = as_asked _ _ _ _ c.loop-output.lines c.take_event.new.lines c.loop-output.engine c.take_event.new.engine (g.Q.Source.left c.loop-output.source) (g.Q.Source.left c.take_event.new.source) (Ok taken.Event) inv.same.0 inv.same.1 (rw c.in-Ok-Event.field-0-is at c.in-Ok-Event.ensures.took) in
+    let owing = owes _ _ c.loop-output.lines c.take_event.new.lines (g.Q.Source.left c.loop-output.source) (g.Q.Source.left c.take_event.new.source) (g.K.Sink.taken c.args.out.now) (g.K.Sink.taken c.loop-output.out) c.loop-output.output.held c.loop-output.engine c.take_event.new.engine inv.running (took inv.running.events inv.running.stands) in
+    let same = c.take_event.ensures.same in
+    let put = (rw c.in-Err-Fault.field-0-is at c.in-Err-Fault.ensures.passed) _ owing.stands in
+    ends_for_fault _ _ c.take_event.new.lines (g.Q.Source.left c.take_event.new.source) (g.K.Sink.taken c.args.out.now) (g.K.Sink.taken c.loop-output.out) (g.K.Sink.taken c.put.new.out) c.loop-output.output.held put.0 c.take_event.new.engine (c.take_event.ensures.budget ∙ inv.budget) owing
+    (came_as _ _ _ _ _ put.0 inv.order (same.0 ∙ inv.same.0) (same.1 ∙ inv.same.1) put.1) put.2

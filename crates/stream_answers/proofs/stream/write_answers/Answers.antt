@@ -1,0 +1,5 @@
+use Rattle.stream_answers.proofs.Wholes.{wrote_none}
+use Rattle.stream_answers.proofs.stream.write_answers.Goals as goal
+
+pub returns-in-Err-clause-wrote : goal.returns-in-Err-clause-wrote
+returns-in-Err-clause-wrote g c = wrote_none _ _ _

@@ -22,7 +22,10 @@ fn a_line_goes_behind_the_text(rt: HostRuntime) -> Result<(), Fail> {
     let mut text = Vec::new(rt.alloc());
     push_line(&mut text, 1, 0, 5, &[5, 3, 0])?;
     push_line(&mut text, 2, 5, 5, &[])?;
-    assert_eq!(rt; text.as_slice(), b"1 [0,5] {0,3,5}\n2 [5,5] {}\n".as_slice());
+    assert_eq!(rt;
+        text.as_slice(),
+        b"1 [0,5] {0,3,5}\n2 [5,5] {}\n".as_slice()
+    );
     Ok(())
 }
 

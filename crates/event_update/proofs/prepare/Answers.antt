@@ -28,7 +28,7 @@ returns-in-Err-clause-det g c =
     subst (λ (u : Table). Discovers t ns c.args.bits.now u) (sym same) (discovers_none t ns c.args.bits.now)
 
 pub returns-in-Err-clause-refused_steps : goal.returns-in-Err-clause-refused_steps
-returns-in-Err-clause-refused_steps g c = record { found = c.find_and_stage.new.det; discovers = c.find_and_stage.ensures.det; bounded = c.find_and_stage.ensures.steps }
+returns-in-Err-clause-refused_steps g c = record { found = c.find_and_stage.new.det; discovers = c.find_and_stage.ensures.det; sound = c.mark-reached-in-Err.ensures.sound; distinct = c.found-found-in-Err.ensures.once; bounded = c.find_and_stage.ensures.steps }
 
 pub returns-in-Ok-clause-refused_steps : goal.returns-in-Ok-clause-refused_steps
-returns-in-Ok-clause-refused_steps g c = record { found = c.find_and_stage.new.det; discovers = c.find_and_stage.ensures.det; bounded = c.find_and_stage.ensures.steps }
+returns-in-Ok-clause-refused_steps g c = record { found = c.find_and_stage.new.det; discovers = c.find_and_stage.ensures.det; sound = c.mark-reached.ensures.sound; distinct = c.found-found.ensures.once; bounded = c.find_and_stage.ensures.steps }

@@ -1,0 +1,97 @@
+-- One event over the parts of several queries, in two phases.
+use Rattle.std.specs.Prelude.{◌≡◌, ℕ, ◌+◌, ◌≤◌, ℤ, List, [], ◌∷◌, ◌++◌, length, All, Option, Some, None, IsSomeAnd}
+use Rattle.std.specs.List.{AllZip}
+use Rattle.stream_schema.specs.Types.{Declared}
+use Rattle.stream_schema.specs.Events.{IsOfSchema}
+use Rattle.stream_schema.specs.declared.Event.{Event}
+use Rattle.cel_terms.specs.declared.Query.{Query}
+use Rattle.query_standing.specs.Bounds.{update_bound, MeetAtMost}
+use Rattle.query_standing.specs.Clocks.{Reads, FallsBack}
+use Rattle.query_standing.specs.Kept.{Part, Extends, PartStands}
+
+-- What a part is seen as: its schema and query, what is kept, and what a commit makes of that, where it is prepared.
+pub record Phase : Type 0 where
+  pub schema : Declared
+  pub query : Query
+  pub kept : Part
+  pub ready : Option Part
+
+-- how many steps, and how many nodes, one event may take with the states of the part
+abbrev pub part_bound : Part → ℕ
+part_bound part = update_bound (length part.table.states)
+
+-- States and nodes are added, and no more nodes than the states allow; none where the query does not read the event.
+pub record Grows (schema : Declared) (q : Query) (event : Event) (old new : Part) : Type 0 where
+  pub extends : Extends old new
+  pub growth : length new.nodes ≤ length old.nodes + part_bound new
+  pub unread : (Reads schema q event → ⊥) → length new.nodes ≡ length old.nodes
+
+-- What stands for the events becomes what stands for one more, where time does not fall.
+pub record IsStep (schema : Declared) (q : Query) (event : Event) (position : ℕ) (old new : Part) : Type 0 where
+  pub stands : (events : List Event) → length events ≡ position → ((before now : ℤ) → FallsBack schema q events event before now → ⊥) → PartStands schema q events old → PartStands schema q (events ++ event ∷ []) new
+  pub grows : Grows schema q event old new
+
+-- it is prepared for the event at the position
+abbrev pub IsPrepared : Event → ℕ → Phase → Type 0
+IsPrepared event position p = IsSomeAnd p.ready (IsStep p.schema p.query event position p.kept)
+
+abbrev pub IsIdle : Phase → Type 0
+IsIdle p = p.ready ≡ None
+
+-- all but what a commit would make
+abbrev pub back : Phase → Phase
+back p = record p { ready = None }
+
+-- after a commit
+pub record IsCommitted (old new : Phase) : Type 0 where
+  pub schema : new.schema ≡ old.schema
+  pub query : new.query ≡ old.query
+  pub kept : old.ready ≡ Some new.kept
+  pub idle : new.ready ≡ None
+
+-- What is kept of the part's query is as it is after these events.
+abbrev pub StandsAt : List Event → Phase → Type 0
+StandsAt events p = PartStands p.schema p.query events p.kept
+
+abbrev pub InTime : List Event → Event → Phase → Type 0
+InTime events event p = (before now : ℤ) → FallsBack p.schema p.query events event before now → ⊥
+
+-- What is asked before an event: for some events the part is as it is, the next one is of its schema and at their end, and its clock does not fall.
+pub record CanPrepare (event : Event) (position : ℕ) (p : Phase) : Type 0 where
+  pub events : List Event
+  pub count : length events ≡ position
+  pub of_schema : IsOfSchema p.schema event
+  pub in_time : InTime events event p
+  pub stands : StandsAt events p
+
+-- The part of the same query has grown by the event.
+pub record HasGrown (event : Event) (old new : Phase) : Type 0 where
+  pub schema : new.schema ≡ old.schema
+  pub query : new.query ≡ old.query
+  pub grows : Grows old.schema old.query event old.kept new.kept
+
+-- the steps that one event may take by what is ready
+abbrev pub bound_of : Option Part → ℕ
+bound_of None = 0
+bound_of (Some part) = part_bound part
+
+abbrev pub ready_bound : Phase → ℕ
+ready_bound p = bound_of p.ready
+
+-- and by what is kept
+abbrev pub kept_bound : Phase → ℕ
+kept_bound p = part_bound p.kept
+
+-- the runs over the events and this one lead to at most so many states of the query
+abbrev pub MeetsAtMost : List Event → Event → Phase → ℕ → Type 0
+MeetsAtMost events event p most = MeetAtMost p.schema p.query (events ++ event ∷ []) most
+
+-- However many states the runs lead to, the steps from before to after are bounded by them.
+abbrev pub IsWithin : Event → ℕ → Phase → ℕ → ℕ → Type 0
+IsWithin event position p before after = (events : List Event) (most : ℕ) → length events ≡ position → InTime events event p → StandsAt events p → MeetsAtMost events event p most → after ≤ before + update_bound most
+
+-- The parts are as they are after the events, time does not fall, and the runs lead to at most so many states of each.
+pub record AreBounded (events : List Event) (event : Event) (parts : List Phase) (most : List ℕ) : Type 0 where
+  pub in_time : All (InTime events event) parts
+  pub stands : All (StandsAt events) parts
+  pub each : AllZip (MeetsAtMost events event) parts most

@@ -1,0 +1,111 @@
+-- What the parts stand for, and what the engine does.
+use Rattle.std.proofs.Common.{◌≡◌, ℕ, ◌+◌, ◌-◌, ◌<◌, ◌≤◌, ℤ, List, [], ◌∷◌, ◌++◌, map, length, refl, sym, ap, subst, ◌∙◌, All, Option, Some, None, slice_get, slice_index_or, arith}
+use Rattle.std.specs.Prelude.{option_map}
+use Rattle.std.specs.Option.{option_map_or}
+use Rattle.std.proofs.lemmas.Option.{slice_get_within, slice_get-get_or, slice_get-map}
+use Rattle.std.proofs.lemmas.List.Elements.{All-nil, All-cons, All-head, All-tail}
+use Rattle.stream_schema.specs.Types.{Declared}
+use Rattle.stream_schema.specs.Events.{IsOfSchema}
+use Rattle.stream_schema.specs.declared.Event.{Event}
+use Rattle.cel_terms.specs.declared.Query.{Query}
+use Rattle.query_standing.specs.Clocks.{FallsBack, NoneFallsBack, IsFirstToFall}
+use Rattle.query_standing.specs.Kept.{Part, PartStands, KeptStands}
+use Rattle.all_or_none.specs.Phases.{Phase, IsIdle, StandsAt, InTime, CanPrepare}
+use Rattle.query_engine.specs.declared.falls.FallOf.{FallOf}
+use Rattle.query_engine.specs.Engine.{State, StandsFor, kept_of}
+use Rattle.query_engine.specs.Running.{HaveRun, IsRunning, IsFirstPart}
+
+-- what an engine is, by its fields
+abbrev pub state : Declared → ℕ → List Phase → List ℕ → State
+state schema count parts peaks = record { schema = schema; queries = map (λ (p : Phase). p.query) parts; count = count; parts = map (λ (p : Phase). p.kept) parts; peaks = peaks }
+
+-- what stands at a place of a mapped list
+pub mapped : {A B : Type 0} (f : A → B) (xs : List A) (k : ℕ) (y : B) → slice_get (map f xs) k ≡ Some y → (x : A) × (slice_get xs k ≡ Some x) × (f x ≡ y)
+mapped {A} {B} f xs k y e = go (slice_get xs k) refl (sym (slice_get-map f xs k) ∙ e)
+  where
+    go : (o : Option A) → slice_get xs k ≡ o → option_map f o ≡ Some y → (x : A) × (slice_get xs k ≡ Some x) × (f x ≡ y)
+    go None g h = absurd cc
+    go (Some x) g h = (x, g, cc)
+
+pub map_at : {A B : Type 0} (f : A → B) (xs : List A) (k : ℕ) (x : A) → slice_get xs k ≡ Some x → slice_get (map f xs) k ≡ Some (f x)
+map_at f xs k x e = slice_get-map f xs k ∙ ap (option_map f) e
+
+pub all_at : {A : Type 0} (P : A → Type 0) (xs : List A) (k : ℕ) (x : A) → All P xs → slice_get xs k ≡ Some x → P x
+all_at P xs k x all e =
+    let inside = slice_get_within xs k x e in
+    let is : slice_index_or xs k x ≡ x = (let both = sym (slice_get-get_or xs k x inside) ∙ e in cc) in
+    subst P is (all k x inside)
+
+pub all_by : {A : Type 0} (P : A → Type 0) (xs : List A) → ((k : ℕ) (x : A) → slice_get xs k ≡ Some x → P x) → All P xs
+all_by P xs f k d inside = f k (slice_index_or xs k d) (slice_get-get_or xs k d inside)
+
+pub length_map : {A B : Type 0} (f : A → B) (xs : List A) → length (map f xs) ≡ length xs
+length_map f [] = refl
+length_map f (x ∷ xs) = let rest = length_map f xs in omega arith
+
+-- the engine stands for the events where its parts do
+pub from_parts : (schema : Declared) (count : ℕ) (parts : List Phase) (peaks : List ℕ) (events : List Event) → All (λ (p : Phase). p.schema ≡ schema) parts → length events ≡ count → All (StandsAt events) parts → KeptStands (kept_of (state schema count parts peaks)) events
+from_parts schema count parts peaks events schemas same all = record {
+  count = sym same;
+  parts = length_map (λ (p : Phase). p.kept) parts ∙ sym (length_map (λ (p : Phase). p.query) parts);
+  each = λ k q part q_at part_at. (
+      let one = mapped (λ (p : Phase). p.query) parts k q q_at in
+      let two = mapped (λ (p : Phase). p.kept) parts k part part_at in
+      let p : one.0 ≡ two.0 = (let both = sym one.1 ∙ two.1 in cc) in
+      let stands = all_at (StandsAt events) parts k one.0 all one.1 in
+      let schema_is = all_at (λ (p : Phase). p.schema ≡ schema) parts k one.0 schemas one.1 in
+      let kept_is : one.0.kept ≡ part = ap (λ (x : Phase). x.kept) p ∙ two.2 in
+      subst (λ x. PartStands schema q events x) kept_is (subst (λ z. PartStands schema z events one.0.kept) one.2 (subst (λ s. PartStands s one.0.query events one.0.kept) schema_is stands))
+      );
+}
+
+-- and back
+pub to_parts : (schema : Declared) (count : ℕ) (parts : List Phase) (peaks : List ℕ) (events : List Event) → All (λ (p : Phase). p.schema ≡ schema) parts → KeptStands (kept_of (state schema count parts peaks)) events → All (StandsAt events) parts
+to_parts schema count parts peaks events schemas s = all_by (StandsAt events) parts (λ k p at. (
+    let schema_is = all_at (λ (p : Phase). p.schema ≡ schema) parts k p schemas at in
+    subst (λ z. PartStands z p.query events p.kept) (sym schema_is) (s.each k p.query p.kept (map_at (λ (p : Phase). p.query) parts k p at) (map_at (λ (p : Phase). p.kept) parts k p at))
+    ))
+
+-- the event is of each part's schema
+pub of_schemas : (schema : Declared) (parts : List Phase) (event : Event) → All (λ (p : Phase). p.schema ≡ schema) parts → IsOfSchema schema event → All (λ (p : Phase). IsOfSchema p.schema event) parts
+of_schemas schema parts event schemas of = all_by (λ (p : Phase). IsOfSchema p.schema event) parts (λ k p at. subst (λ s. IsOfSchema s event) (sym (all_at (λ (p : Phase). p.schema ≡ schema) parts k p schemas at)) of)
+
+-- no clock falls of a part where none does of a query
+pub parts_in_time : (schema : Declared) (count : ℕ) (parts : List Phase) (peaks : List ℕ) (events : List Event) (event : Event) → All (λ (p : Phase). p.schema ≡ schema) parts → NoneFallsBack schema (state schema count parts peaks).queries events event → All (InTime events event) parts
+parts_in_time schema count parts peaks events event schemas none = all_by (InTime events event) parts (λ k p at before now f. (
+    let schema_is = all_at (λ (p : Phase). p.schema ≡ schema) parts k p schemas at in
+    none k p.query before now (map_at (λ (p : Phase). p.query) parts k p at) (subst (λ s. FallsBack s p.query events event before now) schema_is f)
+    ))
+
+pub queries_in_time : (schema : Declared) (count : ℕ) (parts : List Phase) (peaks : List ℕ) (events : List Event) (event : Event) → All (λ (p : Phase). p.schema ≡ schema) parts → All (InTime events event) parts → NoneFallsBack schema (state schema count parts peaks).queries events event
+queries_in_time schema count parts peaks events event schemas all k q before now q_at f =
+    let one = mapped (λ (p : Phase). p.query) parts k q q_at in
+    let schema_is = all_at (λ (p : Phase). p.schema ≡ schema) parts k one.0 schemas one.1 in
+    all_at (InTime events event) parts k one.0 all one.1 before now (subst (λ s. FallsBack s one.0.query events event before now) (sym schema_is) (subst (λ z. FallsBack schema z events event before now) (sym one.2) f))
+
+-- the first part that falls is the first query that does
+pub first_query : (schema : Declared) (count : ℕ) (parts : List Phase) (peaks : List ℕ) (events : List Event) (event : Event) (f : FallOf) → All (λ (p : Phase). p.schema ≡ schema) parts → IsFirstPart events event parts f → IsFirstToFall schema (state schema count parts peaks).queries events event f.query f.before f.now
+first_query schema count parts peaks events event f schemas is = record {
+  falling = is.part.query;
+  numbered = is.numbered;
+  at = map_at (λ (p : Phase). p.query) parts (f.query - 1) is.part is.at;
+  falls = subst (λ s. FallsBack s is.part.query events event f.before f.now) (all_at (λ (p : Phase). p.schema ≡ schema) parts (f.query - 1) is.part schemas is.at) is.falls;
+  first = λ k q before now less q_at falls. (
+      let one = mapped (λ (p : Phase). p.query) parts k q q_at in
+      let schema_is = all_at (λ (p : Phase). p.schema ≡ schema) parts k one.0 schemas one.1 in
+      is.first k one.0 less one.1 before now (subst (λ s. FallsBack s one.0.query events event before now) (sym schema_is) (subst (λ z. FallsBack schema z events event before now) (sym one.2) falls))
+      );
+}
+
+-- each part can take in the event
+pub can_all : (schema : Declared) (count : ℕ) (parts : List Phase) (peaks : List ℕ) (event : Event) (r : HaveRun count parts) → All (λ (p : Phase). p.schema ≡ schema) parts → IsOfSchema schema event → ((events : List Event) → KeptStands (kept_of (state schema count parts peaks)) events → NoneFallsBack schema (state schema count parts peaks).queries events event) → All (CanPrepare event count) parts
+can_all schema count parts peaks event r schemas of time =
+    let stands = from_parts schema count parts peaks r.events schemas r.length_is r.stands in
+    let inside = parts_in_time schema count parts peaks r.events event schemas (time r.events stands) in
+    all_by (CanPrepare event count) parts (λ k p at. record {
+      events = r.events;
+      count = r.length_is;
+      of_schema = all_at (λ (p : Phase). IsOfSchema p.schema event) parts k p (of_schemas schema parts event schemas of) at;
+      in_time = all_at (InTime r.events event) parts k p inside at;
+      stands = all_at (StandsAt r.events) parts k p r.stands at;
+    })

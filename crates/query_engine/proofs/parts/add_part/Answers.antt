@@ -1,0 +1,13 @@
+use Rattle.std.proofs.Common.{◌∷◌, [], sym, subst, All}
+use Rattle.std.proofs.lemmas.List.Elements.{All-append, All-cons, All-nil}
+use Rattle.all_or_none.specs.Phases.{StandsAt}
+use Rattle.query_standing.specs.Kept.{PartStands}
+use Rattle.query_engine.specs.Running.{IsFirst}
+use Rattle.query_engine.proofs.parts.add_part.Goals as goal
+
+pub returns-clause-first : goal.returns-clause-first
+returns-clause-first c =
+    let e = c.in_ok-part.ensures in
+    let p = c.in_ok-part.part in
+    let own : IsFirst c.args.schema.now p = record { schema_is = e.given.0; idle = e.idle; stands = e.stands } in
+    subst (All (IsFirst c.args.schema.now)) (sym c.in_ok-push.ensures.items) (All-append (IsFirst c.args.schema.now) c.args.parts.now.items (p ∷ []) c.requires.first (All-cons (IsFirst c.args.schema.now) p [] own (All-nil (IsFirst c.args.schema.now))))

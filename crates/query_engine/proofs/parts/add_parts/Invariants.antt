@@ -1,0 +1,13 @@
+use Rattle.std.proofs.Common.{◌≡◌, map, All}
+use Rattle.cel_terms.specs.Checked.{IsChecked}
+use Rattle.query_engine.specs.Running.{IsFirst}
+use Rattle.query_engine.proofs.parts.add_parts.Given as goal
+
+abbrev pub invariant-loop-query : goal.invariant-loop-query
+invariant-loop-query l = record {
+  next : (goal.iterator-loop-query).can_next l.query-iterator;
+  finite : (goal.iterator-loop-query).is_finite l.query-iterator;
+  queries : map (λ p. p.query) l.parts.items ≡ l.yielded;
+  first : All (IsFirst l.schema) l.parts.items;
+  checked : All (IsChecked l.schema) l.query-iterator.rest.items;
+}

@@ -1,0 +1,41 @@
+//! Whether the clock of some query would fall.
+
+ghost use Rattle.std.specs.Prelude.{◌≡◌, List, length, All, IfSome, IfNone};
+ghost use Rattle.stream_schema.specs.Events.{IsOfSchema};
+ghost use Rattle.stream_schema.specs.declared.Event.{Event as EventData};
+ghost use Rattle.all_or_none.specs.Phases.{IsIdle, StandsAt, InTime};
+ghost use Rattle.query_engine.specs.Running.{IsFirstPart};
+
+use cer_base::Pos;
+use query_part::Part;
+use stream_schema::Event;
+
+/// The number of the query, from 1, and how its clock would fall: the last clock, and that of the
+/// event.
+#[derive(Drop, Debug, Clone, Copy)]
+pub struct FallOf {
+    pub query: u64,
+    pub before: i128,
+    pub now: i128,
+}
+
+/// The first of the parts whose clock would fall with the event as the next one.
+pub fn first_fall(parts: &[Part], event: &Event, position: Pos) -> Option<FallOf>
+    requires of_schema { All (λ p. IsOfSchema p.schema event.now) parts.now }
+    requires idle { All IsIdle parts.now }
+    ensures falls { IfSome result (λ f. (events : List EventData) → length events ≡ position
+        → All (StandsAt events) parts.now → IsFirstPart events event.now parts.now f) }
+    ensures in_time { IfNone result ((events : List EventData) → length events ≡ position
+        → All (StandsAt events) parts.now → All (InTime events event.now) parts.now) }
+{
+    for k in 0..parts.len() {
+        if let Some(fall) = parts[k].test(event, position) {
+            return Some(FallOf {
+                query: k as u64 + 1,
+                before: fall.before,
+                now: fall.now,
+            });
+        }
+    }
+    None
+}

@@ -1,0 +1,59 @@
+//! The parts of an engine, one for each query.
+
+ghost use Rattle.std.specs.Prelude.{◌≡◌, [], ◌∷◌, ◌++◌, length, map, All, OnOk};
+ghost use Rattle.cel_terms.specs.Checked.{IsChecked};
+ghost use Rattle.all_or_none.specs.Phases.{IsIdle};
+ghost use Rattle.query_engine.specs.Running.{IsFirst, raised};
+
+use cel_terms::Query;
+use cer_base::Memory;
+use query_part::Part;
+use std::alloc::Global;
+use stream_schema::Schema;
+
+/// Puts the part of the query last, as it is before any event.
+fn add_part(
+    parts: &mut Vec<Part>,
+    alloc: Global,
+    schema: &Schema,
+    query: Query,
+) -> Result<(), Memory>
+    requires checked { IsChecked schema.now query }
+    requires first { All (IsFirst schema.now) parts.old.items }
+    ensures queries { OnOk result (map (λ p. p.query) parts.new.items
+        ≡ map (λ p. p.query) parts.old.items ++ query ∷ []) }
+    ensures first { OnOk result (All (IsFirst schema.now) parts.new.items) }
+{
+    let part = Part::new(alloc, schema, query)?;
+    parts.push(part)?;
+    Ok(())
+}
+
+/// Puts the parts of the queries last, as they are before any event.
+pub fn add_parts(
+    parts: &mut Vec<Part>,
+    alloc: Global,
+    schema: &Schema,
+    queries: Vec<Query>,
+) -> Result<(), Memory>
+    requires checked { All (IsChecked schema.now) queries.items }
+    requires empty { parts.old.items ≡ [] }
+    ensures queries { OnOk result (map (λ p. p.query) parts.new.items ≡ queries.items) }
+    ensures first { OnOk result (All (IsFirst schema.now) parts.new.items) }
+{
+    for query in queries {
+        add_part(parts, alloc, schema, query)?;
+    }
+    Ok(())
+}
+
+/// Raises each peak to how many nodes its part has.
+pub fn raise(peaks: &mut [u64], parts: &[Part])
+    requires count { length peaks.old ≡ length parts.now }
+    requires idle { All IsIdle parts.now }
+    ensures { peaks.new ≡ raised peaks.old parts.now }
+{
+    for k in 0..peaks.len() {
+        peaks[k] = peaks[k].max(parts[k].len());
+    }
+}

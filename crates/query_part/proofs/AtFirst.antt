@@ -1,0 +1,93 @@
+-- The tables of a query before any event.
+use Rattle.std.proofs.Common.{◌≡◌, ℕ, suc, ◌<◌, ◌+◌, ℤ, Bool, false, List, [], ◌∷◌, ◌++◌, length, refl, sym, ap, subst, ◌∙◌, All, Contains, Option, Some, None, slice_get, slice_index_or, arith, inl, inr}
+use Rattle.std.specs.Prelude.{Result, Ok, Err, IfOk}
+use Rattle.std.specs.List.{IsDistinct}
+use Rattle.std.proofs.lemmas.Bool.{cases_lt}
+use Rattle.std.proofs.lemmas.List.{get_or_push, get_or_append_left}
+use Rattle.std.proofs.lemmas.List.Elements.{All-nil}
+use Rattle.cer_base.specs.Nodes.{WellFormed}
+use Rattle.cer_base.specs.Bits.{room_for}
+use Rattle.cer_base.specs.declared.node.Node.TheVariants.{Bottom}
+use Rattle.stream_schema.specs.Types.{Declared}
+use Rattle.stream_schema.specs.declared.Event.{Event}
+use Rattle.stream_schema.specs.declared.Value.{Value}
+use Rattle.cel_terms.specs.declared.Query.{Query}
+use Rattle.query_leaves.specs.declared.Leaf.{Leaf}
+use Rattle.query_leaves.specs.declared.Leaves.{Leaves}
+use Rattle.query_leaves.specs.Expand.{tree_of}
+use Rattle.query_leaves.specs.Leaves.{occurrences, numbered}
+use Rattle.query_leaves.specs.Shapes.{tree_of_shape, AreLeavesOf}
+use Rattle.query_leaves.specs.Conditions.{leaf_conditions}
+use Rattle.cea_determinise.specs.declared.cea.Cea.{Cea}
+use Rattle.cea_determinise.specs.declared.cea.StateSets.{StateSets}
+use Rattle.cea_determinise.specs.Runs.{Automaton}
+use Rattle.cea_determinise.specs.Cea.{automaton_of_cea, standing_of, HasLeavesBelow}
+use Rattle.cea_determinise.specs.Keys.{are_same_sets}
+use Rattle.cea_compile.specs.Compiled.{automaton_of}
+use Rattle.cea_compile.specs.LeafAutomaton.{automaton_of_leaves}
+use Rattle.cea_compile.proofs.LeafAutomaton.{leaves_tell}
+use Rattle.query_standing.specs.Bounds.{IsMet}
+use Rattle.query_standing.specs.Keys.{leaves_reading, HasKeyAt}
+use Rattle.query_standing.specs.Kept.{HasStates, PartStands}
+use Rattle.query_standing.proofs.Lists.{none_in_nil}
+use Rattle.query_part.specs.declared.machine.Machine.{Machine}
+use Rattle.query_part.specs.Matches.{Held, none_open}
+use Rattle.query_part.specs.Parts.{part_of, HasAutomaton, IsMachineOf, reads_type}
+
+-- what the leaves of a query tell is the query's
+pub machine_is : (schema : Declared) (q : Query) (l : Leaves) (listed : List Leaf) (bits : List Bool) (h : Held) → tree_of_shape l.shape ≡ numbered 0 (tree_of q) → AreLeavesOf schema (occurrences (tree_of q)) l.list → l.strict ≡ q.strict → listed ≡ l.list → length bits ≡ room_for (length l.list) → HasAutomaton (automaton_of_leaves l) l.strict h → IsMachineOf schema q listed bits h
+machine_is schema q l listed bits h shape list strict listed_is room m =
+    let told = leaves_tell schema q l shape list in
+    let size : length l.list ≡ h.table.cea.size = ap (λ (a : Automaton). a.size) (sym m.automaton) in
+    record {
+      leaves = λ event. ap (λ ls. leaf_conditions ls event) listed_is ∙ told.bits (event ∷ []) 0 event refl;
+      size = ap length listed_is ∙ size;
+      room = room ∙ ap room_for size;
+      matches = record { automaton = m.automaton ∙ told.automaton; strict = m.strict ∙ strict; none = m.none };
+    }
+
+no_states : (schema : Declared) (q : Query) (cea : Cea) → automaton_of_cea cea ≡ automaton_of (tree_of q) → cea.strict ≡ q.strict → HasStates schema q [] (none_open cea).table
+unfolding IsDistinct
+no_states schema q cea automaton strict = record {
+  automaton = automaton;
+  strict = strict;
+  sets = All-nil (HasLeavesBelow cea.size);
+  distinct = tt;
+  met = All-nil (λ (p : StateSets). IsMet schema q [] (standing_of p));
+}
+
+no_nodes : WellFormed []
+no_nodes = record {
+  true_fields = λ id node e. absurd cc;
+  well_formed_tree = λ id l. absurd (omega arith);
+  in_step = λ s t h k le. absurd (none_in_nil (Bottom s) h);
+}
+
+-- before any event nothing is kept
+pub none_stands : (schema : Declared) (q : Query) (h : Held) → HasAutomaton (automaton_of (tree_of q)) q.strict h → PartStands schema q [] (part_of h None None)
+none_stands schema q h m = subst (λ (k : Held). PartStands schema q [] (part_of k None None)) (sym m.none) (record {
+  states = no_states schema q h.table.cea m.automaton m.strict;
+  nodes = no_nodes;
+  starts = λ s has. absurd (none_in_nil (Bottom s) has);
+  never_falls = λ i j before now le a b. (let e = a.at in absurd cc);
+  clock = tt;
+  unread = λ p event e r. absurd cc;
+  keys = record { distinct = tt; all = λ key p k. (let e = k.at in absurd cc); lists = refl };
+  here = λ key p ends k. (let e = k.at in absurd cc);
+  each = λ n key rows e f. absurd cc;
+})
+
+-- one type more in the table
+pub types_next : (schema : Declared) (q : Query) (table : List Bool) (k : ℕ) → length table ≡ k → ((ty : ℕ) → ty < k → slice_index_or table ty false ≡ reads_type schema q ty) → (ty : ℕ) → ty < k + 1 → slice_index_or (table ++ reads_type schema q k ∷ []) ty false ≡ reads_type schema q ty
+types_next schema q table k len told ty less = elim (cases_lt ty k) [
+  | inl below ↦ get_or_append_left table (reads_type schema q k ∷ []) false ty (omega arith) ∙ told ty below
+  | inr above ↦ (
+      let here : k ≡ ty = omega arith in
+      subst (λ i. slice_index_or (table ++ reads_type schema q k ∷ []) i false ≡ reads_type schema q i) here (get_or_push table (reads_type schema q k) false k len)
+      )
+]
+
+-- the same of what was made, where memory lasted
+pub machine_made : {E : Type 0} (schema : Declared) (q : Query) (l : Leaves) (r : Result Machine E) → tree_of_shape l.shape ≡ numbered 0 (tree_of q) → AreLeavesOf schema (occurrences (tree_of q)) l.list → l.strict ≡ q.strict → IfOk r (λ m. m.conditions ≡ l.list) → IfOk r (λ m. length m.bits ≡ room_for (length l.list)) → IfOk r (λ m. HasAutomaton (automaton_of_leaves l) l.strict m.matches) → IfOk r (λ m. IsMachineOf schema q m.conditions m.bits m.matches)
+machine_made schema q l (Err e) shape list strict a b c = tt
+machine_made schema q l (Ok m) shape list strict a b c = machine_is schema q l m.conditions m.bits m.matches shape list strict a b c

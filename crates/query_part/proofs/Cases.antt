@@ -1,0 +1,233 @@
+-- What an event makes of a part, in each of its cases.
+use Rattle.std.proofs.Common.{◌≡◌, ◌≢◌, ℕ, zero, suc, ◌+◌, ◌<◌, ◌≤◌, ◌⊎◌, inl, inr, ℤ, ◌≤ℤ◌, Bool, true, false, List, [], ◌∷◌, ◌++◌, map, length, refl, sym, ap, subst, ◌∙◌, All, Contains, Option, Some, None, slice_get, slice_set, slice_index_or, arith, ◌*◌, ◌^◌, pow-suc}
+use Rattle.std.specs.Prelude.{IfSome, IfNone, int_lt, ◌<ℤ◌}
+use Rattle.std.proofs.Math.Nat.{pow-zero}
+use Rattle.std.proofs.lemmas.Int.{ints}
+use Rattle.std.proofs.lemmas.Bool.{cases_lt}
+use Rattle.std.proofs.lemmas.Option.{slice_get_within}
+use Rattle.std.proofs.lemmas.List.Elements.{All-nil, All-cons, All-head, All-tail, Contains-push_cases}
+use Rattle.cer_base.specs.Bits.{has}
+use Rattle.cer_base.specs.declared.node.Stamp.{Stamp}
+use Rattle.cer_base.specs.declared.node.Root.{Root}
+use Rattle.cer_base.specs.declared.node.Node.{Node}
+use Rattle.cer_base.specs.declared.node.Node.TheVariants.{Bottom}
+use Rattle.cer_base.specs.Nodes.{AreInStep}
+use Rattle.stream_schema.specs.Types.{Declared}
+use Rattle.stream_schema.specs.declared.Event.{Event}
+use Rattle.stream_schema.specs.declared.Value.{Value}
+use Rattle.cel_terms.specs.declared.Query.{Query}
+use Rattle.cel_terms.specs.Answers.{HasKey, HasClock}
+use Rattle.cea_determinise.specs.declared.cea.StateSets.{StateSets}
+use Rattle.cea_determinise.specs.Cea.{standing_of}
+use Rattle.event_update.specs.declared.Staged.{Staged}
+use Rattle.event_update.specs.Reach.{Seen}
+use Rattle.event_update.specs.Stands.{seen, IsLater, Stands}
+use Rattle.event_update.specs.Update.{Discovers, rows_after, work_bound}
+use Rattle.event_update.proofs.Before.{can_advance}
+use Rattle.query_standing.specs.Bounds.{IsMet}
+use Rattle.query_standing.specs.Clocks.{Reads, HasClockAt, IsLastClock, FallsBack, least, low_of}
+use Rattle.query_standing.specs.Keys.{leaves_reading, positions}
+use Rattle.query_standing.specs.Kept.{Rows, Part, low_at, PartStands}
+use Rattle.query_standing.specs.Steps.{Advances, HasNoKey, HasKeyOf}
+use Rattle.query_standing.proofs.Growing.{all_earlier}
+use Rattle.query_standing.proofs.Grown.{some_at}
+use Rattle.query_standing.proofs.Parts.{part_unread}
+use Rattle.query_standing.proofs.PartSteps.{part_no_key, part_keyed, part_with_key}
+use Rattle.query_standing.specs.Bounds.{update_bound}
+use Rattle.all_or_none.specs.Phases.{Grows, IsStep}
+use Rattle.query_part.specs.Matches.{Held, TakesKey, CanTake, IsReady}
+use Rattle.query_part.specs.Parts.{part_of, put_in}
+use Rattle.cea_determinise.specs.Det.{Table}
+use Rattle.query_part.proofs.Cuts.{mid_table, mid_nodes}
+use Rattle.query_part.proofs.Discovered.{discovered_met}
+
+append_none : {X : Type 0} (xs : List X) → xs ++ [] ≡ xs
+append_none [] = refl
+append_none (x ∷ xs) = ap (λ zs. x ∷ zs) (append_none xs)
+
+-- a clock that does not fall is at least the last one
+in_time : (schema : Declared) (q : Query) (events : List Event) (event : Event) (now : ℤ) (c : Option ℤ) → ((before n : ℤ) → FallsBack schema q events event before n → ⊥) → Reads schema q event → HasClock schema q.window event (length events) now → IfSome c (IsLastClock schema q events) → IfSome c (λ before. before ≤ℤ now)
+in_time schema q events event now None time reads is last = tt
+in_time schema q events event now (Some before) time reads is last = go (int_lt now before) refl
+  where
+    go : (b : Bool) → int_lt now before ≡ b → before ≤ℤ now
+    go true e = absurd (time before now (record { reads = reads; last = last; now_is = is; falls = grind (arith, ints) }))
+    go false e = grind (arith, ints)
+
+-- where no state and no node is new
+nothing_new : (schema : Declared) (q : Query) (event : Event) (h : Held) (c : Option ℤ) (n : Option ℕ) (d : Option ℤ) (m : Option ℕ) → Grows schema q event (part_of h c n) (part_of h d m)
+nothing_new schema q event h c n d m = record {
+  extends = record { cea = refl; more_states = []; states = sym (append_none h.table.states); more_nodes = []; nodes = sym (append_none h.nodes) };
+  growth = omega arith;
+  unread = λ no. refl;
+}
+
+-- an event that the query does not read
+pub unread_step : (schema : Declared) (q : Query) (event : Event) (position : ℕ) (h : Held) (c : Option ℤ) (n : Option ℕ) → (Reads schema q event → ⊥) → IsStep schema q event position (part_of h c n) (part_of h c None)
+unread_step schema q event position h c n unread = record { stands = λ events len time s. part_unread schema q events event (part_of h c n) s unread; grows = nothing_new schema q event h c n c None }
+
+-- one that it reads, and that has no key
+pub no_key_step : (schema : Declared) (q : Query) (event : Event) (position : ℕ) (h : Held) (c : Option ℤ) (n : Option ℕ) (now : ℤ) → Reads schema q event → HasClock schema q.window event position now → least ≤ℤ low_of q.window now → ((key : List Value) → HasKey schema q event key → ⊥) → IsStep schema q event position (part_of h c n) (part_of h (Some now) None)
+no_key_step schema q event position h c n now reads clock fits none = record {
+  stands = λ events len time s. (
+      let now_is : HasClock schema q.window event (length events) now = subst (λ p. HasClock schema q.window event p now) (sym len) clock in
+      let old : Part = part_of h c n in
+      let new : Part = part_of h (Some now) None in
+      let advances : Advances schema q events event now old new = record {
+        reads = reads;
+        now_is = now_is;
+        fits = fits;
+        in_time = in_time schema q events event now c time reads now_is s.clock;
+        clock = refl;
+        extends = record { cea = refl; more_states = []; states = sym (append_none h.table.states); more_nodes = []; nodes = sym (append_none h.nodes) };
+        met = All-nil (λ (p : StateSets). IsMet schema q (events ++ event ∷ []) (standing_of p));
+        sets = s.states.sets;
+        distinct = s.states.distinct;
+        well_formed = s.nodes;
+        starts = λ t has. inl has;
+      } in
+      part_no_key schema q events event now old new s advances (record { none = none; keys = refl; rows = refl; here = refl })
+      );
+  grows = nothing_new schema q event h c n (Some now) None;
+}
+
+-- the bound of an event's work, in its two forms
+pub same_bound : (found : ℕ) → work_bound found ≡ update_bound found
+same_bound found = ap (λ n. 16 * n) (sym (square (found + 2)))
+  where
+    square : (n : ℕ) → n ^ 2 ≡ n * n
+    square n = pow-suc n 1 ∙ ap (λ z. z * n) (pow-suc n 0 ∙ (ap (λ z. z * n) (pow-zero n) ∙ omega arith))
+
+pub mid_stands : (schema : Declared) (q : Query) (events : List Event) (old mid : Held) (c : Option ℤ) (n : Option ℕ) (key : List Value) → TakesKey old key mid → PartStands schema q events (part_of old c n) → PartStands schema q events (part_of mid c n)
+mid_stands schema q events old mid c n key (inl h) s = subst (λ m. PartStands schema q events (part_of m c n)) (sym h.1) s
+mid_stands schema q events old mid c n key (inr h) s = subst (λ m. PartStands schema q events (part_of m c n)) (sym h.1) (part_with_key schema q events (part_of old c n) key s h.0)
+
+set_length : {X : Type 0} (xs : List X) (n : ℕ) (v : X) → length (slice_set xs n v) ≡ length xs
+set_length [] n v = refl
+set_length (x ∷ xs) zero v = refl
+set_length (x ∷ xs) (suc n) v = let rest = set_length xs n v in omega arith
+
+set_other : {X : Type 0} (xs : List X) (n k : ℕ) (v : X) → k ≢ n → slice_get (slice_set xs n v) k ≡ slice_get xs k
+set_other [] n k v apart = refl
+set_other (x ∷ xs) zero zero v apart = absurd (apart refl)
+set_other (x ∷ xs) zero (suc k) v apart = refl
+set_other (x ∷ xs) (suc n) zero v apart = refl
+set_other (x ∷ xs) (suc n) (suc k) v apart = set_other xs n k v (λ e. apart (ap suc e))
+
+set_own : {X : Type 0} (f : X → X) (xs : List X) (n : ℕ) (x d : X) → slice_get xs n ≡ Some x → slice_get (slice_set xs n (f (slice_index_or xs n d))) n ≡ Some (f x)
+set_own f [] n x d e = absurd cc
+set_own f (y ∷ ys) zero x d e = (let same : y ≡ x = cc in ap (λ z. Some (f z)) same)
+set_own f (y ∷ ys) (suc n) x d e = set_own f ys n x d e
+
+-- one that has a key, known or new
+keyed_stands : (schema : Declared) (q : Query) (events : List Event) (event : Event) (stamp : Stamp) (bits : List Bool) (key : List Value) (number : ℕ) (staged : Staged) (old new : Held) (c : Option ℤ) (n : Option ℕ) (now : ℤ) → Reads schema q event → HasClock schema q.window event (length events) now → least ≤ℤ low_of q.window now → HasKey schema q event key → has bits ≡ leaves_reading schema q event → stamp ≡ record { pos = length events; clock = now } → IsReady stamp bits key number staged old new → ((before now : ℤ) → FallsBack schema q events event before now → ⊥) → PartStands schema q events (part_of old c n) → PartStands schema q (events ++ event ∷ []) (part_of (put_in number staged new) (Some now) (Some number))
+keyed_stands schema q events event stamp bits key number staged old new c n now reads now_is fits has_key bits_are stamp_is r time s =
+    part_keyed schema q events event now mid after s_mid advances keyed
+  where
+    mid : Part
+    mid = part_of r.mid c n
+
+    after : Part
+    after = part_of (put_in number staged new) (Some now) (Some number)
+
+    s_mid : PartStands schema q events mid
+    s_mid = mid_stands schema q events old r.mid c n key r.takes s
+
+    found : Discovers r.mid.table (0 ∷ map (λ (r : ℕ × List Root). r.0) r.before) bits new.table
+    found = subst (λ ss. Discovers r.mid.table ss bits new.table) r.states_are r.table
+
+    advances : Advances schema q events event now mid after
+    advances = record {
+      reads = reads;
+      now_is = now_is;
+      fits = fits;
+      in_time = in_time schema q events event now c time reads now_is s.clock;
+      clock = refl;
+      extends = record { cea = found.cea; more_states = found.more; states = found.states; more_nodes = r.nodes.more; nodes = r.nodes.appended };
+      met = discovered_met schema q events event mid number key r.before bits new.table now s_mid r.numbered r.before_is has_key now_is bits_are found;
+      sets = r.sets;
+      distinct = r.distinct;
+      well_formed = r.nodes.well_formed;
+      starts = λ t has. elim (r.nodes.starts t has) [ inl b ↦ inl b | inr e ↦ inr (e ∙ stamp_is) ];
+    }
+
+    keyed : HasKeyOf schema q events event now mid after
+    keyed = record {
+      key = key;
+      has = has_key;
+      number = number;
+      numbered = r.numbered;
+      keys = r.keys;
+      here = refl;
+      count = set_length new.rows number (rows_after (slice_index_or new.rows number []) staged) ∙ ap length r.rows;
+      others = λ k apart. set_other new.rows number k (rows_after (slice_index_or new.rows number []) staged) apart ∙ ap (λ rs. slice_get rs k) r.rows;
+      before = r.before;
+      old_rows = r.before_is;
+      after = rows_after r.before staged;
+      new_rows = set_own (λ rs. rows_after rs staged) new.rows number r.before [] (ap (λ rs. slice_get rs number) r.rows ∙ r.before_is);
+      seen = seen stamp bits;
+      stamp = stamp_is;
+      tells = record { clock = subst (λ (t : Stamp). HasClock schema q.window event t.pos t.clock) (sym stamp_is) now_is; bits = bits_are };
+      stands = λ xs later st. r.stands (low_at q c) xs (subst (λ (t : Stamp). All (λ (x : Seen). x.stamp.pos < t.pos) xs) (sym stamp_is) later) st;
+    }
+
+keyed_grows : (schema : Declared) (q : Query) (event : Event) (stamp : Stamp) (bits : List Bool) (key : List Value) (number : ℕ) (staged : Staged) (old new : Held) (c : Option ℤ) (n : Option ℕ) (now : ℤ) → Reads schema q event → IsReady stamp bits key number staged old new → Grows schema q event (part_of old c n) (part_of (put_in number staged new) (Some now) (Some number))
+keyed_grows schema q event stamp bits key number staged old new c n now reads r =
+    let table : r.mid.table ≡ old.table = mid_table old r.mid key r.takes in
+    let nodes : r.mid.nodes ≡ old.nodes = mid_nodes old r.mid key r.takes in
+    record {
+      extends = record {
+        cea = r.table.cea ∙ ap (λ (t : Table). t.cea) table;
+        more_states = r.table.more;
+        states = r.table.states ∙ ap (λ (t : Table). t.states ++ r.table.more) table;
+        more_nodes = r.nodes.more;
+        nodes = r.nodes.appended ∙ ap (λ ns. ns ++ r.nodes.more) nodes;
+      };
+      growth = subst (λ b. length new.nodes ≤ length old.nodes + b) (same_bound (length new.table.states)) r.growth;
+      unread = λ no. absurd (no reads);
+    }
+
+pub keyed_step : (schema : Declared) (q : Query) (event : Event) (position : ℕ) (bits : List Bool) (key : List Value) (number : ℕ) (staged : Staged) (old new : Held) (c : Option ℤ) (n : Option ℕ) (now : ℤ) → Reads schema q event → HasClock schema q.window event position now → least ≤ℤ low_of q.window now → HasKey schema q event key → has bits ≡ leaves_reading schema q event → IsReady (record { pos = position; clock = now }) bits key number staged old new → IsStep schema q event position (part_of old c n) (part_of (put_in number staged new) (Some now) (Some number))
+keyed_step schema q event position bits key number staged old new c n now reads clock fits has_key bits_are r = record {
+  stands = λ events len time s. keyed_stands schema q events event (record { pos = position; clock = now }) bits key number staged old new c n now reads (subst (λ p. HasClock schema q.window event p now) (sym len) clock) fits has_key bits_are (ap (λ p. record { pos = p; clock = now }) (sym len)) r time s;
+  grows = keyed_grows schema q event (record { pos = position; clock = now }) bits key number staged old new c n now reads r;
+}
+
+-- each key's lists can take in the next event
+pub can_take : (schema : Declared) (q : Query) (events : List Event) (old : Held) (c : Option ℤ) (n : Option ℕ) (stamp : Stamp) → stamp.pos ≡ length events → PartStands schema q events (part_of old c n) → CanTake stamp old
+can_take schema q events old c n stamp at_end s k rows at =
+    let within = slice_get_within old.rows k rows at in
+    let inside : k < length old.keys = (let l = s.keys.lists in omega arith) in
+    let key = some_at old.keys k inside in
+    let stand = s.each k key.0 rows key.1 at in
+    can_advance old.table (low_at q c) stand.seen stamp old.nodes rows stand.stands (all_below stand.seen (all_earlier schema q events key.0 stand.seen stand.are_seen))
+  where
+    all_below : (xs : List Seen) → All (λ p. p < length events) (positions xs) → IsLater stamp xs
+    all_below [] a = All-nil (λ (x : Seen). x.stamp.pos < stamp.pos)
+    all_below (x ∷ xs) a = All-cons (λ (x : Seen). x.stamp.pos < stamp.pos) x xs (let l = All-head (λ p. p < length events) x.stamp.pos (positions xs) a in omega arith) (all_below xs (All-tail (λ p. p < length events) x.stamp.pos (positions xs) a))
+
+-- the event's start is in step with those that are there
+pub starts_in_step : (schema : Declared) (q : Query) (events : List Event) (event : Event) (part : Part) (stamp : Stamp) → stamp.pos ≡ length events → ((before n : ℤ) → FallsBack schema q events event before n → ⊥) → Reads schema q event → HasClock schema q.window event (length events) stamp.clock → PartStands schema q events part → AreInStep (part.nodes ++ Bottom stamp ∷ [])
+starts_in_step schema q events event part stamp at_end time reads now_is s x y hx hy le = go (Contains-push_cases part.nodes (Bottom stamp) (Bottom x) hx) (Contains-push_cases part.nodes (Bottom stamp) (Bottom y) hy)
+  where
+    is_stamp : (t : Stamp) → Bottom stamp ≡ Bottom t → stamp ≡ t
+    is_stamp t e = cc
+
+    below : (c : Option ℤ) → IfSome c (IsLastClock schema q events) → IfNone c ((p : ℕ) (other : Event) → slice_get events p ≡ Some other → Reads schema q other → ⊥) → IfSome c (λ before. before ≤ℤ stamp.clock) → (t : Stamp) → HasClockAt schema q events t.pos t.clock → t.clock ≤ℤ stamp.clock
+    below None l none le t h = absurd (none t.pos h.event h.at h.read)
+    below (Some c) l none le t h = elim (cases_lt l.position t.pos) [
+      | inl lt ↦ absurd (l.last t.pos h.event lt h.at h.read)
+      | inr ge ↦ let under = s.never_falls t.pos l.position t.clock c ge h l.has in omega (arith, ints)
+    ]
+
+    go : Contains part.nodes (Bottom x) ⊎ (Bottom stamp ≡ Bottom x) → Contains part.nodes (Bottom y) ⊎ (Bottom stamp ≡ Bottom y) → x.clock ≤ℤ y.clock
+    go (inl a) (inl b) = s.nodes.in_step x y a b le
+    go (inl a) (inr b) = subst (λ (t : Stamp). x.clock ≤ℤ t.clock) (is_stamp y b) (below part.clock s.clock s.unread (in_time schema q events event stamp.clock part.clock time reads now_is s.clock) x (s.starts x a))
+    go (inr a) (inl b) =
+        let h = s.starts y b in
+        let inside = slice_get_within events y.pos h.event h.at in
+        let p = ap (λ (t : Stamp). t.pos) (is_stamp x a) in
+        absurd (omega arith)
+    go (inr a) (inr b) =
+        let same = ap (λ (t : Stamp). t.clock) (sym (is_stamp x a) ∙ is_stamp y b) in
+        omega (arith, ints)

@@ -1,0 +1,9 @@
+mod Cuts
+mod Cases
+mod Clocks
+mod Discovered
+mod Giving
+mod AtFirst
+mod Prepare
+mod Times
+mod Worked

@@ -1,0 +1,134 @@
+-- What is known of a part when an event is prepared.
+use Rattle.std.proofs.Common.{◌≡◌, ℕ, ℤ, ◌≤ℤ◌, ◌<◌, Bool, true, false, List, slice_index_or, length, refl, sym, ap, subst, ◌∙◌, Option, Some, None, slice_get, arith}
+use Rattle.std.specs.Prelude.{IsSomeAnd}
+use Rattle.std.proofs.lemmas.Bool.{false≢true}
+use Rattle.std.proofs.lemmas.Option.{slice_get_within}
+use Rattle.cel_plain.specs.Below.{query_reads as reads}
+use Rattle.query_standing.specs.Clocks.{Reads}
+use Rattle.query_standing.proofs.Reading.{reads_is, is_read}
+use Rattle.cer_base.specs.Bits.{has, room_for}
+use Rattle.cer_base.specs.declared.node.Stamp.{Stamp}
+use Rattle.stream_schema.specs.Types.{Declared}
+use Rattle.stream_schema.specs.Events.{IsOfSchema}
+use Rattle.stream_schema.specs.declared.Event.{Event}
+use Rattle.stream_schema.specs.declared.Value.{Value}
+use Rattle.stream_schema.specs.declared.Value.TheVariants as value
+use Rattle.cel_terms.specs.declared.Query.{Query}
+use Rattle.cel_terms.specs.declared.Window.{Window}
+use Rattle.cel_terms.specs.declared.Window.TheVariants.{Free, Events, Clock}
+use Rattle.query_leaves.specs.declared.Leaf.{Leaf}
+use Rattle.cel_terms.specs.Predicate.{attr_value}
+use Rattle.cel_terms.specs.Answers.{HasClock}
+use Rattle.cea_determinise.specs.declared.cea.Cea.{Cea}
+use Rattle.cea_determinise.specs.Det.{Table}
+use Rattle.event_update.specs.declared.Staged.{Staged}
+use Rattle.window_clock.specs.declared.Source.{Source}
+use Rattle.window_clock.specs.Clocks as clocks
+use Rattle.window_clock.specs.Places.{clock_in, low_in, IsOf}
+use Rattle.query_standing.specs.Clocks.{FallsBack, least, low_of}
+use Rattle.query_standing.specs.Kept.{Part, PartStands}
+use Rattle.all_or_none.specs.Phases.{Phase, CanPrepare, IsIdle}
+use Rattle.query_part.specs.declared.part.Step.{Step}
+use Rattle.query_part.specs.declared.part.Step.TheVariants.{Unread, NoKey, Keyed}
+use Rattle.query_part.specs.Matches.{Held, IsReady}
+use Rattle.query_part.specs.Parts.{part_of, kept_of, ready_of, AreTypesRead, IsMade}
+use Rattle.query_part.proofs.Cuts.{mid_table}
+
+idle_kept : (step : Option Step) (h : Held) (c : Option ℤ) (n : Option ℕ) → ready_of step h c n ≡ None → kept_of step h c n ≡ part_of h c n
+idle_kept None h c n e = refl
+idle_kept (Some Unread) h c n e = absurd cc
+idle_kept (Some (NoKey now)) h c n e = absurd cc
+idle_kept (Some (Keyed now r)) h c n e = absurd cc
+
+-- For some events the part is as it is.
+pub record Facts (schema : Declared) (q : Query) (event : Event) (position : ℕ) (h : Held) (c : Option ℤ) (n : Option ℕ) : Type 0 where
+  pub events : List Event
+  pub count : length events ≡ position
+  pub of_schema : IsOfSchema schema event
+  pub in_time : (before now : ℤ) → FallsBack schema q events event before now → ⊥
+  pub stands : PartStands schema q events (part_of h c n)
+
+pub facts : (schema : Declared) (q : Query) (event : Event) (position : ℕ) (step : Option Step) (h : Held) (c : Option ℤ) (n : Option ℕ) (p : Phase) → record { schema = schema; query = q; kept = kept_of step h c n; ready = ready_of step h c n } ≡ p → IsIdle p → CanPrepare event position p → Facts schema q event position h c n
+facts schema q event position step h c n p is idle can =
+    let rest : ready_of step h c n ≡ None = subst IsIdle (sym is) idle in
+    let know : CanPrepare event position (record { schema = schema; query = q; kept = kept_of step h c n; ready = ready_of step h c n }) = subst (CanPrepare event position) (sym is) can in
+    record {
+      events = know.events;
+      count = know.count;
+      of_schema = know.of_schema;
+      in_time = know.in_time;
+      stands = subst (PartStands schema q know.events) (idle_kept step h c n rest) know.stands;
+    }
+
+-- where the part is idle, it is as it is for some events
+pub record Idle (schema : Declared) (q : Query) (h : Held) (c : Option ℤ) (n : Option ℕ) (p : Phase) : Type 0 where
+  pub schema_is : schema ≡ p.schema
+  pub query_is : q ≡ p.query
+  pub kept_is : part_of h c n ≡ p.kept
+
+pub idle_part : (schema : Declared) (q : Query) (step : Option Step) (h : Held) (c : Option ℤ) (n : Option ℕ) (p : Phase) → record { schema = schema; query = q; kept = kept_of step h c n; ready = ready_of step h c n } ≡ p → IsIdle p → Idle schema q h c n p
+idle_part schema q step h c n p is idle = record {
+  schema_is = ap (λ (x : Phase). x.schema) is;
+  query_is = ap (λ (x : Phase). x.query) is;
+  kept_is = sym (idle_kept step h c n (ap (λ (x : Phase). x.ready) is ∙ idle)) ∙ ap (λ (x : Phase). x.kept) is;
+}
+
+-- what stands for events, seen from within
+pub inner_stands : (schema : Declared) (q : Query) (h : Held) (c : Option ℤ) (n : Option ℕ) (p : Phase) → Idle schema q h c n p → (events : List Event) → PartStands p.schema p.query events p.kept → PartStands schema q events (part_of h c n)
+inner_stands schema q h c n p i events s =
+    subst (λ k. PartStands schema q events k) (sym i.kept_is) (subst (λ z. PartStands schema z events p.kept) (sym i.query_is) (subst (λ z. PartStands z p.query events p.kept) (sym i.schema_is) s))
+
+clock_told : (schema : Declared) (w : Window) (event : Event) (p : ℕ) (c : ℤ) → clocks.clock_of schema w event p ≡ Some c → HasClock schema w event p c
+clock_told schema Free event p c e = (let f = sym e in cc)
+clock_told schema (Events n) event p c e = (let f = sym e in cc)
+clock_told schema (Clock name n) event p c e = int_of_is (attr_value schema event name.text) c e
+  where
+    int_of_is : (v : Option Value) (c : ℤ) → clocks.int_of v ≡ Some c → v ≡ Some (value.Int c)
+    int_of_is (Some (value.Int n)) c e = (let same : n ≡ c = cc in ap (λ z. Some (value.Int z)) same)
+    int_of_is (Some (value.Text t)) c e = absurd cc
+    int_of_is (Some (value.Flag b)) c e = absurd cc
+    int_of_is (Some (value.Dec n p)) c e = absurd cc
+    int_of_is None c e = absurd cc
+
+pub now_is : (schema : Declared) (w : Window) (source : Source) (event : Event) (p : ℕ) (r z : ℤ) → IsOf schema w source → clock_in source event p ≡ Some r → z ≡ r → HasClock schema w event p z
+now_is schema w source event p r z of told e = subst (HasClock schema w event p) (sym e) (clock_told schema w event p r (sym (of.clock event p) ∙ told))
+
+pub fits : (schema : Declared) (w : Window) (source : Source) (r z : ℤ) → IsOf schema w source → least ≤ℤ low_in source r → z ≡ r → least ≤ℤ low_of w z
+fits schema w source r z of le e = subst (λ x. least ≤ℤ low_of w x) (sym e) (subst (λ x. least ≤ℤ x) (of.low r) le)
+
+-- the tables stay those of the query
+pub made_after : (schema : Declared) (q : Query) (types : List Bool) (listed : List Leaf) (source : Source) (bits more : List Bool) (stamp : Stamp) (key : List Value) (number : ℕ) (staged : Staged) (old new : Held) → IsMade schema q types listed source bits old → length more ≡ length bits → IsReady stamp more key number staged old new → IsMade schema q types listed source more new
+made_after schema q types listed source bits more stamp key number staged old new m same r =
+    let size = ap (λ (t : Table). t.cea.size) (mid_table old r.mid key r.takes) in
+    let cea : new.table.cea.size ≡ r.mid.table.cea.size = ap (λ (c : Cea). c.size) r.table.cea in
+    record {
+      types = m.types;
+      clock = m.clock;
+      clocks = m.clocks;
+      leaves = m.leaves;
+      size = m.size ∙ sym (cea ∙ size);
+      room = same ∙ (m.room ∙ ap room_for (sym (cea ∙ size)));
+    }
+
+pub number_inside : (stamp : Stamp) (bits : List Bool) (key : List Value) (number : ℕ) (staged : Staged) (old new : Held) → IsReady stamp bits key number staged old new → number < length new.rows
+number_inside stamp bits key number staged old new r =
+    let inside = slice_get_within r.mid.rows number r.before r.before_is in
+    let e = ap length r.rows in
+    omega arith
+
+type_below : {X : Type 0} (xs : List X) (i : ℕ) (P : X → Type 0) → IsSomeAnd (slice_get xs i) P → i < length xs
+type_below {X} xs i P h = go (slice_get xs i) refl h
+  where
+    go : (o : Option X) → slice_get xs i ≡ o → IsSomeAnd o P → i < length xs
+    go None e h = absurd h
+    go (Some x) e h = slice_get_within xs i x e
+
+-- whether the event is read, by the table
+pub table_reads : (schema : Declared) (q : Query) (types : List Bool) (event : Event) → AreTypesRead schema q types → IsOfSchema schema event → slice_index_or types event.ty false ≡ reads schema q event
+table_reads schema q types event are of = are event.ty (type_below schema.types event.ty _ of)
+
+pub not_read : (schema : Declared) (q : Query) (types : List Bool) (event : Event) → AreTypesRead schema q types → IsOfSchema schema event → slice_index_or types event.ty false ≡ false → Reads schema q event → ⊥
+not_read schema q types event are of told r = false≢true (sym told ∙ (table_reads schema q types event are of ∙ is_read schema q event r))
+
+pub does_read : (schema : Declared) (q : Query) (types : List Bool) (event : Event) → AreTypesRead schema q types → IsOfSchema schema event → slice_index_or types event.ty false ≡ true → Reads schema q event
+does_read schema q types event are of told = reads_is schema q event (sym (table_reads schema q types event are of) ∙ told)

@@ -1,0 +1,8 @@
+use Rattle.std.proofs.Common.{sym, subst}
+use Rattle.stream_schema.specs.Types.{Declared}
+use Rattle.query_part.specs.Parts.{HaveClocks}
+use Rattle.query_part.proofs.Clocks.{have_clocks}
+use Rattle.query_part.proofs.part.Part.new.Goals as goal
+
+pub joined-requires-clause-clocks : goal.joined-requires-clause-clocks
+joined-requires-clause-clocks c = subst (λ (s : Declared). HaveClocks s c.args.query c.in_ok-reading.reading.clock.source) (sym c.in_ok-reading.ensures.schema) (have_clocks c.args.schema.now c.args.query c.in_ok-reading.reading.clock.source c.well_declared.ensures c.requires.checked c.in_ok-reading.ensures.clock)

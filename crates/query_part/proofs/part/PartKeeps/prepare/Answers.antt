@@ -1,0 +1,104 @@
+use Rattle.std.proofs.Common.{◌≡◌, rules, true, false, sym, ap, subst, ◌∙◌, Some, None, slice_index_or}
+use Rattle.std.specs.Int.{w128}
+use mir.Val.{SFits, to_z, of_z}
+use Rattle.std.proofs.lemmas.Int.{to_z-of_z}
+use Rattle.cel_terms.specs.Answers.{HasClock, values_at}
+use Rattle.window_clock.specs.Places.{IsNear}
+use Rattle.all_or_none.specs.Phases.{IsStep}
+use Rattle.query_part.specs.Parts.{part_of, put_in}
+use Rattle.query_part.proofs.Cases.{unread_step, no_key_step, keyed_step, can_take, starts_in_step}
+use Rattle.query_part.proofs.Prepare.{facts, now_is, fits, made_after, number_inside, not_read, does_read, idle_part}
+use Rattle.query_part.proofs.Worked.{worked_within}
+use Rattle.query_part.proofs.part.PartKeeps.prepare.Goals as goal
+
+pub returns-then-not-is_read-clause-ready : goal.returns-then-not-is_read-clause-ready
+returns-then-not-is_read-clause-ready g c =
+    let f = facts c.self.inside.schema c.self.inside.query c.args.event.now c.args.position c.self.inside.step c.self.inside.matches c.self.inside.clock.last c.self.inside.here c.args.self.now c.self.view_is c.requires.idle c.requires.can in
+    let told : slice_index_or c.self.inside.types.items c.args.event.now.ty false ≡ false = search rules in
+    unread_step c.self.inside.schema c.self.inside.query c.args.event.now c.args.position c.self.inside.matches c.self.inside.clock.last c.self.inside.here (not_read c.self.inside.schema c.self.inside.query c.self.inside.types.items c.args.event.now c.self.invariant.0.types f.of_schema told)
+
+pub now-clock-requires : goal.now-clock-requires
+now-clock-requires g c =
+    let f = facts c.self.inside.schema c.self.inside.query c.args.event.now c.args.position c.self.inside.step c.self.inside.matches c.self.inside.clock.last c.self.inside.here c.args.self.now c.self.view_is c.requires.idle c.requires.can in
+    let told : slice_index_or c.self.inside.types.items c.args.event.now.ty false ≡ true = search rules in
+    record { there = c.self.invariant.0.clocks c.args.event.now c.args.position f.of_schema (does_read c.self.inside.schema c.self.inside.query c.self.inside.types.items c.args.event.now c.self.invariant.0.types f.of_schema told) }
+
+pub advance-requires-clause-in_step : goal.advance-requires-clause-in_step
+advance-requires-clause-in_step g c =
+    let f = facts c.self.inside.schema c.self.inside.query c.args.event.now c.args.position c.self.inside.step c.self.inside.matches c.self.inside.clock.last c.self.inside.here c.args.self.now c.self.view_is c.requires.idle c.requires.can in
+    let told : slice_index_or c.self.inside.types.items c.args.event.now.ty false ≡ true = search rules in
+    let small : SFits w128 c.now-clock.result = search rules in
+    let same : to_z w128 (of_z w128 c.now-clock.result) ≡ c.now-clock.result = to_z-of_z _ _ small in
+    let clock = now_is c.self.inside.schema c.self.inside.query.window c.self.inside.clock.source c.args.event.now c.args.position c.now-clock.result (to_z w128 (of_z w128 c.now-clock.result)) c.self.invariant.0.clock c.now-clock.ensures.clock same in
+    starts_in_step c.self.inside.schema c.self.inside.query f.events c.args.event.now (part_of c.self.inside.matches c.self.inside.clock.last c.self.inside.here) (record { pos = c.args.position; clock = to_z w128 (of_z w128 c.now-clock.result) }) (sym f.count) f.in_time (does_read c.self.inside.schema c.self.inside.query c.self.inside.types.items c.args.event.now c.self.invariant.0.types f.of_schema told) (subst (λ p. HasClock c.self.inside.schema c.self.inside.query.window c.args.event.now p (to_z w128 (of_z w128 c.now-clock.result))) (sym f.count) clock) f.stands
+
+pub advance-requires-clause-can : goal.advance-requires-clause-can
+advance-requires-clause-can g c =
+    let f = facts c.self.inside.schema c.self.inside.query c.args.event.now c.args.position c.self.inside.step c.self.inside.matches c.self.inside.clock.last c.self.inside.here c.args.self.now c.self.view_is c.requires.idle c.requires.can in
+    can_take c.self.inside.schema c.self.inside.query f.events c.self.inside.matches c.self.inside.clock.last c.self.inside.here (record { pos = c.args.position; clock = to_z w128 (of_z w128 c.now-clock.result) }) (sym f.count) f.stands
+
+pub invariant_of-self-in-Some : goal.invariant_of-self-in-Some
+invariant_of-self-in-Some g c =
+    let r = c.in_ok-ready-in-Some.ensures.ready in
+    let m = c.in_ok-ready-in-Some.ensures.marks in
+    let small : SFits w128 c.now-clock.result = search rules in
+    let same : to_z w128 (of_z w128 c.now-clock.result) ≡ c.now-clock.result = to_z-of_z _ _ small in (
+      made_after c.self.inside.schema c.self.inside.query c.self.inside.types.items c.self.inside.conditions c.self.inside.clock.source c.self.inside.bits c.fill.new.into _ c.in-Some.key c.in_ok-ready-in-Some.ready.number c.in_ok-ready-in-Some.ready.staged c.self.inside.matches c.advance.new.self c.self.invariant.0 c.fill.ensures.room r,
+      (
+        subst IsNear (sym same) c.now-clock.ensures.near,
+        m.1,
+        number_inside _ c.fill.new.into c.in-Some.key c.in_ok-ready-in-Some.ready.number c.in_ok-ready-in-Some.ready.staged c.self.inside.matches c.advance.new.self r,
+      ),
+    )
+
+pub returns-in-None-clause-ready : goal.returns-in-None-clause-ready
+returns-in-None-clause-ready g c =
+    let f = facts c.self.inside.schema c.self.inside.query c.args.event.now c.args.position c.self.inside.step c.self.inside.matches c.self.inside.clock.last c.self.inside.here c.args.self.now c.self.view_is c.requires.idle c.requires.can in
+    let told : slice_index_or c.self.inside.types.items c.args.event.now.ty false ≡ true = search rules in
+    let small : SFits w128 c.now-clock.result = search rules in
+    let same : to_z w128 (of_z w128 c.now-clock.result) ≡ c.now-clock.result = to_z-of_z _ _ small in
+    let none : values_at c.self.inside.schema c.self.inside.query.partition c.args.event.now ≡ None = ap (λ names. values_at c.self.inside.schema names c.args.event.now) (sym c.as_slice-names.ensures) ∙ (sym c.in_ok-key_of.ensures ∙ c.in-None.is) in
+    no_key_step c.self.inside.schema c.self.inside.query c.args.event.now c.args.position c.self.inside.matches c.self.inside.clock.last c.self.inside.here (to_z w128 (of_z w128 c.now-clock.result)) (does_read c.self.inside.schema c.self.inside.query c.self.inside.types.items c.args.event.now c.self.invariant.0.types f.of_schema told)
+    (now_is c.self.inside.schema c.self.inside.query.window c.self.inside.clock.source c.args.event.now c.args.position c.now-clock.result (to_z w128 (of_z w128 c.now-clock.result)) c.self.invariant.0.clock c.now-clock.ensures.clock same)
+    (fits c.self.inside.schema c.self.inside.query.window c.self.inside.clock.source c.now-clock.result (to_z w128 (of_z w128 c.now-clock.result)) c.self.invariant.0.clock c.now-clock.ensures.fits same)
+    (λ key h. let two = sym none ∙ h.1 in absurd cc)
+
+pub returns-in_ok-ready-in-Some-clause-ready : goal.returns-in_ok-ready-in-Some-clause-ready
+returns-in_ok-ready-in-Some-clause-ready g c =
+    let f = facts c.self.inside.schema c.self.inside.query c.args.event.now c.args.position c.self.inside.step c.self.inside.matches c.self.inside.clock.last c.self.inside.here c.args.self.now c.self.view_is c.requires.idle c.requires.can in
+    let told : slice_index_or c.self.inside.types.items c.args.event.now.ty false ≡ true = search rules in
+    let small : SFits w128 c.now-clock.result = search rules in
+    let same : to_z w128 (of_z w128 c.now-clock.result) ≡ c.now-clock.result = to_z-of_z _ _ small in
+    let is_key : values_at c.self.inside.schema c.self.inside.query.partition c.args.event.now ≡ Some c.in-Some.key = ap (λ names. values_at c.self.inside.schema names c.args.event.now) (sym c.as_slice-names.ensures) ∙ (sym c.in_ok-key_of.ensures ∙ c.in-Some.is) in
+    let does = does_read c.self.inside.schema c.self.inside.query c.self.inside.types.items c.args.event.now c.self.invariant.0.types f.of_schema told in
+    subst (λ h. IsStep c.self.inside.schema c.self.inside.query c.args.event.now c.args.position (part_of h c.self.inside.clock.last c.self.inside.here) (part_of (put_in c.in_ok-ready-in-Some.ready.number c.in_ok-ready-in-Some.ready.staged c.advance.new.self) (Some (to_z w128 (of_z w128 c.now-clock.result))) (Some c.in_ok-ready-in-Some.ready.number))) (sym c.in_ok-ready-in-Some.ensures.marks.0)
+    (keyed_step c.self.inside.schema c.self.inside.query c.args.event.now c.args.position c.fill.new.into c.in-Some.key c.in_ok-ready-in-Some.ready.number c.in_ok-ready-in-Some.ready.staged c.self.inside.matches c.advance.new.self c.self.inside.clock.last c.self.inside.here (to_z w128 (of_z w128 c.now-clock.result)) does
+    (now_is c.self.inside.schema c.self.inside.query.window c.self.inside.clock.source c.args.event.now c.args.position c.now-clock.result (to_z w128 (of_z w128 c.now-clock.result)) c.self.invariant.0.clock c.now-clock.ensures.clock same)
+    (fits c.self.inside.schema c.self.inside.query.window c.self.inside.clock.source c.now-clock.result (to_z w128 (of_z w128 c.now-clock.result)) c.self.invariant.0.clock c.now-clock.ensures.fits same)
+    (does, is_key) ((λ i k. c.fill.ensures.members k i) ∙ c.self.invariant.0.leaves c.args.event.now) c.in_ok-ready-in-Some.ensures.ready)
+
+pub returns-in_err-ready-in-Some-clause-within : goal.returns-in_err-ready-in-Some-clause-within
+returns-in_err-ready-in-Some-clause-within g c =
+    let f = facts c.self.inside.schema c.self.inside.query c.args.event.now c.args.position c.self.inside.step c.self.inside.matches c.self.inside.clock.last c.self.inside.here c.args.self.now c.self.view_is c.requires.idle c.requires.can in
+    let i = idle_part c.self.inside.schema c.self.inside.query c.self.inside.step c.self.inside.matches c.self.inside.clock.last c.self.inside.here c.args.self.now c.self.view_is c.requires.idle in
+    let told : slice_index_or c.self.inside.types.items c.args.event.now.ty false ≡ true = search rules in
+    let small : SFits w128 c.now-clock.result = search rules in
+    let same : to_z w128 (of_z w128 c.now-clock.result) ≡ c.now-clock.result = to_z-of_z _ _ small in
+    let is_key : values_at c.self.inside.schema c.self.inside.query.partition c.args.event.now ≡ Some c.in-Some.key = ap (λ names. values_at c.self.inside.schema names c.args.event.now) (sym c.as_slice-names.ensures) ∙ (sym c.in_ok-key_of.ensures ∙ c.in-Some.is) in
+    let does = does_read c.self.inside.schema c.self.inside.query c.self.inside.types.items c.args.event.now c.self.invariant.0.types f.of_schema told in
+    worked_within c.self.inside.schema c.self.inside.query c.self.inside.matches c.self.inside.clock.last c.self.inside.here c.args.self.now c.args.event.now c.args.position c.in-Some.key c.fill.new.into (to_z w128 (of_z w128 c.now-clock.result)) c.args.steps.now c.advance.new.steps i (does, is_key)
+    (now_is c.self.inside.schema c.self.inside.query.window c.self.inside.clock.source c.args.event.now c.args.position c.now-clock.result (to_z w128 (of_z w128 c.now-clock.result)) c.self.invariant.0.clock c.now-clock.ensures.clock same)
+    ((λ i k. c.fill.ensures.members k i) ∙ c.self.invariant.0.leaves c.args.event.now) c.advance.ensures.worked
+
+pub returns-in_ok-ready-in-Some-clause-within : goal.returns-in_ok-ready-in-Some-clause-within
+returns-in_ok-ready-in-Some-clause-within g c =
+    let f = facts c.self.inside.schema c.self.inside.query c.args.event.now c.args.position c.self.inside.step c.self.inside.matches c.self.inside.clock.last c.self.inside.here c.args.self.now c.self.view_is c.requires.idle c.requires.can in
+    let i = idle_part c.self.inside.schema c.self.inside.query c.self.inside.step c.self.inside.matches c.self.inside.clock.last c.self.inside.here c.args.self.now c.self.view_is c.requires.idle in
+    let told : slice_index_or c.self.inside.types.items c.args.event.now.ty false ≡ true = search rules in
+    let small : SFits w128 c.now-clock.result = search rules in
+    let same : to_z w128 (of_z w128 c.now-clock.result) ≡ c.now-clock.result = to_z-of_z _ _ small in
+    let is_key : values_at c.self.inside.schema c.self.inside.query.partition c.args.event.now ≡ Some c.in-Some.key = ap (λ names. values_at c.self.inside.schema names c.args.event.now) (sym c.as_slice-names.ensures) ∙ (sym c.in_ok-key_of.ensures ∙ c.in-Some.is) in
+    let does = does_read c.self.inside.schema c.self.inside.query c.self.inside.types.items c.args.event.now c.self.invariant.0.types f.of_schema told in
+    worked_within c.self.inside.schema c.self.inside.query c.self.inside.matches c.self.inside.clock.last c.self.inside.here c.args.self.now c.args.event.now c.args.position c.in-Some.key c.fill.new.into (to_z w128 (of_z w128 c.now-clock.result)) c.args.steps.now c.advance.new.steps i (does, is_key)
+    (now_is c.self.inside.schema c.self.inside.query.window c.self.inside.clock.source c.args.event.now c.args.position c.now-clock.result (to_z w128 (of_z w128 c.now-clock.result)) c.self.invariant.0.clock c.now-clock.ensures.clock same)
+    ((λ i k. c.fill.ensures.members k i) ∙ c.self.invariant.0.leaves c.args.event.now) c.advance.ensures.worked

@@ -1,0 +1,114 @@
+-- The open matches of a query, key by key, and what a key's event makes of them.
+use Rattle.std.specs.Prelude.{◌≡◌, ℕ, ◌+◌, ℤ, ◌≤◌, ◌⊎◌, Bool, List, [], ◌∷◌, ◌++◌, length, map, take, All, Contains, Option, Some, None, slice_get, slice_index_or}
+use Rattle.std.specs.List.{IsDistinct}
+use Rattle.stream_schema.specs.declared.Value.{Value}
+use Rattle.cer_base.specs.declared.node.Stamp.{Stamp}
+use Rattle.cer_base.specs.declared.node.Root.{Root}
+use Rattle.cer_base.specs.declared.node.Node.{Node}
+use Rattle.cea_determinise.specs.declared.cea.Cea.{Cea}
+use Rattle.cea_determinise.specs.Det.{Table, StaysWithin}
+use Rattle.cea_determinise.specs.Cea.{HasLeavesBelow}
+use Rattle.cea_determinise.specs.Keys.{are_same_sets}
+use Rattle.event_update.specs.declared.Staged.{Staged}
+use Rattle.event_update.specs.Reach.{Seen}
+use Rattle.event_update.specs.Stands.{seen, IsLater, Stands, CanAdvance}
+use Rattle.event_update.specs.Update.{Discovers, GrowsBy, rows_after, work_bound, IsWithinWork, accepted_entries}
+use Rattle.query_standing.specs.Kept.{Rows}
+use Rattle.query_part.specs.declared.matches.Marks.{Marks}
+
+-- What contracts see of the open matches: the states, the nodes, and the keys with the lists of each.
+pub record Held : Type 0 where
+  pub table : Table
+  pub nodes : List Node
+  pub keys : List (List Value)
+  pub rows : List Rows
+
+-- no open match, and no state met
+abbrev pub none_open : Cea → Held
+none_open cea = record { table = record { cea = cea; states = []; classes = []; transitions = [] }; nodes = []; keys = []; rows = [] }
+
+-- the first so many of each
+abbrev pub cut : Marks → Held → Held
+cut m h = record {
+  table = record { cea = h.table.cea; states = take m.det.states h.table.states; classes = take m.det.classes h.table.classes; transitions = take m.det.pairs h.table.transitions };
+  nodes = take m.nodes h.nodes;
+  keys = take m.keys h.keys;
+  rows = take m.keys h.rows;
+}
+
+-- there are as many, and the pairs that stay are of states and classes that stay, and lead to such states
+pub record CanCut (m : Marks) (h : Held) : Type 0 where
+  pub states : m.det.states ≤ length h.table.states
+  pub classes : m.det.classes ≤ length h.table.classes
+  pub pairs : m.det.pairs ≤ length h.table.transitions
+  pub within : All (StaysWithin m.det.states m.det.classes) (take m.det.pairs h.table.transitions)
+  pub nodes : m.nodes ≤ length h.nodes
+  pub keys : m.keys ≤ length h.keys
+
+-- these are the numbers of all that there is
+pub record AreMarks (m : Marks) (h : Held) : Type 0 where
+  pub states : m.det.states ≡ length h.table.states
+  pub classes : m.det.classes ≡ length h.table.classes
+  pub pairs : m.det.pairs ≡ length h.table.transitions
+  pub nodes : m.nodes ≡ length h.nodes
+  pub keys : m.keys ≡ length h.keys
+
+-- with a key more, which has no list
+abbrev pub with_key : Held → List Value → Held
+with_key h key = record h { keys = h.keys ++ key ∷ []; rows = h.rows ++ [] ∷ [] }
+
+-- The key is there, or it is put in last.
+abbrev pub TakesKey : Held → List Value → Held → Type 0
+TakesKey old key new = (Contains old.keys key × (new ≡ old)) ⊎ ((Contains old.keys key → ⊥) × (new ≡ with_key old key))
+
+-- What is asked before an event: each key's lists can take it in.
+abbrev pub CanTake : Stamp → Held → Type 0
+CanTake stamp h = (n : ℕ) (rows : Rows) → slice_get h.rows n ≡ Some rows → CanAdvance h.table stamp h.nodes rows
+
+-- The lists of a key after an event are worked out, and not yet in place: the key is there, states and nodes are added.
+pub record IsReady (stamp : Stamp) (bits : List Bool) (key : List Value) (number : ℕ) (staged : Staged) (old new : Held) : Type 0 where
+  pub mid : Held
+  pub takes : TakesKey old key mid
+  pub keys : new.keys ≡ mid.keys
+  pub rows : new.rows ≡ mid.rows
+  pub numbered : slice_get mid.keys number ≡ Some key
+  pub before : Rows
+  pub before_is : slice_get mid.rows number ≡ Some before
+  pub states : List ℕ
+  pub states_are : states ≡ 0 ∷ map (λ (r : ℕ × List Root). r.0) before
+  pub table : Discovers mid.table states bits new.table
+  pub sets : All (HasLeavesBelow new.table.cea.size) new.table.states
+  pub distinct : IsDistinct are_same_sets new.table.states
+  pub nodes : GrowsBy stamp mid.nodes new.nodes
+  pub stands : (low : ℤ) (xs : List Seen) → IsLater stamp xs → Stands mid.table low xs mid.nodes before → Stands new.table low (xs ++ seen stamp bits ∷ []) new.nodes (rows_after before staged)
+  pub growth : length new.nodes ≤ length old.nodes + work_bound (length new.table.states)
+
+-- However far the work got, a table to which the states of the key's lists lead bounds its steps; where the key could not be put in there was no step.
+pub record HasWorked (bits : List Bool) (key : List Value) (old : Held) (before after : ℕ) : Type 0 where
+  pub mid : Held
+  pub takes : TakesKey old key mid
+  pub number : ℕ
+  pub numbered : slice_get mid.keys number ≡ Some key
+  pub rows : Rows
+  pub rows_are : slice_get mid.rows number ≡ Some rows
+  pub states : List ℕ
+  pub states_are : states ≡ 0 ∷ map (λ (r : ℕ × List Root). r.0) rows
+  pub work : IsWithinWork mid.table states bits before after
+
+-- The key's lists stand for some events.
+pub record HasLists (h : Held) (number : ℕ) : Type 0 where
+  pub rows : Rows
+  pub at : slice_get h.rows number ≡ Some rows
+  pub low : ℤ
+  pub seen : List Seen
+  pub stands : Stands h.table low seen h.nodes rows
+
+-- the lists of the key, where one is told, stand for some events
+abbrev pub CanList : Held → Option ℕ → Type 0
+CanList h None = Unit {0}
+CanList h (Some number) = HasLists h number
+
+-- the entries of the accepting states' lists of the key
+abbrev pub entries_for : Held → Option ℕ → List Root
+entries_for h None = []
+entries_for h (Some number) = accepted_entries h.table (slice_index_or h.rows number [])

@@ -1,0 +1,94 @@
+-- What is kept of a query while an event is prepared: it is still seen as what it was, and what a commit makes of it is told.
+use Rattle.std.specs.Prelude.{◌≡◌, ◌≢◌, ℕ, ◌<◌, ◌==◌, ℤ, Bool, false, List, [], length, Option, Some, None, slice_set, slice_index_or}
+use Rattle.std.specs.List.{list_any}
+use Rattle.stream_schema.specs.Types.{Declared}
+use Rattle.stream_schema.specs.Events.{IsOfSchema}
+use Rattle.stream_schema.specs.declared.Event.{Event}
+use Rattle.cel_terms.specs.declared.Query.{Query}
+use Rattle.cel_terms.specs.Answers.{query_types}
+use Rattle.query_leaves.specs.Expand.{tree_of}
+use Rattle.cea_determinise.specs.Runs.{Automaton}
+use Rattle.cea_determinise.specs.Cea.{automaton_of_cea}
+use Rattle.cea_compile.specs.Compiled.{automaton_of}
+use Rattle.all_or_none.specs.Phases.{Phase, StandsAt}
+use Rattle.query_leaves.specs.declared.Leaf.{Leaf}
+use Rattle.query_leaves.specs.Conditions.{leaf_conditions}
+use Rattle.cer_base.specs.Bits.{room_for}
+use Rattle.event_update.specs.declared.Staged.{Staged}
+use Rattle.event_update.specs.Update.{rows_after}
+use Rattle.window_clock.specs.declared.Source.{Source}
+use Rattle.window_clock.specs.Places.{clock_in, IsOf, IsNear}
+use Rattle.query_standing.specs.Clocks.{Reads}
+use Rattle.query_standing.specs.Keys.{leaves_reading}
+use Rattle.query_standing.specs.Kept.{Part}
+use Rattle.query_part.specs.declared.matches.Ready.{Ready}
+use Rattle.query_part.specs.declared.part.Step.{Step}
+use Rattle.query_part.specs.declared.part.Step.TheVariants.{Unread, NoKey, Keyed}
+use Rattle.query_part.specs.Matches.{Held, none_open, cut, CanCut}
+
+abbrev pub part_of : Held → Option ℤ → Option ℕ → Part
+part_of h clock here = record { table = h.table; nodes = h.nodes; keys = h.keys; rows = h.rows; clock = clock; here = here }
+
+-- the lists of a key are put in place
+abbrev pub put_in : ℕ → Staged → Held → Held
+put_in number staged h = record h { rows = slice_set h.rows number (rows_after (slice_index_or h.rows number []) staged) }
+
+-- what it was before the event was prepared
+abbrev pub kept_of : Option Step → Held → Option ℤ → Option ℕ → Part
+kept_of None h clock here = part_of h clock here
+kept_of (Some Unread) h clock here = part_of h clock here
+kept_of (Some (NoKey now)) h clock here = part_of h clock here
+kept_of (Some (Keyed now r)) h clock here = part_of (cut r.marks h) clock here
+
+-- what a commit makes of it
+abbrev pub ready_of : Option Step → Held → Option ℤ → Option ℕ → Option Part
+ready_of None h clock here = None
+ready_of (Some Unread) h clock here = Some (part_of h clock None)
+ready_of (Some (NoKey now)) h clock here = Some (part_of h (Some now) None)
+ready_of (Some (Keyed now r)) h clock here = Some (part_of (put_in r.number r.staged h) (Some now) (Some r.number))
+
+-- what was prepared can be put in, and taken back
+abbrev pub CanEnd : Option Step → Held → Type 0
+CanEnd None h = Unit {0}
+CanEnd (Some Unread) h = Unit {0}
+CanEnd (Some (NoKey now)) h = IsNear now
+CanEnd (Some (Keyed now r)) h = IsNear now × CanCut r.marks h × (r.number < length h.rows)
+
+-- whether one of the query's streams has the type
+abbrev pub reads_type : Declared → Query → ℕ → Bool
+reads_type schema q ty = list_any (λ t. t == ty) (query_types schema q.streams)
+
+-- the table tells for each type whether the query reads it
+abbrev pub AreTypesRead : Declared → Query → List Bool → Type 0
+AreTypesRead schema q table = (ty : ℕ) → ty < length schema.types → slice_index_or table ty false ≡ reads_type schema q ty
+
+-- No match is open, and the automaton is this one.
+pub record HasAutomaton (a : Automaton) (is_strict : Bool) (h : Held) : Type 0 where
+  pub automaton : automaton_of_cea h.table.cea ≡ a
+  pub strict : h.table.cea.strict ≡ is_strict
+  pub none : h ≡ none_open h.table.cea
+
+-- The leaves are the query's, their set has room, and no match is open of the query's automaton.
+pub record IsMachineOf (schema : Declared) (q : Query) (listed : List Leaf) (bits : List Bool) (h : Held) : Type 0 where
+  pub leaves : (event : Event) → leaf_conditions listed event ≡ leaves_reading schema q event
+  pub size : length listed ≡ h.table.cea.size
+  pub room : length bits ≡ room_for h.table.cea.size
+  pub matches : HasAutomaton (automaton_of (tree_of q)) q.strict h
+
+-- each event that the query reads has a clock
+abbrev pub HaveClocks : Declared → Query → Source → Type 0
+HaveClocks schema q source = (event : Event) (p : ℕ) → IsOfSchema schema event → Reads schema q event → clock_in source event p ≢ None
+
+-- The tables are those of the query.
+pub record IsMade (schema : Declared) (q : Query) (table : List Bool) (listed : List Leaf) (source : Source) (bits : List Bool) (h : Held) : Type 0 where
+  pub types : AreTypesRead schema q table
+  pub clock : IsOf schema q.window source
+  pub clocks : HaveClocks schema q source
+  pub leaves : (event : Event) → leaf_conditions listed event ≡ leaves_reading schema q event
+  pub size : length listed ≡ h.table.cea.size
+  pub room : length bits ≡ room_for h.table.cea.size
+
+-- For some events the part is as it is.
+pub record HasEvents (p : Phase) : Type 0 where
+  pub events : List Event
+  pub stands : StandsAt events p

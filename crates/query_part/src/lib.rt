@@ -1,0 +1,16 @@
+//! What is kept of one query, a part of the engine: its states, the nodes of its open matches, its
+//! keys with the lists of each, and its clock; and what an event makes of these, in two phases.
+//!
+//! Promised: what stands for some events stands for one more once the event is committed, and a
+//! refusal leaves everything as it was; a cursor gives exactly the recent members of the lists of the
+//! last event's key; the steps and the nodes of an event are bounded by the states that were found.
+//! It stands on `event_update` for the lists of a key, `window_clock`, `partition_table` and
+//! `predicate_bits` for the event, and `all_or_none` for the two phases.
+#![tactic(auto)]
+
+pub mod machine;
+pub mod matches;
+pub mod part;
+mod reading;
+
+pub use part::Part;

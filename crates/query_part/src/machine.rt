@@ -1,0 +1,88 @@
+//! The tables that are made of a query before any event.
+
+ghost use Rattle.std.specs.Prelude.{◌≡◌, None, IfOk, length};
+ghost use Rattle.cer_base.specs.Bits.{room_for};
+ghost use Rattle.cea_determinise.specs.Cea.{automaton_of_cea};
+ghost use Rattle.cea_compile.specs.LeafAutomaton.{automaton_of_leaves};
+ghost use Rattle.query_leaves.specs.declared.Leaf.{Leaf as LeafData};
+ghost use Rattle.query_leaves.specs.Lawful.{AreNumbered};
+ghost use Rattle.window_clock.specs.Places.{IsOf, HasWidth};
+ghost use Rattle.query_part.specs.Matches.{none_open};
+ghost use Rattle.query_part.specs.Parts.{AreTypesRead, IsMachineOf, HasAutomaton};
+
+use crate::matches::Matches;
+use crate::reading::types_read;
+use cea_compile::compile;
+use cel_terms::Query;
+use cer_base::Memory;
+use cer_base::bits::Bits;
+use predicate_bits::Conditions;
+use query_leaves::{Leaves, leaves_of};
+use std::alloc::Global;
+use stream_schema::Schema;
+use window_clock::Clock;
+
+/// How events are read: which types, and where their clock stands.
+#[derive(Drop)]
+pub struct Reading {
+    pub schema: Schema,
+    pub clock: Clock,
+    pub types: Vec<bool>,
+}
+
+impl Reading {
+    /// How the query reads the events of the schema.
+    pub fn of(alloc: Global, schema: &Schema, query: &Query) -> Result<Reading, Memory>
+        requires wide { HasWidth query.now.window }
+        ensures schema { IfOk result (λ r. r.schema ≡ schema.now) }
+        ensures types { IfOk result (λ r. AreTypesRead schema.now query.now r.types.items) }
+        ensures clock { IfOk result (λ r. IsOf schema.now query.now.window r.clock.source) }
+        ensures blank { IfOk result (λ r. r.clock.last ≡ None) }
+    {
+        let clock = Clock::of(alloc, schema, query)?;
+        let types = types_read(alloc, schema, query)?;
+        Ok(Reading {
+            schema: schema.copy(alloc)?,
+            clock,
+            types,
+        })
+    }
+}
+
+/// What finds the states: the leaves' conditions, a set for those that can read an event, and the
+/// open matches.
+#[derive(Drop)]
+pub struct Machine {
+    pub conditions: Conditions,
+    pub bits: Bits,
+    pub matches: Matches,
+}
+
+/// The leaves with the automaton that they tell, no match being open.
+fn machine_of(alloc: Global, leaves: Leaves) -> Result<Machine, Memory>
+    requires { AreNumbered leaves }
+    ensures leaves { IfOk result (λ m. m.conditions ≡ leaves.list) }
+    ensures room { IfOk result (λ m. length m.bits ≡ room_for (length leaves.list)) }
+    ensures matches { IfOk result (λ m. HasAutomaton (automaton_of_leaves leaves) leaves.strict
+        m.matches) }
+{
+    let cea = compile(alloc, &leaves)?;
+    let matches = Matches::new(alloc, cea);
+    let conditions = Conditions::of(alloc, leaves.list)?;
+    Ok(Machine {
+        bits: conditions.blank(alloc)?,
+        conditions,
+        matches,
+    })
+}
+
+impl Machine {
+    /// That of the query.
+    pub fn of(alloc: Global, schema: &Schema, query: &Query) -> Result<Machine, Memory>
+        ensures { IfOk result (λ m. IsMachineOf schema.now query.now m.conditions m.bits
+            m.matches) }
+    {
+        let leaves = leaves_of(alloc, schema, query)?;
+        machine_of(alloc, leaves)
+    }
+}

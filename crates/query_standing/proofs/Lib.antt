@@ -1,0 +1,10 @@
+pub mod Lists
+pub mod Reading
+pub mod Windows
+pub mod Link
+pub mod Growing
+pub mod Roots
+pub mod Parts
+pub mod Grown
+pub mod PartSteps
+pub mod FoundStates

@@ -1,0 +1,245 @@
+-- What is kept of a query stands for the events with one more, where it advances.
+use Rattle.std.proofs.Common.{◌≡◌, ℕ, zero, suc, ◌<◌, ◌⊎◌, inl, inr, ℤ, ◌≤ℤ◌, List, [], ◌∷◌, ◌++◌, length, refl, sym, ap, subst, ◌∙◌, All, Contains, Option, Some, None, slice_get, arith}
+use Rattle.std.specs.Prelude.{IfSome, IfNone}
+use Rattle.std.proofs.lemmas.Bool.{cases_lt, cases_eq}
+use Rattle.std.proofs.lemmas.Int.{ints}
+use Rattle.std.proofs.lemmas.Option.{slice_get_within}
+use Rattle.std.proofs.lemmas.List.Elements.{All-nil, All-cons, All-head, All-tail, All-weaker, All-append, Contains-append_left, Contains-push_cases}
+use Rattle.cer_base.specs.declared.node.Stamp.{Stamp}
+use Rattle.cer_base.specs.Repeats.{HasNoRepeats}
+use Rattle.stream_schema.specs.Types.{Declared}
+use Rattle.stream_schema.specs.declared.Event.{Event}
+use Rattle.stream_schema.specs.declared.Value.{Value}
+use Rattle.cel_terms.specs.declared.Query.{Query}
+use Rattle.cel_terms.specs.Answers.{HasKey, HasClock}
+use Rattle.cea_determinise.specs.declared.cea.StateSets.{StateSets}
+use Rattle.cea_determinise.specs.declared.cea.Cea.{Cea}
+use Rattle.cea_determinise.specs.Cea.{standing_of}
+use Rattle.cea_determinise.specs.Cea as stored
+use Rattle.event_update.specs.Reach.{Seen}
+use Rattle.event_update.specs.Stands.{Stands}
+use Rattle.event_update.proofs.Before.{none_stand, stand_later}
+use Rattle.query_standing.specs.Bounds.{IsMet}
+use Rattle.query_standing.specs.Clocks.{Reads, HasClockAt, NeverFalls, IsLastClock, low_of}
+use Rattle.query_standing.specs.Keys.{HasKeyAt, IsSeen, positions, AreSeen}
+use Rattle.query_standing.specs.Kept.{Rows, Part, low_at, KeyStands, HasStates, IsHere, HaveStarts, PartStands}
+use Rattle.query_standing.specs.Steps.{Advances, HasNoKey, HasKeyOf}
+use Rattle.query_standing.proofs.Lists.{none_in_nil, got}
+use Rattle.query_standing.proofs.Growing.{get_front, get_last, get_cases, seen_none, seen_same, seen_more, all_earlier}
+use Rattle.query_standing.proofs.Grown.{stands_grown}
+use Rattle.query_standing.proofs.Parts.{clock_front, clock_cases, met_more, length_more}
+use Rattle.query_standing.proofs.Windows.{clock_is_one, low_rises}
+
+module _ (schema : Declared) (q : Query) (events : List Event) (event : Event) (now : ℤ) (old new : Part) (s : PartStands schema q events old) (v : Advances schema q events event now old new) where
+  abbrev more : List Event
+  more = events ++ event ∷ []
+
+  at_last : HasClockAt schema q more (length events) now
+  at_last = record { event = event; at = get_last events event; read = v.reads; clock_is = v.now_is }
+
+  -- each earlier clock is at most the last one, and so at most the event's
+  earlier_clock : (i : ℕ) (b : ℤ) → HasClockAt schema q events i b → b ≤ℤ now
+  earlier_clock i b h = go old.clock s.clock s.unread v.in_time
+    where
+      go : (c : Option ℤ) → IfSome c (IsLastClock schema q events) → IfNone c ((p : ℕ) (other : Event) → slice_get events p ≡ Some other → Reads schema q other → ⊥) → IfSome c (λ before. before ≤ℤ now) → b ≤ℤ now
+      go None l none le = absurd (none i h.event h.at h.read)
+      go (Some c) l none le = elim (cases_lt l.position i) [
+        | inl lt ↦ absurd (l.last i h.event lt h.at h.read)
+        | inr ge ↦ let below = s.never_falls i l.position b c ge h l.has in omega (arith, ints)
+      ]
+
+  never_falls : NeverFalls schema q more
+  never_falls i j b n le hb hn = go (clock_cases schema q events event i b hb) (clock_cases schema q events event j n hn)
+    where
+      is_now : (p : ℕ) (c : ℤ) → p ≡ length events → HasClock schema q.window event p c → c ≡ now
+      is_now p c e h = clock_is_one schema q.window event (length events) c now (subst (λ k. HasClock schema q.window event k c) e h) v.now_is
+
+      go : HasClockAt schema q events i b ⊎ ((i ≡ length events) × Reads schema q event × HasClock schema q.window event i b) → HasClockAt schema q events j n ⊎ ((j ≡ length events) × Reads schema q event × HasClock schema q.window event j n) → b ≤ℤ n
+      go (inl x) (inl y) = s.never_falls i j b n le x y
+      go (inl x) (inr y) = subst (λ z. b ≤ℤ z) (sym (is_now j n y.0 y.2)) (earlier_clock i b x)
+      go (inr x) (inl y) = let inside = slice_get_within events j y.event y.at in let e = x.0 in absurd (omega arith)
+      go (inr x) (inr y) = let e = is_now i b x.0 x.2 in let f = is_now j n y.0 y.2 in omega (arith, ints)
+
+  last_clock : IsLastClock schema q more now
+  last_clock = record {
+    position = length events;
+    has = at_last;
+    last = λ p other lo at r. (let inside = slice_get_within more p other at in let l = length_more events event in absurd (omega arith));
+  }
+
+  low_le : low_at q old.clock ≤ℤ low_at q new.clock
+  low_le = subst (λ c. low_at q old.clock ≤ℤ low_at q c) (sym v.clock) (go old.clock v.in_time)
+    where
+      go : (c : Option ℤ) → IfSome c (λ before. before ≤ℤ now) → low_at q c ≤ℤ low_of q.window now
+      go (Some before) le = low_rises q.window before now le
+      go None le = v.fits
+
+  states : HasStates schema q more new.table
+  states = record {
+    automaton = ap (λ (c : Cea). stored.automaton_of_cea c) v.extends.cea ∙ s.states.automaton;
+    strict = ap (λ (c : Cea). c.strict) v.extends.cea ∙ s.states.strict;
+    sets = v.sets;
+    distinct = v.distinct;
+    met = subst (All (λ (p : StateSets). IsMet schema q more (standing_of p))) (sym v.extends.states) (All-append (λ (p : StateSets). IsMet schema q more (standing_of p)) old.table.states v.extends.more_states (All-weaker (λ (p : StateSets). IsMet schema q events (standing_of p)) (λ (p : StateSets). IsMet schema q more (standing_of p)) (λ p. met_more schema q events event (standing_of p)) old.table.states s.states.met) v.met);
+  }
+
+  starts : HaveStarts schema q more new.nodes
+  starts t c = elim (v.starts t c) [
+    | inl before ↦ clock_front schema q events event t.pos t.clock (s.starts t before)
+    | inr own ↦ subst (λ (x : Stamp). HasClockAt schema q more x.pos x.clock) (sym own) at_last
+  ]
+
+  -- what stands for another key still does
+  other_key : (key : List Value) (rows : Rows) → (HasKey schema q event key → ⊥) → KeyStands schema q events old key rows → KeyStands schema q more new key rows
+  other_key key rows other k = record {
+    seen = k.seen;
+    are_seen = seen_same schema q events event key k.seen k.are_seen other;
+    stands = stand_later new.table (low_at q old.clock) (low_at q new.clock) k.seen new.nodes rows low_le grown;
+  } where
+    one : Stands (record { cea = old.table.cea; states = old.table.states ++ v.extends.more_states; classes = new.table.classes; transitions = new.table.transitions }) (low_at q old.clock) k.seen (old.nodes ++ v.extends.more_nodes) rows
+    one = stands_grown old.table.cea old.table.states v.extends.more_states old.table.classes new.table.classes old.table.transitions new.table.transitions (low_at q old.clock) k.seen old.nodes v.extends.more_nodes rows k.stands
+
+    grown : Stands new.table (low_at q old.clock) k.seen new.nodes rows
+    grown =
+        subst (λ c. Stands (record { cea = c; states = new.table.states; classes = new.table.classes; transitions = new.table.transitions }) (low_at q old.clock) k.seen new.nodes rows) (sym v.extends.cea)
+        (subst (λ ps. Stands (record { cea = old.table.cea; states = ps; classes = new.table.classes; transitions = new.table.transitions }) (low_at q old.clock) k.seen new.nodes rows) (sym v.extends.states)
+        (subst (λ ns. Stands (record { cea = old.table.cea; states = old.table.states ++ v.extends.more_states; classes = new.table.classes; transitions = new.table.transitions }) (low_at q old.clock) k.seen ns rows) (sym v.extends.nodes) one))
+
+  keyed_cases : (key : List Value) (p : ℕ) → HasKeyAt schema q more key p → HasKeyAt schema q events key p ⊎ ((p ≡ length events) × HasKey schema q event key)
+  keyed_cases key p h = elim (get_cases events event p h.event h.at) [
+    | inl l ↦ inl (record { event = h.event; at = l; has = h.has })
+    | inr r ↦ inr (r.0, subst (λ e. HasKey schema q e key) (sym r.1) h.has)
+  ]
+
+  clock_part : IfSome new.clock (IsLastClock schema q more)
+  clock_part = subst (λ c. IfSome c (IsLastClock schema q more)) (sym v.clock) last_clock
+
+  unread_part : IfNone new.clock ((p : ℕ) (other : Event) → slice_get more p ≡ Some other → Reads schema q other → ⊥)
+  unread_part = subst (λ c. IfNone c ((p : ℕ) (other : Event) → slice_get more p ≡ Some other → Reads schema q other → ⊥)) (sym v.clock) tt
+
+  -- An event that is read and has no key changes the clock alone.
+  pub part_no_key : HasNoKey schema q event old new → PartStands schema q more new
+  part_no_key h = record {
+    states = states;
+    nodes = v.well_formed;
+    starts = starts;
+    never_falls = never_falls;
+    clock = clock_part;
+    unread = unread_part;
+    keys = record {
+      distinct = subst HasNoRepeats (sym h.keys) s.keys.distinct;
+      all = λ key p k. subst (λ ks. Contains ks key) (sym h.keys) (s.keys.all key p (elim (keyed_cases key p k) [ inl l ↦ l | inr r ↦ absurd (h.none key r.1) ]));
+      lists = ap length h.rows ∙ (s.keys.lists ∙ ap length (sym h.keys));
+    };
+    here = subst (IsHere schema q more new.keys) (sym h.here) nobody;
+    each = λ n key rows at lists. other_key key rows (h.none key) (s.each n key rows (subst (λ ks. slice_get ks n ≡ Some key) h.keys at) (subst (λ rs. slice_get rs n ≡ Some rows) h.rows lists));
+  } where
+    nobody : IsHere schema q more new.keys None
+    nobody key p ends k = elim (keyed_cases key p k) [
+      | inl l ↦ let i = slice_get_within events p l.event l.at in let m = length_more events event in absurd (omega arith)
+      | inr r ↦ absurd (h.none key r.1)
+    ]
+
+  -- two keys of one event are one
+  one_key : (k l : List Value) → HasKey schema q event k → HasKey schema q event l → k ≡ l
+  one_key k l a b = let both = sym a.1 ∙ b.1 in cc
+
+  at_one_place : (ks : List (List Value)) (i j : ℕ) (k : List Value) → HasNoRepeats ks → slice_get ks i ≡ Some k → slice_get ks j ≡ Some k → i ≡ j
+  at_one_place [] i j k d e f = absurd cc
+  at_one_place (x ∷ xs) zero zero k d e f = refl
+  at_one_place (x ∷ xs) zero (suc j) k d e f = let same : x ≡ k = cc in absurd (d.0 (subst (Contains xs) (sym same) (got xs j k f)))
+  at_one_place (x ∷ xs) (suc i) zero k d e f = let same : x ≡ k = cc in absurd (d.0 (subst (Contains xs) (sym same) (got xs i k e)))
+  at_one_place (x ∷ xs) (suc i) (suc j) k d e f = ap suc (at_one_place xs i j k d.1 e f)
+
+  -- An event with a known key changes the lists of that key alone, which then stand for one event more.
+  pub part_keyed : HasKeyOf schema q events event now old new → PartStands schema q more new
+  part_keyed h = record {
+    states = states;
+    nodes = v.well_formed;
+    starts = starts;
+    never_falls = never_falls;
+    clock = clock_part;
+    unread = unread_part;
+    keys = record {
+      distinct = subst HasNoRepeats (sym h.keys) s.keys.distinct;
+      all = λ key p k. subst (λ ks. Contains ks key) (sym h.keys) (elim (keyed_cases key p k) [ inl l ↦ s.keys.all key p l | inr r ↦ subst (Contains old.keys) (one_key h.key key h.has r.1) (got old.keys h.number h.key h.numbered) ]);
+      lists = h.count ∙ (s.keys.lists ∙ ap length (sym h.keys));
+    };
+    here = subst (IsHere schema q more new.keys) (sym h.here) (h.key, length events, sym (length_more events event), record { event = event; at = get_last events event; has = h.has }, subst (λ ks. slice_get ks h.number ≡ Some h.key) (sym h.keys) h.numbered);
+    each = λ n key rows at lists. each n key rows (subst (λ ks. slice_get ks n ≡ Some key) h.keys at) lists;
+  } where
+    own_key : (rows : Rows) → slice_get new.rows h.number ≡ Some rows → KeyStands schema q events old h.key h.before → KeyStands schema q more new h.key rows
+    own_key rows lists k =
+        let is : h.after ≡ rows = (let both = sym h.new_rows ∙ lists in cc) in
+        let before = all_below k.seen (all_earlier schema q events h.key k.seen k.are_seen) in
+        record {
+          seen = k.seen ++ h.seen ∷ [];
+          are_seen = seen_more schema q events event h.key k.seen h.seen k.are_seen h.has (ap (λ (x : Stamp). x.pos) h.stamp) h.tells;
+          stands = stand_later new.table (low_at q old.clock) (low_at q new.clock) (k.seen ++ h.seen ∷ []) new.nodes rows low_le (subst (λ rs. Stands new.table (low_at q old.clock) (k.seen ++ h.seen ∷ []) new.nodes rs) is (h.stands k.seen before k.stands));
+        }
+      where
+        all_below : (xs : List Seen) → All (λ p. p < length events) (positions xs) → All (λ (x : Seen). x.stamp.pos < length events) xs
+        all_below [] a = All-nil (λ (x : Seen). x.stamp.pos < length events)
+        all_below (x ∷ xs) a = All-cons (λ (x : Seen). x.stamp.pos < length events) x xs (All-head (λ p. p < length events) x.stamp.pos (positions xs) a) (all_below xs (All-tail (λ p. p < length events) x.stamp.pos (positions xs) a))
+
+    each : (n : ℕ) (key : List Value) (rows : Rows) → slice_get old.keys n ≡ Some key → slice_get new.rows n ≡ Some rows → KeyStands schema q more new key rows
+    each n key rows at lists = elim (cases_eq n h.number) [
+      | inl same ↦
+          let key_is : h.key ≡ key = (let both = sym h.numbered ∙ subst (λ i. slice_get old.keys i ≡ Some key) same at in cc) in
+          subst (λ k. KeyStands schema q more new k rows) key_is (own_key rows (subst (λ i. slice_get new.rows i ≡ Some rows) same lists) (s.each h.number h.key h.before h.numbered h.old_rows))
+      | inr apart ↦
+          let others : HasKey schema q event key → ⊥ = λ has. (let key_is = one_key key h.key has h.has in apart (at_one_place old.keys n h.number h.key s.keys.distinct (subst (λ k. slice_get old.keys n ≡ Some k) key_is at) h.numbered)) in
+          other_key key rows others (s.each n key rows at (sym (h.others n apart) ∙ lists))
+    ]
+
+-- A key that no event has may be put in, last and with no list.
+pub part_with_key : (schema : Declared) (q : Query) (events : List Event) (part : Part) (key : List Value) → PartStands schema q events part → (Contains part.keys key → ⊥) → PartStands schema q events (record part { keys = part.keys ++ key ∷ []; rows = part.rows ++ [] ∷ [] })
+part_with_key schema q events part key s fresh = record {
+  states = s.states;
+  nodes = s.nodes;
+  starts = s.starts;
+  never_falls = s.never_falls;
+  clock = s.clock;
+  unread = s.unread;
+  keys = record {
+    distinct = distinct part.keys s.keys.distinct fresh;
+    all = λ k p h. Contains-append_left part.keys (key ∷ []) k (s.keys.all k p h);
+    lists = let a = length_more part.rows [] in let b = length_more part.keys key in let c = s.keys.lists in omega arith;
+  };
+  here = here part.here s.here;
+  each = λ n k rows at lists. elim (get_cases part.keys key n k at) [
+    | inl l ↦ moved k rows (s.each n k rows l (old_rows n rows (let i = slice_get_within part.keys n k l in let c = s.keys.lists in omega arith) lists))
+    | inr r ↦ subst (λ z. KeyStands schema q events (record part { keys = part.keys ++ key ∷ []; rows = part.rows ++ [] ∷ [] }) z rows) r.1 (no_list n rows (let c = s.keys.lists in let e = r.0 in omega arith) lists)
+  ];
+} where
+  moved : (k : List Value) (rows : Rows) → KeyStands schema q events part k rows → KeyStands schema q events (record part { keys = part.keys ++ key ∷ []; rows = part.rows ++ [] ∷ [] }) k rows
+  moved k rows h = record { seen = h.seen; are_seen = h.are_seen; stands = h.stands }
+
+  distinct : (ks : List (List Value)) → HasNoRepeats ks → (Contains ks key → ⊥) → HasNoRepeats (ks ++ key ∷ [])
+  distinct [] d f = ((λ c. none_in_nil key c), tt)
+  distinct (k ∷ ks) d f = (
+    λ c. elim (Contains-push_cases ks key k c) [ inl l ↦ d.0 l | inr e ↦ f (subst (λ z. Contains (k ∷ ks) z) (sym e) (first k ks)) ],
+    distinct ks d.1 (λ c. f (later k ks c)),
+  )
+    where
+      first : (k : List Value) (ks : List (List Value)) → Contains (k ∷ ks) k
+      first k ks = (0, omega arith, refl)
+
+      later : (k : List Value) (ks : List (List Value)) → Contains ks key → Contains (k ∷ ks) key
+      later k ks h = (suc h.0, omega (arith, h.1), h.2)
+
+  here : (o : Option ℕ) → IsHere schema q events part.keys o → IsHere schema q events (part.keys ++ key ∷ []) o
+  here None h = h
+  here (Some n) h = (h.0, h.1, h.2, h.3, get_front part.keys (key ∷ []) n h.0 h.4)
+
+  old_rows : (n : ℕ) (rows : Rows) → n < length part.rows → slice_get (part.rows ++ [] ∷ []) n ≡ Some rows → slice_get part.rows n ≡ Some rows
+  old_rows n rows lt at = elim (get_cases part.rows [] n rows at) [ inl l ↦ l | inr r ↦ let e = r.0 in absurd (omega arith) ]
+
+  no_list : (n : ℕ) (rows : Rows) → n ≡ length part.rows → slice_get (part.rows ++ [] ∷ []) n ≡ Some rows → KeyStands schema q events (record part { keys = part.keys ++ key ∷ []; rows = part.rows ++ [] ∷ [] }) key rows
+  no_list n rows e at = elim (get_cases part.rows [] n rows at) [
+    | inl l ↦ let i = slice_get_within part.rows n rows l in absurd (omega arith)
+    | inr r ↦ subst (λ z. KeyStands schema q events (record part { keys = part.keys ++ key ∷ []; rows = part.rows ++ [] ∷ [] }) key z) r.1 (record { seen = []; are_seen = unseen; stands = none_stand part.table (low_at q part.clock) part.nodes })
+  ]
+    where
+      unseen : AreSeen schema q events key []
+      unseen = record { ascending = (seen_none schema q key).ascending; exact = λ p. ((λ c. absurd (none_in_nil p c)), (λ h. absurd (fresh (s.keys.all key p h)))); seen = All-nil (IsSeen schema q events) }

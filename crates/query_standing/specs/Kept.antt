@@ -1,0 +1,135 @@
+-- What the engine keeps of a query, over nodes: what it is that this stands for the events. After "CORE: a Complex Event Recognition Engine" (PVLDB 2022).
+use Rattle.std.specs.Prelude.{◌≡◌, ℕ, ◌+◌, ◌-◌, ◌≤◌, ℤ, List, [], ◌++◌, length, Contains, All, Option, Some, None, slice_get, slice_index_or, IfSome, IfNone}
+use Rattle.std.specs.List.{flat_map, IsDistinct}
+use Rattle.std.specs.Option.{option_map_or}
+use Rattle.stream_schema.specs.Types.{Declared}
+use Rattle.stream_schema.specs.declared.Event.{Event}
+use Rattle.stream_schema.specs.declared.Value.{Value}
+use Rattle.cel_terms.specs.declared.Query.{Query}
+use Rattle.query_leaves.specs.Expand.{tree_of}
+use Rattle.cer_base.specs.declared.node.Stamp.{Stamp}
+use Rattle.cer_base.specs.declared.node.Root.{Root}
+use Rattle.cer_base.specs.declared.node.Node.{Node}
+use Rattle.cer_base.specs.declared.node.Node.TheVariants.{Bottom}
+use Rattle.cer_base.specs.Repeats.{HasNoRepeats}
+use Rattle.cer_base.specs.Members.{Member}
+use Rattle.cer_base.specs.Nodes.{WellFormed}
+use Rattle.tecs_enumerate.specs.Rest.{CursorState, rest}
+use Rattle.tecs_enumerate.specs.Rest as walks
+use Rattle.cea_determinise.specs.declared.cea.StateSets.{StateSets}
+use Rattle.cea_determinise.specs.Runs.{Automaton}
+use Rattle.cea_determinise.specs.Strict.{Standing}
+use Rattle.cea_determinise.specs.Det.{Table, standing_at}
+use Rattle.cea_determinise.specs.Cea.{standing_of, HasLeavesBelow}
+use Rattle.cea_determinise.specs.Keys.{are_same_sets}
+use Rattle.cea_determinise.specs.Cea as stored
+use Rattle.cea_compile.specs.Compiled.{automaton_of}
+use Rattle.event_update.specs.Reach.{Seen}
+use Rattle.event_update.specs.Stands.{Stands}
+use Rattle.query_standing.specs.Bounds.{IsMet}
+use Rattle.query_standing.specs.Clocks.{Reads, HasClockAt, NeverFalls, IsLastClock, least, low_of}
+use Rattle.query_standing.specs.Keys.{AreSeen, HasKeyAt}
+use Rattle.query_standing.specs.Holding.{accepting}
+
+-- the lists of a key's states, by the states' numbers
+abbrev pub Rows : Type 0
+Rows = List (ℕ × List Root)
+
+-- What is kept of one query: its states, its nodes, its keys in the order in which they came with the lists of each, the clock of the last event that it reads, and the number of the key of the last event of all.
+pub record Part : Type 0 where
+  pub table : Table
+  pub nodes : List Node
+  pub keys : List (List Value)
+  pub rows : List Rows
+  pub clock : Option ℤ
+  pub here : Option ℕ
+
+-- the clock below which no start is asked for
+abbrev pub low_at : Query → Option ℤ → ℤ
+low_at q None = least
+low_at q (Some now) = low_of q.window now
+
+-- For what is seen of the key's events the lists stand, as the update says.
+pub record KeyStands (schema : Declared) (q : Query) (events : List Event) (part : Part) (key : List Value) (rows : Rows) : Type 0 where
+  pub seen : List Seen
+  pub are_seen : AreSeen schema q events key seen
+  pub stands : Stands part.table (low_at q part.clock) seen part.nodes rows
+
+-- the states are the query's, and runs over the events meet each
+pub record HasStates (schema : Declared) (q : Query) (events : List Event) (t : Table) : Type 0 where
+  pub automaton : stored.automaton_of_cea t.cea ≡ automaton_of (tree_of q)
+  pub strict : t.cea.strict ≡ q.strict
+  pub sets : All (HasLeavesBelow t.cea.size) t.states
+  pub distinct : IsDistinct are_same_sets t.states
+  pub met : All (λ p. IsMet schema q events (standing_of p)) t.states
+
+-- Each key of an event is kept once, and none else.
+pub record HasKeys (schema : Declared) (q : Query) (events : List Event) (part : Part) : Type 0 where
+  pub distinct : HasNoRepeats part.keys
+  pub all : (key : List Value) (p : ℕ) → HasKeyAt schema q events key p → Contains part.keys key
+  pub lists : length part.rows ≡ length part.keys
+
+-- the number of the last event's key, where it has one
+abbrev pub IsHere : Declared → Query → List Event → List (List Value) → Option ℕ → Type 0
+IsHere schema q events keys None = (key : List Value) (p : ℕ) → p + 1 ≡ length events → HasKeyAt schema q events key p → ⊥
+IsHere schema q events keys (Some n) = (key : List Value) × (p : ℕ) × (p + 1 ≡ length events) × HasKeyAt schema q events key p × (slice_get keys n ≡ Some key)
+
+-- every start in the nodes is an event that the query reads, with its clock
+abbrev pub HaveStarts : Declared → Query → List Event → List Node → Type 0
+HaveStarts schema q events nodes = (s : Stamp) → Contains nodes (Bottom s) → HasClockAt schema q events s.pos s.clock
+
+-- What is kept of the query is as it is after these events.
+pub record PartStands (schema : Declared) (q : Query) (events : List Event) (part : Part) : Type 0 where
+  pub states : HasStates schema q events part.table
+  pub nodes : WellFormed part.nodes
+  pub starts : HaveStarts schema q events part.nodes
+  pub never_falls : NeverFalls schema q events
+  pub clock : IfSome part.clock (IsLastClock schema q events)
+  pub unread : IfNone part.clock ((p : ℕ) (event : Event) → slice_get events p ≡ Some event → Reads schema q event → ⊥)
+  pub keys : HasKeys schema q events part
+  pub here : IsHere schema q events part.keys part.here
+  pub each : (n : ℕ) (key : List Value) (rows : Rows) → slice_get part.keys n ≡ Some key → slice_get part.rows n ≡ Some rows → KeyStands schema q events part key rows
+
+-- the entries of the lists of accepting states, in order
+abbrev pub roots_of : Automaton → (ℕ → Standing) → Rows → List Root
+roots_of a standing rows = flat_map (λ (r : ℕ × List Root). r.1) (accepting a standing rows)
+
+-- where a cursor begins that is opened now: at the lists of the last event's key, or nowhere
+abbrev pub roots_for : Query → Part → Option ℕ → List Root
+roots_for q part None = []
+roots_for q part (Some n) = roots_of (automaton_of (tree_of q)) (standing_at part.table.states) (slice_index_or part.rows n [])
+
+abbrev pub roots_at : Query → Part → List Root
+roots_at q part = roots_for q part part.here
+
+-- the new part has all states and nodes of the old one, as they were
+pub record Extends (old new : Part) : Type 0 where
+  pub cea : new.table.cea ≡ old.table.cea
+  pub more_states : List StateSets
+  pub states : new.table.states ≡ old.table.states ++ more_states
+  pub more_nodes : List Node
+  pub nodes : new.nodes ≡ old.nodes ++ more_nodes
+
+-- What contracts see of the engine over nodes: a part for each query.
+pub record KeptState : Type 0 where
+  pub schema : Declared
+  pub queries : List Query
+  pub count : ℕ
+  pub parts : List Part
+
+-- The engine over nodes is as it is after these events.
+pub record KeptStands (engine : KeptState) (events : List Event) : Type 0 where
+  pub count : engine.count ≡ length events
+  pub parts : length engine.parts ≡ length engine.queries
+  pub each : (k : ℕ) (q : Query) (part : Part) → slice_get engine.queries k ≡ Some q → slice_get engine.parts k ≡ Some part → PartStands engine.schema q events part
+
+-- the nodes of the query with this number, from 1
+abbrev pub nodes_at : KeptState → ℕ → List Node
+nodes_at engine query = option_map_or (λ (p : Part). p.nodes) (slice_get engine.parts (query - 1)) []
+
+-- a cursor over nodes: the answers that are still to come
+abbrev pub kept_rest : KeptState → CursorState → List Member
+kept_rest engine w = rest w (nodes_at engine w.query)
+
+abbrev pub KeptFits : KeptState → CursorState → Type 0
+KeptFits engine w = (1 ≤ w.query) × (w.query ≤ length engine.parts) × walks.Fits w (nodes_at engine w.query)

@@ -1,0 +1,7 @@
+pub mod Clocks
+pub mod Keys
+pub mod Holding
+pub mod Bounds
+pub mod Kept
+pub mod Laws
+pub mod Steps

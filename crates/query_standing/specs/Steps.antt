@@ -1,0 +1,60 @@
+-- What happens to what is kept of a query when an event comes that it reads.
+use Rattle.std.specs.Prelude.{◌≡◌, ◌≢◌, ℕ, ◌⊎◌, ◌<◌, ℤ, ◌≤ℤ◌, List, [], ◌∷◌, ◌++◌, length, All, Contains, Some, None, slice_get, IfSome}
+use Rattle.std.specs.List.{IsDistinct}
+use Rattle.stream_schema.specs.Types.{Declared}
+use Rattle.stream_schema.specs.declared.Event.{Event}
+use Rattle.stream_schema.specs.declared.Value.{Value}
+use Rattle.cel_terms.specs.declared.Query.{Query}
+use Rattle.cel_terms.specs.Answers.{HasKey, HasClock}
+use Rattle.cer_base.specs.declared.node.Stamp.{Stamp}
+use Rattle.cer_base.specs.declared.node.Node.TheVariants.{Bottom}
+use Rattle.cer_base.specs.Nodes.{WellFormed}
+use Rattle.cea_determinise.specs.Cea.{standing_of, HasLeavesBelow}
+use Rattle.cea_determinise.specs.Keys.{are_same_sets}
+use Rattle.event_update.specs.Reach.{Seen}
+use Rattle.event_update.specs.Stands.{Stands}
+use Rattle.query_standing.specs.Bounds.{IsMet}
+use Rattle.query_standing.specs.Clocks.{Reads, least, low_of}
+use Rattle.query_standing.specs.Keys.{IsSeenAs}
+use Rattle.query_standing.specs.Kept.{Rows, Part, low_at, Extends}
+
+-- The event is read, its clock does not fall, and the low clock is a number of 128 bits; states and nodes are added, and no start but the event's own.
+pub record Advances (schema : Declared) (q : Query) (events : List Event) (event : Event) (now : ℤ) (old new : Part) : Type 0 where
+  pub reads : Reads schema q event
+  pub now_is : HasClock schema q.window event (length events) now
+  pub fits : least ≤ℤ low_of q.window now
+  pub in_time : IfSome old.clock (λ before. before ≤ℤ now)
+  pub clock : new.clock ≡ Some now
+  pub extends : Extends old new
+  pub met : All (λ p. IsMet schema q (events ++ event ∷ []) (standing_of p)) extends.more_states
+  pub sets : All (HasLeavesBelow new.table.cea.size) new.table.states
+  pub distinct : IsDistinct are_same_sets new.table.states
+  pub well_formed : WellFormed new.nodes
+  pub starts : (s : Stamp) → Contains new.nodes (Bottom s) → Contains old.nodes (Bottom s) ⊎ (s ≡ record { pos = length events; clock = now })
+
+-- the event has no key: no list changes
+pub record HasNoKey (schema : Declared) (q : Query) (event : Event) (old new : Part) : Type 0 where
+  pub none : (key : List Value) → HasKey schema q event key → ⊥
+  pub keys : new.keys ≡ old.keys
+  pub rows : new.rows ≡ old.rows
+  pub here : new.here ≡ None
+
+-- The event has a known key: its lists alone change, and stand for one event more where they stood before.
+pub record HasKeyOf (schema : Declared) (q : Query) (events : List Event) (event : Event) (now : ℤ) (old new : Part) : Type 0 where
+  pub key : List Value
+  pub has : HasKey schema q event key
+  pub number : ℕ
+  pub numbered : slice_get old.keys number ≡ Some key
+  pub keys : new.keys ≡ old.keys
+  pub here : new.here ≡ Some number
+  pub count : length new.rows ≡ length old.rows
+  pub others : (n : ℕ) → n ≢ number → slice_get new.rows n ≡ slice_get old.rows n
+  pub before : Rows
+  pub old_rows : slice_get old.rows number ≡ Some before
+  pub after : Rows
+  pub new_rows : slice_get new.rows number ≡ Some after
+  pub seen : Seen
+  pub stamp : seen.stamp ≡ record { pos = length events; clock = now }
+  pub tells : IsSeenAs schema q event seen
+  pub stands : (xs : List Seen) → All (λ (x : Seen). x.stamp.pos < length events) xs → Stands old.table (low_at q old.clock) xs old.nodes before
+      → Stands new.table (low_at q old.clock) (xs ++ seen ∷ []) new.nodes after

@@ -9,7 +9,7 @@ use Rattle.cel_terms.specs.declared.Query.{Query}
 use Rattle.cel_terms.specs.declared.Window.{Window}
 use Rattle.cel_terms.specs.declared.Window.TheVariants.{Free, Events, Clock}
 use Rattle.cel_terms.specs.Answers.{HasClock}
-use Rattle.query_engine.specs.declared.clocks.FallOf.{FallOf}
+use Rattle.query_engine.specs.declared.falls.FallOf.{FallOf}
 use Rattle.query_engine.specs.Clocks.{FallsBack, NoneFallsBack, IsFirstToFall}
 use Rattle.query_engine.specs.Falls.{last_clock, first_fall}
 use Rattle.query_engine.proofs.Fallen.{is_last_clock, first_to_fall, none_to_fall}

@@ -1,12 +1,11 @@
 -- What the words after the program's name ask for: the command that clap reads in them.
-use Rattle.std.specs.Prelude.{◌≡◌, ◌&&◌, ◌^◌, ℕ, Bool, List, [], ◌∷◌, Option, Some, None, codes, length, map}
-use Rattle.std.specs.Prelude.{if◌then◌else◌, nat_lt, option_map, option_and_then, unwrap_or}
+use Rattle.std.specs.Prelude.{◌≡◌, ℕ, Bool, true, false, List, [], ◌∷◌, Option, Some, None, codes}
+use Rattle.std.specs.Prelude.{if◌then◌else◌, option_map, option_and_then, unwrap_or}
 use Rattle.std.specs.Option.{option_map_or}
 use Rattle.std.specs.Str.{bytes_eq}
 use Rattle.std.specs.Str.Parse.{digits_value, without_leading_plus}
-use Rattle.clap.specs.ValueTests.{is_numeral}
-use Rattle.clap.specs.Walk.{is_empty}
-use Rattle.clap.specs.Words.{Row, Text, fault_of, first_of, one_of, subcommand_of}
+use Rattle.clap.specs.ValueTests.{is_unsigned_in}
+use Rattle.clap.specs.Words.{Kinds, Row, Text, fault_of, first_of, one_of, subcommand_of}
 use Rattle.answer_text.specs.declared.Order.{Order}
 use Rattle.answer_text.specs.declared.Order.TheVariants.{Walk, Sorted}
 use Rattle.command_words.specs.declared.Command.{Command}
@@ -19,9 +18,7 @@ text_in id rows = unwrap_or (first_of id rows) []
 
 -- the whole number below 2 ^ 64 that the text has in decimal digits, behind a plus or not
 abbrev pub number_of : Text → Option ℕ
-number_of text =
-    if is_numeral (without_leading_plus text)
-    && nat_lt (digits_value 10 (without_leading_plus text)) (2 ^ 64)
+number_of text = if is_unsigned_in 0 18446744073709551615 text
     then Some (digits_value 10 (without_leading_plus text)) else None
 
 -- the number under an id, or the one that holds where none is given
@@ -56,9 +53,13 @@ command_named name rows = if bytes_eq name (codes "run") then run_in rows
 abbrev pub command_at : Option (Text × List Row) → Option Command
 command_at = option_and_then (λ found. command_named found.0 found.1)
 
--- clap takes the words
+abbrev pub is_none : Kinds → Bool
+is_none [] = true
+is_none (kind ∷ rest) = false
+
+-- clap takes the words: there is no kind of error that a parse of them may have but for memory
 abbrev pub is_taken : List Text → Bool
-is_taken words = is_empty (fault_of program words)
+is_taken words = is_none (fault_of program words)
 
 -- the command that the words ask for, where clap takes them
 abbrev pub command_of : List Text → Option Command

@@ -15,11 +15,14 @@ option id = record (new_rule id) { long = Some id }
 abbrev pub numbered : ℕ → ℕ → Rule → Rule
 numbered least most rule = record rule { parser = Some (Unsigned least most) }
 
+-- --max-bytes N
+abbrev pub most_bytes : Rule
+most_bytes = numbered 1 4611686018427387904 (option (codes "max-bytes"))
+
 -- run QUERIES EVENTS [--order walk|sorted] [--max-bytes N]
 abbrev pub run : App
 run = with_rule (with_rule (with_rule (with_rule (new_app (codes "run")) (name (codes "queries")))
-    (name (codes "events"))) (option (codes "order")))
-    (numbered 1 4611686018427387904 (option (codes "max-bytes")))
+    (name (codes "events"))) (option (codes "order"))) most_bytes
 
 -- sample SEED COUNT
 abbrev pub sample : App

@@ -1,10 +1,10 @@
 //! The program's command, as `clap` is told it, and its parse.
-ghost use Rattle.std.specs.Prelude.{◌≡◌, ◌≢◌, IfOk, map, string_bytes, true, false};
+ghost use Rattle.std.specs.Prelude.{◌≡◌, ◌↔◌, IfOk, map, string_bytes, true, false};
 ghost use Rattle.clap.specs.Words.{app_of, kind_of, rule_of, subcommand_of, subcommand_rows_of};
 ghost use Rattle.cer_base.specs.Answers.{OnFault};
-ghost use Rattle.cer_base.specs.declared.OrMemory.TheVariants.{Fault, Memory};
+ghost use Rattle.cer_base.specs.declared.OrMemory.TheVariants.{Memory};
 ghost use Rattle.command_words.specs.CommandLine.{is_taken};
-ghost use Rattle.command_words.specs.Program.{name, option, program, run, sample};
+ghost use Rattle.command_words.specs.Program.{most_bytes, name, option, program, run, sample};
 
 use crate::Usage;
 use cer_base::OrMemory;
@@ -32,8 +32,7 @@ pub(crate) fn matches<'a>(
 
 /// That memory ran out, or that the words are refused.
 fn refusal(error: &clap::Error) -> OrMemory<Usage>
-    ensures memory { kind_of error.now ≡ ErrorKind.OutOfMemory → result ≡ Memory }
-    ensures usage { kind_of error.now ≢ ErrorKind.OutOfMemory → result ≡ Fault Usage }
+    ensures { (result ≡ Memory) ↔ (kind_of error.now ≡ ErrorKind.OutOfMemory) }
 {
     if error.kind() == ErrorKind::OutOfMemory {
         return OrMemory::Memory;
@@ -57,6 +56,15 @@ fn option<'a>(alloc: Global, id: &'a str) -> Arg<'a>
     Arg::new(alloc, id).long(id)
 }
 
+/// `--max-bytes N`, N from 1 to 2^62.
+fn most_bytes<'a>(alloc: Global) -> Arg<'a>
+    ensures rule { rule_of result ≡ most_bytes }
+    ensures local { result.global ≡ false }
+{
+    let numbers = value_parser!(u64).range(1..).range(..=4611686018427387904);
+    option(alloc, "max-bytes").value_parser(numbers)
+}
+
 /// `run QUERIES EVENTS [--order walk|sorted] [--max-bytes N]`
 fn run<'a>(alloc: Global) -> Result<clap::Command<'a>, AllocError>
     ensures { IfOk result (λ c. app_of c ≡ run) }
@@ -64,8 +72,7 @@ fn run<'a>(alloc: Global) -> Result<clap::Command<'a>, AllocError>
     let queries = name(alloc, "queries");
     let events = name(alloc, "events");
     let order = option(alloc, "order");
-    let most_bytes = option(alloc, "max-bytes")
-        .value_parser(value_parser!(u64).range(1..=4611686018427387904));
+    let most_bytes = most_bytes(alloc);
     clap::Command::new(alloc, "run")
         .arg(queries)?
         .arg(events)?

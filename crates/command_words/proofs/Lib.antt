@@ -1,0 +1,6 @@
+mod Building
+mod Examples
+pub mod ForCallers
+mod Found
+mod Refusals
+mod Taken

@@ -1,0 +1,5 @@
+mod Asked
+mod Building
+pub mod ForCallers
+mod Found
+mod Refusals

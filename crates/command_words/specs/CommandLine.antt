@@ -1,0 +1,74 @@
+-- What the words after the program's name ask for: the command that clap reads in them.
+use Rattle.std.specs.Prelude.{◌≡◌, ℕ, Bool, true, false, List, [], ◌∷◌, Option, Some, None, codes}
+use Rattle.std.specs.Prelude.{if◌then◌else◌, option_map, option_and_then, unwrap_or}
+use Rattle.std.specs.Option.{option_map_or}
+use Rattle.std.specs.Str.{bytes_eq}
+use Rattle.std.specs.Str.Parse.{digits_value, without_leading_plus}
+use Rattle.clap.specs.ValueTests.{is_unsigned_in}
+use Rattle.clap.specs.Words.{Kinds, Row, Text, fault_of, first_of, one_of, subcommand_of}
+use Rattle.answer_text.specs.declared.Order.{Order}
+use Rattle.answer_text.specs.declared.Order.TheVariants.{Walk, Sorted}
+use Rattle.command_words.specs.declared.Command.{Command}
+use Rattle.command_words.specs.declared.Command.TheVariants.{Run, Sample}
+use Rattle.command_words.specs.Program.{program}
+
+-- the name under an id
+abbrev pub text_in : Text → List Row → Text
+text_in id rows = unwrap_or (first_of id rows) []
+
+-- the whole number below 2 ^ 64 that the text has in decimal digits, behind a plus or not
+abbrev pub number_of : Text → Option ℕ
+number_of text = if is_unsigned_in 0 18446744073709551615 text
+    then Some (digits_value 10 (without_leading_plus text)) else None
+
+-- the number under an id, or the one that holds where none is given
+abbrev pub number_in : ℕ → Text → List Row → ℕ
+number_in default id rows = unwrap_or (option_and_then number_of (one_of id rows)) default
+
+abbrev pub order_of : Text → Option Order
+order_of text = if bytes_eq text (codes "walk") then Some Walk
+    else (if bytes_eq text (codes "sorted") then Some Sorted else None)
+
+-- the order that is asked for, sorted where none is given
+abbrev pub order_in : List Row → Option Order
+order_in rows = option_map_or order_of (first_of (codes "order") rows) (Some Sorted)
+
+abbrev pub run_with : List Row → Order → Command
+run_with rows order = Run (text_in (codes "queries") rows) (text_in (codes "events") rows) order
+    (number_in 1099511627776 (codes "max-bytes") rows)
+
+-- what was found behind `run`, as a run; none where the order is of neither name
+abbrev pub run_in : List Row → Option Command
+run_in rows = option_map (run_with rows) (order_in rows)
+
+-- what was found behind `sample`, as a sample
+abbrev pub sample_in : List Row → Command
+sample_in rows = Sample (number_in 0 (codes "seed") rows) (number_in 0 (codes "count") rows)
+
+abbrev pub command_named : Text → List Row → Option Command
+command_named name rows = if bytes_eq name (codes "run") then run_in rows
+    else (if bytes_eq name (codes "sample") then Some (sample_in rows) else None)
+
+-- the command of a subcommand and what was found behind it
+abbrev pub command_at : Option (Text × List Row) → Option Command
+command_at = option_and_then (λ found. command_named found.0 found.1)
+
+abbrev pub is_none : Kinds → Bool
+is_none [] = true
+is_none (kind ∷ rest) = false
+
+-- clap takes the words: there is no kind of error that a parse of them may have but for memory
+abbrev pub is_taken : List Text → Bool
+is_taken words = is_none (fault_of program words)
+
+-- the command that the words ask for, where clap takes them
+abbrev pub command_of : List Text → Option Command
+command_of words = if is_taken words then command_at (subcommand_of program words) else None
+
+-- the words ask for this command
+abbrev pub AsksFor : List (List ℕ) → Command → Type 0
+AsksFor words command = command_of words ≡ Some command
+
+-- the words ask for no command
+abbrev pub AskNothing : List (List ℕ) → Type 0
+AskNothing words = (asked : Command) → AsksFor words asked → ⊥

@@ -1,0 +1,46 @@
+-- The program's command, in the terms of clap: its two commands, their names, options and numbers.
+use Rattle.std.specs.Prelude.{[], ℕ, Some, codes, true}
+use Rattle.clap.specs.Words.{App, Rule, Shape, Text, new_app, new_rule, with_rule, with_subcommand}
+use Rattle.clap.specs.declared.builder.value_parser.ValueParser.TheVariants.{Unsigned}
+
+-- a word that has to be there
+abbrev pub name : Text → Rule
+name id = record (new_rule id) { required = true }
+
+-- an option of one value
+abbrev pub option : Text → Rule
+option id = record (new_rule id) { long = Some id }
+
+-- the same, where the value is a whole number from the least to the most
+abbrev pub numbered : ℕ → ℕ → Rule → Rule
+numbered least most rule = record rule { parser = Some (Unsigned least most) }
+
+-- --max-bytes N
+abbrev pub most_bytes : Rule
+most_bytes = numbered 1 4611686018427387904 (option (codes "max-bytes"))
+
+-- run QUERIES EVENTS [--order walk|sorted] [--max-bytes N]
+abbrev pub run : App
+run = with_rule (with_rule (with_rule (with_rule (new_app (codes "run")) (name (codes "queries")))
+    (name (codes "events"))) (option (codes "order"))) most_bytes
+
+-- sample SEED COUNT
+abbrev pub sample : App
+sample = with_rule (with_rule (new_app (codes "sample"))
+    (numbered 0 18446744073709551615 (name (codes "seed"))))
+    (numbered 0 10000000 (name (codes "count")))
+
+-- the words are those after the program's name; there is no help and no version, and one of the
+-- commands has to be there
+abbrev pub bare : Shape → Shape
+bare top = record top {
+  no_binary_name = true;
+  disable_help_flag = true;
+  disable_help_subcommand = true;
+  disable_version_flag = true;
+  subcommand_required = true;
+}
+
+abbrev pub program : App
+program = with_subcommand (with_subcommand
+    (record { top = bare (new_app (codes "core_cli")).top; subs = [] }) run.top) sample.top

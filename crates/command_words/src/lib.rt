@@ -1,0 +1,49 @@
+//! What the words after the program's name ask for: a run over two files, or a sample.
+//!
+//! Promised: the answer is `clap`'s own reading of the program's command, which `specs/CommandLine`
+//! writes out; `Usage` is answered exactly where `clap` refuses the words for another cause than
+//! memory. Words ask for one thing at most.
+//! It stands on `clap`, and on `answer_text` for the order of the answers.
+#![tactic(auto)]
+
+ghost use Rattle.std.specs.Prelude.{◌≡◌, IfOk, map, string_bytes};
+ghost use Rattle.cer_base.specs.Answers.{OnFault};
+ghost use Rattle.command_words.specs.CommandLine.{AsksFor, AskNothing};
+
+mod program;
+mod reading;
+
+use answer_text::Order;
+use cer_base::{OrMemory, Text};
+use std::alloc::Global;
+
+/// What the words after the program's name ask for.
+#[derive(Drop, Debug)]
+pub enum Command {
+    /// The answers to the queries of one file over the events of another.
+    Run {
+        queries: Text,
+        events: Text,
+        order: Order,
+        /// From 1.
+        most_bytes: u64,
+    },
+    /// The answers over events that are made up from a seed.
+    Sample { seed: u64, count: u64 },
+}
+
+/// The words ask for nothing that the program does.
+#[derive(Debug, Clone, Copy, PartialEq, Eq)]
+pub struct Usage;
+
+/// What the words after the program's name ask for, or that they ask for nothing.
+pub fn read_command(alloc: Global, words: &[String]) -> Result<Command, OrMemory<Usage>>
+    ensures asks { IfOk result (λ command. AsksFor (map string_bytes words.now) command) }
+    ensures nothing { OnFault result (λ usage. AskNothing (map string_bytes words.now)) }
+{
+    let matches = match program::matches(alloc, words) {
+        Ok(matches) => matches,
+        Err(stop) => return Err(stop),
+    };
+    reading::command_in(alloc, &matches)
+}

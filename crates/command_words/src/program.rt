@@ -1,0 +1,106 @@
+//! The program's command, as `clap` is told it, and its parse.
+ghost use Rattle.std.specs.Prelude.{◌≡◌, ◌↔◌, IfOk, map, string_bytes, true, false};
+ghost use Rattle.clap.specs.Words.{app_of, kind_of, rule_of, subcommand_of, subcommand_rows_of};
+ghost use Rattle.cer_base.specs.Answers.{OnFault};
+ghost use Rattle.cer_base.specs.declared.OrMemory.TheVariants.{Memory};
+ghost use Rattle.command_words.specs.CommandLine.{is_taken};
+ghost use Rattle.command_words.specs.Program.{most_bytes, name, option, program, run, sample};
+
+use crate::Usage;
+use cer_base::OrMemory;
+use clap::error::ErrorKind;
+use clap::{Arg, ArgMatches, value_parser};
+use std::alloc::{AllocError, Global};
+
+/// What `clap` found in the words, where it takes them.
+pub(crate) fn matches<'a>(
+    alloc: Global,
+    words: &'a [String],
+) -> Result<ArgMatches<'a>, OrMemory<Usage>>
+    ensures taken { IfOk result (λ m. is_taken (map string_bytes words.entry.now) ≡ true) }
+    ensures found { IfOk result (λ m. subcommand_rows_of m
+        ≡ subcommand_of program (map string_bytes words.entry.now)) }
+    ensures refused { OnFault result (λ usage.
+        is_taken (map string_bytes words.entry.now) ≡ false) }
+{
+    let program = program(alloc)?;
+    match program.try_get_matches_from(words) {
+        Ok(matches) => Ok(matches),
+        Err(error) => Err(refusal(&error)),
+    }
+}
+
+/// That memory ran out, or that the words are refused.
+fn refusal(error: &clap::Error) -> OrMemory<Usage>
+    ensures { (result ≡ Memory) ↔ (kind_of error.now ≡ ErrorKind.OutOfMemory) }
+{
+    if error.kind() == ErrorKind::OutOfMemory {
+        return OrMemory::Memory;
+    }
+    OrMemory::Fault(Usage)
+}
+
+/// A name that has to be there.
+fn name<'a>(alloc: Global, id: &'a str) -> Arg<'a>
+    ensures rule { rule_of result ≡ name id.entry.now }
+    ensures local { result.global ≡ false }
+{
+    Arg::new(alloc, id).required(true)
+}
+
+/// An option of any one value.
+fn option<'a>(alloc: Global, id: &'a str) -> Arg<'a>
+    ensures rule { rule_of result ≡ option id.entry.now }
+    ensures local { result.global ≡ false }
+{
+    Arg::new(alloc, id).long(id)
+}
+
+/// `--max-bytes N`, N from 1 to 2^62.
+fn most_bytes<'a>(alloc: Global) -> Arg<'a>
+    ensures rule { rule_of result ≡ most_bytes }
+    ensures local { result.global ≡ false }
+{
+    let numbers = value_parser!(u64).range(1..).range(..=4611686018427387904);
+    option(alloc, "max-bytes").value_parser(numbers)
+}
+
+/// `run QUERIES EVENTS [--order walk|sorted] [--max-bytes N]`
+fn run<'a>(alloc: Global) -> Result<clap::Command<'a>, AllocError>
+    ensures { IfOk result (λ c. app_of c ≡ run) }
+{
+    let queries = name(alloc, "queries");
+    let events = name(alloc, "events");
+    let order = option(alloc, "order");
+    let most_bytes = most_bytes(alloc);
+    clap::Command::new(alloc, "run")
+        .arg(queries)?
+        .arg(events)?
+        .arg(order)?
+        .arg(most_bytes)
+}
+
+/// `sample SEED COUNT`
+fn sample<'a>(alloc: Global) -> Result<clap::Command<'a>, AllocError>
+    ensures { IfOk result (λ c. app_of c ≡ sample) }
+{
+    let seed = name(alloc, "seed").value_parser(value_parser!(u64));
+    let count = name(alloc, "count").value_parser(value_parser!(u64).range(..=10000000));
+    clap::Command::new(alloc, "sample").arg(seed)?.arg(count)
+}
+
+/// The command that has one of the two as its subcommand, and no help and no version.
+fn program<'a>(alloc: Global) -> Result<clap::Command<'a>, AllocError>
+    ensures { IfOk result (λ c. app_of c ≡ program) }
+{
+    let run = run(alloc)?;
+    let sample = sample(alloc)?;
+    clap::Command::new(alloc, "core_cli")
+        .no_binary_name(true)
+        .disable_help_flag(true)
+        .disable_help_subcommand(true)
+        .disable_version_flag(true)
+        .subcommand_required(true)
+        .subcommand(run)?
+        .subcommand(sample)
+}

@@ -1,0 +1,95 @@
+//! The command in what `clap` found.
+ghost use Rattle.std.specs.Prelude.{◌≡◌, IfOk, Some, None};
+ghost use Rattle.clap.specs.Words.{found_of, rows_of, subcommand_rows_of};
+ghost use Rattle.cer_base.specs.Answers.{OnFault};
+ghost use Rattle.command_words.specs.CommandLine.{command_at, number_in, order_in, order_of};
+ghost use Rattle.command_words.specs.CommandLine.{run_in, sample_in, text_in};
+
+use crate::{Command, Usage};
+use answer_text::Order;
+use cer_base::{Memory, OrMemory, Text};
+use clap::ArgMatches;
+use std::alloc::Global;
+
+const MOST_BYTES: u64 = 1099511627776;
+
+/// The command in the matches, where they have one of the two and an order's name.
+pub(crate) fn command_in(
+    alloc: Global,
+    matches: &ArgMatches<'_>,
+) -> Result<Command, OrMemory<Usage>>
+    ensures read { IfOk result (λ c. command_at (subcommand_rows_of matches.now) ≡ Some c) }
+    ensures none { OnFault result (λ u. command_at (subcommand_rows_of matches.now) ≡ None) }
+{
+    let Some((name, found)) = matches.subcommand() else {
+        return Err(OrMemory::Fault(Usage));
+    };
+    if name == "run" {
+        return run_in(alloc, found);
+    }
+    if name == "sample" {
+        return Ok(sample_in(found));
+    }
+    Err(OrMemory::Fault(Usage))
+}
+
+/// What was found behind `run`.
+fn run_in(alloc: Global, matches: &ArgMatches<'_>) -> Result<Command, OrMemory<Usage>>
+    ensures read { IfOk result (λ c. run_in (rows_of (found_of matches.now)) ≡ Some c) }
+    ensures none { OnFault result (λ u. run_in (rows_of (found_of matches.now)) ≡ None) }
+{
+    let Some(order) = order_in(matches) else {
+        return Err(OrMemory::Fault(Usage));
+    };
+    let queries = text_in(alloc, matches, "queries")?;
+    let events = text_in(alloc, matches, "events")?;
+    let most_bytes = number_in(matches, "max-bytes", MOST_BYTES);
+    Ok(Command::Run {
+        queries,
+        events,
+        order,
+        most_bytes,
+    })
+}
+
+/// What was found behind `sample`.
+fn sample_in(matches: &ArgMatches<'_>) -> Command
+    ensures { result ≡ sample_in (rows_of (found_of matches.now)) }
+{
+    let seed = number_in(matches, "seed", 0);
+    let count = number_in(matches, "count", 0);
+    Command::Sample { seed, count }
+}
+
+fn text_in(alloc: Global, matches: &ArgMatches<'_>, id: &str) -> Result<Text, Memory>
+    ensures { IfOk result (λ text. text ≡ text_in id.now (rows_of (found_of matches.now))) }
+{
+    Text::copy_of(alloc, matches.get_str(id).unwrap_or(""))
+}
+
+fn number_in(matches: &ArgMatches<'_>, id: &str, default: u64) -> u64
+    ensures { result ≡ number_in default id.now (rows_of (found_of matches.now)) }
+{
+    matches.get_one::<u64>(id).unwrap_or(default)
+}
+
+fn order_in(matches: &ArgMatches<'_>) -> Option<Order>
+    ensures { result ≡ order_in (rows_of (found_of matches.now)) }
+{
+    match matches.get_str("order") {
+        Some(name) => order_of(name),
+        None => Some(Order::Sorted),
+    }
+}
+
+fn order_of(name: &str) -> Option<Order>
+    ensures { result ≡ order_of name.now }
+{
+    if name == "walk" {
+        return Some(Order::Walk);
+    }
+    if name == "sorted" {
+        return Some(Order::Sorted);
+    }
+    None
+}

@@ -1,0 +1,122 @@
+use super::*;
+use std::test::Fail;
+
+/// Each row has the words, a blank between two of them, and what they ask for.
+const ROWS: [(&str, &str); 64] = [
+    // the two commands, and what holds where no option is given
+    ("run q e", "run q e Sorted 1099511627776"),
+    ("sample 7 3", "sample 7 3"),
+    // options before, between and after the names, apart and joined
+    ("run --order walk q e", "run q e Walk 1099511627776"),
+    ("run q --order sorted e", "run q e Sorted 1099511627776"),
+    ("run q e --order walk", "run q e Walk 1099511627776"),
+    ("run q e --order=walk", "run q e Walk 1099511627776"),
+    ("run --max-bytes 5 q --order=walk e", "run q e Walk 5"),
+    ("run --order=walk --max-bytes=9 q e", "run q e Walk 9"),
+    // the bounds of each number, and one beyond
+    ("run q e --max-bytes 1", "run q e Sorted 1"),
+    ("run q e --max-bytes 0", "usage"),
+    ("run q e --max-bytes 4611686018427387904", "run q e Sorted 4611686018427387904"),
+    ("run q e --max-bytes 4611686018427387905", "usage"),
+    ("run q e --max-bytes 18446744073709551616", "usage"),
+    ("sample 0 0", "sample 0 0"),
+    ("sample 18446744073709551615 0", "sample 18446744073709551615 0"),
+    ("sample 18446744073709551616 0", "usage"),
+    ("sample 0 10000000", "sample 0 10000000"),
+    ("sample 0 10000001", "usage"),
+    // whole numbers: a plus and zeros before them are taken, a minus and all else are not
+    ("run q e --max-bytes +5", "run q e Sorted 5"),
+    ("run q e --max-bytes 0005", "run q e Sorted 5"),
+    ("run q e --max-bytes=+0005", "run q e Sorted 5"),
+    ("sample +7 007", "sample 7 7"),
+    ("sample 00018446744073709551615 +0", "sample 18446744073709551615 0"),
+    ("run q e --max-bytes=-5", "usage"),
+    ("run q e --max-bytes 5k", "usage"),
+    ("run q e --max-bytes=", "usage"),
+    ("run q e --max-bytes=++5", "usage"),
+    ("sample -1 0", "usage"),
+    ("sample 1.5 0", "usage"),
+    ("sample x 0", "usage"),
+    // a lone dash and the empty word are names
+    ("run - e", "run - e Sorted 1099511627776"),
+    ("run - -", "run - - Sorted 1099511627776"),
+    ("run  e", "run  e Sorted 1099511627776"),
+    // behind two dashes all words are names
+    ("run -- --order walk", "run --order walk Sorted 1099511627776"),
+    ("run q -- -e", "run q -e Sorted 1099511627776"),
+    ("run --order walk -- q e", "run q e Walk 1099511627776"),
+    ("run -- q e --order walk", "usage"),
+    ("-- run q e", "usage"),
+    // a value apart from its option does not begin with a dash
+    ("run q e --order -walk", "usage"),
+    ("run q e --max-bytes -5", "usage"),
+    ("run q e --max-bytes --order walk", "usage"),
+    // each option once, with a value, of its kind
+    ("run q e --order walk --order walk", "usage"),
+    ("run q e --max-bytes 5 --max-bytes=5", "usage"),
+    ("run q e --order", "usage"),
+    ("run q e --order=", "usage"),
+    ("run q e --order Walk", "usage"),
+    ("run q e --order random", "usage"),
+    ("run q e --ord walk", "usage"),
+    ("run q e -o walk", "usage"),
+    // too few names, too many, and names of no command
+    ("run", "usage"),
+    ("run q", "usage"),
+    ("run q e x", "usage"),
+    ("sample 7", "usage"),
+    ("sample 7 3 1", "usage"),
+    ("", "usage"),
+    ("walk q e", "usage"),
+    ("--order walk run q e", "usage"),
+    // what the program does not have
+    ("--help", "usage"),
+    ("-h", "usage"),
+    ("help", "usage"),
+    ("--version", "usage"),
+    ("run --help", "usage"),
+    ("run q e --compact-every 5", "usage"),
+    ("sample 7 3 --order walk", "usage"),
+];
+
+fn words_of(alloc: Global, line: &str) -> Result<Vec<String>, Fail> {
+    let mut words = Vec::new(alloc);
+    for word in line.split(' ') {
+        words.push(word.to_string(alloc)?)?;
+    }
+    Ok(words)
+}
+
+fn shown(alloc: Global, asked: Result<Command, OrMemory<Usage>>) -> Result<String, Fail> {
+    Ok(match asked {
+        Ok(Command::Run {
+            queries,
+            events,
+            order,
+            most_bytes,
+        }) => {
+            let names = format!(in alloc; "run {} {}", queries.as_str(), events.as_str())?;
+            format!(in alloc; "{names} {order:?} {most_bytes}")?
+        }
+        Ok(Command::Sample { seed, count }) => format!(in alloc; "sample {seed} {count}")?,
+        Err(OrMemory::Fault(Usage)) => "usage".to_string(alloc)?,
+        Err(OrMemory::Memory) => "memory".to_string(alloc)?,
+    })
+}
+
+#[test]
+fn words_ask_for_what_the_rows_say(rt: HostRuntime) -> Result<(), Fail> {
+    for (line, wanted) in ROWS {
+        let words = words_of(rt.alloc(), line)?;
+        let told = shown(rt.alloc(), read_command(rt.alloc(), words.as_slice()))?;
+        assert_eq!(rt; told.as_str(), wanted, "at {line}");
+    }
+    Ok(())
+}
+
+#[test]
+fn no_words_ask_for_nothing(rt: HostRuntime) -> Result<(), Fail> {
+    let told = shown(rt.alloc(), read_command(rt.alloc(), &[]))?;
+    assert_eq!(rt; told.as_str(), "usage");
+    Ok(())
+}

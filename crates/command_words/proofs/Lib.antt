@@ -1,5 +1,6 @@
-mod Asked
 mod Building
+mod Examples
 pub mod ForCallers
 mod Found
 mod Refusals
+mod Taken

@@ -1,8 +1,9 @@
 //! What the words after the program's name ask for: a run over two files, or a sample.
 //!
-//! Promised: the answer is `clap`'s own reading of the program's command, which `specs/CommandLine`
-//! writes out; `Usage` is answered exactly where `clap` refuses the words for another cause than
-//! memory. Words ask for one thing at most.
+//! Promised: the answer is `clap`'s own reading of the program's command, which `specs/Program` and
+//! `specs/CommandLine` write out, and `Usage` where the words ask for nothing by it. By the laws in
+//! `proofs/ForCallers` words ask for one command at most, and for none only where `clap` refuses
+//! them for another cause than memory, or the order that is asked for is of neither name.
 //! It stands on `clap`, and on `answer_text` for the order of the answers.
 #![tactic(auto)]
 
@@ -31,7 +32,10 @@ pub enum Command {
         most_bytes: u64,
     },
     /// The answers over events that are made up from a seed.
-    Sample { seed: u64, count: u64 },
+    Sample {
+        seed: u64,
+        count: u64,
+    },
 }
 
 /// The words ask for nothing that the program does.

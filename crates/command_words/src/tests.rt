@@ -16,11 +16,17 @@ const ROWS: [(&str, &str); 64] = [
     // the bounds of each number, and one beyond
     ("run q e --max-bytes 1", "run q e Sorted 1"),
     ("run q e --max-bytes 0", "usage"),
-    ("run q e --max-bytes 4611686018427387904", "run q e Sorted 4611686018427387904"),
+    (
+        "run q e --max-bytes 4611686018427387904",
+        "run q e Sorted 4611686018427387904",
+    ),
     ("run q e --max-bytes 4611686018427387905", "usage"),
     ("run q e --max-bytes 18446744073709551616", "usage"),
     ("sample 0 0", "sample 0 0"),
-    ("sample 18446744073709551615 0", "sample 18446744073709551615 0"),
+    (
+        "sample 18446744073709551615 0",
+        "sample 18446744073709551615 0",
+    ),
     ("sample 18446744073709551616 0", "usage"),
     ("sample 0 10000000", "sample 0 10000000"),
     ("sample 0 10000001", "usage"),
@@ -29,7 +35,10 @@ const ROWS: [(&str, &str); 64] = [
     ("run q e --max-bytes 0005", "run q e Sorted 5"),
     ("run q e --max-bytes=+0005", "run q e Sorted 5"),
     ("sample +7 007", "sample 7 7"),
-    ("sample 00018446744073709551615 +0", "sample 18446744073709551615 0"),
+    (
+        "sample 00018446744073709551615 +0",
+        "sample 18446744073709551615 0",
+    ),
     ("run q e --max-bytes=-5", "usage"),
     ("run q e --max-bytes 5k", "usage"),
     ("run q e --max-bytes=", "usage"),
@@ -42,7 +51,10 @@ const ROWS: [(&str, &str); 64] = [
     ("run - -", "run - - Sorted 1099511627776"),
     ("run  e", "run  e Sorted 1099511627776"),
     // behind two dashes all words are names
-    ("run -- --order walk", "run --order walk Sorted 1099511627776"),
+    (
+        "run -- --order walk",
+        "run --order walk Sorted 1099511627776",
+    ),
     ("run q -- -e", "run q -e Sorted 1099511627776"),
     ("run --order walk -- q e", "run q e Walk 1099511627776"),
     ("run -- q e --order walk", "usage"),
@@ -89,12 +101,14 @@ fn words_of(alloc: Global, line: &str) -> Result<Vec<String>, Fail> {
 
 fn shown(alloc: Global, asked: Result<Command, OrMemory<Usage>>) -> Result<String, Fail> {
     Ok(match asked {
-        Ok(Command::Run {
-            queries,
-            events,
-            order,
-            most_bytes,
-        }) => {
+        Ok(
+            Command::Run {
+                queries,
+                events,
+                order,
+                most_bytes,
+            },
+        ) => {
             let names = format!(in alloc; "run {} {}", queries.as_str(), events.as_str())?;
             format!(in alloc; "{names} {order:?} {most_bytes}")?
         }

@@ -1,0 +1,27 @@
+-- What some words ask for, computed: a reader sees by them that the definition is what the words say.
+use Rattle.std.proofs.Common.{◌≡◌, [], ◌∷◌, None, codes, refl}
+use Rattle.answer_text.specs.declared.Order.TheVariants.{Walk, Sorted}
+use Rattle.clap.proofs.OnLiterals.{clap_on_literals}
+use Rattle.command_words.specs.CommandLine.{AsksFor, command_of}
+use Rattle.command_words.specs.declared.Command.TheVariants.{Run, Sample}
+
+pub options_stand_between : AsksFor (codes "run" ∷ codes "--order=walk" ∷ codes "q" ∷ codes "--max-bytes" ∷ codes "+05" ∷ codes "-" ∷ [])
+    (Run (codes "q") (codes "-") Walk 5)
+unfolding clap_on_literals
+options_stand_between = refl
+
+pub numbers_have_zeros : AsksFor (codes "sample" ∷ codes "+7" ∷ codes "007" ∷ []) (Sample 7 7)
+unfolding clap_on_literals
+numbers_have_zeros = refl
+
+pub one_name_is_refused : command_of (codes "run" ∷ codes "q" ∷ []) ≡ None
+unfolding clap_on_literals
+one_name_is_refused = refl
+
+pub help_is_refused : command_of (codes "--help" ∷ []) ≡ None
+unfolding clap_on_literals
+help_is_refused = refl
+
+pub defaults_hold : AsksFor (codes "run" ∷ codes "q.core" ∷ codes "e.csv" ∷ []) (Run (codes "q.core") (codes "e.csv") Sorted 1099511627776)
+unfolding clap_on_literals
+defaults_hold = refl

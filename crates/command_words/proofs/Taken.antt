@@ -1,0 +1,62 @@
+-- What clap found in words that it takes: one of the two commands.
+use Rattle.std.proofs.Common.{◌≡◌, ◌⊎◌, List, [], ◌∷◌, Option, Some, None, Bool, cond, codes, refl, sym, inl, inr, true, false, true≢false}
+use Rattle.std.specs.Prelude.{is_some, option_map}
+use Rattle.clap.specs.Faults.{check_fault, defaults_fault, entered_fault, level_fault, settle_fault, walk_fault}
+use Rattle.clap.specs.Kinds.{check_kinds, or_else}
+use Rattle.clap.specs.Simple.{built, entered, names_of, rows_at}
+use Rattle.clap.specs.Walk.{Held, Names, answers_to, finished, nothing_held, settled, stop_after, walk, walk_from}
+use Rattle.clap.specs.Words.{Kinds, Row, Shape, Text, subcommand_of}
+use Rattle.command_words.specs.CommandLine.{is_none, is_taken}
+use Rattle.command_words.specs.Program.{program}
+
+last_none : (a b : Kinds) → is_none (or_else a b) ≡ true → is_none b ≡ true
+last_none [] b e = e
+last_none (k ∷ ks) b e = absurd (true≢false (sym e))
+
+missing : (help subcommand argument : Bool) → subcommand ≡ true → is_none (check_kinds help subcommand argument) ≡ true → ⊥
+missing true subcommand argument wants e = true≢false (sym e)
+missing false true argument wants e = true≢false (sym e)
+missing false false argument wants e = true≢false (sym wants)
+
+-- a level that asks for a subcommand and fails by nothing has one
+has_one : (s : Shape) (rows : List Row) (has : Bool) → s.subcommand_required ≡ true → is_none (check_fault s rows has) ≡ true → has ≡ true
+has_one s rows true asks e = refl
+has_one s rows false asks e = absurd (missing _ s.subcommand_required _ asks e)
+
+level_has : (s : Shape) (names : Names) (words : List Text) (has : Bool) (below : Kinds) → s.subcommand_required ≡ true
+    → is_none (level_fault s names nothing_held words has below) ≡ true → has ≡ true
+level_has s names words has below asks e =
+    let end : Held = (walk s.rules names nothing_held words).held in
+    let checks = check_fault s (finished s.rules end) has in
+    let defaults = defaults_fault (settled s.rules end).rows s.rules in
+    let settles = settle_fault s.rules s.args_override_self end in
+    let after_walk = last_none (walk_fault s names (walk_from nothing_held) words) (or_else below (or_else settles (or_else defaults checks))) e in
+    let after_below = last_none below (or_else settles (or_else defaults checks)) after_walk in
+    let after_settles = last_none settles (or_else defaults checks) after_below in
+    has_one s (finished s.rules end) has asks (last_none defaults checks after_settles)
+
+-- what was found is behind one of two names
+abbrev IsFound : Text → Option (Text × List Row) → Type 0
+IsFound name found = (rows : List Row) × (found ≡ Some (name, rows))
+
+one_of_two : (first second : Bool) (a b : Shape) (words : List Text)
+    → is_some (option_map (λ s. rows_at s words) (cond first (Some a) (cond second (Some b) None))) ≡ true
+    → IsFound a.name (option_map (λ s. rows_at s words) (cond first (Some a) (cond second (Some b) None)))
+    ⊎ IsFound b.name (option_map (λ s. rows_at s words) (cond first (Some a) (cond second (Some b) None)))
+one_of_two true second a b words some = inl (_, refl)
+one_of_two false true a b words some = inr (_, refl)
+one_of_two false false a b words some = absurd (true≢false (sym some))
+
+entered_one : (stop : Option (Text × List Text)) → is_some (entered (built program) stop) ≡ true
+    → IsFound (codes "run") (entered (built program) stop) ⊎ IsFound (codes "sample") (entered (built program) stop)
+entered_one None some = absurd (true≢false (sym some))
+entered_one (Some p) some =
+    one_of_two (answers_to p.0 (codes "run", [])) (answers_to p.0 (codes "sample", [])) _ _ p.1 some
+
+-- clap found one of the two commands in words that it takes
+pub taken_is_found : (words : List Text) → is_taken words ≡ true
+    → IsFound (codes "run") (subcommand_of program words) ⊎ IsFound (codes "sample") (subcommand_of program words)
+taken_is_found words taken =
+    let stop = stop_after (built program).top.rules (names_of (built program)) words in
+    entered_one stop (level_has (built program).top (names_of (built program)) words (is_some (entered (built program) stop))
+    (entered_fault (built program) stop) refl taken)

@@ -1,5 +1,5 @@
 -- What clap's kinds of error say of the words.
-use Rattle.std.proofs.Common.{◌≡◌, [], ◌∷◌, Err, refl, inl, inr, true, false}
+use Rattle.std.proofs.Common.{◌≡◌, [], ◌∷◌, Err, refl, inl, inr, false}
 use Rattle.clap.specs.Words.{HasKind, IsAmong, Kinds, kind_of}
 use Rattle.clap.specs.declared.error.Error.{Error}
 use Rattle.clap.specs.declared.error.kind.ErrorKind.{ErrorKind}
@@ -8,9 +8,6 @@ use Rattle.cer_base.specs.Answers.{OnFault}
 use Rattle.cer_base.specs.declared.OrMemory.{OrMemory}
 use Rattle.cer_base.specs.declared.OrMemory.TheVariants.{Fault, Memory}
 use Rattle.command_words.specs.CommandLine.{is_none}
-
-pub none_is_none : (kinds : Kinds) → kinds ≡ [] → is_none kinds ≡ true
-none_is_none kinds e = rw e refl
 
 among_some : (kind : ErrorKind) (kinds : Kinds) → IsAmong kind kinds → is_none kinds ≡ false
 among_some kind [] h = absurd h

@@ -1,27 +1,27 @@
 -- What the end of a run says of each answer of the program.
-use Rattle.std.proofs.Common.{◌≡◌, ℕ, ◌⊎◌, List, Option, Some, None, refl, sym, ◌∙◌, ap, subst, inl, inr, IsSome, IsSomeAnd, ◌↔◌}
+use Rattle.std.proofs.Common.{◌≡◌, ℕ, ◌⊎◌, List, map, Option, Some, None, Ok, Err, refl, sym, ◌∙◌, ap, subst, inl, inr, IsSome, IsSomeAnd, ◌↔◌}
 use Rattle.cer_base.specs.declared.Place.{Place}
-use Rattle.stream_schema.specs.declared.Event.{Event}
+use Rattle.stream_schema.specs.Types.{Declared}
+use Rattle.cel_terms.specs.declared.Query.{Query}
+use Rattle.ceql_grammar.specs.declared.faults.QueryFault.{QueryFault}
+use Rattle.ceql_grammar.specs.declared.faults.QueryError.{QueryError}
+use Rattle.ceql_parser.specs.QueryTexts.{TextAnswer}
+use Rattle.ceql_parser.specs.QueryTrees.{QueryTree, query_tree}
+use Rattle.ceql_parser.proofs.TextAnswers.{one_text_answer}
+use Rattle.event_reader.specs.declared.EventFault.{EventFault}
 use Rattle.cer_outside.specs.Content.{Content, Missing, Holds, OfOpened}
-use Rattle.core_top.specs.declared.QueryFault.{QueryFault}
-use Rattle.core_top.specs.declared.EventFault.{EventFault}
-use Rattle.core_top.specs.declared.File.{File}
-use Rattle.core_top.specs.declared.File.TheVariants as file
+use Rattle.event_run.specs.Runs.{Stop, End, Event, InputTooLong, RunsTo}
+use Rattle.event_run.proofs.ForCallers.{one_run_of_trees}
+use Rattle.fault_notes.specs.declared.File.{File}
+use Rattle.fault_notes.specs.declared.File.TheVariants as file
 use Rattle.core_top.specs.declared.Cause.{Cause}
 use Rattle.core_top.specs.declared.Cause.TheVariants as cause
-use Rattle.core_top.specs.FirstForm.{Names, IsQueryFile, IsEventFile}
-use Rattle.core_top.specs.Command.{IsRun}
-use Rattle.core_top.specs.Causes.{IsAcceptedText, IsRefusedText, IsStopped, IsFromOutside, IsFineOrOutside, IsReading, EndsWithout, name_of}
-use Rattle.core_top.specs.Output.{AreAnswers, AreFileAnswers, AreRunAnswers, Wrote}
+use Rattle.core_top.specs.Command.{RunWords}
+use Rattle.core_top.specs.Accepted.{Accepts, IsAcceptedText, IsRefusedText, StopsAt, AreAnswers}
+use Rattle.core_top.specs.Causes.{IsFromOutside, IsFineOrOutside, IsReading, EndsWithout, name_of}
+use Rattle.core_top.specs.Output.{AreFileAnswers, AreReadAnswers, WroteAll, Wrote}
 use Rattle.core_top.specs.SourceBytes.{IsRestOf}
-use Rattle.core_top.specs.Run.{Sources, FailedWith, Outside, RunEnds, HasAccepted, WroteNothing}
-
--- words name one pair of files
-pub same_queries : (words : List (List ℕ)) (q e r f : List ℕ) → IsRun words q e → IsRun words r f → q ≡ r
-same_queries words q e r f one other = let same = sym one.spelled ∙ other.spelled in cc
-
-pub same_events : (words : List (List ℕ)) (q e r f : List ℕ) → IsRun words q e → IsRun words r f → e ≡ f
-same_events words q e r f one other = let same = sym one.spelled ∙ other.spelled in cc
+use Rattle.core_top.specs.Run.{Sources, FailedWith, Outside, HasAccepted, CauseHolds, left_of}
 
 -- a fact of the bytes that are told
 pub told : (content : Content) (text : List ℕ) (P : List ℕ → Type 0) → content ≡ Holds text → OfOpened content P → P text
@@ -29,67 +29,104 @@ told content text P same fact = let Q : Content → Type 0 = λ w. OfOpened w P 
 
 -- a text is not both accepted and refused
 pub not_both : (text : List ℕ) (fault : QueryFault) (place : Place) → IsAcceptedText text → IsRefusedText text fault place → ⊥
-not_both text fault place accepted refused = refused.other accepted.0 accepted.1
+not_both text fault place accepted refused =
+    let same = one_text_answer text _ _ accepted.2 refused in cc
 
--- an event file is not both accepted and refused
-pub not_stopped : (text lines bytes : List ℕ) (line : ℕ) (fault : EventFault) → AreAnswers text lines bytes → IsStopped text lines line fault → ⊥
-not_stopped text lines bytes line fault answers stopped = stopped.other answers.names answers.query_file answers.events answers.event_file
+-- a text has one fault, at one place
+pub one_fault : (text : List ℕ) (fault other : QueryFault) (place there : Place) → IsRefusedText text fault place → IsRefusedText text other there → cause.Queries fault place ≡ cause.Queries other there
+one_fault text fault other place there refused again =
+    let same = one_text_answer text _ _ refused again in
+    let error : ◌≡◌ {A = QueryError} (record { fault = fault; place = place }) (record { fault = other; place = there }) = cc in
+    ap (λ (e : QueryError). cause.Queries e.fault e.place) error
+
+-- what a text is accepted as: one schema, and queries that say the same
+accepted_schema : (text : List ℕ) (s t : Declared) (p q : List Query) → Accepts text s p → Accepts text t q → s ≡ t
+accepted_schema text s t p q one other =
+    let same = one_text_answer text _ _ one other in
+    let pair : ◌≡◌ {A = Declared × List QueryTree} (s, map query_tree p) (t, map query_tree q) = cc in
+    ap (λ (x : Declared × List QueryTree). x.0) pair
+
+accepted_trees : (text : List ℕ) (s t : Declared) (p q : List Query) → Accepts text s p → Accepts text t q → map query_tree p ≡ map query_tree q
+accepted_trees text s t p q one other =
+    let same = one_text_answer text _ _ one other in
+    let pair : ◌≡◌ {A = Declared × List QueryTree} (s, map query_tree p) (t, map query_tree q) = cc in
+    ap (λ (x : Declared × List QueryTree). x.1) pair
+
+-- a run stops in one way
+pub one_stop : (text lines : List ℕ) (most : ℕ) (s t : Stop) → StopsAt text lines most s → StopsAt text lines most t → s ≡ t
+one_stop text lines most s t one other =
+    let P : Declared → Type 0 = λ d. RunsTo d other.queries most lines other.events t in
+    let runs = subst P (sym (accepted_schema text one.schema other.schema one.queries other.queries one.accepted other.accepted)) other.runs in
+    (one_run_of_trees one.schema one.queries other.queries most lines one.events other.events s t
+    (accepted_trees text one.schema other.schema one.queries other.queries one.accepted other.accepted) one.runs runs).1
+
+-- where there are answers the run stops so
+pub answered_stop : (content : List ℕ → Content) (r : RunWords) (stop : Stop) (before after : Option (List ℕ)) (text lines : List ℕ) →
+    content r.queries ≡ Holds text → content r.events ≡ Holds lines → WroteAll content r stop before after → StopsAt text lines r.most_bytes stop
+answered_stop content r stop before after text lines first second wrote =
+    let all = wrote.are.answers text lines first second in
+    let P : Stop → Type 0 = StopsAt text lines r.most_bytes in
+    subst P all.1 (record { schema = all.2.schema; queries = all.2.queries; events = all.2.events; accepted = all.2.accepted; runs = all.2.runs })
 
 -- the same end by another name of the cause
-pub at_cause : {S : Type 0} (sources : Sources S) (o : Outside) (given want : Cause) (failed : Option S) → given ≡ want → RunEnds sources o given failed → RunEnds sources o want failed
-at_cause {S} sources o given want failed same ends = let P : Cause → Type 0 = λ k. RunEnds sources o k failed in subst P same ends
+pub at_cause : (P : Cause → Type 0) (given want : Cause) → given ≡ want → P given → P want
+at_cause P given want same fact = subst P same fact
 
 -- a refused query text has its cause
-pub queries_whenever : {S : Type 0} (sources : Sources S) (o : Outside) (given : Cause) (failed : Option S) (text : List ℕ) (fault : QueryFault) (place : Place) →
-    o.content o.queries ≡ Holds text → RunEnds sources o given failed → IsRefusedText text fault place → (given ≡ cause.Queries fault place) ⊎ IsFromOutside given
-queries_whenever sources o cause.Fine failed text fault place same ends refused = absurd (not_both text fault place (told _ text IsAcceptedText same ends.1) refused)
-queries_whenever sources o cause.Usage failed text fault place same ends refused = absurd ends
-queries_whenever sources o (cause.Queries other there) failed text fault place same ends refused =
-    let had = told _ text (λ w. IsRefusedText w other there) same ends.2 in
-    inl (ap (λ f. cause.Queries f there) (had.not_yet ∙ sym refused.not_yet) ∙ ap (λ p. cause.Queries fault p) (had.at_start ∙ sym refused.at_start))
-queries_whenever sources o (cause.Event line other) failed text fault place same ends refused = absurd (not_both text fault place (told _ text IsAcceptedText same ends.2) refused)
-queries_whenever sources o (cause.OpenFault opened before after) failed text fault place same ends refused = inr tt
-queries_whenever sources o (cause.ReadFault read after) failed text fault place same ends refused = inr tt
-queries_whenever sources o (cause.WriteFault before after) failed text fault place same ends refused = inr tt
-queries_whenever sources o cause.Memory failed text fault place same ends refused = inr tt
+pub queries_whenever : {S : Type 0} (sources : Sources S) (o : Outside) (r : RunWords) (given : Cause) (failed : Option S) (text : List ℕ) (fault : QueryFault) (place : Place) →
+    o.content r.queries ≡ Holds text → CauseHolds sources o r given failed → IsRefusedText text fault place → (given ≡ cause.Queries fault place) ⊎ IsFromOutside given
+queries_whenever sources o r cause.Fine failed text fault place same holds refused = absurd (not_both text fault place (told _ text IsAcceptedText same holds.1) refused)
+queries_whenever sources o r cause.Usage failed text fault place same holds refused = absurd holds
+queries_whenever sources o r (cause.Queries other there) failed text fault place same holds refused =
+    inl (one_fault text other fault there place (told _ text (λ w. IsRefusedText w other there) same holds.1) refused)
+queries_whenever sources o r (cause.Event line other) failed text fault place same holds refused = absurd (not_both text fault place (told _ text IsAcceptedText same holds.1) refused)
+queries_whenever sources o r (cause.InputTooLong taken) failed text fault place same holds refused = absurd (not_both text fault place (told _ text IsAcceptedText same holds.1) refused)
+queries_whenever sources o r (cause.OpenFault opened before after) failed text fault place same holds refused = inr tt
+queries_whenever sources o r (cause.ReadFault read after) failed text fault place same holds refused = inr tt
+queries_whenever sources o r (cause.WriteFault before after) failed text fault place same holds refused = inr tt
+queries_whenever sources o r cause.Memory failed text fault place same holds refused = inr tt
 
--- a refused event file has its cause
-pub event_whenever : {S : Type 0} (sources : Sources S) (o : Outside) (given : Cause) (failed : Option S) (text lines : List ℕ) (line : ℕ) (fault : EventFault) →
-    o.content o.queries ≡ Holds text → o.content o.events ≡ Holds lines → RunEnds sources o given failed → IsStopped text lines line fault → (given ≡ cause.Event line fault) ⊎ IsFromOutside given
-event_whenever sources o cause.Fine failed text lines line fault first second ends stopped = absurd (not_stopped text lines _ line fault (ends.2.1.answers text lines first second) stopped)
-event_whenever sources o cause.Usage failed text lines line fault first second ends stopped = absurd ends
-event_whenever sources o (cause.Queries other there) failed text lines line fault first second ends stopped = absurd (not_both text other there stopped.accepted (told _ text (λ w. IsRefusedText w other there) first ends.2))
-event_whenever sources o (cause.Event there other) failed text lines line fault first second ends stopped =
-    let had = ends.3 text lines first second in
-    inl (ap (λ l. cause.Event l other) (had.at_start ∙ sym stopped.at_start) ∙ ap (λ f. cause.Event line f) (had.not_yet ∙ sym stopped.not_yet))
-event_whenever sources o (cause.OpenFault opened before after) failed text lines line fault first second ends stopped = inr tt
-event_whenever sources o (cause.ReadFault read after) failed text lines line fault first second ends stopped = inr tt
-event_whenever sources o (cause.WriteFault before after) failed text lines line fault first second ends stopped = inr tt
-event_whenever sources o cause.Memory failed text lines line fault first second ends stopped = inr tt
 
--- files that are accepted end well but for the outside
-pub accepted_ends : {S : Type 0} (sources : Sources S) (o : Outside) (given : Cause) (failed : Option S) (text lines : List ℕ) (n : Names) (events : List Event) →
-    o.content o.queries ≡ Holds text → o.content o.events ≡ Holds lines → IsQueryFile text n → IsEventFile n lines events → RunEnds sources o given failed → IsFineOrOutside given
-accepted_ends sources o cause.Fine failed text lines n events first second query file ends = tt
-accepted_ends sources o cause.Usage failed text lines n events first second query file ends = absurd ends
-accepted_ends sources o (cause.Queries fault place) failed text lines n events first second query file ends = absurd (not_both text fault place (n, query) (told _ text (λ w. IsRefusedText w fault place) first ends.2))
-accepted_ends sources o (cause.Event line fault) failed text lines n events first second query file ends = absurd ((ends.3 text lines first second).other n query events file)
-accepted_ends sources o (cause.OpenFault opened before after) failed text lines n events first second query file ends = tt
-accepted_ends sources o (cause.ReadFault read after) failed text lines n events first second query file ends = tt
-accepted_ends sources o (cause.WriteFault before after) failed text lines n events first second query file ends = tt
-accepted_ends sources o cause.Memory failed text lines n events first second query file ends = tt
 
--- what was written
-pub run_wrote : {S : Type 0} (sources : Sources S) (words : List (List ℕ)) (o : Outside) (given : Cause) (failed : Option S) → IsRun words o.queries o.events → RunEnds sources o given failed → Wrote given (AreRunAnswers words o.content) o.before o.after
-run_wrote sources words o cause.Fine failed is ends = (ends.2.0, record { queries = o.queries; events = o.events; asked = is; answers = ends.2.1 }, ends.2.2)
-run_wrote sources words o cause.Usage failed is ends = absurd ends
-run_wrote sources words o (cause.Queries fault place) failed is ends = ends.1
-run_wrote sources words o (cause.Event line fault) failed is ends = ends.1
-run_wrote sources words o (cause.OpenFault opened before after) failed is ends = ends.1
-run_wrote sources words o (cause.ReadFault read after) failed is ends = ends.0
-run_wrote sources words o (cause.WriteFault before after) failed is ends = (ends.5.0, record { queries = o.queries; events = o.events; asked = is; answers = ends.5.1 }, ends.5.2)
-run_wrote sources words o cause.Memory failed is ends =
-    elim ends.1 [ inl nothing ↦ inl nothing | inr some ↦ inr (some.0, record { queries = o.queries; events = o.events; asked = is; answers = some.1 }, some.2) ]
+-- the cause of each stop
+abbrev pub cause_of : Stop → Cause
+cause_of End = cause.Fine
+cause_of (Event line fault) = cause.Event line fault
+cause_of (InputTooLong taken) = cause.InputTooLong taken
+
+-- a stop of the events has its cause
+pub stop_whenever : {S : Type 0} (sources : Sources S) (o : Outside) (r : RunWords) (given : Cause) (failed : Option S) (text lines : List ℕ) (stop : Stop) →
+    o.content r.queries ≡ Holds text → o.content r.events ≡ Holds lines → CauseHolds sources o r given failed → Wrote given o.content r (left_of sources failed) o.before o.after →
+    StopsAt text lines r.most_bytes stop → (given ≡ cause_of stop) ⊎ IsFromOutside given
+stop_whenever sources o r cause.Fine failed text lines stop first second holds wrote stops =
+    inl (ap cause_of (one_stop text lines r.most_bytes End stop (answered_stop o.content r End o.before o.after text lines first second wrote) stops))
+stop_whenever sources o r cause.Usage failed text lines stop first second holds wrote stops = absurd holds
+stop_whenever sources o r (cause.Queries fault place) failed text lines stop first second holds wrote stops =
+    absurd (not_both text fault place (stops.schema, stops.queries, stops.accepted) (told _ text (λ w. IsRefusedText w fault place) first holds.1))
+stop_whenever sources o r (cause.Event line fault) failed text lines stop first second holds wrote stops =
+    inl (ap cause_of (one_stop text lines r.most_bytes (Event line fault) stop (answered_stop o.content r (Event line fault) o.before o.after text lines first second wrote) stops))
+stop_whenever sources o r (cause.InputTooLong taken) failed text lines stop first second holds wrote stops =
+    inl (ap cause_of (one_stop text lines r.most_bytes (InputTooLong taken) stop (answered_stop o.content r (InputTooLong taken) o.before o.after text lines first second wrote) stops))
+stop_whenever sources o r (cause.OpenFault opened before after) failed text lines stop first second holds wrote stops = inr tt
+stop_whenever sources o r (cause.ReadFault read after) failed text lines stop first second holds wrote stops = inr tt
+stop_whenever sources o r (cause.WriteFault before after) failed text lines stop first second holds wrote stops = inr tt
+stop_whenever sources o r cause.Memory failed text lines stop first second holds wrote stops = inr tt
+
+-- fine, or the outside
+pub fine_or_outside : (given : Cause) → (given ≡ cause.Fine) ⊎ IsFromOutside given → IsFineOrOutside given
+fine_or_outside cause.Fine way = tt
+fine_or_outside cause.Usage (inl same) = let wrong : cause.Usage ≡ cause.Fine = same in absurd cc
+fine_or_outside cause.Usage (inr outside) = outside
+fine_or_outside (cause.Queries fault place) (inl same) = absurd cc
+fine_or_outside (cause.Queries fault place) (inr outside) = outside
+fine_or_outside (cause.Event line fault) (inl same) = absurd cc
+fine_or_outside (cause.Event line fault) (inr outside) = outside
+fine_or_outside (cause.InputTooLong taken) (inl same) = absurd cc
+fine_or_outside (cause.InputTooLong taken) (inr outside) = outside
+fine_or_outside (cause.OpenFault opened before after) way = tt
+fine_or_outside (cause.ReadFault read after) way = tt
+fine_or_outside (cause.WriteFault before after) way = tt
+fine_or_outside cause.Memory way = tt
 
 -- none is not some
 pub no_source : {S : Type 0} (failed : Option S) → failed ≡ None → IsSome failed → ⊥
@@ -101,18 +138,19 @@ some_source None P fact = absurd fact
 some_source (Some source) P fact = refl
 
 -- a source failed exactly where reading did
-pub failed_reading : {S : Type 0} (sources : Sources S) (o : Outside) (given : Cause) (failed : Option S) → RunEnds sources o given failed → IsSome failed ↔ IsReading given
-failed_reading sources o cause.Fine failed ends = (no_source failed ends.0, λ h. absurd h)
-failed_reading sources o cause.Usage failed ends = absurd ends
-failed_reading sources o (cause.Queries fault place) failed ends = (no_source failed ends.0, λ h. absurd h)
-failed_reading sources o (cause.Event line fault) failed ends = (no_source failed ends.0, λ h. absurd h)
-failed_reading sources o (cause.OpenFault opened before after) failed ends = (no_source failed ends.0, λ h. absurd h)
-failed_reading sources o (cause.ReadFault read after) failed ends = (λ h. tt, λ h. some_source failed _ ends.2)
-failed_reading sources o (cause.WriteFault before after) failed ends = (no_source failed ends.0, λ h. absurd h)
-failed_reading sources o cause.Memory failed ends = (no_source failed ends.0, λ h. absurd h)
+pub failed_reading : {S : Type 0} (sources : Sources S) (o : Outside) (r : RunWords) (given : Cause) (failed : Option S) → CauseHolds sources o r given failed → IsSome failed ↔ IsReading given
+failed_reading sources o r cause.Fine failed holds = (no_source failed holds.0, λ h. absurd h)
+failed_reading sources o r cause.Usage failed holds = absurd holds
+failed_reading sources o r (cause.Queries fault place) failed holds = (no_source failed holds.0, λ h. absurd h)
+failed_reading sources o r (cause.Event line fault) failed holds = (no_source failed holds.0, λ h. absurd h)
+failed_reading sources o r (cause.InputTooLong taken) failed holds = (no_source failed holds.0, λ h. absurd h)
+failed_reading sources o r (cause.OpenFault opened before after) failed holds = (no_source failed holds.0, λ h. absurd h)
+failed_reading sources o r (cause.ReadFault read after) failed holds = (λ h. tt, λ h. some_source failed _ holds.1)
+failed_reading sources o r (cause.WriteFault before after) failed holds = (no_source failed holds.0, λ h. absurd h)
+failed_reading sources o r cause.Memory failed holds = (no_source failed holds, λ h. absurd h)
 
 -- a missing file was not opened,
-pub not_opened : (content : Content) (P : List ℕ → Type 0) → content ≡ Missing → OfOpened content P → ⊥
+not_opened : (content : Content) (P : List ℕ → Type 0) → content ≡ Missing → OfOpened content P → ⊥
 not_opened content P missing fact = let Q : Content → Type 0 = λ w. OfOpened w P in subst Q missing fact
 
 -- not read,
@@ -124,28 +162,27 @@ not_read sources content after None missing fact = fact
 not_read sources content after (Some source) missing fact = not_left content (sources.left source) missing fact.rest
 
 -- and has no answers.
-not_answered : (content : List ℕ → Content) (q e bytes : List ℕ) (lost : File) → content (name_of lost q e) ≡ Missing → AreFileAnswers content q e bytes → ⊥
-not_answered content q e bytes file.Queries missing answers = answers.has_queries missing
-not_answered content q e bytes file.Events missing answers = answers.has_events missing
+not_answered : (content : List ℕ → Content) (r : RunWords) (Passes : Stop → Type 0) (bytes : List ℕ) (lost : File) → content (name_of lost r) ≡ Missing → AreFileAnswers content r Passes bytes → ⊥
+not_answered content r Passes bytes file.Queries missing answers = answers.has_queries missing
+not_answered content r Passes bytes file.Events missing answers = answers.has_events missing
 
 -- A run that lacks a file ends without it.
-pub ends_without : {S : Type 0} (sources : Sources S) (o : Outside) (given : Cause) (failed : Option S) (lost : File) →
-    o.content (name_of lost o.queries o.events) ≡ Missing → RunEnds sources o given failed → EndsWithout lost given × WroteNothing o
-ends_without sources o cause.Fine failed lost missing ends = absurd (not_answered o.content o.queries o.events _ lost missing ends.2.1)
-ends_without sources o cause.Usage failed lost missing ends = absurd ends
-ends_without sources o (cause.Queries fault place) failed file.Queries missing ends = absurd (not_opened _ (λ text. IsRefusedText text fault place) missing ends.2)
-ends_without sources o (cause.Queries fault place) failed file.Events missing ends = (tt, ends.1)
-ends_without sources o (cause.Event line fault) failed file.Queries missing ends = absurd (not_opened _ IsAcceptedText missing ends.2)
-ends_without sources o (cause.Event line fault) failed file.Events missing ends = absurd (ends.4 missing)
-ends_without sources o (cause.OpenFault file.Queries before after) failed file.Queries missing ends = (inl refl, ends.1)
-ends_without sources o (cause.OpenFault file.Queries before after) failed file.Events missing ends = (inr tt, ends.1)
-ends_without sources o (cause.OpenFault file.Events before after) failed file.Queries missing ends = absurd (not_opened _ IsAcceptedText missing ends.2)
-ends_without sources o (cause.OpenFault file.Events before after) failed file.Events missing ends = (inl refl, ends.1)
-ends_without sources o (cause.ReadFault file.Queries after) failed file.Queries missing ends = absurd (not_read sources _ after failed missing ends.2)
-ends_without sources o (cause.ReadFault file.Queries after) failed file.Events missing ends = (tt, ends.0)
-ends_without sources o (cause.ReadFault file.Events after) failed file.Queries missing ends = absurd (not_opened _ IsAcceptedText missing ends.1)
-ends_without sources o (cause.ReadFault file.Events after) failed file.Events missing ends = absurd (not_read sources _ after failed missing ends.2)
-ends_without sources o (cause.WriteFault before after) failed lost missing ends = absurd (not_answered o.content o.queries o.events _ lost missing ends.5.1)
-ends_without sources o cause.Memory failed lost missing ends =
-    let nothing : WroteNothing o = elim ends.1 [ inl kept ↦ kept | inr some ↦ absurd (not_answered o.content o.queries o.events _ lost missing some.1) ] in
-    (tt, nothing)
+pub ends_without : {S : Type 0} (sources : Sources S) (o : Outside) (r : RunWords) (given : Cause) (failed : Option S) (lost : File) →
+    o.content (name_of lost r) ≡ Missing → CauseHolds sources o r given failed → Wrote given o.content r (left_of sources failed) o.before o.after → EndsWithout lost given × (o.after ≡ o.before)
+ends_without sources o r cause.Fine failed lost missing holds wrote = absurd (not_answered o.content r _ _ lost missing wrote.are)
+ends_without sources o r cause.Usage failed lost missing holds wrote = absurd holds
+ends_without sources o r (cause.Queries fault place) failed file.Queries missing holds wrote = absurd (not_opened _ (λ text. IsRefusedText text fault place) missing holds.1)
+ends_without sources o r (cause.Queries fault place) failed file.Events missing holds wrote = (tt, wrote)
+ends_without sources o r (cause.Event line fault) failed lost missing holds wrote = absurd (not_answered o.content r _ _ lost missing wrote.are)
+ends_without sources o r (cause.InputTooLong taken) failed lost missing holds wrote = absurd (not_answered o.content r _ _ lost missing wrote.are)
+ends_without sources o r (cause.OpenFault file.Queries before after) failed file.Queries missing holds wrote = (inl refl, wrote)
+ends_without sources o r (cause.OpenFault file.Queries before after) failed file.Events missing holds wrote = (inr tt, wrote)
+ends_without sources o r (cause.OpenFault file.Events before after) failed file.Queries missing holds wrote = absurd (not_opened _ IsAcceptedText missing holds.1)
+ends_without sources o r (cause.OpenFault file.Events before after) failed file.Events missing holds wrote = (inl refl, wrote)
+ends_without sources o r (cause.ReadFault file.Queries after) failed file.Queries missing holds wrote = absurd (not_read sources _ after failed missing holds.1)
+ends_without sources o r (cause.ReadFault file.Queries after) failed file.Events missing holds wrote = (tt, wrote)
+ends_without sources o r (cause.ReadFault file.Events after) failed file.Queries missing holds wrote = absurd (not_opened _ IsAcceptedText missing holds.0)
+ends_without sources o r (cause.ReadFault file.Events after) failed file.Events missing holds wrote = absurd (not_read sources _ after failed missing holds.1)
+ends_without sources o r (cause.WriteFault before after) failed lost missing holds wrote = absurd (not_answered o.content r _ _ lost missing wrote.1)
+ends_without sources o r cause.Memory failed lost missing holds wrote =
+    (tt, elim wrote [ inl kept ↦ kept | inr some ↦ absurd (not_answered o.content r _ _ lost missing some.1) ])

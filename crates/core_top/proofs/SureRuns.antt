@@ -4,13 +4,13 @@ use Rattle.cer_outside.specs.Causes.{Rose}
 use Rattle.cer_outside.specs.Content.{Content, Missing, Holds}
 use Rattle.cer_outside.specs.States.{FileState}
 use Rattle.cer_outside.specs.Files.{file_under, content_of, content_under, sure_faults_under}
-use Rattle.core_top.specs.declared.File.{File}
-use Rattle.core_top.specs.declared.File.TheVariants as file
+use Rattle.fault_notes.specs.declared.File.{File}
+use Rattle.fault_notes.specs.declared.File.TheVariants as file
 use Rattle.core_top.specs.declared.Cause.{Cause}
 use Rattle.core_top.specs.declared.Cause.TheVariants as cause
-use Rattle.core_top.specs.Command.{IsRun}
+use Rattle.core_top.specs.Command.{RunWords, IsRun}
 use Rattle.core_top.specs.Causes.{IsFineOrOutside, IsFineOrMemory, HasOpenFault, HasReadFault, name_of}
-use Rattle.core_top.proofs.Clauses.{same_queries, same_events}
+use Rattle.core_top.proofs.Words.{one_run}
 
 -- a count that is 0 has not risen
 pub never_rose : (before after : ℕ) → after ≡ 0 → Rose before after → ⊥
@@ -25,15 +25,16 @@ pub no_faults : (files : List FileState) (others : ℕ) (name bytes : List ℕ) 
 no_faults files others name bytes told = none_of (file_under files name) bytes others told
 
 -- neither name has faults
-pub neither : (new : List ℕ → ℕ) (q e : List ℕ) → new q ≡ 0 → new e ≡ 0 → (opened : File) → new (name_of opened q e) ≡ 0
-neither new q e first second file.Queries = first
-neither new q e first second file.Events = second
+pub neither : (new : List ℕ → ℕ) (r : RunWords) → new r.queries ≡ 0 → new r.events ≡ 0 → (opened : File) → new (name_of opened r) ≡ 0
+neither new r first second file.Queries = first
+neither new r first second file.Events = second
 
 -- no file of the words failed to open
-pub never_open : (words : List (List ℕ)) (content : List ℕ → Content) (old new : List ℕ → ℕ) (q e : List ℕ) (opened : File) (before after : ℕ) →
-    IsRun words q e → new q ≡ 0 → new e ≡ 0 → HasOpenFault words content old new opened before after → ⊥
-never_open words content old new q e opened before after is first second fault =
-    let here = neither new fault.queries fault.events (ap new (same_queries words fault.queries fault.events q e fault.asked is) ∙ first) (ap new (same_events words fault.queries fault.events q e fault.asked is) ∙ second) opened in
+pub never_open : (words : List (List ℕ)) (content : List ℕ → Content) (old new : List ℕ → ℕ) (r : RunWords) (opened : File) (before after : ℕ) →
+    IsRun words r → new r.queries ≡ 0 → new r.events ≡ 0 → HasOpenFault words content old new opened before after → ⊥
+never_open words content old new r opened before after is first second fault =
+    let same = one_run words fault.run r fault.asked is in
+    let here : new (name_of opened fault.run) ≡ 0 = ap (λ w. new (name_of opened w)) same ∙ neither new r first second opened in
     never_rose before after (fault.to ∙ here) fault.rose
 
 -- no source failed
@@ -50,6 +51,7 @@ fine_or_memory cause.Memory ends opens reads writes = tt
 fine_or_memory cause.Usage ends opens reads writes = ends
 fine_or_memory (cause.Queries fault place) ends opens reads writes = ends
 fine_or_memory (cause.Event line fault) ends opens reads writes = ends
+fine_or_memory (cause.InputTooLong taken) ends opens reads writes = ends
 fine_or_memory (cause.OpenFault opened before after) ends opens reads writes = opens opened before after refl
 fine_or_memory (cause.ReadFault read after) ends opens reads writes = reads read after refl
 fine_or_memory (cause.WriteFault before after) ends opens reads writes = writes before after refl

@@ -1,15 +1,37 @@
--- The words of the command line as a list of three.
-use Rattle.std.proofs.Common.{◌≡◌, ℕ, List, [], ◌∷◌, length, map, get_or, arith, bytes_eq, true}
-use Rattle.std.proofs.lemmas.Slice.Eq.{bytes_eq-Decides}
+-- What the words ask for is one thing.
+use Rattle.std.proofs.Common.{◌≡◌, ℕ, List, [], ap, sym, subst}
+use Rattle.answer_text.specs.declared.Order.{Order}
+use Rattle.answer_text.specs.declared.Order.TheVariants.{Sorted}
+use Rattle.command_words.specs.declared.Command.{Command}
+use Rattle.command_words.specs.declared.Command.TheVariants.{Run, Sample}
+use Rattle.command_words.specs.CommandLine.{AsksFor}
+use Rattle.command_words.proofs.ForCallers.{one_command}
+use Rattle.core_top.specs.Command.{RunWords, IsRun, IsSample}
 
--- a list of three is its items
-pub three_items : {A B : Type 0} (f : A → B) (xs : List A) (a b c : A) → length xs ≡ 3 → a ≡ get_or xs 0 a → b ≡ get_or xs 1 b → c ≡ get_or xs 2 c → map f xs ≡ f a ∷ f b ∷ f c ∷ []
-three_items f [] a b c l p q r = absurd (omega arith)
-three_items f (x ∷ []) a b c l p q r = absurd (omega arith)
-three_items f (x ∷ y ∷ []) a b c l p q r = absurd (omega arith)
-three_items f (x ∷ y ∷ z ∷ []) a b c l p q r = cc
-three_items f (x ∷ y ∷ z ∷ w ∷ xs) a b c l p q r = absurd (omega arith)
+-- the run that a command is, or any other
+abbrev run_of : Command → RunWords
+run_of (Run queries events order most_bytes) = record { queries = queries; events = events; order = order; most_bytes = most_bytes }
+run_of (Sample seed count) = record { queries = []; events = []; order = Sorted; most_bytes = 0 }
 
--- bytes that compare alike are the same
-pub same_bytes : (xs ys : List ℕ) → bytes_eq xs ys ≡ true → xs ≡ ys
-same_bytes xs ys e = (bytes_eq-Decides xs ys).0 e
+pub one_run : (words : List (List ℕ)) (r s : RunWords) → IsRun words r → IsRun words s → r ≡ s
+one_run words r s one other =
+    let same = one_command words (Run r.queries r.events r.order r.most_bytes) (Run s.queries s.events s.order s.most_bytes) one other in
+    ap run_of same
+
+pub one_sample : (words : List (List ℕ)) (s c t d : ℕ) → IsSample words s c → IsSample words t d → (s ≡ t) × (c ≡ d)
+one_sample words s c t d one other =
+    let same = one_command words (Sample s c) (Sample t d) one other in
+    (cc, cc)
+
+pub no_run_and_sample : (words : List (List ℕ)) (r : RunWords) (seed count : ℕ) → IsRun words r → IsSample words seed count → ⊥
+no_run_and_sample words r seed count one other =
+    let same = one_command words (Run r.queries r.events r.order r.most_bytes) (Sample seed count) one other in
+    cc
+
+-- the run that was read, where its names are lent
+pub run_asked : (words : List (List ℕ)) (q e x y : List ℕ) (order : Order) (most_bytes : ℕ) → x ≡ q → y ≡ e → AsksFor words (Run q e order most_bytes) →
+    IsRun words (record { queries = x; events = y; order = order; most_bytes = most_bytes })
+run_asked words q e x y order most_bytes first second asked =
+    let P : List ℕ → Type 0 = λ w. AsksFor words (Run w y order most_bytes) in
+    let Q : List ℕ → Type 0 = λ w. AsksFor words (Run q w order most_bytes) in
+    subst P (sym first) (subst Q (sym second) asked)

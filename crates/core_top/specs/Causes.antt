@@ -1,19 +1,13 @@
 -- How a call of the program ended, and when each answer may come.
 use Rattle.std.specs.Prelude.{◌≡◌, ℕ, ◌⊎◌, List, Option}
-use Rattle.cer_base.specs.declared.Place.{Place}
-use Rattle.stream_schema.specs.declared.Event.{Event}
 use Rattle.cer_outside.specs.Causes.{Rose, AllStay, RoseAt}
 use Rattle.cer_outside.specs.Content.{Content, OfOpened}
-use Rattle.core_top.specs.declared.QueryFault.{QueryFault}
-use Rattle.core_top.specs.declared.QueryFault.TheVariants as query_fault
-use Rattle.core_top.specs.declared.EventFault.{EventFault}
-use Rattle.core_top.specs.declared.EventFault.TheVariants as event_fault
-use Rattle.core_top.specs.declared.File.{File}
-use Rattle.core_top.specs.declared.File.TheVariants as file
+use Rattle.fault_notes.specs.declared.File.{File}
+use Rattle.fault_notes.specs.declared.File.TheVariants as file
 use Rattle.core_top.specs.declared.Cause.{Cause}
 use Rattle.core_top.specs.declared.Cause.TheVariants as cause
-use Rattle.core_top.specs.FirstForm.{Names, IsQueryFile, IsEventFile}
-use Rattle.core_top.specs.Command.{IsRun}
+use Rattle.core_top.specs.Command.{RunWords, IsRun}
+use Rattle.core_top.specs.Accepted.{IsAcceptedText}
 use Rattle.core_top.specs.SourceBytes.{IsRestOf}
 
 -- the exit status of each cause
@@ -26,6 +20,7 @@ status_of (cause.OpenFault opened before after) = 5
 status_of (cause.ReadFault read after) = 5
 status_of (cause.WriteFault before after) = 6
 status_of cause.Memory = 7
+status_of (cause.InputTooLong taken) = 8
 
 -- memory ran out, or the outside failed
 abbrev pub IsFromOutside : Cause → Type 0
@@ -33,37 +28,33 @@ IsFromOutside cause.Memory = Unit {0}
 IsFromOutside (cause.OpenFault opened before after) = Unit {0}
 IsFromOutside (cause.ReadFault read after) = Unit {0}
 IsFromOutside (cause.WriteFault before after) = Unit {0}
-IsFromOutside cause.Fine = ⊥
-IsFromOutside cause.Usage = ⊥
-IsFromOutside (cause.Queries fault place) = ⊥
-IsFromOutside (cause.Event line fault) = ⊥
+IsFromOutside _ = ⊥
+
+-- all was well, or memory or the outside ended the call
+abbrev pub IsFineOrOutside : Cause → Type 0
+IsFineOrOutside cause.Fine = Unit {0}
+IsFineOrOutside given = IsFromOutside given
+
+-- all was well, or memory ran out
+abbrev pub IsFineOrMemory : Cause → Type 0
+IsFineOrMemory cause.Fine = Unit {0}
+IsFineOrMemory cause.Memory = Unit {0}
+IsFineOrMemory _ = ⊥
+
+-- a file could not be read
+abbrev pub IsReading : Cause → Type 0
+IsReading (cause.ReadFault read after) = Unit {0}
+IsReading _ = ⊥
 
 -- The answer comes only where the fact holds; and where it holds, in each call that memory or the outside did not end.
 pub record Exactly (given answer : Cause) (fact : Type 0) : Type 0 where
   pub only : given ≡ answer → fact
   pub whenever : fact → (given ≡ answer) ⊎ IsFromOutside given
 
--- the query text is of the form that is read
-abbrev pub IsAcceptedText : List ℕ → Type 0
-IsAcceptedText text = (names : Names) × IsQueryFile text names
-
--- The query text is of another form.
-pub record IsRefusedText (text : List ℕ) (fault : QueryFault) (place : Place) : Type 0 where
-  pub not_yet : fault ≡ query_fault.NotYet
-  pub at_start : place ≡ record { line = 1; col = 1 }
-  pub other : (names : Names) → IsQueryFile text names → ⊥
-
--- The query text is accepted, and the event file is of another form.
-pub record IsStopped (text lines : List ℕ) (line : ℕ) (fault : EventFault) : Type 0 where
-  pub not_yet : fault ≡ event_fault.NotYet
-  pub at_start : line ≡ 1
-  pub accepted : IsAcceptedText text
-  pub other : (names : Names) → IsQueryFile text names → (events : List Event) → IsEventFile names lines events → ⊥
-
--- the name of the file on the command line
-abbrev pub name_of : File → List ℕ → List ℕ → List ℕ
-name_of file.Queries queries events = queries
-name_of file.Events queries events = events
+-- the file's name on the command line
+abbrev pub name_of : File → RunWords → List ℕ
+name_of file.Queries r = r.queries
+name_of file.Events r = r.events
 
 -- the event file is opened only after the query file, whose text, where it is told, is accepted
 abbrev pub ComesInTurn : File → Content → Type 0
@@ -72,45 +63,21 @@ ComesInTurn file.Events text = OfOpened text IsAcceptedText
 
 -- The host's count for the file's name rose in the call, from before to after.
 pub record HasOpenFault (words : List (List ℕ)) (content : List ℕ → Content) (old new : List ℕ → ℕ) (opened : File) (before after : ℕ) : Type 0 where
-  pub queries : List ℕ
-  pub events : List ℕ
-  pub asked : IsRun words queries events
-  pub turn : ComesInTurn opened (content queries)
-  pub from : before ≡ old (name_of opened queries events)
-  pub to : after ≡ new (name_of opened queries events)
+  pub run : RunWords
+  pub asked : IsRun words run
+  pub turn : ComesInTurn opened (content run.queries)
+  pub from : before ≡ old (name_of opened run)
+  pub to : after ≡ new (name_of opened run)
   pub rose : Rose before after
 
 -- The count of the source that failed rose from 0 to after, and it has left the last part of the host's bytes under the file's name.
 pub record HasReadFault (words : List (List ℕ)) (content : List ℕ → Content) (read : File) (after : ℕ) (faults : ℕ) (left : Option (List ℕ)) : Type 0 where
-  pub queries : List ℕ
-  pub events : List ℕ
-  pub asked : IsRun words queries events
-  pub turn : ComesInTurn read (content queries)
+  pub run : RunWords
+  pub asked : IsRun words run
+  pub turn : ComesInTurn read (content run.queries)
   pub told : faults ≡ after
   pub rose : Rose 0 after
-  pub rest : IsRestOf (content (name_of read queries events)) left
-
--- all was well, or memory or the outside ended the call
-abbrev pub IsFineOrOutside : Cause → Type 0
-IsFineOrOutside cause.Fine = Unit {0}
-IsFineOrOutside cause.Memory = Unit {0}
-IsFineOrOutside (cause.OpenFault opened before after) = Unit {0}
-IsFineOrOutside (cause.ReadFault read after) = Unit {0}
-IsFineOrOutside (cause.WriteFault before after) = Unit {0}
-IsFineOrOutside cause.Usage = ⊥
-IsFineOrOutside (cause.Queries fault place) = ⊥
-IsFineOrOutside (cause.Event line fault) = ⊥
-
--- a file could not be read
-abbrev pub IsReading : Cause → Type 0
-IsReading cause.Fine = ⊥
-IsReading cause.Usage = ⊥
-IsReading (cause.Queries fault place) = ⊥
-IsReading (cause.Event line fault) = ⊥
-IsReading (cause.OpenFault opened before after) = ⊥
-IsReading (cause.ReadFault read after) = Unit {0}
-IsReading (cause.WriteFault before after) = ⊥
-IsReading cause.Memory = ⊥
+  pub rest : IsRestOf (content (name_of read run)) left
 
 -- The output's count of faults rose in the call, from before to after.
 pub record HasWriteFault (old new before after : ℕ) : Type 0 where
@@ -118,21 +85,10 @@ pub record HasWriteFault (old new before after : ℕ) : Type 0 where
   pub to : after ≡ new
   pub rose : Rose before after
 
--- all was well, or memory ran out
-abbrev pub IsFineOrMemory : Cause → Type 0
-IsFineOrMemory cause.Fine = Unit {0}
-IsFineOrMemory cause.Memory = Unit {0}
-IsFineOrMemory cause.Usage = ⊥
-IsFineOrMemory (cause.Queries fault place) = ⊥
-IsFineOrMemory (cause.Event line fault) = ⊥
-IsFineOrMemory (cause.OpenFault opened before after) = ⊥
-IsFineOrMemory (cause.ReadFault read after) = ⊥
-IsFineOrMemory (cause.WriteFault before after) = ⊥
-
 -- The host's counts: as they were, but for the file that could not be opened.
-abbrev pub CountsOpens : Cause → List ℕ → List ℕ → (List ℕ → ℕ) → (List ℕ → ℕ) → Type 0
-CountsOpens (cause.OpenFault opened before after) queries events old new = RoseAt (name_of opened queries events) old new
-CountsOpens _ queries events old new = AllStay old new
+abbrev pub CountsOpens : Cause → RunWords → (List ℕ → ℕ) → (List ℕ → ℕ) → Type 0
+CountsOpens (cause.OpenFault opened before after) r old new = RoseAt (name_of opened r) old new
+CountsOpens _ r old new = AllStay old new
 
 -- The output's count: as it was, but where a write failed.
 abbrev pub CountsWrites : Cause → ℕ → ℕ → Type 0

@@ -1,17 +1,19 @@
--- What the words of the command line ask for.
-use Rattle.std.specs.Prelude.{◌≡◌, ℕ, ◌==◌, Bool, false, List, [], ◌∷◌, codes}
+-- What the words of the command line ask the program for.
+use Rattle.std.specs.Prelude.{ℕ, List}
+use Rattle.answer_text.specs.declared.Order.{Order}
+use Rattle.command_words.specs.declared.Command.TheVariants.{Run, Sample}
+use Rattle.command_words.specs.CommandLine.{AsksFor}
 
--- the word would be an option
-abbrev pub begins_with_dash : List ℕ → Bool
-begins_with_dash [] = false
-begins_with_dash (byte ∷ bytes) = byte == 45
+-- the names of the two files, how the lines of one position are ordered, and how many bytes of events are too many
+pub record RunWords : Type 0 where
+  pub queries : List ℕ
+  pub events : List ℕ
+  pub order : Order
+  pub most_bytes : ℕ
 
--- The words ask for a run over the query file and the event file of these names.
-pub record IsRun (words : List (List ℕ)) (queries events : List ℕ) : Type 0 where
-  pub spelled : words ≡ codes "run" ∷ queries ∷ events ∷ []
-  pub queries_named : begins_with_dash queries ≡ false
-  pub events_named : begins_with_dash events ≡ false
+abbrev pub IsRun : List (List ℕ) → RunWords → Type 0
+IsRun words r = AsksFor words (Run r.queries r.events r.order r.most_bytes)
 
--- the words ask for nothing that the program does
-abbrev pub AskNothing : List (List ℕ) → Type 0
-AskNothing words = (queries events : List ℕ) → IsRun words queries events → ⊥
+-- this seed of the generator, and so many events
+abbrev pub IsSample : List (List ℕ) → ℕ → ℕ → Type 0
+IsSample words seed count = AsksFor words (Sample seed count)

@@ -1,12 +1,8 @@
-pub mod FirstForm
-pub mod Plan
-pub mod Reading
 pub mod Command
-pub mod SourceBytes
-pub mod Taken
-pub mod Causes
+pub mod Accepted
 pub mod Output
-pub mod Notes
-pub mod Pairs
+pub mod Causes
 pub mod Opening
+pub mod Notes
+pub mod SourceBytes
 pub mod Run

@@ -1,29 +1,35 @@
 -- The note that goes to standard error, by the cause.
-use Rattle.std.specs.Prelude.{◌≡◌, ◌⊎◌, ℕ, List, [], ◌∷◌, ◌++◌, codes, Option}
+use Rattle.std.specs.Prelude.{◌≡◌, ◌⊎◌, ℕ, List, [], Option, None}
 use Rattle.cer_outside.specs.Causes.{Rose}
 use Rattle.cer_outside.specs.Bytes.{TookAll, TookPart}
-use Rattle.core_top.specs.declared.File.{File}
-use Rattle.core_top.specs.declared.File.TheVariants as file
+use Rattle.fault_notes.specs.Notes.{query_note, event_note, too_long_note, open_note, read_note, write_note, memory_note, usage_note}
 use Rattle.core_top.specs.declared.Cause.{Cause}
 use Rattle.core_top.specs.declared.Cause.TheVariants as cause
 
--- the word for a file in a note
-abbrev pub file_word : File → List ℕ
-file_word file.Queries = codes "queries"
-file_word file.Events = codes "events"
-
--- One line, or nothing after a fine run. Both faults of the texts have the words "not yet", at 1:1 and on line 1.
+-- one line, or nothing after a fine run
 abbrev pub note_of : Cause → List ℕ
 note_of cause.Fine = []
-note_of cause.Usage = codes "core: usage: core_cli run QUERIES EVENTS [--order walk|sorted] [--compact-every N] [--max-bytes N], core_cli sample SEED COUNT" ++ 10 ∷ []
-note_of (cause.Queries fault place) = codes "core: queries 1:1: not yet" ++ 10 ∷ []
-note_of (cause.Event line fault) = codes "core: events line 1: not yet" ++ 10 ∷ []
-note_of (cause.OpenFault opened before after) = codes "core: cannot open " ++ file_word opened ++ 10 ∷ []
-note_of (cause.ReadFault read after) = codes "core: cannot read " ++ file_word read ++ 10 ∷ []
-note_of (cause.WriteFault before after) = codes "core: cannot write" ++ 10 ∷ []
-note_of cause.Memory = codes "core: out of memory" ++ 10 ∷ []
+note_of cause.Usage = usage_note
+note_of (cause.Queries fault place) = query_note fault place
+note_of (cause.Event line fault) = event_note line fault
+note_of (cause.OpenFault opened before after) = open_note opened
+note_of (cause.ReadFault read after) = read_note read
+note_of (cause.WriteFault before after) = write_note
+note_of cause.Memory = memory_note
+note_of (cause.InputTooLong taken) = too_long_note taken
 
 -- The note was taken whole and the count stays, or it rose and a proper first part was taken.
 abbrev pub TookNote : Option (List ℕ) → Option (List ℕ) → ℕ → ℕ → List ℕ → Type 0
 TookNote before after old new note =
     (TookAll before after note × (new ≡ old)) ⊎ (TookPart before after note × Rose old new)
+
+-- the note tells a text, a line or a number, so it takes memory
+abbrev pub NeedsMemory : Cause → Type 0
+NeedsMemory (cause.Queries fault place) = Unit {0}
+NeedsMemory (cause.Event line fault) = Unit {0}
+NeedsMemory (cause.InputTooLong taken) = Unit {0}
+NeedsMemory _ = ⊥
+
+-- The cause and the source that failed are the same; or there was no memory for the cause's note, and that is the cause.
+abbrev pub IsNoted : {S : Type 0} → Cause → Option S → Cause → Option S → Type 0
+IsNoted {S} told failed given left = ((given ≡ told) × (left ≡ failed)) ⊎ (NeedsMemory told × (given ≡ cause.Memory) × (left ≡ None))

@@ -1,49 +1,57 @@
 -- What the program has written when it ends.
-use Rattle.std.specs.Prelude.{◌≡◌, ◌≢◌, ℕ, ◌⊎◌, List, [], ◌∷◌, Option}
-use Rattle.stream_schema.specs.declared.Event.{Event}
-use Rattle.cel_terms.specs.declared.Query.{Query}
-use Rattle.answer_text.specs.declared.Order.TheVariants.{Sorted}
-use Rattle.answer_text.specs.Output.{IsOutput}
+use Rattle.std.specs.Prelude.{◌≡◌, ◌≢◌, ℕ, ◌⊎◌, List, ◌++◌, Option, Some}
 use Rattle.cer_outside.specs.Content.{Content, Missing, Holds}
 use Rattle.cer_outside.specs.Bytes.{TookAll, TookPart}
-use Rattle.core_top.specs.Taken.{TookPrefix}
+use Rattle.answer_blocks.specs.Taken.{TookPrefix}
+use Rattle.event_run.specs.Runs.{Stop, End, Event, InputTooLong}
+use Rattle.fault_notes.specs.declared.File.TheVariants as file
 use Rattle.core_top.specs.declared.Cause.{Cause}
 use Rattle.core_top.specs.declared.Cause.TheVariants as cause
-use Rattle.core_top.specs.FirstForm.{Names, IsQueryFile, IsQueryOf, IsEventFile, schema_of}
-use Rattle.core_top.specs.Command.{IsRun}
+use Rattle.core_top.specs.Command.{RunWords}
+use Rattle.core_top.specs.Accepted.{AreAnswers, AreAnswersSoFar}
+use Rattle.core_sample.specs.Summary.{IsSummary}
 
--- The bytes are the answers of the query text over the event file: by position and query, each complex event once.
-pub record AreAnswers (text lines bytes : List ℕ) : Type 0 where
-  pub names : Names
-  pub query : Query
-  pub events : List Event
-  pub query_file : IsQueryFile text names
-  pub term : IsQueryOf names query
-  pub event_file : IsEventFile names lines events
-  pub output : IsOutput Sorted (schema_of names) (query ∷ []) events bytes
+-- The host lacks neither file, and where it tells their bytes, these are the answers to them, with a stop that passes.
+pub record AreFileAnswers (content : List ℕ → Content) (r : RunWords) (Passes : Stop → Type 0) (bytes : List ℕ) : Type 0 where
+  pub has_queries : content r.queries ≢ Missing
+  pub has_events : content r.events ≢ Missing
+  pub answers : (text lines : List ℕ) → content r.queries ≡ Holds text → content r.events ≡ Holds lines
+      → (stop : Stop) × Passes stop × AreAnswers r.order r.most_bytes text lines stop bytes
 
--- The bytes are the answers of a run over the files of these names, of which the host lacks neither: those of their
--- bytes, where they are told.
-pub record AreFileAnswers (content : List ℕ → Content) (queries events bytes : List ℕ) : Type 0 where
-  pub has_queries : content queries ≢ Missing
-  pub has_events : content events ≢ Missing
-  pub answers : (text lines : List ℕ) → content queries ≡ Holds text → content events ≡ Holds lines
-      → AreAnswers text lines bytes
+-- The same over the lines that end among the bytes that a source, which failed, no longer has left.
+pub record AreReadAnswers (content : List ℕ → Content) (r : RunWords) (left : Option (List ℕ)) (bytes : List ℕ) : Type 0 where
+  pub has_queries : content r.queries ≢ Missing
+  pub has_events : content r.events ≢ Missing
+  pub answers : (text lines rest : List ℕ) → content r.queries ≡ Holds text → content r.events ≡ Holds lines → left ≡ Some rest
+      → (read : List ℕ) × (lines ≡ read ++ rest) × AreAnswersSoFar r.order text read bytes
 
--- The bytes are the answers of the run that the words ask for.
-pub record AreRunAnswers (words : List (List ℕ)) (content : List ℕ → Content) (bytes : List ℕ) : Type 0 where
-  pub queries : List ℕ
-  pub events : List ℕ
-  pub asked : IsRun words queries events
-  pub answers : AreFileAnswers content queries events bytes
+-- The output took all answers of such a run.
+pub record WroteAll (content : List ℕ → Content) (r : RunWords) (stop : Stop) (before after : Option (List ℕ)) : Type 0 where
+  pub bytes : List ℕ
+  pub are : AreFileAnswers content r (λ s. s ≡ stop) bytes
+  pub took : TookAll before after bytes
 
--- What the output has taken, by the cause: all the answers, a proper first part, a first part, or nothing.
-abbrev pub Wrote : Cause → (List ℕ → Type 0) → Option (List ℕ) → Option (List ℕ) → Type 0
-Wrote cause.Fine Are before after = (bytes : List ℕ) × Are bytes × TookAll before after bytes
-Wrote (cause.WriteFault from to) Are before after = (bytes : List ℕ) × Are bytes × TookPart before after bytes
-Wrote cause.Memory Are before after = (after ≡ before) ⊎ ((bytes : List ℕ) × Are bytes × TookPrefix before after bytes)
-Wrote cause.Usage Are before after = after ≡ before
-Wrote (cause.Queries fault place) Are before after = after ≡ before
-Wrote (cause.Event line fault) Are before after = after ≡ before
-Wrote (cause.OpenFault opened from to) Are before after = after ≡ before
-Wrote (cause.ReadFault read to) Are before after = after ≡ before
+-- What the output has taken after a run, by its cause; `left` is what a source that failed has left.
+abbrev pub Wrote : Cause → (List ℕ → Content) → RunWords → Option (List ℕ) → Option (List ℕ) → Option (List ℕ) → Type 0
+Wrote cause.Fine content r left before after = WroteAll content r End before after
+Wrote (cause.Event line fault) content r left before after = WroteAll content r (Event line fault) before after
+Wrote (cause.InputTooLong taken) content r left before after = WroteAll content r (InputTooLong taken) before after
+Wrote (cause.ReadFault file.Events to) content r left before after =
+    (bytes : List ℕ) × AreReadAnswers content r left bytes × TookAll before after bytes
+Wrote (cause.WriteFault from to) content r left before after =
+    (bytes : List ℕ) × AreFileAnswers content r (λ s. Unit {0}) bytes × TookPart before after bytes
+Wrote cause.Memory content r left before after =
+    (after ≡ before) ⊎ ((bytes : List ℕ) × AreFileAnswers content r (λ s. Unit {0}) bytes × TookPrefix before after bytes)
+Wrote (cause.ReadFault file.Queries to) content r left before after = after ≡ before
+Wrote cause.Usage content r left before after = after ≡ before
+Wrote (cause.Queries fault place) content r left before after = after ≡ before
+Wrote (cause.OpenFault opened from to) content r left before after = after ≡ before
+
+-- What the output has taken after a sample, which ends by no other cause: its summary, a proper first part, or a first part.
+abbrev pub WroteSample : Cause → ℕ → ℕ → Option (List ℕ) → Option (List ℕ) → Type 0
+WroteSample cause.Fine seed count before after = (bytes : List ℕ) × IsSummary seed count bytes × TookAll before after bytes
+WroteSample (cause.WriteFault from to) seed count before after =
+    (bytes : List ℕ) × IsSummary seed count bytes × TookPart before after bytes
+WroteSample cause.Memory seed count before after =
+    (after ≡ before) ⊎ ((bytes : List ℕ) × IsSummary seed count bytes × TookPrefix before after bytes)
+WroteSample _ seed count before after = ⊥

@@ -1,22 +1,33 @@
--- How a run over two files ends, as the parts of the program tell it to each other.
-use Rattle.std.specs.Prelude.{◌≡◌, ◌≢◌, ℕ, ◌⊎◌, List, Option, None, IsSomeAnd}
+-- How a run over two files ends, as the parts of the program tell it to each other. Private clauses alone cite this file.
+use Rattle.std.specs.Prelude.{◌≡◌, ◌≢◌, ℕ, ◌⊎◌, List, Option, Some, None, IsSomeAnd}
 use Rattle.cer_outside.specs.Causes.{Rose, AllStay, RoseAt}
-use Rattle.cer_outside.specs.Content.{Content, Missing, Holds, OfOpened}
-use Rattle.cer_outside.specs.Bytes.{TookAll, TookPart}
-use Rattle.core_top.specs.declared.File.{File}
+use Rattle.cer_outside.specs.Content.{Content, Missing, Holds, HasOpened, OfOpened}
+use Rattle.cer_outside.specs.Bytes.{TookPart}
+use Rattle.answer_blocks.specs.Taken.{TookPrefix}
+use Rattle.event_run.specs.Runs as stop
+use Rattle.event_run.specs.Taking.{AreEventsRead}
+use Rattle.stream_answers.specs.Streams.{Asked, WroteOver, WroteAll, WrotePartOf}
+use Rattle.fault_notes.specs.declared.File.{File}
+use Rattle.fault_notes.specs.declared.File.TheVariants as file
 use Rattle.core_top.specs.declared.Cause.{Cause}
 use Rattle.core_top.specs.declared.Cause.TheVariants as cause
-use Rattle.core_top.specs.Causes.{IsAcceptedText, IsRefusedText, IsStopped, ComesInTurn, name_of, CountsOpens, CountsWrites}
-use Rattle.core_top.specs.Output.{AreFileAnswers}
-use Rattle.core_top.specs.Taken.{TookPrefix}
+use Rattle.command_words.specs.CommandLine.{AskNothing}
+use Rattle.core_top.specs.Command.{RunWords, IsRun, IsSample}
+use Rattle.core_top.specs.Accepted.{IsAcceptedText, IsRefusedText}
+use Rattle.core_top.specs.Causes.{ComesInTurn, name_of, CountsOpens, CountsWrites}
+use Rattle.core_top.specs.Output.{Wrote, WroteSample}
 use Rattle.core_top.specs.SourceBytes.{IsRestOf}
 use Rattle.core_top.specs.Opening.{OpensInTurn}
-use Rattle.core_top.specs.Command.{IsRun, AskNothing}
 
 -- what the outside says of a source that failed: its count of faults, and what it has left
 pub record Sources (S : Type 0) : Type 0 where
   pub faults : S → ℕ
   pub left : S → Option (List ℕ)
+
+-- what the source that failed has left
+abbrev pub left_of : {S : Type 0} → Sources S → Option S → Option (List ℕ)
+left_of sources None = None
+left_of sources (Some source) = sources.left source
 
 -- The source's count rose from 0 to after, and it has left the last part of what there was.
 pub record FailedWith {S : Type 0} (sources : Sources S) (whole : Content) (after : ℕ) (source : S) : Type 0 where
@@ -24,22 +35,51 @@ pub record FailedWith {S : Type 0} (sources : Sources S) (whole : Content) (afte
   pub rose : Rose 0 after
   pub rest : IsRestOf whole (sources.left source)
 
--- why a file was not read whole, with the host's count of its name before and after
+-- why a file was not opened or read, with the host's count of its name before and after
 abbrev pub ReadingStops : {S : Type 0} → Sources S → File → Content → ℕ → ℕ → Cause → Option S → Type 0
 ReadingStops sources file whole old new (cause.OpenFault opened before after) failed = (opened ≡ file) × (before ≡ old) × (after ≡ new) × Rose old new × (failed ≡ None)
 ReadingStops sources file whole old new (cause.ReadFault read after) failed = (read ≡ file) × IsSomeAnd failed (FailedWith sources whole after)
 ReadingStops sources file whole old new cause.Memory failed = failed ≡ None
 ReadingStops sources file whole old new _ failed = ⊥
 
--- the host's counts after a file was not read whole
+-- no file was opened
+abbrev pub IsOpening : Cause → Type 0
+IsOpening (cause.OpenFault opened before after) = Unit {0}
+IsOpening cause.Memory = Unit {0}
+IsOpening _ = ⊥
+
+-- the host's counts after a file was not read
 abbrev pub StopCounts : Cause → List ℕ → (List ℕ → ℕ) → (List ℕ → ℕ) → Type 0
 StopCounts (cause.OpenFault opened before after) name old new = RoseAt name old new
 StopCounts _ name old new = AllStay old new
 
--- the two files and the output, before and after a run
+-- why there is no engine for a query text
+abbrev pub QueriesStop : {S : Type 0} → Sources S → Content → ℕ → ℕ → Cause → Option S → Type 0
+QueriesStop sources whole old new (cause.Queries fault place) failed = (failed ≡ None) × OfOpened whole (λ text. IsRefusedText text fault place)
+QueriesStop sources whole old new (cause.OpenFault opened before after) failed = ReadingStops sources file.Queries whole old new (cause.OpenFault opened before after) failed
+QueriesStop sources whole old new (cause.ReadFault read after) failed = ReadingStops sources file.Queries whole old new (cause.ReadFault read after) failed
+QueriesStop sources whole old new cause.Memory failed = failed ≡ None
+QueriesStop sources whole old new _ failed = ⊥
+
+-- how the answers over a source ended, of which these bytes were left, where they are told
+abbrev pub SourceStop : {S : Type 0} → Sources S → Asked → Option (List ℕ) → ℕ → ℕ → Option (List ℕ) → Option (List ℕ) → Cause → Option S → Type 0
+SourceStop sources a source out_old out_new before after cause.Fine failed = (failed ≡ None) × WroteAll a source stop.End before after
+SourceStop sources a source out_old out_new before after (cause.Event line fault) failed = (failed ≡ None) × WroteAll a source (stop.Event line fault) before after
+SourceStop sources a source out_old out_new before after (cause.InputTooLong taken) failed = (failed ≡ None) × WroteAll a source (stop.InputTooLong taken) before after
+SourceStop sources a source out_old out_new before after (cause.ReadFault read to) failed =
+    (read ≡ file.Events) × IsSomeAnd failed (λ s. (sources.faults s ≡ to) × Rose 0 to) × WroteOver a source (λ lines events. AreEventsRead a.schema a.queries lines (left_of sources failed) events) before after
+SourceStop sources a source out_old out_new before after (cause.WriteFault from to) failed =
+    (failed ≡ None) × (from ≡ out_old) × (to ≡ out_new) × Rose from to × WrotePartOf a source (TookPart before after)
+SourceStop sources a source out_old out_new before after cause.Memory failed = (failed ≡ None) × WrotePartOf a source (TookPrefix before after)
+SourceStop sources a source out_old out_new before after _ failed = ⊥
+
+-- How the answers over a file ended: it was not opened, or they ended so over what was left in it.
+pub record EventsStop {S : Type 0} (sources : Sources S) (a : Asked) (whole : Content) (old new out_old out_new : ℕ) (before after : Option (List ℕ)) (given : Cause) (failed : Option S) : Type 0 where
+  pub way : (ReadingStops sources file.Events whole old new given failed × (after ≡ before) × IsOpening given)
+      ⊎ ((source : Option (List ℕ)) × HasOpened whole source × SourceStop sources a source out_old out_new before after given failed)
+
+-- the files, the host and the output, before and after a call
 pub record Outside : Type 0 where
-  pub queries : List ℕ
-  pub events : List ℕ
   pub content : List ℕ → Content
   pub old : List ℕ → ℕ
   pub new : List ℕ → ℕ
@@ -49,46 +89,54 @@ pub record Outside : Type 0 where
   pub after : Option (List ℕ)
 
 -- the query text, where it is told, is accepted
-abbrev pub HasAccepted : Outside → Type 0
-HasAccepted o = OfOpened (o.content o.queries) IsAcceptedText
+abbrev pub HasAccepted : Outside → RunWords → Type 0
+HasAccepted o r = OfOpened (o.content r.queries) IsAcceptedText
 
--- the bytes are the answers
-abbrev pub HasAnswers : Outside → List ℕ → Type 0
-HasAnswers o bytes = AreFileAnswers o.content o.queries o.events bytes
+-- what holds of a cause besides what was written
+abbrev pub CauseHolds : {S : Type 0} → Sources S → Outside → RunWords → Cause → Option S → Type 0
+CauseHolds sources o r cause.Fine failed = (failed ≡ None) × HasAccepted o r
+CauseHolds sources o r cause.Usage failed = ⊥
+CauseHolds sources o r (cause.Queries fault place) failed = (failed ≡ None) × OfOpened (o.content r.queries) (λ text. IsRefusedText text fault place)
+CauseHolds sources o r (cause.Event line fault) failed = (failed ≡ None) × HasAccepted o r
+CauseHolds sources o r (cause.InputTooLong taken) failed = (failed ≡ None) × HasAccepted o r
+CauseHolds sources o r (cause.OpenFault opened from to) failed = (failed ≡ None) × ComesInTurn opened (o.content r.queries) × (from ≡ o.old (name_of opened r)) × (to ≡ o.new (name_of opened r)) × Rose from to
+CauseHolds sources o r (cause.ReadFault read to) failed = ComesInTurn read (o.content r.queries) × IsSomeAnd failed (FailedWith sources (o.content (name_of read r)) to)
+CauseHolds sources o r (cause.WriteFault from to) failed = (failed ≡ None) × (from ≡ o.out_old) × (to ≡ o.out_new) × Rose from to
+CauseHolds sources o r cause.Memory failed = failed ≡ None
 
--- nothing was written
-abbrev pub WroteNothing : Outside → Type 0
-WroteNothing o = o.after ≡ o.before
-
--- what holds at the end of a run, by its cause
-abbrev pub RunEnds : {S : Type 0} → Sources S → Outside → Cause → Option S → Type 0
-RunEnds sources o cause.Fine failed = (failed ≡ None) × HasAccepted o × ((bytes : List ℕ) × HasAnswers o bytes × TookAll o.before o.after bytes)
-RunEnds sources o cause.Usage failed = ⊥
-RunEnds sources o (cause.Queries fault place) failed = (failed ≡ None) × WroteNothing o × OfOpened (o.content o.queries) (λ text. IsRefusedText text fault place)
-RunEnds sources o (cause.Event line fault) failed = (failed ≡ None) × WroteNothing o × HasAccepted o × ((text lines : List ℕ) → o.content o.queries ≡ Holds text → o.content o.events ≡ Holds lines → IsStopped text lines line fault) × (o.content o.events ≢ Missing)
-RunEnds sources o (cause.OpenFault opened from to) failed = (failed ≡ None) × WroteNothing o × ComesInTurn opened (o.content o.queries) × (from ≡ o.old (name_of opened o.queries o.events)) × (to ≡ o.new (name_of opened o.queries o.events)) × Rose from to
-RunEnds sources o (cause.ReadFault read to) failed = WroteNothing o × ComesInTurn read (o.content o.queries) × IsSomeAnd failed (FailedWith sources (o.content (name_of read o.queries o.events)) to)
-RunEnds sources o (cause.WriteFault from to) failed = (failed ≡ None) × HasAccepted o × (from ≡ o.out_old) × (to ≡ o.out_new) × Rose from to × ((bytes : List ℕ) × HasAnswers o bytes × TookPart o.before o.after bytes)
-RunEnds sources o cause.Memory failed = (failed ≡ None) × (WroteNothing o ⊎ ((bytes : List ℕ) × HasAnswers o bytes × TookPrefix o.before o.after bytes))
-
--- The run ended by this cause, with this source that failed; the counts and the opens are those of the cause.
-pub record Ended {S H : Type 0} (sources : Sources S) (call : H → List ℕ → H → Type 0) (o : Outside) (first last : H) (given : Cause) (failed : Option S) : Type 0 where
-  pub holds : RunEnds sources o given failed
-  pub counts_opens : CountsOpens given o.queries o.events o.old o.new
+-- The run ended by this cause, with this source that failed.
+pub record Ended {S H : Type 0} (sources : Sources S) (call : H → List ℕ → H → Type 0) (o : Outside) (r : RunWords) (first last : H) (given : Cause) (failed : Option S) : Type 0 where
+  pub holds : CauseHolds sources o r given failed
+  pub wrote : Wrote given o.content r (left_of sources failed) o.before o.after
+  pub counts_opens : CountsOpens given r o.old o.new
   pub counts_writes : CountsWrites given o.out_old o.out_new
-  pub opens : OpensInTurn call (o.content o.queries) o.queries o.events given first last
+  pub opens : OpensInTurn call (o.content r.queries) r given first last
 
--- nothing was done, since the words ask for nothing
-pub record EndedUnasked {S H : Type 0} (words : List (List ℕ)) (o : Outside) (first last : H) (given : Cause) (failed : Option S) : Type 0 where
-  pub asked : AskNothing words
-  pub usage : given ≡ cause.Usage
+-- The sample ended by this cause.
+pub record SampleStop {S : Type 0} (seed count out_old out_new : ℕ) (before after : Option (List ℕ)) (given : Cause) (failed : Option S) : Type 0 where
+  pub wrote : WroteSample given seed count before after
+  pub fault : (from to : ℕ) → given ≡ cause.WriteFault from to → (from ≡ out_old) × (to ≡ out_new) × Rose from to
   pub none : failed ≡ None
-  pub wrote : WroteNothing o
-  pub counts_opens : AllStay o.old o.new
+  pub counts_writes : CountsWrites given out_old out_new
+
+-- the same, and no file was touched
+pub record EndedSample {S H : Type 0} (o : Outside) (seed count : ℕ) (first last : H) (given : Cause) (failed : Option S) : Type 0 where
+  pub wrote : WroteSample given seed count o.before o.after
+  pub fault : (from to : ℕ) → given ≡ cause.WriteFault from to → (from ≡ o.out_old) × (to ≡ o.out_new) × Rose from to
+  pub none : failed ≡ None
+  pub counts_writes : CountsWrites given o.out_old o.out_new
+  pub unopened : last ≡ first
+
+-- nothing was done, since the words ask for nothing, or memory ran out while they were read
+pub record EndedUnasked {S H : Type 0} (o : Outside) (first last : H) (failed : Option S) : Type 0 where
+  pub none : failed ≡ None
+  pub wrote : o.after ≡ o.before
   pub counts_writes : o.out_new ≡ o.out_old
   pub unopened : last ≡ first
 
--- The call ended: after a run that the words ask for, or because they ask for nothing. The names in o are those of the run.
-pub record Finished {S H : Type 0} (sources : Sources S) (call : H → List ℕ → H → Type 0) (words : List (List ℕ)) (o : Outside) (first last : H) (given : Cause) (failed : Option S) : Type 0 where
-  pub way : ((queries : List ℕ) × (events : List ℕ) × IsRun words queries events × Ended sources call (record o { queries = queries; events = events }) first last given failed)
-      ⊎ EndedUnasked words o first last given failed
+-- how a call ended, by what its words ask for
+pub data Finished {S H : Type 0} (sources : Sources S) (call : H → List ℕ → H → Type 0) (words : List (List ℕ)) (o : Outside) (first last : H) : Cause → Option S → Type 0 where
+  ran : {given : Cause} {failed : Option S} (r : RunWords) → IsRun words r → Ended sources call o r first last given failed → Finished sources call words o first last given failed
+  sampled : {given : Cause} {failed : Option S} (seed count : ℕ) → IsSample words seed count → EndedSample o seed count first last given failed → Finished sources call words o first last given failed
+  refused : {given : Cause} {failed : Option S} → AskNothing words → given ≡ cause.Usage → EndedUnasked o first last failed → Finished sources call words o first last given failed
+  unread : {given : Cause} {failed : Option S} → given ≡ cause.Memory → EndedUnasked o first last failed → Finished sources call words o first last given failed

@@ -1,49 +1,28 @@
 //! The program, from the words of its command line to the bytes that it writes.
 //!
 //! Promised: with status 0 the output is exactly the answers of the query file over the event
-//! file, each once; any other status names its one cause.
+//! file, each once; any other status names its one cause. Both are clauses of `core_main`.
+//! It stands on `command_words` for its words, `ceql_parser` for query texts, `stream_answers` for
+//! the answers over an event file, `core_sample` for samples, and `fault_notes` for its notes.
 #![tactic(auto)]
 
 use cer_base::Place;
+use ceql_parser::QueryFault;
+use event_reader::EventFault;
+
+pub use fault_notes::File;
 pub use top::core_main;
 
-mod command;
-mod engine;
-mod event_lines;
 mod files;
-mod first_form;
 mod notes;
 mod opening;
-mod query_lines;
-mod query_plan;
 mod run;
-mod spelled;
+mod sample;
 pub mod sure;
 mod top;
 
-/// Why a query text was refused.
-#[derive(Debug, Clone, Copy, PartialEq, Eq)]
-pub enum QueryFault {
-    /// The file is not of the one form that is read so far.
-    NotYet,
-}
-
-/// Why an event was refused.
-#[derive(Debug, Clone, Copy, PartialEq, Eq)]
-pub enum EventFault {
-    /// The file is not of the one form that is read so far.
-    NotYet,
-}
-
-/// One of the two files of a run.
-#[derive(Debug, Clone, Copy, PartialEq, Eq)]
-pub enum File {
-    Queries,
-    Events,
-}
-
 /// Why the program ended.
-#[derive(Debug, Clone, Copy, PartialEq, Eq)]
+#[derive(Drop, Debug)]
 pub enum Cause {
     /// All was read and all answers were written: status 0.
     Fine,
@@ -63,17 +42,16 @@ pub enum Cause {
     WriteFault { before: u64, after: u64 },
     /// Memory ran out: status 7.
     Memory,
+    /// The event file has this many bytes or more, which is what `--max-bytes` says: status 8.
+    InputTooLong { taken: u64 },
 }
 
 /// How a call of the program ended.
 #[derive(Drop, Debug)]
 pub struct Done<S> {
-    /// The exit status, from 0 to 7.
+    /// The exit status, from 0 to 8.
     pub status: u8,
     pub cause: Cause,
     /// The source that failed, where the cause is a `ReadFault`.
     pub failed: Option<S>,
 }
-
-#[cfg(test)]
-mod tests;

@@ -1,48 +1,68 @@
-//! The notes on standard error.
+//! The note of a cause, written to standard error.
 
-ghost use Rattle.std.specs.Prelude.{◌≡◌};
-ghost use Rattle.core_top.specs.Notes.{note_of, TookNote};
+ghost use Rattle.std.specs.Prelude.{◌≡◌, OnOk, OnErr};
+ghost use Rattle.core_top.specs.Notes.{note_of, TookNote, NeedsMemory, IsNoted};
 
-use super::{Cause, File};
+use super::Cause;
+use super::opening::Stop;
+use cer_base::Memory;
 use cer_outside::Sink;
 use cer_outside::writing::put_all;
+use fault_notes::{
+    event_note, memory_note, open_note, query_note, read_note, too_long_note, usage_note, write_note,
+};
+use std::alloc::Global;
 
-/// The note of the cause, a line or nothing.
-fn note(cause: &Cause) -> &'static [u8]
-    ensures { result.now ≡ note_of cause.now }
+/// Writes the bytes. A fault is told by the sink's count alone.
+fn put<N: Sink>(notes: &mut N, note: &[u8])
+    ensures { TookNote (N.taken notes.old) (N.taken notes.new)
+        (N.faults notes.old) (N.faults notes.new) note.now }
 {
-    match cause {
-        Cause::Fine => b"",
-        Cause::Usage => {
-            b"core: usage: core_cli run QUERIES EVENTS [--order walk|sorted] [--compact-every N] [--max-bytes N], core_cli sample SEED COUNT\n"
-        }
-        Cause::Queries { .. } => b"core: queries 1:1: not yet\n",
-        Cause::Event { .. } => b"core: events line 1: not yet\n",
-        Cause::OpenFault {
-            file: File::Queries,
-            ..
-        } => b"core: cannot open queries\n",
-        Cause::OpenFault {
-            file: File::Events,
-            ..
-        } => b"core: cannot open events\n",
-        Cause::ReadFault {
-            file: File::Queries,
-            ..
-        } => b"core: cannot read queries\n",
-        Cause::ReadFault {
-            file: File::Events,
-            ..
-        } => b"core: cannot read events\n",
-        Cause::WriteFault { .. } => b"core: cannot write\n",
-        Cause::Memory => b"core: out of memory\n",
-    }
+    let _ = put_all(notes, note);
 }
 
-/// Writes the note of the cause. A fault of the notes is told by their count alone.
-pub fn write_note<N: Sink>(notes: &mut N, cause: &Cause)
-    ensures { TookNote (N.taken notes.old) (N.taken notes.new)
-        (N.faults notes.old) (N.faults notes.new) (note_of cause.now) }
+/// Writes the note of the cause. Memory may run out before one that tells a text, a line or a
+/// number; then nothing was written.
+fn write_note_of<N: Sink>(alloc: Global, notes: &mut N, cause: &Cause) -> Result<(), Memory>
+    ensures took { OnOk result (TookNote (N.taken notes.old) (N.taken notes.new)
+        (N.faults notes.old) (N.faults notes.new) (note_of cause.now)) }
+    ensures refused { OnErr result (NeedsMemory cause.now) }
+    ensures unasked { OnErr result (notes.new ≡ notes.old) }
 {
-    let _ = put_all(notes, note(cause));
+    match cause {
+        Cause::Fine => put(notes, b""),
+        Cause::Usage => put(notes, usage_note()),
+        Cause::Queries { fault, place } => {
+            let note = query_note(alloc, fault, *place)?;
+            put(notes, note.as_slice());
+        }
+        Cause::Event { line, fault } => {
+            let note = event_note(alloc, *line, fault)?;
+            put(notes, note.as_slice());
+        }
+        Cause::InputTooLong { taken } => {
+            let note = too_long_note(alloc, *taken)?;
+            put(notes, note.as_slice());
+        }
+        Cause::OpenFault { file, .. } => put(notes, open_note(*file)),
+        Cause::ReadFault { file, .. } => put(notes, read_note(*file)),
+        Cause::WriteFault { .. } => put(notes, write_note()),
+        Cause::Memory => put(notes, memory_note()),
+    }
+    Ok(())
+}
+
+/// Writes the note of how the call ended. Where there is no memory for it, memory is the cause.
+pub fn noted<S: Drop, N: Sink>(alloc: Global, notes: &mut N, stop: Stop<S>) -> Stop<S>
+    ensures stop { IsNoted stop.cause stop.failed result.cause result.failed }
+    ensures took { TookNote (N.taken notes.old) (N.taken notes.new)
+        (N.faults notes.old) (N.faults notes.new) (note_of result.cause) }
+{
+    match write_note_of(alloc, notes, &stop.cause) {
+        Ok(()) => stop,
+        Err(Memory) => {
+            put(notes, memory_note());
+            Stop::of(Cause::Memory)
+        }
+    }
 }

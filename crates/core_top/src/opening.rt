@@ -1,9 +1,10 @@
-//! A file, opened and read whole.
+//! A file, opened, and one read whole.
 
 ghost use Rattle.std.specs.Prelude.{◌≡◌, ℕ, List, IfOk, IfErr};
 ghost use Rattle.cer_outside.specs.Causes.{AllStay};
+ghost use Rattle.cer_outside.specs.Content.{HasOpened};
 ghost use Rattle.core_top.specs.SourceBytes.{AreFirstOf};
-ghost use Rattle.core_top.specs.Run.{ReadingStops, StopCounts};
+ghost use Rattle.core_top.specs.Run.{ReadingStops, StopCounts, IsOpening};
 
 use super::files::{MOST_READ, read_whole};
 use super::{Cause, File};
@@ -11,7 +12,7 @@ use cer_base::OrMemory;
 use cer_outside::{Host, OpenError, Source};
 use std::alloc::Global;
 
-/// A run that ended early: its cause, and the source that failed where reading did.
+/// A call that ended: its cause, and the source that failed where reading did.
 #[derive(Drop)]
 pub struct Stop<S> {
     pub cause: Cause,
@@ -31,8 +32,44 @@ impl<S> Stop<S> {
     }
 }
 
+/// A source of what the host has under the name. The host is asked once. An `OpenFault` names its
+/// count of faults for the name before and after.
+pub fn open<H: Host>(
+    alloc: Global,
+    host: &mut H,
+    file: File,
+    name: &str,
+) -> Result<H::Src, Stop<H::Src>>
+    ensures fresh { IfOk result (λ source. H.Src.faults source ≡ 0) }
+    ensures bytes { IfOk result (λ source.
+        HasOpened (H.content host.old name.now) (H.Src.left source)) }
+    ensures stop { IfErr result (λ stop.
+        ReadingStops (record { faults = H.Src.faults; left = H.Src.left })
+        file (H.content host.old name.now)
+        (H.faults host.old name.now) (H.faults host.new name.now) stop.cause stop.failed) }
+    ensures opening { IfErr result (λ stop. IsOpening stop.cause) }
+    ensures counts { IfOk result (λ source. AllStay (H.faults host.old) (H.faults host.new)) }
+    ensures counts_stop { IfErr result
+        (λ stop. StopCounts stop.cause name.now (H.faults host.old) (H.faults host.new)) }
+    ensures opened { H.opens host.old name.now host.new }
+    ensures kept { (any : List ℕ) → H.content host.new any ≡ H.content host.old any }
+{
+    let before = host.fault_count(name);
+    match host.take_file(alloc, name) {
+        Ok(source) => Ok(source),
+        Err(OpenError::Memory) => Err(Stop::of(Cause::Memory)),
+        Err(OpenError::Failed) => {
+            let after = host.fault_count(name);
+            Err(Stop::of(Cause::OpenFault {
+                file,
+                before,
+                after,
+            }))
+        }
+    }
+}
+
 /// The bytes that the host has under the name, at most `MOST_READ` of them. The host is asked once.
-/// An `OpenFault` names its count of faults for the name before and after.
 pub fn take_whole<H: Host>(
     alloc: Global,
     host: &mut H,
@@ -51,18 +88,9 @@ pub fn take_whole<H: Host>(
     ensures opened { H.opens host.old name.now host.new }
     ensures kept { (any : List ℕ) → H.content host.new any ≡ H.content host.old any }
 {
-    let before = host.fault_count(name);
-    let mut source = match host.take_file(alloc, name) {
+    let mut source = match open(alloc, host, file, name) {
         Ok(source) => source,
-        Err(OpenError::Memory) => return Err(Stop::of(Cause::Memory)),
-        Err(OpenError::Failed) => {
-            let after = host.fault_count(name);
-            return Err(Stop::of(Cause::OpenFault {
-                file,
-                before,
-                after,
-            }));
-        }
+        Err(stop) => return Err(stop),
     };
     match read_whole(alloc, &mut source) {
         Ok(bytes) => Ok(bytes),

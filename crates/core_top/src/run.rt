@@ -1,31 +1,39 @@
 //! The order of work of a run: the query file, the event file, the answers.
 
-ghost use Rattle.std.specs.Prelude.{◌≡◌, ℕ, List};
-ghost use Rattle.core_top.specs.Run.{Ended};
+ghost use Rattle.std.specs.Prelude.{◌≡◌, ℕ, List, [], IfOk, IfErr};
+ghost use Rattle.cer_base.specs.Answers.{OnFault};
+ghost use Rattle.cer_outside.specs.Causes.{AllStay};
+ghost use Rattle.cer_outside.specs.Content.{OfOpened};
+ghost use Rattle.query_engine.specs.Engine.{StandsFor, count_of};
+ghost use Rattle.core_top.specs.Accepted.{Accepts, IsRefusedText};
+ghost use Rattle.core_top.specs.Causes.{CountsWrites};
+ghost use Rattle.core_top.specs.Run.{Ended, QueriesStop, EventsStop, SourceStop, StopCounts};
 
-use super::engine::write_answers;
-use super::first_form::{read_events, read_query};
-use super::opening::{Stop, take_whole};
+use super::opening::{Stop, open, take_whole};
 use super::{Cause, File};
-use cer_base::{OrMemory, Place};
-use cer_outside::{Host, Sink, WriteFault};
+use answer_text::Order;
+use cer_base::{Memory, OrMemory};
+use cer_base::steps::Steps;
+use cer_outside::{Host, Sink, Source};
+use ceql_parser::{QueryError, read_queries};
+use query_engine::Engine;
 use std::alloc::Global;
+use std::sync::ledger::Ledger;
+use stream_answers::{StreamFault, write_answers};
 
-/// The place of every refusal of a query file of another form.
-const START: Place = Place { line: 1, col: 1 };
-
-/// Reads both files, and writes the answers.
-pub fn run_files<H: Host, K: Sink>(
+/// Reads the query text, and then writes the answers of its queries over the event file.
+pub fn run_files<H: Host, K: Sink, L: Ledger>(
     alloc: Global,
     queries: &str,
     events: &str,
+    order: Order,
+    most_bytes: u64,
     host: &mut H,
     out: &mut K,
+    steps: &mut Steps<L>,
 ) -> Stop<H::Src>
     ensures ends { Ended (record { faults = H.Src.faults; left = H.Src.left }) H.opens
         (record {
-          queries = queries.now;
-          events = events.now;
           content = H.content host.old;
           old = H.faults host.old;
           new = H.faults host.new;
@@ -34,39 +42,163 @@ pub fn run_files<H: Host, K: Sink>(
           before = K.taken out.old;
           after = K.taken out.new;
         })
+        (record {
+          queries = queries.now;
+          events = events.now;
+          order = order;
+          most_bytes = most_bytes;
+        })
         host.old host.new result.cause result.failed }
+    ensures kept { (any : List ℕ) → H.content host.new any ≡ H.content host.old any }
+{
+    let mut engine = match read_engine(alloc, host, queries) {
+        Ok(engine) => engine,
+        Err(stop) => return stop,
+    };
+    answer_file(alloc, &mut engine, events, order, most_bytes, host, out, steps)
+}
+
+/// An engine for the queries of the host's file.
+fn read_engine<H: Host>(
+    alloc: Global,
+    host: &mut H,
+    queries: &str,
+) -> Result<Engine, Stop<H::Src>>
+    ensures accepted { IfOk result (λ e.
+        OfOpened (H.content host.old queries.now) (λ text. Accepts text e.schema e.queries)) }
+    ensures stands { IfOk result (λ e. StandsFor e []) }
+    ensures count { IfOk result (λ e. count_of e ≡ 0) }
+    ensures stop { IfErr result (λ stop.
+        QueriesStop (record { faults = H.Src.faults; left = H.Src.left })
+        (H.content host.old queries.now)
+        (H.faults host.old queries.now) (H.faults host.new queries.now) stop.cause stop.failed) }
+    ensures counts { IfOk result (λ e. AllStay (H.faults host.old) (H.faults host.new)) }
+    ensures counts_stop { IfErr result
+        (λ stop. StopCounts stop.cause queries.now (H.faults host.old) (H.faults host.new)) }
+    ensures opened { H.opens host.old queries.now host.new }
     ensures kept { (any : List ℕ) → H.content host.new any ≡ H.content host.old any }
 {
     let text = match take_whole(alloc, host, File::Queries, queries) {
         Ok(text) => text,
-        Err(stop) => return stop,
+        Err(stop) => return Err(stop),
     };
-    let plan = match read_query(alloc, text.as_slice()) {
-        Ok(plan) => plan,
-        Err(OrMemory::Memory) => return Stop::of(Cause::Memory),
-        Err(OrMemory::Fault(fault)) => {
-            return Stop::of(Cause::Queries {
-                fault,
-                place: START,
-            });
-        }
-    };
-    let lines = match take_whole(alloc, host, File::Events, events) {
-        Ok(lines) => lines,
-        Err(stop) => return stop,
-    };
-    let list = match read_events(alloc, &plan, lines.as_slice()) {
-        Ok(list) => list,
-        Err(OrMemory::Memory) => return Stop::of(Cause::Memory),
-        Err(OrMemory::Fault(fault)) => return Stop::of(Cause::Event { line: 1, fault }),
-    };
+    match engine_of(alloc, text.as_slice()) {
+        Ok(engine) => Ok(engine),
+        Err(OrMemory::Memory) => Err(Stop::of(Cause::Memory)),
+        Err(OrMemory::Fault(error)) => Err(Stop::of(Cause::Queries {
+            fault: error.fault,
+            place: error.place,
+        })),
+    }
+}
+
+/// An engine for the queries of the text.
+fn engine_of(alloc: Global, text: &[u8]) -> Result<Engine, OrMemory<QueryError>>
+    ensures accepted { IfOk result (λ e. Accepts text.now e.schema e.queries) }
+    ensures stands { IfOk result (λ e. StandsFor e []) }
+    ensures count { IfOk result (λ e. count_of e ≡ 0) }
+    ensures refused { OnFault result (λ error. IsRefusedText text.now error.fault error.place) }
+{
+    match read_queries(alloc, text) {
+        Ok(accepted) => match Engine::new(alloc, accepted.schema, accepted.queries) {
+            Ok(engine) => Ok(engine),
+            Err(Memory) => Err(OrMemory::Memory),
+        },
+        Err(refusal) => Err(refusal),
+    }
+}
+
+/// Writes the answers of the engine's queries over the host's file.
+fn answer_file<H: Host, K: Sink, L: Ledger>(
+    alloc: Global,
+    engine: &mut Engine,
+    events: &str,
+    order: Order,
+    most_bytes: u64,
+    host: &mut H,
+    out: &mut K,
+    steps: &mut Steps<L>,
+) -> Stop<H::Src>
+    requires fresh { StandsFor engine.old [] }
+    requires none { count_of engine.old ≡ 0 }
+    ensures stop { EventsStop (record { faults = H.Src.faults; left = H.Src.left })
+        (record {
+          order = order;
+          schema = engine.old.schema;
+          queries = engine.old.queries;
+          most_bytes = most_bytes;
+        })
+        (H.content host.old events.now)
+        (H.faults host.old events.now) (H.faults host.new events.now)
+        (K.faults out.old) (K.faults out.new) (K.taken out.old) (K.taken out.new)
+        result.cause result.failed }
+    ensures counts { StopCounts result.cause events.now (H.faults host.old) (H.faults host.new) }
+    ensures writes { CountsWrites result.cause (K.faults out.old) (K.faults out.new) }
+    ensures opened { H.opens host.old events.now host.new }
+    ensures kept { (any : List ℕ) → H.content host.new any ≡ H.content host.old any }
+{
+    match open(alloc, host, File::Events, events) {
+        Ok(source) => answer_source(alloc, engine, source, order, most_bytes, out, steps),
+        Err(stop) => stop,
+    }
+}
+
+/// Writes the answers of the engine's queries over what the source has left.
+fn answer_source<S: Source + Drop, K: Sink, L: Ledger>(
+    alloc: Global,
+    engine: &mut Engine,
+    mut source: S,
+    order: Order,
+    most_bytes: u64,
+    out: &mut K,
+    steps: &mut Steps<L>,
+) -> Stop<S>
+    requires fresh { StandsFor engine.old [] }
+    requires none { count_of engine.old ≡ 0 }
+    requires sound { S.faults source ≡ 0 }
+    ensures stop { SourceStop (record { faults = S.faults; left = S.left })
+        (record {
+          order = order;
+          schema = engine.old.schema;
+          queries = engine.old.queries;
+          most_bytes = most_bytes;
+        })
+        (S.left source)
+        (K.faults out.old) (K.faults out.new) (K.taken out.old) (K.taken out.new)
+        result.cause result.failed }
+    ensures writes { CountsWrites result.cause (K.faults out.old) (K.faults out.new) }
+{
     let before = out.fault_count();
-    match write_answers(alloc, out, list.as_slice(), plan.before, plan.after) {
+    match write_answers(
+        alloc,
+        order,
+        most_bytes,
+        engine,
+        &mut source,
+        out,
+        steps,
+    ) {
         Ok(()) => Stop::of(Cause::Fine),
         Err(OrMemory::Memory) => Stop::of(Cause::Memory),
-        Err(OrMemory::Fault(WriteFault)) => {
+        Err(OrMemory::Fault(StreamFault::Event { line, fault })) => {
+            Stop::of(Cause::Event { line, fault })
+        }
+        Err(OrMemory::Fault(StreamFault::InputTooLong { taken })) => {
+            Stop::of(Cause::InputTooLong { taken })
+        }
+        Err(OrMemory::Fault(StreamFault::WriteFault)) => {
             let after = out.fault_count();
             Stop::of(Cause::WriteFault { before, after })
+        }
+        Err(OrMemory::Fault(StreamFault::ReadFault)) => {
+            let after = source.fault_count();
+            Stop {
+                cause: Cause::ReadFault {
+                    file: File::Events,
+                    after,
+                },
+                failed: Some(source),
+            }
         }
     }
 }

@@ -1,12 +1,12 @@
 //! What follows of the top call over a host that never fails.
 
 ghost use Rattle.std.specs.Prelude.{◌≡◌, ℕ, List, map, string_bytes};
-ghost use Rattle.stream_schema.specs.declared.Event.{Event};
 ghost use Rattle.cer_outside.specs.Causes.{Rose};
 ghost use Rattle.cer_outside.specs.Content.{Holds};
 ghost use Rattle.cer_outside.specs.Files.{content_under};
-ghost use Rattle.core_top.specs.FirstForm.{Names, IsQueryFile, IsEventFile};
-ghost use Rattle.core_top.specs.Command.{IsRun};
+ghost use Rattle.event_run.specs.Runs as stop;
+ghost use Rattle.core_top.specs.Command.{RunWords, IsRun};
+ghost use Rattle.core_top.specs.Accepted.{StopsAt};
 ghost use Rattle.core_top.specs.Causes.{IsFineOrMemory};
 
 use super::Done;
@@ -18,8 +18,9 @@ use cer_outside::sources::SureSource;
 use std::alloc::Global;
 use std::sync::ledger::Ledger;
 
-/// A run over files of the form that is read, on a host that never fails and has both: where the
-/// output's count of faults did not rise, all was well or memory ran out.
+/// A run over an accepted text and an event file that is read to its end, on a host that never
+/// fails and has both: where the output's count of faults did not rise, all was well or memory ran
+/// out.
 pub fn run_over_sure<K: Sink, N: Sink, L: Ledger>(
     alloc: Global,
     words: Vec<String>,
@@ -28,11 +29,10 @@ pub fn run_over_sure<K: Sink, N: Sink, L: Ledger>(
     notes: &mut N,
     steps: &mut Steps<L>,
 ) -> Done<SureSource>
-    ensures { (queries events text lines : List ℕ) (names : Names) (list : List Event)
-        → IsRun (map string_bytes words.items) queries events
-        → content_under host.old.files queries ≡ Holds text
-        → content_under host.old.files events ≡ Holds lines
-        → IsQueryFile text names → IsEventFile names lines list
+    ensures { (r : RunWords) (text lines : List ℕ) → IsRun (map string_bytes words.items) r
+        → content_under host.old.files r.queries ≡ Holds text
+        → content_under host.old.files r.events ≡ Holds lines
+        → StopsAt text lines r.most_bytes stop.End
         → (Rose (K.faults out.old) (K.faults out.new) → ⊥) → IsFineOrMemory result.cause }
 {
     core_main(alloc, words, host, out, notes, steps)

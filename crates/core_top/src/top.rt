@@ -1,32 +1,39 @@
 //! The top call: what the program does with its words.
 
-ghost use Rattle.std.specs.Prelude.{◌≡◌, ◌↔◌, ℕ, List, [], map, string_bytes, IsSome, IsSomeAnd};
+ghost use Rattle.std.specs.Prelude.{◌≡◌, ◌↔◌, ℕ, List, map, string_bytes, IsSome, IsSomeAnd};
 ghost use Rattle.cer_base.specs.declared.Place.{Place};
-ghost use Rattle.stream_schema.specs.declared.Event.{Event};
+ghost use Rattle.ceql_grammar.specs.declared.faults.QueryFault.{QueryFault};
+ghost use Rattle.event_reader.specs.declared.EventFault.{EventFault};
 ghost use Rattle.cer_outside.specs.Content.{Missing, Holds};
-ghost use Rattle.core_top.specs.declared.QueryFault.{QueryFault};
-ghost use Rattle.core_top.specs.declared.EventFault.{EventFault};
-ghost use Rattle.core_top.specs.declared.File.{File};
-ghost use Rattle.core_top.specs.FirstForm.{Names, IsQueryFile, IsEventFile};
-ghost use Rattle.core_top.specs.Command.{IsRun, AskNothing};
-ghost use Rattle.core_top.specs.Causes.{status_of, name_of, Exactly, IsRefusedText, IsStopped, IsFineOrOutside, IsReading, HasOpenFault, HasReadFault, HasWriteFault, CountsOpens, CountsWrites, EndsWithout};
+ghost use Rattle.event_run.specs.Runs as stop;
+ghost use Rattle.fault_notes.specs.declared.File.{File};
+ghost use Rattle.command_words.specs.CommandLine.{AskNothing};
+ghost use Rattle.core_top.specs.Command.{RunWords, IsRun, IsSample};
+ghost use Rattle.core_top.specs.Accepted.{IsRefusedText, StopsAt};
+ghost use Rattle.core_top.specs.Causes.{status_of, name_of, Exactly, IsFineOrOutside, IsReading, HasOpenFault, HasReadFault, HasWriteFault, CountsOpens, CountsWrites, EndsWithout};
 ghost use Rattle.core_top.specs.Opening.{OpensInTurn};
-ghost use Rattle.core_top.specs.Output.{AreRunAnswers, Wrote};
+ghost use Rattle.core_top.specs.Output.{Wrote, WroteSample};
 ghost use Rattle.core_top.specs.Notes.{note_of, TookNote};
-ghost use Rattle.core_top.specs.Run.{Finished};
+ghost use Rattle.core_top.specs.Run.{Finished, left_of};
 
-use super::command::run_names;
-use super::notes::write_note;
+use super::notes::noted;
+use super::opening::Stop;
 use super::run::run_files;
+use super::sample::run_sample;
 use super::{Cause, Done};
+use cer_base::OrMemory;
 use cer_base::steps::Steps;
 use cer_outside::{Host, Sink};
+use command_words::{Command, read_command};
 use std::alloc::Global;
 use std::sync::ledger::Ledger;
 
-/// Does what the words after the program's name ask for: `run QUERIES EVENTS` reads the query
-/// file and the event file of the host and writes the answers to `out`. The note of the cause goes
-/// to `notes`; a fault there changes neither status nor cause.
+/// Does what the words after the program's name ask for.
+///
+/// `run QUERIES EVENTS` reads the query text and the event file of the host and writes the answers
+/// to `out`; `sample SEED COUNT` writes a summary of two fixed queries. The note of the cause goes
+/// to `notes`; a fault there changes neither status nor cause, but that where there is no memory
+/// for a note, memory is the cause.
 pub fn core_main<H: Host, K: Sink, N: Sink, L: Ledger>(
     alloc: Global,
     words: Vec<String>,
@@ -35,24 +42,34 @@ pub fn core_main<H: Host, K: Sink, N: Sink, L: Ledger>(
     notes: &mut N,
     steps: &mut Steps<L>,
 ) -> Done<H::Src>
-    // The headline: with status 0 the output has taken exactly the answers; and what it has taken
+    // The headline: with status 0 a run has written exactly the answers of the query text over the
+    // event file, position by position and query by query, each once; and what the output has taken
     // after each other cause.
-    ensures wrote { Wrote result.cause
-        (AreRunAnswers (map string_bytes words.items) (H.content host.old))
+    ensures wrote { (r : RunWords) → IsRun (map string_bytes words.items) r
+        → Wrote result.cause (H.content host.old) r
+        (left_of (record { faults = H.Src.faults; left = H.Src.left }) result.failed)
         (K.taken out.old) (K.taken out.new) }
+    ensures sampled { (seed count : ℕ) → IsSample (map string_bytes words.items) seed count
+        → WroteSample result.cause seed count (K.taken out.old) (K.taken out.new) }
+    ensures silent { AskNothing (map string_bytes words.items)
+        → K.taken out.new ≡ K.taken out.old }
     ensures status { result.status ≡ status_of result.cause }
 
     // Each answer has its cause.
     ensures usage { Exactly result.cause Cause.Usage (AskNothing (map string_bytes words.items)) }
-    ensures queries { (queries events text : List ℕ) (fault : QueryFault) (place : Place)
-        → IsRun (map string_bytes words.items) queries events
-        → H.content host.old queries ≡ Holds text
+    ensures queries { (r : RunWords) (text : List ℕ) (fault : QueryFault) (place : Place)
+        → IsRun (map string_bytes words.items) r → H.content host.old r.queries ≡ Holds text
         → Exactly result.cause (Cause.Queries fault place) (IsRefusedText text fault place) }
-    ensures event { (queries events text lines : List ℕ) (line : ℕ) (fault : EventFault)
-        → IsRun (map string_bytes words.items) queries events
-        → H.content host.old queries ≡ Holds text
-        → H.content host.old events ≡ Holds lines
-        → Exactly result.cause (Cause.Event line fault) (IsStopped text lines line fault) }
+    ensures event { (r : RunWords) (text lines : List ℕ) (line : ℕ) (fault : EventFault)
+        → IsRun (map string_bytes words.items) r → H.content host.old r.queries ≡ Holds text
+        → H.content host.old r.events ≡ Holds lines
+        → Exactly result.cause (Cause.Event line fault)
+        (StopsAt text lines r.most_bytes (stop.Event line fault)) }
+    ensures too_long { (r : RunWords) (text lines : List ℕ) (taken : ℕ)
+        → IsRun (map string_bytes words.items) r → H.content host.old r.queries ≡ Holds text
+        → H.content host.old r.events ≡ Holds lines
+        → Exactly result.cause (Cause.InputTooLong taken)
+        (StopsAt text lines r.most_bytes (stop.InputTooLong taken)) }
     ensures open_fault { (file : File) (before after : ℕ)
         → result.cause ≡ Cause.OpenFault file before after
         → HasOpenFault (map string_bytes words.items) (H.content host.old)
@@ -65,46 +82,60 @@ pub fn core_main<H: Host, K: Sink, N: Sink, L: Ledger>(
     ensures failed { IsSome result.failed ↔ IsReading result.cause }
 
     // A file that the host lacks is never opened, and nothing is written without it.
-    ensures missing { (queries events : List ℕ) (file : File)
-        → IsRun (map string_bytes words.items) queries events
-        → H.content host.old (name_of file queries events) ≡ Missing
+    ensures missing { (r : RunWords) (file : File) → IsRun (map string_bytes words.items) r
+        → H.content host.old (name_of file r) ≡ Missing
         → EndsWithout file result.cause × (K.taken out.new ≡ K.taken out.old) }
 
-    // Files of the form that is read are read and answered, but for memory and the outside.
-    ensures complete { (queries events text lines : List ℕ) (names : Names) (list : List Event)
-        → IsRun (map string_bytes words.items) queries events
-        → H.content host.old queries ≡ Holds text → H.content host.old events ≡ Holds lines
-        → IsQueryFile text names → IsEventFile names lines list → IsFineOrOutside result.cause }
+    // An accepted text and an event file that is read to its end are answered, but for memory and
+    // the outside.
+    ensures complete { (r : RunWords) (text lines : List ℕ)
+        → IsRun (map string_bytes words.items) r
+        → H.content host.old r.queries ≡ Holds text → H.content host.old r.events ≡ Holds lines
+        → StopsAt text lines r.most_bytes stop.End → IsFineOrOutside result.cause }
 
     // Each file is opened once and in its turn, and no other name; no call failed but the one that
     // is the cause.
-    ensures opens { (queries events : List ℕ) → IsRun (map string_bytes words.items) queries events
-        → OpensInTurn H.opens (H.content host.old queries) queries events result.cause
-        host.old host.new }
+    ensures opens { (r : RunWords) → IsRun (map string_bytes words.items) r
+        → OpensInTurn H.opens (H.content host.old r.queries) r result.cause host.old host.new }
     ensures unopened { AskNothing (map string_bytes words.items) → host.new ≡ host.old }
-    ensures counts_opens { (queries events : List ℕ)
-        → IsRun (map string_bytes words.items) queries events
-        → CountsOpens result.cause queries events (H.faults host.old) (H.faults host.new) }
+    ensures unopened_sample { (seed count : ℕ)
+        → IsSample (map string_bytes words.items) seed count → host.new ≡ host.old }
+    ensures counts_opens { (r : RunWords) → IsRun (map string_bytes words.items) r
+        → CountsOpens result.cause r (H.faults host.old) (H.faults host.new) }
     ensures counts_writes { CountsWrites result.cause (K.faults out.old) (K.faults out.new) }
 
     ensures note { TookNote (N.taken notes.old) (N.taken notes.new)
         (N.faults notes.old) (N.faults notes.new) (note_of result.cause) }
     ensures kept { (name : List ℕ) → H.content host.new name ≡ H.content host.old name }
-    ensures counted { steps.new ≡ steps.old }
 {
-    let done = run(alloc, words.as_slice(), host, out);
-    write_note(notes, &done.cause);
-    done
+    let stop = run(alloc, words.as_slice(), host, out, steps);
+    done(noted(alloc, notes, stop))
 }
 
-/// The run that the words ask for, or a usage fault.
-fn run<H: Host, K: Sink>(alloc: Global, words: &[String], host: &mut H, out: &mut K) -> Done<H::Src>
+/// With the status of its cause.
+fn done<S>(stop: Stop<S>) -> Done<S>
     ensures status { result.status ≡ status_of result.cause }
+    ensures cause { result.cause ≡ stop.cause }
+    ensures failed { result.failed ≡ stop.failed }
+{
+    Done {
+        status: status(&stop.cause),
+        cause: stop.cause,
+        failed: stop.failed,
+    }
+}
+
+/// What the words ask for, or a usage fault.
+fn run<H: Host, K: Sink, L: Ledger>(
+    alloc: Global,
+    words: &[String],
+    host: &mut H,
+    out: &mut K,
+    steps: &mut Steps<L>,
+) -> Stop<H::Src>
     ensures finished { Finished (record { faults = H.Src.faults; left = H.Src.left }) H.opens
         (map string_bytes words.now)
         (record {
-          queries = [];
-          events = [];
           content = H.content host.old;
           old = H.faults host.old;
           new = H.faults host.new;
@@ -116,20 +147,25 @@ fn run<H: Host, K: Sink>(alloc: Global, words: &[String], host: &mut H, out: &mu
         host.old host.new result.cause result.failed }
     ensures kept { (name : List ℕ) → H.content host.new name ≡ H.content host.old name }
 {
-    match run_names(words) {
-        None => Done {
-            status: status(&Cause::Usage),
-            cause: Cause::Usage,
-            failed: None,
-        },
-        Some((queries, events)) => {
-            let stop = run_files(alloc, queries, events, host, out);
-            Done {
-                status: status(&stop.cause),
-                cause: stop.cause,
-                failed: stop.failed,
-            }
-        }
+    match read_command(alloc, words) {
+        Ok(Command::Run {
+            queries,
+            events,
+            order,
+            most_bytes,
+        }) => run_files(
+            alloc,
+            queries.as_str(),
+            events.as_str(),
+            order,
+            most_bytes,
+            host,
+            out,
+            steps,
+        ),
+        Ok(Command::Sample { seed, count }) => run_sample(alloc, seed, count, out, steps),
+        Err(OrMemory::Memory) => Stop::of(Cause::Memory),
+        Err(OrMemory::Fault(_)) => Stop::of(Cause::Usage),
     }
 }
 
@@ -145,5 +181,6 @@ fn status(cause: &Cause) -> u8
         Cause::OpenFault { .. } | Cause::ReadFault { .. } => 5,
         Cause::WriteFault { .. } => 6,
         Cause::Memory => 7,
+        Cause::InputTooLong { .. } => 8,
     }
 }

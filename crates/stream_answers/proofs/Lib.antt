@@ -1,6 +1,6 @@
 -- In reading order.
--- bytes that a sink took in turn
-mod Portions
+-- bytes that a sink took in turn; for callers
+pub mod Portions
 -- the blocks of one position, put behind what is held
 mod Putting
 -- a part of the answers over a whole file

@@ -1,46 +1,58 @@
--- Each clause follows from how the run ended.
+-- Each clause follows from how the call ended.
 use Rattle.std.proofs.Common.{ap, map, string_bytes}
-use Rattle.core_top.proofs.TopClauses.{finished_as, usage_clause, queries_clause, event_clause, open_clause, read_clause, write_clause, wrote_clause, failed_clause, missing_clause, complete_clause, opens_clause, unopened_clause, counts_opens_clause, counts_writes_clause}
+use Rattle.core_top.proofs.TopClauses.{finished_as, silent_clause, counts_opens_clause, usage_clause, queries_clause, event_clause, too_long_clause, open_clause, read_clause, write_clause, wrote_clause, sampled_clause, failed_clause, missing_clause, complete_clause, opens_clause, unopened_clause, counts_writes_clause}
 use Rattle.core_top.proofs.top.core_main.Goals as goal
 
 pub returns-clause-usage : goal.returns-clause-usage
-returns-clause-usage g c = usage_clause _ _ _ _ _ _ _ _ (finished_as _ _ _ _ _ _ _ _ _ (ap (map string_bytes) c.as_slice.ensures.value) c.run-done.ensures.finished)
+returns-clause-usage g c = usage_clause _ _ _ _ _ _ _ _ (finished_as _ _ _ _ _ _ _ _ _ _ _ _ _ (ap (map string_bytes) c.as_slice.ensures.value) c.done.ensures.cause c.done.ensures.failed c.noted.ensures.stop c.run-stop.ensures.finished)
 
 pub returns-clause-queries : goal.returns-clause-queries
-returns-clause-queries g c = queries_clause _ _ _ _ _ _ _ _ (finished_as _ _ _ _ _ _ _ _ _ (ap (map string_bytes) c.as_slice.ensures.value) c.run-done.ensures.finished)
+returns-clause-queries g c = queries_clause _ _ _ _ _ _ _ _ (finished_as _ _ _ _ _ _ _ _ _ _ _ _ _ (ap (map string_bytes) c.as_slice.ensures.value) c.done.ensures.cause c.done.ensures.failed c.noted.ensures.stop c.run-stop.ensures.finished)
 
 pub returns-clause-event : goal.returns-clause-event
-returns-clause-event g c = event_clause _ _ _ _ _ _ _ _ (finished_as _ _ _ _ _ _ _ _ _ (ap (map string_bytes) c.as_slice.ensures.value) c.run-done.ensures.finished)
+returns-clause-event g c = event_clause _ _ _ _ _ _ _ _ (finished_as _ _ _ _ _ _ _ _ _ _ _ _ _ (ap (map string_bytes) c.as_slice.ensures.value) c.done.ensures.cause c.done.ensures.failed c.noted.ensures.stop c.run-stop.ensures.finished)
+
+pub returns-clause-too_long : goal.returns-clause-too_long
+returns-clause-too_long g c = too_long_clause _ _ _ _ _ _ _ _ (finished_as _ _ _ _ _ _ _ _ _ _ _ _ _ (ap (map string_bytes) c.as_slice.ensures.value) c.done.ensures.cause c.done.ensures.failed c.noted.ensures.stop c.run-stop.ensures.finished)
 
 pub returns-clause-open_fault : goal.returns-clause-open_fault
-returns-clause-open_fault g c = open_clause _ _ _ _ _ _ _ _ (finished_as _ _ _ _ _ _ _ _ _ (ap (map string_bytes) c.as_slice.ensures.value) c.run-done.ensures.finished)
+returns-clause-open_fault g c = open_clause _ _ _ _ _ _ _ _ (finished_as _ _ _ _ _ _ _ _ _ _ _ _ _ (ap (map string_bytes) c.as_slice.ensures.value) c.done.ensures.cause c.done.ensures.failed c.noted.ensures.stop c.run-stop.ensures.finished)
 
 pub returns-clause-read_fault : goal.returns-clause-read_fault
-returns-clause-read_fault g c = read_clause _ _ _ _ _ _ _ _ (finished_as _ _ _ _ _ _ _ _ _ (ap (map string_bytes) c.as_slice.ensures.value) c.run-done.ensures.finished)
+returns-clause-read_fault g c = read_clause _ _ _ _ _ _ _ _ (finished_as _ _ _ _ _ _ _ _ _ _ _ _ _ (ap (map string_bytes) c.as_slice.ensures.value) c.done.ensures.cause c.done.ensures.failed c.noted.ensures.stop c.run-stop.ensures.finished)
 
 pub returns-clause-write_fault : goal.returns-clause-write_fault
-returns-clause-write_fault g c = write_clause _ _ _ _ _ _ _ _ (finished_as _ _ _ _ _ _ _ _ _ (ap (map string_bytes) c.as_slice.ensures.value) c.run-done.ensures.finished)
+returns-clause-write_fault g c = write_clause _ _ _ _ _ _ _ _ (finished_as _ _ _ _ _ _ _ _ _ _ _ _ _ (ap (map string_bytes) c.as_slice.ensures.value) c.done.ensures.cause c.done.ensures.failed c.noted.ensures.stop c.run-stop.ensures.finished)
 
 pub returns-clause-wrote : goal.returns-clause-wrote
-returns-clause-wrote g c = wrote_clause _ _ _ _ _ _ _ _ (finished_as _ _ _ _ _ _ _ _ _ (ap (map string_bytes) c.as_slice.ensures.value) c.run-done.ensures.finished)
+returns-clause-wrote g c = wrote_clause _ _ _ _ _ _ _ _ (finished_as _ _ _ _ _ _ _ _ _ _ _ _ _ (ap (map string_bytes) c.as_slice.ensures.value) c.done.ensures.cause c.done.ensures.failed c.noted.ensures.stop c.run-stop.ensures.finished)
+
+pub returns-clause-sampled : goal.returns-clause-sampled
+returns-clause-sampled g c = sampled_clause _ _ _ _ _ _ _ _ (finished_as _ _ _ _ _ _ _ _ _ _ _ _ _ (ap (map string_bytes) c.as_slice.ensures.value) c.done.ensures.cause c.done.ensures.failed c.noted.ensures.stop c.run-stop.ensures.finished)
 
 pub returns-clause-failed : goal.returns-clause-failed
-returns-clause-failed g c = failed_clause _ _ _ _ _ _ _ _ (finished_as _ _ _ _ _ _ _ _ _ (ap (map string_bytes) c.as_slice.ensures.value) c.run-done.ensures.finished)
+returns-clause-failed g c = failed_clause _ _ _ _ _ _ _ _ (finished_as _ _ _ _ _ _ _ _ _ _ _ _ _ (ap (map string_bytes) c.as_slice.ensures.value) c.done.ensures.cause c.done.ensures.failed c.noted.ensures.stop c.run-stop.ensures.finished)
 
 pub returns-clause-missing : goal.returns-clause-missing
-returns-clause-missing g c = missing_clause _ _ _ _ _ _ _ _ (finished_as _ _ _ _ _ _ _ _ _ (ap (map string_bytes) c.as_slice.ensures.value) c.run-done.ensures.finished)
+returns-clause-missing g c = missing_clause _ _ _ _ _ _ _ _ (finished_as _ _ _ _ _ _ _ _ _ _ _ _ _ (ap (map string_bytes) c.as_slice.ensures.value) c.done.ensures.cause c.done.ensures.failed c.noted.ensures.stop c.run-stop.ensures.finished)
 
 pub returns-clause-complete : goal.returns-clause-complete
-returns-clause-complete g c = complete_clause _ _ _ _ _ _ _ _ (finished_as _ _ _ _ _ _ _ _ _ (ap (map string_bytes) c.as_slice.ensures.value) c.run-done.ensures.finished)
+returns-clause-complete g c = complete_clause _ _ _ _ _ _ _ _ (finished_as _ _ _ _ _ _ _ _ _ _ _ _ _ (ap (map string_bytes) c.as_slice.ensures.value) c.done.ensures.cause c.done.ensures.failed c.noted.ensures.stop c.run-stop.ensures.finished)
 
 pub returns-clause-opens : goal.returns-clause-opens
-returns-clause-opens g c = opens_clause _ _ _ _ _ _ _ _ (finished_as _ _ _ _ _ _ _ _ _ (ap (map string_bytes) c.as_slice.ensures.value) c.run-done.ensures.finished)
+returns-clause-opens g c = opens_clause _ _ _ _ _ _ _ _ (finished_as _ _ _ _ _ _ _ _ _ _ _ _ _ (ap (map string_bytes) c.as_slice.ensures.value) c.done.ensures.cause c.done.ensures.failed c.noted.ensures.stop c.run-stop.ensures.finished)
 
-pub returns-clause-unopened : goal.returns-clause-unopened
-returns-clause-unopened g c = unopened_clause _ _ _ _ _ _ _ _ (finished_as _ _ _ _ _ _ _ _ _ (ap (map string_bytes) c.as_slice.ensures.value) c.run-done.ensures.finished)
-
-pub returns-clause-counts_opens : goal.returns-clause-counts_opens
-returns-clause-counts_opens g c = counts_opens_clause _ _ _ _ _ _ _ _ (finished_as _ _ _ _ _ _ _ _ _ (ap (map string_bytes) c.as_slice.ensures.value) c.run-done.ensures.finished)
+pub returns-clause-unopened_sample : goal.returns-clause-unopened_sample
+returns-clause-unopened_sample g c = unopened_clause _ _ _ _ _ _ _ _ (finished_as _ _ _ _ _ _ _ _ _ _ _ _ _ (ap (map string_bytes) c.as_slice.ensures.value) c.done.ensures.cause c.done.ensures.failed c.noted.ensures.stop c.run-stop.ensures.finished)
 
 pub returns-clause-counts_writes : goal.returns-clause-counts_writes
-returns-clause-counts_writes g c = counts_writes_clause _ _ _ _ _ _ _ _ (finished_as _ _ _ _ _ _ _ _ _ (ap (map string_bytes) c.as_slice.ensures.value) c.run-done.ensures.finished)
+returns-clause-counts_writes g c = counts_writes_clause _ _ _ _ _ _ _ _ (finished_as _ _ _ _ _ _ _ _ _ _ _ _ _ (ap (map string_bytes) c.as_slice.ensures.value) c.done.ensures.cause c.done.ensures.failed c.noted.ensures.stop c.run-stop.ensures.finished)
+
+pub returns-clause-silent : goal.returns-clause-silent
+returns-clause-silent g c = λ ask. (silent_clause _ _ _ _ _ _ _ _ (finished_as _ _ _ _ _ _ _ _ _ _ _ _ _ (ap (map string_bytes) c.as_slice.ensures.value) c.done.ensures.cause c.done.ensures.failed c.noted.ensures.stop c.run-stop.ensures.finished) ask).0
+
+pub returns-clause-unopened : goal.returns-clause-unopened
+returns-clause-unopened g c = λ ask. (silent_clause _ _ _ _ _ _ _ _ (finished_as _ _ _ _ _ _ _ _ _ _ _ _ _ (ap (map string_bytes) c.as_slice.ensures.value) c.done.ensures.cause c.done.ensures.failed c.noted.ensures.stop c.run-stop.ensures.finished) ask).1
+
+pub returns-clause-counts_opens : goal.returns-clause-counts_opens
+returns-clause-counts_opens g c = counts_opens_clause _ _ _ _ _ _ _ _ (finished_as _ _ _ _ _ _ _ _ _ _ _ _ _ (ap (map string_bytes) c.as_slice.ensures.value) c.done.ensures.cause c.done.ensures.failed c.noted.ensures.stop c.run-stop.ensures.finished) (λ same name. ap (λ h. g.H.Host.faults h name) same)

@@ -1,0 +1,163 @@
+//! One call of the program over objects in memory.
+
+ghost use Rattle.std.specs.Prelude.{◌≡◌, ◌<◌};
+
+use cer_base::Text;
+use cer_base::steps::Steps;
+use cer_outside::Host;
+use cer_outside::files::{MemFile, SureFile};
+use cer_outside::hosts::{MemHost, SureHost};
+use cer_outside::sinks::MemSink;
+use core_top::core_main;
+use std::alloc::{AllocError, Global};
+use std::marker::Brand;
+use std::sync::ledger::{Blank, Ledger};
+
+/// Two types with a whole number each, and a stream of both.
+const BASE: &str = "DECLARE EVENT A(v INT)\nDECLARE EVENT B(v INT)\nDECLARE STREAM S(A, B)\n";
+
+/// A room that holds all of every output.
+pub const AMPLE: usize = 4000;
+
+/// The query text with the two types, and the query on line 4.
+pub fn text_of(alloc: Global, query: &str) -> Result<String, AllocError> {
+    let mut text = BASE.to_string(alloc)?;
+    text.push_str(query)?;
+    text.push('\n')?;
+    Ok(text)
+}
+
+/// The bytes at the end of the text.
+fn push_bytes(text: &mut String, bytes: &[u8]) -> Result<(), AllocError> {
+    for byte in bytes {
+        text.push(char::from(*byte))?;
+    }
+    Ok(())
+}
+
+/// The words of the text.
+pub fn words_of(alloc: Global, text: &str) -> Result<Vec<String>, AllocError> {
+    let mut words = Vec::new(alloc);
+    for word in text.split_whitespace() {
+        words.push(word.to_string(alloc)?)?;
+    }
+    Ok(words)
+}
+
+/// Which calls fail, by their numbers from 1, and how many bytes the output takes.
+#[derive(Clone, Copy)]
+pub struct Sinks {
+    pub room: usize,
+    pub piece: usize,
+    pub write: u64,
+    pub note: u64,
+}
+
+/// What a call answers over the host: the status, a bar, the output, a bar, the note.
+fn answer<H: Host, L: Ledger>(
+    alloc: Global,
+    words: Vec<String>,
+    host: &mut H,
+    sinks: Sinks,
+    blank: Blank,
+) -> Result<String, AllocError>
+    requires name { blank.name ≡ L.name }
+    requires parts { blank.parts ≡ L.parts }
+    requires some { 0 < blank.parts }
+    requires piece { 0 < sinks.piece }
+{
+    let fails = Vec::from_slice(alloc, &[sinks.write])?;
+    let Ok(mut out) = MemSink::new(alloc, sinks.piece, sinks.room, fails) else {
+        return Err(AllocError);
+    };
+    let fails = Vec::from_slice(alloc, &[sinks.note])?;
+    let Ok(mut notes) = MemSink::new(alloc, 7, AMPLE, fails) else {
+        return Err(AllocError);
+    };
+    let mut steps: Steps<L> = Steps::start(blank);
+    let done = core_main(alloc, words, host, &mut out, &mut notes, &mut steps);
+    let mut text = format!(in alloc; "{}|", done.status)?;
+    push_bytes(&mut text, out.as_slice())?;
+    text.push('|')?;
+    push_bytes(&mut text, notes.as_slice())?;
+    Ok(text)
+}
+
+/// What a call answers over a host whose calls may fail.
+pub fn over_faulty(
+    alloc: Global,
+    words: Vec<String>,
+    host: &mut MemHost,
+    sinks: Sinks,
+) -> Result<String, AllocError>
+    requires piece { 0 < sinks.piece }
+{
+    answer::<MemHost, Brand>(alloc, words, host, sinks, Blank::new(1))
+}
+
+/// What a call answers over a host that never fails.
+pub fn over_sure(
+    alloc: Global,
+    words: Vec<String>,
+    host: &mut SureHost,
+    sinks: Sinks,
+) -> Result<String, AllocError>
+    requires piece { 0 < sinks.piece }
+{
+    answer::<SureHost, Brand>(alloc, words, host, sinks, Blank::new(1))
+}
+
+/// The host that has the query text as `q` and the events as `e`, each read in pieces of 4 bytes.
+/// The open of the first number fails, of the query file the read of the second, of the event file
+/// that of the third.
+pub fn failing_host(
+    alloc: Global,
+    queries: &str,
+    events: &str,
+    open: u64,
+    query_read: u64,
+    event_read: u64,
+) -> Result<MemHost, AllocError> {
+    let mut files = Vec::new(alloc);
+    for (name, text, read) in [("q", queries, query_read), ("e", events, event_read)] {
+        let Ok(name) = Text::copy_of(alloc, name) else {
+            return Err(AllocError);
+        };
+        let bytes = Vec::from_slice(alloc, text.as_bytes())?;
+        files.push(MemFile::new(name, bytes, 4, Vec::from_slice(alloc, &[read])?))?;
+    }
+    Ok(MemHost::new(files, Vec::from_slice(alloc, &[open])?))
+}
+
+/// The host that has the query text as `q` and the events as `e`, and never fails.
+fn sure_host(alloc: Global, queries: &str, events: &str) -> Result<SureHost, AllocError> {
+    let mut files = Vec::new(alloc);
+    for (name, text) in [("q", queries), ("e", events)] {
+        let Ok(name) = Text::copy_of(alloc, name) else {
+            return Err(AllocError);
+        };
+        let bytes = Vec::from_slice(alloc, text.as_bytes())?;
+        files.push(SureFile::new(name, bytes, 3))?;
+    }
+    Ok(SureHost::new(files))
+}
+
+/// What a call answers over both hosts, where all goes well outside.
+pub fn both(
+    alloc: Global,
+    words: &str,
+    queries: &str,
+    events: &str,
+) -> Result<(String, String), AllocError> {
+    let sinks = Sinks {
+        room: AMPLE,
+        piece: 7,
+        write: 0,
+        note: 0,
+    };
+    let mut faulty = failing_host(alloc, queries, events, 0, 0, 0)?;
+    let first = over_faulty(alloc, words_of(alloc, words)?, &mut faulty, sinks)?;
+    let mut sure = sure_host(alloc, queries, events)?;
+    let second = over_sure(alloc, words_of(alloc, words)?, &mut sure, sinks)?;
+    Ok((first, second))
+}

@@ -1,0 +1,4 @@
+mod Checked
+mod Formulas
+mod Rounds
+mod Sums

@@ -1,0 +1,4 @@
+pub mod Generator
+pub mod Queries
+pub mod Tallies
+pub mod Summary

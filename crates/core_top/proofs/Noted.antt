@@ -1,0 +1,89 @@
+-- A note for which there was no memory: memory is the cause then.
+use Rattle.std.proofs.Common.{◌≡◌, ℕ, ◌⊎◌, inl, inr, List, Option, None, refl, sym, ◌∙◌, ap, subst}
+use Rattle.cer_outside.specs.Content.{Content}
+use Rattle.answer_blocks.specs.Taken.{TookPrefix}
+use Rattle.stream_answers.proofs.Portions.{prefix_of_all}
+use Rattle.event_run.specs.Runs.{Stop}
+use Rattle.core_top.specs.declared.Cause.{Cause}
+use Rattle.core_top.specs.declared.Cause.TheVariants as cause
+use Rattle.core_top.specs.Command.{RunWords}
+use Rattle.core_top.specs.Notes.{NeedsMemory, IsNoted, TookNote}
+use Rattle.core_top.specs.Output.{AreFileAnswers, WroteAll, WroteSample}
+use Rattle.core_top.specs.Run.{Sources, Outside, Ended, Finished, ran, sampled, refused, unread}
+use Rattle.core_top.proofs.Clauses.{at_cause}
+
+-- all answers are a first part of them
+some_part : (content : List ℕ → Content) (r : RunWords) (stop : Stop) (before after : Option (List ℕ)) → WroteAll content r stop before after →
+    (bytes : List ℕ) × AreFileAnswers content r (λ s. Unit {0}) bytes × TookPrefix before after bytes
+some_part content r stop before after wrote = (wrote.bytes, record {
+  has_queries = wrote.are.has_queries;
+  has_events = wrote.are.has_events;
+  answers = λ text lines first second. let all = wrote.are.answers text lines first second in (all.0, tt, all.2);
+}, prefix_of_all before after wrote.bytes wrote.took)
+
+-- the run whose note was not made
+ended_for_memory : {S H : Type 0} (sources : Sources S) (call : H → List ℕ → H → Type 0) (o : Outside) (r : RunWords) (first last : H) (told : Cause) (failed : Option S) →
+    NeedsMemory told → Ended sources call o r first last told failed → Ended sources call o r first last cause.Memory None
+ended_for_memory sources call o r first last (cause.Queries fault place) failed needs ended = record {
+  holds = refl;
+  wrote = inl ended.wrote;
+  counts_opens = ended.counts_opens;
+  counts_writes = ended.counts_writes;
+  opens = record { files = ended.opens.files; told = inr (inl ended.opens.told); turn = ended.opens.turn; steps = ended.opens.steps };
+}
+ended_for_memory sources call o r first last (cause.Event line fault) failed needs ended = record {
+  holds = refl;
+  wrote = inr (some_part o.content r _ o.before o.after ended.wrote);
+  counts_opens = ended.counts_opens;
+  counts_writes = ended.counts_writes;
+  opens = record { files = ended.opens.files; told = inr (inr ended.opens.told); turn = ended.opens.turn; steps = ended.opens.steps };
+}
+ended_for_memory sources call o r first last (cause.InputTooLong taken) failed needs ended = record {
+  holds = refl;
+  wrote = inr (some_part o.content r _ o.before o.after ended.wrote);
+  counts_opens = ended.counts_opens;
+  counts_writes = ended.counts_writes;
+  opens = record { files = ended.opens.files; told = inr (inr ended.opens.told); turn = ended.opens.turn; steps = ended.opens.steps };
+}
+ended_for_memory sources call o r first last cause.Fine failed needs ended = absurd needs
+ended_for_memory sources call o r first last cause.Usage failed needs ended = absurd needs
+ended_for_memory sources call o r first last (cause.OpenFault opened before after) failed needs ended = absurd needs
+ended_for_memory sources call o r first last (cause.ReadFault read after) failed needs ended = absurd needs
+ended_for_memory sources call o r first last (cause.WriteFault before after) failed needs ended = absurd needs
+ended_for_memory sources call o r first last cause.Memory failed needs ended = absurd needs
+
+-- no note of these ends takes memory
+not_of_sample : (told : Cause) (seed count : ℕ) (before after : Option (List ℕ)) → NeedsMemory told → WroteSample told seed count before after → ⊥
+not_of_sample (cause.Queries fault place) seed count before after needs wrote = wrote
+not_of_sample (cause.Event line fault) seed count before after needs wrote = wrote
+not_of_sample (cause.InputTooLong taken) seed count before after needs wrote = wrote
+not_of_sample cause.Fine seed count before after needs wrote = needs
+not_of_sample cause.Usage seed count before after needs wrote = needs
+not_of_sample (cause.OpenFault opened from to) seed count before after needs wrote = needs
+not_of_sample (cause.ReadFault read to) seed count before after needs wrote = needs
+not_of_sample (cause.WriteFault from to) seed count before after needs wrote = needs
+not_of_sample cause.Memory seed count before after needs wrote = needs
+
+finished_for_memory : {S H : Type 0} (sources : Sources S) (call : H → List ℕ → H → Type 0) (words : List (List ℕ)) (o : Outside) (first last : H) (told : Cause) (failed : Option S) →
+    NeedsMemory told → Finished sources call words o first last told failed → Finished sources call words o first last cause.Memory None
+finished_for_memory sources call words o first last told failed needs (ran r asked ended) = ran r asked (ended_for_memory sources call o r first last told failed needs ended)
+finished_for_memory sources call words o first last told failed needs (sampled seed count asked ended) = absurd (not_of_sample told seed count o.before o.after needs ended.wrote)
+finished_for_memory sources call words o first last told failed needs (refused ask usage ended) = absurd (at_cause NeedsMemory told cause.Usage usage needs)
+finished_for_memory sources call words o first last told failed needs (unread memory ended) = absurd (at_cause NeedsMemory told cause.Memory memory needs)
+
+pub noted_finished : {S H : Type 0} (sources : Sources S) (call : H → List ℕ → H → Type 0) (words : List (List ℕ)) (o : Outside) (first last : H) (told given : Cause) (failed left : Option S) →
+    IsNoted told failed given left → Finished sources call words o first last told failed → Finished sources call words o first last given left
+noted_finished {S} sources call words o first last told given failed left noted finished =
+    let P : Cause → Type 0 = λ k. Finished sources call words o first last k left in
+    elim noted [
+      | inl same ↦
+          let Q : Option S → Type 0 = λ f. Finished sources call words o first last told f in
+          subst P (sym same.0) (subst Q (sym same.1) finished)
+      | inr none ↦
+          let Q : Option S → Type 0 = λ f. Finished sources call words o first last cause.Memory f in
+          subst P (sym none.1) (subst Q (sym none.2) (finished_for_memory sources call words o first last told failed none.0 finished))
+    ]
+
+-- a note by another name
+pub note_as : (before after : Option (List ℕ)) (old new : ℕ) (x y : List ℕ) → x ≡ y → TookNote before after old new x → TookNote before after old new y
+note_as before after old new x y same took = let P : List ℕ → Type 0 = TookNote before after old new in subst P same took

@@ -1,0 +1,21 @@
+use Rattle.std.proofs.Common.{◌∙◌}
+use Rattle.core_top.proofs.Noted.{note_as}
+use Rattle.core_top.proofs.notes.write_note_of.Goals as goal
+
+pub returns-in_ok-note-in-Queries-clause-took : goal.returns-in_ok-note-in-Queries-clause-took
+returns-in_ok-note-in-Queries-clause-took g c =
+    rw c.in-Queries.is (note_as _ _ _ _ _ _ (c.as_slice.ensures.value ∙ c.in_ok-note-in-Queries.ensures) c.put-in-Queries.ensures)
+
+pub returns-in_ok-note-in-Event-clause-took : goal.returns-in_ok-note-in-Event-clause-took
+returns-in_ok-note-in-Event-clause-took g c =
+    rw c.in-Event.is (note_as _ _ _ _ _ _ (c.as_slice-in-Event.ensures.value ∙ c.in_ok-note-in-Event.ensures) c.put-in-Event.ensures)
+
+pub returns-in_ok-note-in-InputTooLong-clause-took : goal.returns-in_ok-note-in-InputTooLong-clause-took
+returns-in_ok-note-in-InputTooLong-clause-took g c =
+    rw c.in-InputTooLong.is (note_as _ _ _ _ _ _ (c.as_slice-in-InputTooLong.ensures.value ∙ c.in_ok-note-in-InputTooLong.ensures) c.put-in-InputTooLong.ensures)
+
+pub returns-in-OpenFault-clause-took : goal.returns-in-OpenFault-clause-took
+returns-in-OpenFault-clause-took g c = rw c.in-OpenFault.is (note_as _ _ _ _ _ _ c.open_note.ensures c.put-in-OpenFault.ensures)
+
+pub returns-in-ReadFault-clause-took : goal.returns-in-ReadFault-clause-took
+returns-in-ReadFault-clause-took g c = rw c.in-ReadFault.is (note_as _ _ _ _ _ _ c.read_note.ensures c.put-in-ReadFault.ensures)

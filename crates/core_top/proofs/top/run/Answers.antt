@@ -1,0 +1,23 @@
+use Rattle.std.proofs.Common.{refl}
+use Rattle.core_top.specs.Run.{ran, sampled, refused, unread}
+use Rattle.core_top.proofs.Words.{run_asked}
+use Rattle.core_top.proofs.top.run.Goals as goal
+
+pub returns-in-Ok-Run-clause-finished : goal.returns-in-Ok-Run-clause-finished
+returns-in-Ok-Run-clause-finished g c =
+    ran _ (run_asked _ _ _ _ _ _ _ c.as_str.ensures c.as_str-in-Ok-Run.ensures (rw c.in-Ok-Run.field-0-is at c.in-Ok-Run.ensures.asks)) c.run_files.ensures.ends
+
+pub returns-in-Ok-Sample-clause-finished : goal.returns-in-Ok-Sample-clause-finished
+returns-in-Ok-Sample-clause-finished g c =
+    let stop = c.run_sample.ensures in
+    sampled _ _ (rw c.in-Ok-Sample.field-0-is at c.in-Ok-Sample.ensures.asks)
+    (record { wrote = stop.wrote; fault = stop.fault; none = stop.none; counts_writes = stop.counts_writes; unopened = refl })
+
+pub returns-in-Err-Memory-clause-finished : goal.returns-in-Err-Memory-clause-finished
+returns-in-Err-Memory-clause-finished g c =
+    unread c.of.ensures.cause (record { none = c.of.ensures.failed; wrote = refl; counts_writes = refl; unopened = refl })
+
+pub returns-in-Err-Fault-clause-finished : goal.returns-in-Err-Fault-clause-finished
+returns-in-Err-Fault-clause-finished g c =
+    refused (rw c.in-Err-Fault.field-0-is at c.in-Err-Fault.ensures.nothing) c.of-in-Err-Fault.ensures.cause
+    (record { none = c.of-in-Err-Fault.ensures.failed; wrote = refl; counts_writes = refl; unopened = refl })

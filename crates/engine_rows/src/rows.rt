@@ -123,8 +123,8 @@ fn take<L: Ledger>(
     }
 }
 
-/// The answers after each event of the lines, which a semicolon parts, with a stroke behind those of one event, and then how
-/// many states were found for each query.
+/// The answers after each event of the lines, which a semicolon parts, with a stroke behind those of
+/// one event, and then how many states were found for each query.
 pub fn answers_after_each<L: Ledger>(
     alloc: Global,
     engine: &mut Engine,

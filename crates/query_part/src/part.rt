@@ -76,8 +76,8 @@ impl Model for Part {
       ready = ready_of p.step p.matches p.clock.last p.here;
     } };
 
-    ghost invariant = { λ p. IsMade p.schema p.query p.types.items p.keys.items p.conditions p.clock.source p.bits
-        p.matches × CanEnd p.step p.matches };
+    ghost invariant = { λ p. IsMade p.schema p.query p.types.items p.keys.items p.conditions
+        p.clock.source p.bits p.matches × CanEnd p.step p.matches };
 }
 
 /// The part with these tables, before any event.

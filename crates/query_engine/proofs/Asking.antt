@@ -1,5 +1,5 @@
 -- What is asked of an engine by a query's number.
-use Rattle.std.proofs.Common.{◌≡◌, ℕ, zero, suc, ◌+◌, ◌-◌, ◌<◌, ◌≤◌, ℤ, List, [], ◌∷◌, ◌++◌, map, length, refl, sym, ap, subst, ◌∙◌, All, Option, Some, None, slice_get, slice_index_or, arith}
+use Rattle.std.proofs.Common.{◌≡◌, ℕ, suc, ◌-◌, ◌<◌, ◌≤◌, List, map, length, sym, ap, subst, ◌∙◌, Some, slice_get, slice_index_or, arith}
 use Rattle.std.specs.Option.{option_map_or}
 use Rattle.std.proofs.lemmas.Option.{slice_get-get_or}
 use Rattle.stream_schema.specs.Types.{Declared}
@@ -10,7 +10,7 @@ use Rattle.tecs_enumerate.specs.Rest.{CursorState, recent_of}
 use Rattle.tecs_enumerate.specs.Rest as walks
 use Rattle.query_standing.specs.Bounds.{MeetAtMost}
 use Rattle.query_standing.specs.Holding.{answer_of}
-use Rattle.query_standing.specs.Kept.{Part, PartStands, KeptStands, low_at, roots_at, kept_rest}
+use Rattle.query_standing.specs.Kept.{Part, KeptStands, low_at, roots_at, kept_rest}
 use Rattle.query_standing.proofs.FoundStates.{states_are_met}
 use Rattle.query_standing.proofs.Parts.{kept_gives}
 use Rattle.all_or_none.specs.Phases.{Phase}

@@ -1,11 +1,10 @@
 -- The first part whose clock would fall.
-use Rattle.std.proofs.Common.{◌≡◌, ℕ, zero, suc, ◌+◌, ◌-◌, ◌<◌, ◌≤◌, ℤ, List, [], ◌∷◌, map, take, length, refl, sym, ap, subst, ◌∙◌, All, Some, slice_get, slice_index_or, arith, add-one}
-use Rattle.std.proofs.lemmas.Option.{slice_get_within, slice_get-get_or}
+use Rattle.std.proofs.Common.{◌≡◌, ℕ, zero, suc, ◌+◌, ◌-◌, ◌<◌, ◌≤◌, ℤ, List, [], ◌∷◌, take, length, refl, sym, ap, subst, ◌∙◌, All, Some, slice_get, slice_index_or, arith, add-one}
+use Rattle.std.proofs.lemmas.Option.{slice_get-get_or}
 use Rattle.std.proofs.lemmas.List.Elements.{All-nil, All-cons, All-head, All-tail}
 use Rattle.stream_schema.specs.declared.Event.{Event}
 use Rattle.query_standing.specs.Clocks.{FallsBack}
 use Rattle.all_or_none.specs.Phases.{Phase, InTime}
-use Rattle.query_engine.specs.declared.falls.FallOf.{FallOf}
 use Rattle.query_engine.specs.Running.{IsFirstPart}
 
 take_suc : {A : Type 0} (P : A → Type 0) (xs : List A) (k : ℕ) (d : A) → k < length xs → All P (take k xs) → P (slice_index_or xs k d) → All P (take (suc k) xs)

@@ -1,5 +1,5 @@
 -- What an event adds to the parts, and what cursors keep.
-use Rattle.std.proofs.Common.{◌≡◌, ℕ, zero, suc, ◌+◌, ◌-◌, ◌<◌, ◌≤◌, ℤ, List, [], ◌∷◌, ◌++◌, map, take, drop, slice_set, add-one, length, refl, sym, ap, ap₂, subst, ◌∙◌, All, Option, Some, None, slice_get, slice_index_or, arith, length-append}
+use Rattle.std.proofs.Common.{◌≡◌, ℕ, zero, suc, ◌+◌, ◌-◌, ◌<◌, ◌≤◌, ℤ, List, [], ◌∷◌, ◌++◌, map, take, drop, slice_set, add-one, length, refl, sym, ap, ap₂, subst, ◌∙◌, All, Some, slice_get, slice_index_or, arith, length-append}
 use Rattle.std.specs.Prelude.{max}
 use Rattle.std.specs.Option.{option_map_or}
 use Rattle.std.specs.List.{AllZip}
@@ -9,7 +9,7 @@ use Rattle.stream_schema.specs.Types.{Declared}
 use Rattle.stream_schema.specs.declared.Event.{Event}
 use Rattle.cel_terms.specs.declared.Query.{Query}
 use Rattle.cer_base.specs.declared.node.Node.{Node}
-use Rattle.cer_base.specs.Members.{SetTree, Member, newest, need}
+use Rattle.cer_base.specs.Members.{newest, need}
 use Rattle.cer_base.specs.Nodes.{tree}
 use Rattle.cer_base.proofs.Trees.{tree-append}
 use Rattle.tecs_enumerate.specs.declared.descent.Pending.{Pending}
@@ -18,7 +18,7 @@ use Rattle.query_standing.specs.Bounds.{update_bound}
 use Rattle.query_standing.specs.Clocks.{Reads}
 use Rattle.query_standing.specs.Kept.{Part, KeptFits, kept_rest, nodes_at}
 use Rattle.all_or_none.specs.Phases.{Phase, HasGrown}
-use Rattle.query_engine.specs.Engine.{State, kept_of}
+use Rattle.query_engine.specs.Engine.{kept_of}
 use Rattle.query_engine.specs.Running.{raised}
 use Rattle.query_engine.proofs.Standing.{state}
 

@@ -1,19 +1,16 @@
 -- What the parts stand for, and what the engine does.
-use Rattle.std.proofs.Common.{◌≡◌, ℕ, ◌+◌, ◌-◌, ◌<◌, ◌≤◌, ℤ, List, [], ◌∷◌, ◌++◌, map, length, refl, sym, ap, subst, ◌∙◌, All, Option, Some, None, slice_get, slice_index_or, arith}
+use Rattle.std.proofs.Common.{◌≡◌, ℕ, ◌-◌, List, [], ◌∷◌, map, length, refl, sym, ap, subst, ◌∙◌, All, Option, Some, None, slice_get, slice_index_or, arith}
 use Rattle.std.specs.Prelude.{option_map}
-use Rattle.std.specs.Option.{option_map_or}
 use Rattle.std.proofs.lemmas.Option.{slice_get_within, slice_get-get_or, slice_get-map}
-use Rattle.std.proofs.lemmas.List.Elements.{All-nil, All-cons, All-head, All-tail}
 use Rattle.stream_schema.specs.Types.{Declared}
 use Rattle.stream_schema.specs.Events.{IsOfSchema}
 use Rattle.stream_schema.specs.declared.Event.{Event}
-use Rattle.cel_terms.specs.declared.Query.{Query}
 use Rattle.query_standing.specs.Clocks.{FallsBack, NoneFallsBack, IsFirstToFall}
-use Rattle.query_standing.specs.Kept.{Part, PartStands, KeptStands}
-use Rattle.all_or_none.specs.Phases.{Phase, IsIdle, StandsAt, InTime, CanPrepare}
+use Rattle.query_standing.specs.Kept.{PartStands, KeptStands}
+use Rattle.all_or_none.specs.Phases.{Phase, StandsAt, InTime, CanPrepare}
 use Rattle.query_engine.specs.declared.falls.FallOf.{FallOf}
-use Rattle.query_engine.specs.Engine.{State, StandsFor, kept_of}
-use Rattle.query_engine.specs.Running.{HaveRun, IsRunning, IsFirstPart}
+use Rattle.query_engine.specs.Engine.{State, kept_of}
+use Rattle.query_engine.specs.Running.{HaveRun, IsFirstPart}
 
 -- what an engine is, by its fields
 abbrev pub state : Declared → ℕ → List Phase → List ℕ → State

@@ -1,5 +1,5 @@
 -- Sums over the queries by their numbers.
-use Rattle.std.proofs.Common.{◌≡◌, ℕ, zero, suc, ◌+◌, ◌-◌, ◌≤◌, List, [], ◌∷◌, map, length, refl, sym, ap, subst, ◌∙◌, Some, slice_get, arith, add-zero}
+use Rattle.std.proofs.Common.{◌≡◌, ℕ, suc, ◌+◌, ◌-◌, List, [], ◌∷◌, map, length, refl, sym, ap, subst, ◌∙◌, Some, slice_get, arith, add-zero}
 use Rattle.std.specs.Prelude.{sum, sum_by}
 use Rattle.std.specs.Option.{option_map_or}
 use Rattle.std.specs.List.{AllZip, range_with_len}

@@ -1,6 +1,6 @@
 -- What an engine is after an event that all its parts took.
-use Rattle.std.proofs.Common.{◌≡◌, ℕ, zero, suc, ◌+◌, ◌-◌, ◌<◌, ◌≤◌, ℤ, List, [], ◌∷◌, ◌++◌, map, length, refl, sym, ap, subst, ◌∙◌, All, Option, Some, None, slice_get, slice_index_or, arith, length-append}
-use Rattle.std.specs.Prelude.{max, sum_by, sum, Result, Ok, Err, OnOk}
+use Rattle.std.proofs.Common.{◌≡◌, ℕ, ◌+◌, ◌-◌, ◌≤◌, List, [], ◌∷◌, ◌++◌, map, length, refl, sym, ap, subst, ◌∙◌, All, Some, slice_get, slice_index_or, arith}
+use Rattle.std.specs.Prelude.{max, sum_by, Result, Ok, Err, OnOk}
 use Rattle.std.proofs.lemmas.List.Elements.{All-weaker}
 use Rattle.std.specs.List.{AllZip, range_with_len}
 use Rattle.stream_schema.specs.Types.{Declared}
@@ -13,9 +13,9 @@ use Rattle.query_standing.specs.Kept.{KeptStands}
 use Rattle.query_standing.proofs.Parts.{length_more}
 use Rattle.all_or_none.specs.Phases.{Phase, IsIdle, StandsAt, InTime, CanPrepare, HasGrown, kept_bound, MeetsAtMost, AreBounded}
 use Rattle.query_engine.specs.declared.falls.FallOf.{FallOf}
-use Rattle.query_engine.specs.Engine.{State, Open, StandsFor, kept_of, found_of, len_of, peak_of, Fits, rest, update_bounds, SameQueries, KeepsCursors}
-use Rattle.query_engine.specs.Running.{HaveRun, IsRunning, IsFirst, IsFirstPart, raised}
-use Rattle.query_engine.proofs.Standing.{state, map_at, mapped, all_at, from_parts, to_parts, parts_in_time, queries_in_time, first_query, can_all, length_map}
+use Rattle.query_engine.specs.Engine.{State, StandsFor, kept_of, found_of, len_of, peak_of, Fits, rest, update_bounds, SameQueries, KeepsCursors}
+use Rattle.query_engine.specs.Running.{IsRunning, IsFirst, IsFirstPart, raised}
+use Rattle.query_engine.proofs.Standing.{state, map_at, all_at, from_parts, to_parts, parts_in_time, queries_in_time, first_query, can_all, length_map}
 use Rattle.query_engine.proofs.Sums.{zip_from, sum_mapped, bounds_same}
 use Rattle.query_engine.proofs.Growth.{grown_there, unread_there, keeps_cursors, same_queries, same_schemas, same_count, raised_there, raised_count}
 

@@ -1,8 +1,7 @@
 -- What the engine keeps between two calls, and which query falls first among its parts.
-use Rattle.std.specs.Prelude.{◌≡◌, ℕ, ◌-◌, ◌<◌, ◌≤◌, ℤ, max, List, [], ◌∷◌, length, All, Some, slice_get}
+use Rattle.std.specs.Prelude.{◌≡◌, ℕ, ◌-◌, ◌<◌, ◌≤◌, max, List, [], ◌∷◌, length, All, Some, slice_get}
 use Rattle.stream_schema.specs.Types.{Declared}
 use Rattle.stream_schema.specs.declared.Event.{Event}
-use Rattle.cel_terms.specs.declared.Query.{Query}
 use Rattle.query_standing.specs.Clocks.{FallsBack}
 use Rattle.all_or_none.specs.Phases.{Phase, IsIdle, StandsAt, InTime}
 use Rattle.query_engine.specs.declared.falls.FallOf.{FallOf}

@@ -1,5 +1,5 @@
 -- The tables of a query before any event.
-use Rattle.std.proofs.Common.{◌≡◌, ℕ, suc, ◌<◌, ◌+◌, ℤ, Bool, false, List, [], ◌∷◌, ◌++◌, length, refl, sym, ap, subst, ◌∙◌, All, Contains, Option, Some, None, slice_get, slice_index_or, arith, inl, inr}
+use Rattle.std.proofs.Common.{◌≡◌, ℕ, ◌<◌, ◌+◌, Bool, List, [], ◌∷◌, ◌++◌, length, refl, sym, ap, subst, ◌∙◌, None, slice_index_or, arith, inl, inr}
 use Rattle.std.specs.Prelude.{Result, Ok, Err, IfOk}
 use Rattle.std.specs.List.{IsDistinct}
 use Rattle.std.proofs.lemmas.Bool.{cases_lt}
@@ -9,8 +9,6 @@ use Rattle.cer_base.specs.Nodes.{WellFormed}
 use Rattle.cer_base.specs.Bits.{room_for}
 use Rattle.cer_base.specs.declared.node.Node.TheVariants.{Bottom}
 use Rattle.stream_schema.specs.Types.{Declared}
-use Rattle.stream_schema.specs.declared.Event.{Event}
-use Rattle.stream_schema.specs.declared.Value.{Value}
 use Rattle.cel_terms.specs.declared.Query.{Query}
 use Rattle.query_leaves.specs.declared.Leaf.{Leaf}
 use Rattle.query_leaves.specs.declared.Leaves.{Leaves}
@@ -22,17 +20,15 @@ use Rattle.cea_determinise.specs.declared.cea.Cea.{Cea}
 use Rattle.cea_determinise.specs.declared.cea.StateSets.{StateSets}
 use Rattle.cea_determinise.specs.Runs.{Automaton}
 use Rattle.cea_determinise.specs.Cea.{automaton_of_cea, standing_of, HasLeavesBelow}
-use Rattle.cea_determinise.specs.Keys.{are_same_sets}
 use Rattle.cea_compile.specs.Compiled.{automaton_of}
 use Rattle.cea_compile.specs.LeafAutomaton.{automaton_of_leaves}
 use Rattle.cea_compile.proofs.LeafAutomaton.{leaves_tell}
 use Rattle.query_standing.specs.Bounds.{IsMet}
-use Rattle.query_standing.specs.Keys.{leaves_reading, HasKeyAt}
 use Rattle.query_standing.specs.Kept.{HasStates, PartStands}
 use Rattle.query_standing.proofs.Lists.{none_in_nil}
 use Rattle.query_part.specs.declared.machine.Machine.{Machine}
 use Rattle.query_part.specs.Matches.{Held, none_open}
-use Rattle.query_part.specs.Parts.{part_of, HasAutomaton, IsMachineOf, reads_type}
+use Rattle.query_part.specs.Parts.{part_of, HasAutomaton, IsMachineOf}
 
 -- what the leaves of a query tell is the query's
 pub machine_is : (schema : Declared) (q : Query) (l : Leaves) (listed : List Leaf) (bits : List Bool) (h : Held) → tree_of_shape l.shape ≡ numbered 0 (tree_of q) → AreLeavesOf schema (occurrences (tree_of q)) l.list → l.strict ≡ q.strict → listed ≡ l.list → length bits ≡ room_for (length l.list) → HasAutomaton (automaton_of_leaves l) l.strict h → IsMachineOf schema q listed bits h
@@ -77,13 +73,13 @@ none_stands schema q h m = subst (λ (k : Held). PartStands schema q [] (part_of
   each = λ n key rows e f. absurd cc;
 })
 
--- one type more in the table
-pub types_next : (schema : Declared) (q : Query) (table : List Bool) (k : ℕ) → length table ≡ k → ((ty : ℕ) → ty < k → slice_index_or table ty false ≡ reads_type schema q ty) → (ty : ℕ) → ty < k + 1 → slice_index_or (table ++ reads_type schema q k ∷ []) ty false ≡ reads_type schema q ty
-types_next schema q table k len told ty less = elim (cases_lt ty k) [
-  | inl below ↦ get_or_append_left table (reads_type schema q k ∷ []) false ty (omega arith) ∙ told ty below
+-- one type more in a table
+pub table_next : {X : Type 0} (told : ℕ → X) (d : X) (table : List X) (k : ℕ) → length table ≡ k → ((ty : ℕ) → ty < k → slice_index_or table ty d ≡ told ty) → (ty : ℕ) → ty < k + 1 → slice_index_or (table ++ told k ∷ []) ty d ≡ told ty
+table_next told d table k len is ty less = elim (cases_lt ty k) [
+  | inl below ↦ get_or_append_left table (told k ∷ []) d ty (omega arith) ∙ is ty below
   | inr above ↦ (
       let here : k ≡ ty = omega arith in
-      subst (λ i. slice_index_or (table ++ reads_type schema q k ∷ []) i false ≡ reads_type schema q i) here (get_or_push table (reads_type schema q k) false k len)
+      subst (λ i. slice_index_or (table ++ told k ∷ []) i d ≡ told i) here (get_or_push table (told k) d k len)
       )
 ]
 

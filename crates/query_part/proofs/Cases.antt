@@ -1,6 +1,6 @@
 -- What an event makes of a part, in each of its cases.
 use Rattle.std.proofs.Common.{◌≡◌, ◌≢◌, ℕ, zero, suc, ◌+◌, ◌<◌, ◌≤◌, ◌⊎◌, inl, inr, ℤ, ◌≤ℤ◌, Bool, true, false, List, [], ◌∷◌, ◌++◌, map, length, refl, sym, ap, subst, ◌∙◌, All, Contains, Option, Some, None, slice_get, slice_set, slice_index_or, arith, ◌*◌, ◌^◌, pow-suc}
-use Rattle.std.specs.Prelude.{IfSome, IfNone, int_lt, ◌<ℤ◌}
+use Rattle.std.specs.Prelude.{IfSome, IfNone, int_lt}
 use Rattle.std.proofs.Math.Nat.{pow-zero}
 use Rattle.std.proofs.lemmas.Int.{ints}
 use Rattle.std.proofs.lemmas.Bool.{cases_lt}
@@ -9,7 +9,6 @@ use Rattle.std.proofs.lemmas.List.Elements.{All-nil, All-cons, All-head, All-tai
 use Rattle.cer_base.specs.Bits.{has}
 use Rattle.cer_base.specs.declared.node.Stamp.{Stamp}
 use Rattle.cer_base.specs.declared.node.Root.{Root}
-use Rattle.cer_base.specs.declared.node.Node.{Node}
 use Rattle.cer_base.specs.declared.node.Node.TheVariants.{Bottom}
 use Rattle.cer_base.specs.Nodes.{AreInStep}
 use Rattle.stream_schema.specs.Types.{Declared}
@@ -21,14 +20,14 @@ use Rattle.cea_determinise.specs.declared.cea.StateSets.{StateSets}
 use Rattle.cea_determinise.specs.Cea.{standing_of}
 use Rattle.event_update.specs.declared.Staged.{Staged}
 use Rattle.event_update.specs.Reach.{Seen}
-use Rattle.event_update.specs.Stands.{seen, IsLater, Stands}
+use Rattle.event_update.specs.Stands.{seen, IsLater}
 use Rattle.event_update.specs.Update.{Discovers, rows_after, work_bound}
 use Rattle.event_update.proofs.Before.{can_advance}
 use Rattle.query_standing.specs.Bounds.{IsMet}
 use Rattle.query_standing.specs.Clocks.{Reads, HasClockAt, IsLastClock, FallsBack, least, low_of}
 use Rattle.query_standing.specs.Keys.{leaves_reading, positions}
-use Rattle.query_standing.specs.Kept.{Rows, Part, low_at, PartStands}
-use Rattle.query_standing.specs.Steps.{Advances, HasNoKey, HasKeyOf}
+use Rattle.query_standing.specs.Kept.{Part, low_at, PartStands}
+use Rattle.query_standing.specs.Steps.{Advances, HasKeyOf}
 use Rattle.query_standing.proofs.Growing.{all_earlier}
 use Rattle.query_standing.proofs.Grown.{some_at}
 use Rattle.query_standing.proofs.Parts.{part_unread}

@@ -1,5 +1,5 @@
 -- Each event that a checked query reads has a clock.
-use Rattle.std.proofs.Common.{◌≡◌, ◌≢◌, ℕ, zero, suc, ◌<◌, ℤ, List, [], ◌∷◌, map, length, refl, sym, ap, subst, ◌∙◌, All, Contains, Option, Some, None, slice_get, slice_index_or, arith, inl, inr}
+use Rattle.std.proofs.Common.{◌≡◌, ◌≢◌, ℕ, zero, suc, ℤ, List, [], ◌∷◌, map, refl, sym, ap, subst, ◌∙◌, Contains, Option, Some, None, slice_get, inl, inr}
 use Rattle.std.specs.Prelude.{Any, IsSomeAnd, option_and_then}
 use Rattle.std.specs.List.{filter_map, cons_option}
 use Rattle.std.proofs.lemmas.Option.{slice_get-get_or}
@@ -10,7 +10,6 @@ use Rattle.stream_schema.specs.Names.{attr_index}
 use Rattle.stream_schema.specs.Events.{IsOfKind, AreOfAttrs, IsOfSchema}
 use Rattle.stream_schema.specs.declared.Attr.{Attr}
 use Rattle.stream_schema.specs.declared.Event.{Event}
-use Rattle.stream_schema.specs.declared.Kind.{Kind}
 use Rattle.stream_schema.specs.declared.Kind.TheVariants as kind
 use Rattle.stream_schema.specs.declared.Value.{Value}
 use Rattle.stream_schema.specs.declared.Value.TheVariants as value
@@ -20,7 +19,6 @@ use Rattle.cel_terms.specs.declared.Window.{Window}
 use Rattle.cel_terms.specs.declared.Window.TheVariants.{Free, Events, Clock}
 use Rattle.cel_terms.specs.Answers.{query_types}
 use Rattle.cel_terms.specs.Checked.{types_read, IsAttr, EachHasAttr, IsCheckedWindow, IsChecked}
-use Rattle.cel_terms.specs.Predicate.{attr_value}
 use Rattle.window_clock.specs.declared.Source.{Source}
 use Rattle.window_clock.specs.Clocks.{int_of, clock_of}
 use Rattle.window_clock.specs.Places.{IsOf, HasWidth}

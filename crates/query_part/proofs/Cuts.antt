@@ -1,18 +1,11 @@
 -- What a cut leaves is what there was before.
-use Rattle.std.proofs.Common.{◌≡◌, ℕ, zero, suc, ◌+◌, ◌<◌, ◌≤◌, ◌⊎◌, inl, inr, ℤ, Bool, List, [], ◌∷◌, ◌++◌, map, take, length, refl, sym, ap, subst, ◌∙◌, All, Contains, Option, Some, None, slice_get, slice_set, slice_index_or, arith}
-use Rattle.std.specs.Prelude.{IfSome}
-use Rattle.std.specs.List.{IsDistinct}
+use Rattle.std.proofs.Common.{◌≡◌, ℕ, zero, suc, ◌+◌, ◌<◌, ◌≤◌, inl, inr, Bool, List, [], ◌∷◌, ◌++◌, map, take, length, refl, sym, ap, subst, ◌∙◌, Some, slice_get, slice_set, slice_index_or, arith}
 use Rattle.std.proofs.lemmas.List.Elements.{All-nil}
 use Rattle.cer_base.specs.declared.node.Stamp.{Stamp}
-use Rattle.cer_base.specs.declared.node.Root.{Root}
 use Rattle.cer_base.specs.declared.node.Node.{Node}
 use Rattle.stream_schema.specs.declared.Value.{Value}
-use Rattle.cea_determinise.specs.declared.table.TransitionKey.{TransitionKey}
-use Rattle.cea_determinise.specs.declared.table.Successors.{Successors}
-use Rattle.cea_determinise.specs.Cea.{HasLeavesBelow}
-use Rattle.cea_determinise.specs.Keys.{are_same_sets}
-use Rattle.cea_determinise.specs.Det.{Table, AreSuccessors, IsSound, StaysWithin}
-use Rattle.event_update.specs.Update.{Discovers, GrowsBy}
+use Rattle.cea_determinise.specs.Det.{Table, IsSound}
+use Rattle.event_update.specs.Update.{Discovers}
 use Rattle.query_part.specs.declared.matches.Marks.{Marks}
 use Rattle.event_update.specs.Reach.{Seen}
 use Rattle.event_update.specs.Stands.{CanAdvance}

@@ -1,6 +1,6 @@
 -- What a cursor gives of a part.
-use Rattle.std.proofs.Common.{◌≡◌, ℕ, ◌<◌, ◌≤◌, ℤ, Bool, true, false, List, [], ◌∷◌, ◌++◌, map, length, refl, sym, ap, subst, ◌∙◌, All, Option, Some, None, slice_get, slice_index_or, arith, cond}
-use Rattle.std.specs.Prelude.{filter, Result, Ok, Err, IfOk, if◌then◌else◌}
+use Rattle.std.proofs.Common.{◌≡◌, ℕ, ◌<◌, ◌≤◌, ℤ, Bool, true, false, List, [], ◌∷◌, ◌++◌, map, length, refl, sym, ap, subst, ◌∙◌, All, Option, Some, None, slice_index_or, arith, cond}
+use Rattle.std.specs.Prelude.{Result, Ok, Err, IfOk, if◌then◌else◌}
 use Rattle.std.specs.List.{flat_map}
 use Rattle.std.proofs.lemmas.Option.{slice_get_within, slice_get-get_or}
 use Rattle.std.proofs.lemmas.List.Elements.{All-nil, All-cons, All-head, All-tail, All-append}
@@ -11,18 +11,15 @@ use Rattle.event_update.specs.Stands.{IsState, Stands}
 use Rattle.query_part.proofs.Cuts.{rows_length, row_is}
 use Rattle.stream_schema.specs.Types.{Declared}
 use Rattle.stream_schema.specs.declared.Event.{Event}
-use Rattle.stream_schema.specs.declared.Value.{Value}
 use Rattle.cel_terms.specs.declared.Query.{Query}
-use Rattle.cel_terms.specs.declared.Window.{Window}
 use Rattle.query_leaves.specs.Expand.{tree_of}
 use Rattle.cer_base.specs.declared.node.Root.{Root}
 use Rattle.cer_base.specs.declared.node.Node.{Node}
-use Rattle.cer_base.specs.Members.{Member}
-use Rattle.cea_determinise.specs.Runs.{Automaton, accepts}
+use Rattle.cea_determinise.specs.Runs.{accepts}
 use Rattle.cea_determinise.specs.Cea.{automaton_of_cea}
 use Rattle.cea_determinise.specs.Det.{Table, standing_at}
 use Rattle.cea_compile.specs.Compiled.{automaton_of}
-use Rattle.tecs_enumerate.specs.Rest.{CursorState, rest, recent_of, Fits}
+use Rattle.tecs_enumerate.specs.Rest.{CursorState, rest, recent_of}
 use Rattle.event_update.specs.Update.{accepted_entries, entries_of}
 use Rattle.window_clock.specs.declared.Source.{Source}
 use Rattle.window_clock.specs.Places.{low_since, IsOf}

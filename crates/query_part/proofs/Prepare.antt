@@ -1,14 +1,20 @@
 -- What is known of a part when an event is prepared.
-use Rattle.std.proofs.Common.{◌≡◌, ℕ, ℤ, ◌≤ℤ◌, ◌<◌, Bool, true, false, List, slice_index_or, length, refl, sym, ap, subst, ◌∙◌, Option, Some, None, slice_get, arith}
-use Rattle.std.specs.Prelude.{IsSomeAnd}
+use Rattle.std.proofs.Common.{◌≡◌, ℕ, ℤ, ◌≤ℤ◌, ◌<◌, Bool, true, false, List, [], ◌∷◌, slice_index_or, length, refl, sym, ap, subst, ◌∙◌, Option, Some, None, slice_get, arith}
+use Rattle.std.specs.Prelude.{IsSomeAnd, option_and_then, option_map, bytes_eq}
 use Rattle.std.proofs.lemmas.Bool.{false≢true}
 use Rattle.std.proofs.lemmas.Option.{slice_get_within}
 use Rattle.cel_plain.specs.Below.{query_reads as reads}
 use Rattle.query_standing.specs.Clocks.{Reads}
 use Rattle.query_standing.proofs.Reading.{reads_is, is_read}
-use Rattle.cer_base.specs.Bits.{has, room_for}
+use Rattle.cer_base.specs.Bits.{room_for}
 use Rattle.cer_base.specs.declared.node.Stamp.{Stamp}
-use Rattle.stream_schema.specs.Types.{Declared}
+use Rattle.stream_schema.specs.Types.{Declared, DeclaredType}
+use Rattle.stream_schema.specs.Names.{attr_at, attr_among, attr_index}
+use Rattle.stream_schema.specs.declared.Attr.{Attr}
+use Rattle.stream_schema.specs.declared.AttrAt.{AttrAt}
+use Rattle.cel_terms.specs.declared.Name.{Name}
+use Rattle.query_leaves.proofs.Found.{found}
+use Rattle.query_part.specs.KeyPlaces.{places_in, values_there, key_there, AreKeyPlaces}
 use Rattle.stream_schema.specs.Events.{IsOfSchema}
 use Rattle.stream_schema.specs.declared.Event.{Event}
 use Rattle.stream_schema.specs.declared.Value.{Value}
@@ -18,7 +24,7 @@ use Rattle.cel_terms.specs.declared.Window.{Window}
 use Rattle.cel_terms.specs.declared.Window.TheVariants.{Free, Events, Clock}
 use Rattle.query_leaves.specs.declared.Leaf.{Leaf}
 use Rattle.cel_terms.specs.Predicate.{attr_value}
-use Rattle.cel_terms.specs.Answers.{HasClock}
+use Rattle.cel_terms.specs.Answers.{HasClock, values_at}
 use Rattle.cea_determinise.specs.declared.cea.Cea.{Cea}
 use Rattle.cea_determinise.specs.Det.{Table}
 use Rattle.event_update.specs.declared.Staged.{Staged}
@@ -26,7 +32,7 @@ use Rattle.window_clock.specs.declared.Source.{Source}
 use Rattle.window_clock.specs.Clocks as clocks
 use Rattle.window_clock.specs.Places.{clock_in, low_in, IsOf}
 use Rattle.query_standing.specs.Clocks.{FallsBack, least, low_of}
-use Rattle.query_standing.specs.Kept.{Part, PartStands}
+use Rattle.query_standing.specs.Kept.{PartStands}
 use Rattle.all_or_none.specs.Phases.{Phase, CanPrepare, IsIdle}
 use Rattle.query_part.specs.declared.part.Step.{Step}
 use Rattle.query_part.specs.declared.part.Step.TheVariants.{Unread, NoKey, Keyed}
@@ -97,12 +103,13 @@ pub fits : (schema : Declared) (w : Window) (source : Source) (r z : ℤ) → Is
 fits schema w source r z of le e = subst (λ x. least ≤ℤ low_of w x) (sym e) (subst (λ x. least ≤ℤ x) (of.low r) le)
 
 -- the tables stay those of the query
-pub made_after : (schema : Declared) (q : Query) (types : List Bool) (listed : List Leaf) (source : Source) (bits more : List Bool) (stamp : Stamp) (key : List Value) (number : ℕ) (staged : Staged) (old new : Held) → IsMade schema q types listed source bits old → length more ≡ length bits → IsReady stamp more key number staged old new → IsMade schema q types listed source more new
-made_after schema q types listed source bits more stamp key number staged old new m same r =
+pub made_after : (schema : Declared) (q : Query) (types : List Bool) (places : List (Option (List ℕ))) (listed : List Leaf) (source : Source) (bits more : List Bool) (stamp : Stamp) (key : List Value) (number : ℕ) (staged : Staged) (old new : Held) → IsMade schema q types places listed source bits old → length more ≡ length bits → IsReady stamp more key number staged old new → IsMade schema q types places listed source more new
+made_after schema q types places listed source bits more stamp key number staged old new m same r =
     let size = ap (λ (t : Table). t.cea.size) (mid_table old r.mid key r.takes) in
     let cea : new.table.cea.size ≡ r.mid.table.cea.size = ap (λ (c : Cea). c.size) r.table.cea in
     record {
       types = m.types;
+      keys = m.keys;
       clock = m.clock;
       clocks = m.clocks;
       leaves = m.leaves;
@@ -132,3 +139,39 @@ not_read schema q types event are of told r = false≢true (sym told ∙ (table_
 
 pub does_read : (schema : Declared) (q : Query) (types : List Bool) (event : Event) → AreTypesRead schema q types → IsOfSchema schema event → slice_index_or types event.ty false ≡ true → Reads schema q event
 does_read schema q types event are of told = reads_is schema q event (sym (table_reads schema q types event are of) ∙ told)
+
+-- the value of the attribute is the one at its place
+value_at_place : (name : List ℕ) (t : DeclaredType) (values : List Value) → option_and_then (λ (at : AttrAt). slice_get values at.index) (attr_among t.attrs name) ≡ option_and_then (λ i. slice_get values i) (attr_index name t.attrs)
+value_at_place name t values = go (attr_index name t.attrs) refl
+  where
+    kind_there : (i : ℕ) (o : Option Attr) → slice_get t.attrs i ≡ o → attr_index name t.attrs ≡ Some i → option_and_then (λ (at : AttrAt). slice_get values at.index) (option_map (λ (a : Attr). record { index = i; kind = a.kind }) o) ≡ slice_get values i
+    kind_there i (Some a) g e = refl
+    kind_there i None g e = (let f = found (λ (a : Attr). bytes_eq a.name name) t.attrs i e in let both = sym f.1 ∙ g in absurd cc)
+
+    go : (o : Option ℕ) → attr_index name t.attrs ≡ o → option_and_then (λ (at : AttrAt). slice_get values at.index) (option_and_then (λ i. option_map (λ (a : Attr). record { index = i; kind = a.kind }) (slice_get t.attrs i)) o) ≡ option_and_then (λ i. slice_get values i) o
+    go None e = refl
+    go (Some i) e = kind_there i (slice_get t.attrs i) refl e
+
+attr_through : (schema : Declared) (event : Event) (name : List ℕ) → option_and_then (λ (at : AttrAt). slice_get event.values at.index) (attr_at schema event.ty name) ≡ attr_value schema event name
+attr_through schema event name = go (slice_get schema.types event.ty)
+  where
+    go : (o : Option DeclaredType) → option_and_then (λ (at : AttrAt). slice_get event.values at.index) (option_and_then (λ (t : DeclaredType). attr_among t.attrs name) o) ≡ option_and_then (λ (t : DeclaredType). option_and_then (λ i. slice_get event.values i) (attr_index name t.attrs)) o
+    go None = refl
+    go (Some t) = value_at_place name t event.values
+
+values_through : (schema : Declared) (event : Event) (names : List Name) → option_and_then (λ ps. values_there ps event.values) (places_in schema names event.ty) ≡ values_at schema names event
+values_through schema event [] = refl
+values_through schema event (n ∷ ns) = go (attr_at schema event.ty n.text) (attr_value schema event n.text) (attr_through schema event n.text) (places_in schema ns event.ty) (values_at schema ns event) (values_through schema event ns)
+  where
+    go : (a : Option AttrAt) (v : Option Value) → option_and_then (λ (at : AttrAt). slice_get event.values at.index) a ≡ v → (p : Option (List ℕ)) (vs : Option (List Value)) → option_and_then (λ ps. values_there ps event.values) p ≡ vs → option_and_then (λ ps. values_there ps event.values) (option_and_then (λ (at : AttrAt). option_map (λ ps. at.index ∷ ps) p) a) ≡ option_and_then (λ v. option_map (λ vs. v ∷ vs) vs) v
+    go None v e p vs f = ap (option_and_then (λ v. option_map (λ vs. v ∷ vs) vs)) e
+    go (Some at) v e None vs f = none_after v vs f
+      where
+        none_after : (v : Option Value) (vs : Option (List Value)) → None ≡ vs → None ≡ option_and_then (λ v. option_map (λ vs. v ∷ vs) vs) v
+        none_after None vs f = refl
+        none_after (Some x) vs f = ap (option_map (λ vs. x ∷ vs)) f
+    go (Some at) v e (Some ps) vs f = ap (λ o. option_and_then (λ v. option_map (λ vs. v ∷ vs) (values_there ps event.values)) o) e ∙ ap (λ o. option_and_then (λ v. option_map (λ vs. v ∷ vs) o) v) f
+
+-- the key that is read by the table is the event's
+pub key_through : (schema : Declared) (q : Query) (places : List (Option (List ℕ))) (event : Event) → AreKeyPlaces schema q places → IsOfSchema schema event → key_there places event ≡ values_at schema q.partition event
+key_through schema q places event are of = ap (option_and_then (λ ps. values_there ps event.values)) (are event.ty (type_below schema.types event.ty _ of)) ∙ values_through schema event q.partition

@@ -1,5 +1,5 @@
 -- How the clock of a part would fall.
-use Rattle.std.proofs.Common.{◌≡◌, ℕ, ◌<◌, ◌≤◌, ℤ, ◌≤ℤ◌, List, length, refl, sym, ap, subst, ◌∙◌, inl, inr, Option, Some, None, slice_get, arith}
+use Rattle.std.proofs.Common.{◌≡◌, ℕ, ℤ, ◌≤ℤ◌, List, length, sym, subst, ◌∙◌, inl, inr, Option, Some, None, slice_get, arith}
 use Rattle.std.specs.Prelude.{IfSome, IfNone, ◌<ℤ◌}
 use Rattle.std.proofs.lemmas.Bool.{cases_lt}
 use Rattle.std.proofs.lemmas.Int.{ints}

@@ -21,9 +21,9 @@ use Rattle.window_clock.specs.Places.{clock_in, IsOf, IsNear}
 use Rattle.query_standing.specs.Clocks.{Reads}
 use Rattle.query_standing.specs.Keys.{leaves_reading}
 use Rattle.query_standing.specs.Kept.{Part}
-use Rattle.query_part.specs.declared.matches.Ready.{Ready}
 use Rattle.query_part.specs.declared.part.Step.{Step}
 use Rattle.query_part.specs.declared.part.Step.TheVariants.{Unread, NoKey, Keyed}
+use Rattle.query_part.specs.KeyPlaces.{AreKeyPlaces}
 use Rattle.query_part.specs.Matches.{Held, none_open, cut, CanCut}
 
 abbrev pub part_of : Held → Option ℤ → Option ℕ → Part
@@ -80,8 +80,9 @@ abbrev pub HaveClocks : Declared → Query → Source → Type 0
 HaveClocks schema q source = (event : Event) (p : ℕ) → IsOfSchema schema event → Reads schema q event → clock_in source event p ≢ None
 
 -- The tables are those of the query.
-pub record IsMade (schema : Declared) (q : Query) (table : List Bool) (listed : List Leaf) (source : Source) (bits : List Bool) (h : Held) : Type 0 where
+pub record IsMade (schema : Declared) (q : Query) (table : List Bool) (places : List (Option (List ℕ))) (listed : List Leaf) (source : Source) (bits : List Bool) (h : Held) : Type 0 where
   pub types : AreTypesRead schema q table
+  pub keys : AreKeyPlaces schema q places
   pub clock : IsOf schema q.window source
   pub clocks : HaveClocks schema q source
   pub leaves : (event : Event) → leaf_conditions listed event ≡ leaves_reading schema q event

@@ -8,10 +8,11 @@ ghost use Rattle.query_leaves.specs.declared.Leaf.{Leaf as LeafData};
 ghost use Rattle.query_leaves.specs.Lawful.{AreNumbered};
 ghost use Rattle.window_clock.specs.Places.{IsOf, HasWidth};
 ghost use Rattle.query_part.specs.Matches.{none_open};
+ghost use Rattle.query_part.specs.KeyPlaces.{AreKeyPlaces};
 ghost use Rattle.query_part.specs.Parts.{AreTypesRead, IsMachineOf, HasAutomaton};
 
 use crate::matches::Matches;
-use crate::reading::types_read;
+use crate::reading::{Places, key_places, types_read};
 use cea_compile::compile;
 use cel_terms::Query;
 use cer_base::Memory;
@@ -22,12 +23,13 @@ use std::alloc::Global;
 use stream_schema::Schema;
 use window_clock::Clock;
 
-/// How events are read: which types, and where their clock stands.
+/// How events are read: which types, and where their clock and their key stand.
 #[derive(Drop)]
 pub struct Reading {
     pub schema: Schema,
     pub clock: Clock,
     pub types: Vec<bool>,
+    pub keys: Vec<Option<Places>>,
 }
 
 impl Reading {
@@ -36,15 +38,18 @@ impl Reading {
         requires wide { HasWidth query.now.window }
         ensures schema { IfOk result (λ r. r.schema ≡ schema.now) }
         ensures types { IfOk result (λ r. AreTypesRead schema.now query.now r.types.items) }
+        ensures keys { IfOk result (λ r. AreKeyPlaces schema.now query.now r.keys.items) }
         ensures clock { IfOk result (λ r. IsOf schema.now query.now.window r.clock.source) }
         ensures blank { IfOk result (λ r. r.clock.last ≡ None) }
     {
         let clock = Clock::of(alloc, schema, query)?;
         let types = types_read(alloc, schema, query)?;
+        let keys = key_places(alloc, schema, query)?;
         Ok(Reading {
             schema: schema.copy(alloc)?,
             clock,
             types,
+            keys,
         })
     }
 }

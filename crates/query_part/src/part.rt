@@ -9,11 +9,12 @@ ghost use Rattle.query_standing.specs.Clocks.{Reads, FallsBack};
 ghost use Rattle.query_standing.specs.Kept.{PartStands, low_at, roots_at};
 ghost use Rattle.all_or_none.specs.Phases.{IsPrepared, IsIdle, back, IsCommitted, CanPrepare, StandsAt, InTime, part_bound};
 ghost use Rattle.window_clock.specs.Places.{IsNear, IsOf, HasWidth, clock_in};
+ghost use Rattle.query_part.specs.KeyPlaces.{AreKeyPlaces};
 ghost use Rattle.query_part.specs.Parts.{AreTypesRead, IsMachineOf, HaveClocks, HasEvents};
 
 use crate::machine::{Machine, Reading};
 use crate::matches::{Matches, Ready};
-use crate::reading::{is_read, key_of};
+use crate::reading::{Places, is_read, key_of};
 use all_or_none::Keeps;
 use cel_terms::Query;
 use cer_base::bits::Bits;
@@ -47,6 +48,8 @@ pub struct Part {
     query: Query,
     /// For each type whether the query reads it.
     types: Vec<bool>,
+    /// For each type the places of the partition's attributes.
+    keys: Vec<Option<Places>>,
     conditions: Conditions,
     clock: Clock,
     matches: Matches,
@@ -73,13 +76,14 @@ impl Model for Part {
       ready = ready_of p.step p.matches p.clock.last p.here;
     } };
 
-    ghost invariant = { λ p. IsMade p.schema p.query p.types.items p.conditions p.clock.source p.bits
-        p.matches × CanEnd p.step p.matches };
+    ghost invariant = { λ p. IsMade p.schema p.query p.types.items p.keys.items p.conditions
+        p.clock.source p.bits p.matches × CanEnd p.step p.matches };
 }
 
 /// The part with these tables, before any event.
 fn joined(alloc: Global, query: Query, reading: Reading, machine: Machine) -> Part
     requires types { AreTypesRead reading.schema query reading.types.items }
+    requires keys { AreKeyPlaces reading.schema query reading.keys.items }
     requires clock { IsOf reading.schema query.window reading.clock.source }
     requires clocks { HaveClocks reading.schema query reading.clock.source }
     requires blank { reading.clock.last ≡ None }
@@ -94,6 +98,7 @@ fn joined(alloc: Global, query: Query, reading: Reading, machine: Machine) -> Pa
         schema: reading.schema,
         query,
         types: reading.types,
+        keys: reading.keys,
         conditions: machine.conditions,
         clock: reading.clock,
         matches: machine.matches,
@@ -209,8 +214,7 @@ impl Keeps for Part {
             return Ok(());
         }
         let clock = self.clock.now(event, position);
-        let names = self.query.partition.as_slice();
-        match key_of(self.alloc, &self.schema, names, event)? {
+        match key_of(self.alloc, self.keys.as_slice(), event)? {
             None => {
                 self.step = Some(Step::NoKey(clock));
                 Ok(())

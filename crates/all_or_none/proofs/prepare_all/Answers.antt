@@ -1,4 +1,4 @@
-use Rattle.std.proofs.Common.{◌≡◌, ◌<◌, All, length, arith}
+use Rattle.std.proofs.Common.{◌≡◌, ◌<◌, length, arith}
 use Rattle.query_standing.specs.Bounds.{update_bound}
 use Rattle.all_or_none.specs.Phases.{back, IsIdle, IsPrepared, CanPrepare, InTime, StandsAt, MeetsAtMost, ready_bound}
 use Rattle.std.proofs.lemmas.List.Sums.{sum_by-take-le}

@@ -1,8 +1,8 @@
-use Rattle.std.proofs.Common.{rules, ◌≡◌, ◌∙◌, All, List, subst, sym}
+use Rattle.std.proofs.Common.{rules, All, subst, sym}
 use Rattle.std.specs.Int.{w128}
 use mir.Val.{SFits}
 use Rattle.std.proofs.lemmas.Int.{to_z-of_z}
-use Rattle.all_or_none.specs.Phases.{Phase, StandsAt, InTime}
+use Rattle.all_or_none.specs.Phases.{StandsAt, InTime}
 use Rattle.query_engine.proofs.FirstPart.{take_next, take_all, first_part}
 use Rattle.query_engine.proofs.falls.first_fall.Goals as goal
 

@@ -1,7 +1,5 @@
 use Rattle.std.proofs.Common.{◌∷◌, [], sym, subst, All}
 use Rattle.std.proofs.lemmas.List.Elements.{All-append, All-cons, All-nil}
-use Rattle.all_or_none.specs.Phases.{StandsAt}
-use Rattle.query_standing.specs.Kept.{PartStands}
 use Rattle.query_engine.specs.Running.{IsFirst}
 use Rattle.query_engine.proofs.parts.add_part.Goals as goal
 

@@ -1,4 +1,4 @@
-use Rattle.std.proofs.Common.{inr, ◌≡◌, ◌<◌, ◌∙◌, ap, sym, subst, refl, length, Some, slice_get, arith}
+use Rattle.std.proofs.Common.{inr, ◌≡◌, ◌<◌, ◌∙◌, sym, subst, refl, length, Some, slice_get, arith}
 use Rattle.std.proofs.lemmas.Option.{slice_get_within}
 use Rattle.query_part.specs.Matches.{Held, TakesKey}
 use Rattle.query_part.proofs.Cuts.{cut_back, can_cut, row_at, length_map, same_before, can_mid, sound_mid, grown_from}

@@ -1,5 +1,4 @@
 use Rattle.std.proofs.Common.{◌≡◌, ◌∙◌, All, List, sym, ap, subst}
-use Rattle.cer_base.specs.declared.node.Root.{Root}
 use Rattle.cer_base.specs.declared.node.Node.{Node}
 use Rattle.cer_base.specs.Nodes.{IsRoot}
 use Rattle.query_part.specs.Matches.{Held, entries_for}

@@ -1,4 +1,4 @@
-use Rattle.std.proofs.Common.{◌≡◌, ◌∙◌, rules, true, false, refl, sym, ap, subst, Some, slice_index_or}
+use Rattle.std.proofs.Common.{◌≡◌, rules, true, false, refl, sym, subst, slice_index_or}
 use Rattle.stream_schema.specs.Types.{Declared}
 use Rattle.stream_schema.specs.Events.{IsOfSchema}
 use Rattle.cel_terms.specs.declared.Query.{Query}

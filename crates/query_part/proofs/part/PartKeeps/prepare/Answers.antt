@@ -7,7 +7,8 @@ use Rattle.window_clock.specs.Places.{IsNear}
 use Rattle.all_or_none.specs.Phases.{IsStep}
 use Rattle.query_part.specs.Parts.{part_of, put_in}
 use Rattle.query_part.proofs.Cases.{unread_step, no_key_step, keyed_step, can_take, starts_in_step}
-use Rattle.query_part.proofs.Prepare.{facts, now_is, fits, made_after, number_inside, not_read, does_read, idle_part}
+use Rattle.query_part.proofs.Prepare.{facts, now_is, fits, made_after, number_inside, not_read, does_read, idle_part, key_through}
+use Rattle.query_part.specs.KeyPlaces.{key_there}
 use Rattle.query_part.proofs.Worked.{worked_within}
 use Rattle.query_part.proofs.part.PartKeeps.prepare.Goals as goal
 
@@ -43,7 +44,7 @@ invariant_of-self-in-Some g c =
     let m = c.in_ok-ready-in-Some.ensures.marks in
     let small : SFits w128 c.now-clock.result = search rules in
     let same : to_z w128 (of_z w128 c.now-clock.result) ≡ c.now-clock.result = to_z-of_z _ _ small in (
-      made_after c.self.inside.schema c.self.inside.query c.self.inside.types.items c.self.inside.conditions c.self.inside.clock.source c.self.inside.bits c.fill.new.into _ c.in-Some.key c.in_ok-ready-in-Some.ready.number c.in_ok-ready-in-Some.ready.staged c.self.inside.matches c.advance.new.self c.self.invariant.0 c.fill.ensures.room r,
+      made_after c.self.inside.schema c.self.inside.query c.self.inside.types.items c.self.inside.keys.items c.self.inside.conditions c.self.inside.clock.source c.self.inside.bits c.fill.new.into _ c.in-Some.key c.in_ok-ready-in-Some.ready.number c.in_ok-ready-in-Some.ready.staged c.self.inside.matches c.advance.new.self c.self.invariant.0 c.fill.ensures.room r,
       (
         subst IsNear (sym same) c.now-clock.ensures.near,
         m.1,
@@ -57,7 +58,7 @@ returns-in-None-clause-ready g c =
     let told : slice_index_or c.self.inside.types.items c.args.event.now.ty false ≡ true = search rules in
     let small : SFits w128 c.now-clock.result = search rules in
     let same : to_z w128 (of_z w128 c.now-clock.result) ≡ c.now-clock.result = to_z-of_z _ _ small in
-    let none : values_at c.self.inside.schema c.self.inside.query.partition c.args.event.now ≡ None = ap (λ names. values_at c.self.inside.schema names c.args.event.now) (sym c.as_slice-names.ensures) ∙ (sym c.in_ok-key_of.ensures ∙ c.in-None.is) in
+    let none : values_at c.self.inside.schema c.self.inside.query.partition c.args.event.now ≡ None = sym (key_through c.self.inside.schema c.self.inside.query c.self.inside.keys.items c.args.event.now c.self.invariant.0.keys f.of_schema) ∙ (ap (λ table. key_there table c.args.event.now) (sym c.as_slice-2.ensures.value) ∙ sym c.in_ok-key_of.ensures ∙ c.in-None.is) in
     no_key_step c.self.inside.schema c.self.inside.query c.args.event.now c.args.position c.self.inside.matches c.self.inside.clock.last c.self.inside.here (to_z w128 (of_z w128 c.now-clock.result)) (does_read c.self.inside.schema c.self.inside.query c.self.inside.types.items c.args.event.now c.self.invariant.0.types f.of_schema told)
     (now_is c.self.inside.schema c.self.inside.query.window c.self.inside.clock.source c.args.event.now c.args.position c.now-clock.result (to_z w128 (of_z w128 c.now-clock.result)) c.self.invariant.0.clock c.now-clock.ensures.clock same)
     (fits c.self.inside.schema c.self.inside.query.window c.self.inside.clock.source c.now-clock.result (to_z w128 (of_z w128 c.now-clock.result)) c.self.invariant.0.clock c.now-clock.ensures.fits same)
@@ -69,7 +70,7 @@ returns-in_ok-ready-in-Some-clause-ready g c =
     let told : slice_index_or c.self.inside.types.items c.args.event.now.ty false ≡ true = search rules in
     let small : SFits w128 c.now-clock.result = search rules in
     let same : to_z w128 (of_z w128 c.now-clock.result) ≡ c.now-clock.result = to_z-of_z _ _ small in
-    let is_key : values_at c.self.inside.schema c.self.inside.query.partition c.args.event.now ≡ Some c.in-Some.key = ap (λ names. values_at c.self.inside.schema names c.args.event.now) (sym c.as_slice-names.ensures) ∙ (sym c.in_ok-key_of.ensures ∙ c.in-Some.is) in
+    let is_key : values_at c.self.inside.schema c.self.inside.query.partition c.args.event.now ≡ Some c.in-Some.key = sym (key_through c.self.inside.schema c.self.inside.query c.self.inside.keys.items c.args.event.now c.self.invariant.0.keys f.of_schema) ∙ (ap (λ table. key_there table c.args.event.now) (sym c.as_slice-2.ensures.value) ∙ sym c.in_ok-key_of.ensures ∙ c.in-Some.is) in
     let does = does_read c.self.inside.schema c.self.inside.query c.self.inside.types.items c.args.event.now c.self.invariant.0.types f.of_schema told in
     subst (λ h. IsStep c.self.inside.schema c.self.inside.query c.args.event.now c.args.position (part_of h c.self.inside.clock.last c.self.inside.here) (part_of (put_in c.in_ok-ready-in-Some.ready.number c.in_ok-ready-in-Some.ready.staged c.advance.new.self) (Some (to_z w128 (of_z w128 c.now-clock.result))) (Some c.in_ok-ready-in-Some.ready.number))) (sym c.in_ok-ready-in-Some.ensures.marks.0)
     (keyed_step c.self.inside.schema c.self.inside.query c.args.event.now c.args.position c.fill.new.into c.in-Some.key c.in_ok-ready-in-Some.ready.number c.in_ok-ready-in-Some.ready.staged c.self.inside.matches c.advance.new.self c.self.inside.clock.last c.self.inside.here (to_z w128 (of_z w128 c.now-clock.result)) does
@@ -84,7 +85,7 @@ returns-in_err-ready-in-Some-clause-within g c =
     let told : slice_index_or c.self.inside.types.items c.args.event.now.ty false ≡ true = search rules in
     let small : SFits w128 c.now-clock.result = search rules in
     let same : to_z w128 (of_z w128 c.now-clock.result) ≡ c.now-clock.result = to_z-of_z _ _ small in
-    let is_key : values_at c.self.inside.schema c.self.inside.query.partition c.args.event.now ≡ Some c.in-Some.key = ap (λ names. values_at c.self.inside.schema names c.args.event.now) (sym c.as_slice-names.ensures) ∙ (sym c.in_ok-key_of.ensures ∙ c.in-Some.is) in
+    let is_key : values_at c.self.inside.schema c.self.inside.query.partition c.args.event.now ≡ Some c.in-Some.key = sym (key_through c.self.inside.schema c.self.inside.query c.self.inside.keys.items c.args.event.now c.self.invariant.0.keys f.of_schema) ∙ (ap (λ table. key_there table c.args.event.now) (sym c.as_slice-2.ensures.value) ∙ sym c.in_ok-key_of.ensures ∙ c.in-Some.is) in
     let does = does_read c.self.inside.schema c.self.inside.query c.self.inside.types.items c.args.event.now c.self.invariant.0.types f.of_schema told in
     worked_within c.self.inside.schema c.self.inside.query c.self.inside.matches c.self.inside.clock.last c.self.inside.here c.args.self.now c.args.event.now c.args.position c.in-Some.key c.fill.new.into (to_z w128 (of_z w128 c.now-clock.result)) c.args.steps.now c.advance.new.steps i (does, is_key)
     (now_is c.self.inside.schema c.self.inside.query.window c.self.inside.clock.source c.args.event.now c.args.position c.now-clock.result (to_z w128 (of_z w128 c.now-clock.result)) c.self.invariant.0.clock c.now-clock.ensures.clock same)
@@ -97,7 +98,7 @@ returns-in_ok-ready-in-Some-clause-within g c =
     let told : slice_index_or c.self.inside.types.items c.args.event.now.ty false ≡ true = search rules in
     let small : SFits w128 c.now-clock.result = search rules in
     let same : to_z w128 (of_z w128 c.now-clock.result) ≡ c.now-clock.result = to_z-of_z _ _ small in
-    let is_key : values_at c.self.inside.schema c.self.inside.query.partition c.args.event.now ≡ Some c.in-Some.key = ap (λ names. values_at c.self.inside.schema names c.args.event.now) (sym c.as_slice-names.ensures) ∙ (sym c.in_ok-key_of.ensures ∙ c.in-Some.is) in
+    let is_key : values_at c.self.inside.schema c.self.inside.query.partition c.args.event.now ≡ Some c.in-Some.key = sym (key_through c.self.inside.schema c.self.inside.query c.self.inside.keys.items c.args.event.now c.self.invariant.0.keys f.of_schema) ∙ (ap (λ table. key_there table c.args.event.now) (sym c.as_slice-2.ensures.value) ∙ sym c.in_ok-key_of.ensures ∙ c.in-Some.is) in
     let does = does_read c.self.inside.schema c.self.inside.query c.self.inside.types.items c.args.event.now c.self.invariant.0.types f.of_schema told in
     worked_within c.self.inside.schema c.self.inside.query c.self.inside.matches c.self.inside.clock.last c.self.inside.here c.args.self.now c.args.event.now c.args.position c.in-Some.key c.fill.new.into (to_z w128 (of_z w128 c.now-clock.result)) c.args.steps.now c.advance.new.steps i (does, is_key)
     (now_is c.self.inside.schema c.self.inside.query.window c.self.inside.clock.source c.args.event.now c.args.position c.now-clock.result (to_z w128 (of_z w128 c.now-clock.result)) c.self.invariant.0.clock c.now-clock.ensures.clock same)

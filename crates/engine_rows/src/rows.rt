@@ -1,0 +1,149 @@
+//! One query text over some lines, and the answers as a text.
+ghost use Rattle.std.specs.Prelude.{◌≡◌, ◌+◌, ◌^◌, ◌<◌, ◌≤◌, length, IfOk, OnOk};
+ghost use Rattle.stream_schema.specs.Events.{IsOfSchema};
+ghost use Rattle.query_engine.specs.Engine.{count_of, IsNumber, SameQueries};
+
+use ceql_parser::{Accepted, read_queries};
+use cer_base::Memory;
+use cer_base::steps::Steps;
+use event_reader::read_event;
+use query_engine::{Engine, SeeFault};
+use std::alloc::{AllocError, Global};
+use std::sync::ledger::{Blank, Ledger};
+use stream_schema::Event;
+
+/// Why a row could not be run.
+#[derive(Drop, Debug, Clone, Copy)]
+pub enum RowFault {
+    /// The query text is refused.
+    Query,
+    /// The line is no event.
+    Line,
+    /// More events than positions.
+    Count,
+    /// An allocation was refused.
+    Memory,
+}
+
+impl From<Memory> for RowFault {
+    fn from(_refused: Memory) -> RowFault {
+        RowFault::Memory
+    }
+}
+
+impl From<AllocError> for RowFault {
+    fn from(_refused: AllocError) -> RowFault {
+        RowFault::Memory
+    }
+}
+
+/// The engine of the queries of a text.
+pub fn engine_of(alloc: Global, text: &str) -> Result<Engine, RowFault> {
+    match read_queries(alloc, text.as_bytes()) {
+        Ok(Accepted { schema, queries }) => Ok(Engine::new(alloc, schema, queries)?),
+        Err(_) => Err(RowFault::Query),
+    }
+}
+
+/// The event of the line, of the engine's schema.
+fn event_of(alloc: Global, engine: &Engine, line: &[u8]) -> Result<Event, RowFault>
+    ensures { IfOk result (IsOfSchema engine.now.schema) }
+{
+    if line.contains(&b'\n') {
+        return Err(RowFault::Line);
+    }
+    match read_event(alloc, engine.schema(), line) {
+        Ok(Some(event)) => Ok(event),
+        _ => Err(RowFault::Line),
+    }
+}
+
+/// Writes the answers of the query: where each starts, and in braces its positions, greatest first.
+fn write_answers<L: Ledger>(
+    engine: &Engine,
+    query: u64,
+    text: &mut String,
+    steps: &mut Steps<L>,
+) -> Result<(), RowFault>
+    requires seen { 0 < count_of engine.now }
+    requires numbered { IsNumber engine.now query }
+{
+    let mut cursor = engine.cursor(query, steps)?;
+    while let Some(start) = engine.pull(&mut cursor, steps) {
+        write_answer(start.pos, cursor.positions(), text)?;
+    }
+    Ok(())
+}
+
+fn write_answer(start: u64, positions: &[u64], text: &mut String) -> Result<(), RowFault> {
+    write!(text, "{start}{{")?;
+    for (k, position) in positions.iter().enumerate() {
+        if k > 0 {
+            text.push(' ')?;
+        }
+        write!(text, "{position}")?;
+    }
+    text.push_str("} ")?;
+    Ok(())
+}
+
+/// Writes the answers of each query at the last position.
+fn write_all<L: Ledger>(
+    engine: &Engine,
+    text: &mut String,
+    steps: &mut Steps<L>,
+) -> Result<(), RowFault>
+    requires seen { 0 < count_of engine.now }
+{
+    for k in 0..engine.queries() {
+        write_answers(engine, k + 1, text, steps)?;
+    }
+    Ok(())
+}
+
+/// Takes the event, and writes the answers after it, or that time falls.
+fn take<L: Ledger>(
+    engine: &mut Engine,
+    event: &Event,
+    text: &mut String,
+    steps: &mut Steps<L>,
+) -> Result<(), RowFault>
+    requires of_schema { IsOfSchema engine.old.schema event.now }
+{
+    if engine.events() == u64::MAX {
+        return Err(RowFault::Count);
+    }
+    match engine.see(event, steps) {
+        Ok(_) => write_all(engine, text, steps),
+        Err(SeeFault::TimeBack { query, before, now }) => {
+            write!(text, "query {query}: {now} after {before} ")?;
+            Ok(())
+        }
+        Err(SeeFault::Memory) => Err(RowFault::Memory),
+    }
+}
+
+/// The answers after each event of the lines, which a semicolon parts, with a stroke behind those of
+/// one event, and then how many states were found for each query.
+pub fn answers_after_each<L: Ledger>(
+    alloc: Global,
+    engine: &mut Engine,
+    lines: &[u8],
+    blank: Blank,
+) -> Result<String, RowFault>
+    requires name { blank.name ≡ L.name }
+    requires parts { blank.parts ≡ L.parts }
+    requires some { 0 < blank.parts }
+{
+    let mut steps = Steps::<L>::start(blank);
+    let mut text = String::new(alloc);
+    for line in lines.split(|b| *b == b';') {
+        let event = event_of(alloc, engine, line)?;
+        take(engine, &event, &mut text, &mut steps)?;
+        text.push_str("/ ")?;
+    }
+    for k in 0..engine.queries() {
+        write!(text, "{} ", engine.found(k + 1))?;
+    }
+    Ok(text)
+}

@@ -1,0 +1,70 @@
+use super::rows::{answers_after_each, engine_of};
+use std::marker::Brand;
+use std::sync::ledger::Blank;
+use std::test::*;
+
+/// Two types, of which the first stream has both and the second the first one alone.
+const BASE: &str =
+    "DECLARE EVENT A(v INT)\nDECLARE EVENT B(v INT)\nDECLARE STREAM S(A, B)\nDECLARE STREAM T(A)\n";
+
+/// A query, lines, the answers after each of them, and the number of states found.
+const ROWS: &[(&str, &str, &str)] = &[
+    // Events between are skipped, and a later start comes first.
+    (
+        "SELECT * FROM S WHERE A ; B",
+        "A,1;B,1;A,1;B,1",
+        "/ 0{1 0} / / 2{3 2} 0{3 0} / 3 ",
+    ),
+    // Nothing may stand between.
+    (
+        "SELECT * FROM S WHERE A : B",
+        "A,1;A,1;B,1;B,1",
+        "/ / 1{2 1} / / 2 ",
+    ),
+    // A window by count has the two positions before the last.
+    (
+        "SELECT * FROM S WHERE A ; B WITHIN 2 EVENTS",
+        "A,1;A,1;B,1;B,1",
+        "/ / 1{2 1} 0{2 0} / 1{3 1} / 3 ",
+    ),
+    // Each key has its own substream.
+    (
+        "SELECT * FROM S WHERE A ; B PARTITION BY [v]",
+        "A,1;A,2;B,2;B,1;B,3",
+        "/ / 1{2 1} / 0{3 0} / / 3 ",
+    ),
+    // An event of another type is no answer's, and counts as a position.
+    (
+        "SELECT * FROM T WHERE A : A",
+        "A,1;B,1;A,1",
+        "/ / 0{2 0} / 2 ",
+    ),
+    // A refused event leaves all as it was.
+    (
+        "SELECT * FROM S WHERE A ; B WITHIN 5 [v]",
+        "A,3;B,2;B,8;B,9",
+        "/ query 1: 2 after 3 / 0{1 0} / / 3 ",
+    ),
+    // A filter reads the value.
+    (
+        "SELECT * FROM S WHERE A ; B FILTER B[v > 1]",
+        "A,1;B,1;B,2",
+        "/ / 0{2 0} / 3 ",
+    ),
+];
+
+#[test]
+fn answers_are_those_worked_out_by_hand(rt: HostRuntime) -> Result<(), Fail> {
+    for (query, lines, expected) in ROWS {
+        let text = format!(in rt.alloc(); "{BASE}{query}")?;
+        let mut engine = engine_of(rt.alloc(), text.as_str())?;
+        let found = answers_after_each::<Brand>(
+            rt.alloc(),
+            &mut engine,
+            lines.as_bytes(),
+            Blank::new(1),
+        )?;
+        assert_eq!(rt; found.as_str(), *expected);
+    }
+    Ok(())
+}

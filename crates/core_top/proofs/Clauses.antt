@@ -86,8 +86,6 @@ queries_whenever sources o r (cause.ReadFault read after) failed text fault plac
 queries_whenever sources o r (cause.WriteFault before after) failed text fault place same holds refused = inr tt
 queries_whenever sources o r cause.Memory failed text fault place same holds refused = inr tt
 
-
-
 -- the cause of each stop
 abbrev pub cause_of : Stop → Cause
 cause_of End = cause.Fine

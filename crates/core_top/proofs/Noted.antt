@@ -15,11 +15,15 @@ use Rattle.core_top.proofs.Clauses.{at_cause}
 -- all answers are a first part of them
 some_part : (content : List ℕ → Content) (r : RunWords) (stop : Stop) (before after : Option (List ℕ)) → WroteAll content r stop before after →
     (bytes : List ℕ) × AreFileAnswers content r (λ s. Unit {0}) bytes × TookPrefix before after bytes
-some_part content r stop before after wrote = (wrote.bytes, record {
-  has_queries = wrote.are.has_queries;
-  has_events = wrote.are.has_events;
-  answers = λ text lines first second. let all = wrote.are.answers text lines first second in (all.0, tt, all.2);
-}, prefix_of_all before after wrote.bytes wrote.took)
+some_part content r stop before after wrote = (
+  wrote.bytes,
+  record {
+    has_queries = wrote.are.has_queries;
+    has_events = wrote.are.has_events;
+    answers = λ text lines first second. let all = wrote.are.answers text lines first second in (all.0, tt, all.2);
+  },
+  prefix_of_all before after wrote.bytes wrote.took,
+)
 
 -- the run whose note was not made
 ended_for_memory : {S H : Type 0} (sources : Sources S) (call : H → List ℕ → H → Type 0) (o : Outside) (r : RunWords) (first last : H) (told : Cause) (failed : Option S) →

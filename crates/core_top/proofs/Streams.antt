@@ -48,14 +48,18 @@ wrote_all content r schema queries source stop before after accepted opened wrot
   are = record {
     has_queries = text_not_missing (content r.queries) _ accepted;
     has_events = not_missing (content r.events) source opened;
-    answers = λ text lines first second. (stop, refl, record {
-      schema = schema;
-      queries = queries;
-      events = wrote.events;
-      accepted = text_told (content r.queries) text (λ w. Accepts w schema queries) first accepted;
-      runs = wrote.are lines (source_told (content r.events) source lines opened second);
-      output = wrote.output;
-    });
+    answers = λ text lines first second. (
+      stop,
+      refl,
+      record {
+        schema = schema;
+        queries = queries;
+        events = wrote.events;
+        accepted = text_told (content r.queries) text (λ w. Accepts w schema queries) first accepted;
+        runs = wrote.are lines (source_told (content r.events) source lines opened second);
+        output = wrote.output;
+      },
+    );
   };
   took = wrote.took;
 }
@@ -64,20 +68,27 @@ wrote_all content r schema queries source stop before after accepted opened wrot
 pub wrote_part : (content : List ℕ → Content) (r : RunWords) (schema : Declared) (queries : List Query) (source : Option (List ℕ)) (Took : List ℕ → Type 0) →
     OfOpened (content r.queries) (λ text. Accepts text schema queries) → HasOpened (content r.events) source → WrotePartOf (asked_of r schema queries) source Took →
     (bytes : List ℕ) × AreFileAnswers content r (λ s. Unit {0}) bytes × Took bytes
-wrote_part content r schema queries source Took accepted opened wrote = (wrote.bytes, record {
-  has_queries = text_not_missing (content r.queries) _ accepted;
-  has_events = not_missing (content r.events) source opened;
-  answers = λ text lines first second.
-      let over = wrote.are lines (source_told (content r.events) source lines opened second) in
-      (over.stop, tt, record {
-        schema = schema;
-        queries = queries;
-        events = over.events;
-        accepted = text_told (content r.queries) text (λ w. Accepts w schema queries) first accepted;
-        runs = over.runs;
-        output = over.output;
-      });
-}, wrote.took)
+wrote_part content r schema queries source Took accepted opened wrote = (
+  wrote.bytes,
+  record {
+    has_queries = text_not_missing (content r.queries) _ accepted;
+    has_events = not_missing (content r.events) source opened;
+    answers = λ text lines first second.
+        let over = wrote.are lines (source_told (content r.events) source lines opened second) in (
+          over.stop,
+          tt,
+          record {
+            schema = schema;
+            queries = queries;
+            events = over.events;
+            accepted = text_told (content r.queries) text (λ w. Accepts w schema queries) first accepted;
+            runs = over.runs;
+            output = over.output;
+          },
+        );
+  },
+  wrote.took,
+)
 
 -- those over the lines that were read
 read_so_far : (schema : Declared) (queries : List Query) (lines rest : List ℕ) (left : Option (List ℕ)) (events : List Event) → AreEventsRead schema queries lines left events → left ≡ Some rest → AreEventsRead schema queries lines (Some rest) events
@@ -90,15 +101,18 @@ wrote_read content r schema queries source left before after accepted opened wro
   has_queries = text_not_missing (content r.queries) _ accepted;
   has_events = not_missing (content r.events) source opened;
   answers = λ text lines rest first second same.
-      let read = read_so_far schema queries lines rest left wrote.events (wrote.are lines (source_told (content r.events) source lines opened second)) same in
-      (read.read, read.whole, record {
-        schema = schema;
-        queries = queries;
-        events = wrote.events;
-        accepted = text_told (content r.queries) text (λ w. Accepts w schema queries) first accepted;
-        good = read.good;
-        output = wrote.output;
-      });
+      let read = read_so_far schema queries lines rest left wrote.events (wrote.are lines (source_told (content r.events) source lines opened second)) same in (
+        read.read,
+        read.whole,
+        record {
+          schema = schema;
+          queries = queries;
+          events = wrote.events;
+          accepted = text_told (content r.queries) text (λ w. Accepts w schema queries) first accepted;
+          good = read.good;
+          output = wrote.output;
+        },
+      );
 }
 
 -- what a source that failed has left is the last part of the file

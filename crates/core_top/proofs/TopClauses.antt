@@ -60,13 +60,13 @@ pub queries_clause : {S H : Type 0} (sources : Sources S) (call : H → List ℕ
 queries_clause sources call words o first last given failed finished r text fault place is first_told =
     elim (ran_well sources call words o first last given failed finished r is).way [
       | inl ended ↦ record {
-          only = λ same. told _ text (λ w. IsRefusedText w fault place) first_told (at_cause (λ k. CauseHolds sources o r k failed) given (cause.Queries fault place) same ended.holds).1;
-          whenever = λ refused. queries_whenever sources o r given failed text fault place first_told ended.holds refused;
-        }
+        only = λ same. told _ text (λ w. IsRefusedText w fault place) first_told (at_cause (λ k. CauseHolds sources o r k failed) given (cause.Queries fault place) same ended.holds).1;
+        whenever = λ refused. queries_whenever sources o r given failed text fault place first_told ended.holds refused;
+      }
       | inr none ↦ record {
-          only = λ same. let wrong : cause.Memory ≡ cause.Queries fault place = sym none.0 ∙ same in absurd cc;
-          whenever = λ refused. inr (at_cause IsFromOutside cause.Memory given (sym none.0) tt);
-        }
+        only = λ same. let wrong : cause.Memory ≡ cause.Queries fault place = sym none.0 ∙ same in absurd cc;
+        whenever = λ refused. inr (at_cause IsFromOutside cause.Memory given (sym none.0) tt);
+      }
     ]
 
 -- a stop of the events, by its cause
@@ -76,13 +76,13 @@ stop_clause : {S H : Type 0} (sources : Sources S) (call : H → List ℕ → H 
 stop_clause sources call words o first last given failed finished r text lines stop stops other is first_told second_told =
     elim (ran_well sources call words o first last given failed finished r is).way [
       | inl ended ↦ record {
-          only = λ same. stops (left_of sources failed) (at_cause (λ k. Wrote k o.content r (left_of sources failed) o.before o.after) given (cause_of stop) same ended.wrote);
-          whenever = λ fact. stop_whenever sources o r given failed text lines stop first_told second_told ended.holds ended.wrote fact;
-        }
+        only = λ same. stops (left_of sources failed) (at_cause (λ k. Wrote k o.content r (left_of sources failed) o.before o.after) given (cause_of stop) same ended.wrote);
+        whenever = λ fact. stop_whenever sources o r given failed text lines stop first_told second_told ended.holds ended.wrote fact;
+      }
       | inr none ↦ record {
-          only = λ same. absurd (other (sym none.0 ∙ same));
-          whenever = λ fact. inr (at_cause IsFromOutside cause.Memory given (sym none.0) tt);
-        }
+        only = λ same. absurd (other (sym none.0 ∙ same));
+        whenever = λ fact. inr (at_cause IsFromOutside cause.Memory given (sym none.0) tt);
+      }
     ]
 
 pub event_clause : {S H : Type 0} (sources : Sources S) (call : H → List ℕ → H → Type 0) (words : List (List ℕ)) (o : Outside) (first last : H) (given : Cause) (failed : Option S) → Finished sources call words o first last given failed →

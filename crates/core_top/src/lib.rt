@@ -6,10 +6,9 @@
 //! the answers over an event file, `core_sample` for samples, and `fault_notes` for its notes.
 #![tactic(auto)]
 
-use cer_base::Place;
 use ceql_parser::QueryFault;
+use cer_base::Place;
 use event_reader::EventFault;
-
 pub use fault_notes::File;
 pub use top::core_main;
 

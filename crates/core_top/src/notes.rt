@@ -9,7 +9,8 @@ use cer_base::Memory;
 use cer_outside::Sink;
 use cer_outside::writing::put_all;
 use fault_notes::{
-    event_note, memory_note, open_note, query_note, read_note, too_long_note, usage_note, write_note,
+    event_note, memory_note, open_note, query_note, read_note, too_long_note, usage_note,
+    write_note,
 };
 use std::alloc::Global;
 

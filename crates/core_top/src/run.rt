@@ -12,10 +12,10 @@ ghost use Rattle.core_top.specs.Run.{Ended, QueriesStop, EventsStop, SourceStop,
 use super::opening::{Stop, open, take_whole};
 use super::{Cause, File};
 use answer_text::Order;
-use cer_base::{Memory, OrMemory};
-use cer_base::steps::Steps;
-use cer_outside::{Host, Sink, Source};
 use ceql_parser::{QueryError, read_queries};
+use cer_base::steps::Steps;
+use cer_base::{Memory, OrMemory};
+use cer_outside::{Host, Sink, Source};
 use query_engine::Engine;
 use std::alloc::Global;
 use std::sync::ledger::Ledger;
@@ -55,15 +55,20 @@ pub fn run_files<H: Host, K: Sink, L: Ledger>(
         Ok(engine) => engine,
         Err(stop) => return stop,
     };
-    answer_file(alloc, &mut engine, events, order, most_bytes, host, out, steps)
+    answer_file(
+        alloc,
+        &mut engine,
+        events,
+        order,
+        most_bytes,
+        host,
+        out,
+        steps,
+    )
 }
 
 /// An engine for the queries of the host's file.
-fn read_engine<H: Host>(
-    alloc: Global,
-    host: &mut H,
-    queries: &str,
-) -> Result<Engine, Stop<H::Src>>
+fn read_engine<H: Host>(alloc: Global, host: &mut H, queries: &str) -> Result<Engine, Stop<H::Src>>
     ensures accepted { IfOk result (λ e.
         OfOpened (H.content host.old queries.now) (λ text. Accepts text e.schema e.queries)) }
     ensures stands { IfOk result (λ e. StandsFor e []) }
@@ -169,15 +174,7 @@ fn answer_source<S: Source + Drop, K: Sink, L: Ledger>(
     ensures writes { CountsWrites result.cause (K.faults out.old) (K.faults out.new) }
 {
     let before = out.fault_count();
-    match write_answers(
-        alloc,
-        order,
-        most_bytes,
-        engine,
-        &mut source,
-        out,
-        steps,
-    ) {
+    match write_answers(alloc, order, most_bytes, engine, &mut source, out, steps) {
         Ok(()) => Stop::of(Cause::Fine),
         Err(OrMemory::Memory) => Stop::of(Cause::Memory),
         Err(OrMemory::Fault(StreamFault::Event { line, fault })) => {

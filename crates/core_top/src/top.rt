@@ -148,12 +148,14 @@ fn run<H: Host, K: Sink, L: Ledger>(
     ensures kept { (name : List ℕ) → H.content host.new name ≡ H.content host.old name }
 {
     match read_command(alloc, words) {
-        Ok(Command::Run {
-            queries,
-            events,
-            order,
-            most_bytes,
-        }) => run_files(
+        Ok(
+            Command::Run {
+                queries,
+                events,
+                order,
+                most_bytes,
+            },
+        ) => run_files(
             alloc,
             queries.as_str(),
             events.as_str(),

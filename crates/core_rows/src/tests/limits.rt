@@ -5,13 +5,21 @@ use std::alloc::{AllocError, Global};
 use std::test::Fail;
 
 /// A type with a text, its stream, and a query of it for one text.
-const TEXTS: &str = "DECLARE EVENT N(s STRING)\nDECLARE STREAM S(N)\n\nSELECT * FROM S WHERE N FILTER N[s = 'a,\"b']\n";
+const TEXTS: &str =
+    "DECLARE EVENT N(s STRING)\nDECLARE STREAM S(N)\n\nSELECT * FROM S WHERE N FILTER N[s = 'a,\"b']\n";
 
 /// A type with a text, its stream, and a query of it.
-const ALL_TEXTS: &str = "DECLARE EVENT N(s STRING)\nDECLARE STREAM S(N)\n\nSELECT * FROM S WHERE N\n";
+const ALL_TEXTS: &str =
+    "DECLARE EVENT N(s STRING)\nDECLARE STREAM S(N)\n\nSELECT * FROM S WHERE N\n";
 
 /// The part so often, with the rest behind it.
-fn repeated(alloc: Global, front: &str, part: &str, times: usize, rest: &str) -> Result<String, AllocError> {
+fn repeated(
+    alloc: Global,
+    front: &str,
+    part: &str,
+    times: usize,
+    rest: &str,
+) -> Result<String, AllocError> {
     let mut text = front.to_string(alloc)?;
     for _ in 0..times {
         text.push_str(part)?;
@@ -52,9 +60,21 @@ fn formulas_at_their_limits(rt: HostRuntime) -> Result<(), Fail> {
     for (front, part, times, rest, wanted) in [
         ("A", " ; A", 64usize, "", "0||"),
         ("A", " ; A", 2047, "", "0||"),
-        ("A", " ; A", 2048, "", "3||core: queries 4:1: more than 2048 leaves\n"),
+        (
+            "A",
+            " ; A",
+            2048,
+            "",
+            "3||core: queries 4:1: more than 2048 leaves\n",
+        ),
         ("A", " ; A", 1023, " FILTER A[v = 1] OR A[v = 2]", "0||"),
-        ("A", " ; A", 1024, " FILTER A[v = 1] OR A[v = 2]", "3||core: queries 4:1: more than 2048 leaves\n"),
+        (
+            "A",
+            " ; A",
+            1024,
+            " FILTER A[v = 1] OR A[v = 2]",
+            "3||core: queries 4:1: more than 2048 leaves\n",
+        ),
     ] {
         let formula = repeated(alloc, front, part, times, rest)?;
         let query = repeated(alloc, "SELECT * FROM S WHERE ", formula.as_str(), 1, "")?;
@@ -83,10 +103,16 @@ fn texts_at_their_limits(rt: HostRuntime) -> Result<(), Fail> {
     let queries = repeated(alloc, "", "SELECT * FROM S WHERE A\n", 1025, "")?;
     let text = text_of(alloc, queries.as_str())?;
     let (first, _) = both(alloc, "run q e", text.as_str(), "A,1\n")?;
-    assert_eq!(rt; first.as_str(), "3||core: queries 1028:1: more than 1024 queries\n");
+    assert_eq!(rt;
+        first.as_str(),
+        "3||core: queries 1028:1: more than 1024 queries\n"
+    );
     for (times, wanted) in [
         (1_048_576usize, "3||core: queries 1:1048577: no query\n"),
-        (1_048_577, "3||core: queries 1:1: text longer than 1048576 bytes\n"),
+        (
+            1_048_577,
+            "3||core: queries 1:1: text longer than 1048576 bytes\n",
+        ),
     ] {
         let text = repeated(alloc, "", " ", times, "")?;
         let (first, _) = both(alloc, "run q e", text.as_str(), "A,1\n")?;
@@ -101,7 +127,10 @@ fn lines_at_their_limit(rt: HostRuntime) -> Result<(), Fail> {
     let alloc = rt.alloc();
     for (times, wanted) in [
         (65_534usize, "0|1 [0,0] {0}\n|"),
-        (65_535, "4||core: events line 1: line longer than 65536 bytes\n"),
+        (
+            65_535,
+            "4||core: events line 1: line longer than 65536 bytes\n",
+        ),
     ] {
         let events = repeated(alloc, "N,", "x", times, "\n")?;
         let (first, second) = both(alloc, "run q e", ALL_TEXTS, events.as_str())?;

@@ -50,6 +50,13 @@ fn words_are_done(rt: HostRuntime) -> Result<(), Fail> {
             "",
             "0|events 0\n1 answers 0 sum 0\n2 answers 0 sum 0\n|",
         ),
+        (
+            "a_sample_of_two_thousand_events",
+            "sample 7 2000",
+            "SELECT * FROM S WHERE A",
+            "",
+            "0|events 2000\n1 answers 1014 sum 3964594\n2 answers 10718 sum 54754050\n|",
+        ),
     ] {
         let text = text_of(alloc, query)?;
         let (first, second) = both(alloc, words, text.as_str(), events)?;

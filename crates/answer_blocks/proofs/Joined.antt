@@ -1,16 +1,19 @@
 -- Blocks one after another.
-use Rattle.std.proofs.Common.{◌≡◌, ℕ, zero, suc, ◌+◌, ◌-◌, ◌<◌, ◌≤◌, List, [], ◌∷◌, ◌++◌, length, take, drop, Some, IsPermutation, refl, sym, ◌∙◌, ap, subst, append_assoc, arith, flat_map}
+use Rattle.std.proofs.Common.{◌≡◌, ℕ, zero, suc, ◌+◌, ◌-◌, ◌<◌, ◌≤◌, List, [], ◌∷◌, ◌++◌, length, take, drop, Option, Some, None, IsPermutation, refl, sym, ◌∙◌, ap, subst, append_assoc, arith, flat_map}
 use Rattle.std.specs.Prelude.{slice_get}
 use Rattle.std.proofs.lemmas.List.{append-nil, take_more, take_all, take-append-drop, length-take}
 use Rattle.std.proofs.lemmas.Option.{get_or_from_slice_get}
 use Rattle.std.proofs.Math.Seq.{drop-cons}
+use Rattle.std.proofs.lemmas.List.Sorted.{IsPermutation-refl}
 use Rattle.stream_schema.specs.Types.{Declared}
 use Rattle.stream_schema.specs.declared.Event.{Event}
 use Rattle.cel_terms.specs.declared.Query.{Query}
 use Rattle.cel_terms.specs.Answers.{Answer}
+use Rattle.cel_plain.specs.Valuations.{AreAnswersAt}
 use Rattle.cer_base.specs.Repeats.{HasNoRepeats}
 use Rattle.query_engine.specs.Engine.{State, StandsFor}
 use Rattle.answer_text.specs.declared.Order.{Order}
+use Rattle.answer_text.specs.declared.Order.TheVariants.{Walk, Sorted}
 use Rattle.answer_text.specs.Output.{line, AreInOrder, IsBlock, AreBlocks}
 use Rattle.answer_blocks.specs.Wanted.{wanted, AreWanted}
 use Rattle.answer_blocks.specs.Blocks.{HasBlock, HasBlocks}
@@ -112,4 +115,23 @@ block_pulled order engine number end given answers P are moved ordered at_end h 
             (block_of_wanted order engine.schema number q events (length events - 1) w.0 answers w.1 wanted_moved (ordered once)),
         h,
       );
+}
+
+none_wanted : (any : Option ℕ) → wanted any [] ≡ []
+none_wanted None = refl
+none_wanted (Some zero) = refl
+none_wanted (Some (suc n)) = refl
+
+none_in_order : (order : Order) → AreInOrder order []
+none_in_order Walk = tt
+none_in_order Sorted = λ i j a b less p q. absurd (cc)
+
+-- Where there is no answer, no line is the block.
+pub no_block : (order : Order) (engine : State) (number : ℕ) (P : List ℕ → Type 0) →
+    ((events : List Event) (q : Query) → StandsFor engine events → slice_get engine.queries (number - 1) ≡ Some q → AreAnswersAt engine.schema q events (length events - 1) []) →
+    P [] → HasBlock order engine number P
+no_block order engine number P none h = record {
+  block = λ events q stands at.
+      let moved : IsPermutation (wanted q.any []) [] = subst (λ (l : List Answer). IsPermutation l []) (sym (none_wanted q.any)) (IsPermutation-refl []) in
+      ([], block_of_wanted order engine.schema number q events (length events - 1) [] [] (none events q stands at) moved (none_in_order order), h);
 }

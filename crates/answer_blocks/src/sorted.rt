@@ -69,6 +69,9 @@ fn push_block<L: Ledger>(
         (λ bytes. text.new.items ≡ text.old.items ++ bytes)) }
     ensures kept { StartsWith text.old.items text.new.items }
 {
+    if !engine.may_answer(number) {
+        return Ok(());
+    }
     let mut pulling = Pulling::start(engine, number, steps)?;
     let mut answers = pulled(alloc, engine, &mut pulling, steps)?;
     sort(&mut answers);

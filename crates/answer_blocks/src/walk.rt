@@ -74,6 +74,9 @@ fn write_block<K: Sink, L: Ledger>(
         (λ bytes. TookBy (K.taken out.old) (K.taken out.new) bytes result) }
     ensures cause { HasCauseOrMemory (K.faults out.old) (K.faults out.new) result }
 {
+    if !engine.may_answer(number) {
+        return Ok(());
+    }
     let mut pulling = Pulling::start(engine, number, steps)?;
     let end = engine.events() - 1;
     write_answers(engine, &mut pulling, number, end, out, buffer, steps)

@@ -1,5 +1,5 @@
 -- The class of an event: where a set stands in a list without repeats, and what is there once a new one is put in. For callers of the crate too.
-use Rattle.std.proofs.Common.{◌≡◌, ℕ, zero, suc, ◌+◌, ◌<◌, Bool, true, false, cond, List, [], ◌∷◌, ◌++◌, length, refl, sym, ap, ◌∙◌, Contains, Some, slice_get, arith}
+use Rattle.std.proofs.Common.{◌≡◌, ℕ, zero, suc, ◌+◌, ◌<◌, Bool, true, false, cond, List, [], ◌∷◌, ◌++◌, length, refl, sym, ap, ◌∙◌, Contains, Option, Some, None, IfSome, slice_get, arith}
 use Rattle.std.specs.List.{list_any, position, position_from}
 use Rattle.std.specs.Cmp.{decided}
 use Rattle.std.proofs.lemmas.Bool.{false≢true}
@@ -26,6 +26,11 @@ class_found bits classes n e =
     let i : n ≡ p.0 = (let s = p.1 in omega arith) in
     let same : bits ≡ p.2 = (Decides-set bits p.2).0 p.4 in
     ap (slice_get classes) i ∙ (p.3 ∙ ap Some (sym same))
+
+-- likewise of an answer that may be none
+pub class_if_found : (bits : List Bool) (classes : List (List Bool)) (o : Option ℕ) → o ≡ position (is_same_set bits) classes → IfSome o (λ n. slice_get classes n ≡ Some bits)
+class_if_found bits classes None e = tt
+class_if_found bits classes (Some n) e = class_found bits classes n (sym e)
 
 -- where none is found the set is not there
 pub class_absent : (bits : List Bool) (classes : List (List Bool)) → list_any (is_same_set bits) classes ≡ false → Contains classes bits → ⊥

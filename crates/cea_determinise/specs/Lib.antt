@@ -3,3 +3,4 @@ pub mod Strict
 pub mod Cea
 pub mod Det
 pub mod Keys
+pub mod Places

@@ -1,10 +1,10 @@
 //! The determinised automaton, which finds its states as events come.
-ghost use Rattle.std.specs.Prelude.{◌≡◌, ◌≢◌, ℕ, ◌+◌, ◌<◌, ◌≤◌, Bool, true, false, List, [], ◌∷◌, ◌++◌, length, take, min, option_map, IfOk, IfErr, OnOk, OnErr, IfSome, All, Contains, IsOk, Some, None, Ok, slice_get};
+ghost use Rattle.std.specs.Prelude.{◌≡◌, ◌≢◌, ℕ, ◌+◌, ◌<◌, ◌≤◌, Bool, true, false, List, [], ◌∷◌, ◌++◌, length, take, min, option_map, IfOk, IfErr, OnOk, OnErr, IfSome, All, Contains, IsOk, Some, None, Ok, slice_get, IfNone};
 ghost use Rattle.std.specs.Option.{option_copied};
-ghost use Rattle.std.specs.List.{IsDistinct};
+ghost use Rattle.std.specs.List.{IsDistinct, list_any};
 ghost use Rattle.std.specs.Map.{lookup};
 ghost use Rattle.cer_base.specs.Bits.{has, room_for};
-ghost use Rattle.cea_determinise.specs.Keys.{is_same_key, are_same_sets};
+ghost use Rattle.cea_determinise.specs.Keys.{is_same_key, is_same_set, are_same_sets};
 ghost use Rattle.cea_determinise.specs.Runs.{accepts};
 ghost use Rattle.cea_determinise.specs.Cea.{automaton_of_cea, standing, standing_of, IsWellFormed, HasLeavesBelow};
 ghost use Rattle.cea_determinise.specs.declared.cea.StateSets.{StateSets};
@@ -12,6 +12,7 @@ ghost use Rattle.cea_determinise.specs.declared.table.Successors.{Successors};
 ghost use Rattle.cea_determinise.specs.Det.{sets_at, standing_at, class_at, AreSuccessors, IsSound, Reached, StaysWithin, AreBoth, IsNumber, Adds, AddsClass};
 
 use crate::cea::{Cea, Side, StateSets};
+use crate::places::Places;
 use crate::successor::successor;
 use crate::table::{Both, EventClass, Mark, State, Successors, TransitionKey};
 use cer_base::Memory;
@@ -21,6 +22,9 @@ use indexmap::{IndexMap, IndexSet};
 use std::alloc::Global;
 use std::marker::Model;
 use std::sync::ledger::Ledger;
+
+/// So many classes are compared one by one before a hash is made.
+const FIRST_CLASSES: usize = 8;
 
 /// The determinised automaton of a pattern, with the states met so far: seen as a `Table`.
 ///
@@ -35,6 +39,8 @@ pub struct Det {
     /// For each class the leaves that can read its events.
     classes: IndexSet<Bits>,
     transitions: IndexMap<TransitionKey, Successors>,
+    /// Where a pair may stand among the transitions, which is then tried before its hash is made.
+    places: Places,
 }
 
 impl Model for Det {
@@ -59,6 +65,7 @@ impl Det {
             states: IndexSet::new(alloc),
             classes: IndexSet::new(alloc),
             transitions: IndexMap::new(alloc),
+            places: Places::new(alloc),
         }
     }
 
@@ -145,6 +152,17 @@ impl Det {
         self.classes.truncate(mark.classes as usize);
     }
 
+    /// The class of these leaves, where it is known.
+    fn known_class(&self, bits: &Bits) -> Option<usize>
+        ensures found { IfSome result (λ c. slice_get self.now.classes c ≡ Some bits.now) }
+        ensures absent { IfNone result (list_any (is_same_set bits.now) self.now.classes ≡ false) }
+    {
+        match first_place(self.classes.as_slice(), bits) {
+            Some(class) => Some(class),
+            None => self.classes.get_index_of(bits),
+        }
+    }
+
     /// The number of the class of the events that these leaves can read. One step.
     ///
     /// Only a new class takes memory. After `Memory` nothing has changed.
@@ -163,12 +181,25 @@ impl Det {
         ensures steps { steps.new ≡ steps.old + 1 }
     {
         steps.tick();
-        if let Some(class) = self.classes.get_index_of(bits) {
+        if let Some(class) = self.known_class(bits) {
             return Ok(class as u64);
         }
         let copy = bits.copy(self.alloc)?;
         let (class, _) = self.classes.insert_full(copy)?;
         Ok(class as u64)
+    }
+
+    /// The successors of the pair, where it stands at the place that was told of it.
+    fn placed(&self, key: TransitionKey) -> Option<Successors>
+        ensures value { IfSome result
+            (λ s. lookup (is_same_key key) self.now.transitions ≡ Some s) }
+        ensures right { IfSome result (AreSuccessors self.now.cea self.now.states self.now.classes
+            key) }
+    {
+        match self.transitions.get_index(self.places.get(key)) {
+            None => None,
+            Some((stored, found)) => { if *stored == key { Some(*found) } else { None } }
+        }
     }
 
     /// The successors of the pair, where it is known.
@@ -177,7 +208,10 @@ impl Det {
         ensures right { IfSome result (AreSuccessors self.now.cea self.now.states self.now.classes
             key) }
     {
-        self.transitions.get(&key).copied()
+        match self.placed(key) {
+            Some(found) => Some(found),
+            None => self.transitions.get(&key).copied(),
+        }
     }
 
     /// Both successors of the state on an event of the class.
@@ -216,6 +250,8 @@ impl Det {
         let marked = number(&mut self.states, both.marked)?;
         let unmarked = number(&mut self.states, both.unmarked)?;
         let found = Successors { marked, unmarked };
+        // Where this has no memory, the pair is found by its hash.
+        let _told = self.places.put(key, self.transitions.len());
         self.transitions.insert(key, found)?;
         Ok(found)
     }
@@ -248,6 +284,7 @@ impl Det {
         ensures new_steps { lookup (is_same_key (record { state = state; class = class }))
             self.old.transitions ≡ None → OnOk result (steps.new ≡ steps.old + 3) }
         ensures steps { steps.new ≤ steps.old + 3 }
+        ensures counted { steps.old + 1 ≤ steps.new }
     {
         let key = TransitionKey { state, class };
         steps.tick();
@@ -274,4 +311,16 @@ fn number(
             Ok(Some(index.min(states.len()) as u64 + 1))
         }
     }
+}
+
+/// Where the set stands among the first classes.
+fn first_place(classes: &[Bits], bits: &Bits) -> Option<usize>
+    ensures { IfSome result (λ k. slice_get classes.now k ≡ Some bits.now) }
+{
+    for k in 0..classes.len().min(FIRST_CLASSES) {
+        if classes[k] == *bits {
+            return Some(k);
+        }
+    }
+    None
 }

@@ -11,6 +11,7 @@
 pub mod cea;
 pub mod det;
 mod keys;
+mod places;
 mod sets;
 mod successor;
 pub mod table;

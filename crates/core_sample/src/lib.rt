@@ -9,6 +9,8 @@ mod counting;
 pub mod generator;
 mod queries;
 pub mod summary;
+#[cfg(test)]
+mod tests;
 
 pub use generator::sample_event;
 pub use summary::write_sample;

@@ -8,7 +8,7 @@ use cer_base::Memory;
 use cer_base::steps::Steps;
 use event_reader::read_event;
 use query_engine::{Engine, SeeFault};
-use std::alloc::{AllocError, Global};
+use std::alloc::{AllocError, AllocFailed, Global};
 use std::sync::ledger::{Blank, Ledger};
 use stream_schema::Event;
 
@@ -37,6 +37,12 @@ impl From<AllocError> for RowFault {
     }
 }
 
+impl<T: Drop> From<AllocFailed<T>> for RowFault {
+    fn from(_refused: AllocFailed<T>) -> RowFault {
+        RowFault::Memory
+    }
+}
+
 /// The engine of the queries of a text.
 pub fn engine_of(alloc: Global, text: &str) -> Result<Engine, RowFault> {
     match read_queries(alloc, text.as_bytes()) {
@@ -58,7 +64,7 @@ fn event_of(alloc: Global, engine: &Engine, line: &[u8]) -> Result<Event, RowFau
     }
 }
 
-/// Writes the answers of the query: where each starts, and in braces its positions, greatest first.
+/// Writes the answers of the query.
 fn write_answers<L: Ledger>(
     engine: &Engine,
     query: u64,
@@ -75,11 +81,12 @@ fn write_answers<L: Ledger>(
     Ok(())
 }
 
-fn write_answer(start: u64, positions: &[u64], text: &mut String) -> Result<(), RowFault> {
+/// Writes an answer: where it starts, and in braces its positions, greatest first.
+pub fn write_answer(start: u64, positions: &[u64], text: &mut String) -> Result<(), RowFault> {
     write!(text, "{start}{{")?;
     for (k, position) in positions.iter().enumerate() {
         if k > 0 {
-            text.push(' ')?;
+            text.push(',')?;
         }
         write!(text, "{position}")?;
     }
@@ -123,8 +130,17 @@ fn take<L: Ledger>(
     }
 }
 
+/// How many states were found for each query.
+pub fn states_found(alloc: Global, engine: &Engine) -> Result<String, RowFault> {
+    let mut text = String::new(alloc);
+    for k in 0..engine.queries() {
+        write!(text, "{} ", engine.found(k + 1))?;
+    }
+    Ok(text)
+}
+
 /// The answers after each event of the lines, which a semicolon parts, with a stroke behind those of
-/// one event, and then how many states were found for each query.
+/// one event.
 pub fn answers_after_each<L: Ledger>(
     alloc: Global,
     engine: &mut Engine,
@@ -141,9 +157,6 @@ pub fn answers_after_each<L: Ledger>(
         let event = event_of(alloc, engine, line)?;
         take(engine, &event, &mut text, &mut steps)?;
         text.push_str("/ ")?;
-    }
-    for k in 0..engine.queries() {
-        write!(text, "{} ", engine.found(k + 1))?;
     }
     Ok(text)
 }

@@ -1,4 +1,7 @@
-use super::rows::{answers_after_each, engine_of};
+mod beside;
+mod generator;
+
+use super::rows::{answers_after_each, engine_of, states_found};
 use std::marker::Brand;
 use std::sync::ledger::Blank;
 use std::test::*;
@@ -13,43 +16,43 @@ const ROWS: &[(&str, &str, &str)] = &[
     (
         "SELECT * FROM S WHERE A ; B",
         "A,1;B,1;A,1;B,1",
-        "/ 0{1 0} / / 2{3 2} 0{3 0} / 3 ",
+        "/ 0{1,0} / / 2{3,2} 0{3,0} / 3 ",
     ),
     // Nothing may stand between.
     (
         "SELECT * FROM S WHERE A : B",
         "A,1;A,1;B,1;B,1",
-        "/ / 1{2 1} / / 2 ",
+        "/ / 1{2,1} / / 2 ",
     ),
     // A window by count has the two positions before the last.
     (
         "SELECT * FROM S WHERE A ; B WITHIN 2 EVENTS",
         "A,1;A,1;B,1;B,1",
-        "/ / 1{2 1} 0{2 0} / 1{3 1} / 3 ",
+        "/ / 1{2,1} 0{2,0} / 1{3,1} / 3 ",
     ),
     // Each key has its own substream.
     (
         "SELECT * FROM S WHERE A ; B PARTITION BY [v]",
         "A,1;A,2;B,2;B,1;B,3",
-        "/ / 1{2 1} / 0{3 0} / / 3 ",
+        "/ / 1{2,1} / 0{3,0} / / 3 ",
     ),
     // An event of another type is no answer's, and counts as a position.
     (
         "SELECT * FROM T WHERE A : A",
         "A,1;B,1;A,1",
-        "/ / 0{2 0} / 2 ",
+        "/ / 0{2,0} / 2 ",
     ),
     // A refused event leaves all as it was.
     (
         "SELECT * FROM S WHERE A ; B WITHIN 5 [v]",
         "A,3;B,2;B,8;B,9",
-        "/ query 1: 2 after 3 / 0{1 0} / / 3 ",
+        "/ query 1: 2 after 3 / 0{1,0} / / 3 ",
     ),
     // A filter reads the value.
     (
         "SELECT * FROM S WHERE A ; B FILTER B[v > 1]",
         "A,1;B,1;B,2",
-        "/ / 0{2 0} / 3 ",
+        "/ / 0{2,0} / 3 ",
     ),
 ];
 
@@ -64,6 +67,8 @@ fn answers_are_those_worked_out_by_hand(rt: HostRuntime) -> Result<(), Fail> {
             lines.as_bytes(),
             Blank::new(1),
         )?;
+        let states = states_found(rt.alloc(), &engine)?;
+        let found = format!(in rt.alloc(); "{found}{states}")?;
         assert_eq!(rt; found.as_str(), *expected);
     }
     Ok(())

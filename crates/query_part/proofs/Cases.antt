@@ -19,6 +19,12 @@ use Rattle.cel_terms.specs.Answers.{HasKey, HasClock}
 use Rattle.cea_determinise.specs.declared.cea.StateSets.{StateSets}
 use Rattle.cea_determinise.specs.Cea.{standing_of}
 use Rattle.event_update.specs.declared.Staged.{Staged}
+use Rattle.event_update.specs.declared.Staged.TheVariants.{Unchanged}
+use Rattle.event_update.specs.Still.{IsQuiet}
+use Rattle.event_update.proofs.GivenBack.{discovers_none}
+use Rattle.event_update.proofs.Turns.{grows_by_none}
+use Rattle.event_update.proofs.Resting.{resting_stand}
+use Rattle.query_standing.proofs.Lists.{got}
 use Rattle.event_update.specs.Reach.{Seen}
 use Rattle.event_update.specs.Stands.{seen, IsLater}
 use Rattle.event_update.specs.Update.{Discovers, rows_after, work_bound}
@@ -34,7 +40,7 @@ use Rattle.query_standing.proofs.Parts.{part_unread}
 use Rattle.query_standing.proofs.PartSteps.{part_no_key, part_keyed, part_with_key}
 use Rattle.query_standing.specs.Bounds.{update_bound}
 use Rattle.all_or_none.specs.Phases.{Grows, IsStep}
-use Rattle.query_part.specs.Matches.{Held, TakesKey, CanTake, IsReady}
+use Rattle.query_part.specs.Matches.{Held, HasRest, TakesKey, CanTake, IsReady}
 use Rattle.query_part.specs.Parts.{part_of, put_in}
 use Rattle.cea_determinise.specs.Det.{Table}
 use Rattle.query_part.proofs.Cuts.{mid_table, mid_nodes}
@@ -190,6 +196,43 @@ pub keyed_step : (schema : Declared) (q : Query) (event : Event) (position : ℕ
 keyed_step schema q event position bits key number staged old new c n now reads clock fits has_key bits_are r = record {
   stands = λ events len time s. keyed_stands schema q events event (record { pos = position; clock = now }) bits key number staged old new c n now reads (subst (λ p. HasClock schema q.window event p now) (sym len) clock) fits has_key bits_are (ap (λ p. record { pos = p; clock = now }) (sym len)) r time s;
   grows = keyed_grows schema q event (record { pos = position; clock = now }) bits key number staged old new c n now reads r;
+}
+
+set_same : {X : Type 0} (xs : List X) (n : ℕ) (d : X) → n < length xs → slice_set xs n (slice_index_or xs n d) ≡ xs
+set_same [] n d l = absurd (omega arith)
+set_same (x ∷ xs) zero d l = refl
+set_same (x ∷ xs) (suc n) d l = ap (λ zs. x ∷ zs) (set_same xs n d (omega arith))
+
+-- what is ready where a key's lists rest: nothing changes
+resting_ready : (schema : Declared) (q : Query) (events : List Event) (stamp : Stamp) (bits : List Bool) (places : List ℕ) (values : List Value) (number : ℕ) (h : Held) (c : Option ℤ) (n : Option ℕ) → IsQuiet bits → (r : HasRest h places values number) → PartStands schema q events (part_of h c n) → IsReady stamp bits r.key number Unchanged h h
+resting_ready schema q events stamp bits places values number h c n quiet r s = record {
+  mid = h;
+  takes = inl (got h.keys number r.key r.numbered, refl);
+  keys = refl;
+  rows = refl;
+  numbered = r.numbered;
+  before = r.rows;
+  before_is = r.at;
+  states = 0 ∷ map (λ (r : ℕ × List Root). r.0) r.rows;
+  states_are = refl;
+  table = discovers_none h.table (0 ∷ map (λ (r : ℕ × List Root). r.0) r.rows) bits;
+  sets = s.states.sets;
+  distinct = s.states.distinct;
+  nodes = grows_by_none stamp h.nodes s.nodes;
+  stands = λ low xs later st. resting_stand h.table low xs stamp bits h.nodes r.rows quiet r.rest later st;
+  growth = omega arith;
+}
+
+-- one that has a known key whose lists rest, and that no leaf can read
+pub resting_step : (schema : Declared) (q : Query) (event : Event) (position : ℕ) (bits : List Bool) (places : List ℕ) (values : List Value) (number : ℕ) (h : Held) (c : Option ℤ) (n : Option ℕ) (now : ℤ) → Reads schema q event → HasClock schema q.window event position now → least ≤ℤ low_of q.window now → has bits ≡ leaves_reading schema q event → IsQuiet bits → (r : HasRest h places values number) → HasKey schema q event r.key → IsStep schema q event position (part_of h c n) (part_of h (Some now) (Some number))
+resting_step schema q event position bits places values number h c n now reads clock fits bits_are quiet r has_key = record {
+  stands = λ events len time s. (
+      let stamp : Stamp = record { pos = position; clock = now } in
+      let stands = keyed_stands schema q events event stamp bits r.key number Unchanged h h c n now reads (subst (λ p. HasClock schema q.window event p now) (sym len) clock) fits has_key bits_are (ap (λ p. record { pos = p; clock = now }) (sym len)) (resting_ready schema q events stamp bits places values number h c n quiet r s) time s in
+      let rows = set_same h.rows number [] (slice_get_within h.rows number r.rows r.at) in
+      subst (λ rs. PartStands schema q (events ++ event ∷ []) (part_of (record h { rows = rs }) (Some now) (Some number))) rows stands
+      );
+  grows = nothing_new schema q event h c n (Some now) (Some number);
 }
 
 -- each key's lists can take in the next event

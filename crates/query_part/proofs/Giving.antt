@@ -75,6 +75,10 @@ gives schema q events h c n p low (Ok w) i s low_e given =
     let nodes : h.nodes ≡ p.kept.nodes = ap (λ (k : Part). k.nodes) i.kept_is in
     ap (rest w) (sym nodes) ∙ (given ∙ (ap (λ l. recent_of l h.nodes (entries_for h n)) low_e ∙ (ap (λ ns. recent_of (low_at p.query p.kept.clock) ns (entries_for h n)) nodes ∙ ap (recent_of (low_at p.query p.kept.clock) p.kept.nodes) roots)))
 
+-- where no list's entries are those of an accepting state, neither are the part's
+pub no_roots : (schema : Declared) (q : Query) (events : List Event) (h : Held) (c : Option ℤ) (n : Option ℕ) (p : Phase) → Idle schema q h c n p → PartStands schema q events (part_of h c n) → entries_for h n ≡ [] → roots_at p.query p.kept ≡ []
+no_roots schema q events h c n p i s none = sym (roots_same q h c n n s.states.automaton ∙ (ap (λ z. roots_at z (part_of h c n)) i.query_is ∙ ap (roots_at p.query) i.kept_is)) ∙ none
+
 pub if_ok : {A E : Type 0} (r : Result A E) (P Q : A → Type 0) → IfOk r P → ((x : A) → P x → Q x) → IfOk r Q
 if_ok (Ok x) P Q p f = f x p
 if_ok (Err e) P Q p f = tt

@@ -7,3 +7,4 @@ mod AtFirst
 mod Prepare
 mod Times
 mod Worked
+mod Resting

@@ -1,7 +1,7 @@
 -- What is known of a part when an event is prepared.
 use Rattle.std.proofs.Common.{◌≡◌, ℕ, ℤ, ◌≤ℤ◌, ◌<◌, Bool, true, false, List, [], ◌∷◌, slice_index_or, length, refl, sym, ap, subst, ◌∙◌, Option, Some, None, slice_get, arith}
 use Rattle.std.specs.Prelude.{IsSomeAnd, option_and_then, option_map, bytes_eq}
-use Rattle.std.proofs.lemmas.Bool.{false≢true}
+use Rattle.std.proofs.lemmas.Bool.{false≢true, and_parts}
 use Rattle.std.proofs.lemmas.Option.{slice_get_within}
 use Rattle.cel_plain.specs.Below.{query_reads as reads}
 use Rattle.query_standing.specs.Clocks.{Reads}
@@ -35,15 +35,17 @@ use Rattle.query_standing.specs.Clocks.{FallsBack, least, low_of}
 use Rattle.query_standing.specs.Kept.{PartStands}
 use Rattle.all_or_none.specs.Phases.{Phase, CanPrepare, IsIdle}
 use Rattle.query_part.specs.declared.part.Step.{Step}
-use Rattle.query_part.specs.declared.part.Step.TheVariants.{Unread, NoKey, Keyed}
+use Rattle.query_part.specs.declared.part.Step.TheVariants.{Unread, NoKey, Resting, Keyed}
 use Rattle.query_part.specs.Matches.{Held, IsReady}
 use Rattle.query_part.specs.Parts.{part_of, kept_of, ready_of, AreTypesRead, IsMade}
+use Rattle.partition_table.specs.Keys.{is_at, are_at, Decides-value}
 use Rattle.query_part.proofs.Cuts.{mid_table}
 
 idle_kept : (step : Option Step) (h : Held) (c : Option ℤ) (n : Option ℕ) → ready_of step h c n ≡ None → kept_of step h c n ≡ part_of h c n
 idle_kept None h c n e = refl
 idle_kept (Some Unread) h c n e = absurd cc
 idle_kept (Some (NoKey now)) h c n e = absurd cc
+idle_kept (Some (Resting now number)) h c n e = absurd cc
 idle_kept (Some (Keyed now r)) h c n e = absurd cc
 
 -- For some events the part is as it is.
@@ -117,6 +119,10 @@ made_after schema q types places listed source bits more stamp key number staged
       room = same ∙ (m.room ∙ ap room_for (sym (cea ∙ size)));
     }
 
+-- they stay so with another set of leaves
+pub made_filled : (schema : Declared) (q : Query) (types : List Bool) (places : List (Option (List ℕ))) (listed : List Leaf) (source : Source) (bits more : List Bool) (h : Held) → IsMade schema q types places listed source bits h → length more ≡ length bits → IsMade schema q types places listed source more h
+made_filled schema q types places listed source bits more h m same = record { types = m.types; keys = m.keys; clock = m.clock; clocks = m.clocks; leaves = m.leaves; size = m.size; room = same ∙ m.room }
+
 pub number_inside : (stamp : Stamp) (bits : List Bool) (key : List Value) (number : ℕ) (staged : Staged) (old new : Held) → IsReady stamp bits key number staged old new → number < length new.rows
 number_inside stamp bits key number staged old new r =
     let inside = slice_get_within r.mid.rows number r.before r.before_is in
@@ -175,3 +181,20 @@ values_through schema event (n ∷ ns) = go (attr_at schema event.ty n.text) (at
 -- the key that is read by the table is the event's
 pub key_through : (schema : Declared) (q : Query) (places : List (Option (List ℕ))) (event : Event) → AreKeyPlaces schema q places → IsOfSchema schema event → key_there places event ≡ values_at schema q.partition event
 key_through schema q places event are of = ap (option_and_then (λ ps. values_there ps event.values)) (are event.ty (type_below schema.types event.ty _ of)) ∙ values_through schema event q.partition
+
+-- the values at the places, where they are those of the key
+pub values_are : (key : List Value) (places : List ℕ) (values : List Value) → are_at key places values ≡ true → values_there places values ≡ Some key
+values_are [] [] values e = refl
+values_are [] (p ∷ ps) values e = absurd cc
+values_are (k ∷ ks) [] values e = absurd cc
+values_are (k ∷ ks) (p ∷ ps) values e =
+    let both = and_parts (is_at k (slice_get values p)) (are_at ks ps values) e in
+    go (slice_get values p) both.0 (values_are ks ps values both.1)
+  where
+    go : (o : Option Value) → is_at k o ≡ true → values_there ps values ≡ Some ks → option_and_then (λ v. option_map (λ vs. v ∷ vs) (values_there ps values)) o ≡ Some (k ∷ ks)
+    go None e later = absurd cc
+    go (Some v) e later = ap (option_map (λ vs. v ∷ vs)) later ∙ ap (λ z. Some (z ∷ ks)) (sym ((Decides-value k v).0 e))
+
+-- a key of the values at the places of the event's type is the event's
+pub key_found : (schema : Declared) (q : Query) (table : List (Option (List ℕ))) (event : Event) (places : List ℕ) (key : List Value) → AreKeyPlaces schema q table → IsOfSchema schema event → slice_index_or table event.ty None ≡ Some places → are_at key places event.values ≡ true → values_at schema q.partition event ≡ Some key
+key_found schema q table event places key are of here at = sym (key_through schema q table event are of) ∙ (ap (option_and_then (λ ps. values_there ps event.values)) here ∙ values_are key places event.values at)

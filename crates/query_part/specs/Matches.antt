@@ -1,5 +1,5 @@
 -- The open matches of a query, key by key, and what a key's event makes of them.
-use Rattle.std.specs.Prelude.{◌≡◌, ℕ, ◌+◌, ℤ, ◌≤◌, ◌⊎◌, Bool, List, [], ◌∷◌, ◌++◌, length, map, take, All, Contains, Option, Some, None, slice_get, slice_index_or}
+use Rattle.std.specs.Prelude.{◌≡◌, ℕ, ◌+◌, ℤ, ◌≤◌, ◌⊎◌, Bool, true, List, [], ◌∷◌, ◌++◌, length, map, take, All, Contains, Option, Some, None, slice_get, slice_index_or}
 use Rattle.std.specs.List.{IsDistinct}
 use Rattle.stream_schema.specs.declared.Value.{Value}
 use Rattle.cer_base.specs.declared.node.Stamp.{Stamp}
@@ -14,7 +14,10 @@ use Rattle.event_update.specs.Reach.{Seen}
 use Rattle.event_update.specs.Stands.{seen, IsLater, Stands, CanAdvance}
 use Rattle.event_update.specs.Update.{Discovers, GrowsBy, rows_after, work_bound, IsWithinWork, accepted_entries}
 use Rattle.query_standing.specs.Kept.{Rows}
+use Rattle.event_update.specs.Still.{Rest}
+use Rattle.partition_table.specs.Keys.{are_at}
 use Rattle.query_part.specs.declared.matches.Marks.{Marks}
+use Rattle.query_part.specs.declared.matches.Lists.{Lists}
 
 -- What contracts see of the open matches: the states, the nodes, and the keys with the lists of each.
 pub record Held : Type 0 where
@@ -22,6 +25,19 @@ pub record Held : Type 0 where
   pub nodes : List Node
   pub keys : List (List Value)
   pub rows : List Rows
+
+-- lists that are known to rest do
+abbrev pub MayRest : Table → Lists → Type 0
+MayRest t l = l.rests ≡ true → Rest t l.active.entries
+
+-- The number is that of a key that has the values at the places, and whose lists rest.
+pub record HasRest (h : Held) (places : List ℕ) (values : List Value) (number : ℕ) : Type 0 where
+  pub key : List Value
+  pub numbered : slice_get h.keys number ≡ Some key
+  pub has : are_at key places values ≡ true
+  pub rows : Rows
+  pub at : slice_get h.rows number ≡ Some rows
+  pub rest : Rest h.table rows
 
 -- no open match, and no state met
 abbrev pub none_open : Cea → Held

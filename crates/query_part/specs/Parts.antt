@@ -22,7 +22,7 @@ use Rattle.query_standing.specs.Clocks.{Reads}
 use Rattle.query_standing.specs.Keys.{leaves_reading}
 use Rattle.query_standing.specs.Kept.{Part}
 use Rattle.query_part.specs.declared.part.Step.{Step}
-use Rattle.query_part.specs.declared.part.Step.TheVariants.{Unread, NoKey, Keyed}
+use Rattle.query_part.specs.declared.part.Step.TheVariants.{Unread, NoKey, Resting, Keyed}
 use Rattle.query_part.specs.KeyPlaces.{AreKeyPlaces}
 use Rattle.query_part.specs.Matches.{Held, none_open, cut, CanCut}
 
@@ -38,6 +38,7 @@ abbrev pub kept_of : Option Step → Held → Option ℤ → Option ℕ → Part
 kept_of None h clock here = part_of h clock here
 kept_of (Some Unread) h clock here = part_of h clock here
 kept_of (Some (NoKey now)) h clock here = part_of h clock here
+kept_of (Some (Resting now number)) h clock here = part_of h clock here
 kept_of (Some (Keyed now r)) h clock here = part_of (cut r.marks h) clock here
 
 -- what a commit makes of it
@@ -45,6 +46,7 @@ abbrev pub ready_of : Option Step → Held → Option ℤ → Option ℕ → Opt
 ready_of None h clock here = None
 ready_of (Some Unread) h clock here = Some (part_of h clock None)
 ready_of (Some (NoKey now)) h clock here = Some (part_of h (Some now) None)
+ready_of (Some (Resting now number)) h clock here = Some (part_of h (Some now) (Some number))
 ready_of (Some (Keyed now r)) h clock here = Some (part_of (put_in r.number r.staged h) (Some now) (Some r.number))
 
 -- what was prepared can be put in, and taken back
@@ -52,6 +54,7 @@ abbrev pub CanEnd : Option Step → Held → Type 0
 CanEnd None h = Unit {0}
 CanEnd (Some Unread) h = Unit {0}
 CanEnd (Some (NoKey now)) h = IsNear now
+CanEnd (Some (Resting now number)) h = IsNear now
 CanEnd (Some (Keyed now r)) h = IsNear now × CanCut r.marks h × (r.number < length h.rows)
 
 -- whether one of the query's streams has the type

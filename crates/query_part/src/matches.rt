@@ -1,15 +1,18 @@
 //! The open matches of a query, key by key.
 
-ghost use Rattle.std.specs.Prelude.{◌≡◌, ℕ, ◌+◌, ◌*◌, ◌<◌, ◌≤◌, ◌⊎◌, List, [], ◌∷◌, ◌++◌, length, map, Contains, Some, slice_get, slice_set, slice_index_or, IfOk, OnOk, OnErr, IfNone, MatchOption};
+ghost use Rattle.std.specs.Prelude.{◌≡◌, ℕ, ◌+◌, ◌*◌, ◌<◌, ◌≤◌, ◌⊎◌, false, List, [], ◌∷◌, ◌++◌, length, map, All, Contains, Some, slice_get, slice_set, slice_index_or, IfOk, OnOk, OnErr, IfNone, MatchOption, IfSome, true};
 ghost use Rattle.cer_base.specs.Bits.{room_for};
 ghost use Rattle.cer_base.specs.Nodes.{AreInStep, WellFormed};
 ghost use Rattle.cer_base.specs.declared.node.Node.{Node as NodeData};
 ghost use Rattle.cer_base.specs.declared.node.Node.TheVariants.{Bottom};
 ghost use Rattle.cea_determinise.specs.Cea.{IsWellFormed};
-ghost use Rattle.cea_determinise.specs.Det.{IsSound};
+ghost use Rattle.cea_determinise.specs.Det.{Table, IsSound};
+ghost use Rattle.event_update.specs.Still.{IsQuiet, Rest};
+ghost use Rattle.event_update.specs.declared.Staged.TheVariants.{Unchanged};
+ghost use Rattle.query_standing.specs.Kept.{Rows};
 ghost use Rattle.event_update.specs.Update.{rows_after, work_bound};
 ghost use Rattle.tecs_enumerate.specs.Rest.{rest, recent_of, Fits};
-ghost use Rattle.query_part.specs.Matches.{Held, none_open, cut, CanCut, AreMarks, TakesKey, CanTake, IsReady, HasWorked, CanList, entries_for};
+ghost use Rattle.query_part.specs.Matches.{Held, MayRest, HasRest, none_open, cut, CanCut, AreMarks, TakesKey, CanTake, IsReady, HasWorked, CanList, entries_for};
 
 use cea_determinise::cea::Cea;
 use cea_determinise::det::Det;
@@ -19,12 +22,13 @@ use cer_base::bits::Bits;
 use cer_base::node::{Root, Stamp};
 use cer_base::steps::Steps;
 use cer_base::store::NodeStore;
+use event_update::still::some_accepts;
 use event_update::{Active, Staged, commit, prepare, roots};
-use indexmap::IndexMap;
 use partition_table::{Key, Keys};
 use std::alloc::Global;
 use std::marker::Model;
 use std::sync::ledger::Ledger;
+use stream_schema::Value;
 use tecs_arena::Arena;
 use tecs_enumerate::Cursor;
 
@@ -44,6 +48,14 @@ pub struct Ready {
     pub staged: Staged,
 }
 
+/// The lists of a key.
+#[derive(Drop)]
+pub struct Lists {
+    pub active: Active,
+    /// Whether an event that no leaf can read is known to leave them as they are.
+    pub rests: bool,
+}
+
 /// The open matches of a query.
 #[derive(Drop)]
 pub struct Matches {
@@ -51,12 +63,13 @@ pub struct Matches {
     det: Det,
     store: Arena,
     keys: Keys,
-    actives: Vec<Active>,
+    /// For each key, by its number.
+    lists: Vec<Lists>,
 }
 
 impl Model for Matches {
-    ghost use Rattle.std.specs.Prelude.{◌≡◌, length, map};
-    ghost use Rattle.query_part.specs.Matches.{Held};
+    ghost use Rattle.std.specs.Prelude.{◌≡◌, length, map, All};
+    ghost use Rattle.query_part.specs.Matches.{Held, MayRest};
 
     ghost Value = { Held };
 
@@ -64,10 +77,67 @@ impl Model for Matches {
       table = m.det;
       nodes = m.store;
       keys = m.keys;
-      rows = map (λ a. a.entries) m.actives.items;
+      rows = map (λ l. l.active.entries) m.lists.items;
     } };
 
-    ghost invariant = { λ m. length m.keys ≡ length m.actives.items };
+    ghost invariant = { λ m. (length m.keys ≡ length m.lists.items)
+        × All (MayRest m.det) m.lists.items };
+}
+
+impl Lists {
+    /// Those of a new key, which are none.
+    fn none(alloc: Global) -> Lists
+        ensures none { result.active.entries ≡ [] }
+        ensures rests { (t : Table) → MayRest t result }
+    {
+        Lists {
+            active: Active::new(alloc),
+            rests: true,
+        }
+    }
+
+    /// Puts them in place. Where they change they are not known to rest.
+    fn put(&mut self, staged: Staged)
+        ensures rows { self.new.active.entries ≡ rows_after self.old.active.entries staged }
+        ensures rests { (t : Table) → MayRest t self.old → MayRest t self.new }
+    {
+        let stays = is_unchanged(&staged);
+        commit(&mut self.active, staged);
+        if !stays {
+            self.rests = false;
+        }
+    }
+}
+
+/// Whether no list changes.
+fn is_unchanged(staged: &Staged) -> bool
+    ensures { result ≡ true → staged.now ≡ Unchanged }
+{
+    matches!(staged, Staged::Unchanged)
+}
+
+/// Notes that the key's lists rest, where an event that no leaf can read leaves them as they are.
+fn note(lists: &mut [Lists], number: u64, bits: &Bits, staged: &Staged)
+    requires inside { number < length lists.old }
+    ensures rows { map (λ l. l.active.entries) lists.new ≡ map (λ l. l.active.entries) lists.old }
+    ensures rests { (t : Table) → All (MayRest t) lists.old → ((rows : Rows) → slice_get
+        (map (λ l. l.active.entries) lists.old) number ≡ Some rows → IsQuiet bits.now → staged.now
+        ≡ Unchanged → Rest t rows) → All (MayRest t) lists.new }
+{
+    if !is_unchanged(staged) || !bits.is_empty() {
+        return;
+    }
+    lists[number as usize].rests = true;
+}
+
+/// Forgets which lists rest.
+fn wake(lists: &mut [Lists])
+    ensures rows { map (λ l. l.active.entries) lists.new ≡ map (λ l. l.active.entries) lists.old }
+    ensures rests { (t : Table) → All (MayRest t) lists.new }
+{
+    for k in 0..lists.len() {
+        lists[k].rests = false;
+    }
 }
 
 impl Matches {
@@ -81,7 +151,7 @@ impl Matches {
             det: Det::new(alloc, cea),
             store: Arena::new(alloc),
             keys: Keys::new(alloc),
-            actives: Vec::new(alloc),
+            lists: Vec::new(alloc),
         }
     }
 
@@ -105,7 +175,8 @@ impl Matches {
         self.det.back(marks.det);
         self.store.cut_to(marks.nodes);
         self.keys.cut_to(marks.keys);
-        self.actives.truncate(marks.keys as usize);
+        self.lists.truncate(marks.keys as usize);
+        wake(self.lists.as_mut_slice());
     }
 
     /// The key's number, which is the next one where the key is new.
@@ -117,13 +188,28 @@ impl Matches {
         if let Some(number) = self.keys.get(key) {
             return Ok(number);
         }
-        self.actives.push(IndexMap::new(self.alloc))?;
+        self.lists.push(Lists::none(self.alloc))?;
         match self.keys.number(key) {
             Ok(number) => Ok(number),
             Err(refused) => {
-                let _none = self.actives.pop();
+                let _none = self.lists.pop();
                 Err(refused)
             }
+        }
+    }
+
+    /// The number of the key of the values at the places, where it is found without a search, its
+    /// lists are known to rest, and no leaf can read the event.
+    pub fn resting(&self, places: &[u64], values: &[Value], bits: &Bits) -> Option<u64>
+        ensures quiet { IfSome result (λ n. IsQuiet bits.now) }
+        ensures rest { IfSome result (HasRest self.now places.now values.now) }
+    {
+        if !bits.is_empty() {
+            return None;
+        }
+        match self.keys.find(places, values) {
+            Some(number) if self.lists[number as usize].rests => Some(number),
+            _ => None,
         }
     }
 
@@ -151,11 +237,12 @@ impl Matches {
     {
         let marks = self.marks();
         let number = self.number(key)?;
-        let active = &self.actives[number as usize];
+        let active = &self.lists[number as usize].active;
         match prepare(active, &mut self.store, &mut self.det, bits, stamp, steps) {
             Ok(staged) => {
                 let _mark = self.det.mark();
                 let _found = self.det.found();
+                note(self.lists.as_mut_slice(), number, bits, &staged);
                 Ok(Ready {
                     marks,
                     number,
@@ -177,7 +264,7 @@ impl Matches {
               (rows_after (slice_index_or self.old.rows number []) staged);
         } }
     {
-        commit(&mut self.actives[number as usize], staged);
+        self.lists[number as usize].put(staged);
     }
 
     /// How many states were found.
@@ -202,7 +289,21 @@ impl Matches {
     {
         match key {
             None => Ok(Vec::new(self.alloc)),
-            Some(number) => roots(&self.actives[number as usize], &self.det, steps),
+            Some(number) => roots(&self.lists[number as usize].active, &self.det, steps),
+        }
+    }
+
+    /// Whether some state of the key's lists accepts, none where no key is told. It takes no step.
+    pub fn may_list(&self, key: Option<u64>) -> bool
+        requires stands { CanList self.now key }
+        ensures none { result ≡ false → entries_for self.now key ≡ [] }
+    {
+        match key {
+            None => false,
+            Some(number) => {
+                let lists = &self.lists[number as usize];
+                !lists.rests && some_accepts(&lists.active, &self.det)
+            }
         }
     }
 

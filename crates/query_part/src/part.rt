@@ -1,6 +1,6 @@
 //! What is kept of one query, and what an event makes of it in two phases.
 
-ghost use Rattle.std.specs.Prelude.{◌≡◌, ◌≢◌, ℕ, ◌+◌, ◌*◌, ◌≤◌, List, [], ◌∷◌, length, None, IfOk, IfSome, IfNone, MatchOption, OnOk, OnErr};
+ghost use Rattle.std.specs.Prelude.{◌≡◌, ◌≢◌, ℕ, ◌+◌, ◌*◌, ◌≤◌, false, List, [], ◌∷◌, length, Some, None, slice_index_or, IfOk, IfSome, IfNone, MatchOption, OnOk, OnErr};
 ghost use Rattle.stream_schema.specs.declared.Event.{Event as EventData};
 ghost use Rattle.stream_schema.specs.Events.{IsOfSchema};
 ghost use Rattle.cel_terms.specs.Checked.{IsChecked};
@@ -9,12 +9,14 @@ ghost use Rattle.query_standing.specs.Clocks.{Reads, FallsBack};
 ghost use Rattle.query_standing.specs.Kept.{PartStands, low_at, roots_at};
 ghost use Rattle.all_or_none.specs.Phases.{IsPrepared, IsIdle, back, IsCommitted, CanPrepare, StandsAt, InTime, part_bound};
 ghost use Rattle.window_clock.specs.Places.{IsNear, IsOf, HasWidth, clock_in};
+ghost use Rattle.event_update.specs.Still.{IsQuiet};
 ghost use Rattle.query_part.specs.KeyPlaces.{AreKeyPlaces};
+ghost use Rattle.query_part.specs.Matches.{HasRest};
 ghost use Rattle.query_part.specs.Parts.{AreTypesRead, IsMachineOf, HaveClocks, HasEvents};
 
 use crate::machine::{Machine, Reading};
 use crate::matches::{Matches, Ready};
-use crate::reading::{Places, is_read, key_of};
+use crate::reading::{Places, is_read, key_of, places_of};
 use all_or_none::Keeps;
 use cel_terms::Query;
 use cer_base::bits::Bits;
@@ -36,6 +38,8 @@ pub enum Step {
     Unread,
     /// It has no key. Its clock.
     NoKey(i128),
+    /// It has a key with this number, whose lists rest, and no leaf can read it. Its clock.
+    Resting(i128, u64),
     /// It has a key. Its clock, and the key's lists.
     Keyed(i128, Ready),
 }
@@ -164,6 +168,16 @@ impl Part {
         }
     }
 
+    /// Whether a cursor that is opened now may give an answer: whether some state of the lists of
+    /// the last event's key accepts. It takes no step.
+    pub fn may_answer(&self) -> bool
+        requires idle { IsIdle self.now }
+        requires events { HasEvents self.now }
+        ensures none { result ≡ false → roots_at self.now.query self.now.kept ≡ [] }
+    {
+        self.matches.may_list(self.here)
+    }
+
     /// A cursor with the query's number on the answers at the last event.
     pub fn cursor<L: Ledger>(&self, number: u64, steps: &mut Steps<L>) -> Result<Cursor, Memory>
         requires idle { IsIdle self.now }
@@ -200,6 +214,20 @@ impl Part {
     }
 }
 
+/// The number of the event's key, where it is found without a search, its lists are known to rest,
+/// and no leaf can read the event.
+fn resting(matches: &Matches, table: &[Option<Places>], event: &Event, bits: &Bits) -> Option<u64>
+    ensures quiet { IfSome result (λ n. IsQuiet bits.now) }
+    ensures rest { IfSome result (λ n. (places : List ℕ)
+        × (slice_index_or table.now event.now.ty None ≡ Some places) × HasRest matches.now places
+        event.now.values n) }
+{
+    match places_of(table, event.ty) {
+        Some(places) => matches.resting(places, event.values.as_slice(), bits),
+        None => None,
+    }
+}
+
 impl Keeps for Part {
     ghost phase = { λ p. p };
 
@@ -214,13 +242,17 @@ impl Keeps for Part {
             return Ok(());
         }
         let clock = self.clock.now(event, position);
+        self.conditions.fill(event, &mut self.bits);
+        if let Some(number) = resting(&self.matches, self.keys.as_slice(), event, &self.bits) {
+            self.step = Some(Step::Resting(clock, number));
+            return Ok(());
+        }
         match key_of(self.alloc, self.keys.as_slice(), event)? {
             None => {
                 self.step = Some(Step::NoKey(clock));
                 Ok(())
             }
             Some(key) => {
-                self.conditions.fill(event, &mut self.bits);
                 let stamp = Stamp {
                     pos: position,
                     clock,
@@ -239,6 +271,10 @@ impl Keeps for Part {
             Some(Step::NoKey(now)) => {
                 self.clock.set(now);
                 self.here = None;
+            }
+            Some(Step::Resting(now, number)) => {
+                self.clock.set(now);
+                self.here = Some(number);
             }
             Some(Step::Keyed(now, ready)) => {
                 self.clock.set(now);

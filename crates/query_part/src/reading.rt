@@ -139,6 +139,16 @@ fn values_of(alloc: Global, places: &[u64], event: &Event) -> Result<Option<Vec<
     Ok(Some(values))
 }
 
+/// The places of the key's attributes in the events of the type, where it has all.
+pub fn places_of(table: &[Option<Places>], ty: TypeId) -> Option<&[u64]>
+    ensures { option_copied result ≡ slice_index_or table.now ty None }
+{
+    match table.get(ty as usize) {
+        Some(Some(places)) => Some(places.as_slice()),
+        _ => None,
+    }
+}
+
 /// The event's key, where its type has the attributes.
 pub fn key_of(alloc: Global, table: &[Option<Places>], event: &Event) -> Result<Option<Key>, Memory>
     ensures { IfOk result (λ o. o ≡ key_there table.now event.now) }

@@ -1,5 +1,5 @@
 -- Lists that are ready for an event are ready for the next one after it.
-use Rattle.std.proofs.Common.{◌≡◌, ℕ, zero, suc, ◌+◌, ◌<◌, List, [], ◌∷◌, ◌++◌, length, refl, sym, ap, subst, ◌∙◌, inl, inr, All, Some, slice_get, arith}
+use Rattle.std.proofs.Common.{◌≡◌, ℕ, zero, suc, ◌+◌, ◌<◌, List, [], ◌∷◌, ◌++◌, map, length, refl, sym, ap, subst, ◌∙◌, inl, inr, All, Some, slice_get, arith}
 use Rattle.std.proofs.lemmas.Int.{ints}
 use Rattle.std.specs.Prelude.{pos, Bool}
 use Rattle.std.proofs.lemmas.List.Elements.{All-nil, All-cons, All-head, All-tail, All-weaker, All-append}
@@ -53,8 +53,8 @@ module _ (t : Table) (nodes : List Node) (rows : List (ℕ × List Root)) (next 
     stand = stand;
   }
 
--- the entries of a list are roots
-pub row_roots : (nodes : List Node) (rows : List (ℕ × List Root)) (k n : ℕ) (l : List Root) → All (λ (r : ℕ × List Root). IsUnionList nodes r.1) rows → slice_get rows k ≡ Some (n, l) → All (IsRoot nodes) l
-row_roots nodes [] k n l h e = absurd cc
-row_roots nodes (r ∷ rows) zero n l h e = let same : r ≡ (n, l) = cc in (subst (λ (q : ℕ × List Root). IsUnionList nodes q.1) same (All-head (λ (q : ℕ × List Root). IsUnionList nodes q.1) r rows h)).roots
-row_roots nodes (r ∷ rows) (suc k) n l h e = row_roots nodes rows k n l (All-tail (λ (q : ℕ × List Root). IsUnionList nodes q.1) r rows h) e
+-- the entries of the list at a place are roots
+pub roots_at : (nodes : List Node) (rows : List (ℕ × List Root)) (k : ℕ) (l : List Root) → All (λ (r : ℕ × List Root). IsUnionList nodes r.1) rows → slice_get (map (λ (r : ℕ × List Root). r.1) rows) k ≡ Some l → All (IsRoot nodes) l
+roots_at nodes [] k l h at = absurd cc
+roots_at nodes (r ∷ rows) zero l h at = let same : r.1 ≡ l = cc in subst (All (IsRoot nodes)) same (All-head (λ (s : ℕ × List Root). IsUnionList nodes s.1) r rows h).roots
+roots_at nodes (r ∷ rows) (suc k) l h at = roots_at nodes rows k l (All-tail (λ (s : ℕ × List Root). IsUnionList nodes s.1) r rows h) at

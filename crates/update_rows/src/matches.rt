@@ -13,7 +13,6 @@ use cer_base::node::Stamp;
 use cer_base::steps::Steps;
 use cer_base::{Memory, Pos};
 use event_update::{Active, commit, prepare};
-use indexmap::IndexMap;
 use std::alloc::Global;
 use std::marker::Model;
 use std::sync::ledger::Ledger;
@@ -71,7 +70,7 @@ impl OpenMatches {
         OpenMatches {
             det: Det::new(alloc, cea),
             store: Arena::new(alloc),
-            active: IndexMap::new(alloc),
+            active: Active::new(alloc),
             next: 0,
         }
     }
@@ -108,9 +107,8 @@ impl OpenMatches {
         steps: &mut Steps<L>,
     ) -> Result<(), Memory> {
         for k in 0..self.active.len() {
-            if let Some((state, list)) = self.active.get_index(k) {
-                write_list(alloc, &self.store, *state, list, text, steps)?;
-            }
+            let state = self.active.state(k);
+            write_list(alloc, &self.store, state, self.active.list(k), text, steps)?;
         }
         Ok(())
     }

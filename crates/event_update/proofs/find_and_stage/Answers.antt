@@ -1,5 +1,5 @@
-use Rattle.std.proofs.Common.{◌∷◌, ◌++◌, [], List, Bool, subst}
-use Rattle.indexmap.specs.IndexMap.{keys}
+use Rattle.std.proofs.Common.{arith, ◌∷◌, ◌++◌, [], List, Bool, subst}
+use Rattle.event_update.specs.ActiveLists.{keys}
 use Rattle.cea_determinise.proofs.Classes.{class_is, class_within}
 use Rattle.event_update.specs.Stands.{Stands, seen}
 use Rattle.event_update.specs.Update.{Discovers, rows_after}
@@ -30,3 +30,8 @@ pub returns-clause-det : goal.returns-clause-det
 returns-clause-det g c =
     let is = class_is c.class.new.self.classes c.in_ok-class.class c.args.bits.now c.in_ok-class.ensures.class in
     discovers_added _ _ _ c.class.ensures.added _ _ _ (subst (λ (bs : List Bool). Discovers c.class.new.self (0 ∷ keys c.args.active.now) bs c.prepare_with.new.det) is c.prepare_with.ensures.det)
+
+pub returns-clause-counted : goal.returns-clause-counted
+returns-clause-counted g c =
+    let one = c.class.ensures.steps in
+    if_ok c.prepare_with.result _ _ (λ s counted. omega (arith, one, counted)) c.prepare_with.ensures.counted

@@ -1,5 +1,5 @@
 use Rattle.std.proofs.Common.{arith, subst, sym, ◌∷◌}
-use Rattle.indexmap.specs.IndexMap.{keys}
+use Rattle.event_update.specs.ActiveLists.{keys}
 use Rattle.cea_determinise.specs.Det.{Table}
 use Rattle.event_update.specs.Update.{Discovers}
 use Rattle.event_update.proofs.GivenBack.{discovers_none, states_more, pairs_more, classes_more, stay_so, back_so}

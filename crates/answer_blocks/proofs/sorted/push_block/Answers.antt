@@ -1,11 +1,12 @@
 -- The lines of what was pulled, sorted, are a block.
-use Rattle.std.proofs.Common.{◌≡◌, ℕ, ◌-◌, List, ◌++◌, sym, ◌∙◌, ap, subst, flat_map, Result, Ok, Err}
+use Rattle.std.proofs.Common.{◌≡◌, ℕ, ◌-◌, List, ◌++◌, refl, sym, ◌∙◌, ap, subst, flat_map, Result, Ok, Err}
 use Rattle.std.specs.Prelude.{OnOk}
+use Rattle.std.proofs.lemmas.List.{append-nil}
 use Rattle.cel_terms.specs.Answers.{Answer}
 use Rattle.answer_text.specs.Output.{line}
 use Rattle.answer_text.specs.declared.Order.TheVariants.{Sorted}
 use Rattle.answer_blocks.specs.Wanted.{AreWanted}
-use Rattle.answer_blocks.proofs.Joined.{block_pulled}
+use Rattle.answer_blocks.proofs.Joined.{block_pulled, no_block}
 use Rattle.answer_blocks.proofs.sorted.push_block.Goals as goal
 
 on_ok : {T E : Type 0} (P Q : Type 0) (r : Result T E) → (P → Q) → OnOk r P → OnOk r Q
@@ -25,3 +26,7 @@ returns-clause-block g c =
     (λ events stands. ap (λ (n : ℕ). n - 1) (c.events.ensures.length events stands))
     (is ∙ ap (λ (l : List Answer). start ++ flat_map (line number end) l) c.as_slice.ensures.value))
     c.push_lines.ensures.lines
+
+pub returns-then-not-may_answer-clause-block : goal.returns-then-not-may_answer-clause-block
+returns-then-not-may_answer-clause-block g c =
+    no_block Sorted c.args.engine.now c.args.number _ (c.if-not-may_answer.ensures.none refl) (sym (append-nil c.args.text.now.items))

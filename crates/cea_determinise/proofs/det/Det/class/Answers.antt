@@ -1,31 +1,29 @@
-use Rattle.std.proofs.Common.{◌≡◌, refl, sym, ◌∙◌, ap, subst, ◌++◌, ◌∷◌, [], List, Bool, true, Some, slice_get, Contains, length}
+use Rattle.std.proofs.Common.{◌≡◌, refl, sym, ◌∙◌, ap, subst, ◌++◌, ◌∷◌, [], List, Bool, true, false, length}
+use Rattle.std.specs.List.{list_any}
 use Rattle.std.proofs.lemmas.List.Elements.{All-nil, All-cons}
 use Rattle.indexmap.specs.IndexSet.{insert_key}
 use Rattle.cer_base.specs.Bits.{room_for}
 use Rattle.cea_determinise.specs.Keys.{is_same_set}
 use Rattle.cea_determinise.specs.Det.{Table, IsSound}
 use Rattle.cea_determinise.proofs.Growth.{sound_class}
-use Rattle.cea_determinise.proofs.Classes.{class_found, class_absent, class_last, class_stored}
+use Rattle.cea_determinise.proofs.Classes.{class_absent, class_last, class_stored}
 use Rattle.cea_determinise.proofs.det.Det.class.Goals as goal
 
-pub returns-in-Some-clause-class : goal.returns-in-Some-clause-class
-returns-in-Some-clause-class g c =
-    subst (λ (t : Table). slice_get t.classes c.in-Some.class ≡ Some c.args.bits.now) c.self.view_is (class_found c.args.bits.now c.self.inside.classes.keys c.in-Some.class (sym c.get_index_of.ensures.index ∙ c.in-Some.is))
-
 pub returns-in_err-copy-clause-known : goal.returns-in_err-copy-clause-known
-returns-in_err-copy-clause-known g c h = absurd (class_absent c.args.bits.now c.self.inside.classes.keys (sym c.in_default.ensures.found) (subst (λ (t : Table). Contains t.classes c.args.bits.now) (sym c.self.view_is) h))
+returns-in_err-copy-clause-known g c h = absurd (class_absent c.args.bits.now c.args.self.now.classes c.in_default.ensures.absent h)
 
 pub returns-in_err-class-clause-known : goal.returns-in_err-class-clause-known
-returns-in_err-class-clause-known g c h = absurd (class_absent c.args.bits.now c.self.inside.classes.keys (sym c.in_default.ensures.found) (subst (λ (t : Table). Contains t.classes c.args.bits.now) (sym c.self.view_is) h))
+returns-in_err-class-clause-known g c h = absurd (class_absent c.args.bits.now c.args.self.now.classes c.in_default.ensures.absent h)
 
 pub returns-clause-known : goal.returns-clause-known
-returns-clause-known g c h = absurd (class_absent c.args.bits.now c.self.inside.classes.keys (sym c.in_default.ensures.found) (subst (λ (t : Table). Contains t.classes c.args.bits.now) (sym c.self.view_is) h))
+returns-clause-known g c h = absurd (class_absent c.args.bits.now c.args.self.now.classes c.in_default.ensures.absent h)
 
 pub invariant_of-self-2 : goal.invariant_of-self-2
 invariant_of-self-2 g c =
     let t : Table = record { cea = c.self.inside.cea; states = c.self.inside.states.keys; classes = c.self.inside.classes.keys; transitions = c.self.inside.transitions.entries } in
     let b = c.args.bits.now in
-    let last : c.insert_full.new.self.keys ≡ t.classes ++ b ∷ [] = c.in_ok-class.ensures.keys ∙ ap (insert_key is_same_set t.classes) c.in_ok-copy.ensures ∙ class_last b t.classes (sym c.in_default.ensures.found) in
+    let absent = subst (λ (o : Table). list_any (is_same_set b) o.classes ≡ false) (sym c.self.view_is) c.in_default.ensures.absent in
+    let last : c.insert_full.new.self.keys ≡ t.classes ++ b ∷ [] = c.in_ok-class.ensures.keys ∙ ap (insert_key is_same_set t.classes) c.in_ok-copy.ensures ∙ class_last b t.classes absent in
     let room : length b ≡ room_for t.cea.size = subst (λ (o : Table). length b ≡ room_for o.cea.size) (sym c.self.view_is) c.requires in
     let R : List Bool → Type 0 = λ k. length k ≡ room_for t.cea.size in
     subst (λ (cs : List (List Bool)). IsSound (record t { classes = cs })) (sym last) (sound_class t (b ∷ []) (All-cons R b [] room (All-nil R)) c.self.invariant)
@@ -39,7 +37,8 @@ pub returns-clause-added : goal.returns-clause-added
 returns-clause-added g c =
     let t : Table = record { cea = c.self.inside.cea; states = c.self.inside.states.keys; classes = c.self.inside.classes.keys; transitions = c.self.inside.transitions.entries } in
     let b = c.args.bits.now in
-    let last : c.insert_full.new.self.keys ≡ t.classes ++ b ∷ [] = c.in_ok-class.ensures.keys ∙ ap (insert_key is_same_set t.classes) c.in_ok-copy.ensures ∙ class_last b t.classes (sym c.in_default.ensures.found) in
+    let absent = subst (λ (o : Table). list_any (is_same_set b) o.classes ≡ false) (sym c.self.view_is) c.in_default.ensures.absent in
+    let last : c.insert_full.new.self.keys ≡ t.classes ++ b ∷ [] = c.in_ok-class.ensures.keys ∙ ap (insert_key is_same_set t.classes) c.in_ok-copy.ensures ∙ class_last b t.classes absent in
     record {
       more = b ∷ [];
       only = All-cons (λ (k : List Bool). k ≡ b) b [] refl (All-nil (λ (k : List Bool). k ≡ b));

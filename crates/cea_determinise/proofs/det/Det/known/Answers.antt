@@ -5,11 +5,11 @@ use Rattle.cea_determinise.specs.Det.{Table, IsSound}
 use Rattle.cea_determinise.proofs.Growth.{if_found_right}
 use Rattle.cea_determinise.proofs.det.Det.known.Goals as goal
 
-pub returns-clause-value : goal.returns-clause-value
-returns-clause-value c = c.copied.ensures ∙ c.get.ensures.value ∙ ap (λ (t : Table). lookup (is_same_key c.args.key) t.transitions) c.self.view_is
+pub returns-in-None-clause-value : goal.returns-in-None-clause-value
+returns-in-None-clause-value c = c.copied.ensures ∙ c.get.ensures.value ∙ ap (λ (t : Table). lookup (is_same_key c.args.key) t.transitions) c.self.view_is
 
-pub returns-clause-right : goal.returns-clause-right
-returns-clause-right c =
+pub returns-in-None-clause-right : goal.returns-in-None-clause-right
+returns-in-None-clause-right c =
     let sound = subst IsSound c.self.view_is c.self.invariant in
     let value = c.copied.ensures ∙ c.get.ensures.value ∙ ap (λ (t : Table). lookup (is_same_key c.args.key) t.transitions) c.self.view_is in
     let t = c.args.self.now in

@@ -1,13 +1,13 @@
-use Rattle.std.proofs.Common.{◌≡◌, rules, true, false, sym, ap, subst, ◌∙◌, Some, None, slice_index_or}
+use Rattle.std.proofs.Common.{◌≡◌, rules, true, false, sym, ap, subst, ◌∙◌, Some, None, slice_index_or, ℕ, List, Option}
 use Rattle.std.specs.Int.{w128}
 use mir.Val.{SFits, to_z, of_z}
 use Rattle.std.proofs.lemmas.Int.{to_z-of_z}
 use Rattle.cel_terms.specs.Answers.{HasClock, values_at}
 use Rattle.window_clock.specs.Places.{IsNear}
 use Rattle.all_or_none.specs.Phases.{IsStep}
-use Rattle.query_part.specs.Parts.{part_of, put_in}
-use Rattle.query_part.proofs.Cases.{unread_step, no_key_step, keyed_step, can_take, starts_in_step}
-use Rattle.query_part.proofs.Prepare.{facts, now_is, fits, made_after, number_inside, not_read, does_read, idle_part, key_through}
+use Rattle.query_part.specs.Parts.{part_of, put_in, IsMade, CanEnd}
+use Rattle.query_part.proofs.Cases.{unread_step, no_key_step, resting_step, keyed_step, can_take, starts_in_step}
+use Rattle.query_part.proofs.Prepare.{facts, now_is, fits, made_after, made_filled, key_found, number_inside, not_read, does_read, idle_part, key_through}
 use Rattle.query_part.specs.KeyPlaces.{key_there}
 use Rattle.query_part.proofs.Worked.{worked_within}
 use Rattle.query_part.proofs.part.PartKeeps.prepare.Goals as goal
@@ -38,17 +38,17 @@ advance-requires-clause-can g c =
     let f = facts c.self.inside.schema c.self.inside.query c.args.event.now c.args.position c.self.inside.step c.self.inside.matches c.self.inside.clock.last c.self.inside.here c.args.self.now c.self.view_is c.requires.idle c.requires.can in
     can_take c.self.inside.schema c.self.inside.query f.events c.self.inside.matches c.self.inside.clock.last c.self.inside.here (record { pos = c.args.position; clock = to_z w128 (of_z w128 c.now-clock.result) }) (sym f.count) f.stands
 
-pub invariant_of-self-in-Some : goal.invariant_of-self-in-Some
-invariant_of-self-in-Some g c =
-    let r = c.in_ok-ready-in-Some.ensures.ready in
-    let m = c.in_ok-ready-in-Some.ensures.marks in
+pub invariant_of-self-in-Some-2 : goal.invariant_of-self-in-Some-2
+invariant_of-self-in-Some-2 g c =
+    let r = c.in_ok-ready-in-Some-2.ensures.ready in
+    let m = c.in_ok-ready-in-Some-2.ensures.marks in
     let small : SFits w128 c.now-clock.result = search rules in
     let same : to_z w128 (of_z w128 c.now-clock.result) ≡ c.now-clock.result = to_z-of_z _ _ small in (
-      made_after c.self.inside.schema c.self.inside.query c.self.inside.types.items c.self.inside.keys.items c.self.inside.conditions c.self.inside.clock.source c.self.inside.bits c.fill.new.into _ c.in-Some.key c.in_ok-ready-in-Some.ready.number c.in_ok-ready-in-Some.ready.staged c.self.inside.matches c.advance.new.self c.self.invariant.0 c.fill.ensures.room r,
+      made_after c.self.inside.schema c.self.inside.query c.self.inside.types.items c.self.inside.keys.items c.self.inside.conditions c.self.inside.clock.source c.self.inside.bits c.fill.new.into _ c.in-Some-2.key c.in_ok-ready-in-Some-2.ready.number c.in_ok-ready-in-Some-2.ready.staged c.self.inside.matches c.advance.new.self c.self.invariant.0 c.fill.ensures.room r,
       (
         subst IsNear (sym same) c.now-clock.ensures.near,
         m.1,
-        number_inside _ c.fill.new.into c.in-Some.key c.in_ok-ready-in-Some.ready.number c.in_ok-ready-in-Some.ready.staged c.self.inside.matches c.advance.new.self r,
+        number_inside _ c.fill.new.into c.in-Some-2.key c.in_ok-ready-in-Some-2.ready.number c.in_ok-ready-in-Some-2.ready.staged c.self.inside.matches c.advance.new.self r,
       ),
     )
 
@@ -58,48 +58,74 @@ returns-in-None-clause-ready g c =
     let told : slice_index_or c.self.inside.types.items c.args.event.now.ty false ≡ true = search rules in
     let small : SFits w128 c.now-clock.result = search rules in
     let same : to_z w128 (of_z w128 c.now-clock.result) ≡ c.now-clock.result = to_z-of_z _ _ small in
-    let none : values_at c.self.inside.schema c.self.inside.query.partition c.args.event.now ≡ None = sym (key_through c.self.inside.schema c.self.inside.query c.self.inside.keys.items c.args.event.now c.self.invariant.0.keys f.of_schema) ∙ (ap (λ table. key_there table c.args.event.now) (sym c.as_slice-2.ensures.value) ∙ sym c.in_ok-key_of.ensures ∙ c.in-None.is) in
+    let none : values_at c.self.inside.schema c.self.inside.query.partition c.args.event.now ≡ None = sym (key_through c.self.inside.schema c.self.inside.query c.self.inside.keys.items c.args.event.now c.self.invariant.0.keys f.of_schema) ∙ (ap (λ table. key_there table c.args.event.now) (sym c.as_slice-3.ensures.value) ∙ sym c.in_ok-key_of.ensures ∙ c.in-None.is) in
     no_key_step c.self.inside.schema c.self.inside.query c.args.event.now c.args.position c.self.inside.matches c.self.inside.clock.last c.self.inside.here (to_z w128 (of_z w128 c.now-clock.result)) (does_read c.self.inside.schema c.self.inside.query c.self.inside.types.items c.args.event.now c.self.invariant.0.types f.of_schema told)
     (now_is c.self.inside.schema c.self.inside.query.window c.self.inside.clock.source c.args.event.now c.args.position c.now-clock.result (to_z w128 (of_z w128 c.now-clock.result)) c.self.invariant.0.clock c.now-clock.ensures.clock same)
     (fits c.self.inside.schema c.self.inside.query.window c.self.inside.clock.source c.now-clock.result (to_z w128 (of_z w128 c.now-clock.result)) c.self.invariant.0.clock c.now-clock.ensures.fits same)
     (λ key h. let two = sym none ∙ h.1 in absurd cc)
 
-pub returns-in_ok-ready-in-Some-clause-ready : goal.returns-in_ok-ready-in-Some-clause-ready
-returns-in_ok-ready-in-Some-clause-ready g c =
+pub returns-in_ok-ready-in-Some-2-clause-ready : goal.returns-in_ok-ready-in-Some-2-clause-ready
+returns-in_ok-ready-in-Some-2-clause-ready g c =
     let f = facts c.self.inside.schema c.self.inside.query c.args.event.now c.args.position c.self.inside.step c.self.inside.matches c.self.inside.clock.last c.self.inside.here c.args.self.now c.self.view_is c.requires.idle c.requires.can in
     let told : slice_index_or c.self.inside.types.items c.args.event.now.ty false ≡ true = search rules in
     let small : SFits w128 c.now-clock.result = search rules in
     let same : to_z w128 (of_z w128 c.now-clock.result) ≡ c.now-clock.result = to_z-of_z _ _ small in
-    let is_key : values_at c.self.inside.schema c.self.inside.query.partition c.args.event.now ≡ Some c.in-Some.key = sym (key_through c.self.inside.schema c.self.inside.query c.self.inside.keys.items c.args.event.now c.self.invariant.0.keys f.of_schema) ∙ (ap (λ table. key_there table c.args.event.now) (sym c.as_slice-2.ensures.value) ∙ sym c.in_ok-key_of.ensures ∙ c.in-Some.is) in
+    let is_key : values_at c.self.inside.schema c.self.inside.query.partition c.args.event.now ≡ Some c.in-Some-2.key = sym (key_through c.self.inside.schema c.self.inside.query c.self.inside.keys.items c.args.event.now c.self.invariant.0.keys f.of_schema) ∙ (ap (λ table. key_there table c.args.event.now) (sym c.as_slice-3.ensures.value) ∙ sym c.in_ok-key_of.ensures ∙ c.in-Some-2.is) in
     let does = does_read c.self.inside.schema c.self.inside.query c.self.inside.types.items c.args.event.now c.self.invariant.0.types f.of_schema told in
-    subst (λ h. IsStep c.self.inside.schema c.self.inside.query c.args.event.now c.args.position (part_of h c.self.inside.clock.last c.self.inside.here) (part_of (put_in c.in_ok-ready-in-Some.ready.number c.in_ok-ready-in-Some.ready.staged c.advance.new.self) (Some (to_z w128 (of_z w128 c.now-clock.result))) (Some c.in_ok-ready-in-Some.ready.number))) (sym c.in_ok-ready-in-Some.ensures.marks.0)
-    (keyed_step c.self.inside.schema c.self.inside.query c.args.event.now c.args.position c.fill.new.into c.in-Some.key c.in_ok-ready-in-Some.ready.number c.in_ok-ready-in-Some.ready.staged c.self.inside.matches c.advance.new.self c.self.inside.clock.last c.self.inside.here (to_z w128 (of_z w128 c.now-clock.result)) does
+    subst (λ h. IsStep c.self.inside.schema c.self.inside.query c.args.event.now c.args.position (part_of h c.self.inside.clock.last c.self.inside.here) (part_of (put_in c.in_ok-ready-in-Some-2.ready.number c.in_ok-ready-in-Some-2.ready.staged c.advance.new.self) (Some (to_z w128 (of_z w128 c.now-clock.result))) (Some c.in_ok-ready-in-Some-2.ready.number))) (sym c.in_ok-ready-in-Some-2.ensures.marks.0)
+    (keyed_step c.self.inside.schema c.self.inside.query c.args.event.now c.args.position c.fill.new.into c.in-Some-2.key c.in_ok-ready-in-Some-2.ready.number c.in_ok-ready-in-Some-2.ready.staged c.self.inside.matches c.advance.new.self c.self.inside.clock.last c.self.inside.here (to_z w128 (of_z w128 c.now-clock.result)) does
     (now_is c.self.inside.schema c.self.inside.query.window c.self.inside.clock.source c.args.event.now c.args.position c.now-clock.result (to_z w128 (of_z w128 c.now-clock.result)) c.self.invariant.0.clock c.now-clock.ensures.clock same)
     (fits c.self.inside.schema c.self.inside.query.window c.self.inside.clock.source c.now-clock.result (to_z w128 (of_z w128 c.now-clock.result)) c.self.invariant.0.clock c.now-clock.ensures.fits same)
-    (does, is_key) ((λ i k. c.fill.ensures.members k i) ∙ c.self.invariant.0.leaves c.args.event.now) c.in_ok-ready-in-Some.ensures.ready)
+    (does, is_key) ((λ i k. c.fill.ensures.members k i) ∙ c.self.invariant.0.leaves c.args.event.now) c.in_ok-ready-in-Some-2.ensures.ready)
 
-pub returns-in_err-ready-in-Some-clause-within : goal.returns-in_err-ready-in-Some-clause-within
-returns-in_err-ready-in-Some-clause-within g c =
+pub returns-in_err-ready-in-Some-2-clause-within : goal.returns-in_err-ready-in-Some-2-clause-within
+returns-in_err-ready-in-Some-2-clause-within g c =
     let f = facts c.self.inside.schema c.self.inside.query c.args.event.now c.args.position c.self.inside.step c.self.inside.matches c.self.inside.clock.last c.self.inside.here c.args.self.now c.self.view_is c.requires.idle c.requires.can in
     let i = idle_part c.self.inside.schema c.self.inside.query c.self.inside.step c.self.inside.matches c.self.inside.clock.last c.self.inside.here c.args.self.now c.self.view_is c.requires.idle in
     let told : slice_index_or c.self.inside.types.items c.args.event.now.ty false ≡ true = search rules in
     let small : SFits w128 c.now-clock.result = search rules in
     let same : to_z w128 (of_z w128 c.now-clock.result) ≡ c.now-clock.result = to_z-of_z _ _ small in
-    let is_key : values_at c.self.inside.schema c.self.inside.query.partition c.args.event.now ≡ Some c.in-Some.key = sym (key_through c.self.inside.schema c.self.inside.query c.self.inside.keys.items c.args.event.now c.self.invariant.0.keys f.of_schema) ∙ (ap (λ table. key_there table c.args.event.now) (sym c.as_slice-2.ensures.value) ∙ sym c.in_ok-key_of.ensures ∙ c.in-Some.is) in
+    let is_key : values_at c.self.inside.schema c.self.inside.query.partition c.args.event.now ≡ Some c.in-Some-2.key = sym (key_through c.self.inside.schema c.self.inside.query c.self.inside.keys.items c.args.event.now c.self.invariant.0.keys f.of_schema) ∙ (ap (λ table. key_there table c.args.event.now) (sym c.as_slice-3.ensures.value) ∙ sym c.in_ok-key_of.ensures ∙ c.in-Some-2.is) in
     let does = does_read c.self.inside.schema c.self.inside.query c.self.inside.types.items c.args.event.now c.self.invariant.0.types f.of_schema told in
-    worked_within c.self.inside.schema c.self.inside.query c.self.inside.matches c.self.inside.clock.last c.self.inside.here c.args.self.now c.args.event.now c.args.position c.in-Some.key c.fill.new.into (to_z w128 (of_z w128 c.now-clock.result)) c.args.steps.now c.advance.new.steps i (does, is_key)
+    worked_within c.self.inside.schema c.self.inside.query c.self.inside.matches c.self.inside.clock.last c.self.inside.here c.args.self.now c.args.event.now c.args.position c.in-Some-2.key c.fill.new.into (to_z w128 (of_z w128 c.now-clock.result)) c.args.steps.now c.advance.new.steps i (does, is_key)
     (now_is c.self.inside.schema c.self.inside.query.window c.self.inside.clock.source c.args.event.now c.args.position c.now-clock.result (to_z w128 (of_z w128 c.now-clock.result)) c.self.invariant.0.clock c.now-clock.ensures.clock same)
     ((λ i k. c.fill.ensures.members k i) ∙ c.self.invariant.0.leaves c.args.event.now) c.advance.ensures.worked
 
-pub returns-in_ok-ready-in-Some-clause-within : goal.returns-in_ok-ready-in-Some-clause-within
-returns-in_ok-ready-in-Some-clause-within g c =
+pub returns-in_ok-ready-in-Some-2-clause-within : goal.returns-in_ok-ready-in-Some-2-clause-within
+returns-in_ok-ready-in-Some-2-clause-within g c =
     let f = facts c.self.inside.schema c.self.inside.query c.args.event.now c.args.position c.self.inside.step c.self.inside.matches c.self.inside.clock.last c.self.inside.here c.args.self.now c.self.view_is c.requires.idle c.requires.can in
     let i = idle_part c.self.inside.schema c.self.inside.query c.self.inside.step c.self.inside.matches c.self.inside.clock.last c.self.inside.here c.args.self.now c.self.view_is c.requires.idle in
     let told : slice_index_or c.self.inside.types.items c.args.event.now.ty false ≡ true = search rules in
     let small : SFits w128 c.now-clock.result = search rules in
     let same : to_z w128 (of_z w128 c.now-clock.result) ≡ c.now-clock.result = to_z-of_z _ _ small in
-    let is_key : values_at c.self.inside.schema c.self.inside.query.partition c.args.event.now ≡ Some c.in-Some.key = sym (key_through c.self.inside.schema c.self.inside.query c.self.inside.keys.items c.args.event.now c.self.invariant.0.keys f.of_schema) ∙ (ap (λ table. key_there table c.args.event.now) (sym c.as_slice-2.ensures.value) ∙ sym c.in_ok-key_of.ensures ∙ c.in-Some.is) in
+    let is_key : values_at c.self.inside.schema c.self.inside.query.partition c.args.event.now ≡ Some c.in-Some-2.key = sym (key_through c.self.inside.schema c.self.inside.query c.self.inside.keys.items c.args.event.now c.self.invariant.0.keys f.of_schema) ∙ (ap (λ table. key_there table c.args.event.now) (sym c.as_slice-3.ensures.value) ∙ sym c.in_ok-key_of.ensures ∙ c.in-Some-2.is) in
     let does = does_read c.self.inside.schema c.self.inside.query c.self.inside.types.items c.args.event.now c.self.invariant.0.types f.of_schema told in
-    worked_within c.self.inside.schema c.self.inside.query c.self.inside.matches c.self.inside.clock.last c.self.inside.here c.args.self.now c.args.event.now c.args.position c.in-Some.key c.fill.new.into (to_z w128 (of_z w128 c.now-clock.result)) c.args.steps.now c.advance.new.steps i (does, is_key)
+    worked_within c.self.inside.schema c.self.inside.query c.self.inside.matches c.self.inside.clock.last c.self.inside.here c.args.self.now c.args.event.now c.args.position c.in-Some-2.key c.fill.new.into (to_z w128 (of_z w128 c.now-clock.result)) c.args.steps.now c.advance.new.steps i (does, is_key)
     (now_is c.self.inside.schema c.self.inside.query.window c.self.inside.clock.source c.args.event.now c.args.position c.now-clock.result (to_z w128 (of_z w128 c.now-clock.result)) c.self.invariant.0.clock c.now-clock.ensures.clock same)
     ((λ i k. c.fill.ensures.members k i) ∙ c.self.invariant.0.leaves c.args.event.now) c.advance.ensures.worked
+
+pub invariant_of-self-in_err-ready-in-Some-2 : goal.invariant_of-self-in_err-ready-in-Some-2
+invariant_of-self-in_err-ready-in-Some-2 g c =
+    subst (λ h. IsMade c.self.inside.schema c.self.inside.query c.self.inside.types.items c.self.inside.keys.items c.self.inside.conditions c.self.inside.clock.source c.fill.new.into h × CanEnd c.self.inside.step h) (sym c.in_err-ready-in-Some-2.ensures.refused)
+    (made_filled c.self.inside.schema c.self.inside.query c.self.inside.types.items c.self.inside.keys.items c.self.inside.conditions c.self.inside.clock.source c.self.inside.bits c.fill.new.into c.self.inside.matches c.self.invariant.0 c.fill.ensures.room, c.self.invariant.1)
+
+pub invariant_of-self-in-Some : goal.invariant_of-self-in-Some
+invariant_of-self-in-Some g c =
+    let small : SFits w128 c.now-clock.result = search rules in
+    let same : to_z w128 (of_z w128 c.now-clock.result) ≡ c.now-clock.result = to_z-of_z _ _ small in
+    (made_filled c.self.inside.schema c.self.inside.query c.self.inside.types.items c.self.inside.keys.items c.self.inside.conditions c.self.inside.clock.source c.self.inside.bits c.fill.new.into c.self.inside.matches c.self.invariant.0 c.fill.ensures.room, subst IsNear (sym same) c.now-clock.ensures.near)
+
+pub returns-in-Some-clause-ready : goal.returns-in-Some-clause-ready
+returns-in-Some-clause-ready g c =
+    let f = facts c.self.inside.schema c.self.inside.query c.args.event.now c.args.position c.self.inside.step c.self.inside.matches c.self.inside.clock.last c.self.inside.here c.args.self.now c.self.view_is c.requires.idle c.requires.can in
+    let told : slice_index_or c.self.inside.types.items c.args.event.now.ty false ≡ true = search rules in
+    let small : SFits w128 c.now-clock.result = search rules in
+    let same : to_z w128 (of_z w128 c.now-clock.result) ≡ c.now-clock.result = to_z-of_z _ _ small in
+    let does = does_read c.self.inside.schema c.self.inside.query c.self.inside.types.items c.args.event.now c.self.invariant.0.types f.of_schema told in
+    let r = c.in-Some.ensures.rest in
+    let here : slice_index_or c.self.inside.keys.items c.args.event.now.ty None ≡ Some r.0 = subst (λ (table : List (Option (List ℕ))). slice_index_or table c.args.event.now.ty None ≡ Some r.0) c.as_slice-2.ensures.value r.1 in
+    let is_key = key_found c.self.inside.schema c.self.inside.query c.self.inside.keys.items c.args.event.now r.0 r.2.key c.self.invariant.0.keys f.of_schema here r.2.has in
+    resting_step c.self.inside.schema c.self.inside.query c.args.event.now c.args.position c.fill.new.into r.0 c.args.event.now.values c.in-Some.number c.self.inside.matches c.self.inside.clock.last c.self.inside.here (to_z w128 (of_z w128 c.now-clock.result)) does
+    (now_is c.self.inside.schema c.self.inside.query.window c.self.inside.clock.source c.args.event.now c.args.position c.now-clock.result (to_z w128 (of_z w128 c.now-clock.result)) c.self.invariant.0.clock c.now-clock.ensures.clock same)
+    (fits c.self.inside.schema c.self.inside.query.window c.self.inside.clock.source c.now-clock.result (to_z w128 (of_z w128 c.now-clock.result)) c.self.invariant.0.clock c.now-clock.ensures.fits same)
+    ((λ i k. c.fill.ensures.members k i) ∙ c.self.invariant.0.leaves c.args.event.now) c.in-Some.ensures.quiet r.2 (does, is_key)

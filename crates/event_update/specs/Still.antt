@@ -1,0 +1,53 @@
+-- Lists that rest: an event that no leaf can read leaves them as they are.
+use Rattle.std.specs.Prelude.{◌≡◌, ℕ, ◌≤◌, ℤ, Bool, false, List, [], ◌∷◌, ◌++◌, map, length, All, Some}
+use Rattle.std.specs.List.{list_any}
+use Rattle.cer_base.specs.Bits.{has}
+use Rattle.cer_base.specs.declared.node.Stamp.{Stamp}
+use Rattle.cer_base.specs.declared.node.Root.{Root}
+use Rattle.cer_base.specs.declared.node.Node.{Node}
+use Rattle.cea_determinise.specs.Runs.{accepts}
+use Rattle.cea_determinise.specs.Strict.{next_standing}
+use Rattle.cea_determinise.specs.Cea.{automaton_of_cea}
+use Rattle.cea_determinise.specs.Det.{Table, standing_at, IsSound}
+use Rattle.event_update.specs.Reach.{Seen}
+use Rattle.event_update.specs.Stands.{seen, IsLater, Stands, CanAdvance}
+use Rattle.event_update.specs.Update.{Discovers, GrowsBy, IsAdvancedBy, accepted_entries}
+
+-- no leaf can read the event
+abbrev pub IsQuiet : List Bool → Type 0
+IsQuiet bits = (k : ℕ) → has bits k ≡ false
+
+-- An event that no leaf can read passes the state of this number, which stays the state that it is.
+pub record IsAtRest (t : Table) (n : ℕ) : Type 0 where
+  pub known : n ≤ length t.states
+  pub stays : next_standing (automaton_of_cea t.cea) t.cea.strict (standing_at t.states n) (λ k. false) false ≡ Some (standing_at t.states n)
+
+-- each state with open matches is at rest
+abbrev pub Rest : Table → List (ℕ × List Root) → Type 0
+Rest t rows = All (λ (r : ℕ × List Root). IsAtRest t r.0) rows
+
+-- Where lists rest, what stands for a key's events stands for them and an event that no leaf can read.
+abbrev pub RestingListsStand : Type 0
+RestingListsStand = (t : Table) (low : ℤ) (xs : List Seen) (stamp : Stamp) (bits : List Bool) (nodes : List Node) (rows : List (ℕ × List Root)) →
+    IsQuiet bits → Rest t rows → IsLater stamp xs → Stands t low xs nodes rows → Stands t low (xs ++ seen stamp bits ∷ []) nodes rows
+
+-- Lists that such an event has left as they are rest.
+abbrev pub UnchangedListsRest : Type 0
+UnchangedListsRest = (before after : Table) (bits : List Bool) (stamp : Stamp) (old new : List Node) (rows : List (ℕ × List Root)) →
+    IsQuiet bits → IsSound after → CanAdvance before stamp old rows → GrowsBy stamp old new → IsAdvancedBy after bits stamp old rows new rows → Rest after rows
+
+-- Lists rest as the table grows.
+abbrev pub RestingListsStayAtRest : Type 0
+RestingListsStayAtRest = (old new : Table) (from : List ℕ) (bits : List Bool) (rows : List (ℕ × List Root)) → Discovers old from bits new → Rest old rows → Rest new rows
+
+-- the state of this number accepts
+abbrev pub does_accept : Table → ℕ → Bool
+does_accept t n = accepts (automaton_of_cea t.cea) (standing_at t.states n).sets
+
+-- No state of lists that rest accepts.
+abbrev pub RestingListsAcceptNone : Type 0
+RestingListsAcceptNone = (t : Table) (rows : List (ℕ × List Root)) → Rest t rows → accepted_entries t rows ≡ []
+
+-- Without an accepting state there is no entry of one.
+abbrev pub AcceptingListsAreNeeded : Type 0
+AcceptingListsAreNeeded = (t : Table) (rows : List (ℕ × List Root)) → list_any (does_accept t) (map (λ (r : ℕ × List Root). r.0) rows) ≡ false → accepted_entries t rows ≡ []

@@ -1,0 +1,31 @@
+use Rattle.std.proofs.Common.{◌≡◌, ◌++◌, ◌∷◌, [], All, sym, ap, subst, inl, inr, length, arith}
+use Rattle.std.proofs.lemmas.List.Elements.{All-push, All-take}
+use Rattle.std.proofs.lemmas.Grind.{common_steps}
+use Rattle.query_standing.proofs.Parts.{length_more}
+use Rattle.query_part.specs.Matches.{MayRest}
+use Rattle.query_part.proofs.matches.Matches.number.Goals as goal
+
+pub invariant_of-self-in-Ok : goal.invariant_of-self-in-Ok
+invariant_of-self-in-Ok c =
+    let pushed : c.push.new.self.items ≡ c.self.inside.lists.items ++ c.none.result ∷ [] = c.in_ok-push.ensures.items in (
+      elim c.in-Ok.ensures.added [
+        | inl h ↦ absurd (c.in_default.ensures h.0)
+        | inr h ↦
+            let keys = ap length h.1 in
+            let lists = ap length pushed in
+            let before = c.self.invariant.0 in
+            let one = length_more c.self.inside.keys c.args.key.now in
+            let two = length_more c.self.inside.lists.items c.none.result in
+            omega arith
+      ],
+      subst (All (MayRest c.self.inside.det)) (sym pushed) (All-push (MayRest c.self.inside.det) c.self.inside.lists.items c.none.result c.self.invariant.1 (c.none.ensures.rests c.self.inside.det)),
+    )
+
+pub invariant_of-self-in-Err : goal.invariant_of-self-in-Err
+invariant_of-self-in-Err c =
+    let pushed : c.push.new.self.items ≡ c.self.inside.lists.items ++ c.none.result ∷ [] = c.in_ok-push.ensures.items in
+    let all = subst (All (MayRest c.self.inside.det)) (sym pushed) (All-push (MayRest c.self.inside.det) c.self.inside.lists.items c.none.result c.self.invariant.1 (c.none.ensures.rests c.self.inside.det)) in
+    let long : length c.number.new.self ≡ length c.pop-none.new.self.items = grind (arith, common_steps) in (
+      long,
+      subst (All (MayRest c.self.inside.det)) (sym c.pop-none.ensures.rest) (All-take (MayRest c.self.inside.det) _ c.push.new.self.items all),
+    )

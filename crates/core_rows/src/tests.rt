@@ -5,4 +5,6 @@ mod faults;
 mod limits;
 mod meaning;
 mod refusals;
+mod rows;
+mod texts;
 mod words;

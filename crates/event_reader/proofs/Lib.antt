@@ -10,3 +10,5 @@ pub mod GivenLines
 pub mod LineBufferParts
 pub mod NextLines
 pub mod OfSchema
+pub mod CommonNumbers
+pub mod CommonFields

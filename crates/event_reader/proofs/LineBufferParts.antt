@@ -1,9 +1,9 @@
 -- The parts of a window's buffer.
-use Rattle.std.proofs.Common.{◌≡◌, ℕ, ◌+◌, ◌-◌, ◌<◌, ◌≤◌, ◌==◌, List, [], ◌∷◌, ◌++◌, length, take, drop, get_or, Bool, true, false, Option, Some, None, Ok, refl, sym, ◌∙◌, ap, arith, append_assoc, suc, zero}
+use Rattle.std.proofs.Common.{◌≡◌, ℕ, ◌+◌, ◌-◌, ◌<◌, ◌≤◌, ◌==◌, List, [], ◌∷◌, ◌++◌, length, take, drop, get_or, Bool, true, false, Option, Some, None, Ok, refl, sym, ◌∙◌, ap, arith, append_assoc, suc, zero, eq-eqb}
 use Rattle.std.proofs.lemmas.Bool.Decides.{nat_tests}
 use Rattle.std.proofs.lemmas.List.{length-drop, length-take, take-take, drop-take, drop-drop, get_or-take, get_or-drop, take_all, take-append-le}
 use Rattle.std.proofs.Math.Seq.{take-add, take-append-add}
-use Rattle.std.proofs.lemmas.List.Folds.{list_any-append, list_any_none}
+use Rattle.std.proofs.lemmas.List.Folds.{list_any-append, list_any_none, list_any_at}
 use Rattle.std.specs.List.{list_any}
 use Rattle.cer_outside.specs.Bytes.{Reads, ReadsOn}
 use Rattle.std.proofs.lemmas.Grind.{get_or_default_zero}
@@ -182,3 +182,7 @@ new_front old part last more long len n a b h =
     ∙ ap (λ k. take (k + n) (take len old ++ ((part ++ last) ++ more))) (sym l)
     ∙ take-append-add (take len old) ((part ++ last) ++ more) n
     ∙ ap (λ k. take len old ++ k) (ap (take n) (append_assoc part last more) ∙ take-append-le n part (last ++ more) b)
+
+-- a line feed that was found is there
+pub feed_there : (place : ℕ) (bytes : List ℕ) → IsFirstLineFeed place bytes → has_line_feed bytes ≡ true
+feed_there place bytes found = list_any_at (λ b. b == 10) bytes place 0 found.within (eq-eqb (get_or bytes place 0) 10 found.feed)

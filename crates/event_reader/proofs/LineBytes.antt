@@ -1,5 +1,5 @@
 -- What tests on the bytes of a line say of each byte.
-use Rattle.std.proofs.Common.{◌≡◌, ◌≢◌, ℕ, ◌<◌, ◌==◌, List, [], ◌∷◌, length, take, get_or, map, All, Bool, true, false, ◌||◌, ◌&&◌, nat_eq, refl, ap, arith, eq-eqb, suc, zero}
+use Rattle.std.proofs.Common.{◌≡◌, ◌≢◌, ℕ, ◌<◌, ◌==◌, List, [], ◌∷◌, length, take, get_or, map, All, Bool, true, false, ◌||◌, nat_eq, refl, ap, arith, eq-eqb, suc, zero}
 use Rattle.std.specs.List.{list_any, AllByRecursion, slice_split, starts_with}
 use Rattle.std.proofs.lemmas.Bool.Decides.{nat_tests}
 use Rattle.std.proofs.lemmas.List.{length-map}

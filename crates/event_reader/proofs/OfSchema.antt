@@ -9,7 +9,8 @@ use Rattle.std.proofs.lemmas.Bool.Decides.{nat_tests}
 use Rattle.std.proofs.lemmas.List.{append-nil}
 use Rattle.std.proofs.lemmas.Option.{slice_get-get_or}
 use Rattle.cer_base.specs.declared.OrMemory.{OrMemory}
-use Rattle.stream_schema.specs.Types.{Declared, DeclaredType}
+use Rattle.stream_schema.specs.Types.{Declared, DeclaredType, IsWellDeclared, name_of_type}
+use Rattle.stream_schema.proofs.WellDeclared.{one_type}
 use Rattle.stream_schema.specs.Names.{type_number}
 use Rattle.stream_schema.specs.Events.{IsOfKind, AreOfAttrs, IsOfSchema}
 use Rattle.stream_schema.specs.declared.Attr.{Attr}
@@ -23,6 +24,7 @@ use Rattle.event_reader.specs.declared.EventFault.TheVariants.{BadLine, OpenQuot
 use Rattle.event_reader.specs.Fields.{fields, ends_open}
 use Rattle.event_reader.specs.Values.{value_of, scaled, flag}
 use Rattle.cer_base.specs.Answers.{Gives}
+use Rattle.event_reader.specs.Rows.{TellsEvent}
 use Rattle.event_reader.specs.Events.{is_bad, and_then, value_or_fault, values_from, event_of_type, attrs_of, event_of_place, event_of, event_of_record, event_of_text, event_of_line}
 
 -- a value that was read is of the kind
@@ -104,6 +106,10 @@ found_within test i [] place e = absurd (let wrong : None ≡ Some place = e in 
 found_within test i (x ∷ xs) place e =
     omega (arith, found_here (test x) i place (length xs) (position_from test (i + 1) xs) (found_within test (i + 1) xs place) e)
 
+-- a type that is found is one of the schema's
+pub number_within : (types : List DeclaredType) (name : List ℕ) (ty : ℕ) → type_number types name ≡ Some ty → ty < length types
+number_within types name ty is = omega (arith, found_within (λ t. bytes_eq t.name name) 0 types ty is)
+
 place_is : (types : List DeclaredType) (ty : ℕ) (at : Option DeclaredType) (cells : List (List ℕ)) (event : Event) → slice_get types ty ≡ at → ty < length types → event_of_type ty (attrs_of at) cells ≡ Ok event → IsSomeAnd (slice_get types event.ty) (λ t. AreOfAttrs t.attrs event.values)
 place_is types ty None cells event is within e =
     absurd (let found : slice_get types ty ≡ Some (get_or types ty (record { name = []; attrs = [] })) = slice_get-get_or types ty _ within in let wrong : None ≡ Some (get_or types ty (record { name = []; attrs = [] })) = sym is ∙ found in cc)
@@ -145,3 +151,13 @@ pub read_is : (schema : Declared) (line : List ℕ) (result : Result (Option Eve
 read_is schema line (Err e) gives = tt
 read_is schema line (Ok None) gives = tt
 read_is schema line (Ok (Some event)) gives = text_gives schema (strip_carriage_return line) event gives
+
+-- the same of a call that reads into a row
+pub row_is : (schema : Declared) (line : List ℕ) (held : Event) (result : Result Bool (OrMemory EventFault)) → TellsEvent held result (event_of_line schema line) → result ≡ Ok true → IsOfSchema schema held
+row_is schema line held (Ok true) tells e = text_gives schema (strip_carriage_return line) held tells
+row_is schema line held (Ok false) tells e = absurd (cc)
+row_is schema line held (Err stop) tells e = absurd (let wrong : Err stop ≡ Ok true = e in cc)
+
+-- a type that has the name is the one that is found
+pub known_name : (schema : Declared) → IsWellDeclared schema → (name known : List ℕ) (ty : ℕ) → known ≡ name → Some known ≡ name_of_type schema.types ty → type_number schema.types name ≡ Some ty
+known_name schema h name known ty same is = one_type schema h name ty (sym is ∙ ap (λ (n : List ℕ). Some n) same)

@@ -1,5 +1,5 @@
 -- The state in which a line ends, and that `csv` reads a line without a byte order mark as it stands.
-use Rattle.std.proofs.Common.{◌≡◌, ◌≢◌, ℕ, ◌+◌, ◌<◌, List, [], ◌∷◌, length, drop, get_or, All, true, false, Bool, refl, sym, ◌∙◌, ap, add-one, arith, map, ◌++◌, ◌≤◌, take, Option, Some, None, zero, suc}
+use Rattle.std.proofs.Common.{◌≡◌, ◌≢◌, ℕ, ◌+◌, ◌<◌, List, [], ◌∷◌, length, drop, get_or, All, sym, ◌∙◌, ap, add-one, arith, map, ◌++◌, ◌≤◌, take, Some, None, zero, suc}
 use Rattle.std.proofs.Math.Seq.{drop-cons}
 use Rattle.std.proofs.lemmas.Bool.Decides.{nat_tests}
 use Rattle.std.proofs.lemmas.List.{drop_all, map-append}

@@ -1,5 +1,5 @@
 -- The event of a line, or why it is refused.
-use Rattle.std.specs.Prelude.{◌≡◌, ℕ, ◌+◌, ◌==◌, Bool, ◌||◌, if◌then◌else◌, List, [], ◌∷◌, ◌++◌, length, map, Option, Some, None, slice_get, Result, Ok, Err}
+use Rattle.std.specs.Prelude.{ℕ, ◌+◌, ◌==◌, Bool, ◌||◌, if◌then◌else◌, List, [], ◌∷◌, ◌++◌, length, map, Option, Some, None, slice_get, Result, Ok, Err}
 use Rattle.std.specs.List.{list_any, starts_with}
 use Rattle.std.specs.Prelude.{nat_eq}
 use Rattle.std.specs.Str.Lines.{strip_carriage_return}

@@ -6,3 +6,5 @@ pub mod Cells
 pub mod Lines
 pub mod LineBuffers
 pub mod Reading
+pub mod CommonLines
+pub mod Rows

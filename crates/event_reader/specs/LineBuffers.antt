@@ -1,6 +1,6 @@
 -- The bytes that a reader of lines has taken and still holds, and how reading changes them. Private clauses alone cite
 -- these, but for `IsShort`.
-use Rattle.std.specs.Prelude.{◌≡◌, ℕ, ◌+◌, ◌-◌, ◌<◌, ◌≤◌, ◌==◌, Bool, false, List, [], ◌++◌, length, take, drop, get_or, Option, Result, Ok, Err}
+use Rattle.std.specs.Prelude.{◌≡◌, ℕ, ◌+◌, ◌-◌, ◌<◌, ◌≤◌, false, List, length, take, drop, get_or, Option, Result, Ok, Err}
 use Rattle.cer_base.specs.declared.bytes.TheConstants.{LINE_FEED}
 use Rattle.cer_base.specs.declared.limits.TheConstants.{LONGEST_LINE}
 use Rattle.cer_outside.specs.Bytes.{IsAtEnd}

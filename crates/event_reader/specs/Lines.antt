@@ -1,7 +1,7 @@
 -- The lines of the first bytes of a file.
-use Rattle.std.specs.Prelude.{ℕ, Bool, ◌+◌, ◌-◌, ◌==◌, if◌then◌else◌, nat_le, nat_eq, List, [], ◌∷◌, ◌++◌, length, drop, Option, Some, None}
+use Rattle.std.specs.Prelude.{ℕ, Bool, ◌+◌, ◌-◌, ◌==◌, ◌||◌, false, if◌then◌else◌, nat_le, nat_eq, List, [], ◌∷◌, ◌++◌, length, drop, Option, Some, None}
 use Rattle.std.specs.List.{list_any, starts_with}
-use Rattle.cer_base.specs.declared.bytes.TheConstants.{LINE_FEED}
+use Rattle.cer_base.specs.declared.bytes.TheConstants.{CARRIAGE_RETURN, LINE_FEED}
 use Rattle.cer_base.specs.declared.limits.TheConstants.{LONGEST_LINE}
 use Rattle.event_reader.specs.declared.LineFault.{LineFault}
 use Rattle.event_reader.specs.declared.LineFault.TheVariants.{LineTooLong, InputTooLong}
@@ -9,6 +9,11 @@ use Rattle.event_reader.specs.declared.LineFault.TheVariants.{LineTooLong, Input
 -- some byte is a line feed
 abbrev pub has_line_feed : List ℕ → Bool
 has_line_feed bytes = list_any (λ b. b == LINE_FEED) bytes
+
+-- the first byte is a line feed or a carriage return
+abbrev pub begins_with_end : List ℕ → Bool
+begins_with_end [] = false
+begins_with_end (byte ∷ bytes) = byte == LINE_FEED || byte == CARRIAGE_RETURN
 
 -- The lines without their line feeds, and why there is no further one: a fault, or none at the end.
 pub record FileLines : Type 0 where

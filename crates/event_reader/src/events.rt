@@ -12,22 +12,16 @@ ghost use Rattle.event_reader.specs.Events.{event_of_line, event_of, event_of_re
 use crate::EventFault;
 use crate::cells::{plain_cells, record_cells};
 use crate::fields::{ends_open, record_of};
+use crate::row::Row;
 use crate::values::read_value;
 use cer_base::bytes::{CARRIAGE_RETURN, QUOTE};
 use cer_base::{Listed, OrMemory};
 use std::alloc::Global;
 use stream_schema::{Event, Kind, Schema, Value};
 
-/// The event of the line, or `None` where it is empty but for a carriage return. The first of these
-/// refusals is answered; memory may run out before any of them.
-///
-/// - `BadLine`
-/// - `OpenQuote`
-/// - `UnknownType`
-/// - `FieldCount`
-/// - `BadValue`
-///
-/// An event that it gives is of the schema.
+/// The event of the line, or `None` where it is empty but for a carriage return, in memory of its
+/// own. The refusals are those of `Row::read`; an event that it gives is of the schema.
+#[tactic(auto, using(crate::proofs::OfSchema::read_is))]
 pub fn read_event(
     alloc: Global,
     schema: &Schema,
@@ -37,11 +31,16 @@ pub fn read_event(
     ensures event { Gives (λ event. event) result (event_of_line schema.now text.now) }
     ensures of_schema { IfOk result (λ found. IfSome found (λ event. IsOfSchema schema.now event)) }
 {
-    read_line(alloc, schema, text)
+    let mut row = Row::new(alloc);
+    match row.read(alloc, schema, text) {
+        Ok(true) => Ok(Some(row.into_event())),
+        Ok(false) => Ok(None),
+        Err(stop) => Err(stop),
+    }
 }
 
 /// The event of the line, or the first refusal.
-fn read_line(
+pub fn read_line(
     alloc: Global,
     schema: &Schema,
     text: &[u8],
@@ -65,7 +64,7 @@ fn read_line(
 }
 
 /// The line without the one carriage return at its end.
-fn without_return(text: &[u8]) -> &[u8]
+pub fn without_return(text: &[u8]) -> &[u8]
     ensures line { result.now ≡ strip_carriage_return text.now }
     ensures kept { has_line_feed text.now ≡ false → has_line_feed result.now ≡ false }
 {

@@ -1,10 +1,10 @@
 //! The event file: which lines its bytes are, and which event a line is, or why it is none.
 //!
 //! Promised: `Lines` gives exactly the lines of the definition `file_lines`, however its source cuts
-//! the bytes, and says exactly why there is no further one. `read_event` answers exactly the event
-//! of the line, or the first of its refusals, where the fields are those of `csv`'s own definition.
-//! A line with no quote byte is cut at its commas, every other by `csv` itself; both give the fields of
-//! the one definition.
+//! the bytes, and says exactly why there is no further one. `Row::read` answers exactly the event
+//! of the line, or the first of its refusals, where the fields are those of `csv`'s own definition;
+//! `read_event` is the same in memory of its own. A line with no quote byte is cut at its commas,
+//! every other by `csv` itself; both give the fields of the one definition.
 //! It stands on `csv`, `memchr`, `cer_outside`, `stream_schema` and `cer_base`.
 #![tactic(auto)]
 
@@ -12,6 +12,7 @@ use stream_schema::Kind;
 use thiserror::Error;
 
 mod cells;
+mod common;
 mod events;
 mod fields;
 mod line_buffer;
@@ -19,14 +20,19 @@ mod line_buffer;
 mod line_tests;
 mod numbers;
 mod reader;
+mod row;
+#[cfg(test)]
+mod row_tests;
 #[cfg(test)]
 mod speed;
 #[cfg(test)]
 mod tests;
+mod types;
 mod values;
 
 pub use events::read_event;
 pub use reader::{Lines, Next};
+pub use row::Row;
 
 /// Why an event was refused. Where several hold of a line, the first of these
 /// is the answer.

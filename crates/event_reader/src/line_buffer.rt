@@ -1,13 +1,13 @@
 //! The bytes that a reader of lines has taken from its source and still holds.
 
-ghost use Rattle.std.specs.Prelude.{◌≡◌, ◌+◌, ◌-◌, ◌<◌, ◌≤◌, ℕ, List, [], false, length, take, drop, vec_len, IfOk, IfErr, OnErr, MatchOption};
+ghost use Rattle.std.specs.Prelude.{◌≡◌, ◌+◌, ◌-◌, ◌<◌, ◌≤◌, ℕ, List, [], true, false, length, take, drop, vec_len, IfOk, IfErr, OnErr, MatchOption};
 ghost use Rattle.cer_outside.specs.Bytes.{ReadsOn, IsAtEnd};
 ghost use Rattle.cer_outside.specs.Causes.{HasCause};
-ghost use Rattle.event_reader.specs.Lines.{has_line_feed};
+ghost use Rattle.event_reader.specs.Lines.{has_line_feed, begins_with_end};
 ghost use Rattle.event_reader.specs.LineBuffers.{bytes_between, IsFirstLineFeed, IsShort, IsStop};
 
 use cer_base::Memory;
-use cer_base::bytes::LINE_FEED;
+use cer_base::bytes::{CARRIAGE_RETURN, LINE_FEED};
 use cer_base::limits::LONGEST_LINE;
 use cer_outside::{Failed, Source};
 use memchr::memchr;
@@ -125,6 +125,27 @@ impl LineBuffer {
         }
     }
 
+    /// Whether a line feed is among the bytes that are in no line yet. No byte is looked at twice.
+    pub fn has_line(&mut self) -> bool
+        ensures kept { self.new ≡ self.old }
+        ensures feed { result ≡ has_line_feed self.old.pending }
+    {
+        match self.find() {
+            Some(_) => true,
+            None => false,
+        }
+    }
+
+    /// Whether the bytes that are in no line yet begin with a line feed or a carriage return.
+    pub fn begins_with_end(&self) -> bool
+        ensures { result ≡ begins_with_end self.now.pending }
+    {
+        match self.buffer.as_slice()[self.from..self.to].first() {
+            Some(byte) => *byte == LINE_FEED || *byte == CARRIAGE_RETURN,
+            None => false,
+        }
+    }
+
     /// Reads once into all the room that is free, at most up to `room` bytes that are in no line
     /// yet, and says how many bytes came.
     fn fill<Q: Source>(&mut self, source: &mut Q, room: u64) -> Result<usize, Failed>
@@ -159,6 +180,7 @@ impl LineBuffer {
         ensures room { length self.new.pending ≤ room }
         ensures stop { IsStop room self.new.pending (Q.left source.new) result }
         ensures cause { HasCause (Q.faults source.old) (Q.faults source.new) result }
+        ensures quiet { has_line_feed self.old.pending ≡ true → source.new ≡ source.old }
     {
         loop {
             if let Some(place) = self.find() {

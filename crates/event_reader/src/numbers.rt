@@ -27,7 +27,7 @@ pub fn scaled(places: u8, field: &[u8]) -> Option<i64>
 }
 
 /// The field without a sign at its beginning.
-fn without_sign(field: &[u8]) -> &[u8]
+pub fn without_sign(field: &[u8]) -> &[u8]
     ensures { result.now ≡ without_leading_sign field.now }
 {
     match field.first() {
@@ -106,7 +106,7 @@ fn with_zeros(size: u64, count: usize) -> Option<u64>
 }
 
 /// The number of this sign and size, where it has signed 64 bits.
-fn signed(minus: bool, size: u64) -> Option<i64>
+pub fn signed(minus: bool, size: u64) -> Option<i64>
     ensures { result ≡ signed minus size }
 {
     if size < 1 << 63 {

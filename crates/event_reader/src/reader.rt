@@ -2,7 +2,7 @@
 
 ghost use Rattle.std.specs.Prelude.{◌≡◌, ◌+◌, ◌-◌, ◌<◌, ◌≤◌, ◌==◌, ℕ, List, [], true, false, length, take, drop, IfOk};
 ghost use Rattle.event_reader.specs.declared.reader.Next.TheVariants as next;
-ghost use Rattle.event_reader.specs.Lines.{has_line_feed, without_mark, line_text};
+ghost use Rattle.event_reader.specs.Lines.{has_line_feed, begins_with_end, without_mark, line_text};
 ghost use Rattle.event_reader.specs.LineBuffers.{IsShort};
 ghost use Rattle.event_reader.specs.Reading.{HasGiven, Follows, HasTakenFor, HasReadCause, OnReadFault, MovesOn};
 
@@ -87,6 +87,23 @@ impl Lines {
         self.closed
     }
 
+    /// Whether the next line lies complete among the bytes that were taken: `next` then asks its
+    /// source nothing. No byte is looked at twice for it.
+    pub fn has_line(&mut self) -> bool
+        ensures kept { self.new ≡ self.old }
+        ensures line { result ≡ has_line_feed self.old.pending }
+    {
+        self.buffer.has_line()
+    }
+
+    /// Whether the bytes that were taken and are in no line yet begin with a line feed or a carriage
+    /// return. Behind line 1 a line is empty, or a carriage return alone, only where they do.
+    pub fn begins_with_end(&self) -> bool
+        ensures { result ≡ begins_with_end self.now.pending }
+    {
+        self.buffer.begins_with_end()
+    }
+
     /// The next line, or the end of the file, or the first of these faults that holds where no
     /// complete line is left among the bytes that were taken. It takes no memory.
     ///
@@ -103,6 +120,7 @@ impl Lines {
         ensures moves { MovesOn self.old self.new result }
         ensures cause { HasReadCause (Q.faults source.old) (Q.faults source.new) result }
         ensures rest { OnReadFault result (IsShort self.new.pending) }
+        ensures quiet { has_line_feed self.old.pending ≡ true → source.new ≡ source.old }
     {
         if self.ended {
             self.closed = true;

@@ -11,7 +11,7 @@ use crate::{RunFault, Taken};
 use cer_base::OrMemory;
 use cer_base::steps::Steps;
 use cer_outside::Source;
-use event_reader::{EventFault, LineFault, Lines, Next, read_event};
+use event_reader::{EventFault, LineFault, Lines, Next, Row};
 use query_engine::{Engine, SeeFault};
 use std::alloc::Global;
 use std::sync::ledger::Ledger;
@@ -21,10 +21,12 @@ use stream_schema::Event;
 ///
 /// Empty lines are passed over. Where it ends otherwise than by `Taken::Event`, the engine stands
 /// for the events that it stood for; after a fault or the end the reader is not asked again.
-/// `lines` has numbered at least as many lines as the engine has taken events.
+/// `lines` has numbered at least as many lines as the engine has taken events. The event is read
+/// into `row`, whatever that holds: one row for all calls spares their memory.
 pub fn take_event<Q: Source, L: Ledger>(
     alloc: Global,
     lines: &mut Lines,
+    row: &mut Row,
     source: &mut Q,
     engine: &mut Engine,
     steps: &mut Steps<L>,
@@ -49,7 +51,7 @@ pub fn take_event<Q: Source, L: Ledger>(
             Ok(Next::End) => return Ok(Taken::End),
             Err(fault) => return Err(OrMemory::Fault(fault_of(fault))),
         }
-        match give_line(alloc, lines, engine, steps) {
+        match give_line(alloc, lines, row, engine, steps) {
             Ok(true) => return Ok(Taken::Event),
             Ok(false) => {}
             Err(OrMemory::Memory) => return Err(OrMemory::Memory),
@@ -79,6 +81,7 @@ fn fault_of(fault: LineFault) -> RunFault
 fn give_line<L: Ledger>(
     alloc: Global,
     lines: &Lines,
+    row: &mut Row,
     engine: &mut Engine,
     steps: &mut Steps<L>,
 ) -> Result<bool, OrMemory<EventFault>>
@@ -93,12 +96,12 @@ fn give_line<L: Ledger>(
     ensures no_step { OnFault result (λ fault. steps.new ≡ steps.old) }
     ensures skipped { result ≡ Ok false → steps.new ≡ steps.old }
 {
-    match read_event(alloc, engine.schema(), lines.text()) {
-        Ok(Some(event)) => {
-            give_event(lines.number(), &event, engine, steps)?;
+    match row.read(alloc, engine.schema(), lines.text()) {
+        Ok(true) => {
+            give_event(lines.number(), row.event(), engine, steps)?;
             Ok(true)
         }
-        Ok(None) => Ok(false),
+        Ok(false) => Ok(false),
         Err(stop) => Err(stop),
     }
 }

@@ -9,7 +9,7 @@ use cer_base::steps::Steps;
 use cer_base::{Memory, OrMemory};
 use cer_outside::Source;
 use cer_outside::sources::MemSource;
-use event_reader::Lines;
+use event_reader::{Lines, Row};
 use query_engine::Engine;
 use std::alloc::{AllocError, Global};
 use std::marker::Brand;
@@ -57,8 +57,9 @@ fn take_all<Q: Source, L: Ledger>(
     requires open { lines.old.closed ≡ false }
     requires counted { count_of engine.old ≤ lines.old.number }
 {
+    let mut row = Row::new(alloc);
     loop {
-        match take_event(alloc, lines, source, engine, steps) {
+        match take_event(alloc, lines, &mut row, source, engine, steps) {
             Ok(Taken::Event) => {}
             Ok(Taken::End) => return Ok(()),
             Err(fault) => return Err(fault),

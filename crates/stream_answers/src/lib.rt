@@ -3,13 +3,15 @@
 //! Promised: `write_answers` gives an engine the events of a file one after the other and writes,
 //! after each, the answers of all queries there, as `specs/Streams` says: all of them up to the
 //! end or to the first fault, and where the sink fails or memory runs out a first part of them.
-//! In sorted order lines are gathered until they fill a piece; in walk order each line is written
-//! before the next answer is asked for.
+//! In sorted order lines are gathered until they fill a piece or the source has to be asked; in walk
+//! order each line is written before the next answer is asked for.
 //! It stands on `event_run` for the events and on `answer_blocks` for the answers.
 #![tactic(auto)]
 
 mod output;
 mod stream;
+#[cfg(test)]
+mod tests;
 
 use event_reader::EventFault;
 pub use stream::write_answers;

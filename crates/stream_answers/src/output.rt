@@ -1,6 +1,7 @@
 //! The lines of a run, gathered and written.
 
-ghost use Rattle.std.specs.Prelude.{◌≡◌, ◌-◌, ◌<◌, ℕ, List, [], length, OnOk, OnErr};
+ghost use Rattle.std.specs.Prelude.{◌≡◌, ◌-◌, ◌<◌, ◌⊎◌, ℕ, List, [], true, length, OnOk, OnErr};
+ghost use Rattle.event_reader.specs.Lines.{has_line_feed};
 ghost use Rattle.stream_schema.specs.declared.Event.{Event};
 ghost use Rattle.cer_outside.specs.Bytes.{TookAll, TookPart};
 ghost use Rattle.cer_outside.specs.Causes.{HasCause, HasCauseOrMemory};
@@ -14,6 +15,7 @@ use cer_base::steps::Steps;
 use cer_base::{Memory, OrMemory};
 use cer_outside::writing::put_all;
 use cer_outside::{Sink, WriteFault};
+use event_reader::Lines;
 use query_engine::Engine;
 use std::alloc::Global;
 use std::marker::Model;
@@ -58,14 +60,18 @@ impl Output {
     }
 
     /// The answers of all queries at the engine's last position. In walk order each line is written
-    /// before the next answer is pulled.
+    /// before the next answer is pulled. In sorted order lines wait only while few are held and the
+    /// reader has its next line at hand, so none waits while the source is asked.
     pub fn put<K: Sink, L: Ledger>(
         &mut self,
         engine: &Engine,
+        lines: &mut Lines,
         out: &mut K,
         steps: &mut Steps<L>,
     ) -> Result<(), OrMemory<WriteFault>>
         requires seen { 0 < count_of engine.now }
+        ensures lines { lines.new ≡ lines.old }
+        ensures waits { OnOk result ((self.new.held ≡ []) ⊎ (has_line_feed lines.old.pending ≡ true)) }
         ensures order { self.new.order ≡ self.old.order }
         ensures passed { (events : List Event) → StandsFor engine.now events → (bytes : List ℕ)
             × AreBlocks self.old.order engine.now.schema 1 engine.now.queries events
@@ -80,7 +86,7 @@ impl Output {
                     Ok(()) => {}
                     Err(Memory) => return Err(OrMemory::Memory),
                 }
-                if self.held.len() < PIECE {
+                if self.may_wait(lines) {
                     return Ok(());
                 }
                 match self.flush(out) {
@@ -89,6 +95,21 @@ impl Output {
                 }
             }
         }
+    }
+
+    /// Whether what is held may wait for more: there is nothing, or it is not a piece and the next
+    /// line, which is not empty, is at hand.
+    fn may_wait(&self, lines: &mut Lines) -> bool
+        ensures lines { lines.new ≡ lines.old }
+        ensures waits { result ≡ true → (self.now.held ≡ []) ⊎ (has_line_feed lines.old.pending ≡ true) }
+    {
+        if self.held.is_empty() {
+            return true;
+        }
+        if self.held.len() >= PIECE || lines.begins_with_end() {
+            return false;
+        }
+        lines.has_line()
     }
 
     /// Writes what is held.

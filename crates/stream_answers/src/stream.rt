@@ -12,14 +12,16 @@ use answer_text::Order;
 use cer_base::steps::Steps;
 use cer_base::{Memory, OrMemory};
 use cer_outside::{Sink, Source, WriteFault};
-use event_reader::Lines;
+use event_reader::{Lines, Row};
 use event_run::{RunFault, Taken, take_event};
 use query_engine::Engine;
 use std::alloc::Global;
 use std::sync::ledger::Ledger;
 
 /// Gives the engine, which is new, the events of the source, of which `most_bytes` bytes are too
-/// many, and writes the answers at each.
+/// many, and writes the answers at each. In walk order a line is written before the next answer is
+/// asked for. In sorted order lines are gathered, and written at the latest when 65,536 bytes of
+/// them stand or the next line of the source is not at hand: none waits while the source is asked.
 ///
 /// The first fault ends it, after the answers that come before were written; where writing fails,
 /// that is the answer.
@@ -48,14 +50,25 @@ pub fn write_answers<Q: Source, K: Sink, L: Ledger>(
         Ok(lines) => lines,
         Err(Memory) => return Err(OrMemory::Memory),
     };
+    let mut row = Row::new(alloc);
     let mut output = Output::new(alloc, order);
-    answer_events(alloc, &mut lines, &mut output, engine, source, out, steps)
+    answer_events(
+        alloc,
+        &mut lines,
+        &mut row,
+        &mut output,
+        engine,
+        source,
+        out,
+        steps,
+    )
 }
 
 /// Gives the engine all further events, and writes the answers at each.
 fn answer_events<Q: Source, K: Sink, L: Ledger>(
     alloc: Global,
     lines: &mut Lines,
+    row: &mut Row,
     output: &mut Output,
     engine: &mut Engine,
     source: &mut Q,
@@ -78,12 +91,12 @@ fn answer_events<Q: Source, K: Sink, L: Ledger>(
     ensures write_cause { HasWriteCause (K.faults out.old) (K.faults out.new) result }
 {
     loop {
-        match take_event(alloc, lines, source, engine, steps) {
+        match take_event(alloc, lines, row, source, engine, steps) {
             Ok(Taken::Event) => {}
             Ok(Taken::End) => return finish(output, out, Ok(())),
             Err(stop) => return finish(output, out, Err(stream_fault(stop))),
         }
-        match output.put(engine, out, steps) {
+        match output.put(engine, lines, out, steps) {
             Ok(()) => {}
             Err(OrMemory::Memory) => return finish(output, out, Err(OrMemory::Memory)),
             Err(OrMemory::Fault(WriteFault)) => {

@@ -13,19 +13,8 @@ use std::alloc::{AllocError, Global};
 use std::marker::Brand;
 use std::sync::ledger::{Blank, Ledger};
 
-/// Two types with a whole number each, and a stream of both.
-const BASE: &str = "DECLARE EVENT A(v INT)\nDECLARE EVENT B(v INT)\nDECLARE STREAM S(A, B)\n";
-
 /// A room that holds all of every output.
 pub const AMPLE: usize = 4000;
-
-/// The query text with the two types, and the query on line 4.
-pub fn text_of(alloc: Global, query: &str) -> Result<String, AllocError> {
-    let mut text = BASE.to_string(alloc)?;
-    text.push_str(query)?;
-    text.push('\n')?;
-    Ok(text)
-}
 
 /// The bytes at the end of the text.
 fn push_bytes(text: &mut String, bytes: &[u8]) -> Result<(), AllocError> {
@@ -112,31 +101,31 @@ pub fn over_sure(
 /// that of the third.
 pub fn failing_host(
     alloc: Global,
-    queries: &str,
-    events: &str,
+    queries: &[u8],
+    events: &[u8],
     open: u64,
     query_read: u64,
     event_read: u64,
 ) -> Result<MemHost, AllocError> {
     let mut files = Vec::new(alloc);
-    for (name, text, read) in [("q", queries, query_read), ("e", events, event_read)] {
+    for (name, bytes, read) in [("q", queries, query_read), ("e", events, event_read)] {
         let Ok(name) = Text::copy_of(alloc, name) else {
             return Err(AllocError);
         };
-        let bytes = Vec::from_slice(alloc, text.as_bytes())?;
+        let bytes = Vec::from_slice(alloc, bytes)?;
         files.push(MemFile::new(name, bytes, 4, Vec::from_slice(alloc, &[read])?))?;
     }
     Ok(MemHost::new(files, Vec::from_slice(alloc, &[open])?))
 }
 
 /// The host that has the query text as `q` and the events as `e`, and never fails.
-fn sure_host(alloc: Global, queries: &str, events: &str) -> Result<SureHost, AllocError> {
+fn sure_host(alloc: Global, queries: &[u8], events: &[u8]) -> Result<SureHost, AllocError> {
     let mut files = Vec::new(alloc);
-    for (name, text) in [("q", queries), ("e", events)] {
+    for (name, bytes) in [("q", queries), ("e", events)] {
         let Ok(name) = Text::copy_of(alloc, name) else {
             return Err(AllocError);
         };
-        let bytes = Vec::from_slice(alloc, text.as_bytes())?;
+        let bytes = Vec::from_slice(alloc, bytes)?;
         files.push(SureFile::new(name, bytes, 3))?;
     }
     Ok(SureHost::new(files))
@@ -146,8 +135,8 @@ fn sure_host(alloc: Global, queries: &str, events: &str) -> Result<SureHost, All
 pub fn both(
     alloc: Global,
     words: &str,
-    queries: &str,
-    events: &str,
+    queries: &[u8],
+    events: &[u8],
 ) -> Result<(String, String), AllocError> {
     let sinks = Sinks {
         room: AMPLE,

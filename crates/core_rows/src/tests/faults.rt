@@ -1,259 +1,202 @@
 //! Each call outside, failing in turn.
+//!
+//! What is left standing is told by the calls that went well before: the sink took 5 bytes with each
+//! write, the notes 7, and each read gave 4 bytes.
 
-use super::calls::{AMPLE, Sinks, failing_host, over_faulty, text_of, words_of};
-use std::test::Fail;
+use super::calls::{AMPLE, Sinks, failing_host, over_faulty, words_of};
+use super::rows::PLAIN;
+use std::alloc::{AllocError, Global};
+use std::process::Abort;
+use std::test::*;
 
-/// The query and the events of all rows here.
-const QUERY: &str = "SELECT * FROM S WHERE A+";
+const QUERY: &str = "SELECT * FROM S WHERE A+\n";
 
 const EVENTS: &str = "A,1\nA,2\nA,3\n";
 
-/// The numbers of the failing open, read of the query file, read of the event file, write and
-/// write of the note. In pieces of 4 bytes the query file takes 25 reads and the event file 4, the
-/// end included; in pieces of 5 bytes the output takes 19 writes. A failing note changes nothing
-/// else.
+/// One answer ends at the first event, two at the second, four at the third.
+const OUTPUT: &str = "\
+1 [0,0] {0}
+1 [0,1] {0,1}
+1 [1,1] {1}
+1 [0,2] {0,1,2}
+1 [0,2] {0,2}
+1 [1,2] {1,2}
+1 [2,2] {2}
+";
+
+/// The number of the call of each kind that fails, from 1; at 0 none does.
+#[derive(Clone, Copy, Debug)]
+struct Failing {
+    open: u64,
+    query_read: u64,
+    event_read: u64,
+    write: u64,
+    note: u64,
+}
+
+const NONE: Failing = Failing {
+    open: 0,
+    query_read: 0,
+    event_read: 0,
+    write: 0,
+    note: 0,
+};
+
+/// The number of a call after so many.
+fn after(calls: usize) -> u64 {
+    (calls as u64).saturating_add(1)
+}
+
+/// The first bytes of the text.
+fn first_bytes(alloc: Global, text: &str, count: usize) -> Result<String, AllocError> {
+    let mut first = String::new(alloc);
+    for byte in text.bytes().take(count) {
+        first.push(char::from(byte))?;
+    }
+    Ok(first)
+}
+
+/// The answers over the events whose lines ended among so many bytes.
+fn answers_among(alloc: Global, bytes: usize) -> Result<String, AllocError> {
+    let events = EVENTS.bytes().take(bytes).filter(|b| *b == b'\n').count();
+    let lines = match events {
+        0 => 0,
+        1 => 1,
+        2 => 3,
+        _ => 7,
+    };
+    let mut answers = String::new(alloc);
+    for line in OUTPUT.lines().take(lines) {
+        answers.push_str(line)?;
+        answers.push('\n')?;
+    }
+    Ok(answers)
+}
+
+/// The call answers the status, the output and the note.
+fn holds(
+    rt: &impl Abort,
+    alloc: Global,
+    failing: Failing,
+    status: u8,
+    output: &str,
+    note: &str,
+) -> Result<(), Fail> {
+    let queries = format!(in alloc; "{PLAIN}{QUERY}")?;
+    let mut host = failing_host(
+        alloc,
+        queries.as_bytes(),
+        EVENTS.as_bytes(),
+        failing.open,
+        failing.query_read,
+        failing.event_read,
+    )?;
+    let sinks = Sinks {
+        room: AMPLE,
+        piece: 5,
+        write: failing.write,
+        note: failing.note,
+    };
+    let found = over_faulty(alloc, words_of(alloc, "run q e")?, &mut host, sinks)?;
+    let wanted = format!(in alloc; "{status}|{output}|{note}")?;
+    assert_eq!(rt; found.as_str(), wanted.as_str(), "{failing:?}");
+    Ok(())
+}
+
+/// There is no third open.
 #[test]
-fn each_failing_call_is_the_cause(rt: HostRuntime) -> Result<(), Fail> {
+fn each_open_fails(rt: HostRuntime) -> Result<(), Fail> {
     let alloc = rt.alloc();
-    let text = text_of(alloc, QUERY)?;
-    for (open, query_read, event_read, write, note, wanted) in [
-        (1, 0, 0, 0, 0, "5||core: cannot open queries\n"),
-        (2, 0, 0, 0, 0, "5||core: cannot open events\n"),
-        (
-            3,
-            0,
-            0,
-            0,
-            0,
-            "0|1 [0,0] {0}\n1 [0,1] {0,1}\n1 [1,1] {1}\n1 [0,2] {0,1,2}\n1 [0,2] {0,2}\n1 [1,2] {1,2}\n1 [2,2] {2}\n|",
-        ),
-        (0, 1, 0, 0, 0, "5||core: cannot read queries\n"),
-        (0, 2, 0, 0, 0, "5||core: cannot read queries\n"),
-        (0, 12, 0, 0, 0, "5||core: cannot read queries\n"),
-        (0, 24, 0, 0, 0, "5||core: cannot read queries\n"),
-        (0, 25, 0, 0, 0, "5||core: cannot read queries\n"),
-        (
-            0,
-            26,
-            0,
-            0,
-            0,
-            "0|1 [0,0] {0}\n1 [0,1] {0,1}\n1 [1,1] {1}\n1 [0,2] {0,1,2}\n1 [0,2] {0,2}\n1 [1,2] {1,2}\n1 [2,2] {2}\n|",
-        ),
-        (0, 0, 1, 0, 0, "5||core: cannot read events\n"),
-        (0, 0, 2, 0, 0, "5|1 [0,0] {0}\n|core: cannot read events\n"),
-        (
-            0,
-            0,
-            3,
-            0,
-            0,
-            "5|1 [0,0] {0}\n1 [0,1] {0,1}\n1 [1,1] {1}\n|core: cannot read events\n",
-        ),
-        (
-            0,
-            0,
-            4,
-            0,
-            0,
-            "5|1 [0,0] {0}\n1 [0,1] {0,1}\n1 [1,1] {1}\n1 [0,2] {0,1,2}\n1 [0,2] {0,2}\n1 [1,2] {1,2}\n1 [2,2] {2}\n|core: cannot read events\n",
-        ),
-        (0, 0, 1, 0, 1, "5||"),
-        (0, 0, 2, 0, 1, "5|1 [0,0] {0}\n|"),
-        (
-            0,
-            0,
-            3,
-            0,
-            1,
-            "5|1 [0,0] {0}\n1 [0,1] {0,1}\n1 [1,1] {1}\n|",
-        ),
-        (
-            0,
-            0,
-            4,
-            0,
-            1,
-            "5|1 [0,0] {0}\n1 [0,1] {0,1}\n1 [1,1] {1}\n1 [0,2] {0,1,2}\n1 [0,2] {0,2}\n1 [1,2] {1,2}\n1 [2,2] {2}\n|",
-        ),
-        (
-            0,
-            0,
-            5,
-            0,
-            0,
-            "0|1 [0,0] {0}\n1 [0,1] {0,1}\n1 [1,1] {1}\n1 [0,2] {0,1,2}\n1 [0,2] {0,2}\n1 [1,2] {1,2}\n1 [2,2] {2}\n|",
-        ),
-        (0, 0, 0, 1, 0, "6||core: cannot write\n"),
-        (0, 0, 0, 2, 0, "6|1 [0,|core: cannot write\n"),
-        (0, 0, 0, 3, 0, "6|1 [0,0] {0|core: cannot write\n"),
-        (0, 0, 0, 4, 0, "6|1 [0,0] {0}\n1 [|core: cannot write\n"),
-        (
-            0,
-            0,
-            0,
-            5,
-            0,
-            "6|1 [0,0] {0}\n1 [0,1] |core: cannot write\n",
-        ),
-        (
-            0,
-            0,
-            0,
-            6,
-            0,
-            "6|1 [0,0] {0}\n1 [0,1] {0,1}|core: cannot write\n",
-        ),
-        (
-            0,
-            0,
-            0,
-            7,
-            0,
-            "6|1 [0,0] {0}\n1 [0,1] {0,1}\n1 [1|core: cannot write\n",
-        ),
-        (
-            0,
-            0,
-            0,
-            8,
-            0,
-            "6|1 [0,0] {0}\n1 [0,1] {0,1}\n1 [1,1] {|core: cannot write\n",
-        ),
-        (
-            0,
-            0,
-            0,
-            9,
-            0,
-            "6|1 [0,0] {0}\n1 [0,1] {0,1}\n1 [1,1] {1}\n1 |core: cannot write\n",
-        ),
-        (
-            0,
-            0,
-            0,
-            10,
-            0,
-            "6|1 [0,0] {0}\n1 [0,1] {0,1}\n1 [1,1] {1}\n1 [0,2]|core: cannot write\n",
-        ),
-        (
-            0,
-            0,
-            0,
-            11,
-            0,
-            "6|1 [0,0] {0}\n1 [0,1] {0,1}\n1 [1,1] {1}\n1 [0,2] {0,1|core: cannot write\n",
-        ),
-        (
-            0,
-            0,
-            0,
-            12,
-            0,
-            "6|1 [0,0] {0}\n1 [0,1] {0,1}\n1 [1,1] {1}\n1 [0,2] {0,1,2}\n1|core: cannot write\n",
-        ),
-        (
-            0,
-            0,
-            0,
-            13,
-            0,
-            "6|1 [0,0] {0}\n1 [0,1] {0,1}\n1 [1,1] {1}\n1 [0,2] {0,1,2}\n1 [0,2|core: cannot write\n",
-        ),
-        (
-            0,
-            0,
-            0,
-            14,
-            0,
-            "6|1 [0,0] {0}\n1 [0,1] {0,1}\n1 [1,1] {1}\n1 [0,2] {0,1,2}\n1 [0,2] {0,|core: cannot write\n",
-        ),
-        (
-            0,
-            0,
-            0,
-            15,
-            0,
-            "6|1 [0,0] {0}\n1 [0,1] {0,1}\n1 [1,1] {1}\n1 [0,2] {0,1,2}\n1 [0,2] {0,2}\n1 |core: cannot write\n",
-        ),
-        (
-            0,
-            0,
-            0,
-            16,
-            0,
-            "6|1 [0,0] {0}\n1 [0,1] {0,1}\n1 [1,1] {1}\n1 [0,2] {0,1,2}\n1 [0,2] {0,2}\n1 [1,2]|core: cannot write\n",
-        ),
-        (
-            0,
-            0,
-            0,
-            17,
-            0,
-            "6|1 [0,0] {0}\n1 [0,1] {0,1}\n1 [1,1] {1}\n1 [0,2] {0,1,2}\n1 [0,2] {0,2}\n1 [1,2] {1,2|core: cannot write\n",
-        ),
-        (
-            0,
-            0,
-            0,
-            18,
-            0,
-            "6|1 [0,0] {0}\n1 [0,1] {0,1}\n1 [1,1] {1}\n1 [0,2] {0,1,2}\n1 [0,2] {0,2}\n1 [1,2] {1,2}\n1 [|core: cannot write\n",
-        ),
-        (
-            0,
-            0,
-            0,
-            19,
-            0,
-            "6|1 [0,0] {0}\n1 [0,1] {0,1}\n1 [1,1] {1}\n1 [0,2] {0,1,2}\n1 [0,2] {0,2}\n1 [1,2] {1,2}\n1 [2,2] |core: cannot write\n",
-        ),
-        (
-            0,
-            0,
-            0,
-            20,
-            0,
-            "0|1 [0,0] {0}\n1 [0,1] {0,1}\n1 [1,1] {1}\n1 [0,2] {0,1,2}\n1 [0,2] {0,2}\n1 [1,2] {1,2}\n1 [2,2] {2}\n|",
-        ),
+    for (open, status, output, note) in [
+        (1, 5, "", "core: cannot open queries\n"),
+        (2, 5, "", "core: cannot open events\n"),
+        (3, 0, OUTPUT, ""),
     ] {
-        let mut host = failing_host(alloc, text.as_str(), EVENTS, open, query_read, event_read)?;
-        let sinks = Sinks {
-            room: AMPLE,
-            piece: 5,
-            write,
-            note,
-        };
-        let words = words_of(alloc, "run q e")?;
-        let answer = over_faulty(alloc, words, &mut host, sinks)?;
-        assert_eq!(rt;
-            answer.as_str(),
-            wanted,
-            "{open} {query_read} {event_read} {write} {note}"
-        );
+        holds(&rt, alloc, Failing { open, ..NONE }, status, output, note)?;
     }
     Ok(())
 }
 
-/// A sink with room for 20 bytes keeps a first part; a missing file cannot be opened.
+/// The last read finds the end.
+#[test]
+fn each_read_of_the_query_file_fails(rt: HostRuntime) -> Result<(), Fail> {
+    let alloc = rt.alloc();
+    let reads = PLAIN.len().saturating_add(QUERY.len()).div_ceil(4);
+    for well in 0..=reads {
+        let query_read = after(well);
+        let failing = Failing { query_read, ..NONE };
+        holds(&rt, alloc, failing, 5, "", "core: cannot read queries\n")?;
+    }
+    let query_read = after(reads).saturating_add(1);
+    holds(&rt, alloc, Failing { query_read, ..NONE }, 0, OUTPUT, "")
+}
+
+/// The answers over the events before stand, whether the note can be written or not.
+#[test]
+fn each_read_of_the_event_file_fails(rt: HostRuntime) -> Result<(), Fail> {
+    let alloc = rt.alloc();
+    let note = "core: cannot read events\n";
+    let reads = EVENTS.len().div_ceil(4);
+    for well in 0..=reads {
+        let event_read = after(well);
+        let output = answers_among(alloc, well.saturating_mul(4))?;
+        let failing = Failing { event_read, ..NONE };
+        holds(&rt, alloc, failing, 5, output.as_str(), note)?;
+        for written in 0..note.len().div_ceil(7) {
+            let told = first_bytes(alloc, note, written.saturating_mul(7))?;
+            let failing = Failing {
+                event_read,
+                note: after(written),
+                ..NONE
+            };
+            holds(&rt, alloc, failing, 5, output.as_str(), told.as_str())?;
+        }
+    }
+    let event_read = after(reads).saturating_add(1);
+    holds(&rt, alloc, Failing { event_read, ..NONE }, 0, OUTPUT, "")
+}
+
+/// A first part of the lines stands. Those over the three events are 12, 26 and 56 bytes, and since a
+/// read gives one event, the lines over an event are written before the next is asked for.
+#[test]
+fn each_write_fails(rt: HostRuntime) -> Result<(), Fail> {
+    let alloc = rt.alloc();
+    let mut write = 0u64;
+    for standing in [
+        0, 5, 10, 12, 17, 22, 27, 32, 37, 38, 43, 48, 53, 58, 63, 68, 73, 78, 83, 88, 93,
+    ] {
+        write = write.saturating_add(1);
+        let output = first_bytes(alloc, OUTPUT, standing)?;
+        let failing = Failing { write, ..NONE };
+        holds(
+            &rt,
+            alloc,
+            failing,
+            6,
+            output.as_str(),
+            "core: cannot write\n",
+        )?;
+    }
+    let write = write.saturating_add(1);
+    holds(&rt, alloc, Failing { write, ..NONE }, 0, OUTPUT, "")
+}
+
+/// A sink with room for 20 bytes keeps as many.
 #[test]
 fn a_full_sink_keeps_a_first_part(rt: HostRuntime) -> Result<(), Fail> {
     let alloc = rt.alloc();
-    let text = text_of(alloc, QUERY)?;
+    let queries = format!(in alloc; "{PLAIN}{QUERY}")?;
+    let mut host = failing_host(alloc, queries.as_bytes(), EVENTS.as_bytes(), 0, 0, 0)?;
     let sinks = Sinks {
         room: 20,
         piece: 7,
         write: 0,
         note: 0,
     };
-    for (words, wanted) in [
-        ("run q e", "6|1 [0,0] {0}\n1 [0,1] |core: cannot write\n"),
-        ("run q f", "5||core: cannot open events\n"),
-        ("run f e", "5||core: cannot open queries\n"),
-    ] {
-        let mut host = failing_host(alloc, text.as_str(), EVENTS, 0, 0, 0)?;
-        let answer = over_faulty(alloc, words_of(alloc, words)?, &mut host, sinks)?;
-        assert_eq!(rt; answer.as_str(), wanted, "{words}");
-    }
+    let found = over_faulty(alloc, words_of(alloc, "run q e")?, &mut host, sinks)?;
+    assert_eq!(rt;
+        found.as_str(),
+        "6|1 [0,0] {0}\n1 [0,1] |core: cannot write\n"
+    );
     Ok(())
 }

@@ -1,37 +1,52 @@
 //! Texts and lines at their limits.
 
-use super::calls::{both, text_of};
+use super::calls::both;
+use super::rows::PLAIN;
 use std::alloc::{AllocError, Global};
-use std::test::Fail;
+use std::process::Abort;
+use std::test::*;
 
 /// A type with a text, its stream, and a query of it for one text.
-const TEXTS: &str =
+const ONE_TEXT: &str =
     "DECLARE EVENT N(s STRING)\nDECLARE STREAM S(N)\n\nSELECT * FROM S WHERE N FILTER N[s = 'a,\"b']\n";
 
 /// A type with a text, its stream, and a query of it.
 const ALL_TEXTS: &str =
     "DECLARE EVENT N(s STRING)\nDECLARE STREAM S(N)\n\nSELECT * FROM S WHERE N\n";
 
-/// The part so often, with the rest behind it.
+/// What both hosts answer.
+fn holds(
+    rt: &impl Abort,
+    alloc: Global,
+    queries: &str,
+    events: &str,
+    wanted: &str,
+) -> Result<(), Fail> {
+    let (faulty, sure) = both(alloc, "run q e", queries.as_bytes(), events.as_bytes())?;
+    assert_eq!(rt; faulty.as_str(), wanted);
+    assert_eq!(rt; sure.as_str(), wanted);
+    Ok(())
+}
+
+/// The part so often, with what stands before and behind it.
 fn repeated(
     alloc: Global,
     front: &str,
     part: &str,
     times: usize,
-    rest: &str,
+    behind: &str,
 ) -> Result<String, AllocError> {
     let mut text = front.to_string(alloc)?;
     for _ in 0..times {
         text.push_str(part)?;
     }
-    text.push_str(rest)?;
+    text.push_str(behind)?;
     Ok(text)
 }
 
 /// Each first part of an event file, from none of it to all of it.
 #[test]
 fn first_parts_of_a_quoted_line(rt: HostRuntime) -> Result<(), Fail> {
-    let alloc = rt.alloc();
     for (events, wanted) in [
         ("", "0||"),
         ("N", "4||core: events line 1: 0 fields where 1 is wanted\n"),
@@ -46,47 +61,31 @@ fn first_parts_of_a_quoted_line(rt: HostRuntime) -> Result<(), Fail> {
         ("N,\"a,\"\"b\"\r", "0|1 [0,0] {0}\n|"),
         ("N,\"a,\"\"b\"\r\n", "0|1 [0,0] {0}\n|"),
     ] {
-        let (first, second) = both(alloc, "run q e", TEXTS, events)?;
-        assert_eq!(rt; first.as_str(), wanted, "{events}");
-        assert_eq!(rt; second.as_str(), wanted, "{events}");
+        holds(&rt, rt.alloc(), ONE_TEXT, events, wanted)?;
     }
     Ok(())
 }
 
-/// A formula made of a part so often, with what stands before and after it.
+/// A chain of so many parts behind the first, and what stands behind it.
 #[test]
 fn formulas_at_their_limits(rt: HostRuntime) -> Result<(), Fail> {
     let alloc = rt.alloc();
-    for (front, part, times, rest, wanted) in [
-        ("A", " ; A", 64usize, "", "0||"),
-        ("A", " ; A", 2047, "", "0||"),
-        (
-            "A",
-            " ; A",
-            2048,
-            "",
-            "3||core: queries 4:1: more than 2048 leaves\n",
-        ),
-        ("A", " ; A", 1023, " FILTER A[v = 1] OR A[v = 2]", "0||"),
-        (
-            "A",
-            " ; A",
-            1024,
-            " FILTER A[v = 1] OR A[v = 2]",
-            "3||core: queries 4:1: more than 2048 leaves\n",
-        ),
+    let too_many = "3||core: queries 4:1: more than 2048 leaves\n";
+    for (times, behind, wanted) in [
+        (63usize, "\n", "0||"),
+        (2047, "\n", "0||"),
+        (2048, "\n", too_many),
+        (1023, " FILTER A[v = 1] OR A[v = 2]\n", "0||"),
+        (1024, " FILTER A[v = 1] OR A[v = 2]\n", too_many),
     ] {
-        let formula = repeated(alloc, front, part, times, rest)?;
-        let query = repeated(alloc, "SELECT * FROM S WHERE ", formula.as_str(), 1, "")?;
-        let text = text_of(alloc, query.as_str())?;
-        let (first, second) = both(alloc, "run q e", text.as_str(), "A,1\n")?;
-        assert_eq!(rt; first.as_str(), wanted, "{times}");
-        assert_eq!(rt; second.as_str(), wanted, "{times}");
+        let query = repeated(alloc, "SELECT * FROM S WHERE A", " ; A", times, behind)?;
+        let text = format!(in alloc; "{PLAIN}{query}")?;
+        holds(&rt, alloc, text.as_str(), "A,1\n", wanted)?;
     }
     Ok(())
 }
 
-/// Parentheses, queries and bytes of a text.
+/// Parentheses and queries of a text.
 #[test]
 fn texts_at_their_limits(rt: HostRuntime) -> Result<(), Fail> {
     let alloc = rt.alloc();
@@ -95,18 +94,19 @@ fn texts_at_their_limits(rt: HostRuntime) -> Result<(), Fail> {
         (65, "3||core: queries 4:87: nested too deeply\n"),
     ] {
         let opened = repeated(alloc, "SELECT * FROM S WHERE ", "(", times, "A")?;
-        let query = repeated(alloc, opened.as_str(), ")", times, "")?;
-        let text = text_of(alloc, query.as_str())?;
-        let (first, _) = both(alloc, "run q e", text.as_str(), "A,1\n")?;
-        assert_eq!(rt; first.as_str(), wanted, "{times}");
+        let query = repeated(alloc, opened.as_str(), ")", times, "\n")?;
+        let text = format!(in alloc; "{PLAIN}{query}")?;
+        holds(&rt, alloc, text.as_str(), "A,1\n", wanted)?;
     }
-    let queries = repeated(alloc, "", "SELECT * FROM S WHERE A\n", 1025, "")?;
-    let text = text_of(alloc, queries.as_str())?;
-    let (first, _) = both(alloc, "run q e", text.as_str(), "A,1\n")?;
-    assert_eq!(rt;
-        first.as_str(),
-        "3||core: queries 1028:1: more than 1024 queries\n"
-    );
+    let queries = repeated(alloc, PLAIN, "SELECT * FROM S WHERE A\n", 1025, "")?;
+    let wanted = "3||core: queries 1028:1: more than 1024 queries\n";
+    holds(&rt, alloc, queries.as_str(), "A,1\n", wanted)
+}
+
+/// The longest text, and one byte more.
+#[test]
+fn bytes_at_their_limit(rt: HostRuntime) -> Result<(), Fail> {
+    let alloc = rt.alloc();
     for (times, wanted) in [
         (1_048_576usize, "3||core: queries 1:1048577: no query\n"),
         (
@@ -115,8 +115,7 @@ fn texts_at_their_limits(rt: HostRuntime) -> Result<(), Fail> {
         ),
     ] {
         let text = repeated(alloc, "", " ", times, "")?;
-        let (first, _) = both(alloc, "run q e", text.as_str(), "A,1\n")?;
-        assert_eq!(rt; first.as_str(), wanted, "{times}");
+        holds(&rt, alloc, text.as_str(), "A,1\n", wanted)?;
     }
     Ok(())
 }
@@ -133,9 +132,7 @@ fn lines_at_their_limit(rt: HostRuntime) -> Result<(), Fail> {
         ),
     ] {
         let events = repeated(alloc, "N,", "x", times, "\n")?;
-        let (first, second) = both(alloc, "run q e", ALL_TEXTS, events.as_str())?;
-        assert_eq!(rt; first.as_str(), wanted, "{times}");
-        assert_eq!(rt; second.as_str(), wanted, "{times}");
+        holds(&rt, alloc, ALL_TEXTS, events.as_str(), wanted)?;
     }
     Ok(())
 }

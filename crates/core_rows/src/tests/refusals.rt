@@ -1,158 +1,119 @@
 //! What is refused, and with which note.
 
-use super::calls::{both, text_of};
-use std::test::Fail;
+use super::calls::both;
+use super::rows::{PLAIN, rows_hold};
+use std::test::*;
 
-/// The event file is good.
+/// Each at its first fault.
+const QUERIES: &str = "\
+query | status | note
+SELECT * FROM S WHERE A ? B | 3 | queries 4:25: byte 3f not allowed
+SELECT * FROM S WHERE A FILTER A[v = 'x] | 3 | queries 4:38: string not closed
+SELECT * FROM S WHERE A FILTER A[v = 9223372036854775808] | 3 | queries 4:38: number too large
+SELECT * FROM S WHERE A FILTER A[v = 1.0123456789] | 3 | queries 4:38: more than 9 decimals
+SELECT * FROM S WHERE A B | 3 | queries 4:25: unexpected token
+SELECT * FROM S WHERE A FILTER A[NOT NOT v = 1] | 3 | queries 4:38: unexpected token
+SELECT * FROM S WHERE A ; | 3 | queries 5:1: unexpected end of text
+DECLARE EVENT All(x INT) | 3 | queries 4:15: unexpected token
+DECLARE EVENT A(x INT) | 3 | queries 4:15: name A taken
+DECLARE EVENT S(x INT) | 3 | queries 4:15: name S taken
+DECLARE STREAM A(B) | 3 | queries 4:16: name A taken
+DECLARE EVENT C(x INT, x INT) | 3 | queries 4:24: name x taken
+DECLARE EVENT C(p DECIMAL(10)) | 3 | queries 4:27: DECIMAL takes 0 to 9
+DECLARE STREAM T(A, C) | 3 | queries 4:21: unknown type C
+SELECT ANY 0 * FROM S WHERE A | 3 | queries 4:12: ANY takes 1 to 4294967295
+SELECT ANY 4294967296 * FROM S WHERE A | 3 | queries 4:12: ANY takes 1 to 4294967295
+SELECT * FROM T WHERE A | 3 | queries 4:15: unknown stream T
+SELECT * FROM T WHERE A / DECLARE STREAM T(A) | 3 | queries 4:15: unknown stream T
+SELECT * FROM S WHERE C | 3 | queries 4:23: unknown type C
+SELECT * FROM S WHERE a | 3 | queries 4:23: unknown type a
+DECLARE STREAM T(B) / SELECT * FROM T WHERE A | 3 | queries 5:23: unknown type A
+SELECT * FROM S WHERE A AS B | 3 | queries 4:28: name B taken
+SELECT * FROM S WHERE A KEEP [x] | 3 | queries 4:31: unknown name x
+SELECT * FROM S WHERE A FILTER x[v = 1] | 3 | queries 4:32: unknown name x
+SELECT * FROM S WHERE (A AS a ; B AS b) KEEP [a] FILTER b[v = 1] | 3 | queries 4:57: unknown name b
+SELECT * FROM S WHERE (A AS a ; B AS b) KEEP [a] KEEP [A] | 3 | queries 4:56: unknown name A
+SELECT b FROM S WHERE (A AS a ; B AS b) KEEP [a] | 3 | queries 4:8: unknown name b
+SELECT * FROM S WHERE A FILTER A[w = 1] | 3 | queries 4:34: unknown attribute w
+SELECT * FROM S WHERE A FILTER A[v = 'x'] | 3 | queries 4:34: attribute v is never STRING
+SELECT x FROM S WHERE A | 3 | queries 4:8: unknown name x
+SELECT * FROM S WHERE A PARTITION BY [k] | 3 | queries 4:39: unknown attribute k
+SELECT * FROM S WHERE A WITHIN 5 [w] | 3 | queries 4:35: window attribute w is not INT in every type
+ | 3 | queries 5:1: no query";
+
+/// The second type has a truth value.
+const TRUTH: &str = "DECLARE EVENT A(v INT)\nDECLARE EVENT B(v BOOL)\nDECLARE STREAM S(A, B)\n";
+
+const ORDERS: &str = "\
+query | status | note
+SELECT * FROM S WHERE A FILTER A[v < TRUE] | 3 | queries 4:34: BOOL has no order
+SELECT * FROM S WHERE A WITHIN 5 [v] | 3 | queries 4:35: window attribute v is not INT in every type";
+
+/// Nothing is read of the event file.
 #[test]
 fn query_texts_are_refused_at_their_first_fault(rt: HostRuntime) -> Result<(), Fail> {
     let alloc = rt.alloc();
-    for (name, query, events, wanted) in [
-        (
-            "a_text_that_ends_too_early",
-            "SELECT * FROM S WHERE A ;",
-            "A,1\n",
-            "3||core: queries 5:1: unexpected end of text\n",
-        ),
-        (
-            "an_attribute_of_another_kind",
-            "SELECT * FROM S WHERE A FILTER A[v = 'x']",
-            "A,1\n",
-            "3||core: queries 4:34: attribute v is never STRING\n",
-        ),
-        (
-            "a_byte_of_no_token",
-            "SELECT * FROM S WHERE A ? B",
-            "A,1\n",
-            "3||core: queries 4:25: byte 3f not allowed\n",
-        ),
-        (
-            "any_of_none",
-            "SELECT ANY 0 * FROM S WHERE A",
-            "A,1\n",
-            "3||core: queries 4:12: ANY takes 1 to 4294967295\n",
-        ),
-        (
-            "an_unknown_type",
-            "SELECT * FROM S WHERE C",
-            "A,1\n",
-            "3||core: queries 4:23: unknown type C\n",
-        ),
-        (
-            "an_unknown_stream",
-            "SELECT * FROM T WHERE A",
-            "A,1\n",
-            "3||core: queries 4:15: unknown stream T\n",
-        ),
-        (
-            "an_unknown_name_to_select",
-            "SELECT x FROM S WHERE A",
-            "A,1\n",
-            "3||core: queries 4:8: unknown name x\n",
-        ),
-        (
-            "a_name_that_is_a_types",
-            "SELECT * FROM S WHERE A AS B",
-            "A,1\n",
-            "3||core: queries 4:28: name B taken\n",
-        ),
-        (
-            "an_unknown_attribute",
-            "SELECT * FROM S WHERE A FILTER A[w = 1]",
-            "A,1\n",
-            "3||core: queries 4:34: unknown attribute w\n",
-        ),
-        (
-            "a_window_attribute_that_is_missing",
-            "SELECT * FROM S WHERE A WITHIN 5 [w]",
-            "A,1\n",
-            "3||core: queries 4:35: window attribute w is not INT in every type\n",
-        ),
-        (
-            "a_text_without_a_query",
-            "",
-            "A,1\n",
-            "3||core: queries 5:1: no query\n",
-        ),
-        (
-            "a_type_declared_twice",
-            "DECLARE EVENT A(x INT)",
-            "A,1\n",
-            "3||core: queries 4:15: name A taken\n",
-        ),
-        (
-            "a_string_that_is_not_closed",
-            "SELECT * FROM S WHERE A FILTER A[v = 'x]",
-            "A,1\n",
-            "3||core: queries 4:38: string not closed\n",
-        ),
-        (
-            "a_number_that_is_too_large",
-            "SELECT * FROM S WHERE A FILTER A[v = 9223372036854775808]",
-            "A,1\n",
-            "3||core: queries 4:38: number too large\n",
-        ),
-        (
-            "a_token_too_many",
-            "SELECT * FROM S WHERE A B",
-            "A,1\n",
-            "3||core: queries 4:25: unexpected token\n",
-        ),
-        (
-            "a_name_that_keep_left_out",
-            "SELECT b FROM S WHERE (A AS a ; B AS b) KEEP [a]",
-            "A,1\n",
-            "3||core: queries 4:8: unknown name b\n",
-        ),
-    ] {
-        let text = text_of(alloc, query)?;
-        let (first, second) = both(alloc, "run q e", text.as_str(), events)?;
-        assert_eq!(rt; first.as_str(), wanted, "{name}");
-        assert_eq!(rt; second.as_str(), wanted, "{name}");
-    }
-    Ok(())
+    rows_hold(&rt, alloc, PLAIN, QUERIES)?;
+    rows_hold(&rt, alloc, TRUTH, ORDERS)?;
+    let scale =
+        "query | status | note\nDECLARE EVENT A(p DECIMAL(10)) | 3 | queries 1:27: DECIMAL takes 0 to 9";
+    rows_hold(&rt, alloc, "", scale)
 }
 
+/// A type of each kind, and a query of three of them.
+const KINDS: &str = "DECLARE EVENT A(v INT)
+DECLARE EVENT N(s STRING)
+DECLARE EVENT D(p DECIMAL(2))
+DECLARE EVENT L(ok BOOL)
+DECLARE STREAM S(A, N, D, L)
+SELECT * FROM S WHERE A
+";
+
 /// What was answered before stays.
+const EVENTS: &str = "\
+events | status | note | output
+A,\r1 | 4 | events line 1: carriage return or byte order mark in the line
+A,1 / \u{feff}A,2 | 4 | events line 2: carriage return or byte order mark in the line | 1 [0,0] {0}
+\u{feff}\u{feff}A,1 | 4 | events line 1: carriage return or byte order mark in the line
+N,\"a | 4 | events line 1: open quote
+A,\"1 | 4 | events line 1: open quote
+C,1 | 4 | events line 1: unknown type
+a,1 | 4 | events line 1: unknown type
+A,1,2 | 4 | events line 1: 2 fields where 1 is wanted
+A | 4 | events line 1: 0 fields where 1 is wanted
+A,x | 4 | events line 1: field 1 is no INT
+A, 1 | 4 | events line 1: field 1 is no INT
+A, | 4 | events line 1: field 1 is no INT
+A,9223372036854775808 | 4 | events line 1: field 1 is no INT
+D,1.505 | 4 | events line 1: field 1 is no DECIMAL(2)
+D,1. | 4 | events line 1: field 1 is no DECIMAL(2)
+D,92233720368547758.08 | 4 | events line 1: field 1 is no DECIMAL(2)
+L,yes | 4 | events line 1: field 1 is no BOOL
+A,1 /  / A,x | 4 | events line 3: field 1 is no INT | 1 [0,0] {0}
+C,\"\r1 | 4 | events line 1: carriage return or byte order mark in the line
+C,\"1 | 4 | events line 1: open quote
+C,x,1 | 4 | events line 1: unknown type
+A,x,1 | 4 | events line 1: 2 fields where 1 is wanted";
+
 #[test]
 fn event_files_are_refused_at_their_first_fault(rt: HostRuntime) -> Result<(), Fail> {
     let alloc = rt.alloc();
-    for (name, query, events, wanted) in [
-        (
-            "a_field_too_many",
-            "SELECT * FROM S WHERE A",
-            "A,1,2\n",
-            "4||core: events line 1: 2 fields where 1 is wanted\n",
-        ),
-        (
-            "a_quote_that_is_open",
-            "SELECT * FROM S WHERE A",
-            "A,\"1\n",
-            "4||core: events line 1: open quote\n",
-        ),
-        (
-            "answers_before_a_refused_line_stand",
-            "SELECT * FROM S WHERE A",
-            "A,1\n\nA,x\n",
-            "4|1 [0,0] {0}\n|core: events line 3: field 1 is no INT\n",
-        ),
-        (
-            "an_event_of_no_type",
-            "SELECT * FROM S WHERE A",
-            "C,1\n",
-            "4||core: events line 1: unknown type\n",
-        ),
-        (
-            "a_carriage_return_within_a_line",
-            "SELECT * FROM S WHERE A",
-            "A,\r1\n",
-            "4||core: events line 1: carriage return or byte order mark in the line\n",
-        ),
-    ] {
-        let text = text_of(alloc, query)?;
-        let (first, second) = both(alloc, "run q e", text.as_str(), events)?;
-        assert_eq!(rt; first.as_str(), wanted, "{name}");
-        assert_eq!(rt; second.as_str(), wanted, "{name}");
-    }
+    rows_hold(&rt, alloc, KINDS, EVENTS)
+}
+
+/// A byte that no UTF-8 text has, in a string and in a field.
+#[test]
+fn bytes_that_are_no_text_are_refused(rt: HostRuntime) -> Result<(), Fail> {
+    let alloc = rt.alloc();
+    let mut queries = Vec::from_slice(alloc, PLAIN.as_bytes())?;
+    queries.extend_from_slice(b"SELECT * FROM S WHERE A FILTER A[v = '\xff']\n")?;
+    let (faulty, sure) = both(alloc, "run q e", queries.as_slice(), b"")?;
+    let wanted = "3||core: queries 4:38: string is not UTF-8\n";
+    assert_eq!(rt; faulty.as_str(), wanted);
+    assert_eq!(rt; sure.as_str(), wanted);
+    let (faulty, sure) = both(alloc, "run q e", KINDS.as_bytes(), b"A,1\nN,\xff\n")?;
+    let wanted = "4|1 [0,0] {0}\n|core: events line 2: field 1 is no STRING\n";
+    assert_eq!(rt; faulty.as_str(), wanted);
+    assert_eq!(rt; sure.as_str(), wanted);
     Ok(())
 }

@@ -1,67 +1,73 @@
 //! What the words ask for.
 
-use super::calls::{both, text_of};
-use std::test::Fail;
+use super::rows::{PLAIN, rows_hold};
+use std::test::*;
 
-/// Each with the query file `q` and the event file `e`.
+/// Each event of the first type is an answer.
+const EACH: &str = "SELECT * FROM S WHERE A\n";
+
+const RUNS: &str = "\
+words | events | status | output | note
+run q e | A,1 / A,2 | 0 | 1 [0,0] {0} / 1 [1,1] {1}
+run --order=sorted q e | A,1 / A,2 | 0 | 1 [0,0] {0} / 1 [1,1] {1}
+run q --order sorted e | A,1 / A,2 | 0 | 1 [0,0] {0} / 1 [1,1] {1}
+run q e --order walk | A,1 / A,2 | 0 | 1 [0,0] {0} / 1 [1,1] {1}
+run --order=walk q e --max-bytes 9 | A,1 / A,2 | 0 | 1 [0,0] {0} / 1 [1,1] {1}
+run -- q e | A,1 / A,2 | 0 | 1 [0,0] {0} / 1 [1,1] {1}
+run q e --max-bytes 4611686018427387904 | A,1 / A,2 | 0 | 1 [0,0] {0} / 1 [1,1] {1}
+run q e --max-bytes 8 | A,1 / A,2 | 8 | 1 [0,0] {0} / 1 [1,1] {1} | events longer than 8 bytes
+run q --max-bytes=+04 e | A,1 / A,2 | 8 | 1 [0,0] {0} | events longer than 4 bytes
+run q e --max-bytes 3 | A,1 / A,2 | 8 |  | events longer than 3 bytes
+run q f | A,1 | 5 |  | cannot open events
+run f e | A,1 | 5 |  | cannot open queries
+run - e | A,1 | 5 |  | cannot open queries
+run -- -q e | A,1 | 5 |  | cannot open queries";
+
+const NOTHING: &str = "\
+words | status | output | note
+ | 2 |  | usage
+run | 2 |  | usage
+run q | 2 |  | usage
+run q e f | 2 |  | usage
+run -q e | 2 |  | usage
+walk q e | 2 |  | usage
+help | 2 |  | usage
+--help | 2 |  | usage
+run --help | 2 |  | usage
+run q e --order | 2 |  | usage
+run q e --order other | 2 |  | usage
+run q e --order walk --order walk | 2 |  | usage
+run q e --max-bytes 0 | 2 |  | usage
+run q e --max-bytes 4611686018427387905 | 2 |  | usage
+run q e --max-bytes 9 --max-bytes 9 | 2 |  | usage
+run q e --compact-every 5 | 2 |  | usage
+sample 0 | 2 |  | usage
+sample 0 3 4 | 2 |  | usage
+sample -1 3 | 2 |  | usage
+sample 18446744073709551616 3 | 2 |  | usage
+sample 0 10000001 | 2 |  | usage
+sample 0 3 --order walk | 2 |  | usage";
+
+/// The sums over two thousand events were counted by the definitions, by another program.
+const SAMPLES: &str = "\
+words | status | output
+sample 0 3 | 0 | events 3 / 1 answers 2 sum 10 / 2 answers 3 sum 15
+sample +0 003 | 0 | events 3 / 1 answers 2 sum 10 / 2 answers 3 sum 15
+sample 7 0 | 0 | events 0 / 1 answers 0 sum 0 / 2 answers 0 sum 0
+sample 18446744073709551615 0 | 0 | events 0 / 1 answers 0 sum 0 / 2 answers 0 sum 0
+sample 7 2000 | 0 | events 2000 / 1 answers 1014 sum 3964594 / 2 answers 10718 sum 54754050";
+
+/// The event file is opened only once the query text is accepted.
+const REFUSED: &str = "\
+words | query | status | output | note
+run q f | SELECT * FROM S | 3 |  | queries 5:1: unexpected end of text";
+
 #[test]
 fn words_are_done(rt: HostRuntime) -> Result<(), Fail> {
     let alloc = rt.alloc();
-    for (name, words, query, events, wanted) in [
-        (
-            "an_option_before_the_names",
-            "run --order=sorted q e",
-            "SELECT * FROM S WHERE A ; B",
-            "A,1\nA,2\nB,3\n",
-            "0|1 [0,2] {0,2}\n1 [1,2] {1,2}\n|",
-        ),
-        (
-            "too_many_bytes_of_events",
-            "run q e --max-bytes 4",
-            "SELECT * FROM S WHERE A+",
-            "A,1\n",
-            "8|1 [0,0] {0}\n|core: events longer than 4 bytes\n",
-        ),
-        (
-            "too_few_words",
-            "run q",
-            "SELECT * FROM S WHERE A",
-            "A,1\n",
-            "2||core: usage: core_cli run QUERIES EVENTS [--order walk|sorted] [--compact-every N] [--max-bytes N], core_cli sample SEED COUNT\n",
-        ),
-        (
-            "an_option_that_comes_later",
-            "run q e --compact-every 5",
-            "SELECT * FROM S WHERE A",
-            "A,1\n",
-            "2||core: usage: core_cli run QUERIES EVENTS [--order walk|sorted] [--compact-every N] [--max-bytes N], core_cli sample SEED COUNT\n",
-        ),
-        (
-            "a_sample_of_three_events",
-            "sample 0 3",
-            "SELECT * FROM S WHERE A",
-            "",
-            "0|events 3\n1 answers 2 sum 10\n2 answers 3 sum 15\n|",
-        ),
-        (
-            "a_sample_of_no_event",
-            "sample 7 0",
-            "SELECT * FROM S WHERE A",
-            "",
-            "0|events 0\n1 answers 0 sum 0\n2 answers 0 sum 0\n|",
-        ),
-        (
-            "a_sample_of_two_thousand_events",
-            "sample 7 2000",
-            "SELECT * FROM S WHERE A",
-            "",
-            "0|events 2000\n1 answers 1014 sum 3964594\n2 answers 10718 sum 54754050\n|",
-        ),
-    ] {
-        let text = text_of(alloc, query)?;
-        let (first, second) = both(alloc, words, text.as_str(), events)?;
-        assert_eq!(rt; first.as_str(), wanted, "{name}");
-        assert_eq!(rt; second.as_str(), wanted, "{name}");
-    }
-    Ok(())
+    let each = format!(in alloc; "{PLAIN}{EACH}")?;
+    rows_hold(&rt, alloc, each.as_str(), RUNS)?;
+    rows_hold(&rt, alloc, each.as_str(), NOTHING)?;
+    rows_hold(&rt, alloc, each.as_str(), SAMPLES)?;
+    rows_hold(&rt, alloc, PLAIN, REFUSED)
 }

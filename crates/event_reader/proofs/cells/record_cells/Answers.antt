@@ -1,4 +1,4 @@
-use Rattle.std.proofs.Common.{◌≡◌, ap, sym, ◌∙◌, arith}
+use Rattle.std.proofs.Common.{ap, sym, ◌∙◌, arith}
 use Rattle.csv.specs.Records.{fields_of}
 use Rattle.event_reader.proofs.Records.{cells_more, field_none}
 use Rattle.event_reader.proofs.cells.record_cells.Goals.{in-Some+in_ok-push, in_default}

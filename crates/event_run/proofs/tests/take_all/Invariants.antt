@@ -3,8 +3,8 @@ use Rattle.std.proofs.Common.{◌≡◌, ◌≤◌, false}
 use Rattle.query_engine.specs.Engine.{count_of}
 use Rattle.event_run.proofs.tests.take_all.Given as goal
 
-abbrev pub invariant-loop-fault : goal.invariant-loop-fault
-invariant-loop-fault g l = (l.lines.closed ≡ false) × (count_of l.engine ≤ l.lines.number)
+abbrev pub invariant-loop-row : goal.invariant-loop-row
+invariant-loop-row g l = (l.lines.closed ≡ false) × (count_of l.engine ≤ l.lines.number)
 
-abbrev pub decreases-loop-fault : goal.decreases-loop-fault
-decreases-loop-fault g l = l.lines.room
+abbrev pub decreases-loop-row : goal.decreases-loop-row
+decreases-loop-row g l = l.lines.room

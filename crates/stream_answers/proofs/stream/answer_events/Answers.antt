@@ -41,7 +41,7 @@ loop-output-preserved g c =
     let owing = owes _ _ c.loop-output.lines c.take_event.new.lines (g.Q.Source.left c.loop-output.source) (g.Q.Source.left c.take_event.new.source) (g.K.Sink.taken c.args.out.now) (g.K.Sink.taken c.loop-output.out) c.loop-output.output.held c.loop-output.engine c.take_event.new.engine inv.running (took inv.running.events inv.running.stands) in
     let same = c.take_event.ensures.same in
     let put = c.in-Ok.ensures.passed _ owing.stands in
-    record {
+    rw c.put.ensures.lines (record {
       running = runs_on _ _ c.take_event.new.lines (g.Q.Source.left c.take_event.new.source) (g.K.Sink.taken c.args.out.now) (g.K.Sink.taken c.loop-output.out) (g.K.Sink.taken c.put.new.out) c.loop-output.output.held put.0 c.put.new.self.held c.take_event.new.engine owing
           (came_as _ _ _ _ _ put.0 inv.order (same.0 ∙ inv.same.0) (same.1 ∙ inv.same.1) put.1) put.2;
       open_is = (rw c.in-Ok-Event.field-0-is at c.in-Ok-Event.ensures.room).1;
@@ -51,7 +51,7 @@ loop-output-preserved g c =
       order = c.put.ensures.order ∙ inv.order;
       read_faults = c.in-Ok-Event.ensures.cause ∙ inv.read_faults;
       write_faults = c.in-Ok.ensures.cause ∙ inv.write_faults;
-    }
+    })
 
 pub returns-in-Err-Memory-clause-wrote : goal.returns-in-Err-Memory-clause-wrote
 returns-in-Err-Memory-clause-wrote g c =

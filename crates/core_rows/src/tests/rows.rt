@@ -1,0 +1,131 @@
+//! Tables of rows: a line each for a whole call of the program.
+
+use super::calls::both;
+use std::alloc::{AllocError, Global};
+use std::process::Abort;
+use std::test::*;
+
+/// Two types with a whole number each, and a stream of both.
+pub const PLAIN: &str = "DECLARE EVENT A(v INT)\nDECLARE EVENT B(v INT)\nDECLARE STREAM S(A, B)\n";
+
+/// Words that run the query file over the event file.
+const RUN: &str = "run q e";
+
+/// The note `usage` of a table.
+const USAGE: &str =
+    "usage: core_cli run QUERIES EVENTS [--order walk|sorted] [--compact-every N] [--max-bytes N], core_cli sample SEED COUNT";
+
+/// What a row says: the words, the lines behind the query text's first ones, the formula of a query
+/// that marks all, the lines of the event file, the status, the lines of the output, and the note.
+#[derive(Clone, Copy)]
+struct Row<'a> {
+    words: &'a str,
+    query: Option<&'a str>,
+    formula: Option<&'a str>,
+    events: Option<&'a str>,
+    status: &'a str,
+    output: &'a str,
+    note: &'a str,
+}
+
+/// The row of the line, whose cells are those of the columns. Where it has no such cell, the words run
+/// both files, the status is 0, and there are no lines.
+fn row_of<'a>(columns: &str, line: &'a str) -> Row<'a> {
+    let mut row = Row {
+        words: RUN,
+        query: None,
+        formula: None,
+        events: None,
+        status: "0",
+        output: "",
+        note: "",
+    };
+    for (column, cell) in columns.split(" | ").zip(line.split(" | ")) {
+        match column {
+            "words" => row.words = cell,
+            "query" => row.query = Some(cell),
+            "formula" => row.formula = Some(cell),
+            "events" => row.events = Some(cell),
+            "status" => row.status = cell,
+            "output" => row.output = cell,
+            "note" => row.note = cell,
+            _ => {}
+        }
+    }
+    row
+}
+
+/// The lines of the cell, which strokes part, each with its line feed.
+fn push_lines(text: &mut String, cell: &str) -> Result<(), AllocError> {
+    for line in cell.split(" / ") {
+        text.push_str(line)?;
+        text.push('\n')?;
+    }
+    Ok(())
+}
+
+/// The query text, which begins with these lines.
+fn queries_of(alloc: Global, first: &str, row: Row<'_>) -> Result<String, AllocError> {
+    let mut text = first.to_string(alloc)?;
+    if let Some(query) = row.query {
+        push_lines(&mut text, query)?;
+    }
+    if let Some(formula) = row.formula {
+        text.push_str("SELECT * FROM S WHERE ")?;
+        push_lines(&mut text, formula)?;
+    }
+    Ok(text)
+}
+
+fn lines_of(alloc: Global, cell: Option<&str>) -> Result<String, AllocError> {
+    let mut text = String::new(alloc);
+    if let Some(lines) = cell {
+        push_lines(&mut text, lines)?;
+    }
+    Ok(text)
+}
+
+/// The status, a bar, the output, a bar, the note. An empty cell is no output, and no note.
+fn wanted_of(alloc: Global, row: Row<'_>) -> Result<String, AllocError> {
+    let mut text = format!(in alloc; "{}|", row.status)?;
+    if !row.output.is_empty() {
+        push_lines(&mut text, row.output)?;
+    }
+    text.push('|')?;
+    match row.note {
+        "" => {}
+        "usage" => write!(text, "core: {USAGE}\n")?,
+        note => write!(text, "core: {note}\n")?,
+    }
+    Ok(text)
+}
+
+/// Holds the row against both hosts.
+fn row_holds(
+    rt: &impl Abort,
+    alloc: Global,
+    first: &str,
+    columns: &str,
+    line: &str,
+) -> Result<(), Fail> {
+    let row = row_of(columns, line);
+    let queries = queries_of(alloc, first, row)?;
+    let events = lines_of(alloc, row.events)?;
+    let wanted = wanted_of(alloc, row)?;
+    let (faulty, sure) = both(alloc, row.words, queries.as_bytes(), events.as_bytes())?;
+    assert_eq!(rt; faulty.as_str(), wanted.as_str(), "{line}");
+    assert_eq!(rt; sure.as_str(), wanted.as_str(), "{line}");
+    Ok(())
+}
+
+/// Holds each row of the table, whose first line names the columns, over query texts that begin with
+/// these lines.
+pub fn rows_hold(rt: &impl Abort, alloc: Global, first: &str, table: &str) -> Result<(), Fail> {
+    let Some((columns, lines)) = table.split_once('\n') else {
+        return Err(Fail::new("a table has no row"));
+    };
+    for line in lines.split('\n') {
+        row_holds(rt, alloc, first, columns, line)?;
+    }
+    Ok(())
+}

@@ -1,0 +1,215 @@
+//! Lines as most files have them, read in one pass: no quote, no carriage return, no byte order mark,
+//! as many fields as are wanted, each of its kind, and whole numbers of few digits. Of any other
+//! line these functions say nothing.
+
+ghost use Rattle.std.specs.Prelude.{◌≡◌, ◌∷◌, ◌<◌, ◌≤◌, ◌^◌, [], true, false, length, take, drop, get_or, IfSome, Ok, Some};
+ghost use Rattle.std.specs.List.{list_any};
+ghost use Rattle.stream_schema.specs.declared.Kind.TheVariants as kind;
+ghost use Rattle.event_reader.specs.Lines.{has_line_feed};
+ghost use Rattle.event_reader.specs.Events.{event_of, event_of_text};
+ghost use Rattle.event_reader.specs.CommonLines.{IsCell, IsNumeral, HasField, HasFields, BeginsNext, following, is_odd};
+
+use crate::numbers::{signed, without_sign};
+use crate::types::Guesses;
+use crate::values::read_value;
+use cer_base::bytes::{CARRIAGE_RETURN, COMMA, QUOTE};
+use std::alloc::Global;
+use stream_schema::{Kind, Schema, TypeId, Value};
+
+/// A number below this may take one digit more.
+const MANY: u64 = 100_000_000_000_000_000;
+
+/// The type of the line's event, whose values are then the list's. Where it answers `None`, nothing is
+/// said of the line or of the values.
+pub fn read_common(
+    alloc: Global,
+    schema: &Schema,
+    guesses: &mut Guesses,
+    line: &[u8],
+    values: &mut Vec<Value>,
+) -> Option<TypeId>
+    requires line_feed { has_line_feed line.now ≡ false }
+    ensures { IfSome result (λ ty. event_of_text schema.now line.now ≡ Ok (Some (record { ty = ty; values = values.new.items }))) }
+{
+    if !has_no_mark(line) {
+        return None;
+    }
+    let Some(end) = cell_end(line) else {
+        return None;
+    };
+    read_typed(alloc, schema, guesses, &line[..end], &line[end..], values)
+}
+
+/// Whether the line has bytes, the first of which is no byte order mark's.
+#[inline]
+fn has_no_mark(line: &[u8]) -> bool
+    ensures { result ≡ true → (0 < length line.now) × (get_or line.now 0 0 < 128) }
+{
+    match line.first() {
+        Some(byte) => *byte < 128,
+        None => false,
+    }
+}
+
+/// How many bytes the field at the beginning has, unless it has a quote or a carriage return.
+#[inline]
+fn cell_end(text: &[u8]) -> Option<usize>
+    ensures within { IfSome result (λ end. end ≤ length text.now) }
+    ensures cell { IfSome result (λ end. IsCell (take end text.now)) }
+{
+    for (i, byte) in text.iter().enumerate() {
+        if *byte == COMMA {
+            return Some(i);
+        }
+        if *byte == QUOTE || *byte == CARRIAGE_RETURN {
+            return None;
+        }
+    }
+    Some(text.len())
+}
+
+/// The type of this name, with the values of the fields that follow.
+#[inline]
+#[tactic(auto, using(crate::proofs::CommonFields::typed))]
+fn read_typed(
+    alloc: Global,
+    schema: &Schema,
+    guesses: &mut Guesses,
+    name: &[u8],
+    fields: &[u8],
+    values: &mut Vec<Value>,
+) -> Option<TypeId>
+    ensures begins { IfSome result (λ ty. BeginsNext fields.now) }
+    ensures plain { IfSome result (λ ty. list_any is_odd fields.now ≡ false) }
+    ensures event { IfSome result (λ ty. event_of schema.now (name.now ∷ following fields.now) ≡ Ok (record { ty = ty; values = values.new.items })) }
+{
+    let Some(ty) = guesses.type_of(schema, name) else {
+        return None;
+    };
+    let kinds = schema.kinds(ty).as_slice();
+    if !fit(values, kinds.len()) {
+        return None;
+    }
+    if read_fields(alloc, kinds, fields, values) {
+        Some(ty)
+    } else {
+        None
+    }
+}
+
+/// Makes the list one of so many values, whichever they are, unless memory runs out.
+#[inline]
+fn fit(values: &mut Vec<Value>, len: usize) -> bool
+    ensures { result ≡ true → length values.new.items ≡ len }
+{
+    if values.len() == len {
+        return true;
+    }
+    refill(values, len)
+}
+
+/// The same, of a list of another length.
+#[inline(never)]
+fn refill(values: &mut Vec<Value>, len: usize) -> bool
+    ensures { result ≡ true → length values.new.items ≡ len }
+{
+    values.clear();
+    for _ in 0..len {
+        match values.push(Value::Flag(false)) {
+            Ok(()) => {}
+            Err(_) => return false,
+        }
+    }
+    true
+}
+
+/// Puts the values of the fields into the list, and says whether they are all and of these kinds.
+#[inline]
+#[tactic(auto, using(crate::proofs::CommonFields::at_first, crate::proofs::CommonFields::at_end))]
+fn read_fields(alloc: Global, kinds: &[Kind], fields: &[u8], values: &mut Vec<Value>) -> bool
+    requires { length values.old.items ≡ length kinds.now }
+    ensures { result ≡ true → HasFields kinds.now fields.now values.new.items }
+{
+    let mut rest = fields;
+    for (i, kind) in kinds.iter().enumerate() {
+        let Some((first, text)) = rest.split_first() else {
+            return false;
+        };
+        if *first != COMMA {
+            return false;
+        }
+        let Some((value, behind)) = read_field(alloc, *kind, text) else {
+            return false;
+        };
+        values[i] = value;
+        rest = behind;
+    }
+    rest.is_empty()
+}
+
+/// The value of the field at the beginning, and what follows.
+#[inline]
+fn read_field(alloc: Global, kind: Kind, text: &[u8]) -> Option<(Value, &[u8])>
+    ensures { IfSome result (λ found. HasField kind text.now found.0 found.1.now) }
+{
+    if kind == Kind::Int {
+        read_number(text)
+    } else {
+        read_other(alloc, kind, text)
+    }
+}
+
+/// The whole number at the beginning, and what follows.
+#[inline]
+#[tactic(auto, using(crate::proofs::CommonNumbers::int_field))]
+fn read_number(text: &[u8]) -> Option<(Value, &[u8])>
+    ensures { IfSome result (λ found. HasField kind.Int text.now found.0 found.1.now) }
+{
+    let minus = matches!(text.first(), Some(b'-'));
+    let Some((size, behind)) = read_digits(without_sign(text)) else {
+        return None;
+    };
+    match signed(minus, size) {
+        Some(number) => Some((Value::Int(number), behind)),
+        None => None,
+    }
+}
+
+/// The number that the digits at the beginning spell, at least one of them, and what follows.
+#[inline]
+#[tactic(auto, using(crate::proofs::CommonNumbers::all_digits_more, crate::proofs::CommonNumbers::spells_more))]
+fn read_digits(text: &[u8]) -> Option<(u64, &[u8])>
+    ensures numeral { IfSome result (λ found. IsNumeral text.now found.0 found.1.now) }
+    ensures some { IfSome result (λ found. length found.1.now < length text.now) }
+{
+    let mut size: u64 = 0;
+    for (i, byte) in text.iter().enumerate() {
+        if !byte.is_ascii_digit() || size >= MANY {
+            return if i == 0 {
+                None
+            } else {
+                Some((size, &text[i..]))
+            };
+        }
+        size = size * 10 + (*byte - b'0') as u64;
+    }
+    if text.is_empty() {
+        None
+    } else {
+        Some((size, &text[text.len()..]))
+    }
+}
+
+/// The same of a field that is no whole number.
+#[inline(never)]
+fn read_other(alloc: Global, kind: Kind, text: &[u8]) -> Option<(Value, &[u8])>
+    ensures { IfSome result (λ found. HasField kind text.now found.0 found.1.now) }
+{
+    let Some(end) = cell_end(text) else {
+        return None;
+    };
+    match read_value(alloc, kind, &text[..end]) {
+        Ok(Some(value)) => Some((value, &text[end..])),
+        Ok(None) | Err(_) => None,
+    }
+}

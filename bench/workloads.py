@@ -1,0 +1,107 @@
+"""The workloads of bench/run: query texts and event files, the same ones at each call."""
+
+import os
+import random
+
+DECLARED = """DECLARE EVENT A(v INT)
+DECLARE EVENT B(v INT)
+DECLARE EVENT C(v INT)
+DECLARE EVENT D(v INT)
+DECLARE STREAM S(A, B, C, D)
+"""
+
+
+def plain_events(dice, count, types="ABCD", high=999):
+    """Events of equally likely types, each with a number from 0 to high."""
+    for _ in range(count):
+        yield f"{dice.choice(types)},{dice.randint(0, high)}"
+
+
+def sequence(dice, count):
+    """Three steps, each met by three events in a thousand."""
+    query = "SELECT * FROM S WHERE A ; B ; C FILTER A[v < 12] AND B[v < 12] AND C[v < 12] WITHIN 1000 EVENTS\n"
+    return DECLARED + query, plain_events(dice, count)
+
+
+def window(length):
+    """A beginning now and then, a frequent step, a rare end; with the window grows what is open."""
+
+    def made(dice, count):
+        query = f"SELECT A, C FROM S WHERE A ; B ; C FILTER A[v < 4] AND B[v < 80] AND C[v < 1] WITHIN {length} EVENTS\n"
+        return DECLARED + query, plain_events(dice, count)
+
+    return made
+
+
+def iteration(dice, count):
+    """Three repetitions; lists keep few of the positions, since the choices would be too many."""
+    queries = """SELECT B FROM S WHERE A+ ; B FILTER A[v < 250] AND B[v < 50] WITHIN 50 EVENTS
+SELECT * FROM S WHERE A :+ : B FILTER A[v < 500] WITHIN 50 EVENTS
+SELECT B, C FROM S WHERE (A+ ; B) KEEP [B] ; C FILTER B[v < 40] AND C[v < 40] WITHIN 50 EVENTS
+"""
+    return DECLARED + queries, plain_events(dice, count)
+
+
+def queries(dice, count):
+    """Sixty-four queries of eight forms over eight types, none with many answers."""
+    types = "ABCDEFGH"
+    forms = [
+        "SELECT * FROM S WHERE {0} ; {1} FILTER {0}[v < {n}] AND {1}[v < {n}] WITHIN 100 EVENTS",
+        "SELECT * FROM S WHERE {0} : {1} FILTER {0}[v < {n}] AND {1}[v >= {n}] WITHIN 100 EVENTS",
+        "SELECT {1} FROM S WHERE {0}+ ; {1} FILTER {0}[v < {n}] AND {1}[v < {n}] WITHIN 40 EVENTS",
+        "SELECT * FROM S WHERE ({0} OR {1}) ; {2} FILTER {0}[v < {n}] AND {1}[v < {n}] AND {2}[v < {n}] WITHIN 60 EVENTS",
+        "SELECT * FROM S WHERE {0} ; {1} ; {2} FILTER {0}[v < {n}] AND {1}[v < {n}] AND {2}[v < {n}] WITHIN 200 EVENTS",
+        "SELECT STRICT * FROM S WHERE {0} ; {1} FILTER {0}[v < {n}] WITHIN 10 EVENTS",
+        "SELECT {0} FROM S WHERE {0} AS x ; {1} FILTER x[v = {n}] AND {1}[v != {n}] WITHIN 5 EVENTS",
+        "SELECT * FROM S WHERE {0} :+ : {1} FILTER {0}[v < {n}] AND {1}[v < {n}] WITHIN 20 EVENTS",
+    ]
+    text = "".join(f"DECLARE EVENT {it}(v INT)\n" for it in types) + f"DECLARE STREAM S({', '.join(types)})\n"
+    for k in range(64):
+        text += forms[k % 8].format(*dice.sample(types, 3), n=dice.randint(20, 60)) + "\n"
+    return text, plain_events(dice, count, types)
+
+
+def answers(dice, count):
+    """One answer for every two events, each of two positions."""
+    return DECLARED + "SELECT * FROM S WHERE A ; B WITHIN 8 EVENTS\n", plain_events(dice, count)
+
+
+def partitions(dice, count):
+    """A thousand users, each with a handful of events in the window; the key is a text."""
+    text = """DECLARE EVENT A(user STRING, v INT, at INT)
+DECLARE EVENT B(user STRING, v INT, at INT)
+DECLARE EVENT C(user STRING, v INT, at INT)
+DECLARE STREAM S(A, B, C)
+SELECT * FROM S WHERE A ; B ; C FILTER A[v < 300] AND B[v < 300] AND C[v < 300] PARTITION BY [user] WITHIN 1 HOUR [at]
+"""
+
+    def events():
+        at = 0
+        for _ in range(count):
+            at += dice.randint(0, 1)
+            yield f"{dice.choice('ABC')},user{dice.randint(0, 999)},{dice.randint(0, 999)},{at}"
+
+    return text, events()
+
+
+ALL = {
+    "sequence": sequence,
+    "window-100": window(100),
+    "window-1000": window(1000),
+    "window-10000": window(10000),
+    "window-100000": window(100000),
+    "iteration": iteration,
+    "queries": queries,
+    "answers": answers,
+    "partitions": partitions,
+}
+
+
+def make(name, folder, events):
+    """Writes the workload's queries.ceql and events.csv into the folder."""
+    os.makedirs(folder, exist_ok=True)
+    text, lines = ALL[name](random.Random(20260101), events)
+    with open(f"{folder}/queries.ceql", "w", encoding="utf-8") as file:
+        file.write(text)
+    with open(f"{folder}/events.csv", "w", encoding="utf-8") as file:
+        file.writelines(f"{line}\n" for line in lines)

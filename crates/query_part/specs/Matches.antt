@@ -1,12 +1,12 @@
 -- The open matches of a query, key by key, and what a key's event makes of them.
-use Rattle.std.specs.Prelude.{◌≡◌, ℕ, ◌+◌, ℤ, ◌≤◌, ◌⊎◌, Bool, true, List, [], ◌∷◌, ◌++◌, length, map, take, All, Contains, Option, Some, None, slice_get, slice_index_or}
+use Rattle.std.specs.Prelude.{◌≡◌, ℕ, ◌+◌, ℤ, ◌<◌, ◌≤◌, ◌⊎◌, Bool, true, List, [], ◌∷◌, ◌++◌, length, map, take, All, Contains, Option, Some, None, slice_get, slice_index_or}
 use Rattle.std.specs.List.{IsDistinct}
 use Rattle.stream_schema.specs.declared.Value.{Value}
 use Rattle.cer_base.specs.declared.node.Stamp.{Stamp}
 use Rattle.cer_base.specs.declared.node.Root.{Root}
 use Rattle.cer_base.specs.declared.node.Node.{Node}
 use Rattle.cea_determinise.specs.declared.cea.Cea.{Cea}
-use Rattle.cea_determinise.specs.Det.{Table, StaysWithin}
+use Rattle.cea_determinise.specs.Det.{Table, StaysWithin, IsSound}
 use Rattle.cea_determinise.specs.Cea.{HasLeavesBelow}
 use Rattle.cea_determinise.specs.Keys.{are_same_sets}
 use Rattle.event_update.specs.declared.Staged.{Staged}
@@ -29,6 +29,13 @@ pub record Held : Type 0 where
 -- lists that are known to rest do
 abbrev pub MayRest : Table → Lists → Type 0
 MayRest t l = l.rests ≡ true → Rest t l.active.entries
+
+-- The number is that of a key that has the values at the places.
+pub record HasKeyThere (h : Held) (places : List ℕ) (values : List Value) (number : ℕ) : Type 0 where
+  pub key : List Value
+  pub numbered : slice_get h.keys number ≡ Some key
+  pub has : are_at key places values ≡ true
+  pub inside : number < length h.rows
 
 -- The number is that of a key that has the values at the places, and whose lists rest.
 pub record HasRest (h : Held) (places : List ℕ) (values : List Value) (number : ℕ) : Type 0 where
@@ -76,6 +83,15 @@ with_key h key = record h { keys = h.keys ++ key ∷ []; rows = h.rows ++ [] ∷
 -- The key is there, or it is put in last.
 abbrev pub TakesKey : Held → List Value → Held → Type 0
 TakesKey old key new = (Contains old.keys key × (new ≡ old)) ⊎ ((Contains old.keys key → ⊥) × (new ≡ with_key old key))
+
+-- Before the key of this number was put in, where it was not there, there were as many as the marks tell.
+pub record HasBegun (m : Marks) (number : ℕ) (mid : Held) : Type 0 where
+  pub before : Held
+  pub key : List Value
+  pub are : AreMarks m before
+  pub sound : IsSound before.table
+  pub takes : TakesKey before key mid
+  pub numbered : slice_get mid.keys number ≡ Some key
 
 -- What is asked before an event: each key's lists can take it in.
 abbrev pub CanTake : Stamp → Held → Type 0

@@ -24,7 +24,8 @@ use Rattle.query_standing.specs.Kept.{Part}
 use Rattle.query_part.specs.declared.part.Step.{Step}
 use Rattle.query_part.specs.declared.part.Step.TheVariants.{Unread, NoKey, Resting, Keyed}
 use Rattle.query_part.specs.KeyPlaces.{AreKeyPlaces}
-use Rattle.query_part.specs.Matches.{Held, none_open, cut, CanCut}
+use Rattle.query_part.specs.Matches.{Held, HasRest, none_open, cut, CanCut}
+use Rattle.query_part.specs.declared.matches.Ready.{Ready}
 
 abbrev pub part_of : Held → Option ℤ → Option ℕ → Part
 part_of h clock here = record { table = h.table; nodes = h.nodes; keys = h.keys; rows = h.rows; clock = clock; here = here }
@@ -34,28 +35,36 @@ abbrev pub put_in : ℕ → Staged → Held → Held
 put_in number staged h = record h { rows = slice_set h.rows number (rows_after (slice_index_or h.rows number []) staged) }
 
 -- what it was before the event was prepared
-abbrev pub kept_of : Option Step → Held → Option ℤ → Option ℕ → Part
-kept_of None h clock here = part_of h clock here
-kept_of (Some Unread) h clock here = part_of h clock here
-kept_of (Some (NoKey now)) h clock here = part_of h clock here
-kept_of (Some (Resting now number)) h clock here = part_of h clock here
-kept_of (Some (Keyed now r)) h clock here = part_of (cut r.marks h) clock here
+abbrev pub kept_of : Option Step → Option Ready → Held → Option ℤ → Option ℕ → Part
+kept_of None ready h clock here = part_of h clock here
+kept_of (Some Unread) ready h clock here = part_of h clock here
+kept_of (Some (NoKey now)) ready h clock here = part_of h clock here
+kept_of (Some (Resting now number)) ready h clock here = part_of h clock here
+kept_of (Some (Keyed now)) None h clock here = part_of h clock here
+kept_of (Some (Keyed now)) (Some r) h clock here = part_of (cut r.marks h) clock here
 
 -- what a commit makes of it
-abbrev pub ready_of : Option Step → Held → Option ℤ → Option ℕ → Option Part
-ready_of None h clock here = None
-ready_of (Some Unread) h clock here = Some (part_of h clock None)
-ready_of (Some (NoKey now)) h clock here = Some (part_of h (Some now) None)
-ready_of (Some (Resting now number)) h clock here = Some (part_of h (Some now) (Some number))
-ready_of (Some (Keyed now r)) h clock here = Some (part_of (put_in r.number r.staged h) (Some now) (Some r.number))
+abbrev pub ready_of : Option Step → Option Ready → Held → Option ℤ → Option ℕ → Option Part
+ready_of None ready h clock here = None
+ready_of (Some Unread) ready h clock here = Some (part_of h clock None)
+ready_of (Some (NoKey now)) ready h clock here = Some (part_of h (Some now) None)
+ready_of (Some (Resting now number)) ready h clock here = Some (part_of h (Some now) (Some number))
+ready_of (Some (Keyed now)) None h clock here = None
+ready_of (Some (Keyed now)) (Some r) h clock here = Some (part_of (put_in r.number r.staged h) (Some now) (Some r.number))
 
 -- what was prepared can be put in, and taken back
-abbrev pub CanEnd : Option Step → Held → Type 0
-CanEnd None h = Unit {0}
-CanEnd (Some Unread) h = Unit {0}
-CanEnd (Some (NoKey now)) h = IsNear now
-CanEnd (Some (Resting now number)) h = IsNear now
-CanEnd (Some (Keyed now r)) h = IsNear now × CanCut r.marks h × (r.number < length h.rows)
+abbrev pub CanEnd : Option Step → Option Ready → Held → Type 0
+CanEnd None ready h = Unit {0}
+CanEnd (Some Unread) ready h = Unit {0}
+CanEnd (Some (NoKey now)) ready h = IsNear now
+CanEnd (Some (Resting now number)) ready h = IsNear now
+CanEnd (Some (Keyed now)) None h = Unit {0}
+CanEnd (Some (Keyed now)) (Some r) h = IsNear now × CanCut r.marks h × (r.number < length h.rows)
+
+-- a number that is told is that of the one key, of a query without a partition, and the key's lists rest
+abbrev pub IsAlone : Query → Option ℕ → Held → Type 0
+IsAlone q None h = Unit {0}
+IsAlone q (Some number) h = (q.partition ≡ []) × HasRest h [] [] number
 
 -- whether one of the query's streams has the type
 abbrev pub reads_type : Declared → Query → ℕ → Bool

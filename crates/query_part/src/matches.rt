@@ -7,12 +7,13 @@ ghost use Rattle.cer_base.specs.declared.node.Node.{Node as NodeData};
 ghost use Rattle.cer_base.specs.declared.node.Node.TheVariants.{Bottom};
 ghost use Rattle.cea_determinise.specs.Cea.{IsWellFormed};
 ghost use Rattle.cea_determinise.specs.Det.{Table, IsSound};
+ghost use Rattle.stream_schema.specs.declared.Value.{Value as Datum};
 ghost use Rattle.event_update.specs.Still.{IsQuiet, Rest};
 ghost use Rattle.event_update.specs.declared.Staged.TheVariants.{Unchanged};
 ghost use Rattle.query_standing.specs.Kept.{Rows};
 ghost use Rattle.event_update.specs.Update.{rows_after, work_bound};
 ghost use Rattle.tecs_enumerate.specs.Rest.{rest, recent_of, Fits};
-ghost use Rattle.query_part.specs.Matches.{Held, MayRest, HasRest, none_open, cut, CanCut, AreMarks, TakesKey, CanTake, IsReady, HasWorked, CanList, entries_for};
+ghost use Rattle.query_part.specs.Matches.{Held, MayRest, HasKeyThere, HasBegun, none_open, cut, CanCut, AreMarks, TakesKey, CanTake, IsReady, HasWorked, CanList, entries_for};
 
 use cea_determinise::cea::Cea;
 use cea_determinise::det::Det;
@@ -198,18 +199,66 @@ impl Matches {
         }
     }
 
-    /// The number of the key of the values at the places, where it is found without a search, its
-    /// lists are known to rest, and no leaf can read the event.
-    pub fn resting(&self, places: &[u64], values: &[Value], bits: &Bits) -> Option<u64>
-        ensures quiet { IfSome result (λ n. IsQuiet bits.now) }
-        ensures rest { IfSome result (HasRest self.now places.now values.now) }
+    /// The number of the key of the values at the places, where it is found without a search. `None`
+    /// says nothing.
+    pub fn find(&self, places: &[u64], values: &[Value]) -> Option<u64>
+        ensures { IfSome result (HasKeyThere self.now places.now values.now) }
     {
-        if !bits.is_empty() {
-            return None;
-        }
-        match self.keys.find(places, values) {
-            Some(number) if self.lists[number as usize].rests => Some(number),
-            _ => None,
+        self.keys.find(places, values)
+    }
+
+    /// Whether the lists of the key of this number are known to rest, and no leaf can read the event.
+    pub fn resting(&self, number: u64, bits: &Bits) -> bool
+        requires { number < length self.now.rows }
+        ensures quiet { result ≡ true → IsQuiet bits.now }
+        ensures rest { result ≡ true → (rows : Rows) × (slice_get self.now.rows number ≡ Some rows)
+            × Rest self.now.table rows }
+    {
+        bits.is_empty() && self.lists[number as usize].rests
+    }
+
+    /// Works out the lists of the key of this number after an event of it. After `Memory` there is
+    /// what there was at the marks.
+    fn work<L: Ledger>(
+        &mut self,
+        marks: Marks,
+        number: u64,
+        bits: &Bits,
+        stamp: Stamp,
+        steps: &mut Steps<L>,
+    ) -> Result<Ready, Memory>
+        requires begun { HasBegun marks number self.old }
+        requires well_formed { WellFormed self.old.nodes }
+        requires in_step { AreInStep (self.old.nodes ++ Bottom stamp ∷ []) }
+        requires bits { length bits.now ≡ room_for self.old.table.cea.size }
+        requires can { CanTake stamp self.old }
+        ensures ready { IfOk result (λ r. (b : HasBegun marks number self.old) → IsReady stamp
+            bits.now b.key r.number r.staged b.before self.new) }
+        ensures marks { IfOk result (λ r. ((b : HasBegun marks number self.old)
+            → cut r.marks self.new ≡ b.before) × CanCut r.marks self.new) }
+        ensures refused { OnErr result ((b : HasBegun marks number self.old)
+            → self.new ≡ b.before) }
+        ensures steps { OnOk result (steps.new
+            ≤ steps.old + work_bound (length self.new.table.states)) }
+        ensures worked { (b : HasBegun marks number self.old) → HasWorked bits.now b.key b.before
+            steps.old steps.new }
+    {
+        let active = &self.lists[number as usize].active;
+        match prepare(active, &mut self.store, &mut self.det, bits, stamp, steps) {
+            Ok(staged) => {
+                let _mark = self.det.mark();
+                let _found = self.det.found();
+                note(self.lists.as_mut_slice(), number, bits, &staged);
+                Ok(Ready {
+                    marks,
+                    number,
+                    staged,
+                })
+            }
+            Err(refused) => {
+                self.cut_to(marks);
+                Err(refused)
+            }
         }
     }
 
@@ -237,23 +286,34 @@ impl Matches {
     {
         let marks = self.marks();
         let number = self.number(key)?;
-        let active = &self.lists[number as usize].active;
-        match prepare(active, &mut self.store, &mut self.det, bits, stamp, steps) {
-            Ok(staged) => {
-                let _mark = self.det.mark();
-                let _found = self.det.found();
-                note(self.lists.as_mut_slice(), number, bits, &staged);
-                Ok(Ready {
-                    marks,
-                    number,
-                    staged,
-                })
-            }
-            Err(refused) => {
-                self.cut_to(marks);
-                Err(refused)
-            }
-        }
+        self.work(marks, number, bits, stamp, steps)
+    }
+
+    /// The same for the key of this number, which is there.
+    pub fn advance_at<L: Ledger>(
+        &mut self,
+        number: u64,
+        bits: &Bits,
+        stamp: Stamp,
+        steps: &mut Steps<L>,
+    ) -> Result<Ready, Memory>
+        requires there { (key : List Datum) × (slice_get self.old.keys number ≡ Some key) }
+        requires well_formed { WellFormed self.old.nodes }
+        requires in_step { AreInStep (self.old.nodes ++ Bottom stamp ∷ []) }
+        requires bits { length bits.now ≡ room_for self.old.table.cea.size }
+        requires can { CanTake stamp self.old }
+        ensures ready { IfOk result (λ r. (key : List Datum) → slice_get self.old.keys number
+            ≡ Some key → IsReady stamp bits.now key r.number r.staged self.old self.new) }
+        ensures marks { IfOk result (λ r. (cut r.marks self.new ≡ self.old)
+            × CanCut r.marks self.new) }
+        ensures refused { OnErr result (self.new ≡ self.old) }
+        ensures steps { OnOk result (steps.new
+            ≤ steps.old + work_bound (length self.new.table.states)) }
+        ensures worked { (key : List Datum) → slice_get self.old.keys number ≡ Some key
+            → HasWorked bits.now key self.old steps.old steps.new }
+    {
+        let marks = self.marks();
+        self.work(marks, number, bits, stamp, steps)
     }
 
     /// Puts the lists in place. It takes no memory.

@@ -9,9 +9,8 @@ ghost use Rattle.query_standing.specs.Clocks.{Reads, FallsBack};
 ghost use Rattle.query_standing.specs.Kept.{PartStands, low_at, roots_at};
 ghost use Rattle.all_or_none.specs.Phases.{IsPrepared, IsIdle, back, IsCommitted, CanPrepare, StandsAt, InTime, part_bound};
 ghost use Rattle.window_clock.specs.Places.{IsNear, IsOf, HasWidth, clock_in};
-ghost use Rattle.event_update.specs.Still.{IsQuiet};
 ghost use Rattle.query_part.specs.KeyPlaces.{AreKeyPlaces};
-ghost use Rattle.query_part.specs.Matches.{HasRest};
+ghost use Rattle.query_part.specs.Matches.{HasKeyThere};
 ghost use Rattle.query_part.specs.Parts.{AreTypesRead, IsMachineOf, HaveClocks, HasEvents};
 
 use crate::machine::{Machine, Reading};
@@ -32,7 +31,7 @@ use tecs_enumerate::Cursor;
 use window_clock::{Clock, TimeBack};
 
 /// What an event does, until it is committed.
-#[derive(Drop)]
+#[derive(Drop, Clone, Copy)]
 pub enum Step {
     /// It is not read.
     Unread,
@@ -40,34 +39,41 @@ pub enum Step {
     NoKey(i128),
     /// It has a key with this number, whose lists rest, and no leaf can read it. Its clock.
     Resting(i128, u64),
-    /// It has a key. Its clock, and the key's lists.
-    Keyed(i128, Ready),
+    /// It has a key, whose lists are ready. Its clock.
+    Keyed(i128),
 }
 
 /// What is kept of one query.
+///
+/// What each event passes stands first, for many queries over one stream.
 #[derive(Drop)]
 pub struct Part {
     alloc: Global,
-    schema: Schema,
-    query: Query,
     /// For each type whether the query reads it.
     types: Vec<bool>,
-    /// For each type the places of the partition's attributes.
-    keys: Vec<Option<Places>>,
-    conditions: Conditions,
-    clock: Clock,
-    matches: Matches,
+    /// The number of the one key, where the query has no partition and the key's lists are known to
+    /// rest.
+    alone: Option<u64>,
+    step: Option<Step>,
     /// The number of the last event's key, where it is read and has one.
     here: Option<u64>,
+    clock: Clock,
     bits: Bits,
-    step: Option<Step>,
+    conditions: Conditions,
+    /// For each type the places of the partition's attributes.
+    keys: Vec<Option<Places>>,
+    matches: Matches,
+    /// The lists that are ready, where the step has a key.
+    ready: Option<Ready>,
+    query: Query,
+    schema: Schema,
 }
 
 impl Model for Part {
     ghost use Rattle.std.specs.Coded.{codes};
     ghost use Rattle.cel_terms.specs.contracts.Formula as formula;
     ghost use Rattle.all_or_none.specs.Phases.{Phase};
-    ghost use Rattle.query_part.specs.Parts.{kept_of, ready_of, CanEnd, IsMade};
+    ghost use Rattle.query_part.specs.Parts.{kept_of, ready_of, CanEnd, IsAlone, IsMade};
 
     ghost Value = { Phase };
 
@@ -76,12 +82,13 @@ impl Model for Part {
     ghost view = { λ p. record {
       schema = p.schema;
       query = p.query;
-      kept = kept_of p.step p.matches p.clock.last p.here;
-      ready = ready_of p.step p.matches p.clock.last p.here;
+      kept = kept_of p.step p.ready p.matches p.clock.last p.here;
+      ready = ready_of p.step p.ready p.matches p.clock.last p.here;
     } };
 
     ghost invariant = { λ p. IsMade p.schema p.query p.types.items p.keys.items p.conditions
-        p.clock.source p.bits p.matches × CanEnd p.step p.matches };
+        p.clock.source p.bits p.matches × CanEnd p.step p.ready p.matches
+        × IsAlone p.query p.alone p.matches };
 }
 
 /// The part with these tables, before any event.
@@ -99,16 +106,18 @@ fn joined(alloc: Global, query: Query, reading: Reading, machine: Machine) -> Pa
 {
     Part {
         alloc,
-        schema: reading.schema,
-        query,
         types: reading.types,
-        keys: reading.keys,
-        conditions: machine.conditions,
-        clock: reading.clock,
-        matches: machine.matches,
-        here: None,
-        bits: machine.bits,
+        alone: None,
         step: None,
+        here: None,
+        clock: reading.clock,
+        bits: machine.bits,
+        conditions: machine.conditions,
+        keys: reading.keys,
+        matches: machine.matches,
+        ready: None,
+        query,
+        schema: reading.schema,
     }
 }
 
@@ -214,17 +223,25 @@ impl Part {
     }
 }
 
-/// The number of the event's key, where it is found without a search, its lists are known to rest,
-/// and no leaf can read the event.
-fn resting(matches: &Matches, table: &[Option<Places>], event: &Event, bits: &Bits) -> Option<u64>
-    ensures quiet { IfSome result (λ n. IsQuiet bits.now) }
-    ensures rest { IfSome result (λ n. (places : List ℕ)
-        × (slice_index_or table.now event.now.ty None ≡ Some places) × HasRest matches.now places
-        event.now.values n) }
+/// The number of the event's key, where it is found without a search.
+fn known(matches: &Matches, table: &[Option<Places>], event: &Event) -> Option<u64>
+    ensures { IfSome result (λ n. (places : List ℕ)
+        × (slice_index_or table.now event.now.ty None ≡ Some places)
+        × HasKeyThere matches.now places event.now.values n) }
 {
     match places_of(table, event.ty) {
-        Some(places) => matches.resting(places, event.values.as_slice(), bits),
+        Some(places) => matches.find(places, event.values.as_slice()),
         None => None,
+    }
+}
+
+/// The number of a key that is found, where the query has no partition: it is the one key.
+fn alone_of(query: &Query, number: u64) -> Option<u64>
+    ensures { IfSome result (λ n. (query.now.partition ≡ []) × (n ≡ number)) }
+{
+    match query.partition.as_slice() {
+        [] => Some(number),
+        _ => None,
     }
 }
 
@@ -243,24 +260,42 @@ impl Keeps for Part {
         }
         let clock = self.clock.now(event, position);
         self.conditions.fill(event, &mut self.bits);
-        if let Some(number) = resting(&self.matches, self.keys.as_slice(), event, &self.bits) {
-            self.step = Some(Step::Resting(clock, number));
-            return Ok(());
+        if let Some(number) = self.alone {
+            if self.bits.is_empty() {
+                self.step = Some(Step::Resting(clock, number));
+                return Ok(());
+            }
         }
-        match key_of(self.alloc, self.keys.as_slice(), event)? {
-            None => {
-                self.step = Some(Step::NoKey(clock));
+        let stamp = Stamp {
+            pos: position,
+            clock,
+        };
+        match known(&self.matches, self.keys.as_slice(), event) {
+            Some(number) => {
+                if self.matches.resting(number, &self.bits) {
+                    self.alone = alone_of(&self.query, number);
+                    self.step = Some(Step::Resting(clock, number));
+                    return Ok(());
+                }
+                let ready = self.matches.advance_at(number, &self.bits, stamp, steps)?;
+                self.alone = None;
+                self.ready = Some(ready);
+                self.step = Some(Step::Keyed(clock));
                 Ok(())
             }
-            Some(key) => {
-                let stamp = Stamp {
-                    pos: position,
-                    clock,
-                };
-                let ready = self.matches.advance(&key, &self.bits, stamp, steps)?;
-                self.step = Some(Step::Keyed(clock, ready));
-                Ok(())
-            }
+            None => match key_of(self.alloc, self.keys.as_slice(), event)? {
+                None => {
+                    self.step = Some(Step::NoKey(clock));
+                    Ok(())
+                }
+                Some(key) => {
+                    let ready = self.matches.advance(&key, &self.bits, stamp, steps)?;
+                    self.alone = None;
+                    self.ready = Some(ready);
+                    self.step = Some(Step::Keyed(clock));
+                    Ok(())
+                }
+            },
         }
     }
 
@@ -276,17 +311,28 @@ impl Keeps for Part {
                 self.clock.set(now);
                 self.here = Some(number);
             }
-            Some(Step::Keyed(now, ready)) => {
-                self.clock.set(now);
-                self.here = Some(ready.number);
-                self.matches.put(ready.number, ready.staged);
-            }
+            Some(Step::Keyed(now)) => match self.ready.take() {
+                None => {}
+                Some(ready) => {
+                    self.clock.set(now);
+                    self.here = Some(ready.number);
+                    self.alone = None;
+                    self.matches.put(ready.number, ready.staged);
+                }
+            },
         }
     }
 
     fn take_back(&mut self) {
-        if let Some(Step::Keyed(_, ready)) = self.step.take() {
-            self.matches.cut_to(ready.marks);
+        match self.step.take() {
+            Some(Step::Keyed(_)) => match self.ready.take() {
+                None => {}
+                Some(ready) => {
+                    self.alone = None;
+                    self.matches.cut_to(ready.marks);
+                }
+            },
+            _ => {}
         }
     }
 }

@@ -1,127 +1,31 @@
-use Rattle.std.proofs.Common.{inr, ◌≡◌, ◌<◌, ◌∙◌, List, All, map, sym, ap, subst, refl, length, Some, slice_get, arith}
-use Rattle.std.proofs.lemmas.Option.{slice_get_within}
-use Rattle.std.proofs.lemmas.List.{with_items_is}
-use Rattle.event_update.specs.Still.{Rest}
-use Rattle.event_update.specs.Update.{IsAdvancedBy, rows_after}
-use Rattle.event_update.proofs.Resting.{unchanged_rest}
-use Rattle.query_standing.specs.Kept.{Rows}
-use Rattle.query_part.specs.declared.matches.Lists.{Lists}
-use Rattle.query_part.specs.Matches.{Held, MayRest, TakesKey, CanCut, cut}
-use Rattle.query_part.proofs.Resting.{rest_later}
-use Rattle.query_part.proofs.Cuts.{cut_back, can_cut, row_at, length_map, same_before, can_mid, sound_mid, grown_from}
+use Rattle.std.proofs.Common.{inr}
+use Rattle.std.proofs.lemmas.Result.{IfOk-weaker, on_err_weaker}
+use Rattle.query_part.specs.Matches.{HasBegun}
+use Rattle.query_part.proofs.Cuts.{can_mid}
 use Rattle.query_part.proofs.matches.Matches.advance.Goals as goal
 
-pub prepare-requires-clause-can : goal.prepare-requires-clause-can
-prepare-requires-clause-can g c =
-    let takes = subst (TakesKey c.args.self.now c.args.key.now) (sym c.self.view_is) c.in_ok-number.ensures.taken in
-    let at = subst (λ (h : Held). slice_get h.keys c.in_ok-number.number ≡ Some c.args.key.now) (sym c.self.view_is) c.in_ok-number.ensures.number in
-    let within = slice_get_within c.self.inside.keys c.in_ok-number.number c.args.key.now at in
-    let inside : c.in_ok-number.number < length c.self.inside.lists.items = (let l = c.self.invariant.0 in omega arith) in
-    can_mid c.args.stamp c.args.self.now _ c.args.key.now takes c.requires.can c.in_ok-number.number c.index.result.now.active.entries (row_at _ c.self.inside.lists.items c.in_ok-number.number c.index.result.now inside c.index.ensures)
+pub work-requires-clause-begun : goal.work-requires-clause-begun
+work-requires-clause-begun g c = record { before = c.args.self.now; key = c.args.key.now; are = c.marks-marks.ensures.are; sound = c.marks-marks.ensures.sound; takes = c.in_ok-number.ensures.taken; numbered = c.in_ok-number.ensures.number }
 
-pub cut_to-requires : goal.cut_to-requires
-cut_to-requires g c =
-    let takes = subst (TakesKey c.args.self.now c.args.key.now) (sym c.self.view_is) c.in_ok-number.ensures.taken in
-    let same = same_before c.args.self.now _ c.args.key.now takes (c.self.invariant.0 ∙ sym (length_map _ c.self.inside.lists.items)) in
-    can_cut c.marks-marks.result c.args.key.now c.args.self.now _ c.marks-marks.ensures.are same takes _ c.args.bits.now c.prepare.new.det c.prepare.ensures.det c.prepare.new.store c.prepare.ensures.grows.more c.prepare.ensures.grows.appended (sound_mid c.args.self.now _ c.args.key.now takes c.marks-marks.ensures.sound)
+pub work-requires-clause-can : goal.work-requires-clause-can
+work-requires-clause-can g c = can_mid c.args.stamp c.args.self.now c.number.new.self c.args.key.now c.in_ok-number.ensures.taken c.requires.can
 
-pub returns-in-Ok-clause-ready : goal.returns-in-Ok-clause-ready
-returns-in-Ok-clause-ready g c =
-    let takes = subst (TakesKey c.args.self.now c.args.key.now) (sym c.self.view_is) c.in_ok-number.ensures.taken in
-    let at = subst (λ (h : Held). slice_get h.keys c.in_ok-number.number ≡ Some c.args.key.now) (sym c.self.view_is) c.in_ok-number.ensures.number in
-    let within = slice_get_within c.self.inside.keys c.in_ok-number.number c.args.key.now at in
-    let inside : c.in_ok-number.number < length c.self.inside.lists.items = (let l = c.self.invariant.0 in omega arith) in
-    let long : length c.note.new.lists ≡ c.self.inside.lists.len = (let e = c.as_mut_slice.ensures.len in let f = c.note.auto.lists in omega arith) in
-    let items = with_items_is c.self.inside.lists c.note.new.lists long in
-    let rows = ap (map (λ (l : Lists). l.active.entries)) items ∙ (c.note.ensures.rows ∙ ap (map (λ (l : Lists). l.active.entries)) c.as_mut_slice.ensures.value) in
-    record {
-      mid = _;
-      takes = takes;
-      keys = refl;
-      rows = rows;
-      numbered = at;
-      before = c.index.result.now.active.entries;
-      before_is = row_at _ c.self.inside.lists.items c.in_ok-number.number c.index.result.now inside c.index.ensures;
-      states = _;
-      states_are = refl;
-      table = c.prepare.ensures.det;
-      sets = c.mark-mark.ensures.sound.states;
-      distinct = c.found-found.ensures.once;
-      nodes = c.prepare.ensures.grows;
-      stands = c.in-Ok.ensures.stands;
-      growth = grown_from c.args.self.now _ c.args.key.now takes _ _ c.prepare.ensures.pushes;
-    }
+pub returns-clause-ready : goal.returns-clause-ready
+returns-clause-ready g c =
+    let b : HasBegun c.marks-marks.result c.in_ok-number.number c.number.new.self = record { before = c.args.self.now; key = c.args.key.now; are = c.marks-marks.ensures.are; sound = c.marks-marks.ensures.sound; takes = c.in_ok-number.ensures.taken; numbered = c.in_ok-number.ensures.number } in
+    IfOk-weaker c.work.result _ _ (λ r f. f b) c.work.ensures.ready
 
-pub returns-in-Ok-clause-marks : goal.returns-in-Ok-clause-marks
-returns-in-Ok-clause-marks g c =
-    let takes = subst (TakesKey c.args.self.now c.args.key.now) (sym c.self.view_is) c.in_ok-number.ensures.taken in
-    let same = same_before c.args.self.now _ c.args.key.now takes (c.self.invariant.0 ∙ sym (length_map _ c.self.inside.lists.items)) in
-    let long : length c.note.new.lists ≡ c.self.inside.lists.len = (let e = c.as_mut_slice.ensures.len in let f = c.note.auto.lists in omega arith) in
-    let items = with_items_is c.self.inside.lists c.note.new.lists long in
-    let rows = ap (map (λ (l : Lists). l.active.entries)) items ∙ (c.note.ensures.rows ∙ ap (map (λ (l : Lists). l.active.entries)) c.as_mut_slice.ensures.value) in
-    let held : List Rows → Held = λ rs. record { table = c.prepare.new.det; nodes = c.prepare.new.store; keys = c.self.inside.keys; rows = rs } in (
-      ap (λ rs. cut c.marks-marks.result (held rs)) rows ∙ cut_back c.marks-marks.result c.args.key.now c.args.self.now _ c.marks-marks.ensures.are same takes _ c.args.bits.now c.prepare.new.det c.prepare.ensures.det c.prepare.new.store c.prepare.ensures.grows.more c.prepare.ensures.grows.appended,
-      subst (λ rs. CanCut c.marks-marks.result (held rs)) (sym rows) (can_cut c.marks-marks.result c.args.key.now c.args.self.now _ c.marks-marks.ensures.are same takes _ c.args.bits.now c.prepare.new.det c.prepare.ensures.det c.prepare.new.store c.prepare.ensures.grows.more c.prepare.ensures.grows.appended (sound_mid c.args.self.now _ c.args.key.now takes c.marks-marks.ensures.sound)),
-    )
+pub returns-clause-marks : goal.returns-clause-marks
+returns-clause-marks g c =
+    let b : HasBegun c.marks-marks.result c.in_ok-number.number c.number.new.self = record { before = c.args.self.now; key = c.args.key.now; are = c.marks-marks.ensures.are; sound = c.marks-marks.ensures.sound; takes = c.in_ok-number.ensures.taken; numbered = c.in_ok-number.ensures.number } in
+    IfOk-weaker c.work.result _ _ (λ r f. (f.0 b, f.1)) c.work.ensures.marks
 
-pub returns-in-Err-clause-refused : goal.returns-in-Err-clause-refused
-returns-in-Err-clause-refused g c =
-    let takes = subst (TakesKey c.args.self.now c.args.key.now) (sym c.self.view_is) c.in_ok-number.ensures.taken in
-    let same = same_before c.args.self.now _ c.args.key.now takes (c.self.invariant.0 ∙ sym (length_map _ c.self.inside.lists.items)) in
-    c.cut_to.ensures ∙ cut_back c.marks-marks.result c.args.key.now c.args.self.now _ c.marks-marks.ensures.are same takes _ c.args.bits.now c.prepare.new.det c.prepare.ensures.det c.prepare.new.store c.prepare.ensures.grows.more c.prepare.ensures.grows.appended
+pub returns-clause-refused : goal.returns-clause-refused
+returns-clause-refused g c =
+    let b : HasBegun c.marks-marks.result c.in_ok-number.number c.number.new.self = record { before = c.args.self.now; key = c.args.key.now; are = c.marks-marks.ensures.are; sound = c.marks-marks.ensures.sound; takes = c.in_ok-number.ensures.taken; numbered = c.in_ok-number.ensures.number } in
+    on_err_weaker c.work.result (λ f. f b) c.work.ensures.refused
 
-pub returns-in-Ok-clause-worked : goal.returns-in-Ok-clause-worked
-returns-in-Ok-clause-worked g c =
-    let takes = subst (TakesKey c.args.self.now c.args.key.now) (sym c.self.view_is) c.in_ok-number.ensures.taken in
-    let at = subst (λ (h : Held). slice_get h.keys c.in_ok-number.number ≡ Some c.args.key.now) (sym c.self.view_is) c.in_ok-number.ensures.number in
-    let within = slice_get_within c.self.inside.keys c.in_ok-number.number c.args.key.now at in
-    let inside : c.in_ok-number.number < length c.self.inside.lists.items = (let l = c.self.invariant.0 in omega arith) in
-    inr (record {
-      mid = _;
-      takes = takes;
-      number = c.in_ok-number.number;
-      numbered = at;
-      rows = c.index.result.now.active.entries;
-      rows_are = row_at _ c.self.inside.lists.items c.in_ok-number.number c.index.result.now inside c.index.ensures;
-      states = _;
-      states_are = refl;
-      work = c.prepare.ensures.refused_steps;
-    })
-
-pub returns-in-Err-clause-worked : goal.returns-in-Err-clause-worked
-returns-in-Err-clause-worked g c =
-    let takes = subst (TakesKey c.args.self.now c.args.key.now) (sym c.self.view_is) c.in_ok-number.ensures.taken in
-    let at = subst (λ (h : Held). slice_get h.keys c.in_ok-number.number ≡ Some c.args.key.now) (sym c.self.view_is) c.in_ok-number.ensures.number in
-    let within = slice_get_within c.self.inside.keys c.in_ok-number.number c.args.key.now at in
-    let inside : c.in_ok-number.number < length c.self.inside.lists.items = (let l = c.self.invariant.0 in omega arith) in
-    inr (record {
-      mid = _;
-      takes = takes;
-      number = c.in_ok-number.number;
-      numbered = at;
-      rows = c.index.result.now.active.entries;
-      rows_are = row_at _ c.self.inside.lists.items c.in_ok-number.number c.index.result.now inside c.index.ensures;
-      states = _;
-      states_are = refl;
-      work = c.prepare.ensures.refused_steps;
-    })
-
-pub invariant_of-self : goal.invariant_of-self
-invariant_of-self g c =
-    let takes = subst (TakesKey c.args.self.now c.args.key.now) (sym c.self.view_is) c.in_ok-number.ensures.taken in
-    let at = subst (λ (h : Held). slice_get h.keys c.in_ok-number.number ≡ Some c.args.key.now) (sym c.self.view_is) c.in_ok-number.ensures.number in
-    let within = slice_get_within c.self.inside.keys c.in_ok-number.number c.args.key.now at in
-    let inside : c.in_ok-number.number < length c.self.inside.lists.items = (let l = c.self.invariant.0 in omega arith) in
-    let row = row_at (λ (l : Lists). l.active.entries) c.self.inside.lists.items c.in_ok-number.number c.index.result.now inside c.index.ensures in
-    let can = can_mid c.args.stamp c.args.self.now _ c.args.key.now takes c.requires.can c.in_ok-number.number c.index.result.now.active.entries row in
-    let long : length c.note.new.lists ≡ c.self.inside.lists.len = (let e = c.as_mut_slice.ensures.len in let f = c.note.auto.lists in omega arith) in
-    let items = with_items_is c.self.inside.lists c.note.new.lists long in
-    let value = c.as_mut_slice.ensures.value in
-    let before = rest_later c.self.inside.det c.prepare.new.det _ c.args.bits.now c.self.inside.lists.items c.prepare.ensures.det c.self.invariant.1 in (
-      c.self.invariant.0 ∙ (sym (ap length value) ∙ (sym c.note.auto.lists ∙ sym (ap length items))),
-      subst (All (MayRest c.prepare.new.det)) (sym items) (c.note.ensures.rests c.prepare.new.det (subst (All (MayRest c.prepare.new.det)) (sym value) before) (λ rows is quiet stays. (
-          let both : Some c.index.result.now.active.entries ≡ Some rows = sym row ∙ (ap (λ ls. slice_get (map (λ (l : Lists). l.active.entries) ls) c.in_ok-number.number) (sym value) ∙ is) in
-          let same : c.index.result.now.active.entries ≡ rows = cc in
-          subst (Rest c.prepare.new.det) same (unchanged_rest c.self.inside.det c.prepare.new.det c.args.bits.now c.args.stamp c.self.inside.store c.prepare.new.store c.index.result.now.active.entries quiet c.mark-mark.ensures.sound can c.prepare.ensures.grows (subst (λ s. IsAdvancedBy c.prepare.new.det c.args.bits.now c.args.stamp c.self.inside.store c.index.result.now.active.entries c.prepare.new.store (rows_after c.index.result.now.active.entries s)) stays c.in-Ok.ensures.advanced))
-          ))),
-    )
+pub returns-clause-worked : goal.returns-clause-worked
+returns-clause-worked g c =
+    let b : HasBegun c.marks-marks.result c.in_ok-number.number c.number.new.self = record { before = c.args.self.now; key = c.args.key.now; are = c.marks-marks.ensures.are; sound = c.marks-marks.ensures.sound; takes = c.in_ok-number.ensures.taken; numbered = c.in_ok-number.ensures.number } in
+    inr (c.work.ensures.worked b)

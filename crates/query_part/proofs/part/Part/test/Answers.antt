@@ -10,7 +10,7 @@ use Rattle.query_part.proofs.part.Part.test.Goals as goal
 
 pub returns-then-not-is_read-clause-in_time : goal.returns-then-not-is_read-clause-in_time
 returns-then-not-is_read-clause-in_time c events count stands before now f =
-    let i = idle_part c.self.inside.schema c.self.inside.query c.self.inside.step c.self.inside.matches c.self.inside.clock.last c.self.inside.here c.args.self.now c.self.view_is c.requires.idle in
+    let i = idle_part c.self.inside.schema c.self.inside.query c.self.inside.step c.self.inside.ready c.self.inside.matches c.self.inside.clock.last c.self.inside.here c.args.self.now c.self.view_is c.requires.idle in
     let told : slice_index_or c.self.inside.types.items c.args.event.now.ty false ≡ false = search rules in
     let of = subst (λ (s : Declared). IsOfSchema s c.args.event.now) (sym i.schema_is) c.requires.of_schema in
     let reads = subst (λ (z : Query). Reads c.self.inside.schema z c.args.event.now) (sym i.query_is) (subst (λ (s : Declared). Reads s c.args.self.now.query c.args.event.now) (sym i.schema_is) f.reads) in
@@ -18,21 +18,21 @@ returns-then-not-is_read-clause-in_time c events count stands before now f =
 
 pub test-requires : goal.test-requires
 test-requires c =
-    let i = idle_part c.self.inside.schema c.self.inside.query c.self.inside.step c.self.inside.matches c.self.inside.clock.last c.self.inside.here c.args.self.now c.self.view_is c.requires.idle in
+    let i = idle_part c.self.inside.schema c.self.inside.query c.self.inside.step c.self.inside.ready c.self.inside.matches c.self.inside.clock.last c.self.inside.here c.args.self.now c.self.view_is c.requires.idle in
     let told : slice_index_or c.self.inside.types.items c.args.event.now.ty false ≡ true = search rules in
     let of = subst (λ (s : Declared). IsOfSchema s c.args.event.now) (sym i.schema_is) c.requires.of_schema in
     record { there = c.self.invariant.0.clocks c.args.event.now c.args.position of (does_read c.self.inside.schema c.self.inside.query c.self.inside.types.items c.args.event.now c.self.invariant.0.types of told) }
 
 pub returns-in-Ok-clause-in_time : goal.returns-in-Ok-clause-in_time
 returns-in-Ok-clause-in_time c events count stands before now f =
-    let i = idle_part c.self.inside.schema c.self.inside.query c.self.inside.step c.self.inside.matches c.self.inside.clock.last c.self.inside.here c.args.self.now c.self.view_is c.requires.idle in
+    let i = idle_part c.self.inside.schema c.self.inside.query c.self.inside.step c.self.inside.ready c.self.inside.matches c.self.inside.clock.last c.self.inside.here c.args.self.now c.self.view_is c.requires.idle in
     let clock = now_is c.self.inside.schema c.self.inside.query.window c.self.inside.clock.source c.args.event.now c.args.position c.in-Ok.field-0 c.in-Ok.field-0 c.self.invariant.0.clock c.in-Ok.ensures.clock refl in
     let inner = subst (λ (z : Query). FallsBack c.self.inside.schema z events c.args.event.now before now) (sym i.query_is) (subst (λ (s : Declared). FallsBack s c.args.self.now.query events c.args.event.now before now) (sym i.schema_is) f) in
     stays c.self.inside.schema c.self.inside.query events c.args.event.now c.self.inside.matches c.self.inside.clock.last c.self.inside.here c.in-Ok.field-0 (inner_stands c.self.inside.schema c.self.inside.query c.self.inside.matches c.self.inside.clock.last c.self.inside.here c.args.self.now i events stands) (subst (λ p. HasClock c.self.inside.schema c.self.inside.query.window c.args.event.now p c.in-Ok.field-0) (sym count) clock) c.in-Ok.ensures.in_time before now inner
 
 pub returns-in-Err-clause-falls : goal.returns-in-Err-clause-falls
 returns-in-Err-clause-falls c events count stands =
-    let i = idle_part c.self.inside.schema c.self.inside.query c.self.inside.step c.self.inside.matches c.self.inside.clock.last c.self.inside.here c.args.self.now c.self.view_is c.requires.idle in
+    let i = idle_part c.self.inside.schema c.self.inside.query c.self.inside.step c.self.inside.ready c.self.inside.matches c.self.inside.clock.last c.self.inside.here c.args.self.now c.self.view_is c.requires.idle in
     let told : slice_index_or c.self.inside.types.items c.args.event.now.ty false ≡ true = search rules in
     let of = subst (λ (s : Declared). IsOfSchema s c.args.event.now) (sym i.schema_is) c.requires.of_schema in
     let reads = does_read c.self.inside.schema c.self.inside.query c.self.inside.types.items c.args.event.now c.self.invariant.0.types of told in

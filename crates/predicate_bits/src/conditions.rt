@@ -66,11 +66,22 @@ impl Conditions {
         ensures members { (k : ℕ) → has into.new k ≡ leaf_conditions self.now event.now k }
         ensures room { length into.new ≡ length into.old }
     {
-        into.clear();
+        empty_out(into);
         if let Some(numbers) = group_of(self.groups.as_slice(), event.ty) {
             add(self.list.as_slice(), numbers.as_slice(), event, into);
         }
     }
+}
+
+/// Takes all numbers out. Most events leave none, so that is tested first.
+fn empty_out(into: &mut Bits)
+    ensures empty { (k : ℕ) → has into.new k ≡ false }
+    ensures room { length into.new ≡ length into.old }
+{
+    if into.is_empty() {
+        return;
+    }
+    into.clear();
 }
 
 /// The numbers of the leaves of the type.

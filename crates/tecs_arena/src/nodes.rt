@@ -66,7 +66,7 @@ impl Nodes {
         ensures appended { OnOk result (self.new.nodes ≡ self.old.nodes ++ node ∷ []) }
         ensures chunks { OnOk result (self.new.chunks
             ≡ cond (nat_lt (length self.old.nodes) (places_of self.old.chunks))
-                self.old.chunks (self.old.chunks + 1)) }
+            self.old.chunks (self.old.chunks + 1)) }
         ensures refused { OnErr result (self.new ≡ self.old) }
     {
         let id = self.len;

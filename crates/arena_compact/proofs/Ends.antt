@@ -1,5 +1,5 @@
 -- From the moved entries and stacks to what a compaction leaves.
-use Rattle.std.proofs.Common.{◌≡◌, ℕ, zero, suc, ◌+◌, ◌<◌, ℤ, Bool, true, false, cond, List, [], ◌∷◌, ◌++◌, length, map, take, get_or, Option, refl, sym, ap, subst, ◌∙◌, inl, inr, arith, All, eq-eqb, length-append, drop}
+use Rattle.std.proofs.Common.{◌≡◌, ℕ, zero, suc, ◌+◌, ◌<◌, ℤ, Bool, true, false, cond, List, [], ◌∷◌, ◌++◌, length, map, take, get_or, Option, refl, sym, ap, subst, ◌∙◌, inl, inr, arith, All, eq-eqb, length-append}
 use Rattle.std.specs.Prelude.{◌≤ℤ◌, int_le, ◌==◌}
 use Rattle.std.specs.Int.Signed.{le_z}
 use Rattle.std.specs.List.{flat_map}
@@ -13,7 +13,7 @@ use Rattle.cer_base.specs.Members.{SetTree, members, newest, recent, IsWellForme
 use Rattle.cer_base.specs.Nodes.{tree, WellFormed, IsRoot}
 use Rattle.cer_base.proofs.Trees.{need-tree}
 use Rattle.cer_base.proofs.Walks.{test_passes, test_tells, is_rooted}
-use Rattle.std.proofs.lemmas.List.{take_all, drop_all, append-nil, get_or_append_left, get_or-append-add}
+use Rattle.std.proofs.lemmas.List.{take_all, get_or_append_left, get_or-append-add}
 use Rattle.tecs_enumerate.specs.declared.descent.Pending.{Pending}
 use Rattle.tecs_enumerate.specs.Rest.{CursorState, id_of, Fits}
 use Rattle.union_lists.specs.Lists.{trees, IsHeaded, IsList, IsUnionList}

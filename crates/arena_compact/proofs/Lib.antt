@@ -10,3 +10,4 @@ pub mod Listed
 pub mod Readings
 pub mod Kept
 pub mod Ends
+pub mod Standing

@@ -32,6 +32,7 @@ use tecs_enumerate::Cursor;
 mod cursors;
 mod fate;
 mod keys;
+pub mod laws;
 mod lists;
 mod marks;
 mod moves;

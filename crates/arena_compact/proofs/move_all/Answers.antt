@@ -1,4 +1,4 @@
-use Rattle.std.proofs.Common.{ℕ, List, map, get_or}
+use Rattle.std.proofs.Common.{ℕ, map, get_or}
 use Rattle.std.specs.Int.{w128}
 use Rattle.std.proofs.lemmas.Int.{to_z-of_z}
 use Rattle.arena_compact.specs.Marks.{IsKept}

@@ -1,9 +1,5 @@
-use Rattle.std.proofs.Common.{ℕ, List, map}
-use Rattle.std.specs.Prelude.{nat_eq}
-use Rattle.std.specs.List.{IsDistinct}
 use Rattle.std.specs.Int.{w128}
 use Rattle.std.proofs.lemmas.Int.{to_z-of_z}
-use Rattle.cer_base.specs.declared.node.Root.{Root}
 use Rattle.arena_compact.specs.Roots.{kept_rows}
 use Rattle.arena_compact.proofs.Kept.{kept_distinct, moved_states}
 use Rattle.arena_compact.proofs.rows.move_rows.Goals as goal

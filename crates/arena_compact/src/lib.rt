@@ -7,6 +7,18 @@
 //! the first free place. A union whose right child goes is replaced by its left child. Greatest
 //! starts stay as they are; needs are computed anew.
 //!
+//! Ten nodes after three events, at the clocks 0, 1 and 2, and one list, of node 8 alone. A join names
+//! its left child, then its right one. To the right is what a compaction from clock 1 on makes of it:
+//! node 5 has a right child that starts at 0, so node 3 stands for it, at its new place.
+//!
+//! ```text
+//!   0  start 0           5  join 3 4         0  start 1
+//!   1  out 0, over 0     6  start 2          1  out 1, over 0
+//!   2  start 1           7  out 2, over 6    2  out 2, over 1
+//!   3  out 1, over 2     8  out 2, over 5
+//!   4  out 1, over 1     9  join 7 8         the list: 2
+//! ```
+//!
 //! It stands on `event_update`, `union_lists` and `tecs_enumerate`, over any store and whatever has the
 //! lists of a key.
 #![tactic(auto)]

@@ -1,0 +1,13 @@
+pub mod Pruned
+pub mod Moving
+pub mod Steps
+pub mod Reached
+pub mod Keeping
+pub mod Loop
+pub mod Headed
+pub mod Rests
+pub mod Listed
+pub mod Readings
+pub mod Kept
+pub mod Ends
+pub mod Standing

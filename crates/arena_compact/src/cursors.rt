@@ -1,0 +1,105 @@
+//! The stacks of held cursors: they say which nodes are kept, and are moved with their nodes.
+ghost use Rattle.std.specs.Prelude.{◌≡◌, ◌+◌, ◌*◌, ◌<◌, ◌≤◌, ◌≤ℤ◌, ◌++◌, [], ◌∷◌, List, ℕ, ℤ, ◌==◌, All, Some, cond, true, false, length, map, get_or, slice_get, slice_set, int_le};
+ghost use Rattle.cer_base.specs.declared.node.Node.{Node};
+ghost use Rattle.tecs_enumerate.specs.Rest.{CursorState, Fits, id_of, prefix_of};
+ghost use Rattle.arena_compact.specs.Compacted.{least_of};
+ghost use Rattle.arena_compact.specs.Marks.{IsKept, AreMarks};
+ghost use Rattle.arena_compact.specs.Roots.{cursor_roots, AreMoved, CursorMoved};
+
+use super::marks::keep;
+use super::moves::place_of;
+use cer_base::node::Id;
+use tecs_enumerate::Cursor;
+
+/// Keeps the nodes that a cursor still has on its stack.
+pub fn keep_cursor(cursor: &Cursor, table: &mut [Option<Id>])
+    requires inside { All (λ id. id < length table.old) (map id_of cursor.now.stack) }
+    ensures marks { (low : ℤ) → (nodes : List Node) → (roots : List ℕ) → length nodes ≤ length table.old → low ≤ℤ cursor.now.low → Fits cursor.now nodes → AreMarks low nodes roots (length nodes) table.old → AreMarks low nodes (roots ++ map id_of cursor.now.stack) (length nodes) table.new }
+    ensures long { length table.new ≡ length table.old }
+{
+    for k in 0..cursor.depth() {
+        keep(table, cursor.at(k));
+    }
+}
+
+/// Moves a cursor's stack: each entry is of the new place of its node.
+pub fn move_cursor(cursor: &mut Cursor, table: &[Option<Id>])
+    requires kept { All (λ id. IsKept table.now id) (map id_of cursor.old.stack) }
+    ensures moved { AreMoved table.now cursor.old.stack cursor.new.stack }
+    ensures same { cursor.new ≡ record cursor.old { stack = cursor.new.stack } }
+{
+    for k in 0..cursor.depth() {
+        cursor.set(k, place_of(table, cursor.at(k)));
+    }
+}
+
+/// Keeps the nodes that the cursor still has on its stack, if it is the query's.
+fn keep_if(cursor: &Cursor, query: u64, table: &mut [Option<Id>])
+    requires inside { cursor.now.query ≡ query → All (λ id. id < length table.old) (map id_of cursor.now.stack) }
+    ensures marks { (low : ℤ) → (nodes : List Node) → (roots : List ℕ) → length nodes ≤ length table.old → (cursor.now.query ≡ query → (low ≤ℤ cursor.now.low) × Fits cursor.now nodes) → AreMarks low nodes roots (length nodes) table.old → AreMarks low nodes (roots ++ cursor_roots query (cursor.now ∷ [])) (length nodes) table.new }
+    ensures long { length table.new ≡ length table.old }
+{
+    if cursor.query() == query {
+        keep_cursor(cursor, table);
+    }
+}
+
+/// Keeps the nodes that the query's cursors still have on their stacks.
+pub fn keep_cursors(cursors: &[Cursor], query: u64, table: &mut [Option<Id>])
+    requires inside { All (λ w. w.query ≡ query → All (λ id. id < length table.old) (map id_of w.stack)) cursors.now }
+    ensures marks { (low : ℤ) → (nodes : List Node) → (roots : List ℕ) → length nodes ≤ length table.old → All (λ w. w.query ≡ query → (low ≤ℤ w.low) × Fits w nodes) cursors.now → AreMarks low nodes roots (length nodes) table.old → AreMarks low nodes (roots ++ cursor_roots query cursors.now) (length nodes) table.new }
+    ensures long { length table.new ≡ length table.old }
+{
+    for k in 0..cursors.len() {
+        keep_if(&cursors[k], query, table);
+    }
+}
+
+/// Moves the cursor, if it is the query's.
+fn move_if(cursor: &mut Cursor, query: u64, table: &[Option<Id>])
+    requires kept { cursor.old.query ≡ query → All (λ id. IsKept table.now id) (map id_of cursor.old.stack) }
+    ensures { CursorMoved query table.now cursor.old cursor.new }
+{
+    if cursor.query() == query {
+        move_cursor(cursor, table);
+    }
+}
+
+/// Moves the stacks of the query's cursors.
+pub fn move_cursors(cursors: &mut [Cursor], query: u64, table: &[Option<Id>])
+    requires kept { All (λ w. w.query ≡ query → All (λ id. IsKept table.now id) (map id_of w.stack)) cursors.old }
+    ensures length { length cursors.new ≡ length cursors.old }
+    ensures moved { (k : ℕ) → (d : CursorState) → k < length cursors.old → CursorMoved query table.now (get_or cursors.old k d) (get_or cursors.new k d) }
+{
+    for k in 0..cursors.len() {
+        move_if(&mut cursors[k], query, table);
+    }
+}
+
+/// Whether the first clock is not above the second.
+fn is_lower(a: i128, b: i128) -> bool
+    ensures { result ≡ int_le a b }
+{
+    a <= b
+}
+
+/// The lower one of a clock and the cursor's, if it is the query's.
+fn lower(cursor: &Cursor, query: u64, low: i128) -> i128
+    ensures { result ≡ cond (cursor.now.query == query) (cond (int_le low cursor.now.low) low cursor.now.low) low }
+{
+    if cursor.query() == query && !is_lower(low, cursor.low()) {
+        return cursor.low();
+    }
+    low
+}
+
+/// The least of a clock and the clocks of the query's cursors.
+pub fn least_low(cursors: &[Cursor], query: u64, low: i128) -> i128
+    ensures { result ≡ least_of query low cursors.now }
+{
+    let mut least = low;
+    for k in 0..cursors.len() {
+        least = lower(&cursors[k], query, least);
+    }
+    least
+}

@@ -1,0 +1,117 @@
+//! The lists of all keys, wherever a caller has them.
+ghost use Rattle.std.specs.Prelude.{◌≡◌, ◌+◌, ◌*◌, ◌<◌, ◌≤◌, ◌++◌, List, ℕ, All, Some, true, length, map, slice_get, int_le};
+ghost use Rattle.cer_base.specs.declared.node.Node.{Node};
+ghost use Rattle.cer_base.specs.declared.node.Root.{Root};
+ghost use Rattle.cer_base.specs.Nodes.{IsRoot};
+ghost use Rattle.event_update.specs.Update.{entries_in};
+ghost use Rattle.arena_compact.specs.Marks.{AreMarks};
+ghost use Rattle.arena_compact.specs.Roots.{key_roots, places, AreOlder, IsPlaced, kept_rows, RowsMoved, KeysMoved};
+
+use super::rows::{keep_rows, move_rows};
+use cer_base::node::Id;
+use cer_base::steps::Steps;
+use cer_base::store::NodeStore;
+use event_update::Active;
+use std::alloc::Global;
+use std::mem;
+use std::sync::ledger::Ledger;
+
+/// What has the lists of one key: they can be seen, taken out and put back. A compaction takes the
+/// lists of each key out once and puts them back at once, and touches nothing else of it.
+pub trait HasLists {
+    ghost use Rattle.std.specs.Prelude.{List, ℕ};
+    ghost use Rattle.cer_base.specs.declared.node.Root.{Root};
+
+    /// The states in the order in which they were entered, each with the entries of its list.
+    ghost rows: { Self → List (ℕ × List Root) };
+
+    /// The lists.
+    fn lists(&self) -> &Active
+        ensures { result.now.entries ≡ rows self.now };
+
+    /// Hands the lists over, and may have any others until `put`. It takes no memory.
+    fn take(&mut self) -> Active
+        ensures { result.entries ≡ rows self.old };
+
+    /// Has these lists from now on. It takes no memory.
+    fn put(&mut self, lists: Active)
+        ensures { rows self.new ≡ lists.entries };
+}
+
+impl HasLists for Active {
+    ghost rows = { λ a. a.entries };
+
+    fn lists(&self) -> &Active {
+        self
+    }
+
+    fn take(&mut self) -> Active {
+        let alloc = *self.allocator();
+        mem::replace(self, Active::new(alloc))
+    }
+
+    fn put(&mut self, lists: Active) {
+        *self = lists;
+    }
+}
+
+/// Keeps the nodes of the recent entries of all keys' lists. One step for each entry.
+pub fn keep_keys<K: HasLists, L: Ledger>(
+    keys: &[K],
+    low: i128,
+    table: &mut [Option<Id>],
+    steps: &mut Steps<L>,
+)
+    requires inside { All (λ rows. All (λ r. All (λ e. e.id < length table.old) r.1) rows)
+        (map K.rows keys.now) }
+    ensures marks { (nodes : List Node) → (roots : List ℕ) → length nodes ≤ length table.old
+        → All (λ rows. All (λ r. All (IsRoot nodes) r.1) rows) (map K.rows keys.now)
+        → AreMarks low nodes roots (length nodes) table.old
+        → AreMarks low nodes (roots ++ key_roots low (map K.rows keys.now)) (length nodes)
+        table.new }
+    ensures long { length table.new ≡ length table.old }
+    ensures steps { steps.new ≡ steps.old + places (map K.rows keys.now) }
+{
+    for k in 0..keys.len() {
+        keep_rows(keys[k].lists(), low, table, steps);
+    }
+}
+
+/// Moves the recent entries of a key's lists. At most three steps for each entry.
+fn move_key<S: NodeStore, K: HasLists, L: Ledger>(
+    store: &S,
+    low: i128,
+    key: &mut K,
+    table: &[Option<Id>],
+    steps: &mut Steps<L>,
+)
+    requires older { All (λ r. AreOlder r.1) (K.rows key.old) }
+    requires placed { All (λ r. All (λ e. int_le low e.max.clock ≡ true
+        → IsPlaced (S.nodes store.now) table.now e.id) r.1) (K.rows key.old) }
+    ensures moved { RowsMoved (S.nodes store.now) table.now (kept_rows low (K.rows key.old))
+        (K.rows key.new) }
+    ensures steps { steps.new ≤ steps.old + 3 * entries_in (K.rows key.old) }
+{
+    let lists = move_rows(store, low, key.take(), table, steps);
+    key.put(lists);
+}
+
+/// Moves the recent entries of all keys' lists. At most three steps for each entry.
+pub fn move_keys<S: NodeStore, K: HasLists, L: Ledger>(
+    store: &S,
+    low: i128,
+    keys: &mut [K],
+    table: &[Option<Id>],
+    steps: &mut Steps<L>,
+)
+    requires older { All (λ rows. All (λ r. AreOlder r.1) rows) (map K.rows keys.old) }
+    requires placed { All (λ rows. All (λ r. All (λ e. int_le low e.max.clock ≡ true
+        → IsPlaced (S.nodes store.now) table.now e.id) r.1) rows) (map K.rows keys.old) }
+    ensures moved { KeysMoved low (S.nodes store.now) table.now (map K.rows keys.old)
+        (map K.rows keys.new) }
+    ensures steps { steps.new ≤ steps.old + 3 * places (map K.rows keys.old) }
+{
+    for k in 0..keys.len() {
+        move_key(store, low, &mut keys[k], table, steps);
+    }
+}

@@ -1,0 +1,226 @@
+//! Compaction: of the nodes of a query only those stay that its lists or held cursors still need, and
+//! of these only what is recent.
+//!
+//! A node is needed where it can be reached from a recent entry of a list, or from the stack of a
+//! held cursor, by no right child of a union whose greatest start is too old. The needed nodes are
+//! marked from the newest to the oldest, and then moved down from the oldest to the newest, each to
+//! the first free place. A union whose right child goes is replaced by its left child. Greatest
+//! starts stay as they are; needs are computed anew.
+//!
+//! Ten nodes after three events, at the clocks 0, 1 and 2, and one list, of node 8 alone. A join names
+//! its left child, then its right one. To the right is what a compaction from clock 1 on makes of it:
+//! node 5 has a right child that starts at 0, so node 3 stands for it, at its new place.
+//!
+//! ```text
+//!   0  start 0           5  join 3 4         0  start 1
+//!   1  out 0, over 0     6  start 2          1  out 1, over 0
+//!   2  start 1           7  out 2, over 6    2  out 2, over 1
+//!   3  out 1, over 2     8  out 2, over 5
+//!   4  out 1, over 1     9  join 7 8         the list: 2
+//! ```
+//!
+//! It stands on `event_update`, `union_lists` and `tecs_enumerate`, over any store and whatever has the
+//! lists of a key.
+#![tactic(auto)]
+
+ghost use Rattle.std.specs.Prelude.{◌≡◌, ◌+◌, ◌*◌, ◌<◌, ◌≤◌, ◌≤ℤ◌, ◌++◌, ℕ, List, All, None, length, map, get_or, IfOk};
+ghost use Rattle.cer_base.specs.declared.node.Root.{Root};
+ghost use Rattle.cer_base.specs.Nodes.{WellFormed};
+ghost use Rattle.tecs_enumerate.specs.Rest.{CursorState, Fits};
+ghost use Rattle.union_lists.specs.Lists.{IsUnionList};
+ghost use Rattle.arena_compact.specs.Marks.{AreMarks};
+ghost use Rattle.arena_compact.specs.Roots.{key_roots, cursor_roots, places};
+ghost use Rattle.arena_compact.specs.Compacted.{least_of, roots_of, Compacted, KeysCompacted, CursorCompacted};
+
+use cer_base::Memory;
+use cer_base::node::Id;
+use cer_base::steps::Steps;
+use cer_base::store::NodeStore;
+use std::alloc::Global;
+use std::marker::Model;
+use std::sync::ledger::Ledger;
+use tecs_enumerate::Cursor;
+
+mod cursors;
+mod fate;
+mod keys;
+pub mod laws;
+mod lists;
+mod marks;
+mod moves;
+mod rows;
+
+use cursors::{keep_cursors, least_low, move_cursors};
+pub use keys::HasLists;
+use keys::{keep_keys, move_keys};
+use marks::keep_needed;
+use moves::move_nodes;
+
+/// Room for a compaction, seen as the number of nodes that it has places for.
+#[derive(Drop)]
+pub struct Room {
+    places: Vec<Option<Id>>,
+}
+
+impl Model for Room {
+    ghost use Rattle.std.specs.Prelude.{ℕ, length};
+
+    ghost Value = { ℕ };
+
+    ghost view = { λ r. length r.places.items };
+}
+
+impl Room {
+    /// Room for n nodes. `Memory` where it cannot be had.
+    pub fn new(alloc: Global, n: u64) -> Result<Room, Memory>
+        ensures { IfOk result (λ r. r ≡ n) }
+    {
+        Ok(Room {
+            places: Vec::from_elem(alloc, None, n as usize)?,
+        })
+    }
+}
+
+/// Marks all nodes that are needed. At most one step for each node and each entry.
+fn keep_all<S: NodeStore, K: HasLists, L: Ledger>(
+    store: &S,
+    query: u64,
+    keys: &[K],
+    cursors: &[Cursor],
+    least: i128,
+    table: &mut [Option<Id>],
+    steps: &mut Steps<L>,
+)
+    requires well_formed { WellFormed (S.nodes store.now) }
+    requires lists { All (λ rows. All (λ r. IsUnionList (S.nodes store.now) r.1) rows)
+        (map K.rows keys.now) }
+    requires cursors { All (λ w. w.query ≡ query → (least ≤ℤ w.low)
+        × Fits w (S.nodes store.now)) cursors.now }
+    requires room { length (S.nodes store.now) ≤ length table.old }
+    requires blank { (id : ℕ) → get_or table.old id None ≡ None }
+    ensures marks { AreMarks least (S.nodes store.now)
+        (key_roots least (map K.rows keys.now) ++ cursor_roots query cursors.now) 0 table.new }
+    ensures long { length table.new ≡ length table.old }
+    ensures steps { steps.new
+        ≤ steps.old + places (map K.rows keys.now) + length (S.nodes store.now) }
+{
+    keep_keys(keys, least, table, steps);
+    keep_cursors(cursors, query, table);
+    keep_needed(store, least, table, steps);
+}
+
+/// Moves all nodes that are needed, and with them the entries of the lists and the stacks of the
+/// query's cursors. At most four steps for each node and three for each entry.
+fn move_all<S: NodeStore, K: HasLists, L: Ledger>(
+    store: &mut S,
+    query: u64,
+    keys: &mut [K],
+    cursors: &mut [Cursor],
+    least: i128,
+    table: &mut [Option<Id>],
+    steps: &mut Steps<L>,
+)
+    requires well_formed { WellFormed (S.nodes store.old) }
+    requires lists { All (λ rows. All (λ r. IsUnionList (S.nodes store.old) r.1) rows)
+        (map K.rows keys.old) }
+    requires cursors { All (λ w. w.query ≡ query → (least ≤ℤ w.low)
+        × Fits w (S.nodes store.old)) cursors.old }
+    requires room { length (S.nodes store.old) ≤ length table.old }
+    requires marks { AreMarks least (S.nodes store.old)
+        (key_roots least (map K.rows keys.old) ++ cursor_roots query cursors.old) 0 table.old }
+    ensures nodes { Compacted least (S.nodes store.old) (S.nodes store.new)
+        (roots_of query (map K.rows keys.new) cursors.new) }
+    ensures lists { KeysCompacted least (S.nodes store.old) (S.nodes store.new)
+        (map K.rows keys.old) (map K.rows keys.new) }
+    ensures cursors { (k : ℕ) → (d : CursorState) → k < length cursors.old
+        → CursorCompacted query (S.nodes store.old) (S.nodes store.new)
+        (get_or cursors.old k d) (get_or cursors.new k d) }
+    ensures count { length cursors.new ≡ length cursors.old }
+    ensures steps { steps.new
+        ≤ steps.old + 4 * length (S.nodes store.old) + 3 * places (map K.rows keys.old) }
+{
+    move_nodes(store, least, table, steps);
+    move_cursors(cursors, query, table);
+    move_keys(store, least, keys, table, steps);
+}
+
+/// Makes all places of the table empty.
+fn blank(table: &mut [Option<Id>])
+    ensures blank { (id : ℕ) → get_or table.new id None ≡ None }
+    ensures long { length table.new ≡ length table.old }
+{
+    for k in 0..table.len() {
+        table[k] = None;
+    }
+}
+
+/// `compact`, over the room as a slice.
+fn compact_in<S: NodeStore, K: HasLists, L: Ledger>(
+    store: &mut S,
+    query: u64,
+    keys: &mut [K],
+    cursors: &mut [Cursor],
+    low: i128,
+    table: &mut [Option<Id>],
+    steps: &mut Steps<L>,
+)
+    requires well_formed { WellFormed (S.nodes store.old) }
+    requires lists { All (λ rows. All (λ r. IsUnionList (S.nodes store.old) r.1) rows)
+        (map K.rows keys.old) }
+    requires cursors { All (λ w. w.query ≡ query → Fits w (S.nodes store.old)) cursors.old }
+    requires room { length (S.nodes store.old) ≤ length table.old }
+    ensures nodes { Compacted (least_of query low cursors.old) (S.nodes store.old)
+        (S.nodes store.new) (roots_of query (map K.rows keys.new) cursors.new) }
+    ensures lists { KeysCompacted (least_of query low cursors.old) (S.nodes store.old)
+        (S.nodes store.new) (map K.rows keys.old) (map K.rows keys.new) }
+    ensures cursors { (k : ℕ) → (d : CursorState) → k < length cursors.old
+        → CursorCompacted query (S.nodes store.old) (S.nodes store.new)
+        (get_or cursors.old k d) (get_or cursors.new k d) }
+    ensures count { length cursors.new ≡ length cursors.old }
+    ensures steps { steps.new
+        ≤ steps.old + 8 * length (S.nodes store.old) + 4 * places (map K.rows keys.old) }
+{
+    let least = least_low(cursors, query, low);
+    blank(table);
+    keep_all(store, query, keys, cursors, least, table, steps);
+    move_all(store, query, keys, cursors, least, table, steps);
+}
+
+/// Keeps of a query's nodes what the recent entries of the lists and the query's cursors need; a
+/// start is recent where its clock is at least the least of `low` and these cursors' own. The room
+/// is for as many nodes as the store has.
+///
+/// Of each key the states stay that have a recent entry, in their order, each with its recent entries
+/// in their order; a cursor of the query has the same answers left, and one of another query is not
+/// touched. Nodes get other ids, so a list or a cursor of the query that is not among these no longer
+/// goes with the store. It takes no memory, at most eight steps for each node and four for each
+/// entry.
+pub fn compact<S: NodeStore, K: HasLists, L: Ledger>(
+    store: &mut S,
+    query: u64,
+    keys: &mut [K],
+    cursors: &mut [Cursor],
+    low: i128,
+    room: &mut Room,
+    steps: &mut Steps<L>,
+)
+    requires well_formed { WellFormed (S.nodes store.old) }
+    requires lists { All (λ rows. All (λ r. IsUnionList (S.nodes store.old) r.1) rows)
+        (map K.rows keys.old) }
+    requires cursors { All (λ w. w.query ≡ query → Fits w (S.nodes store.old)) cursors.old }
+    requires room { length (S.nodes store.old) ≤ room.old }
+    ensures nodes { Compacted (least_of query low cursors.old) (S.nodes store.old)
+        (S.nodes store.new) (roots_of query (map K.rows keys.new) cursors.new) }
+    ensures lists { KeysCompacted (least_of query low cursors.old) (S.nodes store.old)
+        (S.nodes store.new) (map K.rows keys.old) (map K.rows keys.new) }
+    ensures cursors { (k : ℕ) → (d : CursorState) → k < length cursors.old
+        → CursorCompacted query (S.nodes store.old) (S.nodes store.new)
+        (get_or cursors.old k d) (get_or cursors.new k d) }
+    ensures count { length cursors.new ≡ length cursors.old }
+    ensures room { room.new ≡ room.old }
+    ensures steps { steps.new
+        ≤ steps.old + 8 * length (S.nodes store.old) + 4 * places (map K.rows keys.old) }
+{
+    let table = room.places.as_mut_slice();
+    compact_in(store, query, keys, cursors, low, table, steps);
+}

@@ -1,0 +1,131 @@
+//! The lists of one key, each with its state.
+ghost use Rattle.std.specs.Prelude.{◌≡◌, ◌+◌, ◌*◌, ◌<◌, ◌≤◌, ◌++◌, [], List, ℕ, All, Some, true, false, length, take, map, nat_eq, slice_get, int_le};
+ghost use Rattle.std.specs.List.{IsDistinct};
+ghost use Rattle.cer_base.specs.declared.node.Node.{Node};
+ghost use Rattle.cer_base.specs.declared.node.Root.{Root};
+ghost use Rattle.cer_base.specs.Nodes.{IsRoot};
+ghost use Rattle.event_update.specs.Update.{entries_in};
+ghost use Rattle.arena_compact.specs.Marks.{AreMarks};
+ghost use Rattle.arena_compact.specs.Roots.{recent_entries, row_roots, AreOlder, IsPlaced, kept_rows, RowsMoved, MovedAt};
+
+use super::lists::{keep_list, move_list};
+use cea_determinise::table::State;
+use cer_base::node::Id;
+use cer_base::steps::Steps;
+use cer_base::store::NodeStore;
+use event_update::Active;
+use std::sync::ledger::Ledger;
+use union_lists::UList;
+
+/// Keeps the nodes of the recent entries of a key's lists. One step for each entry.
+pub fn keep_rows<L: Ledger>(
+    active: &Active,
+    low: i128,
+    table: &mut [Option<Id>],
+    steps: &mut Steps<L>,
+)
+    requires inside { All (λ r. All (λ e. e.id < length table.old) r.1) active.now.entries }
+    ensures marks { (nodes : List Node) → (roots : List ℕ) → length nodes ≤ length table.old
+        → All (λ r. All (IsRoot nodes) r.1) active.now.entries
+        → AreMarks low nodes roots (length nodes) table.old
+        → AreMarks low nodes (roots ++ row_roots low active.now.entries) (length nodes) table.new }
+    ensures long { length table.new ≡ length table.old }
+    ensures steps { steps.new ≡ steps.old + entries_in active.now.entries }
+{
+    for k in 0..active.len() {
+        keep_list(active.list(k), low, table, steps);
+    }
+}
+
+/// Moves the recent entries of row k, and gives how many rows stay: those before `kept`, and row k
+/// behind them where it has one. At most three steps for each entry.
+fn move_row<S: NodeStore, L: Ledger>(
+    store: &S,
+    low: i128,
+    rows: &mut [(State, UList)],
+    kept: usize,
+    k: usize,
+    table: &[Option<Id>],
+    steps: &mut Steps<L>,
+) -> usize
+    requires inside { (kept ≤ k) × (k < length rows.old) }
+    requires older { (r : ℕ × List Root) → slice_get rows.old k ≡ Some r → AreOlder r.1 }
+    requires placed { (r : ℕ × List Root) → slice_get rows.old k ≡ Some r
+        → All (λ e. int_le low e.max.clock ≡ true
+        → IsPlaced (S.nodes store.now) table.now e.id) r.1 }
+    ensures moved { MovedAt low (S.nodes store.now) table.now rows.old kept k result rows.new }
+    ensures steps { (r : ℕ × List Root) → slice_get rows.old k ≡ Some r
+        → steps.new ≤ steps.old + 3 * length r.1 }
+{
+    if !move_list(store, low, &mut rows[k].1, table, steps) {
+        return kept;
+    }
+    rows.swap(kept, k);
+    kept + 1
+}
+
+/// Moves the recent entries of a key's lists. The rows that have one come first then, in their
+/// order; the answer is how many they are. At most three steps for each entry.
+fn move_each<S: NodeStore, L: Ledger>(
+    store: &S,
+    low: i128,
+    rows: &mut [(State, UList)],
+    table: &[Option<Id>],
+    steps: &mut Steps<L>,
+) -> usize
+    requires older { All (λ r. AreOlder r.1) rows.old }
+    requires placed { All (λ r. All (λ e. int_le low e.max.clock ≡ true
+        → IsPlaced (S.nodes store.now) table.now e.id) r.1) rows.old }
+    ensures moved { RowsMoved (S.nodes store.now) table.now (kept_rows low rows.old)
+        (take result rows.new) }
+    ensures upto { result ≤ length rows.new }
+    ensures steps { steps.new ≤ steps.old + 3 * entries_in rows.old }
+{
+    let mut kept = 0;
+    for k in 0..rows.len() {
+        kept = move_row(store, low, rows, kept, k, table, steps);
+    }
+    kept
+}
+
+/// Moves the recent entries of a key's lists, and keeps the rows that have one alone, in their order.
+/// At most three steps for each entry.
+fn move_some<S: NodeStore, L: Ledger>(
+    store: &S,
+    low: i128,
+    mut rows: Vec<(State, UList)>,
+    table: &[Option<Id>],
+    steps: &mut Steps<L>,
+) -> Vec<(State, UList)>
+    requires older { All (λ r. AreOlder r.1) rows.items }
+    requires placed { All (λ r. All (λ e. int_le low e.max.clock ≡ true
+        → IsPlaced (S.nodes store.now) table.now e.id) r.1) rows.items }
+    ensures moved { RowsMoved (S.nodes store.now) table.now (kept_rows low rows.items)
+        result.items }
+    ensures steps { steps.new ≤ steps.old + 3 * entries_in rows.items }
+{
+    let kept = move_each(store, low, rows.as_mut_slice(), table, steps);
+    rows.truncate(kept);
+    rows
+}
+
+/// Moves the recent entries of a key's lists, and keeps the lists that have one alone, in their
+/// order. At most three steps for each entry.
+pub fn move_rows<S: NodeStore, L: Ledger>(
+    store: &S,
+    low: i128,
+    active: Active,
+    table: &[Option<Id>],
+    steps: &mut Steps<L>,
+) -> Active
+    requires older { All (λ r. AreOlder r.1) active.entries }
+    requires placed { All (λ r. All (λ e. int_le low e.max.clock ≡ true
+        → IsPlaced (S.nodes store.now) table.now e.id) r.1) active.entries }
+    ensures moved { RowsMoved (S.nodes store.now) table.now (kept_rows low active.entries)
+        result.entries }
+    ensures steps { steps.new ≤ steps.old + 3 * entries_in active.entries }
+{
+    let rows = active.into_rows();
+    let kept = move_some(store, low, rows, table, steps);
+    Active::of(kept)
+}

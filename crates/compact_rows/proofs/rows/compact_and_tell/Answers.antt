@@ -1,0 +1,21 @@
+use Rattle.std.proofs.Common.{ℕ, List, All, arith}
+use Rattle.std.proofs.lemmas.List.Elements.{All-map}
+use Rattle.cer_base.specs.declared.node.Root.{Root}
+use Rattle.event_update.specs.ActiveLists.{ActiveLists}
+use Rattle.union_lists.specs.Lists.{IsUnionList}
+use Rattle.arena_compact.proofs.Standing.{all_of_map, keys_lists}
+use Rattle.compact_rows.proofs.rows.compact_and_tell.Goals as goal
+
+pub compact-requires-clause-lists : goal.compact-requires-clause-lists
+compact-requires-clause-lists g c = All-map (λ (rows : List (ℕ × List Root)). All (λ (r : ℕ × List Root). IsUnionList (g.S.NodeStore.nodes c.args.store.now) r.1) rows) (λ (a : ActiveLists). a.entries) c.args.keys.now c.requires.lists
+
+pub compact-requires-clause-cursors : goal.compact-requires-clause-cursors
+compact-requires-clause-cursors g c = λ k d lt mine. (c.requires.cursors k d lt).1
+
+pub tell-requires-clause-lists : goal.tell-requires-clause-lists
+tell-requires-clause-lists g c = all_of_map (λ (rows : List (ℕ × List Root)). All (λ (r : ℕ × List Root). IsUnionList (g.S.NodeStore.nodes c.compact.new.store) r.1) rows) (λ (a : ActiveLists). a.entries) c.compact.new.keys (keys_lists _ _ _ c.requires.well_formed _ _ c.compact.ensures.lists)
+
+pub tell-requires-clause-fits : goal.tell-requires-clause-fits
+tell-requires-clause-fits g c = λ k d lt.
+    let count = c.compact.ensures.count in
+    (c.compact.ensures.cursors k d (omega arith)).fits (c.requires.cursors k d (omega arith)).0

@@ -1,0 +1,4 @@
+pub mod Memory
+pub mod Sharing
+pub mod Chunks
+pub mod Filled

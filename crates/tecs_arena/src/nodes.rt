@@ -1,0 +1,116 @@
+//! Nodes in chunks, and how many they are.
+//!
+//! The first places hold the nodes, oldest first. What the places behind them hold is of no concern,
+//! also where it was a node before a cut.
+ghost use Rattle.std.specs.Prelude.{◌≡◌, ◌+◌, ◌^◌, ◌<◌, ◌≤◌, [], ◌∷◌, ◌++◌, length, take, cond, nat_lt, slice_get, slice_set, Some, IfOk, OnOk, OnErr};
+ghost use Rattle.tecs_arena.specs.Chunks.{places_of};
+
+use super::table::Table;
+use cer_base::Memory;
+use cer_base::node::{Id, Node};
+use std::alloc::Global;
+use std::marker::Model;
+
+/// Nodes in chunks, seen as the list of the nodes, oldest first, and the count of the chunks.
+#[derive(Drop)]
+pub(crate) struct Nodes {
+    table: Table,
+    len: u64,
+    alloc: Global,
+}
+
+impl Model for Nodes {
+    ghost use Rattle.std.specs.Prelude.{◌≡◌, ◌≤◌, map, take, length, Some};
+    ghost use Rattle.tecs_arena.specs.Chunks.{values_of};
+    ghost use Rattle.tecs_arena.specs.Contents.{Contents};
+
+    ghost Value = { Contents };
+
+    ghost view = { λ n. record {
+      nodes = values_of (take n.len n.table.places);
+      chunks = n.table.chunks;
+    } };
+
+    ghost invariant = { λ n. (n.len ≤ length n.table.places)
+        × (map Some (values_of (take n.len n.table.places)) ≡ take n.len n.table.places) };
+}
+
+impl Nodes {
+    /// No nodes and no chunks, which takes no memory.
+    pub(crate) fn new(alloc: Global) -> Nodes
+        ensures nodes { result.nodes ≡ [] }
+        ensures chunks { result.chunks ≡ 0 }
+    {
+        Nodes {
+            table: Table::new(),
+            len: 0,
+            alloc,
+        }
+    }
+
+    /// How many chunks were made: at most 53, with a place for each node.
+    #[inline]
+    pub(crate) fn chunks(&self) -> usize
+        ensures made { result ≡ self.now.chunks }
+        ensures room { length self.now.nodes ≤ places_of result }
+        ensures few { result < 54 }
+    {
+        self.table.chunks()
+    }
+
+    /// Appends a node and gives its id. It makes one chunk exactly where all places are taken.
+    /// `Memory` where that cannot be had; then nothing is changed.
+    #[inline]
+    pub(crate) fn push(&mut self, node: Node) -> Result<Id, Memory>
+        ensures id { IfOk result (λ id. id ≡ length self.old.nodes) }
+        ensures appended { OnOk result (self.new.nodes ≡ self.old.nodes ++ node ∷ []) }
+        ensures chunks { OnOk result (self.new.chunks
+            ≡ cond (nat_lt (length self.old.nodes) (places_of self.old.chunks))
+            self.old.chunks (self.old.chunks + 1)) }
+        ensures refused { OnErr result (self.new ≡ self.old) }
+    {
+        let id = self.len;
+        self.table.make_room(self.alloc, id)?;
+        self.table.write(id, node);
+        self.len += 1;
+        Ok(id)
+    }
+
+    /// The node with this id, which is below `len`.
+    #[inline]
+    pub(crate) fn get(&self, id: Id) -> Node
+        requires { id < length self.now.nodes }
+        ensures node { slice_get self.now.nodes id ≡ Some result }
+        ensures countable { length self.now.nodes < 2 ^ 64 }
+    {
+        self.table.read(id)
+    }
+
+    /// Writes the node with this id, which is below `len`. All others stay, and so do the chunks.
+    #[inline]
+    pub(crate) fn put(&mut self, id: Id, node: Node)
+        requires { id < length self.old.nodes }
+        ensures written { self.new.nodes ≡ slice_set self.old.nodes id node }
+        ensures chunks { self.new.chunks ≡ self.old.chunks }
+    {
+        self.table.write(id, node);
+    }
+
+    /// How many nodes there are.
+    #[inline]
+    pub(crate) fn len(&self) -> u64
+        ensures { result ≡ length self.now.nodes }
+    {
+        self.len
+    }
+
+    /// Keeps the first n nodes, n being at most `len`, and all chunks.
+    #[inline]
+    pub(crate) fn cut_to(&mut self, n: u64)
+        requires { n ≤ length self.old.nodes }
+        ensures nodes { self.new.nodes ≡ take n self.old.nodes }
+        ensures chunks { self.new.chunks ≡ self.old.chunks }
+    {
+        self.len = n;
+    }
+}

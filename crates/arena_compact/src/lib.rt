@@ -189,7 +189,7 @@ fn compact_in<S: NodeStore, K: HasLists, L: Ledger>(
 
 /// Keeps of a query's nodes what the recent entries of the lists and the query's cursors need; a
 /// start is recent where its clock is at least the least of `low` and these cursors' own. The room
-/// is for as many nodes as the store has.
+/// is for as many nodes as the store has, or more.
 ///
 /// Of each key the states stay that have a recent entry, in their order, each with its recent
 /// entries in their order; a cursor of the query has the same answers left, and one of another
@@ -222,6 +222,7 @@ pub fn compact<S: NodeStore, K: HasLists, L: Ledger>(
     ensures steps { steps.new
         ≤ steps.old + 8 * length (S.nodes store.old) + 4 * places (map K.rows keys.old) }
 {
-    let table = room.places.as_mut_slice();
+    let count = store.len() as usize;
+    let table = &mut room.places.as_mut_slice()[..count];
     compact_in(store, query, keys, cursors, low, table, steps);
 }

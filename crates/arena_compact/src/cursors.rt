@@ -14,7 +14,10 @@ use tecs_enumerate::Cursor;
 /// Keeps the nodes that a cursor still has on its stack.
 pub fn keep_cursor(cursor: &Cursor, table: &mut [Option<Id>])
     requires inside { All (λ id. id < length table.old) (map id_of cursor.now.stack) }
-    ensures marks { (low : ℤ) → (nodes : List Node) → (roots : List ℕ) → length nodes ≤ length table.old → low ≤ℤ cursor.now.low → Fits cursor.now nodes → AreMarks low nodes roots (length nodes) table.old → AreMarks low nodes (roots ++ map id_of cursor.now.stack) (length nodes) table.new }
+    ensures marks { (low : ℤ) → (nodes : List Node) → (roots : List ℕ)
+        → length nodes ≤ length table.old → low ≤ℤ cursor.now.low → Fits cursor.now nodes
+        → AreMarks low nodes roots (length nodes) table.old
+        → AreMarks low nodes (roots ++ map id_of cursor.now.stack) (length nodes) table.new }
     ensures long { length table.new ≡ length table.old }
 {
     for k in 0..cursor.depth() {
@@ -35,8 +38,13 @@ pub fn move_cursor(cursor: &mut Cursor, table: &[Option<Id>])
 
 /// Keeps the nodes that the cursor still has on its stack, if it is the query's.
 fn keep_if(cursor: &Cursor, query: u64, table: &mut [Option<Id>])
-    requires inside { cursor.now.query ≡ query → All (λ id. id < length table.old) (map id_of cursor.now.stack) }
-    ensures marks { (low : ℤ) → (nodes : List Node) → (roots : List ℕ) → length nodes ≤ length table.old → (cursor.now.query ≡ query → (low ≤ℤ cursor.now.low) × Fits cursor.now nodes) → AreMarks low nodes roots (length nodes) table.old → AreMarks low nodes (roots ++ cursor_roots query (cursor.now ∷ [])) (length nodes) table.new }
+    requires inside { cursor.now.query ≡ query
+        → All (λ id. id < length table.old) (map id_of cursor.now.stack) }
+    ensures marks { (low : ℤ) → (nodes : List Node) → (roots : List ℕ)
+        → length nodes ≤ length table.old → (cursor.now.query ≡ query
+        → (low ≤ℤ cursor.now.low) × Fits cursor.now nodes)
+        → AreMarks low nodes roots (length nodes) table.old
+        → AreMarks low nodes (roots ++ cursor_roots query (cursor.now ∷ [])) (length nodes) table.new }
     ensures long { length table.new ≡ length table.old }
 {
     if cursor.query() == query {
@@ -46,8 +54,13 @@ fn keep_if(cursor: &Cursor, query: u64, table: &mut [Option<Id>])
 
 /// Keeps the nodes that the query's cursors still have on their stacks.
 pub fn keep_cursors(cursors: &[Cursor], query: u64, table: &mut [Option<Id>])
-    requires inside { All (λ w. w.query ≡ query → All (λ id. id < length table.old) (map id_of w.stack)) cursors.now }
-    ensures marks { (low : ℤ) → (nodes : List Node) → (roots : List ℕ) → length nodes ≤ length table.old → All (λ w. w.query ≡ query → (low ≤ℤ w.low) × Fits w nodes) cursors.now → AreMarks low nodes roots (length nodes) table.old → AreMarks low nodes (roots ++ cursor_roots query cursors.now) (length nodes) table.new }
+    requires inside { All (λ w. w.query ≡ query
+        → All (λ id. id < length table.old) (map id_of w.stack)) cursors.now }
+    ensures marks { (low : ℤ) → (nodes : List Node) → (roots : List ℕ)
+        → length nodes ≤ length table.old → All (λ w. w.query ≡ query
+        → (low ≤ℤ w.low) × Fits w nodes) cursors.now
+        → AreMarks low nodes roots (length nodes) table.old
+        → AreMarks low nodes (roots ++ cursor_roots query cursors.now) (length nodes) table.new }
     ensures long { length table.new ≡ length table.old }
 {
     for k in 0..cursors.len() {
@@ -57,7 +70,8 @@ pub fn keep_cursors(cursors: &[Cursor], query: u64, table: &mut [Option<Id>])
 
 /// Moves the cursor, if it is the query's.
 fn move_if(cursor: &mut Cursor, query: u64, table: &[Option<Id>])
-    requires kept { cursor.old.query ≡ query → All (λ id. IsKept table.now id) (map id_of cursor.old.stack) }
+    requires kept { cursor.old.query ≡ query
+        → All (λ id. IsKept table.now id) (map id_of cursor.old.stack) }
     ensures { CursorMoved query table.now cursor.old cursor.new }
 {
     if cursor.query() == query {
@@ -67,9 +81,11 @@ fn move_if(cursor: &mut Cursor, query: u64, table: &[Option<Id>])
 
 /// Moves the stacks of the query's cursors.
 pub fn move_cursors(cursors: &mut [Cursor], query: u64, table: &[Option<Id>])
-    requires kept { All (λ w. w.query ≡ query → All (λ id. IsKept table.now id) (map id_of w.stack)) cursors.old }
+    requires kept { All (λ w. w.query ≡ query
+        → All (λ id. IsKept table.now id) (map id_of w.stack)) cursors.old }
     ensures length { length cursors.new ≡ length cursors.old }
-    ensures moved { (k : ℕ) → (d : CursorState) → k < length cursors.old → CursorMoved query table.now (get_or cursors.old k d) (get_or cursors.new k d) }
+    ensures moved { (k : ℕ) → (d : CursorState) → k < length cursors.old
+        → CursorMoved query table.now (get_or cursors.old k d) (get_or cursors.new k d) }
 {
     for k in 0..cursors.len() {
         move_if(&mut cursors[k], query, table);
@@ -85,7 +101,8 @@ fn is_lower(a: i128, b: i128) -> bool
 
 /// The lower one of a clock and the cursor's, if it is the query's.
 fn lower(cursor: &Cursor, query: u64, low: i128) -> i128
-    ensures { result ≡ cond (cursor.now.query == query) (cond (int_le low cursor.now.low) low cursor.now.low) low }
+    ensures { result
+        ≡ cond (cursor.now.query == query) (cond (int_le low cursor.now.low) low cursor.now.low) low }
 {
     if cursor.query() == query && !is_lower(low, cursor.low()) {
         return cursor.low();

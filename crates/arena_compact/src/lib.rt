@@ -1,5 +1,5 @@
-//! Compaction: of the nodes of a query only those stay that its lists or held cursors still need, and
-//! of these only what is recent.
+//! Compaction: of the nodes of a query only those stay that its lists or held cursors still need,
+//! and of these only what is recent.
 //!
 //! A node is needed where it can be reached from a recent entry of a list, or from the stack of a
 //! held cursor, by no right child of a union whose greatest start is too old. The needed nodes are
@@ -7,9 +7,10 @@
 //! the first free place. A union whose right child goes is replaced by its left child. Greatest
 //! starts stay as they are; needs are computed anew.
 //!
-//! Ten nodes after three events, at the clocks 0, 1 and 2, and one list, of node 8 alone. A join names
-//! its left child, then its right one. To the right is what a compaction from clock 1 on makes of it:
-//! node 5 has a right child that starts at 0, so node 3 stands for it, at its new place.
+//! Ten nodes after three events, at the clocks 0, 1 and 2, and one list, of node 8 alone. A join
+//! names its left child, then its right one. To the right is what a compaction from clock 1 on
+//! makes of it: node 5 has a right child that starts at 0, so node 3 stands for it, at its new
+//! place.
 //!
 //! ```text
 //!   0  start 0           5  join 3 4         0  start 1
@@ -19,8 +20,8 @@
 //!   4  out 1, over 1     9  join 7 8         the list: 2
 //! ```
 //!
-//! It stands on `event_update`, `union_lists` and `tecs_enumerate`, over any store and whatever has the
-//! lists of a key.
+//! It stands on `event_update`, `union_lists` and `tecs_enumerate`, over any store and whatever has
+//! the lists of a key.
 #![tactic(auto)]
 
 ghost use Rattle.std.specs.Prelude.{◌≡◌, ◌+◌, ◌*◌, ◌<◌, ◌≤◌, ◌≤ℤ◌, ◌++◌, ℕ, List, All, None, length, map, get_or, IfOk};
@@ -188,13 +189,13 @@ fn compact_in<S: NodeStore, K: HasLists, L: Ledger>(
 
 /// Keeps of a query's nodes what the recent entries of the lists and the query's cursors need; a
 /// start is recent where its clock is at least the least of `low` and these cursors' own. The room
-/// is for as many nodes as the store has.
+/// is for as many nodes as the store has, or more.
 ///
-/// Of each key the states stay that have a recent entry, in their order, each with its recent entries
-/// in their order; a cursor of the query has the same answers left, and one of another query is not
-/// touched. Nodes get other ids, so a list or a cursor of the query that is not among these no longer
-/// goes with the store. It takes no memory, at most eight steps for each node and four for each
-/// entry.
+/// Of each key the states stay that have a recent entry, in their order, each with its recent
+/// entries in their order; a cursor of the query has the same answers left, and one of another
+/// query is not touched. Nodes get other ids, so a list or a cursor of the query that is not among
+/// these no longer goes with the store. It takes no memory, at most eight steps for each node and
+/// four for each entry.
 pub fn compact<S: NodeStore, K: HasLists, L: Ledger>(
     store: &mut S,
     query: u64,
@@ -221,6 +222,7 @@ pub fn compact<S: NodeStore, K: HasLists, L: Ledger>(
     ensures steps { steps.new
         ≤ steps.old + 8 * length (S.nodes store.old) + 4 * places (map K.rows keys.old) }
 {
-    let table = room.places.as_mut_slice();
+    let count = store.len() as usize;
+    let table = &mut room.places.as_mut_slice()[..count];
     compact_in(store, query, keys, cursors, low, table, steps);
 }

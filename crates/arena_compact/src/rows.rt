@@ -88,8 +88,8 @@ fn move_each<S: NodeStore, L: Ledger>(
     kept
 }
 
-/// Moves the recent entries of a key's lists, and keeps the rows that have one alone, in their order.
-/// At most three steps for each entry.
+/// Moves the recent entries of a key's lists, and keeps the rows that have one alone, in their
+/// order. At most three steps for each entry.
 fn move_some<S: NodeStore, L: Ledger>(
     store: &S,
     low: i128,

@@ -1,6 +1,6 @@
-//! Compactions of nodes written down by hand: how many nodes stay, and which members the lists and a
-//! held cursor still give, against numbers and members that are written out. Nothing stands on this
-//! crate. It stands on `arena_compact`, `tecs_rows` and `tecs_arena`.
+//! Compactions of nodes written down by hand: how many nodes stay, and which members the lists and
+//! a held cursor still give, against numbers and members that are written out. Nothing stands on
+//! this crate. It stands on `arena_compact`, `tecs_rows` and `tecs_arena`.
 #![tactic(auto)]
 
 mod rows;

@@ -37,9 +37,9 @@ fn of_state_one(alloc: Global, list: UList) -> Result<Active, Memory>
 }
 
 /// Makes ten nodes in an empty store: 0 a bottom at 0, 1 an output of 0 at 0, 2 a bottom at 1, 3 an
-/// output of 2 at 1, 4 an output of 1 at 1, 5 the join of 3 and 4, 6 a bottom at 2, 7 an output of 6
-/// at 2, 8 an output of 5 at 2, 9 the join of 7 and 8. The one key has state 1 with the list of 8; the
-/// root is 9.
+/// output of 2 at 1, 4 an output of 1 at 1, 5 the join of 3 and 4, 6 a bottom at 2, 7 an output of
+/// 6 at 2, 8 an output of 5 at 2, 9 the join of 7 and 8. The one key has state 1 with the list of
+/// 8; the root is 9.
 fn three_events<S: NodeStore, L: Ledger>(
     alloc: Global,
     store: &mut S,

@@ -1,10 +1,11 @@
-//! The store of a query's nodes: chunks of memory that double in size, the node with id k at a place
-//! that k alone determines, so that no node ever moves.
+//! The store of a query's nodes: chunks of memory that double in size, the node with id k at a
+//! place that k alone determines, so that no node ever moves.
 //!
-//! Promised: it is a `NodeStore`; a new one is empty; a push makes one chunk exactly where all places
-//! are taken, and a refused push changes nothing; cutting keeps the chunks; reading, writing and
-//! cutting take no memory. No place is read before it was written, and all chunks are given back
-//! when the arena is dropped. Only the module `raw` follows a pointer. It stands on `cer_base`.
+//! Promised: it is a `NodeStore`; a new one is empty; a push makes one chunk exactly where all
+//! places are taken, and a refused push changes nothing; cutting keeps the chunks; reading, writing
+//! and cutting take no memory. No place is read before it was written, and all chunks are given
+//! back when the arena is dropped. Only the module `raw` follows a pointer. It stands on
+//! `cer_base`.
 #![tactic(auto)]
 
 ghost use Rattle.std.specs.Prelude.{◌≡◌, ◌<◌, ◌≤◌, [], length};
@@ -27,8 +28,8 @@ mod tests;
 
 use nodes::Nodes;
 
-/// Nodes in chunks of memory, seen as the list of its nodes, oldest first. The first chunk has 1,024
-/// places, each other one twice as many as the one before it.
+/// Nodes in chunks of memory, seen as the list of its nodes, oldest first. The first chunk has
+/// 1,024 places, each other one twice as many as the one before it.
 #[derive(Drop)]
 pub struct Arena {
     nodes: Nodes,
@@ -53,8 +54,8 @@ impl Arena {
         }
     }
 
-    /// How many chunks were made, from 0 to 53. A push makes at most one, `cut_to` keeps them all, and
-    /// there is a place for each node. It takes no memory.
+    /// How many chunks were made, from 0 to 53. A push makes at most one, `cut_to` keeps them all,
+    /// and there is a place for each node. It takes no memory.
     pub fn chunks(&self) -> usize
         ensures room { length self.now ≤ places_of result }
         ensures few { result < 54 }

@@ -1,8 +1,8 @@
 //! A block of places behind a raw pointer, each place empty or holding a value.
 //!
-//! `make`, `Places::read`, `Places::write` and `free` are the only functions of the crate that follow a
-//! raw pointer. Their contracts name what each place holds, so that no place is read before it was
-//! written, and that the block goes back as a whole.
+//! `make`, `Places::read`, `Places::write` and `free` are the only functions of the crate that
+//! follow a raw pointer. Their contracts name what each place holds, so that no place is read
+//! before it was written, and that the block goes back as a whole.
 ghost use Rattle.std.specs.Prelude.{◌≡◌, ℕ, ◌<◌, List, Option, Some, None, length, replicate, get_or, slice_set, IfOk, ⊤};
 ghost use Rattle.std.specs.Vec.Ownership.{FitsInBlock};
 ghost use base.Fml.{ftrue};
@@ -64,7 +64,8 @@ pub(crate) fn make<T, A: Allocator>(
     len: usize,
 ) -> Result<(Start<T>, Places<T>, Deed<T, A>), AllocError>
     requires { FitsInBlock T.row len }
-    ensures { IfOk result (λ r. (r.1.at ≡ r.0.ptr) × (r.1.slots ≡ replicate len None) × (r.2.at ≡ r.0.ptr) × (r.2.len ≡ len) × (r.2.alloc ≡ alloc.now)) }
+    ensures { IfOk result (λ r. (r.1.at ≡ r.0.ptr) × (r.1.slots ≡ replicate len None)
+        × (r.2.at ≡ r.0.ptr) × (r.2.len ≡ len) × (r.2.alloc ≡ alloc.now)) }
 {
     match alloc.allocate(len * size_of::<T>(), align_of::<T>()) {
         Ok(block) => {
@@ -89,7 +90,8 @@ pub(crate) fn free<T, A: Allocator>(
     cells: Places<T>,
     deed: Deed<T, A>,
 )
-    requires { (cells.at ≡ base.ptr) × (length cells.slots ≡ len) × (deed.at ≡ base.ptr) × (deed.len ≡ len) × (deed.alloc ≡ alloc.now) }
+    requires { (cells.at ≡ base.ptr) × (length cells.slots ≡ len) × (deed.at ≡ base.ptr)
+        × (deed.len ≡ len) × (deed.alloc ≡ alloc.now) }
 {
     let Places { mark: _ } = cells;
     let Deed { mark: _ } = deed;
@@ -102,7 +104,8 @@ impl<T> Places<T> {
     /// Writes the value at the place. What the place values_of is forgotten.
     pub(crate) fn write(&mut self, base: Start<T>, index: usize, item: T)
         requires { (base.ptr ≡ self.old.at) × (index < length self.old.slots) }
-        ensures { (self.new.at ≡ self.old.at) × (self.new.slots ≡ slice_set self.old.slots index (Some item)) }
+        ensures { (self.new.at ≡ self.old.at) × (self.new.slots
+            ≡ slice_set self.old.slots index (Some item)) }
     {
         unsafe { base.ptr.add(index).write(item) }
     }

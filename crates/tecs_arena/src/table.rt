@@ -1,7 +1,7 @@
 //! The table of an arena's chunks, and where a node stands in it.
 //!
-//! The first chunk has 1,024 places, each other one twice as many as the one before it. So the chunk
-//! of a node follows from its number alone, and a chunk that was made never moves.
+//! The first chunk has 1,024 places, each other one twice as many as the one before it. So the
+//! chunk of a node follows from its number alone, and a chunk that was made never moves.
 ghost use Rattle.std.specs.Prelude.{◌≡◌, ◌+◌, ◌*◌, ◌^◌, ◌<◌, List, [], ◌++◌, Option, Some, None, length, replicate, get_or, slice_set, take, cond, nat_lt, ◌≤◌, IfOk, OnOk, OnErr};
 ghost use Rattle.cer_base.specs.declared.node.Node.{Node};
 ghost use Rattle.tecs_arena.specs.Chunks.{IsFilled, places, places_of};
@@ -16,7 +16,8 @@ use std::marker::Model;
 /// How many places the first chunk has.
 const FIRST: u64 = 1024;
 
-/// How many chunks there is a place for. A chunk of this number would take more bytes than memory has.
+/// How many chunks there is a place for. A chunk of this number would take more bytes than memory
+/// has.
 const CHUNKS: usize = 64;
 
 /// The place of a node: its chunk, and the place in the chunk.
@@ -109,10 +110,11 @@ impl Table {
         self.made
     }
 
-    /// Makes one more chunk, which has as many places as all before it and 1,024 more. `Memory` where it
-    /// cannot be had; then nothing is changed.
+    /// Makes one more chunk, which has as many places as all before it and 1,024 more. `Memory`
+    /// where it cannot be had; then nothing is changed.
     pub(crate) fn grow(&mut self, alloc: Global) -> Result<(), Memory>
-        ensures places { OnOk result (self.new.places ≡ self.old.places ++ replicate (length self.old.places + 1024) None) }
+        ensures places { OnOk result (self.new.places
+            ≡ self.old.places ++ replicate (length self.old.places + 1024) None) }
         ensures chunks { OnOk result (self.new.chunks ≡ self.old.chunks + 1) }
         ensures refused { OnErr result (self.new ≡ self.old) }
     {
@@ -128,7 +130,8 @@ impl Table {
         requires { id ≤ length self.old.places }
         ensures inside { OnOk result (id < length self.new.places) }
         ensures same { OnOk result (take id self.new.places ≡ take id self.old.places) }
-        ensures chunks { OnOk result (self.new.chunks ≡ cond (nat_lt id (places_of self.old.chunks)) self.old.chunks (self.old.chunks + 1)) }
+        ensures chunks { OnOk result (self.new.chunks
+            ≡ cond (nat_lt id (places_of self.old.chunks)) self.old.chunks (self.old.chunks + 1)) }
         ensures refused { OnErr result (self.new ≡ self.old) }
     {
         if id < self.room() {

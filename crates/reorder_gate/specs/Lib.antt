@@ -1,0 +1,5 @@
+pub mod Sorting
+pub mod Releasing
+pub mod Clocks
+pub mod Gates
+pub mod Laws

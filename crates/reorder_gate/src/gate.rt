@@ -122,8 +122,8 @@ impl Gate {
         })
     }
 
-    /// Puts the event, which the line of this number gave, into the gate. After an error nothing
-    /// has changed.
+    /// Puts the event, which the line of this number gave, into the gate, which is not finished.
+    /// After an error nothing has changed.
     ///
     /// - `TooLate`: an event was put before, and the event's clock is below the greatest one less
     ///   the bound.
@@ -161,6 +161,13 @@ impl Gate {
         ensures history { (put gone : List (ℕ × Event)) → StandsFor self.old put gone → StandsFor self.new put gone }
     {
         self.is_finished = true;
+    }
+
+    /// Whether the gate was finished.
+    pub fn is_finished(&self) -> bool
+        ensures { result ≡ self.now.is_finished }
+    {
+        self.is_finished
     }
 
     /// Takes the event that is the least by its clock, then by its arrival, with its line, where it

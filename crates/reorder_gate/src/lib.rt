@@ -13,6 +13,8 @@
 mod clock;
 mod gate;
 pub mod laws;
+#[cfg(test)]
+mod tests;
 
 pub use clock::clock_fits;
 pub use gate::{Gate, TooLate};

@@ -1,5 +1,5 @@
 -- The map of the events that wait, by their turns.
-use Rattle.std.proofs.Common.{◌≡◌, ℕ, ◌+◌, ◌<◌, ℤ, Bool, true, false, cond, List, [], ◌∷◌, map, refl, sym, ap, ap₂, subst, ◌∙◌, Option, Some, None, slice_get, arith, rules}
+use Rattle.std.proofs.Common.{◌≡◌, ℕ, ◌+◌, ◌<◌, ℤ, Bool, true, false, cond, List, [], ◌∷◌, map, refl, sym, ap, ap₂, subst, ◌∙◌, Option, Some, slice_get, arith, rules}
 use Rattle.std.specs.Prelude.{int_lt}
 use Rattle.std.specs.declared.cmp.Ordering.{Ordering}
 use Rattle.std.specs.declared.cmp.Ordering.TheVariants.{Less, Equal, Greater}
@@ -11,7 +11,8 @@ use Rattle.stream_schema.specs.declared.Event.{Event}
 use Rattle.reorder_gate.specs.declared.gate.Turn.{Turn}
 use Rattle.reorder_gate.specs.Sorting.{placed, Ascends}
 use Rattle.reorder_gate.specs.Releasing.{is_due}
-use Rattle.reorder_gate.specs.Gates.{Held, clock_at, any_due, IsKept}
+use Rattle.reorder_gate.specs.Gates.{Held, clock_at}
+use Rattle.reorder_gate.specs.Turns.{any_due, IsKept}
 use Rattle.reorder_gate.proofs.Placing.{all_by, all_placed, ascends_placed}
 use Rattle.reorder_gate.proofs.Parts.{placed_parts}
 

@@ -1,13 +1,12 @@
 -- An event of a schema that the attribute fits has its clock as a whole number.
-use Rattle.std.proofs.Common.{◌≡◌, ℕ, zero, suc, ◌<◌, Bool, true, false, ◌&&◌, List, [], ◌∷◌, length, refl, sym, ap, subst, ◌∙◌, Option, Some, None, slice_get, arith, rules}
+use Rattle.std.proofs.Common.{◌≡◌, ℕ, zero, suc, true, List, [], ◌∷◌, refl, Option, Some, None, slice_get, rules}
 use Rattle.std.specs.Prelude.{option_and_then, option_map, IsSomeAnd}
 use Rattle.std.specs.List.{list_all}
 use Rattle.std.proofs.lemmas.Bool.{and_parts}
 use Rattle.stream_schema.specs.Types.{Declared, DeclaredType}
-use Rattle.stream_schema.specs.Names.{attr_index, attr_among}
+use Rattle.stream_schema.specs.Names.{attr_index}
 use Rattle.stream_schema.specs.Events.{IsOfSchema, IsOfKind, AreOfAttrs}
 use Rattle.stream_schema.specs.declared.Attr.{Attr}
-use Rattle.stream_schema.specs.declared.AttrAt.{AttrAt}
 use Rattle.stream_schema.specs.declared.Event.{Event}
 use Rattle.stream_schema.specs.declared.Kind.{Kind}
 use Rattle.stream_schema.specs.declared.Kind.TheVariants as kind

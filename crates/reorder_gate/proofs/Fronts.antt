@@ -1,5 +1,5 @@
 -- What is released stays in front.
-use Rattle.std.proofs.Common.{◌≡◌, ℕ, ℤ, pos, ◌-ℤ◌, ◌≤ℤ◌, ◌<ℤ◌, Bool, true, false, cond, List, [], ◌∷◌, ◌++◌, map, refl, sym, ap, ap₂, subst, ◌∙◌, append_assoc, append-nil, Option, Some, None, arith}
+use Rattle.std.proofs.Common.{◌≡◌, ℕ, ℤ, pos, ◌-ℤ◌, ◌≤ℤ◌, ◌<ℤ◌, Bool, true, false, cond, List, [], ◌∷◌, ◌++◌, refl, sym, ap, ap₂, subst, ◌∙◌, Option, Some, None, arith}
 use Rattle.std.specs.Prelude.{int_lt, int_le}
 use Rattle.std.specs.List.{AllByRecursion, filter, fold}
 use Rattle.std.proofs.lemmas.Bool.{cond_both}
@@ -169,9 +169,9 @@ module _ {A : Type 0} (clock : A → ℤ) where
       let at_last : greatest clock (list ++ more) ≡ Some new.0 = fold-append (λ high y. Some (raised high (clock y))) None list more ∙ (ap (λ h. highest h more) is ∙ new.2) in
       let first = front_stays late top list more front rest is cut low t in
       in_the_front (new.0 -ℤ pos late) front first.0 (released clock late (list ++ more)) (onto clock [] (over (new.0 -ℤ pos late) (list ++ more)))
-          (sym first.1 ∙ sorted_splits late new.0 (list ++ more) at_last)
-          (all_by (λ z. clock z ≤ℤ (top -ℤ pos late)) (λ z. clock z ≤ℤ (new.0 -ℤ pos late)) (λ z l. omega (arith, ints)) front low)
-          (all_kept late new.0 (list ++ more))
+      (sym first.1 ∙ sorted_splits late new.0 (list ++ more) at_last)
+      (all_by (λ z. clock z ≤ℤ (top -ℤ pos late)) (λ z. clock z ≤ℤ (new.0 -ℤ pos late)) (λ z l. omega (arith, ints)) front low)
+      (all_kept late new.0 (list ++ more))
 
   pub final : (late : ℕ) (list more : List A) → IsInTime clock late (list ++ more) → BeginsWith (released clock late list) (sorted clock (list ++ more))
   final late [] more t = (sorted clock more, refl)

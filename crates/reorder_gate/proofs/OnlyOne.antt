@@ -45,7 +45,7 @@ module _ {A : Type 0} (clock : A → ℤ) where
       let level : clock x ≡ clock y = omega (arith, ints) in
       let one : x ≡ y = same_head x y (at_clock clock (clock x) xs) (at_clock clock (clock y) ys) (sym (at_its_own x xs) ∙ (ties (clock x) ∙ (ap (λ k. at_clock clock k (y ∷ ys)) level ∙ at_its_own y ys))) in
       ap₂ (λ z zs. z ∷ zs) one (one_order xs ys up.1 on.1 (λ k. rest_at (int_eq (clock x) k) x (at_clock clock k xs) (at_clock clock k ys)
-          (ties k ∙ ap (λ z. cond (int_eq (clock z) k) (z ∷ at_clock clock k ys) (at_clock clock k ys)) (sym one))))
+      (ties k ∙ ap (λ z. cond (int_eq (clock z) k) (z ∷ at_clock clock k ys) (at_clock clock k ys)) (sym one))))
 
   pub only_sorted : (came list : List A) → IsInOrder clock came list → list ≡ sorted clock came
   only_sorted came list order = one_order list (sorted clock came) order.ascends (sorted_orders clock came).ascends (λ k. order.ties k ∙ sym ((sorted_orders clock came).ties k))

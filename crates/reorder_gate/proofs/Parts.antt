@@ -1,7 +1,7 @@
 -- Sorting and releasing by a clock of parts.
 use Rattle.std.proofs.Common.{◌≡◌, ℕ, ℤ, Bool, true, false, cond, List, [], ◌∷◌, map, refl, ap, ◌∙◌, Option, Some, None}
 use Rattle.std.specs.Prelude.{int_lt}
-use Rattle.std.specs.List.{filter, fold}
+use Rattle.std.specs.List.{filter}
 use Rattle.reorder_gate.specs.Sorting.{placed, sorted}
 use Rattle.reorder_gate.specs.Releasing.{raised, is_due, greatest, released}
 use Rattle.reorder_gate.proofs.Placing.{onto}

@@ -1,7 +1,7 @@
 -- Placing one item, and sorting by placing each.
-use Rattle.std.proofs.Common.{◌≡◌, ◌⊎◌, ℤ, ◌≤ℤ◌, ◌<ℤ◌, Bool, true, false, cond, List, [], ◌∷◌, ◌++◌, refl, sym, ap, ◌∙◌, append_assoc, append-nil, arith}
+use Rattle.std.proofs.Common.{◌≡◌, ℤ, ◌≤ℤ◌, ◌<ℤ◌, Bool, true, false, cond, List, [], ◌∷◌, ◌++◌, refl, ap, ◌∙◌, append_assoc, append-nil, arith}
 use Rattle.std.specs.Prelude.{int_lt}
-use Rattle.std.specs.List.{AllByRecursion, filter, fold}
+use Rattle.std.specs.List.{AllByRecursion, fold}
 use Rattle.std.specs.List.Sorted.{IsPermutation}
 use Rattle.std.specs.Ordering.{int_eq}
 use Rattle.std.proofs.lemmas.Bool.{cond_both}
@@ -67,7 +67,7 @@ module _ {A : Type 0} (clock : A → ℤ) where
   ascends_placed x [] up = (tt, tt)
   ascends_placed x (y ∷ ys) up = cond_both (int_lt (clock x) (clock y)) (x ∷ y ∷ ys) (y ∷ placed clock x ys) (Ascends clock)
       (λ e. let less = less_test (clock x) (clock y) e in
-          ((omega (arith, ints), all_by (λ z. clock y ≤ℤ clock z) (λ z. clock x ≤ℤ clock z) (λ z l. omega (arith, ints)) ys up.0), up))
+      ((omega (arith, ints), all_by (λ z. clock y ≤ℤ clock z) (λ z. clock x ≤ℤ clock z) (λ z l. omega (arith, ints)) ys up.0), up))
       (λ e. (all_placed (λ z. clock y ≤ℤ clock z) x ys (not_less_test (clock x) (clock y) e) up.0, ascends_placed x ys up.1))
 
   pub ascends_onto : (before list : List A) → Ascends clock before → Ascends clock (onto before list)
@@ -93,7 +93,7 @@ module _ {A : Type 0} (clock : A → ℤ) where
   ties_placed k x [] up = refl
   ties_placed k x (y ∷ ys) up = cond_both (int_lt (clock x) (clock y)) (x ∷ y ∷ ys) (y ∷ placed clock x ys) (λ l. at_clock clock k l ≡ at_clock clock k (y ∷ ys) ++ at_clock clock k (x ∷ []))
       (λ e. let less = less_test (clock x) (clock y) e in
-          first_or_not k x (y ∷ ys) (less, all_by (λ z. clock y ≤ℤ clock z) (λ z. clock x <ℤ clock z) (λ z l. omega (arith, ints)) ys up.0))
+      first_or_not k x (y ∷ ys) (less, all_by (λ z. clock y ≤ℤ clock z) (λ z. clock x <ℤ clock z) (λ z l. omega (arith, ints)) ys up.0))
       (λ e. behind_or_not (int_eq (clock y) k) y (at_clock clock k ys) (at_clock clock k (x ∷ [])) (at_clock clock k (placed clock x ys)) (ties_placed k x ys up.1))
 
   joined : (x : List A) (t : Bool) (y : A) (ys : List A) → (x ++ cond t (y ∷ []) []) ++ ys ≡ x ++ cond t (y ∷ ys) ys

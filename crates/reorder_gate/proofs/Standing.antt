@@ -1,15 +1,16 @@
 -- What a gate stands for after each call.
-use Rattle.std.proofs.Common.{◌≡◌, ◌⊎◌, ℕ, ℤ, pos, ◌-ℤ◌, ◌≤ℤ◌, ◌<ℤ◌, Bool, true, false, cond, List, [], ◌∷◌, ◌++◌, refl, sym, ap, subst, ◌∙◌, append_assoc, append-nil, Option, Some, None, arith, rules}
-use Rattle.std.specs.Prelude.{int_lt, int_le}
-use Rattle.std.specs.List.{AllByRecursion, fold}
+use Rattle.std.proofs.Common.{◌≡◌, ℕ, ℤ, pos, ◌-ℤ◌, ◌≤ℤ◌, ◌<ℤ◌, Bool, true, false, cond, List, [], ◌∷◌, ◌++◌, refl, sym, ap, subst, ◌∙◌, append_assoc, append-nil, Option, Some, None, arith, rules}
+use Rattle.std.specs.Prelude.{int_le}
+use Rattle.std.specs.List.{AllByRecursion}
 use Rattle.std.proofs.lemmas.Int.{ints}
 use Rattle.std.proofs.lemmas.List.Sums.{fold-append}
 use Rattle.stream_schema.specs.declared.Event.{Event}
 use Rattle.reorder_gate.specs.declared.gate.TooLate.{TooLate}
 use Rattle.reorder_gate.specs.Sorting.{placed, sorted, Ascends}
 use Rattle.reorder_gate.specs.Releasing.{raised, is_late, is_due, greatest, IsInTime, released, BeginsWith}
-use Rattle.reorder_gate.specs.Gates.{Held, clock_at, lateness, with_event, may_go, first_due, any_due, StandsFor, all_due}
-use Rattle.reorder_gate.proofs.Placing.{onto, all_by, all_append, not_less_test, less_test}
+use Rattle.reorder_gate.specs.Gates.{Held, clock_at, lateness, with_event, may_go, StandsFor, all_due}
+use Rattle.reorder_gate.specs.Turns.{first_due, any_due}
+use Rattle.reorder_gate.proofs.Placing.{onto, all_by, all_append, not_less_test}
 use Rattle.reorder_gate.proofs.OnlyOne.{no_item}
 use Rattle.reorder_gate.proofs.Fronts.{upto_test, not_upto_test, test_upto, keeps_high, placed_behind, one_more_in_time, over, some_highest, one_cut, sorted_splits, all_released, all_kept, front_stays, front_is_released}
 
@@ -59,19 +60,19 @@ put_stands g e going in_time put gone stands =
 
 pub finish_stands : (g : Held) (put gone : List (ℕ × Event)) → StandsFor g put gone → StandsFor (record g { is_finished = true }) put gone
 finish_stands g put gone stands = record {
-    in_time = stands.in_time;
-    high = stands.high;
-    order = stands.order;
-    due = all_by (λ x. may_go g x ≡ true) (λ x. may_go (record g { is_finished = true }) x ≡ true) (λ x may. refl) gone stands.due;
-  }
+  in_time = stands.in_time;
+  high = stands.high;
+  order = stands.order;
+  due = all_by (λ x. may_go g x ≡ true) (λ x. may_go (record g { is_finished = true }) x ≡ true) (λ x may. refl) gone stands.due;
+}
 
 pub take_stands : (g : Held) (e : ℕ × Event) (events put gone : List (ℕ × Event)) → g.events ≡ e ∷ events → may_go g e ≡ true → StandsFor g put gone → StandsFor (record g { events = events }) put (gone ++ e ∷ [])
 take_stands g e events put gone is may stands = record {
-    in_time = stands.in_time;
-    high = stands.high;
-    order = rw append_assoc (ap (λ l. gone ++ l) (sym is) ∙ stands.order);
-    due = all_append (λ x. may_go (record g { events = events }) x ≡ true) gone (e ∷ []) stands.due (may, tt);
-  }
+  in_time = stands.in_time;
+  high = stands.high;
+  order = rw append_assoc (ap (λ l. gone ++ l) (sym is) ∙ stands.order);
+  due = all_append (λ x. may_go (record g { events = events }) x ≡ true) gone (e ∷ []) stands.due (may, tt);
+}
 
 -- where the first may not go, no other may
 none_due : (late : ℕ) (high : Option ℤ) (clock : ℕ × Event → ℤ) (e : ℕ × Event) (events : List (ℕ × Event)) → Ascends clock (e ∷ events) → is_due late high (clock e) ≡ false → AllByRecursion (λ x. is_due late high (clock x) ≡ false) (e ∷ events)
@@ -92,11 +93,11 @@ open_left late None clock (x ∷ put) gone events is order due not =
     absurd (search (rules, clash))
 open_left late (Some high) clock put gone events is order due not =
     one_cut clock (high -ℤ pos late) gone events (released clock late put) (onto clock [] (over clock (high -ℤ pos late) put))
-        (order ∙ sorted_splits clock late high put (sym is))
-        (all_by (λ x. int_le (clock x) (high -ℤ pos late) ≡ true) (λ x. clock x ≤ℤ (high -ℤ pos late)) (λ x e. upto_test (clock x) (high -ℤ pos late) e) gone due)
-        (all_by (λ x. int_le (clock x) (high -ℤ pos late) ≡ false) (λ x. (high -ℤ pos late) <ℤ clock x) (λ x e. not_upto_test (clock x) (high -ℤ pos late) e) events not)
-        (all_released clock late high put (sym is))
-        (all_kept clock late high put)
+    (order ∙ sorted_splits clock late high put (sym is))
+    (all_by (λ x. int_le (clock x) (high -ℤ pos late) ≡ true) (λ x. clock x ≤ℤ (high -ℤ pos late)) (λ x e. upto_test (clock x) (high -ℤ pos late) e) gone due)
+    (all_by (λ x. int_le (clock x) (high -ℤ pos late) ≡ false) (λ x. (high -ℤ pos late) <ℤ clock x) (λ x e. not_upto_test (clock x) (high -ℤ pos late) e) events not)
+    (all_released clock late high put (sym is))
+    (all_kept clock late high put)
 
 may_not : (t due : Bool) → cond t true due ≡ false → (t ≡ false) × (due ≡ false)
 may_not true due e = absurd (search (rules, e))
@@ -107,8 +108,8 @@ none_to_go g [] up not = tt
 none_to_go g (e ∷ events) up not =
     let parts = may_not g.is_finished (is_due g.late g.high (clock_at g.places e)) not in
     all_by (λ x. is_due g.late g.high (clock_at g.places x) ≡ false) (λ x. may_go g x ≡ false)
-        (λ x due. ap (λ t. cond t true (is_due g.late g.high (clock_at g.places x))) parts.0 ∙ due)
-        (e ∷ events) (none_due g.late g.high (clock_at g.places) e events up parts.1)
+    (λ x due. ap (λ t. cond t true (is_due g.late g.high (clock_at g.places x))) parts.0 ∙ due)
+    (e ∷ events) (none_due g.late g.high (clock_at g.places) e events up parts.1)
 
 pub none_goes : (g : Held) → Ascends (clock_at g.places) g.events → any_due g ≡ false → AllByRecursion (λ e. may_go g e ≡ false) g.events
 none_goes g up not = none_to_go g g.events up not

@@ -1,13 +1,12 @@
 -- The table of the clock's places tells the clock of every event.
-use Rattle.std.proofs.Common.{◌≡◌, ℕ, zero, suc, ◌+◌, ◌<◌, Bool, true, false, ◌&&◌, List, [], ◌∷◌, ◌++◌, map, take, length, refl, sym, ap, ◌∙◌, Option, Some, None, slice_get, slice_index_or, arith, add-one}
+use Rattle.std.proofs.Common.{◌≡◌, ℕ, zero, suc, ◌+◌, ◌<◌, true, false, ◌&&◌, List, [], ◌∷◌, ◌++◌, map, take, length, refl, sym, ap, ◌∙◌, Option, None, slice_get, slice_index_or, arith, add-one}
 use Rattle.std.specs.Prelude.{option_and_then}
 use Rattle.std.specs.List.{list_all}
 use Rattle.std.proofs.Math.Path.{fun_ext}
 use Rattle.std.proofs.lemmas.Bool.{and_right, and_from, and_parts}
 use Rattle.stream_schema.specs.Types.{Declared, DeclaredType}
 use Rattle.stream_schema.specs.Names.{attr_index, attr_among}
-use Rattle.stream_schema.specs.declared.Event.{Event}
-use Rattle.reorder_gate.specs.Clocks.{is_some_int, has_clock, whole, clock_in, clock_of, IsClock}
+use Rattle.reorder_gate.specs.Clocks.{is_some_int, has_clock, whole, IsClock}
 
 abbrev place_of : List ℕ → DeclaredType → Option ℕ
 place_of name t = attr_index name t.attrs

@@ -1,14 +1,14 @@
 -- What each call does to a gate as it is seen.
-use Rattle.std.proofs.Common.{◌≡◌, ℕ, ◌+◌, ℤ, Bool, true, false, cond, List, [], ◌∷◌, ◌++◌, map, refl, sym, ap, ap₂, subst, ◌∙◌, Option, Some, None, slice_get}
+use Rattle.std.proofs.Common.{◌≡◌, ℕ, ℤ, Bool, true, false, cond, List, [], ◌∷◌, ◌++◌, map, refl, sym, ap, ap₂, subst, ◌∙◌, Option, Some, None, slice_get}
 use Rattle.std.specs.BTreeMap.{insert_entry}
 use Rattle.std.specs.List.{AllByRecursion}
 use Rattle.stream_schema.specs.declared.Event.{Event}
 use Rattle.reorder_gate.specs.declared.gate.Turn.{Turn}
-use Rattle.reorder_gate.specs.Sorting.{Ascends}
 use Rattle.reorder_gate.specs.Releasing.{raised, is_due}
-use Rattle.reorder_gate.specs.Gates.{Held, clock_at, lateness, with_event, may_go, any_due, StandsFor, all_due, IsKept}
+use Rattle.reorder_gate.specs.Gates.{Held, clock_at, lateness, with_event, may_go, StandsFor}
+use Rattle.reorder_gate.specs.Turns.{any_due, IsKept}
 use Rattle.reorder_gate.proofs.Entries.{turn_cmp, events_with, first_is_due}
-use Rattle.reorder_gate.proofs.Standing.{put_stands, take_stands, none_goes, all_gone}
+use Rattle.reorder_gate.proofs.Standing.{put_stands, take_stands, none_goes}
 
 -- the gate of these parts
 abbrev pub seen : List (Option ℕ) → ℕ → Option ℤ → Bool → List (Turn × (ℕ × Event)) → Held
@@ -24,7 +24,7 @@ pub put_seen : (places : List (Option ℕ)) (late : ℕ) (high : Option ℤ) (fi
     → seen places late (Some top) finished new ≡ with_event g e
 put_seen places late high finished arrivals entries new turn e top g is kept told last inserted raise = subst (λ (g : Held). seen places late (Some top) finished new ≡ with_event g e) is
     (ap₂ (λ (h : ℤ) (events : List (ℕ × Event)). record { places = places; late = late; high = Some h; is_finished = finished; events = events })
-        (raise ∙ ap (raised high) told) (ap (map (λ x. x.1)) inserted ∙ events_with places arrivals entries turn e kept told last))
+    (raise ∙ ap (raised high) told) (ap (map (λ x. x.1)) inserted ∙ events_with places arrivals entries turn e kept told last))
 
 pub put_keeps : (g next : Held) (late : ℕ) (high : Option ℤ) (now : ℤ) (e : ℕ × Event) → next ≡ with_event g e → g.is_finished ≡ false → g.late ≡ late → g.high ≡ high → clock_at g.places e ≡ now → None ≡ lateness high late now
     → (put gone : List (ℕ × Event)) → StandsFor g put gone → StandsFor next (put ++ e ∷ []) gone

@@ -48,7 +48,8 @@ pub struct Gate {
 
 impl Model for Gate {
     ghost use Rattle.std.specs.Prelude.{map};
-    ghost use Rattle.reorder_gate.specs.Gates.{Held, IsKept};
+    ghost use Rattle.reorder_gate.specs.Gates.{Held};
+    ghost use Rattle.reorder_gate.specs.Turns.{IsKept};
 
     ghost Value = { Held };
 
@@ -88,13 +89,7 @@ fn raised(high: Option<i64>, now: i64) -> i64
     ensures { result ≡ raised high now }
 {
     match high {
-        Some(high) => {
-            if now < high {
-                high
-            } else {
-                now
-            }
-        }
+        Some(high) => { if now < high { high } else { now } }
         None => now,
     }
 }
@@ -102,7 +97,8 @@ fn raised(high: Option<i64>, now: i64) -> i64
 impl Gate {
     ghost use Rattle.reorder_gate.specs.Clocks.{clock_fits, IsClock};
     ghost use Rattle.reorder_gate.specs.Sorting.{Ascends};
-    ghost use Rattle.reorder_gate.specs.Gates.{clock_at, with_event, may_go, any_due, StandsFor, all_due};
+    ghost use Rattle.reorder_gate.specs.Gates.{clock_at, with_event, may_go, StandsFor, all_due};
+    ghost use Rattle.reorder_gate.specs.Turns.{any_due};
 
     /// A gate with nothing put. Its clock is the attribute of this name, which fits the schema, and
     /// an event may come late by `late`.

@@ -57,12 +57,7 @@ fn event_of(alloc: Global, word: &str) -> Result<Option<Event>, AllocError> {
     }))
 }
 
-fn put_words(
-    alloc: Global,
-    gate: &mut Gate,
-    line: u64,
-    word: &str,
-) -> Result<String, AllocError> {
+fn put_words(alloc: Global, gate: &mut Gate, line: u64, word: &str) -> Result<String, AllocError> {
     let Some(event) = event_of(alloc, word)? else {
         return "no event".to_string(alloc);
     };
@@ -84,12 +79,7 @@ fn take_words(alloc: Global, gate: &mut Gate) -> Result<String, AllocError> {
 }
 
 // What one step answers: `?` takes, `#` counts, `!` finishes, all else puts.
-fn step_words(
-    alloc: Global,
-    gate: &mut Gate,
-    line: u64,
-    word: &str,
-) -> Result<String, AllocError> {
+fn step_words(alloc: Global, gate: &mut Gate, line: u64, word: &str) -> Result<String, AllocError> {
     if word == "?" {
         take_words(alloc, gate)
     } else if word == "#" {
@@ -153,7 +143,8 @@ fn played_wrong(alloc: Global, table: &str) -> Result<String, AllocError> {
 }
 
 /// The bound, the steps, and what they answer.
-const GATES: &str = "5|A10 ? B14 ? A9 ? ? B16 ? ? ! ? ? ?| put none put none put 5 none put 1 none end 3 8 none\n\
+const GATES: &str =
+    "5|A10 ? B14 ? A9 ? ? B16 ? ? ! ? ? ?| put none put none put 5 none put 1 none end 3 8 none\n\
 0|A10 ? A9 # A10 ? A11 ? ?| put 1 9 after 10 0 held put 5 put 7 none\n\
 5|A100 A95 A94 ? ? #| put put 94 after 100 2 none 1 held\n\
 5|A100 A95 A90 ! ? ? ?| put put 90 after 100 end 2 1 none\n\

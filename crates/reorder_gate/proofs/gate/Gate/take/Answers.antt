@@ -1,5 +1,4 @@
-use Rattle.std.proofs.Common.{sym, ◌∙◌, ◌∷◌, [], ◌++◌, subst}
-use Rattle.std.specs.Option.{IfSome}
+use Rattle.std.proofs.Common.{sym, ◌∙◌}
 use Rattle.reorder_gate.proofs.Standing.{all_gone}
 use Rattle.reorder_gate.proofs.Views.{take_keeps, none_seen}
 use Rattle.reorder_gate.proofs.gate.Gate.take.Goals as goal
@@ -14,6 +13,7 @@ returns-then-not-has_due-clause-all c = λ put gone stands. all_gone c.args.self
 
 pub returns-clause-history : goal.returns-clause-history
 returns-clause-history c = λ put gone stands. elim c.match-pop_first.branch [
-    in-Some w ↦ rw w.result-is (take_keeps c.self.inside.places.items c.self.inside.late c.self.inside.high c.self.inside.is_finished c.self.inside.waiting.entries c.pop_first.new.self.entries (w.in-Some.field-0-0, w.in-Some.event) c.args.self.now
-        c.self.view_is w.in-Some.ensures.removal (sym c.has_due.ensures ∙ c.if-not-has_due.false) put gone stands)
-  | in-None w ↦ rw w.result-is tt ]
+  | in-Some w ↦ rw w.result-is (take_keeps c.self.inside.places.items c.self.inside.late c.self.inside.high c.self.inside.is_finished c.self.inside.waiting.entries c.pop_first.new.self.entries (w.in-Some.field-0-0, w.in-Some.event) c.args.self.now
+      c.self.view_is w.in-Some.ensures.removal (sym c.has_due.ensures ∙ c.if-not-has_due.false) put gone stands)
+  | in-None w ↦ rw w.result-is tt
+]

@@ -5,9 +5,9 @@
 //! number. An event may come late by a bound, and is refused exactly where its clock is further
 //! below the greatest one that was put. Promised: `take` gives the events by their clocks, ties as
 //! they were put, and exactly those that may go; what has gone and what is held are the sorted
-//! events that were put (`specs/Gates`). Only `new` and `put` take memory; a put and a take need a
-//! number of steps that grows as the logarithm of what is held. It stands on `stream_schema` and
-//! `cer_base`.
+//! events that were put (`specs/Gates`). Only `new` and `put` take memory. What is held stands in a
+//! map in order, so a put and a take cost about the logarithm of it; no clause says so. It stands on
+//! `stream_schema` and `cer_base`.
 #![tactic(auto)]
 
 mod clock;

@@ -118,7 +118,7 @@ module _ {A : Type 0} (clock : A → ℤ) where
   front_in_time late high [] more t = tt
   front_in_time late high (x ∷ list) more t = (t.0, front_in_time late (Some (raised high (clock x))) list more t.1)
 
-  rest_in_time : (late : ℕ) (high : Option ℤ) (list more : List A) → IsInTimeAfter clock late high (list ++ more) → IsInTimeAfter clock late (highest high list) more
+  pub rest_in_time : (late : ℕ) (high : Option ℤ) (list more : List A) → IsInTimeAfter clock late high (list ++ more) → IsInTimeAfter clock late (highest high list) more
   rest_in_time late high [] more t = t
   rest_in_time late high (x ∷ list) more t = rest_in_time late (Some (raised high (clock x))) list more t.1
 
@@ -184,3 +184,6 @@ module _ {A : Type 0} (clock : A → ℤ) where
   grows late (x ∷ list) more t =
       let top = some_highest (clock x) list in
       front_is_released late top.0 (x ∷ list) more (released clock late (x ∷ list)) (onto clock [] (over (top.0 -ℤ pos late) (x ∷ list))) top.2 (sym (sorted_splits late top.0 (x ∷ list) top.2)) (all_released late top.0 (x ∷ list) top.2) t
+
+  pub in_time_ends : (late : ℕ) (list : List A) (x : A) → IsInTime clock late (list ++ x ∷ []) → IsInTime clock late list × (is_late late (greatest clock list) (clock x) ≡ false)
+  in_time_ends late list x t = (front_in_time late None list (x ∷ []) t, (rest_in_time late None list (x ∷ []) t).0)

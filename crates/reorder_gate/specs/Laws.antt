@@ -1,5 +1,5 @@
 -- Laws of sorting and releasing, which follow from their definitions.
-use Rattle.std.specs.Prelude.{◌≡◌, ℕ, ℤ, true, false, List, [], ◌∷◌, ◌++◌, Some, map}
+use Rattle.std.specs.Prelude.{◌≡◌, ◌↔◌, ℕ, ℤ, true, false, List, [], ◌∷◌, ◌++◌, Some, map}
 use Rattle.std.specs.List.Sorted.{IsPermutation}
 use Rattle.stream_schema.specs.Types.{Declared}
 use Rattle.stream_schema.specs.Events.{IsOfSchema}
@@ -8,7 +8,7 @@ use Rattle.stream_schema.specs.declared.Value.TheVariants as value
 use Rattle.reorder_gate.specs.Clocks.{clock_fits, clock_value, clock_of}
 use Rattle.reorder_gate.specs.Gates.{Held, clock_at, StandsFor}
 use Rattle.reorder_gate.specs.Sorting.{placed, sorted, IsInOrder}
-use Rattle.reorder_gate.specs.Releasing.{IsInTime, released, BeginsWith}
+use Rattle.reorder_gate.specs.Releasing.{is_late, greatest, IsInTime, released, BeginsWith}
 
 -- Sorting moves the items, and neither loses nor makes one.
 abbrev pub SortingMoves : Type 0 → Type 0
@@ -39,6 +39,11 @@ ReleasingKeepsParts A B = (part : A → B) (clock : B → ℤ) (late : ℕ) (lis
 -- The front of a list with no item too late has none.
 abbrev pub FrontsAreInTime : Type 0 → Type 0
 FrontsAreInTime A = (clock : A → ℤ) (late : ℕ) (list more : List A) → IsInTime clock late (list ++ more) → IsInTime clock late list
+
+-- One item more comes in time exactly where it is not too late after those before it.
+abbrev pub InTimeGrows : Type 0 → Type 0
+InTimeGrows A = (clock : A → ℤ) (late : ℕ) (list : List A) (x : A) →
+    IsInTime clock late (list ++ x ∷ []) ↔ (IsInTime clock late list × (is_late late (greatest clock list) (clock x) ≡ false))
 
 -- What is released stays first, whatever comes that is not too late.
 abbrev pub ReleasedIsFinal : Type 0 → Type 0

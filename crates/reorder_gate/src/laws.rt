@@ -1,6 +1,6 @@
 //! Laws of sorting and releasing. Each function does nothing; its contract is the law.
 
-ghost use Rattle.reorder_gate.specs.Laws.{SortingMoves, SortingOrders, SortedIsUnique, SortedGrows, SortingKeepsParts, ReleasingKeepsParts, FrontsAreInTime, ReleasedIsFinal, ReleasedGrows, FittingClocksAreTold, GoneIsFinal};
+ghost use Rattle.reorder_gate.specs.Laws.{SortingMoves, SortingOrders, SortedIsUnique, SortedGrows, SortingKeepsParts, ReleasingKeepsParts, FrontsAreInTime, InTimeGrows, ReleasedIsFinal, ReleasedGrows, FittingClocksAreTold, GoneIsFinal};
 
 /// Sorting moves the items, and neither loses nor makes one.
 pub fn sorting_moves<A>()
@@ -35,6 +35,11 @@ pub fn releasing_keeps_parts<A, B>()
 /// The front of a list with no item too late has none.
 pub fn fronts_are_in_time<A>()
     ensures { FrontsAreInTime A }
+{}
+
+/// One item more comes in time exactly where it is not too late after those before it.
+pub fn in_time_grows<A>()
+    ensures { InTimeGrows A }
 {}
 
 /// What is released stays first, whatever comes that is not too late.

@@ -1,3 +1,8 @@
+ghost use Rattle.std.specs.Prelude.{ℕ};
+ghost use Rattle.stream_schema.specs.declared.Event.{Event};
+ghost use Rattle.reorder_gate.specs.Laws.{SortingKeepsParts, ReleasedIsFinal};
+
+use crate::laws::{released_is_final, sorting_keeps_parts};
 use crate::{Gate, TooLate, clock_fits};
 use cer_base::{Listed, OrMemory, Text};
 use std::alloc::{AllocError, Global};
@@ -197,5 +202,20 @@ fn a_clock_is_a_whole_number_of_every_type(rt: HostRuntime) -> Result<(), Fail> 
         Err(_) => String::new(alloc),
     };
     assert_eq!(rt; words.as_str(), "tvxT t ");
+    Ok(())
+}
+
+// The laws speak of events, and of events with their lines.
+fn laws_of_events()
+    ensures parts { SortingKeepsParts (ℕ × Event) Event }
+    ensures released { ReleasedIsFinal Event }
+{
+    sorting_keeps_parts::<(u64, Event), Event>();
+    released_is_final::<Event>();
+}
+
+#[test]
+fn laws_are_called(_rt: HostRuntime) -> Result<(), Fail> {
+    laws_of_events();
     Ok(())
 }

@@ -87,7 +87,7 @@ event \r|none\n\
 event \r\r|none\n\
 event|none\n\
 Event A,1|none\n\
- event A,1|none\n\
+\u{20}event A,1|none\n\
 open 1 1|1 on 1\n\
 open 1 1\r|1 on 1\n\
 open 1 1\r\r|none\n\

@@ -1,5 +1,5 @@
 -- Commands as they are read and as they are spelled.
-use Rattle.std.proofs.Common.{◌≡◌, ℕ, ◌∷◌, ◌++◌, Bool, true, false, cond, List, [], refl, sym, ap, ap₂, subst, ◌∙◌, Option, Some, None, Result, Ok, Err, rules}
+use Rattle.std.proofs.Common.{◌≡◌, ℕ, ◌∷◌, ◌++◌, Bool, true, false, cond, List, refl, sym, ap, subst, ◌∙◌, Option, Some, None, Result, Ok, Err, rules}
 use Rattle.std.specs.Prelude.{bytes_eq, codes, option_and_then, option_map}
 use Rattle.stream_schema.specs.Types.{Declared}
 use Rattle.stream_schema.specs.declared.Event.{Event}
@@ -11,8 +11,8 @@ use Rattle.cursor_session.specs.declared.command.CommandFault.{CommandFault}
 use Rattle.cursor_session.specs.declared.command.CommandFault.TheVariants as fault
 use Rattle.cursor_session.specs.Numbers.{cut, number, one_of}
 use Rattle.cursor_session.specs.Commands.{event_command, open_command, pull_command, drop_command, other_command, known, command_in, command_of}
-use Rattle.cursor_session.specs.Spelling.{Writes, WritesOneOf, Spells}
-use Rattle.cursor_session.proofs.Words.{parts, cut_is, parts_join, parts_of, one_some, mapped_some}
+use Rattle.cursor_session.specs.Spelling.{Spells}
+use Rattle.cursor_session.proofs.Words.{parts, cut_is, parts_join, parts_of, mapped_some}
 use Rattle.cursor_session.proofs.Digits.{and_then_some, number_writes, writes_number, one_writes, writes_one, writes_unblank}
 
 one_ok : {F : Type 0} (x y : Command) → (let r : Result Command F = Ok x in r) ≡ Ok y → x ≡ y

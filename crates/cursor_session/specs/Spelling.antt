@@ -1,5 +1,5 @@
 -- How commands are spelled, apart from how they are read; the laws say that the two agree.
-use Rattle.std.specs.Prelude.{◌≡◌, ◌↔◌, ℕ, ◌≤◌, true, List, [], ◌∷◌, ◌++◌, Some, Ok, Err, codes}
+use Rattle.std.specs.Prelude.{◌≡◌, ◌↔◌, ℕ, ◌≤◌, true, List, ◌∷◌, ◌++◌, Some, Ok, Err, codes}
 use Rattle.std.specs.Str.Parse.{digits_value}
 use Rattle.stream_schema.specs.Types.{Declared}
 use Rattle.event_reader.specs.declared.EventFault.{EventFault}

@@ -1,0 +1,3 @@
+mod Words
+mod Digits
+mod Spelled

@@ -1,0 +1,25 @@
+-- The words and numbers of a command.
+use Rattle.std.specs.Prelude.{ℕ, ◌==◌, Bool, ◌&&◌, if◌then◌else◌, nat_le, nat_lt, List, length, Option, Some, None, option_and_then}
+use Rattle.std.specs.List.{after_first, before_first, position_or_len}
+use Rattle.std.specs.Str.{all_ascii_digits}
+use Rattle.std.specs.Str.Parse.{digits_value}
+use Rattle.cursor_session.specs.declared.numbers.TheConstants.{BLANK, MOST_DIGITS}
+
+abbrev pub is_blank : ℕ → Bool
+is_blank byte = byte == BLANK
+
+-- what stands before the first blank and behind it, where there is one
+abbrev pub cut : List ℕ → Option (List ℕ × List ℕ)
+cut text = if nat_lt (position_or_len is_blank text) (length text) then Some (before_first is_blank text, after_first is_blank text) else None
+
+-- one to ten digits
+abbrev pub is_number : List ℕ → Bool
+is_number digits = nat_lt 0 (length digits) && nat_le (length digits) MOST_DIGITS && all_ascii_digits digits
+
+-- the number that they write
+abbrev pub number : List ℕ → Option ℕ
+number digits = if is_number digits then Some (digits_value 10 digits) else None
+
+-- the same, where it is from 1 to so many
+abbrev pub one_of : ℕ → List ℕ → Option ℕ
+one_of most digits = option_and_then (λ n. if nat_le 1 n && nat_le n most then Some n else None) (number digits)

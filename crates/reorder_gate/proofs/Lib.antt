@@ -1,0 +1,9 @@
+mod Placing
+mod OnlyOne
+mod Fronts
+mod Parts
+mod Standing
+mod Entries
+mod Tables
+mod Views
+mod Fitting

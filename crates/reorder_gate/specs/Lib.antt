@@ -1,0 +1,6 @@
+pub mod Sorting
+pub mod Releasing
+pub mod Clocks
+pub mod Gates
+pub mod Turns
+pub mod Laws

@@ -1,0 +1,4 @@
+pub mod Explains
+pub mod Turns
+pub mod LeafNames
+pub mod Bindings

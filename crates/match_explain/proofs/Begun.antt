@@ -11,20 +11,8 @@ use Rattle.match_explain.specs.declared.turns.Turn.{Turn}
 use Rattle.match_explain.specs.declared.moves.Last.{Last}
 use Rattle.match_explain.specs.declared.moves.Last.TheVariants.{Start, Leaf as At}
 use Rattle.match_explain.specs.declared.moves.Age.TheVariants.{Just, Earlier}
-use Rattle.match_explain.specs.Turns.{may_read, passed, has_begun, can_finish}
+use Rattle.match_explain.specs.Turns.{may_read, passed, has_begun, can_finish, IsTurnOf, AreTurnsOf}
 use Rattle.match_explain.proofs.Following.{some_below_is}
-
--- The turn is the entry's.
-pub record IsTurnOf (a : Automaton) (marks : ℕ → Bool) (x : Entry) (t : Turn) : Type 0 where
-  pub position : t.position ≡ x.position
-  pub marked : t.marked ≡ marks x.position
-  pub readers : (k : ℕ) → has t.readers k ≡ (x.bits k && agrees t.marked (a.marked k))
-
-abbrev pub AreTurnsOf : Automaton → (ℕ → Bool) → List Entry → List Turn → Type 0
-AreTurnsOf a marks [] [] = Unit {0}
-AreTurnsOf a marks [] (t ∷ ts) = ⊥
-AreTurnsOf a marks (x ∷ xs) [] = ⊥
-AreTurnsOf a marks (x ∷ xs) (t ∷ ts) = IsTurnOf a marks x t × AreTurnsOf a marks xs ts
 
 -- the leaf that has read the event just before, or an earlier one
 abbrev pub last_at : Bool → ℕ → Last

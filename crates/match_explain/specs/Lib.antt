@@ -2,3 +2,4 @@ pub mod Explains
 pub mod Turns
 pub mod LeafNames
 pub mod Bindings
+pub mod Spans

@@ -1,12 +1,17 @@
 -- The search for a run of the leaves over the events of a span: what each step of it computes.
 -- Nobody needs to believe these; the public contracts speak of the meaning alone.
-use Rattle.std.specs.Prelude.{◌≡◌, ℕ, ◌<◌, Bool, true, false, not, ◌&&◌, ◌||◌, List, [], ◌∷◌, slice_get, Some, ⊤}
+use Rattle.std.specs.Prelude.{◌≡◌, ℕ, ◌<◌, Bool, true, false, not, ◌&&◌, ◌||◌, List, [], ◌∷◌, slice_get, map, Some, ⊤}
 use Rattle.std.specs.List.{AllZip}
+use Rattle.stream_schema.specs.Types.{Declared}
 use Rattle.stream_schema.specs.declared.Event.{Event}
+use Rattle.cel_terms.specs.declared.Query.{Query}
+use Rattle.query_leaves.specs.Expand.{tree_of}
+use Rattle.cea_compile.specs.Compiled.{automaton_of}
+use Rattle.cea_compile.specs.DeterminisedRuns.{entry_at}
 use Rattle.query_leaves.specs.declared.Leaf.{Leaf}
 use Rattle.query_leaves.specs.Conditions.{leaf_conditions}
 use Rattle.cer_base.specs.Bits.{has}
-use Rattle.cea_determinise.specs.Runs.{LeafSet, Automaton, some_below, agrees}
+use Rattle.cea_determinise.specs.Runs.{LeafSet, Automaton, some_below, agrees, Entry}
 use Rattle.cea_determinise.specs.Cea.{IsSet}
 use Rattle.cea_compile.specs.Paths.{Step}
 use Rattle.cea_compile.specs.Covers.{is_listed}
@@ -76,3 +81,27 @@ pub record IsAhead (a : Automaton) (turns : List Turn) (ahead : Ahead) : Type 0 
 abbrev pub IsLeafBelow : ℕ → Last → Type 0
 IsLeafBelow size Start = ⊤
 IsLeafBelow size (At age k) = k < size
+
+-- The turn is the entry's.
+pub record IsTurnOf (a : Automaton) (marks : ℕ → Bool) (x : Entry) (t : Turn) : Type 0 where
+  pub position : t.position ≡ x.position
+  pub marked : t.marked ≡ marks x.position
+  pub readers : (k : ℕ) → has t.readers k ≡ (x.bits k && agrees t.marked (a.marked k))
+
+abbrev pub AreTurnsOf : Automaton → (ℕ → Bool) → List Entry → List Turn → Type 0
+AreTurnsOf a marks [] [] = Unit {0}
+AreTurnsOf a marks [] (t ∷ ts) = ⊥
+AreTurnsOf a marks (x ∷ xs) [] = ⊥
+AreTurnsOf a marks (x ∷ xs) (t ∷ ts) = IsTurnOf a marks x t × AreTurnsOf a marks xs ts
+
+-- The steps are those of a run over the events of the span.
+pub record IsRun (schema : Declared) (q : Query) (events : List Event) (span marks : List ℕ) (steps : List Step) : Type 0 where
+  pub turns : List Turn
+  pub told : AreTurnsOf (automaton_of (tree_of q)) (is_listed marks) (map (entry_at schema q events) span) turns
+  pub goes : Goes (automaton_of (tree_of q)) Start turns steps
+
+-- There is no run over the events of the span.
+pub record HasNoRun (schema : Declared) (q : Query) (events : List Event) (span marks : List ℕ) : Type 0 where
+  pub turns : List Turn
+  pub told : AreTurnsOf (automaton_of (tree_of q)) (is_listed marks) (map (entry_at schema q events) span) turns
+  pub stuck : can_finish (automaton_of (tree_of q)) Start turns ≡ false

@@ -1,7 +1,7 @@
 //! What the steps of a run bind.
 
-ghost use Rattle.std.specs.Prelude.{◌≡◌, ◌≤◌, length, fold, IfOk, OnOk, IfErr};
-ghost use Rattle.std.specs.List.{list_any, filter_map};
+ghost use Rattle.std.specs.Prelude.{◌≡◌, ◌≤◌, ◌++◌, [], length, fold, IfOk, OnOk, IfErr};
+ghost use Rattle.std.specs.List.{list_any, filter_map, cons_option};
 ghost use Rattle.std.specs.Prelude.{bytes_eq};
 ghost use Rattle.match_explain.specs.Bindings.{with_one, with_each, all_names, placed, names_at, has_name, position_if, positions_of, binding_if, bindings_of};
 
@@ -110,6 +110,19 @@ fn binding_if(alloc: Global, name: &str, positions: Vec<Pos>) -> Result<Option<B
     }))
 }
 
+/// Puts the binding at the end, if it is one.
+fn add_binding(bindings: &mut Vec<Binding>, binding: Option<Binding>) -> Result<(), Memory>
+    ensures { OnOk result (bindings.new.items ≡ bindings.old.items ++ cons_option binding []) }
+{
+    match binding {
+        Some(binding) => {
+            bindings.push(binding)?;
+            Ok(())
+        }
+        None => Ok(()),
+    }
+}
+
 /// What the steps bind: each name of a leaf with the positions of the steps whose leaf has it.
 pub fn bindings_of(
     alloc: Global,
@@ -122,9 +135,8 @@ pub fn bindings_of(
     let mut bindings = Vec::new(alloc);
     for name in names.as_slice() {
         let positions = positions_of(alloc, leaves, steps, name.as_str())?;
-        if let Some(binding) = binding_if(alloc, name.as_str(), positions)? {
-            bindings.push(binding)?;
-        }
+        let binding = binding_if(alloc, name.as_str(), positions)?;
+        add_binding(&mut bindings, binding)?;
     }
     Ok(bindings)
 }

@@ -11,12 +11,15 @@
 use cer_base::{Listed, Pos, Text};
 
 mod bindings;
+mod explanation;
 mod finishing;
 mod leaf_names;
 mod moves;
 mod spans;
 mod turns;
 mod walking;
+
+pub use explanation::explain;
 
 /// The positions of a set, ascending.
 pub type Positions = Listed<Pos>;

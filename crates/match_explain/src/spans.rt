@@ -1,10 +1,12 @@
 //! The positions of the substream from a start to an end, and the marks among them.
 
-ghost use Rattle.std.specs.Prelude.{◌≡◌, ℕ, ◌&&◌, true, false, nat_le, filter, IfOk};
+ghost use Rattle.std.specs.Prelude.{◌≡◌, ◌&&◌, ◌||◌, not, true, nat_lt, length, slice_index_or, IfOk};
 ghost use Rattle.std.specs.List.{list_all};
 ghost use Rattle.cel_terms.specs.Answers.{IsAscending};
 ghost use Rattle.cea_compile.specs.Covers.{is_listed};
 ghost use Rattle.cea_compile.specs.DeterminisedRuns.{from_to};
+
+ghost use Rattle.match_explain.specs.Spans.{lies_between, is_strict_enough};
 
 use cer_base::{Memory, Pos};
 use std::alloc::Global;
@@ -59,4 +61,35 @@ pub fn from_to(
         }
     }
     Ok(span)
+}
+
+/// Whether the position is above the first of the marks and below the last.
+fn lies_between(marks: &[Pos], position: Pos) -> bool
+    ensures { result ≡ lies_between marks.now position }
+{
+    if marks.is_empty() {
+        return false;
+    }
+    marks[0] < position && position < marks[marks.len() - 1]
+}
+
+/// Whether each position of the span between two marks, which ascend, is marked.
+fn is_contiguous(span: &[Pos], marks: &[Pos]) -> bool
+    requires { IsAscending marks.now }
+    ensures { result ≡ list_all (λ p. not (lies_between marks.now p) || is_listed marks.now p) span.now }
+{
+    for position in span {
+        if lies_between(marks, *position) && !lists(marks, *position) {
+            return false;
+        }
+    }
+    true
+}
+
+/// Whether the marks, which ascend, are contiguous in the span where they have to be.
+pub fn is_strict_enough(strict: bool, span: &[Pos], marks: &[Pos]) -> bool
+    requires { IsAscending marks.now }
+    ensures { result ≡ is_strict_enough strict span.now marks.now }
+{
+    !strict || is_contiguous(span, marks)
 }

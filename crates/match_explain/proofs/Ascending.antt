@@ -29,7 +29,7 @@ not_ascending xs i d e some less le up =
     let lt = up (i - 1) i (get_or xs (i - 1) e) (get_or xs i d) first (slice_get-get_or xs (i - 1) e before) (slice_get-get_or xs i d less) in
     absurd (omega arith)
 
-in_order : (xs : List ℕ) → IsAscending xs → (i j : ℕ) → i ≤ j → j < length xs → get_or xs i 0 ≤ get_or xs j 0
+pub in_order : (xs : List ℕ) → IsAscending xs → (i j : ℕ) → i ≤ j → j < length xs → get_or xs i 0 ≤ get_or xs j 0
 in_order xs up i j le less = go (cases_order i j)
   where
     go : (i ≡ j) ⊎ ((i < j) ⊎ (j < i)) → get_or xs i 0 ≤ get_or xs j 0

@@ -135,11 +135,14 @@ module _ (ls : List Occurrence) (leaves : LeafNames) (are : leaves ≡ map (λ (
   set_from : (name : List ℕ) (p : ℕ) → IsInSetOf (valuation ls steps) name p → (s : Step) × Among s steps × IsNamedAt leaves name p s
   set_from name p h =
       let b = some_from (λ (b : Bound). (b.position ≡ p) × Contains b.names name) (valuation ls steps) h in
-      let m = map_among (bound_by ls) b.0 steps b.1 in
-      (m.0, m.1, record {
-        at = ap (λ (x : Bound). x.position) m.2 ∙ b.2.0;
-        named = subst (Among name) (ap (λ (x : Bound). x.names) (sym m.2) ∙ sym (names_are m.0.leaf)) (among_from name b.0.names b.2.1);
-      })
+      let m = map_among (bound_by ls) b.0 steps b.1 in (
+        m.0,
+        m.1,
+        record {
+          at = ap (λ (x : Bound). x.position) m.2 ∙ b.2.0;
+          named = subst (Among name) (ap (λ (x : Bound). x.names) (sym m.2) ∙ sym (names_are m.0.leaf)) (among_from name b.0.names b.2.1);
+        },
+      )
 
   set_to : (name : List ℕ) (p : ℕ) (s : Step) → Among s steps → IsNamedAt leaves name p s → IsInSetOf (valuation ls steps) name p
   set_to name p s a n =

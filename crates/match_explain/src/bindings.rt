@@ -124,11 +124,7 @@ fn add_binding(bindings: &mut Vec<Binding>, binding: Option<Binding>) -> Result<
 }
 
 /// What the steps bind: each name of a leaf with the positions of the steps whose leaf has it.
-pub fn bindings_of(
-    alloc: Global,
-    leaves: &[Texts],
-    steps: &[Step],
-) -> Result<Vec<Binding>, Memory>
+pub fn bindings_of(alloc: Global, leaves: &[Texts], steps: &[Step]) -> Result<Vec<Binding>, Memory>
     ensures { IfOk result (λ bindings. bindings.items ≡ bindings_of leaves.now steps.now) }
 {
     let names = all_names(alloc, leaves)?;

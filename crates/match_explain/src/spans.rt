@@ -1,11 +1,10 @@
 //! The positions of the substream from a start to an end, and the marks among them.
 
-ghost use Rattle.std.specs.Prelude.{◌≡◌, ◌&&◌, ◌||◌, not, true, nat_lt, length, slice_index_or, IfOk};
+ghost use Rattle.std.specs.Prelude.{◌≡◌, ◌||◌, not, true, IfOk};
 ghost use Rattle.std.specs.List.{list_all};
 ghost use Rattle.cel_terms.specs.Answers.{IsAscending};
 ghost use Rattle.cea_compile.specs.Covers.{is_listed};
 ghost use Rattle.cea_compile.specs.DeterminisedRuns.{from_to};
-
 ghost use Rattle.match_explain.specs.Spans.{lies_between, is_strict_enough};
 
 use cer_base::{Memory, Pos};
@@ -46,12 +45,7 @@ pub fn lists_all(positions: &[Pos], others: &[Pos]) -> bool
 }
 
 /// Those of the positions from the start to the end.
-pub fn from_to(
-    alloc: Global,
-    start: Pos,
-    end: Pos,
-    positions: &[Pos],
-) -> Result<Vec<Pos>, Memory>
+pub fn from_to(alloc: Global, start: Pos, end: Pos, positions: &[Pos]) -> Result<Vec<Pos>, Memory>
     ensures { IfOk result (λ span. span.items ≡ from_to start end positions.now) }
 {
     let mut span = Vec::new(alloc);

@@ -1,13 +1,12 @@
 //! The events of a span, each with the leaves that can read it.
 
-ghost use Rattle.std.specs.Prelude.{◌≡◌, ℕ, ◌<◌, ◌&&◌, Some, IfOk, All, length, slice_get};
+ghost use Rattle.std.specs.Prelude.{◌≡◌, ℕ, ◌<◌, ◌&&◌, IfOk, All, length};
 ghost use Rattle.std.specs.List.{AllZip};
 ghost use Rattle.cel_terms.specs.Answers.{IsAscending};
-ghost use Rattle.cer_base.specs.Bits.{has, room_for};
+ghost use Rattle.cer_base.specs.Bits.{has};
 ghost use Rattle.cea_determinise.specs.Runs.{agrees};
 ghost use Rattle.cea_determinise.specs.Cea.{IsSet};
 ghost use Rattle.query_leaves.specs.Conditions.{leaf_conditions};
-ghost use Rattle.cea_compile.specs.Covers.{is_listed};
 ghost use Rattle.match_explain.specs.Turns.{IsTurnAt};
 
 use crate::spans::lists;

@@ -79,12 +79,7 @@ fn can_begin(cea: &Cea, turns: &[Turn], finishers: &[Bits]) -> bool
 
 /// The steps of a run over the turns that can be finished: a leaf reads where one can and finish,
 /// and passes the event over where none can.
-fn walk(
-    alloc: Global,
-    cea: &Cea,
-    turns: &[Turn],
-    finishers: &[Bits],
-) -> Result<Vec<Step>, Memory>
+fn walk(alloc: Global, cea: &Cea, turns: &[Turn], finishers: &[Bits]) -> Result<Vec<Step>, Memory>
     requires formed { IsWellFormed cea.now }
     requires finishers { AreFinishers (automaton_of_cea cea.now) turns.now (reverse finishers.now) }
     requires can { can_finish (automaton_of_cea cea.now) Start turns.now ≡ true }

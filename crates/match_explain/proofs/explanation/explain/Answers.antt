@@ -58,4 +58,3 @@ returns c =
     let may = subst (λ (s : List ℕ). MayBe c.args.schema.now c.args.query.now c.args.events.now c.args.start c.args.end s c.args.marks.now) at_may (c.may_be.ensures.yes c.if-not-may_be.false) in
     let none = subst (λ (s : List ℕ). HasNoRun c.args.schema.now c.args.query.now c.args.events.now s c.args.marks.now) at_run (rw c.in-None.is at c.in_ok-steps.ensures.none) in
     record { explains = tt; exactly = (λ h. absurd (false≢true h), λ a. absurd (no_answer c.args.schema.now c.args.query.now c.args.events.now c.args.start c.args.end c.args.marks.now may none a)) }
-

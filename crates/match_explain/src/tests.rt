@@ -269,7 +269,14 @@ fn is_told(
 fn explanations_of_the_rows(rt: HostRuntime) -> Result<(), Fail> {
     let alloc = rt.alloc();
     let rows: [(Case, &[u8], u64, u64, &[u64], &str); 23] = [
-        (Case::Three, b"aaab", 1, 3, &[3], "A 1 2; B 3; a 1; b 3; c 2; "),
+        (
+            Case::Three,
+            b"aaab",
+            1,
+            3,
+            &[3],
+            "A 1 2; B 3; a 1; b 3; c 2; ",
+        ),
         (Case::Three, b"aaab", 2, 3, &[3], "none"),
         (Case::Three, b"aaab", 1, 3, &[1, 3], "none"),
         (Case::Three, b"aaab", 1, 3, &[], "none"),

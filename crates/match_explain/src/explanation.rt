@@ -83,8 +83,8 @@ fn run(
 /// is given exactly where the complex event is no answer of the query at the end, as where there is
 /// no such event, or the marks do not ascend. How many answers ANY asks for changes nothing here.
 ///
-/// The only error is that memory ran out. The time is that of `end` events for their keys, and of the
-/// leaves that read times the leaves, over 64, for each event of the substream in the interval.
+/// The only error is that memory ran out. The time is that of a key for each event, and of each
+/// leaf for each event of the substream from the start to the end.
 pub fn explain(
     alloc: Global,
     schema: &Schema,

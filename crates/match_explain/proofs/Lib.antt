@@ -1,0 +1,12 @@
+pub mod Following
+pub mod Begun
+pub mod Gone
+pub mod Ascending
+pub mod Explained
+pub mod Names
+pub mod Bound
+pub mod Spanned
+pub mod Unselected
+pub mod Told
+pub mod Copied
+pub mod Walked

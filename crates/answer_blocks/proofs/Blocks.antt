@@ -31,7 +31,7 @@ taken_once zero all h = tt
 taken_once (suc n) [] h = tt
 taken_once (suc n) (x ∷ xs) h = (λ c. h.0 (taken_are_there n xs x c), taken_once n xs h.1)
 
-wanted_are_there : (any : Option ℕ) (all : List Answer) (a : Answer) → Contains (wanted any all) a → Contains all a
+pub wanted_are_there : (any : Option ℕ) (all : List Answer) (a : Answer) → Contains (wanted any all) a → Contains all a
 wanted_are_there None all a c = c
 wanted_are_there (Some n) all a c = taken_are_there n all a c
 
@@ -39,7 +39,7 @@ pub wanted_once : (any : Option ℕ) (all : List Answer) → HasNoRepeats all �
 wanted_once None all h = h
 wanted_once (Some n) all h = taken_once n all h
 
-enough : (any : Option ℕ) (schema : Declared) (q : Query) (events : List Event) (end : ℕ) (all answers : List Answer) →
+pub enough : (any : Option ℕ) (schema : Declared) (q : Query) (events : List Event) (end : ℕ) (all answers : List Answer) →
     AreAnswersAt schema q events end all → IsPermutation (wanted any all) answers → AreEnough any (IsAnswer schema q events end) answers
 enough None schema q events end all answers h moved = λ a is. Contains-permutation all answers a moved (h.all a is)
 enough (Some n) schema q events end all answers h moved = (

@@ -37,7 +37,7 @@ blocks_append order schema m n (x ∷ xs) ys events end front back at h k =
       ap (λ (l : List ℕ). l ++ back) h.4 ∙ append_assoc h.0 h.1 back,
     )
 
-item_at : (xs : List Query) (k : ℕ) → k < length xs → (q : Query) × (slice_get xs k ≡ Some q)
+pub item_at : (xs : List Query) (k : ℕ) → k < length xs → (q : Query) × (slice_get xs k ≡ Some q)
 item_at [] k within = absurd (omega arith)
 item_at (x ∷ xs) zero within = (x, refl)
 item_at (x ∷ xs) (suc k) within = item_at xs k (omega arith)
@@ -117,12 +117,12 @@ block_pulled order engine number end given answers P are moved ordered at_end h 
       );
 }
 
-none_wanted : (any : Option ℕ) → wanted any [] ≡ []
+pub none_wanted : (any : Option ℕ) → wanted any [] ≡ []
 none_wanted None = refl
 none_wanted (Some zero) = refl
 none_wanted (Some (suc n)) = refl
 
-none_in_order : (order : Order) → AreInOrder order []
+pub none_in_order : (order : Order) → AreInOrder order []
 none_in_order Walk = tt
 none_in_order Sorted = λ i j a b less p q. absurd (cc)
 

@@ -8,3 +8,5 @@ pub mod Joined
 pub mod Writing
 -- what a text starts with
 pub mod Texts
+-- rows one after another, and what they cost; for callers
+pub mod Counting

@@ -49,7 +49,7 @@ part_after (Some first) (Some middle) (Some last) xs ys rest bytes split p q =
       took = part_of_both first middle last xs ys rest bytes q.count split (omega (arith, q.within)) same q.took;
     }
 
-prefix_after : (first middle last : Option (List ℕ)) (xs ys rest bytes : List ℕ) → bytes ≡ (xs ++ ys) ++ rest →
+pub prefix_after : (first middle last : Option (List ℕ)) (xs ys rest bytes : List ℕ) → bytes ≡ (xs ++ ys) ++ rest →
     TookAll first middle xs → TookPrefix middle last ys → TookPrefix first last bytes
 prefix_after None None last xs ys rest bytes split p q = q
 prefix_after None (Some middle) last xs ys rest bytes split p q = absurd (let wrong : Some middle ≡ None = p in cc)

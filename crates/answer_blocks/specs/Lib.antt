@@ -2,4 +2,5 @@ pub mod Laws
 pub mod Taken
 pub mod Wanted
 pub mod Blocks
+pub mod Counted
 pub mod Rows

@@ -1,7 +1,8 @@
 //! Pulling as many answers of a query as it wants.
 
-ghost use Rattle.std.specs.Prelude.{◌≡◌, ◌<◌, [], ◌∷◌, reverse, IfOk, MatchOption};
-ghost use Rattle.query_engine.specs.Engine.{count_of, Fits, IsNumber};
+ghost use Rattle.std.specs.Prelude.{◌≡◌, ◌+◌, ◌<◌, ◌≤◌, [], ◌∷◌, length, reverse, IfOk, MatchOption};
+ghost use Rattle.query_engine.specs.Bounds.{delay, update_bound};
+ghost use Rattle.query_engine.specs.Engine.{count_of, found_of, Fits, IsNumber};
 ghost use Rattle.answer_blocks.specs.Wanted.{are_enough, one_fewer, to_give, AreWanted};
 
 use cer_base::steps::Steps;
@@ -47,6 +48,7 @@ impl Pulling {
         ensures fits { IfOk result (λ p. Fits engine.now p.cursor) }
         ensures answers { IfOk result (λ p.
             AreWanted engine.now number (to_give engine.now p.left p.cursor)) }
+        ensures steps { steps.new ≤ steps.old + update_bound (found_of engine.now number) }
     {
         let cursor = engine.cursor(number, steps)?;
         Ok(Pulling {
@@ -65,6 +67,8 @@ impl Pulling {
             ≡ record { start = start; marks = reverse self.new.cursor.path } ∷
             to_give engine.now self.new.left self.new.cursor) }
         ensures fits { Fits engine.now self.new.cursor }
+        ensures delay { MatchOption result (steps.new ≤ steps.old + 1)
+            (λ start. steps.new ≤ steps.old + delay (length self.new.cursor.path)) }
     {
         if are_enough(self.left) {
             return None;

@@ -1,15 +1,18 @@
 //! The blocks of a position, each in order.
 
-ghost use Rattle.std.specs.Prelude.{◌≡◌, ℕ, ◌+◌, ◌-◌, ◌<◌, List, ◌++◌, length, take, flat_map, IfOk, OnOk, OnErr};
+ghost use Rattle.std.specs.Prelude.{◌≡◌, ℕ, ◌+◌, ◌-◌, ◌<◌, ◌≤◌, List, ◌++◌, length, take, flat_map, IfOk, OnOk, OnErr};
 ghost use Rattle.std.specs.List.Sorted.{IsPermutation};
 ghost use Rattle.stream_schema.specs.declared.Event.{Event};
 ghost use Rattle.cer_base.specs.Repeats.{HasNoRepeats};
+ghost use Rattle.query_engine.specs.Counts.{cursor_bound, cursor_bounds};
 ghost use Rattle.query_engine.specs.Engine.{StandsFor, count_of, Fits, IsNumber};
 ghost use Rattle.answer_text.specs.declared.Order.TheVariants.{Sorted};
 ghost use Rattle.answer_text.specs.Output.{line, EachBeforeNext, AreBlocks};
+ghost use Rattle.answer_text.specs.Rows.{lines_of};
 ghost use Rattle.answer_text.specs.Texts.{StartsWith};
 ghost use Rattle.answer_blocks.specs.Wanted.{to_give};
 ghost use Rattle.answer_blocks.specs.Blocks.{HasBlock, HasBlocks};
+ghost use Rattle.answer_blocks.specs.Counted.{delays, row_delays, HasRows, HasRowsAt};
 
 use crate::pulling::Pulling;
 use answer_text::Answer;
@@ -28,8 +31,10 @@ fn pulled<L: Ledger>(
     steps: &mut Steps<L>,
 ) -> Result<Vec<Answer>, Memory>
     requires fits { Fits engine.now pulling.old.cursor }
-    ensures { IfOk result (λ v.
+    ensures all { IfOk result (λ v.
         v.items ≡ to_give engine.now pulling.old.left pulling.old.cursor) }
+    ensures steps { steps.new ≤ steps.old + 1
+        + delays (to_give engine.now pulling.old.left pulling.old.cursor) }
 {
     let mut found = Vec::new(alloc);
     while let Some(start) = pulling.next(engine, steps) {
@@ -67,6 +72,9 @@ fn push_block<L: Ledger>(
     requires numbered { IsNumber engine.now number }
     ensures block { OnOk result (HasBlock Sorted engine.now number
         (λ bytes. text.new.items ≡ text.old.items ++ bytes)) }
+    ensures rows { HasRows Sorted engine.now number (λ rows.
+        OnOk result (text.new.items ≡ text.old.items ++ lines_of rows)
+        × (steps.new ≤ steps.old + cursor_bound engine.now number + row_delays rows)) }
     ensures kept { StartsWith text.old.items text.new.items }
 {
     if !engine.may_answer(number) {
@@ -87,6 +95,9 @@ fn push_each<L: Ledger>(
     requires seen { 0 < count_of engine.now }
     ensures blocks { OnOk result (HasBlocks Sorted engine.now engine.now.queries
         (λ bytes. text.new.items ≡ text.old.items ++ bytes)) }
+    ensures rows { HasRowsAt Sorted engine.now engine.now.queries (λ rows.
+        OnOk result (text.new.items ≡ text.old.items ++ lines_of rows)
+        × (steps.new ≤ steps.old + cursor_bounds engine.now + row_delays rows)) }
     ensures kept { StartsWith text.old.items text.new.items }
 {
     for k in 0..engine.queries() {
@@ -97,6 +108,8 @@ fn push_each<L: Ledger>(
 
 /// Puts the blocks of all queries at the last position behind the text, each in order. An event was
 /// taken. Where memory runs out the text is as it was.
+///
+/// Whatever the answer, it takes the steps of a cursor for each query, and a delay for each answer.
 pub fn push_blocks<L: Ledger>(
     alloc: Global,
     engine: &Engine,
@@ -107,6 +120,9 @@ pub fn push_blocks<L: Ledger>(
     ensures blocks { OnOk result ((events : List Event) → StandsFor engine.now events
         → (bytes : List ℕ) × AreBlocks Sorted engine.now.schema 1 engine.now.queries events
         (length events - 1) bytes × (text.new.items ≡ text.old.items ++ bytes)) }
+    ensures rows { HasRowsAt Sorted engine.now engine.now.queries (λ rows.
+        OnOk result (text.new.items ≡ text.old.items ++ lines_of rows)
+        × (steps.new ≤ steps.old + cursor_bounds engine.now + row_delays rows)) }
     ensures kept { OnErr result (text.new.items ≡ text.old.items) }
 {
     let before = text.len();

@@ -1,14 +1,17 @@
 //! The blocks of a position, as the engine finds their answers.
 
-ghost use Rattle.std.specs.Prelude.{◌≡◌, ℕ, ◌+◌, ◌-◌, ◌<◌, List, ◌++◌, length, reverse, flat_map};
+ghost use Rattle.std.specs.Prelude.{◌≡◌, ℕ, ◌+◌, ◌-◌, ◌<◌, ◌≤◌, List, ◌++◌, length, map, reverse, flat_map};
 ghost use Rattle.stream_schema.specs.declared.Event.{Event};
 ghost use Rattle.cer_outside.specs.Causes.{HasCauseOrMemory};
+ghost use Rattle.query_engine.specs.Counts.{cursor_bound, cursor_bounds};
 ghost use Rattle.query_engine.specs.Engine.{StandsFor, count_of, Fits, IsNumber};
 ghost use Rattle.answer_text.specs.declared.Order.TheVariants.{Walk};
 ghost use Rattle.answer_text.specs.Output.{line, AreBlocks};
+ghost use Rattle.answer_text.specs.Rows.{row_at};
 ghost use Rattle.answer_blocks.specs.Taken.{TookBy};
 ghost use Rattle.answer_blocks.specs.Wanted.{to_give};
 ghost use Rattle.answer_blocks.specs.Blocks.{HasBlock};
+ghost use Rattle.answer_blocks.specs.Counted.{HasRows, HasRowsAt, WroteRows};
 
 use crate::pulling::Pulling;
 use answer_text::push_line;
@@ -53,6 +56,9 @@ fn write_answers<K: Sink, L: Ledger>(
     requires fits { Fits engine.now pulling.old.cursor }
     ensures took { TookBy (K.taken out.old) (K.taken out.new) (flat_map (line query end)
         (to_give engine.now pulling.old.left pulling.old.cursor)) result }
+    ensures rows { WroteRows (K.taken out.old) (K.taken out.new) (map (row_at query end)
+        (to_give engine.now pulling.old.left pulling.old.cursor))
+        (steps.old + 1) steps.new result }
     ensures cause { HasCauseOrMemory (K.faults out.old) (K.faults out.new) result }
 {
     while let Some(start) = pulling.next(engine, steps) {
@@ -72,6 +78,9 @@ fn write_block<K: Sink, L: Ledger>(
     requires numbered { IsNumber engine.now number }
     ensures took { HasBlock Walk engine.now number
         (λ bytes. TookBy (K.taken out.old) (K.taken out.new) bytes result) }
+    ensures rows { HasRows Walk engine.now number (λ rows.
+        WroteRows (K.taken out.old) (K.taken out.new) rows
+        (steps.old + cursor_bound engine.now number) steps.new result) }
     ensures cause { HasCauseOrMemory (K.faults out.old) (K.faults out.new) result }
 {
     if !engine.may_answer(number) {
@@ -87,7 +96,9 @@ fn write_block<K: Sink, L: Ledger>(
 /// lines, and its bytes go.
 ///
 /// After a fault the sink has taken a proper first part of the blocks, and its count of faults rose
-/// by one; where memory ran out, a first part.
+/// by one; where memory ran out, a first part. It takes the steps of a cursor for each query, and a
+/// delay for each answer; after a fault only for those whose lines were taken, and for the one whose
+/// line was not.
 pub fn write_blocks<K: Sink, L: Ledger>(
     engine: &Engine,
     out: &mut K,
@@ -98,6 +109,9 @@ pub fn write_blocks<K: Sink, L: Ledger>(
     ensures took { (events : List Event) → StandsFor engine.now events → (bytes : List ℕ)
         × AreBlocks Walk engine.now.schema 1 engine.now.queries events (length events - 1) bytes
         × TookBy (K.taken out.old) (K.taken out.new) bytes result }
+    ensures rows { HasRowsAt Walk engine.now engine.now.queries (λ rows.
+        WroteRows (K.taken out.old) (K.taken out.new) rows
+        (steps.old + cursor_bounds engine.now) steps.new result) }
     ensures cause { HasCauseOrMemory (K.faults out.old) (K.faults out.new) result }
 {
     for k in 0..engine.queries() {

@@ -2,3 +2,5 @@
 pub mod PositionsText
 -- the order of answers
 pub mod Ordered
+-- rows and their lines; for callers
+pub mod RowLists

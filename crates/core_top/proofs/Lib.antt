@@ -17,3 +17,5 @@ mod Noted
 mod TopClauses
 -- runs over a host that never fails
 mod SureRuns
+-- the steps of a run
+mod StepClauses

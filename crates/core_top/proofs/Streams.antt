@@ -29,10 +29,10 @@ pub text_not_missing : (content : Content) (P : List ℕ → Type 0) → OfOpene
 text_not_missing content P fact missing = let Q : Content → Type 0 = λ w. OfOpened w P in subst Q missing fact
 
 -- the bytes that are told of a file that was opened
-source_told : (content : Content) (source : Option (List ℕ)) (lines : List ℕ) → HasOpened content source → content ≡ Holds lines → source ≡ Some lines
+pub source_told : (content : Content) (source : Option (List ℕ)) (lines : List ℕ) → HasOpened content source → content ≡ Holds lines → source ≡ Some lines
 source_told content source lines opened told = let P : Content → Type 0 = λ w. HasOpened w source in subst P told opened
 
-text_told : (content : Content) (text : List ℕ) (P : List ℕ → Type 0) → content ≡ Holds text → OfOpened content P → P text
+pub text_told : (content : Content) (text : List ℕ) (P : List ℕ → Type 0) → content ≡ Holds text → OfOpened content P → P text
 text_told content text P same fact = let Q : Content → Type 0 = λ w. OfOpened w P in subst Q same fact
 
 pub accepted_text : (content : Content) (schema : Declared) (queries : List Query) → OfOpened content (λ text. Accepts text schema queries) → OfOpened content IsAcceptedText

@@ -6,3 +6,4 @@ pub mod Opening
 pub mod Notes
 pub mod SourceBytes
 pub mod Run
+pub mod Steps

@@ -1,12 +1,13 @@
 //! The order of work of a run: the query file, the event file, the answers.
 
-ghost use Rattle.std.specs.Prelude.{◌≡◌, ℕ, List, [], IfOk, IfErr};
+ghost use Rattle.std.specs.Prelude.{◌≡◌, ℕ, List, [], Some, IfOk, IfErr};
 ghost use Rattle.cer_base.specs.Answers.{OnFault};
 ghost use Rattle.cer_outside.specs.Causes.{AllStay};
-ghost use Rattle.cer_outside.specs.Content.{OfOpened};
+ghost use Rattle.cer_outside.specs.Content.{Holds, OfOpened};
 ghost use Rattle.query_engine.specs.Engine.{StandsFor, count_of};
 ghost use Rattle.core_top.specs.Accepted.{Accepts, IsRefusedText};
 ghost use Rattle.core_top.specs.Causes.{CountsWrites};
+ghost use Rattle.core_top.specs.Steps.{StepsBy, RunSteps};
 ghost use Rattle.core_top.specs.Run.{Ended, QueriesStop, EventsStop, SourceStop, StopCounts};
 
 use super::opening::{Stop, open, take_whole};
@@ -49,6 +50,12 @@ pub fn run_files<H: Host, K: Sink, L: Ledger>(
           most_bytes = most_bytes;
         })
         host.old host.new result.cause result.failed }
+    ensures steps { RunSteps result.cause (H.content host.old) (record {
+      queries = queries.now;
+      events = events.now;
+      order = order;
+      most_bytes = most_bytes;
+    }) (K.taken out.old) (K.taken out.new) steps.old steps.new }
     ensures kept { (any : List ℕ) → H.content host.new any ≡ H.content host.old any }
 {
     let mut engine = match read_engine(alloc, host, queries) {
@@ -137,6 +144,14 @@ fn answer_file<H: Host, K: Sink, L: Ledger>(
         (H.faults host.old events.now) (H.faults host.new events.now)
         (K.faults out.old) (K.faults out.new) (K.taken out.old) (K.taken out.new)
         result.cause result.failed }
+    ensures steps { StepsBy
+        (λ Says. (bytes : List ℕ) → H.content host.old events.now ≡ Holds bytes → Says (record {
+          order = order;
+          schema = engine.old.schema;
+          queries = engine.old.queries;
+          most_bytes = most_bytes;
+        }) bytes)
+        result.cause (K.taken out.old) (K.taken out.new) steps.old steps.new }
     ensures counts { StopCounts result.cause events.now (H.faults host.old) (H.faults host.new) }
     ensures writes { CountsWrites result.cause (K.faults out.old) (K.faults out.new) }
     ensures opened { H.opens host.old events.now host.new }
@@ -171,6 +186,14 @@ fn answer_source<S: Source + Drop, K: Sink, L: Ledger>(
         (S.left source)
         (K.faults out.old) (K.faults out.new) (K.taken out.old) (K.taken out.new)
         result.cause result.failed }
+    ensures steps { StepsBy
+        (λ Says. (bytes : List ℕ) → S.left source ≡ Some bytes → Says (record {
+          order = order;
+          schema = engine.old.schema;
+          queries = engine.old.queries;
+          most_bytes = most_bytes;
+        }) bytes)
+        result.cause (K.taken out.old) (K.taken out.new) steps.old steps.new }
     ensures writes { CountsWrites result.cause (K.faults out.old) (K.faults out.new) }
 {
     let before = out.fault_count();

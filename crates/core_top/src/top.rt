@@ -13,6 +13,7 @@ ghost use Rattle.core_top.specs.Accepted.{IsRefusedText, StopsAt};
 ghost use Rattle.core_top.specs.Causes.{status_of, name_of, Exactly, IsFineOrOutside, IsReading, HasOpenFault, HasReadFault, HasWriteFault, CountsOpens, CountsWrites, EndsWithout};
 ghost use Rattle.core_top.specs.Opening.{OpensInTurn};
 ghost use Rattle.core_top.specs.Output.{Wrote, WroteSample};
+ghost use Rattle.core_top.specs.Steps.{RunSteps};
 ghost use Rattle.core_top.specs.Notes.{note_of, TookNote};
 ghost use Rattle.core_top.specs.Run.{Finished, left_of};
 
@@ -104,6 +105,11 @@ pub fn core_main<H: Host, K: Sink, N: Sink, L: Ledger>(
         → CountsOpens result.cause r (H.faults host.old) (H.faults host.new) }
     ensures counts_writes { CountsWrites result.cause (K.faults out.old) (K.faults out.new) }
 
+    // However a run ends, its steps are bounded by the events of the file and their answers.
+    ensures steps { (r : RunWords) → IsRun (map string_bytes words.items) r
+        → RunSteps result.cause (H.content host.old) r (K.taken out.old) (K.taken out.new)
+        steps.old steps.new }
+
     ensures note { TookNote (N.taken notes.old) (N.taken notes.new)
         (N.faults notes.old) (N.faults notes.new) (note_of result.cause) }
     ensures kept { (name : List ℕ) → H.content host.new name ≡ H.content host.old name }
@@ -145,6 +151,9 @@ fn run<H: Host, K: Sink, L: Ledger>(
           after = K.taken out.new;
         })
         host.old host.new result.cause result.failed }
+    ensures steps { (r : RunWords) → IsRun (map string_bytes words.now) r
+        → RunSteps result.cause (H.content host.old) r (K.taken out.old) (K.taken out.new)
+        steps.old steps.new }
     ensures kept { (name : List ℕ) → H.content host.new name ≡ H.content host.old name }
 {
     match read_command(alloc, words) {

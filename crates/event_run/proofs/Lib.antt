@@ -9,3 +9,5 @@ pub mod ForCallers
 pub mod Given
 -- one turn of reading
 mod Turns
+-- steps where memory ran out
+mod Wants

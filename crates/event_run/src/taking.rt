@@ -1,11 +1,14 @@
 //! One more event of a file, given to an engine.
 
-ghost use Rattle.std.specs.Prelude.{◌≡◌, ◌+◌, ◌<◌, ◌≤◌, ℕ, List, [], ◌∷◌, ◌++◌, true, false, OnOk, OnErr, IfOk};
+ghost use Rattle.std.specs.Prelude.{◌≡◌, ◌+◌, ◌<◌, ◌≤◌, ℕ, List, [], ◌∷◌, ◌++◌, true, false, Some, OnOk, OnErr, IfOk};
 ghost use Rattle.stream_schema.specs.declared.Event.{Event};
 ghost use Rattle.stream_schema.specs.Events.{IsOfSchema};
 ghost use Rattle.query_engine.specs.Engine.{StandsFor, count_of, SameQueries, update_bounds};
 ghost use Rattle.cer_base.specs.Answers.{OnFault};
-ghost use Rattle.event_run.specs.Taking.{HasTaken, AfterCall, AfterText, AfterEvent, HasSourceCause, TakesRoom, TakesSteps, run_fault};
+ghost use Rattle.event_reader.specs.Events.{event_of_line};
+ghost use Rattle.query_engine.specs.Clocks.{NoneFallsBack};
+ghost use Rattle.event_run.specs.Wanting.{OnMemory, AreWantingSteps, WantsSteps};
+ghost use Rattle.event_run.specs.Taking.{BeginsRun, HasTaken, AfterCall, AfterText, AfterEvent, HasSourceCause, TakesRoom, TakesSteps, run_fault};
 
 use crate::{RunFault, Taken};
 use cer_base::OrMemory;
@@ -44,6 +47,11 @@ pub fn take_event<Q: Source, L: Ledger>(
     ensures cause { HasSourceCause (Q.faults source.old) (Q.faults source.new) result }
     ensures room { TakesRoom lines.old lines.new result }
     ensures steps { TakesSteps (update_bounds engine.new) steps.old steps.new result }
+    ensures wanting_steps { (events : List Event) → StandsFor engine.old events
+        → OnMemory result (WantsSteps engine.old.schema engine.old.queries events
+        (λ next. (bytes : List ℕ) → HasTaken engine.old.schema engine.old.queries lines.old bytes
+        (Q.left source.old) events → BeginsRun engine.old.schema engine.old.queries
+        lines.new.budget bytes (events ++ next ∷ [])) steps.old steps.new) }
 {
     loop {
         match lines.next(source) {
@@ -95,6 +103,11 @@ fn give_line<L: Ledger>(
     ensures steps { OnOk result (steps.new ≤ steps.old + update_bounds engine.new) }
     ensures no_step { OnFault result (λ fault. steps.new ≡ steps.old) }
     ensures skipped { result ≡ Ok false → steps.new ≡ steps.old }
+    ensures wanting_steps { (events : List Event) → StandsFor engine.old events
+        → OnMemory result (WantsSteps engine.old.schema engine.old.queries events
+        (λ next. (event_of_line engine.old.schema lines.now.text ≡ Ok (Some next))
+        × NoneFallsBack engine.old.schema engine.old.queries events next)
+        steps.old steps.new) }
 {
     match row.read(alloc, engine.schema(), lines.text()) {
         Ok(true) => {
@@ -122,6 +135,10 @@ fn give_event<L: Ledger>(
     ensures same { SameQueries engine.old engine.new }
     ensures steps { OnOk result (steps.new ≤ steps.old + update_bounds engine.new) }
     ensures no_step { OnFault result (λ fault. steps.new ≡ steps.old) }
+    ensures wanting_steps { (events : List Event) → StandsFor engine.old events
+        → OnMemory result (NoneFallsBack engine.old.schema engine.old.queries events event.now
+        × AreWantingSteps engine.old.schema engine.old.queries (events ++ event.now ∷ [])
+        steps.old steps.new) }
 {
     match engine.see(event, steps) {
         Ok(_) => Ok(()),

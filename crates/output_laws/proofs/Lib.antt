@@ -18,3 +18,5 @@ pub mod SameTrees
 pub mod LineText
 -- the output as the lines of rows
 pub mod RowsWritten
+-- the output's rows where more events come; for callers
+pub mod RowsGrow

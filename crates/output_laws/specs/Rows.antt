@@ -1,21 +1,15 @@
 -- The output as rows: each line is that of one answer.
-use Rattle.std.specs.Prelude.{◌≡◌, ℕ, ◌+◌, ◌<◌, ◌≤◌, ◌^◌, ◌↔◌, List, All, Contains, Some, None, length, slice_get, flat_map}
+use Rattle.std.specs.Prelude.{◌≡◌, ℕ, ◌+◌, ◌<◌, ◌≤◌, ◌^◌, ◌↔◌, List, ◌++◌, All, Contains, Some, None, length, slice_get, flat_map}
 use Rattle.cer_base.specs.Repeats.{HasNoRepeats}
 use Rattle.stream_schema.specs.Types.{Declared}
 use Rattle.stream_schema.specs.declared.Event.{Event}
 use Rattle.cel_terms.specs.declared.Query.{Query}
 use Rattle.cel_terms.specs.Answers.{Answer, IsAnswer}
 use Rattle.answer_text.specs.declared.Order.{Order}
-use Rattle.answer_text.specs.Output.{line, IsOutput}
-
--- What a line says: the number of a query, from 1, a position, and an answer.
-pub record Row : Type 0 where
-  pub number : ℕ
-  pub end : ℕ
-  pub answer : Answer
-
-abbrev pub row_line : Row → List ℕ
-row_line row = line row.number row.end row.answer
+use Rattle.answer_text.specs.Output.{IsOutput}
+use Rattle.output_laws.specs.Laws.{HasBlocks}
+use Rattle.answer_text.specs.Rows.{lines_of, AreOutputRows}
+pub use Rattle.answer_text.specs.Rows.{Row, row_line}
 
 -- The query of this number has the answer at this position.
 pub record IsRow (schema : Declared) (queries : List Query) (events : List Event) (row : Row) : Type 0 where
@@ -56,3 +50,17 @@ LinesTellTheirRows = (schema : Declared) (queries : List Query) (events : List E
     length queries < 2 ^ 64 → length events ≤ 2 ^ 64 →
     IsRow schema queries events row → IsRow schema queries events other →
     row_line row ≡ row_line other → row ≡ other
+
+-- The lines of the output's rows are the output, and every output is the lines of such rows.
+pub record RowsAreTheOutput : Type 0 where
+  pub lines : (order : Order) (schema : Declared) (queries : List Query) (events : List Event) (rows : List Row) →
+      AreOutputRows order schema queries events rows → IsOutput order schema queries events (lines_of rows)
+  pub rows : (order : Order) (schema : Declared) (queries : List Query) (events : List Event) (bytes : List ℕ) →
+      IsOutput order schema queries events bytes → (rows : List Row) × AreOutputRows order schema queries events rows × (bytes ≡ lines_of rows)
+
+-- More events put more rows behind, where each position has its blocks.
+abbrev pub RowsGrowAtTheirEnd : Type 0
+RowsGrowAtTheirEnd = (order : Order) (schema : Declared) (queries : List Query) (events more : List Event) (rows : List Row) →
+    ((end : ℕ) → HasBlocks order schema queries (events ++ more) end) →
+    AreOutputRows order schema queries events rows →
+    (rest : List Row) × AreOutputRows order schema queries (events ++ more) (rows ++ rest)

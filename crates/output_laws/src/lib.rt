@@ -5,7 +5,7 @@
 #![tactic(auto)]
 
 ghost use Rattle.output_laws.specs.Laws.{AnswersLookBack, LaterEventsChangeNoAnswer, LaterEventsChangeNoBlock, LaterEventsChangeNoBlocks, LaterEventsChangeNoOutput, OneMoreEventAddsItsBlocks, OutputBeginsWithThatOfTheFirst, OutputGrowsAtItsEnd, OutputStartsEmpty, SortedOutputIsUnique, TreesTellTheAnswers, TreesTellTheOutput};
-ghost use Rattle.output_laws.specs.Rows.{LinesTellTheirRows, OrdersWriteTheSameLines, OutputIsRows};
+ghost use Rattle.output_laws.specs.Rows.{LinesTellTheirRows, OrdersWriteTheSameLines, OutputIsRows, RowsAreTheOutput, RowsGrowAtTheirEnd};
 ghost use Rattle.output_laws.specs.Words.{WordsTellTheAnswers, WordsTellTheOutput};
 
 /// An answer depends on the events up to its end alone.
@@ -91,4 +91,14 @@ pub fn lines_tell_their_rows()
 /// Where no query has ANY, the same lines are written in every order.
 pub fn orders_write_the_same_lines()
     ensures { OrdersWriteTheSameLines }
+{}
+
+/// The output's rows, one line each, are the output.
+pub fn rows_are_the_output()
+    ensures { RowsAreTheOutput }
+{}
+
+/// The rows of more events are those of the first with more behind them.
+pub fn rows_grow_at_their_end()
+    ensures { RowsGrowAtTheirEnd }
 {}

@@ -9,3 +9,5 @@ mod Wholes
 mod Running
 -- how a run ends
 mod Ends
+-- the steps, from event to event and at the end
+mod Totals

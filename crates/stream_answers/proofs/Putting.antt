@@ -21,7 +21,7 @@ walk_memory (Some b) None came took = absurd took
 walk_memory (Some b) (Some a) came took =
     (drop took.count came, record { written = take took.count came; took = ap Some took.took; whole = sym (take-append-drop took.count came) })
 
-passed_walk : {T F : Type 0} (before after : Option (List ℕ)) (came : List ℕ) (result : Result T (OrMemory F)) → TookBy before after came result → Passed before after [] came [] result
+pub passed_walk : {T F : Type 0} (before after : Option (List ℕ)) (came : List ℕ) (result : Result T (OrMemory F)) → TookBy before after came result → Passed before after [] came [] result
 passed_walk before after came (Ok done) took = record { written = came; took = took; whole = sym (append-nil came) }
 passed_walk before after came (Err (Fault f)) took = took
 passed_walk before after came (Err Memory) took = walk_memory before after came took

@@ -21,7 +21,7 @@ use Rattle.stream_answers.specs.Streams.{Asked}
 use Rattle.stream_answers.proofs.Portions.{took_none, took_both}
 
 -- at the beginning
-pub starts : (a : Asked) (source before : Option (List ℕ)) (reader : LineReader) (held : List ℕ) (engine : State) →
+abbrev pub starts : (a : Asked) (source before : Option (List ℕ)) (reader : LineReader) (held : List ℕ) (engine : State) →
     StandsFor engine [] → ((bytes : List ℕ) → HasGiven reader bytes (Some bytes) []) → held ≡ [] → Running a source reader source before before held engine
 starts a source before reader held engine stands given empty = record {
   events = [];
@@ -51,7 +51,7 @@ pub record Owing (a : Asked) (source : Option (List ℕ)) (reader : LineReader) 
   pub output : IsOutput a.order a.schema a.queries events (written ++ held)
   pub taken : (lines : List ℕ) → source ≡ Some lines → HasTaken a.schema a.queries reader lines left (events ++ next ∷ [])
 
-pub owes : (a : Asked) (source : Option (List ℕ)) (old new : LineReader) (had left before after : Option (List ℕ)) (held : List ℕ) (engine now : State) → (r : Running a source old had before after held engine) →
+abbrev pub owes : (a : Asked) (source : Option (List ℕ)) (old new : LineReader) (had left before after : Option (List ℕ)) (held : List ℕ) (engine now : State) → (r : Running a source old had before after held engine) →
     AfterCall a.schema a.queries new now (λ bytes. HasTaken a.schema a.queries old bytes had r.events) left r.events (Ok taken.Event) → Owing a source new left before after held now
 owes a source old new had left before after held engine now r took = record {
   events = r.events;
@@ -88,7 +88,7 @@ in_turn written held blocks more now rest whole =
     ap (λ w. written ++ w) whole ∙ sym (append_assoc written more (now ++ rest)) ∙ sym (append_assoc (written ++ more) now rest)
 
 -- the answers were put
-pub runs_on : (a : Asked) (source : Option (List ℕ)) (reader : LineReader) (left before middle after : Option (List ℕ)) (held blocks now : List ℕ) (engine : State) → (o : Owing a source reader left before middle held engine) →
+abbrev pub runs_on : (a : Asked) (source : Option (List ℕ)) (reader : LineReader) (left before middle after : Option (List ℕ)) (held blocks now : List ℕ) (engine : State) → (o : Owing a source reader left before middle held engine) →
     Came a (o.events ++ o.next ∷ []) blocks → PassesOn middle after held blocks now [] → Running a source reader left before after now engine
 runs_on a source reader left before middle after held blocks now engine o came passed =
     let P : List ℕ → Type 0 = IsOutput a.order a.schema a.queries (o.events ++ o.next ∷ []) in

@@ -1,2 +1,4 @@
 pub mod Streams
+pub mod Steps
 pub mod Gathering
+pub mod Counting

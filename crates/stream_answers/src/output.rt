@@ -1,12 +1,17 @@
 //! The lines of a run, gathered and written.
 
-ghost use Rattle.std.specs.Prelude.{◌≡◌, ◌-◌, ◌<◌, ◌⊎◌, ℕ, List, [], true, length, OnOk, OnErr};
+ghost use Rattle.std.specs.Prelude.{◌≡◌, ◌+◌, ◌-◌, ◌<◌, ◌⊎◌, ℕ, List, [], true, length, IsOk, OnOk, OnErr};
 ghost use Rattle.event_reader.specs.Lines.{has_line_feed};
 ghost use Rattle.stream_schema.specs.declared.Event.{Event};
 ghost use Rattle.cer_outside.specs.Bytes.{TookAll, TookPart};
 ghost use Rattle.cer_outside.specs.Causes.{HasCause, HasCauseOrMemory};
 ghost use Rattle.query_engine.specs.Engine.{StandsFor, count_of};
+ghost use Rattle.query_engine.specs.Counts.{cursor_bounds};
+ghost use Rattle.answer_text.specs.declared.Order.TheVariants.{Walk};
 ghost use Rattle.answer_text.specs.Output.{AreBlocks};
+ghost use Rattle.answer_text.specs.Rows.{lines_of};
+ghost use Rattle.answer_blocks.specs.Counted.{HasRowsAt};
+ghost use Rattle.stream_answers.specs.Counting.{StepsPut};
 ghost use Rattle.stream_answers.specs.Gathering.{Passed};
 
 use answer_blocks::{push_blocks, write_blocks};
@@ -77,6 +82,12 @@ impl Output {
             × AreBlocks self.old.order engine.now.schema 1 engine.now.queries events
             (length events - 1) bytes
             × Passed (K.taken out.old) (K.taken out.new) self.old.held bytes self.new.held result }
+        ensures rows { HasRowsAt self.old.order engine.now engine.now.queries (λ rows.
+            Passed (K.taken out.old) (K.taken out.new) self.old.held (lines_of rows)
+            self.new.held result
+            × StepsPut self.old.order (K.taken out.old) (K.taken out.new) rows
+            (steps.old + cursor_bounds engine.now) steps.new result) }
+        ensures walk { self.old.order ≡ Walk → self.new.held ≡ [] }
         ensures cause { HasCauseOrMemory (K.faults out.old) (K.faults out.new) result }
     {
         match self.order {
@@ -118,6 +129,7 @@ impl Output {
         ensures part { OnErr result (TookPart (K.taken out.old) (K.taken out.new) self.old.held) }
         ensures cause { HasCause (K.faults out.old) (K.faults out.new) result }
         ensures empty { OnOk result (self.new.held ≡ []) }
+        ensures none { self.old.held ≡ [] → IsOk result }
         ensures order { self.new.order ≡ self.old.order }
     {
         put_all(out, self.held.as_slice())?;

@@ -4,6 +4,7 @@ ghost use Rattle.std.specs.Prelude.{◌≡◌, ◌≤◌, ℕ, List, [], false, 
 ghost use Rattle.event_reader.specs.Reading.{HasGiven};
 ghost use Rattle.query_engine.specs.Engine.{StandsFor, count_of};
 ghost use Rattle.stream_answers.specs.Gathering.{Finished, stream_fault};
+ghost use Rattle.stream_answers.specs.Steps.{StepsOver};
 ghost use Rattle.stream_answers.specs.Streams.{WroteStream, HasReadCause, HasWriteCause};
 
 use crate::StreamFault;
@@ -25,6 +26,9 @@ use std::sync::ledger::Ledger;
 ///
 /// The first fault ends it, after the answers that come before were written; where writing fails,
 /// that is the answer.
+///
+/// However it ends, its steps are bounded by the events of the source and by their answers; where
+/// writing fails in walk order, by those up to the answer whose line was not written.
 pub fn write_answers<Q: Source, K: Sink, L: Ledger>(
     alloc: Global,
     order: Order,
@@ -43,6 +47,12 @@ pub fn write_answers<Q: Source, K: Sink, L: Ledger>(
       most_bytes = most_bytes;
     })
         (Q.left source.old) (Q.left source.new) (K.taken out.old) (K.taken out.new) result }
+    ensures steps { (bytes : List ℕ) → Q.left source.old ≡ Some bytes → StepsOver (record {
+      order = order;
+      schema = engine.old.schema;
+      queries = engine.old.queries;
+      most_bytes = most_bytes;
+    }) bytes (K.taken out.old) (K.taken out.new) steps.old steps.new result }
     ensures read_cause { HasReadCause (Q.faults source.old) (Q.faults source.new) result }
     ensures write_cause { HasWriteCause (K.faults out.old) (K.faults out.new) result }
 {
@@ -87,6 +97,12 @@ fn answer_events<Q: Source, K: Sink, L: Ledger>(
       most_bytes = lines.old.budget;
     })
         (Q.left source.old) (Q.left source.new) (K.taken out.old) (K.taken out.new) result }
+    ensures steps { (bytes : List ℕ) → Q.left source.old ≡ Some bytes → StepsOver (record {
+      order = output.old.order;
+      schema = engine.old.schema;
+      queries = engine.old.queries;
+      most_bytes = lines.old.budget;
+    }) bytes (K.taken out.old) (K.taken out.new) steps.old steps.new result }
     ensures read_cause { HasReadCause (Q.faults source.old) (Q.faults source.new) result }
     ensures write_cause { HasWriteCause (K.faults out.old) (K.faults out.new) result }
 {
@@ -128,8 +144,9 @@ fn finish<K: Sink>(
     out: &mut K,
     end: Result<(), OrMemory<StreamFault>>,
 ) -> Result<(), OrMemory<StreamFault>>
-    ensures { Finished (K.taken out.old) (K.taken out.new) (K.faults out.old) (K.faults out.new)
-        output.old.held end result }
+    ensures finished { Finished (K.taken out.old) (K.taken out.new)
+        (K.faults out.old) (K.faults out.new) output.old.held end result }
+    ensures none { output.old.held ≡ [] → result ≡ end }
 {
     match output.flush(out) {
         Ok(()) => end,

@@ -1,6 +1,7 @@
-use Rattle.std.proofs.Common.{refl}
+use Rattle.std.proofs.Common.{refl, inl, map, string_bytes}
 use Rattle.core_top.specs.Run.{ran, sampled, refused, unread}
-use Rattle.core_top.proofs.Words.{run_asked}
+use Rattle.core_top.proofs.Words.{run_asked, no_run_and_sample}
+use Rattle.core_top.proofs.StepClauses.{run_steps}
 use Rattle.core_top.proofs.top.run.Goals as goal
 
 pub returns-in-Ok-Run-clause-finished : goal.returns-in-Ok-Run-clause-finished
@@ -21,3 +22,16 @@ pub returns-in-Err-Fault-clause-finished : goal.returns-in-Err-Fault-clause-fini
 returns-in-Err-Fault-clause-finished g c =
     refused (rw c.in-Err-Fault.field-0-is at c.in-Err-Fault.ensures.nothing) c.of-in-Err-Fault.ensures.cause
     (record { none = c.of-in-Err-Fault.ensures.failed; wrote = refl; counts_writes = refl; unopened = refl })
+
+pub returns-in-Ok-Run-clause-steps : goal.returns-in-Ok-Run-clause-steps
+returns-in-Ok-Run-clause-steps g c = λ r asked.
+    run_steps (map string_bytes c.args.words.now) (g.H.Host.content c.args.host.now) _ r c.run_files.result.cause (g.K.Sink.taken c.args.out.now) (g.K.Sink.taken c.run_files.new.out) c.args.steps.now c.run_files.new.steps (run_asked _ _ _ _ _ _ _ c.as_str.ensures c.as_str-in-Ok-Run.ensures (rw c.in-Ok-Run.field-0-is at c.in-Ok-Run.ensures.asks)) asked c.run_files.ensures.steps
+
+pub returns-in-Ok-Sample-clause-steps : goal.returns-in-Ok-Sample-clause-steps
+returns-in-Ok-Sample-clause-steps g c = λ r asked. absurd (no_run_and_sample _ r _ _ asked (rw c.in-Ok-Sample.field-0-is at c.in-Ok-Sample.ensures.asks))
+
+pub returns-in-Err-Memory-clause-steps : goal.returns-in-Err-Memory-clause-steps
+returns-in-Err-Memory-clause-steps g c = λ r asked. rw c.of.ensures.cause (inl refl)
+
+pub returns-in-Err-Fault-clause-steps : goal.returns-in-Err-Fault-clause-steps
+returns-in-Err-Fault-clause-steps g c = λ r asked. rw c.of-in-Err-Fault.ensures.cause refl

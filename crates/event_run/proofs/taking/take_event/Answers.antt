@@ -1,5 +1,6 @@
 use Rattle.std.proofs.Common.{None, refl, ◌∙◌, arith}
-use Rattle.event_run.proofs.Given.{at_end}
+use Rattle.event_run.proofs.Given.{at_end, begins}
+use Rattle.event_run.proofs.Wants.{wants_as}
 use Rattle.event_run.proofs.Turns.{begins_before, no_line, taken_empty, taken_event, stopped_line}
 use Rattle.event_run.proofs.taking.take_event.Goals as goal
 
@@ -66,3 +67,12 @@ loop-fault-preserved g c =
           taken_empty _ _ _ c.loop-fault.lines c.next.new.self bytes (g.Q.Source.left c.loop-fault.source) (g.Q.Source.left c.next.new.source) events inv.same.0
           ((rw c.in-Ok-Line.field-0-is at c.in-Ok-Line.ensures.lines) bytes) (took events (inv.stands events stands)).0 (inv.taken events stands bytes had);
     }
+
+pub returns-in-Err-Memory-clause-wanting_steps : goal.returns-in-Err-Memory-clause-wanting_steps
+returns-in-Err-Memory-clause-wanting_steps g c = λ events stands.
+    let inv = c.loop-fault.invariant in
+    wants_as _ _ _ _ events _ _ _ _ _ inv.same.0 inv.same.1 inv.steps
+    (λ next is bytes had. begins _ _ c.next.new.self bytes (g.Q.Source.left c.next.new.source) _
+    (taken_event _ _ _ _ c.loop-fault.lines c.next.new.self bytes (g.Q.Source.left c.loop-fault.source) (g.Q.Source.left c.next.new.source) events next inv.same.0 inv.same.1
+    ((rw c.in-Ok-Line.field-0-is at c.in-Ok-Line.ensures.lines) bytes) is.0 is.1 (inv.taken events stands bytes had)))
+    ((rw c.in-Err-Memory.field-0-is at c.in-Err-Memory.ensures.wanting_steps) events (inv.stands events stands))

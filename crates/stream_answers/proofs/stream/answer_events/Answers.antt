@@ -1,12 +1,14 @@
 use Rattle.std.proofs.Common.{refl, sym, ◌∙◌, Ok, Err}
 use Rattle.event_run.specs.declared.Taken.TheVariants as taken
-use Rattle.stream_answers.proofs.Running.{starts, as_asked, owes, came_as, runs_on}
+use Rattle.stream_answers.proofs.Running.{as_asked, owes, came_as}
+use Rattle.stream_answers.proofs.Totals.{counts_start, counts_on, rows_as, steps_at_end, steps_by, steps_for_memory, steps_for_fault}
 use Rattle.stream_answers.proofs.Ends.{ends_at_end, ends_by, ends_for_memory, ends_for_fault, read_cause}
 use Rattle.stream_answers.proofs.stream.answer_events.Goals as goal
 
 pub loop-output-init : goal.loop-output-init
 loop-output-init g c = record {
-  running = starts _ _ _ _ _ _ c.requires.fresh c.requires.given c.requires.empty;
+  counting = counts_start _ _ _ _ _ _ _ c.requires.fresh c.requires.given c.requires.empty;
+  none_waits = λ walk. c.requires.empty;
   open_is = c.requires.open;
   counted = c.requires.counted;
   same = (refl, refl);
@@ -21,29 +23,31 @@ returns-in-Ok-End-clause-wrote g c =
     let inv = c.loop-output.invariant in
     let took = as_asked _ _ _ _ c.loop-output.lines c.take_event.new.lines c.loop-output.engine c.take_event.new.engine (g.Q.Source.left c.loop-output.source) (g.Q.Source.left c.take_event.new.source) (Ok taken.End) inv.same.0 inv.same.1 (rw c.in-Ok-End.field-0-is at c.in-Ok-End.ensures.took) in
     ends_at_end _ _ c.loop-output.lines c.take_event.new.lines _ _ _ _ _ _ _ _ c.loop-output.engine c.take_event.new.engine _ c.finish.result
-    (c.take_event.ensures.budget ∙ inv.budget) inv.running (took inv.running.events inv.running.stands) c.finish.ensures
+    (c.take_event.ensures.budget ∙ inv.budget) inv.counting.running (took inv.counting.running.events inv.counting.running.stands) c.finish.ensures.finished
 
 pub returns-in-Err-clause-wrote : goal.returns-in-Err-clause-wrote
 returns-in-Err-clause-wrote g c =
     let inv = c.loop-output.invariant in
     let took = as_asked _ _ _ _ c.loop-output.lines c.take_event.new.lines c.loop-output.engine c.take_event.new.engine (g.Q.Source.left c.loop-output.source) (g.Q.Source.left c.take_event.new.source) (Err c.in-Err.stop) inv.same.0 inv.same.1 c.in-Err.ensures.took in
     ends_by _ _ c.loop-output.lines c.take_event.new.lines _ _ _ _ _ _ _ _ c.loop-output.engine c.take_event.new.engine c.in-Err.stop c.finish-in-Err.result
-    (c.take_event.ensures.budget ∙ inv.budget) inv.budget inv.running (took inv.running.events inv.running.stands) (rw c.stream_fault.ensures at c.finish-in-Err.ensures)
+    (c.take_event.ensures.budget ∙ inv.budget) inv.budget inv.counting.running (took inv.counting.running.events inv.counting.running.stands) (rw c.stream_fault.ensures at c.finish-in-Err.ensures.finished)
 
 pub returns-in-Err-clause-read_cause : goal.returns-in-Err-clause-read_cause
 returns-in-Err-clause-read_cause g c =
-    rw (sym c.loop-output.invariant.read_faults) (read_cause _ _ _ _ _ _ _ c.in-Err.stop c.finish-in-Err.result c.in-Err.ensures.cause (rw c.stream_fault.ensures at c.finish-in-Err.ensures))
+    rw (sym c.loop-output.invariant.read_faults) (read_cause _ _ _ _ _ _ _ c.in-Err.stop c.finish-in-Err.result c.in-Err.ensures.cause (rw c.stream_fault.ensures at c.finish-in-Err.ensures.finished))
 
 pub loop-output-preserved : goal.loop-output-preserved
 loop-output-preserved g c =
     let inv = c.loop-output.invariant in
     let took = as_asked _ _ _ _ c.loop-output.lines c.take_event.new.lines c.loop-output.engine c.take_event.new.engine (g.Q.Source.left c.loop-output.source) (g.Q.Source.left c.take_event.new.source) (Ok taken.Event) inv.same.0 inv.same.1 (rw c.in-Ok-Event.field-0-is at c.in-Ok-Event.ensures.took) in
-    let owing = owes _ _ c.loop-output.lines c.take_event.new.lines (g.Q.Source.left c.loop-output.source) (g.Q.Source.left c.take_event.new.source) (g.K.Sink.taken c.args.out.now) (g.K.Sink.taken c.loop-output.out) c.loop-output.output.held c.loop-output.engine c.take_event.new.engine inv.running (took inv.running.events inv.running.stands) in
+    let owing = owes _ _ c.loop-output.lines c.take_event.new.lines (g.Q.Source.left c.loop-output.source) (g.Q.Source.left c.take_event.new.source) (g.K.Sink.taken c.args.out.now) (g.K.Sink.taken c.loop-output.out) c.loop-output.output.held c.loop-output.engine c.take_event.new.engine inv.counting.running (took inv.counting.running.events inv.counting.running.stands) in
     let same = c.take_event.ensures.same in
-    let put = c.in-Ok.ensures.passed _ owing.stands in
+    let put = c.in-Ok.ensures.rows.rows_are _ owing.stands in
     rw c.put.ensures.lines (record {
-      running = runs_on _ _ c.take_event.new.lines (g.Q.Source.left c.take_event.new.source) (g.K.Sink.taken c.args.out.now) (g.K.Sink.taken c.loop-output.out) (g.K.Sink.taken c.put.new.out) c.loop-output.output.held put.0 c.put.new.self.held c.take_event.new.engine owing
-          (came_as _ _ _ _ _ put.0 inv.order (same.0 ∙ inv.same.0) (same.1 ∙ inv.same.1) put.1) put.2;
+      counting = counts_on _ _ c.take_event.new.lines (g.Q.Source.left c.take_event.new.source) (g.K.Sink.taken c.args.out.now) (g.K.Sink.taken c.loop-output.out) (g.K.Sink.taken c.put.new.out) c.loop-output.output.held c.put.new.self.held c.take_event.new.engine owing
+          inv.counting.rows put.0 c.args.steps.now c.loop-output.steps c.take_event.new.steps c.put.new.steps (same.0 ∙ inv.same.0) (same.1 ∙ inv.same.1)
+          (rows_as _ _ _ _ _ _ _ put.0 inv.order (same.0 ∙ inv.same.0) (same.1 ∙ inv.same.1) put.1) put.2.0 inv.counting.are_rows inv.counting.lines inv.counting.bounded (rw c.in-Ok-Event.field-0-is at c.in-Ok-Event.ensures.steps) put.2.1;
+      none_waits = λ walk. c.put.ensures.walk (inv.order ∙ walk);
       open_is = (rw c.in-Ok-Event.field-0-is at c.in-Ok-Event.ensures.room).1;
       counted = c.take_event.ensures.counted;
       same = (same.0 ∙ inv.same.0, same.1 ∙ inv.same.1);
@@ -57,18 +61,60 @@ pub returns-in-Err-Memory-clause-wrote : goal.returns-in-Err-Memory-clause-wrote
 returns-in-Err-Memory-clause-wrote g c =
     let inv = c.loop-output.invariant in
     let took = as_asked _ _ _ _ c.loop-output.lines c.take_event.new.lines c.loop-output.engine c.take_event.new.engine (g.Q.Source.left c.loop-output.source) (g.Q.Source.left c.take_event.new.source) (Ok taken.Event) inv.same.0 inv.same.1 (rw c.in-Ok-Event.field-0-is at c.in-Ok-Event.ensures.took) in
-    let owing = owes _ _ c.loop-output.lines c.take_event.new.lines (g.Q.Source.left c.loop-output.source) (g.Q.Source.left c.take_event.new.source) (g.K.Sink.taken c.args.out.now) (g.K.Sink.taken c.loop-output.out) c.loop-output.output.held c.loop-output.engine c.take_event.new.engine inv.running (took inv.running.events inv.running.stands) in
+    let owing = owes _ _ c.loop-output.lines c.take_event.new.lines (g.Q.Source.left c.loop-output.source) (g.Q.Source.left c.take_event.new.source) (g.K.Sink.taken c.args.out.now) (g.K.Sink.taken c.loop-output.out) c.loop-output.output.held c.loop-output.engine c.take_event.new.engine inv.counting.running (took inv.counting.running.events inv.counting.running.stands) in
     let same = c.take_event.ensures.same in
     let put = (rw c.in-Err-Memory.field-0-is at c.in-Err-Memory.ensures.passed) _ owing.stands in
     ends_for_memory _ _ c.take_event.new.lines (g.Q.Source.left c.take_event.new.source) (g.K.Sink.taken c.args.out.now) (g.K.Sink.taken c.loop-output.out) (g.K.Sink.taken c.put.new.out) (g.K.Sink.taken c.finish-in-Err-Memory.new.out) c.loop-output.output.held put.0 c.put.new.self.held _ _ c.take_event.new.engine c.finish-in-Err-Memory.result (c.take_event.ensures.budget ∙ inv.budget) owing
-    (came_as _ _ _ _ _ put.0 inv.order (same.0 ∙ inv.same.0) (same.1 ∙ inv.same.1) put.1) put.2 c.finish-in-Err-Memory.ensures
+    (came_as _ _ _ _ _ put.0 inv.order (same.0 ∙ inv.same.0) (same.1 ∙ inv.same.1) put.1) put.2 c.finish-in-Err-Memory.ensures.finished
 
 pub returns-in-Err-Fault-clause-wrote : goal.returns-in-Err-Fault-clause-wrote
 returns-in-Err-Fault-clause-wrote g c =
     let inv = c.loop-output.invariant in
     let took = as_asked _ _ _ _ c.loop-output.lines c.take_event.new.lines c.loop-output.engine c.take_event.new.engine (g.Q.Source.left c.loop-output.source) (g.Q.Source.left c.take_event.new.source) (Ok taken.Event) inv.same.0 inv.same.1 (rw c.in-Ok-Event.field-0-is at c.in-Ok-Event.ensures.took) in
-    let owing = owes _ _ c.loop-output.lines c.take_event.new.lines (g.Q.Source.left c.loop-output.source) (g.Q.Source.left c.take_event.new.source) (g.K.Sink.taken c.args.out.now) (g.K.Sink.taken c.loop-output.out) c.loop-output.output.held c.loop-output.engine c.take_event.new.engine inv.running (took inv.running.events inv.running.stands) in
+    let owing = owes _ _ c.loop-output.lines c.take_event.new.lines (g.Q.Source.left c.loop-output.source) (g.Q.Source.left c.take_event.new.source) (g.K.Sink.taken c.args.out.now) (g.K.Sink.taken c.loop-output.out) c.loop-output.output.held c.loop-output.engine c.take_event.new.engine inv.counting.running (took inv.counting.running.events inv.counting.running.stands) in
     let same = c.take_event.ensures.same in
     let put = (rw c.in-Err-Fault.field-0-is at c.in-Err-Fault.ensures.passed) _ owing.stands in
     ends_for_fault _ _ c.take_event.new.lines (g.Q.Source.left c.take_event.new.source) (g.K.Sink.taken c.args.out.now) (g.K.Sink.taken c.loop-output.out) (g.K.Sink.taken c.put.new.out) c.loop-output.output.held put.0 c.take_event.new.engine (c.take_event.ensures.budget ∙ inv.budget) owing
     (came_as _ _ _ _ _ put.0 inv.order (same.0 ∙ inv.same.0) (same.1 ∙ inv.same.1) put.1) put.2
+
+-- THE STEPS
+
+pub returns-in-Ok-End-clause-steps : goal.returns-in-Ok-End-clause-steps
+returns-in-Ok-End-clause-steps g c = λ bytes same.
+    let inv = c.loop-output.invariant in
+    let took = as_asked _ _ _ _ c.loop-output.lines c.take_event.new.lines c.loop-output.engine c.take_event.new.engine (g.Q.Source.left c.loop-output.source) (g.Q.Source.left c.take_event.new.source) (Ok taken.End) inv.same.0 inv.same.1 (rw c.in-Ok-End.field-0-is at c.in-Ok-End.ensures.took) in
+    steps_at_end _ _ bytes c.loop-output.lines c.take_event.new.lines (g.Q.Source.left c.loop-output.source) (g.Q.Source.left c.take_event.new.source) _ _ _ _ _ _ c.loop-output.engine c.take_event.new.engine _ c.finish.result c.args.steps.now c.loop-output.steps c.take_event.new.steps same
+    (c.take_event.ensures.budget ∙ inv.budget) inv.counting (took inv.counting.running.events inv.counting.running.stands) (rw c.in-Ok-End.field-0-is at c.in-Ok-End.ensures.steps) c.finish.ensures.finished
+    (λ walk. let none = inv.none_waits walk in (none, c.finish.ensures.none none))
+
+pub returns-in-Err-clause-steps : goal.returns-in-Err-clause-steps
+returns-in-Err-clause-steps g c = λ bytes same.
+    let inv = c.loop-output.invariant in
+    let took = as_asked _ _ _ _ c.loop-output.lines c.take_event.new.lines c.loop-output.engine c.take_event.new.engine (g.Q.Source.left c.loop-output.source) (g.Q.Source.left c.take_event.new.source) (Err c.in-Err.stop) inv.same.0 inv.same.1 c.in-Err.ensures.took in
+    steps_by _ _ bytes c.loop-output.lines c.take_event.new.lines (g.Q.Source.left c.loop-output.source) (g.Q.Source.left c.take_event.new.source) _ _ _ _ _ _ c.loop-output.engine c.take_event.new.engine c.in-Err.stop c.finish-in-Err.result c.args.steps.now c.loop-output.steps c.take_event.new.steps same
+    (c.take_event.ensures.budget ∙ inv.budget) inv.budget inv.same.0 inv.same.1 inv.counting (took inv.counting.running.events inv.counting.running.stands) c.in-Err.ensures.steps (c.in-Err.ensures.wanting_steps inv.counting.running.events inv.counting.running.stands)
+    (rw c.stream_fault.ensures at c.finish-in-Err.ensures.finished)
+    (λ walk. let none = inv.none_waits walk in (none, rw c.stream_fault.ensures at (c.finish-in-Err.ensures.none none)))
+
+pub returns-in-Err-Memory-clause-steps : goal.returns-in-Err-Memory-clause-steps
+returns-in-Err-Memory-clause-steps g c = λ bytes told.
+    let inv = c.loop-output.invariant in
+    let took = as_asked _ _ _ _ c.loop-output.lines c.take_event.new.lines c.loop-output.engine c.take_event.new.engine (g.Q.Source.left c.loop-output.source) (g.Q.Source.left c.take_event.new.source) (Ok taken.Event) inv.same.0 inv.same.1 (rw c.in-Ok-Event.field-0-is at c.in-Ok-Event.ensures.took) in
+    let owing = owes _ _ c.loop-output.lines c.take_event.new.lines (g.Q.Source.left c.loop-output.source) (g.Q.Source.left c.take_event.new.source) (g.K.Sink.taken c.args.out.now) (g.K.Sink.taken c.loop-output.out) c.loop-output.output.held c.loop-output.engine c.take_event.new.engine inv.counting.running (took inv.counting.running.events inv.counting.running.stands) in
+    let same = c.take_event.ensures.same in
+    let put = (rw c.in-Err-Memory.field-0-is at c.in-Err-Memory.ensures.rows).rows_are _ owing.stands in
+    steps_for_memory _ _ bytes c.take_event.new.lines (g.Q.Source.left c.take_event.new.source) (g.K.Sink.taken c.args.out.now) (g.K.Sink.taken c.loop-output.out) (g.K.Sink.taken c.put.new.out) (g.K.Sink.taken c.finish-in-Err-Memory.new.out) c.loop-output.output.held c.put.new.self.held _ _ c.take_event.new.engine owing
+    inv.counting.rows put.0 c.args.steps.now c.loop-output.steps c.take_event.new.steps c.put.new.steps c.finish-in-Err-Memory.result told (c.take_event.ensures.budget ∙ inv.budget) (same.0 ∙ inv.same.0) (same.1 ∙ inv.same.1)
+    (rows_as _ _ _ _ _ _ _ put.0 inv.order (same.0 ∙ inv.same.0) (same.1 ∙ inv.same.1) put.1) inv.counting.are_rows inv.counting.lines inv.counting.bounded (rw c.in-Ok-Event.field-0-is at c.in-Ok-Event.ensures.steps) put.2.1 c.finish-in-Err-Memory.ensures.finished
+    (λ walk. let none = c.put.ensures.walk (inv.order ∙ walk) in (none, c.finish-in-Err-Memory.ensures.none none))
+
+pub returns-in-Err-Fault-clause-steps : goal.returns-in-Err-Fault-clause-steps
+returns-in-Err-Fault-clause-steps g c = λ bytes told.
+    let inv = c.loop-output.invariant in
+    let took = as_asked _ _ _ _ c.loop-output.lines c.take_event.new.lines c.loop-output.engine c.take_event.new.engine (g.Q.Source.left c.loop-output.source) (g.Q.Source.left c.take_event.new.source) (Ok taken.Event) inv.same.0 inv.same.1 (rw c.in-Ok-Event.field-0-is at c.in-Ok-Event.ensures.took) in
+    let owing = owes _ _ c.loop-output.lines c.take_event.new.lines (g.Q.Source.left c.loop-output.source) (g.Q.Source.left c.take_event.new.source) (g.K.Sink.taken c.args.out.now) (g.K.Sink.taken c.loop-output.out) c.loop-output.output.held c.loop-output.engine c.take_event.new.engine inv.counting.running (took inv.counting.running.events inv.counting.running.stands) in
+    let same = c.take_event.ensures.same in
+    let put = (rw c.in-Err-Fault.field-0-is at c.in-Err-Fault.ensures.rows).rows_are _ owing.stands in
+    steps_for_fault _ _ bytes c.take_event.new.lines (g.Q.Source.left c.take_event.new.source) (g.K.Sink.taken c.args.out.now) (g.K.Sink.taken c.loop-output.out) (g.K.Sink.taken c.put.new.out) c.loop-output.output.held c.take_event.new.engine owing
+    inv.counting.rows put.0 c.args.steps.now c.loop-output.steps c.take_event.new.steps c.put.new.steps _ told (c.take_event.ensures.budget ∙ inv.budget) (same.0 ∙ inv.same.0) (same.1 ∙ inv.same.1) inv.order
+    (rows_as _ _ _ _ _ _ _ put.0 inv.order (same.0 ∙ inv.same.0) (same.1 ∙ inv.same.1) put.1) inv.counting.are_rows inv.counting.lines inv.counting.bounded (rw c.in-Ok-Event.field-0-is at c.in-Ok-Event.ensures.steps) put.2.1 inv.none_waits

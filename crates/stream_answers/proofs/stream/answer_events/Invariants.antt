@@ -1,13 +1,15 @@
-use Rattle.std.proofs.Common.{◌≡◌, ◌≤◌, false}
+use Rattle.std.proofs.Common.{◌≡◌, ◌≤◌, [], false}
+use Rattle.answer_text.specs.declared.Order.TheVariants.{Walk}
 use Rattle.query_engine.specs.Engine.{count_of, SameQueries}
-use Rattle.stream_answers.specs.Gathering.{Running}
+use Rattle.stream_answers.specs.Counting.{Counted}
 use Rattle.stream_answers.proofs.stream.answer_events.Given as goal
 
 -- the answers over the events so far are written or held
 abbrev pub invariant-loop-output : goal.invariant-loop-output
 invariant-loop-output g l = record {
-  running : Running (record { order = l.fn.output.order; schema = l.fn.engine.schema; queries = l.fn.engine.queries; most_bytes = l.fn.lines.budget })
-      (g.Q.Source.left l.fn.source) l.lines (g.Q.Source.left l.source) (g.K.Sink.taken l.fn.out) (g.K.Sink.taken l.out) l.output.held l.engine;
+  counting : Counted (record { order = l.fn.output.order; schema = l.fn.engine.schema; queries = l.fn.engine.queries; most_bytes = l.fn.lines.budget })
+      (g.Q.Source.left l.fn.source) l.lines (g.Q.Source.left l.source) (g.K.Sink.taken l.fn.out) (g.K.Sink.taken l.out) l.output.held l.engine l.fn.steps l.steps;
+  none_waits : l.fn.output.order ≡ Walk → l.output.held ≡ [];
   open_is : l.lines.closed ≡ false;
   counted : count_of l.engine ≤ l.lines.number;
   same : SameQueries l.fn.engine l.engine;

@@ -1,0 +1,42 @@
+-- How many steps an event may take of all queries, by the states that the runs over all events meet.
+use Rattle.std.specs.Prelude.{◌≡◌, ℕ, ◌+◌, ◌*◌, ◌≤◌, List, ◌++◌, length, Some, slice_get}
+use Rattle.stream_schema.specs.Types.{Declared}
+use Rattle.stream_schema.specs.declared.Event.{Event}
+use Rattle.cel_terms.specs.declared.Query.{Query}
+use Rattle.query_engine.specs.Bounds.{update_bound, for_each_query, MeetAtMost}
+use Rattle.query_engine.specs.Engine.{State, StandsFor, found_of, update_bounds}
+
+-- The runs over the events meet at most so many states of each query, by its number, from 1.
+abbrev pub MeetMost : Declared → List Query → List Event → (ℕ → ℕ) → Type 0
+MeetMost schema queries events most = (k : ℕ) (q : Query) → slice_get queries k ≡ Some q → MeetAtMost schema q events (most (k + 1))
+
+-- An event's steps for all queries, but for those to its answers: it is taken, a cursor is opened, and the cursor's end is met.
+abbrev pub event_bound : ℕ → (ℕ → ℕ) → ℕ
+event_bound queries most = for_each_query queries (λ k. 2 * update_bound (most k) + 1)
+
+-- the part of them that cursors take, by the states found so far
+abbrev pub cursor_bound : State → ℕ → ℕ
+cursor_bound engine k = update_bound (found_of engine k) + 1
+
+abbrev pub cursor_bounds : State → ℕ
+cursor_bounds engine = for_each_query (length engine.queries) (cursor_bound engine)
+
+-- What was found for a query are states that runs over the events meet.
+abbrev pub FoundAreMet : Type 0
+FoundAreMet = (engine : State) (events : List Event) (k : ℕ) (q : Query) (n : ℕ) →
+    StandsFor engine events → slice_get engine.queries k ≡ Some q → MeetAtMost engine.schema q events n → found_of engine (k + 1) ≤ n
+
+-- The runs over the first events meet no more than those over all.
+abbrev pub FirstEventsMeetFewer : Type 0
+FirstEventsMeetFewer = (schema : Declared) (queries : List Query) (events more : List Event) (most : ℕ → ℕ) →
+    MeetMost schema queries (events ++ more) most → MeetMost schema queries events most
+
+-- An event that was taken took no more than its bound, and leaves enough of it for the cursors.
+abbrev pub EventIsBounded : Type 0
+EventIsBounded = (engine : State) (events : List Event) (most : ℕ → ℕ) →
+    StandsFor engine events → MeetMost engine.schema engine.queries events most →
+    update_bounds engine + cursor_bounds engine ≤ event_bound (length engine.queries) most
+
+-- The runs of a query meet no more than some number of states, whatever the events.
+abbrev pub SomeNumberIsMost : Type 0
+SomeNumberIsMost = (schema : Declared) (q : Query) → (n : ℕ) × ((events : List Event) → MeetAtMost schema q events n)

@@ -1,0 +1,32 @@
+-- How the steps of a run stand from event to event. Private clauses alone cite this file.
+use Rattle.std.specs.Prelude.{◌≡◌, ℕ, ◌+◌, ◌≤◌, List, ◌++◌, length, Option, Result, Ok, Err}
+use Rattle.cer_base.specs.declared.OrMemory.{OrMemory}
+use Rattle.cer_base.specs.declared.OrMemory.TheVariants.{Fault, Memory}
+use Rattle.answer_text.specs.declared.Order.{Order}
+use Rattle.answer_text.specs.declared.Order.TheVariants.{Walk, Sorted}
+use Rattle.answer_text.specs.Rows.{Row, lines_of, AreOutputRows}
+use Rattle.answer_blocks.specs.Counted.{row_delays, StopsAmong}
+use Rattle.event_reader.specs.Reading.{LineReader}
+use Rattle.query_engine.specs.Engine.{State}
+use Rattle.stream_answers.specs.Gathering.{Running}
+use Rattle.stream_answers.specs.Steps.{AreBounded}
+use Rattle.stream_answers.specs.Streams.{Asked}
+
+-- What is written or held are the lines of the output's rows, and the steps are bounded by these and the events.
+pub record Counted (a : Asked) (source : Option (List ℕ)) (reader : LineReader) (left before after : Option (List ℕ)) (held : List ℕ) (engine : State) (first now : ℕ) : Type 0 where
+  pub running : Running a source reader left before after held engine
+  pub rows : List Row
+  pub are_rows : AreOutputRows a.order a.schema a.queries running.events rows
+  pub lines : running.written ++ held ≡ lines_of rows
+  pub bounded : AreBounded a.schema a.queries running.events rows first now
+
+-- The steps of putting the rows of one position, where a write failed: so many at most, and the delay of each answer; in walk order of those alone whose lines were begun.
+abbrev pub StepsAtFault : Order → Option (List ℕ) → Option (List ℕ) → List Row → ℕ → ℕ → Type 0
+StepsAtFault Walk before after rows most now = StopsAmong before after rows most now
+StepsAtFault Sorted before after rows most now = now ≤ most + row_delays rows
+
+-- the same by how the call ended
+abbrev pub StepsPut : {T F : Type 0} → Order → Option (List ℕ) → Option (List ℕ) → List Row → ℕ → ℕ → Result T (OrMemory F) → Type 0
+StepsPut order before after rows most now (Ok done) = now ≤ most + row_delays rows
+StepsPut order before after rows most now (Err Memory) = now ≤ most + row_delays rows
+StepsPut order before after rows most now (Err (Fault f)) = StepsAtFault order before after rows most now

@@ -11,6 +11,43 @@ use super::moves::place_of;
 use cer_base::node::Id;
 use tecs_enumerate::Cursor;
 
+/// What has a cursor: it can be seen, and the nodes of its stack changed. A compaction changes
+/// nothing else of it.
+pub trait HasCursor {
+    ghost use Rattle.std.specs.Prelude.{◌≡◌, ◌<◌, length, map, slice_set};
+    ghost use Rattle.tecs_enumerate.specs.Rest.{CursorState, id_of, prefix_of};
+
+    /// The cursor, as what is left of its walk.
+    ghost walk: { Self → CursorState };
+
+    /// The cursor.
+    fn cursor(&self) -> &Cursor
+        ensures { result.now ≡ walk self.now };
+
+    /// Changes the id of the node at entry k of the cursor's stack, counted from 0 at its top, and
+    /// nothing else. k is below the cursor's `depth`. It takes no memory.
+    fn set(&mut self, k: usize, id: Id)
+        requires { k < length (walk self.old).stack }
+        ensures ids { map id_of (walk self.new).stack
+            ≡ slice_set (map id_of (walk self.old).stack) k id }
+        ensures prefixes { map prefix_of (walk self.new).stack
+            ≡ map prefix_of (walk self.old).stack }
+        ensures same { walk self.new ≡ record (walk self.old)
+            { stack = (walk self.new).stack } };
+}
+
+impl HasCursor for Cursor {
+    ghost walk = { λ c. c };
+
+    fn cursor(&self) -> &Cursor {
+        self
+    }
+
+    fn set(&mut self, k: usize, id: Id) {
+        self.set(k, id);
+    }
+}
+
 /// Keeps the nodes that a cursor still has on its stack.
 pub fn keep_cursor(cursor: &Cursor, table: &mut [Option<Id>])
     requires inside { All (λ id. id < length table.old) (map id_of cursor.now.stack) }
@@ -26,13 +63,15 @@ pub fn keep_cursor(cursor: &Cursor, table: &mut [Option<Id>])
 }
 
 /// Moves a cursor's stack: each entry is of the new place of its node.
-pub fn move_cursor(cursor: &mut Cursor, table: &[Option<Id>])
-    requires kept { All (λ id. IsKept table.now id) (map id_of cursor.old.stack) }
-    ensures moved { AreMoved table.now cursor.old.stack cursor.new.stack }
-    ensures same { cursor.new ≡ record cursor.old { stack = cursor.new.stack } }
+pub fn move_cursor<C: HasCursor>(cursor: &mut C, table: &[Option<Id>])
+    requires kept { All (λ id. IsKept table.now id) (map id_of (C.walk cursor.old).stack) }
+    ensures moved { AreMoved table.now (C.walk cursor.old).stack (C.walk cursor.new).stack }
+    ensures same { C.walk cursor.new ≡ record (C.walk cursor.old)
+        { stack = (C.walk cursor.new).stack } }
 {
-    for k in 0..cursor.depth() {
-        cursor.set(k, place_of(table, cursor.at(k)));
+    for k in 0..cursor.cursor().depth() {
+        let place = place_of(table, cursor.cursor().at(k));
+        cursor.set(k, place);
     }
 }
 
@@ -53,39 +92,41 @@ fn keep_if(cursor: &Cursor, query: u64, table: &mut [Option<Id>])
 }
 
 /// Keeps the nodes that the query's cursors still have on their stacks.
-pub fn keep_cursors(cursors: &[Cursor], query: u64, table: &mut [Option<Id>])
+pub fn keep_cursors<C: HasCursor>(cursors: &[C], query: u64, table: &mut [Option<Id>])
     requires inside { All (λ w. w.query ≡ query
-        → All (λ id. id < length table.old) (map id_of w.stack)) cursors.now }
+        → All (λ id. id < length table.old) (map id_of w.stack)) (map C.walk cursors.now) }
     ensures marks { (low : ℤ) → (nodes : List Node) → (roots : List ℕ)
         → length nodes ≤ length table.old → All (λ w. w.query ≡ query
-        → (low ≤ℤ w.low) × Fits w nodes) cursors.now
+        → (low ≤ℤ w.low) × Fits w nodes) (map C.walk cursors.now)
         → AreMarks low nodes roots (length nodes) table.old
-        → AreMarks low nodes (roots ++ cursor_roots query cursors.now) (length nodes) table.new }
+        → AreMarks low nodes (roots ++ cursor_roots query (map C.walk cursors.now)) (length nodes)
+        table.new }
     ensures long { length table.new ≡ length table.old }
 {
     for k in 0..cursors.len() {
-        keep_if(&cursors[k], query, table);
+        keep_if(cursors[k].cursor(), query, table);
     }
 }
 
 /// Moves the cursor, if it is the query's.
-fn move_if(cursor: &mut Cursor, query: u64, table: &[Option<Id>])
-    requires kept { cursor.old.query ≡ query
-        → All (λ id. IsKept table.now id) (map id_of cursor.old.stack) }
-    ensures { CursorMoved query table.now cursor.old cursor.new }
+fn move_if<C: HasCursor>(cursor: &mut C, query: u64, table: &[Option<Id>])
+    requires kept { (C.walk cursor.old).query ≡ query
+        → All (λ id. IsKept table.now id) (map id_of (C.walk cursor.old).stack) }
+    ensures { CursorMoved query table.now (C.walk cursor.old) (C.walk cursor.new) }
 {
-    if cursor.query() == query {
+    if cursor.cursor().query() == query {
         move_cursor(cursor, table);
     }
 }
 
 /// Moves the stacks of the query's cursors.
-pub fn move_cursors(cursors: &mut [Cursor], query: u64, table: &[Option<Id>])
+pub fn move_cursors<C: HasCursor>(cursors: &mut [C], query: u64, table: &[Option<Id>])
     requires kept { All (λ w. w.query ≡ query
-        → All (λ id. IsKept table.now id) (map id_of w.stack)) cursors.old }
+        → All (λ id. IsKept table.now id) (map id_of w.stack)) (map C.walk cursors.old) }
     ensures length { length cursors.new ≡ length cursors.old }
     ensures moved { (k : ℕ) → (d : CursorState) → k < length cursors.old
-        → CursorMoved query table.now (get_or cursors.old k d) (get_or cursors.new k d) }
+        → CursorMoved query table.now (get_or (map C.walk cursors.old) k d)
+        (get_or (map C.walk cursors.new) k d) }
 {
     for k in 0..cursors.len() {
         move_if(&mut cursors[k], query, table);
@@ -111,12 +152,12 @@ fn lower(cursor: &Cursor, query: u64, low: i128) -> i128
 }
 
 /// The least of a clock and the clocks of the query's cursors.
-pub fn least_low(cursors: &[Cursor], query: u64, low: i128) -> i128
-    ensures { result ≡ least_of query low cursors.now }
+pub fn least_low<C: HasCursor>(cursors: &[C], query: u64, low: i128) -> i128
+    ensures { result ≡ least_of query low (map C.walk cursors.now) }
 {
     let mut least = low;
     for k in 0..cursors.len() {
-        least = lower(&cursors[k], query, least);
+        least = lower(cursors[k].cursor(), query, least);
     }
     least
 }

@@ -20,8 +20,8 @@
 //!   4  out 1, over 1     9  join 7 8         the list: 2
 //! ```
 //!
-//! It stands on `event_update`, `union_lists` and `tecs_enumerate`, over any store and whatever has
-//! the lists of a key.
+//! It stands on `event_update`, `union_lists` and `tecs_enumerate`, over any store, and whatever
+//! has the lists of a key or a cursor.
 #![tactic(auto)]
 
 ghost use Rattle.std.specs.Prelude.{◌≡◌, ◌+◌, ◌*◌, ◌<◌, ◌≤◌, ◌≤ℤ◌, ◌++◌, ℕ, List, All, None, length, map, get_or, IfOk};
@@ -40,7 +40,6 @@ use cer_base::store::NodeStore;
 use std::alloc::Global;
 use std::marker::Model;
 use std::sync::ledger::Ledger;
-use tecs_enumerate::Cursor;
 
 mod cursors;
 mod fate;
@@ -51,6 +50,7 @@ mod marks;
 mod moves;
 mod rows;
 
+pub use cursors::HasCursor;
 use cursors::{keep_cursors, least_low, move_cursors};
 pub use keys::HasLists;
 use keys::{keep_keys, move_keys};
@@ -83,11 +83,11 @@ impl Room {
 }
 
 /// Marks all nodes that are needed. At most one step for each node and each entry.
-fn keep_all<S: NodeStore, K: HasLists, L: Ledger>(
+fn keep_all<S: NodeStore, K: HasLists, C: HasCursor, L: Ledger>(
     store: &S,
     query: u64,
     keys: &[K],
-    cursors: &[Cursor],
+    cursors: &[C],
     least: i128,
     table: &mut [Option<Id>],
     steps: &mut Steps<L>,
@@ -96,11 +96,11 @@ fn keep_all<S: NodeStore, K: HasLists, L: Ledger>(
     requires lists { All (λ rows. All (λ r. IsUnionList (S.nodes store.now) r.1) rows)
         (map K.rows keys.now) }
     requires cursors { All (λ w. w.query ≡ query → (least ≤ℤ w.low)
-        × Fits w (S.nodes store.now)) cursors.now }
+        × Fits w (S.nodes store.now)) (map C.walk cursors.now) }
     requires room { length (S.nodes store.now) ≤ length table.old }
     requires blank { (id : ℕ) → get_or table.old id None ≡ None }
     ensures marks { AreMarks least (S.nodes store.now)
-        (key_roots least (map K.rows keys.now) ++ cursor_roots query cursors.now) 0 table.new }
+        (key_roots least (map K.rows keys.now) ++ cursor_roots query (map C.walk cursors.now)) 0 table.new }
     ensures long { length table.new ≡ length table.old }
     ensures steps { steps.new
         ≤ steps.old + places (map K.rows keys.now) + length (S.nodes store.now) }
@@ -112,11 +112,11 @@ fn keep_all<S: NodeStore, K: HasLists, L: Ledger>(
 
 /// Moves all nodes that are needed, and with them the entries of the lists and the stacks of the
 /// query's cursors. At most four steps for each node and three for each entry.
-fn move_all<S: NodeStore, K: HasLists, L: Ledger>(
+fn move_all<S: NodeStore, K: HasLists, C: HasCursor, L: Ledger>(
     store: &mut S,
     query: u64,
     keys: &mut [K],
-    cursors: &mut [Cursor],
+    cursors: &mut [C],
     least: i128,
     table: &mut [Option<Id>],
     steps: &mut Steps<L>,
@@ -125,17 +125,18 @@ fn move_all<S: NodeStore, K: HasLists, L: Ledger>(
     requires lists { All (λ rows. All (λ r. IsUnionList (S.nodes store.old) r.1) rows)
         (map K.rows keys.old) }
     requires cursors { All (λ w. w.query ≡ query → (least ≤ℤ w.low)
-        × Fits w (S.nodes store.old)) cursors.old }
+        × Fits w (S.nodes store.old)) (map C.walk cursors.old) }
     requires room { length (S.nodes store.old) ≤ length table.old }
     requires marks { AreMarks least (S.nodes store.old)
-        (key_roots least (map K.rows keys.old) ++ cursor_roots query cursors.old) 0 table.old }
+        (key_roots least (map K.rows keys.old) ++ cursor_roots query (map C.walk cursors.old)) 0 table.old }
     ensures nodes { Compacted least (S.nodes store.old) (S.nodes store.new)
-        (roots_of query (map K.rows keys.new) cursors.new) }
+        (roots_of query (map K.rows keys.new) (map C.walk cursors.new)) }
     ensures lists { KeysCompacted least (S.nodes store.old) (S.nodes store.new)
         (map K.rows keys.old) (map K.rows keys.new) }
     ensures cursors { (k : ℕ) → (d : CursorState) → k < length cursors.old
         → CursorCompacted query (S.nodes store.old) (S.nodes store.new)
-        (get_or cursors.old k d) (get_or cursors.new k d) }
+        (get_or (map C.walk cursors.old) k d)
+        (get_or (map C.walk cursors.new) k d) }
     ensures count { length cursors.new ≡ length cursors.old }
     ensures steps { steps.new
         ≤ steps.old + 4 * length (S.nodes store.old) + 3 * places (map K.rows keys.old) }
@@ -156,11 +157,11 @@ fn blank(table: &mut [Option<Id>])
 }
 
 /// `compact`, over the room as a slice.
-fn compact_in<S: NodeStore, K: HasLists, L: Ledger>(
+fn compact_in<S: NodeStore, K: HasLists, C: HasCursor, L: Ledger>(
     store: &mut S,
     query: u64,
     keys: &mut [K],
-    cursors: &mut [Cursor],
+    cursors: &mut [C],
     low: i128,
     table: &mut [Option<Id>],
     steps: &mut Steps<L>,
@@ -168,15 +169,16 @@ fn compact_in<S: NodeStore, K: HasLists, L: Ledger>(
     requires well_formed { WellFormed (S.nodes store.old) }
     requires lists { All (λ rows. All (λ r. IsUnionList (S.nodes store.old) r.1) rows)
         (map K.rows keys.old) }
-    requires cursors { All (λ w. w.query ≡ query → Fits w (S.nodes store.old)) cursors.old }
+    requires cursors { All (λ w. w.query ≡ query → Fits w (S.nodes store.old)) (map C.walk cursors.old) }
     requires room { length (S.nodes store.old) ≤ length table.old }
-    ensures nodes { Compacted (least_of query low cursors.old) (S.nodes store.old)
-        (S.nodes store.new) (roots_of query (map K.rows keys.new) cursors.new) }
-    ensures lists { KeysCompacted (least_of query low cursors.old) (S.nodes store.old)
+    ensures nodes { Compacted (least_of query low (map C.walk cursors.old)) (S.nodes store.old)
+        (S.nodes store.new) (roots_of query (map K.rows keys.new) (map C.walk cursors.new)) }
+    ensures lists { KeysCompacted (least_of query low (map C.walk cursors.old)) (S.nodes store.old)
         (S.nodes store.new) (map K.rows keys.old) (map K.rows keys.new) }
     ensures cursors { (k : ℕ) → (d : CursorState) → k < length cursors.old
         → CursorCompacted query (S.nodes store.old) (S.nodes store.new)
-        (get_or cursors.old k d) (get_or cursors.new k d) }
+        (get_or (map C.walk cursors.old) k d)
+        (get_or (map C.walk cursors.new) k d) }
     ensures count { length cursors.new ≡ length cursors.old }
     ensures steps { steps.new
         ≤ steps.old + 8 * length (S.nodes store.old) + 4 * places (map K.rows keys.old) }
@@ -191,16 +193,16 @@ fn compact_in<S: NodeStore, K: HasLists, L: Ledger>(
 /// start is recent where its clock is at least the least of `low` and these cursors' own. The room
 /// is for as many nodes as the store has, or more.
 ///
-/// Of each key the states stay that have a recent entry, in their order, each with its recent
-/// entries in their order; a cursor of the query has the same answers left, and one of another
-/// query is not touched. Nodes get other ids, so a list or a cursor of the query that is not among
-/// these no longer goes with the store. It takes no memory, at most eight steps for each node and
-/// four for each entry.
-pub fn compact<S: NodeStore, K: HasLists, L: Ledger>(
+/// Of each key the states stay that have a recent entry, in their order, each with its recent entries
+/// in their order; a cursor of the query has the same answers left, and one of another query is not
+/// touched. Nodes get other ids, so a list or a cursor of the query that is not among these no longer
+/// goes with the store. It takes no memory, at most eight steps for each node and four for each
+/// entry.
+pub fn compact<S: NodeStore, K: HasLists, C: HasCursor, L: Ledger>(
     store: &mut S,
     query: u64,
     keys: &mut [K],
-    cursors: &mut [Cursor],
+    cursors: &mut [C],
     low: i128,
     room: &mut Room,
     steps: &mut Steps<L>,
@@ -208,15 +210,16 @@ pub fn compact<S: NodeStore, K: HasLists, L: Ledger>(
     requires well_formed { WellFormed (S.nodes store.old) }
     requires lists { All (λ rows. All (λ r. IsUnionList (S.nodes store.old) r.1) rows)
         (map K.rows keys.old) }
-    requires cursors { All (λ w. w.query ≡ query → Fits w (S.nodes store.old)) cursors.old }
+    requires cursors { All (λ w. w.query ≡ query → Fits w (S.nodes store.old)) (map C.walk cursors.old) }
     requires room { length (S.nodes store.old) ≤ room.old }
-    ensures nodes { Compacted (least_of query low cursors.old) (S.nodes store.old)
-        (S.nodes store.new) (roots_of query (map K.rows keys.new) cursors.new) }
-    ensures lists { KeysCompacted (least_of query low cursors.old) (S.nodes store.old)
+    ensures nodes { Compacted (least_of query low (map C.walk cursors.old)) (S.nodes store.old)
+        (S.nodes store.new) (roots_of query (map K.rows keys.new) (map C.walk cursors.new)) }
+    ensures lists { KeysCompacted (least_of query low (map C.walk cursors.old)) (S.nodes store.old)
         (S.nodes store.new) (map K.rows keys.old) (map K.rows keys.new) }
     ensures cursors { (k : ℕ) → (d : CursorState) → k < length cursors.old
         → CursorCompacted query (S.nodes store.old) (S.nodes store.new)
-        (get_or cursors.old k d) (get_or cursors.new k d) }
+        (get_or (map C.walk cursors.old) k d)
+        (get_or (map C.walk cursors.new) k d) }
     ensures count { length cursors.new ≡ length cursors.old }
     ensures room { room.new ≡ room.old }
     ensures steps { steps.new

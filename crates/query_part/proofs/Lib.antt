@@ -8,3 +8,4 @@ mod Prepare
 mod Times
 mod Worked
 mod Resting
+mod Compacting

@@ -1,6 +1,6 @@
 //! The open matches of a query, key by key.
 
-ghost use Rattle.std.specs.Prelude.{◌≡◌, ℕ, ◌+◌, ◌*◌, ◌<◌, ◌≤◌, ◌⊎◌, false, List, [], ◌∷◌, ◌++◌, length, map, All, Contains, Some, slice_get, slice_set, slice_index_or, IfOk, OnOk, OnErr, IfNone, MatchOption, IfSome, true};
+ghost use Rattle.std.specs.Prelude.{◌≡◌, ℕ, ◌+◌, ◌*◌, ◌<◌, ◌≤◌, ◌⊎◌, false, List, [], ◌∷◌, ◌++◌, length, map, get_or, All, Contains, Some, slice_get, slice_set, slice_index_or, IfOk, OnOk, OnErr, IfNone, MatchOption, IfSome, true};
 ghost use Rattle.cer_base.specs.Bits.{room_for};
 ghost use Rattle.cer_base.specs.Nodes.{AreInStep, WellFormed};
 ghost use Rattle.cer_base.specs.declared.node.Node.{Node as NodeData};
@@ -12,9 +12,13 @@ ghost use Rattle.event_update.specs.Still.{IsQuiet, Rest};
 ghost use Rattle.event_update.specs.declared.Staged.TheVariants.{Unchanged};
 ghost use Rattle.query_standing.specs.Kept.{Rows};
 ghost use Rattle.event_update.specs.Update.{rows_after, work_bound};
-ghost use Rattle.tecs_enumerate.specs.Rest.{rest, recent_of, Fits};
+ghost use Rattle.tecs_enumerate.specs.Rest.{CursorState, rest, recent_of, Fits};
+ghost use Rattle.union_lists.specs.Lists.{IsUnionList};
+ghost use Rattle.arena_compact.specs.Roots.{places};
+ghost use Rattle.arena_compact.specs.Compacted.{least_of, roots_of, Compacted, KeysCompacted, CursorCompacted};
 ghost use Rattle.query_part.specs.Matches.{Held, MayRest, HasKeyThere, HasBegun, none_open, cut, CanCut, AreMarks, TakesKey, CanTake, IsReady, HasWorked, CanList, entries_for};
 
+use arena_compact::{HasCursor, HasLists, Room, compact};
 use cea_determinise::cea::Cea;
 use cea_determinise::det::Det;
 use cea_determinise::table::Mark;
@@ -107,6 +111,22 @@ impl Lists {
         if !stays {
             self.rests = false;
         }
+    }
+}
+
+impl HasLists for Lists {
+    ghost rows = { λ l. l.active.entries };
+
+    fn lists(&self) -> &Active {
+        &self.active
+    }
+
+    fn take(&mut self) -> Active {
+        self.active.take()
+    }
+
+    fn put(&mut self, lists: Active) {
+        self.active = lists;
     }
 }
 
@@ -325,6 +345,41 @@ impl Matches {
         } }
     {
         self.lists[number as usize].put(staged);
+    }
+
+    /// Keeps of the nodes what the recent entries of the lists and the query's cursors need, and
+    /// forgets which lists rest; a start is recent where its clock is at least the least of `low` and
+    /// these cursors' own. The room is for as many nodes as there are. It takes no memory.
+    pub fn compact<C: HasCursor, L: Ledger>(
+        &mut self,
+        query: u64,
+        cursors: &mut [C],
+        low: i128,
+        room: &mut Room,
+        steps: &mut Steps<L>,
+    )
+        requires well_formed { WellFormed self.old.nodes }
+        requires lists { All (λ rows. All (λ r. IsUnionList self.old.nodes r.1) rows)
+            self.old.rows }
+        requires cursors { All (λ w. w.query ≡ query → Fits w self.old.nodes)
+            (map C.walk cursors.old) }
+        requires room { length self.old.nodes ≤ room.old }
+        ensures same { (self.new.table ≡ self.old.table) × (self.new.keys ≡ self.old.keys) }
+        ensures nodes { Compacted (least_of query low (map C.walk cursors.old)) self.old.nodes
+            self.new.nodes (roots_of query self.new.rows (map C.walk cursors.new)) }
+        ensures lists { KeysCompacted (least_of query low (map C.walk cursors.old)) self.old.nodes
+            self.new.nodes self.old.rows self.new.rows }
+        ensures cursors { (k : ℕ) → (d : CursorState) → k < length cursors.old
+            → CursorCompacted query self.old.nodes self.new.nodes
+            (get_or (map C.walk cursors.old) k d) (get_or (map C.walk cursors.new) k d) }
+        ensures count { length cursors.new ≡ length cursors.old }
+        ensures room { room.new ≡ room.old }
+        ensures steps { steps.new
+            ≤ steps.old + 8 * length self.old.nodes + 4 * places self.old.rows }
+    {
+        let lists = self.lists.as_mut_slice();
+        compact(&mut self.store, query, lists, cursors, low, room, steps);
+        wake(lists);
     }
 
     /// How many states were found.

@@ -1,6 +1,6 @@
 //! What is kept of one query, and what an event makes of it in two phases.
 
-ghost use Rattle.std.specs.Prelude.{◌≡◌, ◌≢◌, ℕ, ◌+◌, ◌*◌, ◌≤◌, false, List, [], ◌∷◌, length, Some, None, slice_index_or, IfOk, IfSome, IfNone, MatchOption, OnOk, OnErr};
+ghost use Rattle.std.specs.Prelude.{◌≡◌, ◌≢◌, ℕ, ◌+◌, ◌*◌, ◌≤◌, false, List, [], ◌∷◌, length, map, All, Some, None, slice_index_or, IfOk, IfSome, IfNone, MatchOption, OnOk, OnErr};
 ghost use Rattle.stream_schema.specs.declared.Event.{Event as EventData};
 ghost use Rattle.stream_schema.specs.Events.{IsOfSchema};
 ghost use Rattle.cel_terms.specs.Checked.{IsChecked};
@@ -12,11 +12,14 @@ ghost use Rattle.window_clock.specs.Places.{IsNear, IsOf, HasWidth, clock_in};
 ghost use Rattle.query_part.specs.KeyPlaces.{AreKeyPlaces};
 ghost use Rattle.query_part.specs.Matches.{HasKeyThere};
 ghost use Rattle.query_part.specs.Parts.{AreTypesRead, IsMachineOf, HaveClocks, HasEvents};
+ghost use Rattle.query_part.specs.Compacting.{PartCompacted};
+ghost use Rattle.arena_compact.specs.Roots.{places};
 
 use crate::machine::{Machine, Reading};
 use crate::matches::{Matches, Ready};
 use crate::reading::{Places, is_read, key_of, places_of};
 use all_or_none::Keeps;
+use arena_compact::{HasCursor, Room};
 use cel_terms::Query;
 use cer_base::bits::Bits;
 use cer_base::node::Stamp;
@@ -220,6 +223,39 @@ impl Part {
             (λ start. steps.new ≤ steps.old + 4 * (length cursor.new.path + 1)) }
     {
         self.matches.next(cursor, steps)
+    }
+
+    /// Keeps of the nodes what the lists and the part's cursors, those with its number, need from
+    /// its low clock and their own on. It stands for the same events as before, and each of these
+    /// cursors has the same answers left; the others are not touched. The room is for as many nodes
+    /// as there are. It takes no memory.
+    pub fn compact<C: HasCursor, L: Ledger>(
+        &mut self,
+        number: u64,
+        cursors: &mut [C],
+        room: &mut Room,
+        steps: &mut Steps<L>,
+    )
+        requires idle { IsIdle self.old }
+        requires events { HasEvents self.old }
+        requires cursors { All (λ w. w.query ≡ number → Fits w self.old.kept.nodes)
+            (map C.walk cursors.old) }
+        requires room { length self.old.kept.nodes ≤ room.old }
+        ensures same { (self.new.schema ≡ self.old.schema) × (self.new.query ≡ self.old.query) }
+        ensures idle { IsIdle self.new }
+        ensures stands { (events : List EventData) → StandsAt events self.old
+            → StandsAt events self.new }
+        ensures compacted { PartCompacted number (low_at self.old.query self.old.kept.clock)
+            self.old.kept self.new.kept (map C.walk cursors.old) (map C.walk cursors.new) }
+        ensures fewer { length self.new.kept.nodes ≤ length self.old.kept.nodes }
+        ensures room { room.new ≡ room.old }
+        ensures steps { steps.new
+            ≤ steps.old + 8 * length self.old.kept.nodes + 4 * places self.old.kept.rows }
+    {
+        self.alone = None;
+        self.step = None;
+        let low = self.clock.low();
+        self.matches.compact(number, cursors, low, room, steps);
     }
 }
 

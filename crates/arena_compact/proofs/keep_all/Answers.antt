@@ -15,7 +15,7 @@ pub keep_cursors-requires : goal.keep_cursors-requires
 keep_cursors-requires g c = record {
   inside = λ k d lt mine j i within.
       let fits = (c.requires.cursors k d lt mine).1 in
-      let here = fits_at _ _ _ _ j _ fits (slice_get-get_or (map id_of (get_or c.args.cursors.now k d).stack) j i within) in
+      let here = fits_at _ _ _ _ j _ fits (slice_get-get_or (map id_of (get_or (map g.C.HasCursor.walk c.args.cursors.now) k d).stack) j i within) in
       let inside = here.0 in let long = c.keep_keys.ensures.long in omega arith;
 }
 
@@ -25,6 +25,6 @@ returns-clause-marks g c =
     let first = rw (to_z-of_z w128 c.args.least c.ranges.least) at c.keep_keys.ensures.marks in
     let last = rw (to_z-of_z w128 c.args.least c.ranges.least) at c.keep_needed.ensures.marks in
     let long = c.keep_keys.ensures.long in
-    last (key_roots c.args.least keys ++ cursor_roots c.args.query c.args.cursors.now)
+    last (key_roots c.args.least keys ++ cursor_roots c.args.query (map g.C.HasCursor.walk c.args.cursors.now))
     (c.keep_cursors.ensures.marks c.args.least nodes (key_roots c.args.least keys) (omega arith) c.requires.cursors
     (first nodes [] c.requires.room (λ k d lt i r at. (c.requires.lists k d lt i r at).roots) (marks_none c.args.least nodes c.args.table.now c.requires.blank)))

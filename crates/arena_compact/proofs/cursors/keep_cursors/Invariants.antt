@@ -1,4 +1,4 @@
-use Rattle.std.proofs.Common.{◌≡◌, ◌≤◌, ◌++◌, ℕ, ℤ, List, Option, length, take, All}
+use Rattle.std.proofs.Common.{◌≡◌, ◌≤◌, ◌++◌, ℕ, ℤ, List, Option, length, map, take, All}
 use Rattle.std.specs.Prelude.{◌≤ℤ◌}
 use Rattle.cer_base.specs.declared.node.Node.{Node}
 use Rattle.tecs_enumerate.specs.Rest.{CursorState, Fits}
@@ -13,4 +13,4 @@ pub record Keeps (query : ℕ) (ws : List CursorState) (before now : List (Optio
   pub few : k ≤ length ws
 
 abbrev pub invariant-loop-k : goal.invariant-loop-k
-invariant-loop-k l = Keeps l.query l.cursors l.fn.table l.table l.k
+invariant-loop-k g l = Keeps l.query (map g.C.HasCursor.walk l.cursors) l.fn.table l.table l.k

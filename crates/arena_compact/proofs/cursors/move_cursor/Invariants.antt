@@ -11,4 +11,4 @@ pub record Turning (table : List (Option ℕ)) (old cur : CursorState) (k : ℕ)
   pub few : k ≤ length old.stack
 
 abbrev pub invariant-loop-k : goal.invariant-loop-k
-invariant-loop-k l = Turning l.table l.fn.cursor l.cursor l.k
+invariant-loop-k g l = Turning l.table (g.C.HasCursor.walk l.fn.cursor) (g.C.HasCursor.walk l.cursor) l.k

@@ -1,6 +1,5 @@
-use Rattle.std.proofs.Common.{◌≡◌, List, Some, slice_get, inl, refl}
+use Rattle.std.proofs.Common.{inl, refl}
 use Rattle.std.proofs.lemmas.Result.{IfOk-weaker, on_err_weaker}
-use Rattle.stream_schema.specs.declared.Value.{Value}
 use Rattle.query_standing.proofs.Lists.{got}
 use Rattle.query_part.specs.Matches.{HasBegun}
 use Rattle.query_part.proofs.matches.Matches.advance_at.Goals as goal

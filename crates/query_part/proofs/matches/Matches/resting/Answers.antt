@@ -1,4 +1,4 @@
-use Rattle.std.proofs.Common.{◌≡◌, ◌<◌, rules, true, ap, subst, length, Some, slice_get, arith}
+use Rattle.std.proofs.Common.{◌≡◌, ◌<◌, ap, subst, length, Some, slice_get, arith}
 use Rattle.event_update.specs.Still.{Rest}
 use Rattle.query_part.specs.Matches.{Held, MayRest}
 use Rattle.query_part.proofs.Cuts.{row_at, rows_length}

@@ -1,0 +1,104 @@
+-- What a compaction makes of what is kept of a query.
+use Rattle.std.proofs.Common.{◌≡◌, ℕ, zero, suc, ℤ, ◌≤◌, List, [], ◌∷◌, length, All, Option, Some, refl, sym, ap, subst, ◌∙◌, slice_get, get_or, arith}
+use Rattle.std.specs.Prelude.{◌≤ℤ◌, nat_le}
+use Rattle.std.proofs.Math.Dec.{leb-zero}
+use Rattle.std.proofs.lemmas.List.Recursion.{is_count_by}
+use Rattle.cer_base.specs.Fields.{max_of}
+use Rattle.std.proofs.lemmas.Option.{slice_get-get_or}
+use Rattle.stream_schema.specs.Types.{Declared}
+use Rattle.stream_schema.specs.declared.Event.{Event}
+use Rattle.cel_terms.specs.declared.Query.{Query}
+use Rattle.cer_base.specs.declared.node.Root.{Root}
+use Rattle.cer_base.specs.declared.node.Node.{Node}
+use Rattle.tecs_enumerate.specs.Rest.{CursorState}
+use Rattle.union_lists.specs.Lists.{IsUnionList}
+use Rattle.query_standing.specs.Kept.{Rows, Part, low_at, PartStands}
+use Rattle.all_or_none.specs.Phases.{Phase}
+use Rattle.arena_compact.specs.Moves.{later}
+use Rattle.arena_compact.specs.Roots.{kept_rows}
+use Rattle.arena_compact.specs.Compacted.{least_of, roots_of, Compacted, RowsCompacted, KeysCompacted}
+use Rattle.arena_compact.proofs.Standing.{still_stand}
+use Rattle.arena_compact.proofs.Ends.{least_under}
+use Rattle.query_part.specs.Matches.{Held}
+use Rattle.query_part.specs.Parts.{part_of}
+use Rattle.query_part.specs.Compacting.{CursorsCompacted, PartCompacted}
+use Rattle.query_part.proofs.Prepare.{Idle}
+
+-- all nodes have a greatest start at the first position or later
+later_all : (nodes : List Node) → later 0 nodes ≡ length nodes
+later_all nodes = sym (is_count_by (λ (ns : List Node). length ns) (λ n. nat_le 0 (max_of n).pos) refl (λ n ns. rw (leb-zero (max_of n).pos) (omega arith)) nodes)
+
+pub fewer_nodes : (low : ℤ) (old new : List Node) (roots : List ℕ) → Compacted low old new roots → length new ≤ length old
+fewer_nodes low old new roots h = let few = h.fewer_later 0 in let a = later_all old in let b = later_all new in omega arith
+
+keys_length : (low : ℤ) (old new : List Node) (keys moved : List Rows) → KeysCompacted low old new keys moved → length moved ≡ length keys
+keys_length low old new [] [] c = refl
+keys_length low old new [] (m ∷ moved) c = absurd c
+keys_length low old new (r ∷ keys) [] c = absurd c
+keys_length low old new (r ∷ keys) (m ∷ moved) c = ap suc (keys_length low old new keys moved c.1)
+
+-- the lists of a key after it are those of the key before it, compacted
+key_at : (low : ℤ) (old new : List Node) (keys moved : List Rows) (n : ℕ) (ms : Rows) → KeysCompacted low old new keys moved → slice_get moved n ≡ Some ms → (rows : Rows) × (slice_get keys n ≡ Some rows) × RowsCompacted low old new (kept_rows low rows) ms
+key_at low old new [] [] n ms c at = absurd cc
+key_at low old new [] (m ∷ moved) n ms c at = absurd c
+key_at low old new (r ∷ keys) [] n ms c at = absurd c
+key_at low old new (r ∷ keys) (m ∷ moved) zero ms c at = let same : m ≡ ms = cc in (r, refl, subst (RowsCompacted low old new (kept_rows low r)) same c.0)
+key_at low old new (r ∷ keys) (m ∷ moved) (suc n) ms c at = key_at low old new keys moved n ms c.1 at
+
+module _ (schema : Declared) (q : Query) (events : List Event) where
+  -- what stands for the events stands for them with compacted nodes and lists
+  still_stands : (used : ℤ) (part : Part) (nodes : List Node) (rows : List Rows) (roots : List ℕ) → used ≤ℤ low_at q part.clock → Compacted used part.nodes nodes roots → KeysCompacted used part.nodes nodes part.rows rows → PartStands schema q events part → PartStands schema q events (record part { nodes = nodes; rows = rows })
+  still_stands used part nodes rows roots le left lists s = record {
+    states = s.states;
+    nodes = left.well_formed;
+    starts = λ t has. s.starts t (left.no_new_start t has);
+    never_falls = s.never_falls;
+    clock = s.clock;
+    unread = s.unread;
+    keys = record { distinct = s.keys.distinct; all = s.keys.all; lists = keys_length used part.nodes nodes part.rows rows lists ∙ s.keys.lists };
+    here = s.here;
+    each = λ n key moved at there.
+        let was = key_at used part.nodes nodes part.rows rows n moved lists there in
+        let stand = s.each n key was.0 at was.1 in
+        record {
+          seen = stand.seen;
+          are_seen = stand.are_seen;
+          stands = still_stand used part.nodes nodes s.nodes part.table (low_at q part.clock) stand.seen was.0 moved le stand.stands was.2;
+        };
+  }
+
+  -- each key's lists are lists of the nodes
+  pub part_lists : (h : Held) (c : Option ℤ) (n : Option ℕ) → PartStands schema q events (part_of h c n) → All (λ rows. All (λ (r : ℕ × List Root). IsUnionList h.nodes r.1) rows) h.rows
+  part_lists h c n s = λ k d lt.
+      let lists = s.keys.lists in
+      (s.each k (get_or h.keys k []) (get_or h.rows k d) (slice_get-get_or h.keys k [] (omega arith)) (slice_get-get_or h.rows k d lt)).stands.lists
+
+-- What the compaction of what is held leaves.
+pub record Left (number : ℕ) (low : ℤ) (h k : Held) (ws vs : List CursorState) : Type 0 where
+  pub same : (k.table ≡ h.table) × (k.keys ≡ h.keys)
+  pub nodes : Compacted (least_of number low ws) h.nodes k.nodes (roots_of number k.rows vs)
+  pub lists : KeysCompacted (least_of number low ws) h.nodes k.nodes h.rows k.rows
+  pub cursors : CursorsCompacted number h.nodes k.nodes ws vs
+
+module _ (schema : Declared) (q : Query) (h k : Held) (c : Option ℤ) (n : Option ℕ) (p : Phase) (number : ℕ) (low : ℤ) (ws vs : List CursorState) (i : Idle schema q h c n p) (is : low ≡ low_at p.query p.kept.clock) (left : Left number low h k ws vs) where
+  pub part_compacted : PartCompacted number (low_at p.query p.kept.clock) p.kept (part_of k c n) ws vs
+  part_compacted =
+      subst (λ (l : ℤ). PartCompacted number l p.kept (part_of k c n) ws vs) is (subst (λ (old : Part). PartCompacted number low old (part_of k c n) ws vs) i.kept_is (record {
+        table = left.same.0;
+        keys = left.same.1;
+        clock = refl;
+        here = refl;
+        nodes = left.nodes;
+        lists = left.lists;
+        cursors = left.cursors;
+      }))
+
+  pub part_stands : (events : List Event) → PartStands schema q events (part_of h c n) → PartStands schema q events (part_of k c n)
+  part_stands events s =
+      let held : k ≡ record h { nodes = k.nodes; rows = k.rows } = λ j. record { table = left.same.0 j; nodes = k.nodes; keys = left.same.1 j; rows = k.rows } in
+      let here : low ≡ low_at q c = is ∙ (ap (λ z. low_at z p.kept.clock) (sym i.query_is) ∙ ap (λ (x : Part). low_at q x.clock) (sym i.kept_is)) in
+      let le : least_of number low ws ≤ℤ low_at q c = subst (λ (l : ℤ). least_of number low ws ≤ℤ l) here (least_under number low ws).0 in
+      subst (λ (x : Held). PartStands schema q events (part_of x c n)) (sym held) (still_stands schema q events (least_of number low ws) (part_of h c n) k.nodes k.rows (roots_of number k.rows vs) le left.nodes left.lists s)
+
+  pub part_fewer : length k.nodes ≤ length p.kept.nodes
+  part_fewer = subst (λ (x : Part). length k.nodes ≤ length x.nodes) i.kept_is (fewer_nodes (least_of number low ws) h.nodes k.nodes (roots_of number k.rows vs) left.nodes)

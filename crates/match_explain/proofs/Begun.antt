@@ -1,5 +1,5 @@
 -- Where a query has an answer the search can begin.
-use Rattle.std.proofs.Common.{◌≡◌, refl, sym, ap, ◌∙◌, ℕ, ◌<◌, ◌⊎◌, inl, inr, Bool, true, false, not, ◌&&◌, ◌||◌, List, [], ◌∷◌, Option, Some, None}
+use Rattle.std.proofs.Common.{◌≡◌, refl, ap, ◌∙◌, ℕ, ◌<◌, ◌⊎◌, inl, inr, Bool, true, false, not, ◌&&◌, ◌||◌, List, [], ◌∷◌}
 use Rattle.std.proofs.lemmas.Bool.{and_parts, and_from, or_left, or_right, not_from_false, false≢true}
 use Rattle.cer_base.specs.Bits.{has}
 use Rattle.cea_determinise.specs.Runs.{LeafSet, Automaton, start, pair, follow, some_below, agrees, has_leaf, Entry, run, accepted_run}

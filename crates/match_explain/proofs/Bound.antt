@@ -1,16 +1,16 @@
 -- What the steps of a run bind is the valuation of its path.
-use Rattle.std.proofs.Common.{◌≡◌, ◌≢◌, refl, sym, ap, ap₂, subst, ◌∙◌, ℕ, zero, suc, ◌<◌, ◌≤◌, ◌⊎◌, inl, inr, ◌↔◌, Bool, true, false, List, [], ◌∷◌, length, map, get_or, Option, Some, None, slice_get, Contains, All, Any, arith}
+use Rattle.std.proofs.Common.{◌≡◌, ◌≢◌, refl, sym, ap, subst, ◌∙◌, ℕ, zero, suc, ◌<◌, inl, inr, Bool, true, false, List, [], ◌∷◌, map, get_or, Option, Some, None, slice_get, Contains, All, Any, arith}
 use Rattle.std.specs.Prelude.{if◌then◌else◌}
-use Rattle.std.specs.List.{filter_map, cons_option}
+use Rattle.std.specs.List.{cons_option}
 use Rattle.std.proofs.lemmas.List.{get_or_default}
 use Rattle.std.specs.Ordering.{nat_cmp}
 use Rattle.std.specs.Cmp.Lexicographic.{slice_cmp}
 use Rattle.std.specs.List.Sorted.{IsStrictlySortedBy}
 use Rattle.cel_terms.specs.Answers.{IsAscending}
-use Rattle.cel_terms.specs.Meaning.{Bound, Valuation}
+use Rattle.cel_terms.specs.Meaning.{Bound}
 use Rattle.query_leaves.specs.Expand.{Occurrence}
 use Rattle.query_leaves.specs.Leaves.{names_in}
-use Rattle.cea_compile.specs.Paths.{Step, Reading, MayComeAfter, valuation}
+use Rattle.cea_compile.specs.Paths.{Step, Reading, valuation}
 use Rattle.cea_compile.specs.Positions.{Steps, done, step, Walk, walk}
 use Rattle.query_leaves.specs.LeafTree.{LeafTree}
 use Rattle.cel_plain.proofs.Members.{Among, contains_from, among_from, among_map, map_among, among_filter_map, filter_map_among}

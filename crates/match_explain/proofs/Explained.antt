@@ -1,21 +1,20 @@
 -- A run explains the complex event, and where there is none the event is no answer.
-use Rattle.std.proofs.Common.{◌≡◌, refl, sym, ap, subst, ◌∙◌, ℕ, ◌≤◌, ◌⊎◌, inl, inr, ◌↔◌, Bool, true, false, List, [], ◌∷◌, map, Option, Some, None, slice_get, Contains, Any, bytes_eq, eqb}
+use Rattle.std.proofs.Common.{◌≡◌, refl, sym, ap, subst, ◌∙◌, ℕ, ◌⊎◌, inl, inr, Bool, true, List, [], ◌∷◌, map, Option, Some, None, slice_get, Contains, Any, bytes_eq, eqb}
 use Rattle.std.proofs.lemmas.Bool.{false≢true, or_cases, eqb-true}
 use Rattle.std.proofs.lemmas.Slice.Eq.{bytes_eq-Decides}
 use Rattle.stream_schema.specs.Types.{Declared}
 use Rattle.stream_schema.specs.declared.Event.{Event}
 use Rattle.cel_terms.specs.declared.Name.{Name}
 use Rattle.cel_terms.specs.declared.Query.{Query}
-use Rattle.cel_terms.specs.Meaning.{Bound, Valuation, Meaning, meaning, lists_name, only_names}
-use Rattle.cel_terms.specs.Answers.{Answer, IsAnswer, IsAscending, HasMarks, AreMarks, IsBoundAt, is_bound, IsOfSubstream, selected, substream}
+use Rattle.cel_terms.specs.Meaning.{Bound, Valuation, Meaning, meaning, lists_name}
+use Rattle.cel_terms.specs.Answers.{IsAnswer, IsAscending, IsBoundAt, is_bound, IsOfSubstream, selected, substream}
 use Rattle.cel_plain.proofs.Members.{Among, contains_from, among_from, among_filter, filter_among, any_among, among_any, among_map, map_among}
 use Rattle.cel_plain.proofs.Naming.{listed_is as names_listed_is}
 use Rattle.query_leaves.specs.Expand.{Occurrence, tree_of, expand}
 use Rattle.query_leaves.specs.Leaves.{occurrences, numbered, names_in, leaf_is_marked}
-use Rattle.cea_determinise.specs.Runs.{Automaton, Entry, start, run, accepted_run}
-use Rattle.cea_compile.specs.Paths.{Step, Reading, reading, valuation, Path}
-use Rattle.cea_compile.specs.Positions.{Walk}
-use Rattle.cea_compile.specs.Covers.{Cover, MarkedAt, is_listed, AreWithin}
+use Rattle.cea_determinise.specs.Runs.{Automaton, Entry}
+use Rattle.cea_compile.specs.Paths.{Step, reading, valuation}
+use Rattle.cea_compile.specs.Covers.{Cover, MarkedAt, is_listed}
 use Rattle.cea_compile.specs.Compiled.{automaton_of}
 use Rattle.cea_compile.specs.DeterminisedRuns.{entry_at}
 use Rattle.cea_compile.proofs.Answers.{listed_is, marks_iff_run}
@@ -27,17 +26,17 @@ use Rattle.cel_plain.proofs.Windows.{window_from}
 use Rattle.match_explain.specs.declared.Binding.{Binding}
 use Rattle.match_explain.specs.declared.turns.Turn.{Turn}
 use Rattle.match_explain.specs.declared.moves.Last.TheVariants.{Start}
-use Rattle.match_explain.specs.Explains.{Binds, IsInSetOf, IsSelected, IsMarkedBy, Explains}
+use Rattle.match_explain.specs.Explains.{IsInSetOf, IsSelected, IsMarkedBy, Explains}
 use Rattle.match_explain.specs.LeafNames.{LeafNames, leaf_names}
-use Rattle.match_explain.specs.Bindings.{names_at, bindings_of}
+use Rattle.match_explain.specs.Bindings.{bindings_of}
 use Rattle.match_explain.specs.Spans.{MayBe}
-use Rattle.match_explain.specs.Turns.{IsTurnOf, AreTurnsOf, IsRun, HasNoRun, can_finish}
+use Rattle.match_explain.specs.Turns.{AreTurnsOf, IsRun, HasNoRun}
 use Rattle.match_explain.proofs.Begun.{begins}
 use Rattle.match_explain.proofs.Gone.{IsMarkedTurn, walk_of, marked_from, marked_to}
-use Rattle.match_explain.proofs.Copied.{names_of, expand_names}
+use Rattle.match_explain.proofs.Copied.{expand_names}
 use Rattle.match_explain.proofs.Unselected.{kept, names_kept, formula_means}
-use Rattle.match_explain.proofs.Bound.{IsNamedAt, some_from, some_to, bound_from, bound_to, names_are, bindings_are, walk_ascends}
-use Rattle.match_explain.proofs.Spanned.{span_of, span_lists, span_covers, listed_all, strict_from, may_be_answer}
+use Rattle.match_explain.proofs.Bound.{some_from, some_to, bound_from, bound_to, names_are, bindings_are, walk_ascends}
+use Rattle.match_explain.proofs.Spanned.{span_of, span_lists, span_covers, listed_all, strict_from}
 
 -- marked turns are those at the marks
 turn_marked : (a : Automaton) (marks : ℕ → Bool) (xs : List Entry) (ts : List Turn) (p : ℕ) → AreTurnsOf a marks xs ts → IsMarkedTurn ts p → marks p ≡ true

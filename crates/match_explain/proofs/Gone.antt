@@ -1,20 +1,19 @@
 -- The steps that finish a search are those of a walk through the automaton, with the marks of the turns.
-use Rattle.std.proofs.Common.{◌≡◌, refl, sym, ap, subst, ◌∙◌, ℕ, ◌<◌, ◌≤◌, ◌⊎◌, inl, inr, ◌↔◌, Bool, true, false, ◌&&◌, ◌||◌, List, [], ◌∷◌, arith}
+use Rattle.std.proofs.Common.{◌≡◌, refl, sym, subst, ◌∙◌, ℕ, ◌<◌, ◌⊎◌, inl, inr, Bool, true, false, List, [], ◌∷◌, arith}
 use Rattle.std.proofs.lemmas.Bool.{and_parts, or_cases, false≢true}
 use Rattle.cer_base.specs.Bits.{has}
 use Rattle.query_leaves.specs.LeafTree.{LeafTree}
-use Rattle.cea_determinise.specs.Runs.{LeafSet, Automaton, agrees, Entry}
+use Rattle.cea_determinise.specs.Runs.{Automaton, agrees, Entry}
 use Rattle.cea_compile.specs.Paths.{Step, Reading, MayComeAfter}
-use Rattle.cea_compile.specs.Positions.{HasFollower, Steps, done, step, Walk, walk, IsAutomatonOf}
+use Rattle.cea_compile.specs.Positions.{Steps, done, step, Walk, walk, IsAutomatonOf}
 use Rattle.cea_compile.specs.Covers.{IsEntry, Cover, CoverAfter, MarkedAt}
 use Rattle.cea_compile.proofs.Glushkov.{widened}
 use Rattle.cea_compile.proofs.Skips.{Follow, agrees_same}
 use Rattle.match_explain.specs.declared.turns.Turn.{Turn}
 use Rattle.match_explain.specs.declared.moves.Last.{Last}
 use Rattle.match_explain.specs.declared.moves.Last.TheVariants.{Start, Leaf as At}
-use Rattle.match_explain.specs.declared.moves.Age.{Age}
 use Rattle.match_explain.specs.declared.moves.Age.TheVariants.{Just, Earlier}
-use Rattle.match_explain.specs.Turns.{may_read, passed, has_begun, has_ended, Goes, finished, reading, passing, IsTurnOf, AreTurnsOf}
+use Rattle.match_explain.specs.Turns.{may_read, passed, has_ended, Goes, finished, reading, passing, IsTurnOf, AreTurnsOf}
 
 -- where what read last has read, as the entries after p come next
 abbrev HasReadBefore : Reading → Last → ℕ → ℕ → Type 0

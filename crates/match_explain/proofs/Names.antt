@@ -1,7 +1,7 @@
 -- The names of all leaves, each once and in order.
-use Rattle.std.proofs.Common.{◌≡◌, refl, sym, ap, ap₂, subst, ◌∙◌, ℕ, zero, suc, ◌<◌, ◌⊎◌, inl, inr, Bool, true, false, List, [], ◌∷◌, length, map, get_or, Option, Some, None, slice_get, bytes_eq, arith}
+use Rattle.std.proofs.Common.{◌≡◌, refl, sym, ap, subst, ◌∙◌, ℕ, zero, suc, inl, inr, true, List, [], ◌∷◌, map, Option, Some, None, bytes_eq}
 use Rattle.std.specs.Prelude.{fold}
-use Rattle.std.specs.List.{list_any, filter_map, cons_option, AllByRecursion}
+use Rattle.std.specs.List.{filter_map, cons_option, AllByRecursion}
 use Rattle.std.specs.List.Sorted.{IsStrictlySortedBy}
 use Rattle.std.specs.Ordering.{nat_cmp, match_ordering, is_eq, ordering_reverse}
 use Rattle.std.specs.declared.cmp.Ordering.{Ordering}

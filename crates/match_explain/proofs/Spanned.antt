@@ -1,23 +1,23 @@
 -- The span of a complex event in its substream, and what of the event it decides.
-use Rattle.std.proofs.Common.{◌≡◌, refl, sym, ap, subst, ◌∙◌, ℕ, zero, suc, ◌+◌, ◌-◌, ◌<◌, ◌≤◌, ◌⊎◌, inl, inr, ◌↔◌, Bool, true, false, not, ◌&&◌, ◌||◌, List, [], ◌∷◌, length, map, get_or, Option, Some, None, slice_get, Contains, All, nat_le, nat_lt, eqb, arith}
+use Rattle.std.proofs.Common.{◌≡◌, refl, sym, subst, ◌∙◌, ℕ, zero, suc, ◌-◌, ◌<◌, ◌≤◌, ◌⊎◌, inl, inr, ◌↔◌, Bool, true, false, not, ◌&&◌, ◌||◌, List, [], ◌∷◌, length, map, get_or, Option, Some, None, slice_get, Contains, All, nat_le, nat_lt, eqb, arith}
 use Rattle.std.specs.List.{list_all}
 use Rattle.std.specs.Option.{option_map_or}
-use Rattle.std.proofs.lemmas.Bool.{and_parts, and_from, or_cases, or_left, or_right, not-true, not_from_false, false≢true, leb-true, le-leb, ltb-true, lt-ltb, eq-eqb, eqb-true, false_from_ne_true}
+use Rattle.std.proofs.lemmas.Bool.{and_parts, and_from, or_cases, or_left, or_right, not-true, not_from_false, false≢true, leb-true, le-leb, ltb-true, lt-ltb, eqb-true}
 use Rattle.std.proofs.lemmas.List.{get_or_default}
-use Rattle.std.proofs.lemmas.Option.{slice_get_within, slice_get-get_or, get_or_from_slice_get}
+use Rattle.std.proofs.lemmas.Option.{slice_get_within, get_or_from_slice_get}
 use Rattle.stream_schema.specs.Types.{Declared}
 use Rattle.stream_schema.specs.declared.Event.{Event}
 use Rattle.cel_terms.specs.declared.Query.{Query}
-use Rattle.cel_terms.specs.Answers.{Answer, IsAnswer, IsAscending, IsInWindow, IsOfSubstream, AreContiguous, WhereStrict, substream}
+use Rattle.cel_terms.specs.Answers.{IsAnswer, IsAscending, IsOfSubstream, AreContiguous, WhereStrict, substream}
 use Rattle.cel_terms.proofs.Marked.{lies_selected, marks_within}
 use Rattle.cel_plain.specs.Below.{below, shares_at, substream_positions}
 use Rattle.cel_plain.proofs.Places.{below_rises, ascends as ascends_rising}
 use Rattle.cel_plain.proofs.Keys.{positions_from, positions_to}
-use Rattle.cel_plain.proofs.Windows.{window_from, window_to}
+use Rattle.cel_plain.proofs.Windows.{window_to}
 use Rattle.query_leaves.specs.Expand.{tree_of}
 use Rattle.query_leaves.specs.Leaves.{occurrences}
 use Rattle.cea_compile.specs.Paths.{reading}
-use Rattle.cea_compile.specs.Covers.{Cover, AreWithin, is_listed}
+use Rattle.cea_compile.specs.Covers.{Cover, is_listed}
 use Rattle.cea_compile.specs.Compiled.{automaton_of}
 use Rattle.cea_compile.specs.DeterminisedRuns.{from_to, entry_at}
 use Rattle.cea_compile.proofs.Answers.{listed_is}

@@ -1,13 +1,13 @@
 -- A run through the leaves that SELECT leaves marks is one through the leaves of the formula.
-use Rattle.std.proofs.Common.{◌≡◌, refl, sym, ap, ap₂, subst, ◌∙◌, ℕ, zero, suc, ◌+◌, Bool, List, [], ◌∷◌, ◌++◌, map, length, Option, Some, None, slice_get}
+use Rattle.std.proofs.Common.{◌≡◌, refl, sym, ap, ap₂, subst, ◌∙◌, ℕ, zero, suc, ◌+◌, List, [], ◌∷◌, ◌++◌, map, length, Option, Some, None, slice_get}
 use Rattle.std.proofs.lemmas.List.{map-append}
 use Rattle.cel_terms.specs.declared.Name.{Name}
 use Rattle.cel_terms.specs.declared.Formula.{Formula}
-use Rattle.cel_terms.specs.Meaning.{Stream, Valuation, meaning, only_names}
+use Rattle.cel_terms.specs.Meaning.{Stream, meaning, only_names}
 use Rattle.query_leaves.specs.LeafTree.{LeafTree, leaf, none, sequence, either, plus}
 use Rattle.query_leaves.specs.Expand.{Occurrence, at_leaves, rename_leaf, expand, selected_tree}
 use Rattle.query_leaves.specs.Leaves.{occurrences, numbered, names_in}
-use Rattle.cea_compile.specs.Paths.{Step, Reading, Path, at, then, left, right, once, again, LeafReads, reading, valuation, tree_meaning}
+use Rattle.cea_compile.specs.Paths.{Step, Path, at, then, left, right, once, again, LeafReads, reading, valuation}
 use Rattle.cea_compile.proofs.Leaves.{unbinds, has_its_leaves}
 use Rattle.cea_compile.proofs.Expand.{expanded}
 

@@ -1,9 +1,9 @@
 -- The sets of finishers and the steps of a run, turn by turn.
-use Rattle.std.proofs.Common.{◌≡◌, refl, sym, ap, ap₂, subst, ◌∙◌, ℕ, zero, suc, ◌+◌, ◌-◌, ◌<◌, ◌≤◌, ◌⊎◌, inl, inr, Bool, true, false, not, ◌&&◌, ◌||◌, List, [], ◌∷◌, ◌++◌, length, drop, reverse, get_or, arith, append_assoc, append-nil, add-one, drop-cons}
-use Rattle.std.proofs.lemmas.Bool.{and_parts, and_from, or_cases, false≢true, not-true}
+use Rattle.std.proofs.Common.{◌≡◌, refl, sym, ap, ap₂, subst, ◌∙◌, ℕ, zero, suc, ◌+◌, ◌<◌, ◌≤◌, ◌⊎◌, inl, inr, Bool, true, false, not, ◌&&◌, ◌||◌, List, [], ◌∷◌, ◌++◌, length, drop, reverse, get_or, arith, append_assoc, append-nil, add-one, drop-cons}
+use Rattle.std.proofs.lemmas.Bool.{and_parts, or_cases, false≢true, not-true}
 use Rattle.std.proofs.lemmas.List.{drop_all, reverse-append, length-reverse}
 use Rattle.cer_base.specs.Bits.{has}
-use Rattle.cea_determinise.specs.Runs.{LeafSet, Automaton, some_below}
+use Rattle.cea_determinise.specs.Runs.{Automaton, some_below}
 use Rattle.cea_determinise.specs.Cea.{IsSet}
 use Rattle.cea_compile.specs.Paths.{Step}
 use Rattle.match_explain.specs.declared.turns.Turn.{Turn}
@@ -12,7 +12,7 @@ use Rattle.match_explain.specs.declared.moves.Last.{Last}
 use Rattle.match_explain.specs.declared.moves.Last.TheVariants.{Start, Leaf as At}
 use Rattle.match_explain.specs.declared.moves.Age.{Age}
 use Rattle.match_explain.specs.declared.moves.Age.TheVariants.{Just, Earlier}
-use Rattle.match_explain.specs.Turns.{may_read, passed, has_begun, has_ended, can_finish, Goes, finished, reading, passing, AreFinishers, IsAhead, IsLeafBelow}
+use Rattle.match_explain.specs.Turns.{may_read, passed, has_begun, can_finish, Goes, finished, reading, passing, AreFinishers, IsAhead, IsLeafBelow}
 use Rattle.match_explain.proofs.Following.{same_below}
 use Rattle.match_explain.proofs.Begun.{reads_on, passes_on}
 

@@ -1,7 +1,6 @@
 -- The search for a run of the leaves over the events of a span: what each step of it computes.
 -- Nobody needs to believe these; the public contracts speak of the meaning alone.
 use Rattle.std.specs.Prelude.{◌≡◌, ℕ, ◌<◌, Bool, true, false, not, ◌&&◌, ◌||◌, List, [], ◌∷◌, slice_get, map, Some, ⊤}
-use Rattle.std.specs.List.{AllZip}
 use Rattle.stream_schema.specs.Types.{Declared}
 use Rattle.stream_schema.specs.declared.Event.{Event}
 use Rattle.cel_terms.specs.declared.Query.{Query}
@@ -18,7 +17,6 @@ use Rattle.cea_compile.specs.Covers.{is_listed}
 use Rattle.match_explain.specs.declared.turns.Turn.{Turn}
 use Rattle.match_explain.specs.declared.moves.Last.{Last}
 use Rattle.match_explain.specs.declared.moves.Last.TheVariants.{Start, Leaf as At}
-use Rattle.match_explain.specs.declared.moves.Age.{Age}
 use Rattle.match_explain.specs.declared.moves.Age.TheVariants.{Just, Earlier}
 use Rattle.match_explain.specs.declared.finishing.Ahead.{Ahead}
 

@@ -1,4 +1,4 @@
-use Rattle.std.proofs.Common.{◌≡◌, ap, ap₂, sym, subst, ◌∙◌, ◌++◌}
+use Rattle.std.proofs.Common.{◌≡◌, ap, sym, subst, ◌∙◌, ◌++◌}
 use Rattle.std.specs.Prelude.{IfOk}
 use Rattle.match_explain.specs.LeafNames.{LeafNames, leaf_names, leaf_names_listed, leaf_names_linked}
 use Rattle.match_explain.proofs.Copied.{chain_is, choices_are, links_are}

@@ -1,5 +1,5 @@
 use Rattle.std.proofs.Common.{arith}
-use Rattle.match_explain.proofs.Ascending.{ascending_from, not_ascending}
+use Rattle.match_explain.proofs.Ascending.{ascending_from}
 use Rattle.match_explain.proofs.spans.ascends.Goals as goal
 
 pub returns-clause-yes : goal.returns-clause-yes

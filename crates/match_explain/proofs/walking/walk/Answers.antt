@@ -1,8 +1,6 @@
-use Rattle.std.proofs.Common.{◌≡◌, ◌∙◌, ap, sym, subst, length, reverse, ◌+◌, List, arith}
+use Rattle.std.proofs.Common.{◌≡◌, ◌∙◌, ap, length, reverse, arith}
 use Rattle.cea_determinise.specs.Cea.{automaton_of_cea}
-use Rattle.cea_compile.specs.Paths.{Step}
-use Rattle.match_explain.specs.declared.moves.Last.{Last}
-use Rattle.match_explain.proofs.Walked.{as_many_sets, IsUnderWay, under_way, reads_to, passes_to, all_gone}
+use Rattle.match_explain.proofs.Walked.{as_many_sets, reads_to, passes_to, all_gone}
 use Rattle.match_explain.proofs.walking.walk.Goals as goal
 use Rattle.match_explain.proofs.walking.walk.Goals.{in-Some+in_ok-push-in-Some, in-None}
 

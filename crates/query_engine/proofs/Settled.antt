@@ -3,9 +3,11 @@ use Rattle.std.proofs.Common.{◌≡◌, ℕ, zero, suc, ◌+◌, ◌-◌, ◌*�
 use Rattle.std.specs.Prelude.{sum_by}
 use Rattle.std.specs.List.{AllZip}
 use Rattle.std.specs.Option.{option_map_or}
+use Rattle.std.proofs.lemmas.Option.{slice_get_within}
 use Rattle.std.proofs.lemmas.List.Elements.{All-nil, All-cons, All-head, All-tail}
 use Rattle.stream_schema.specs.Types.{Declared}
 use Rattle.stream_schema.specs.declared.Event.{Event}
+use Rattle.cel_terms.specs.declared.Query.{Query}
 use Rattle.tecs_enumerate.specs.Rest.{CursorState}
 use Rattle.tecs_enumerate.specs.Rest as walks
 use Rattle.query_standing.specs.Kept.{Part, KeptStands}
@@ -14,8 +16,8 @@ use Rattle.all_or_none.specs.Phases.{Phase, IsIdle, StandsAt}
 use Rattle.arena_compact.specs.Roots.{places}
 use Rattle.query_engine.specs.Engine.{State, StandsFor, kept_of, count_of, found_of, len_of, peak_of, Fits, rest, SameQueries, IsKept}
 use Rattle.query_engine.specs.Running.{IsRunning}
-use Rattle.query_engine.specs.Compacting.{places_of, compact_bounds, cost, CanCompact, IsCompacted, nodes_of, FitsPart, AreCarried}
-use Rattle.query_engine.proofs.Standing.{state, map_at, from_parts, to_parts, length_map}
+use Rattle.query_engine.specs.Compacting.{places_of, compact_bounds, cost, CanCompact, IsCompacted, nodes_of, FitsPart, IsTrimmed, AreTrimmed, IsLeft, AreCarried}
+use Rattle.query_engine.proofs.Standing.{state, mapped, map_at, from_parts, to_parts, length_map}
 use Rattle.query_engine.proofs.Sums.{sum_from}
 
 zip_count : (old new : List Phase) → AllZip IsCompacted old new → length new ≡ length old
@@ -150,6 +152,15 @@ module _ (schema : Declared) (count : ℕ) (old new : List Phase) (ps : List ℕ
         fits = (omega arith, omega arith, subst (λ n. walks.Fits (get_or vs j d) (nodes_of new n)) (sym query) (here.fits le));
         rest = ap (λ n. walks.rest (get_or vs j d) (nodes_of new n)) query ∙ here.rest le;
       })
+
+  pub settled_left : AreTrimmed (length old) vs new → IsLeft after vs
+  settled_left trimmed k q p q_at p_at =
+      let one = mapped (λ (x : Phase). x.query) new k q q_at in
+      let two = mapped (λ (x : Phase). x.kept) new k p p_at in
+      let both : one.0 ≡ two.0 = (let e = sym one.1 ∙ two.1 in cc) in
+      let inside = slice_get_within new k one.0 one.1 in
+      let many = zip_count old new z in
+      subst (IsTrimmed (k + 1) vs q) (ap (λ (x : Phase). x.kept) both ∙ two.2) (subst (λ (y : Query). IsTrimmed (k + 1) vs y one.0.kept) one.2 (trimmed k one.0 (omega arith) one.1))
 
   pub settled_steps : (before after' : ℕ) → after' ≤ before + sum_by cost old → after' ≤ before + compact_bounds s
   settled_steps before after' le = subst (λ (t : State). after' ≤ before + compact_bounds t) is (let e = costs_same schema count old ps in omega arith)

@@ -3,7 +3,7 @@
 ghost use Rattle.std.specs.Prelude.{◌≡◌, ◌+◌, ◌≤◌, length, All, sum_by};
 ghost use Rattle.std.specs.List.{AllZip};
 ghost use Rattle.all_or_none.specs.Phases.{Phase, IsIdle};
-ghost use Rattle.query_engine.specs.Compacting.{CanCompact, FitsPart, IsCompacted, AreCarried, cost};
+ghost use Rattle.query_engine.specs.Compacting.{CanCompact, FitsPart, IsCompacted, AreTrimmed, AreCarried, cost};
 
 use crate::cursor::Cursor;
 use arena_compact::{HasCursor, Room};
@@ -48,6 +48,7 @@ pub fn compact_all<L: Ledger>(
     requires parts { All (CanCompact room.old) parts.old }
     requires held { All (FitsPart parts.old) held.old }
     ensures parts { AllZip IsCompacted parts.old parts.new }
+    ensures left { AreTrimmed (length parts.old) held.new parts.new }
     ensures held { AreCarried (length parts.old) parts.old parts.new held.old held.new }
     ensures steps { steps.new ≤ steps.old + sum_by cost parts.old }
 {

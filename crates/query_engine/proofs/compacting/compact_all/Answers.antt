@@ -3,8 +3,9 @@ use Rattle.std.specs.List.{AllZip}
 use Rattle.std.proofs.lemmas.List.{map-id, take_all}
 use Rattle.all_or_none.specs.Phases.{Phase}
 use Rattle.all_or_none.proofs.Turns.{all_here, left_next, zip_next}
-use Rattle.query_engine.specs.Compacting.{CanCompact, IsCompacted, AreCarried}
+use Rattle.query_engine.specs.Compacting.{CanCompact, IsCompacted, AreTrimmed, AreCarried}
 use Rattle.query_engine.proofs.Carried.{part_here, all_fit, all_carried, none_carried, cost_more}
+use Rattle.query_engine.proofs.Trimmed.{all_trimmed}
 use Rattle.query_engine.proofs.compacting.compact_all.Goals as goal
 
 pub compact-requires-clause-idle : goal.compact-requires-clause-idle
@@ -40,6 +41,7 @@ loop-k-init g c = record {
   left = refl;
   held = none_carried c.args.parts.now c.args.held.now c.requires.held;
   same_room = refl;
+  trimmed = λ j p less at. absurd (omega arith);
   few = omega arith;
   paid = omega arith;
 }
@@ -68,6 +70,7 @@ loop-k-preserved g c =
       left = left_next c.loop-k.parts c.args.parts.now c.loop-k.k c.compact.new.self inside same left;
       held = all_carried c.loop-k.k c.args.parts.now c.loop-k.parts q inside here c.compact.new.self c.args.held.now c.loop-k.held c.compact.new.cursors c.requires.held c.loop-k.invariant.held of.cursors;
       same_room = c.compact.ensures.room ∙ c.loop-k.invariant.same_room;
+      trimmed = all_trimmed c.loop-k.k c.loop-k.parts q c.compact.new.self c.loop-k.held c.compact.new.cursors inside c.compact.ensures.same.1 c.compact.ensures.compacted c.loop-k.invariant.trimmed;
       few = omega arith;
       paid = omega arith;
     }
@@ -81,6 +84,14 @@ returns-clause-parts g c =
     let all_new = take_all c.loop-k.k c.loop-k.parts (omega arith) in
     subst (λ (ps : List Phase). AllZip IsCompacted ps c.loop-k.parts) (map-id c.args.parts.now)
     (subst (AllZip IsCompacted (map (λ p. p) c.args.parts.now)) (map-id c.loop-k.parts) (rw (all_old, all_new) at c.loop-k.invariant.done))
+
+pub returns-clause-left : goal.returns-clause-left
+returns-clause-left g c =
+    let few = c.loop-k.invariant.few in
+    let same = c.loop-k.auto.parts in
+    let end = c.loop-k-test.false in
+    let is : c.loop-k.k ≡ length c.args.parts.now = omega arith in
+    subst (λ k. AreTrimmed k c.loop-k.held c.loop-k.parts) is c.loop-k.invariant.trimmed
 
 pub returns-clause-held : goal.returns-clause-held
 returns-clause-held g c =

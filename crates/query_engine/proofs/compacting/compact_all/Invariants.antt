@@ -3,7 +3,7 @@ use Rattle.std.specs.Prelude.{sum_by}
 use Rattle.std.specs.List.{AllZip}
 use Rattle.tecs_enumerate.specs.Rest.{CursorState}
 use Rattle.all_or_none.specs.Phases.{Phase}
-use Rattle.query_engine.specs.Compacting.{IsCompacted, AreCarried, cost}
+use Rattle.query_engine.specs.Compacting.{IsCompacted, AreTrimmed, AreCarried, cost}
 use Rattle.query_engine.proofs.compacting.compact_all.Given as goal
 
 -- The first k parts are compacted, and the cursors carried over.
@@ -12,6 +12,7 @@ pub record Compacts (old cur : List Phase) (ws vs : List CursorState) (k room no
   pub left : drop k cur ≡ drop k old
   pub held : AreCarried k old cur ws vs
   pub same_room : now_room ≡ room
+  pub trimmed : AreTrimmed k vs cur
   pub few : k ≤ length old
   pub paid : now ≤ before + sum_by cost (take k old)
 

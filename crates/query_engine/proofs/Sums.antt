@@ -10,7 +10,7 @@ use Rattle.all_or_none.specs.Phases.{Phase, kept_bound}
 use Rattle.query_engine.proofs.Standing.{map_at}
 
 -- numbered from a on, what each number costs is what the element there does
-sum_from : {X : Type 0} (f : X → ℕ) (cost : ℕ → ℕ) (xs : List X) (a : ℕ) → ((j : ℕ) (x : X) → slice_get xs j ≡ Some x → cost (a + j) ≡ f x) → sum (map cost (range_with_len a (length xs))) ≡ sum_by f xs
+pub sum_from : {X : Type 0} (f : X → ℕ) (cost : ℕ → ℕ) (xs : List X) (a : ℕ) → ((j : ℕ) (x : X) → slice_get xs j ≡ Some x → cost (a + j) ≡ f x) → sum (map cost (range_with_len a (length xs))) ≡ sum_by f xs
 sum_from f cost [] a is = refl
 sum_from f cost (x ∷ xs) a is =
     let head : cost a ≡ f x = ap cost (sym (add-zero a)) ∙ is 0 x refl in

@@ -1,0 +1,166 @@
+-- What an engine is after all its parts are compacted.
+use Rattle.std.proofs.Common.{◌≡◌, ℕ, zero, suc, ◌+◌, ◌-◌, ◌*◌, ◌<◌, ◌≤◌, List, [], ◌∷◌, map, length, get_or, refl, sym, ap, ap₂, subst, ◌∙◌, All, Some, slice_get, arith}
+use Rattle.std.specs.Prelude.{sum_by}
+use Rattle.std.specs.List.{AllZip}
+use Rattle.std.specs.Option.{option_map_or}
+use Rattle.std.proofs.lemmas.Option.{slice_get_within}
+use Rattle.std.proofs.lemmas.List.Elements.{All-nil, All-cons, All-head, All-tail}
+use Rattle.stream_schema.specs.Types.{Declared}
+use Rattle.stream_schema.specs.declared.Event.{Event}
+use Rattle.cel_terms.specs.declared.Query.{Query}
+use Rattle.tecs_enumerate.specs.Rest.{CursorState}
+use Rattle.tecs_enumerate.specs.Rest as walks
+use Rattle.query_standing.specs.Kept.{Part, KeptStands}
+use Rattle.query_standing.specs.Bounds.{for_each_query}
+use Rattle.all_or_none.specs.Phases.{Phase, IsIdle, StandsAt}
+use Rattle.arena_compact.specs.Roots.{places}
+use Rattle.query_engine.specs.Engine.{State, StandsFor, kept_of, count_of, found_of, len_of, peak_of, Fits, rest, SameQueries, IsKept}
+use Rattle.query_engine.specs.Running.{IsRunning}
+use Rattle.query_engine.specs.Compacting.{places_of, compact_bounds, cost, CanCompact, IsCompacted, nodes_of, FitsPart, IsTrimmed, AreTrimmed, IsLeft, AreCarried}
+use Rattle.query_engine.proofs.Standing.{state, mapped, map_at, from_parts, to_parts, length_map}
+use Rattle.query_engine.proofs.Sums.{sum_from}
+
+zip_count : (old new : List Phase) → AllZip IsCompacted old new → length new ≡ length old
+zip_count [] [] z = refl
+zip_count [] (n ∷ new) z = absurd z
+zip_count (o ∷ old) [] z = absurd z
+zip_count (o ∷ old) (n ∷ new) z = ap suc (zip_count old new z.1)
+
+zip_queries : (old new : List Phase) → AllZip IsCompacted old new → map (λ (p : Phase). p.query) new ≡ map (λ (p : Phase). p.query) old
+zip_queries [] [] z = refl
+zip_queries [] (n ∷ new) z = absurd z
+zip_queries (o ∷ old) [] z = absurd z
+zip_queries (o ∷ old) (n ∷ new) z = ap₂ (λ a b. a ∷ b) z.0.query (zip_queries old new z.1)
+
+zip_schemas : (schema : Declared) (old new : List Phase) → AllZip IsCompacted old new → All (λ (p : Phase). p.schema ≡ schema) old → All (λ (p : Phase). p.schema ≡ schema) new
+zip_schemas schema [] [] z h = All-nil (λ (p : Phase). p.schema ≡ schema)
+zip_schemas schema [] (n ∷ new) z h = absurd z
+zip_schemas schema (o ∷ old) [] z h = absurd z
+zip_schemas schema (o ∷ old) (n ∷ new) z h = All-cons (λ (p : Phase). p.schema ≡ schema) n new (z.0.schema ∙ All-head (λ (p : Phase). p.schema ≡ schema) o old h) (zip_schemas schema old new z.1 (All-tail (λ (p : Phase). p.schema ≡ schema) o old h))
+
+zip_idle : (old new : List Phase) → AllZip IsCompacted old new → All IsIdle new
+zip_idle [] [] z = All-nil IsIdle
+zip_idle [] (n ∷ new) z = absurd z
+zip_idle (o ∷ old) [] z = absurd z
+zip_idle (o ∷ old) (n ∷ new) z = All-cons IsIdle n new z.0.idle (zip_idle old new z.1)
+
+zip_stand : (events : List Event) (old new : List Phase) → AllZip IsCompacted old new → All (StandsAt events) old → All (StandsAt events) new
+zip_stand events [] [] z h = All-nil (StandsAt events)
+zip_stand events [] (n ∷ new) z h = absurd z
+zip_stand events (o ∷ old) [] z h = absurd z
+zip_stand events (o ∷ old) (n ∷ new) z h = All-cons (StandsAt events) n new (z.0.stands events (All-head (StandsAt events) o old h)) (zip_stand events old new z.1 (All-tail (StandsAt events) o old h))
+
+zip_found : (old new : List Phase) (k : ℕ) → AllZip IsCompacted old new → option_map_or (λ (p : Part). length p.table.states) (slice_get (map (λ (p : Phase). p.kept) new) k) 0 ≡ option_map_or (λ (p : Part). length p.table.states) (slice_get (map (λ (p : Phase). p.kept) old) k) 0
+zip_found [] [] k z = refl
+zip_found [] (n ∷ new) k z = absurd z
+zip_found (o ∷ old) [] k z = absurd z
+zip_found (o ∷ old) (n ∷ new) zero z = ap (λ t. length t.states) z.0.table
+zip_found (o ∷ old) (n ∷ new) (suc k) z = zip_found old new k z.1
+
+zip_fewer : (old new : List Phase) (k : ℕ) → AllZip IsCompacted old new → option_map_or (λ (p : Part). length p.nodes) (slice_get (map (λ (p : Phase). p.kept) new) k) 0 ≤ option_map_or (λ (p : Part). length p.nodes) (slice_get (map (λ (p : Phase). p.kept) old) k) 0
+zip_fewer [] [] k z = omega arith
+zip_fewer [] (n ∷ new) k z = absurd z
+zip_fewer (o ∷ old) [] k z = absurd z
+zip_fewer (o ∷ old) (n ∷ new) zero z = z.0.fewer
+zip_fewer (o ∷ old) (n ∷ new) (suc k) z = zip_fewer old new k z.1
+
+-- the steps, summed over the parts or over the queries' numbers
+costs_same : (schema : Declared) (count : ℕ) (parts : List Phase) (ps : List ℕ) → compact_bounds (state schema count parts ps) ≡ sum_by cost parts
+unfolding len_of places_of
+costs_same schema count parts ps =
+    ap (λ n. for_each_query n each_cost) (length_map (λ (p : Phase). p.query) parts) ∙ sum_from cost each_cost parts 1 each
+  where
+    each_cost : ℕ → ℕ
+    each_cost k = 8 * option_map_or (λ (p : Part). length p.nodes) (slice_get (map (λ (p : Phase). p.kept) parts) (k - 1)) 0 + 4 * option_map_or (λ (p : Part). places p.rows) (slice_get (map (λ (p : Phase). p.kept) parts) (k - 1)) 0
+
+    each : (j : ℕ) (p : Phase) → slice_get parts j ≡ Some p → each_cost (1 + j) ≡ cost p
+    each j p at =
+        let here : 1 + j - 1 ≡ j = omega arith in
+        let there = map_at (λ (x : Phase). x.kept) parts j p at in
+        ap (λ i. 8 * option_map_or (λ (x : Part). length x.nodes) (slice_get (map (λ (x : Phase). x.kept) parts) i) 0 + 4 * option_map_or (λ (x : Part). places x.rows) (slice_get (map (λ (x : Phase). x.kept) parts) i) 0) here
+        ∙ ap (λ o. 8 * option_map_or (λ (x : Part). length x.nodes) o 0 + 4 * option_map_or (λ (x : Part). places x.rows) o 0) there
+
+-- before: each part can be compacted, and each held cursor is of a part
+pub can_compact : (schema : Declared) (count : ℕ) (old mut : List Phase) (ps : List ℕ) (room : ℕ) → IsRunning schema count old ps → mut ≡ old → All (λ (p : Phase). length p.kept.nodes ≤ room) old → All (CanCompact room) mut
+can_compact schema count old mut ps room running mut_is many =
+    subst (All (CanCompact room)) (sym mut_is) (λ k d lt. record {
+      idle = running.idle k d lt;
+      events = record { events = running.run.events; stands = running.run.stands k d lt };
+      enough = many k d lt;
+    })
+
+pub can_hold : (schema : Declared) (count : ℕ) (old mut : List Phase) (ps : List ℕ) (s : State) (held : List CursorState) → state schema count old ps ≡ s → mut ≡ old → All (Fits s) held → All (FitsPart mut) held
+unfolding Fits
+can_hold schema count old mut ps s held is mut_is fits =
+    subst (λ (ps' : List Phase). All (FitsPart ps') held) (sym mut_is) (subst (λ (t : State). All (Fits t) held) (sym is) fits)
+
+module _ (schema : Declared) (count : ℕ) (old new : List Phase) (ps : List ℕ) (ws vs : List CursorState) (running : IsRunning schema count old ps) (z : AllZip IsCompacted old new) (s : State) (is : state schema count old ps ≡ s) where
+  abbrev after : State
+  after = state schema count new ps
+
+  pub settled_running : IsRunning schema count new ps
+  settled_running = record {
+    schemas = zip_schemas schema old new z running.schemas;
+    idle = zip_idle old new z;
+    run = record {
+      events = running.run.events;
+      length_is = running.run.length_is;
+      stands = zip_stand running.run.events old new z running.run.stands;
+    };
+    peaks_are = running.peaks_are ∙ sym (zip_count old new z);
+  }
+
+  pub settled_stands : (events : List Event) → StandsFor s events → StandsFor after events
+  unfolding StandsFor
+  settled_stands = subst (λ (t : State). (events : List Event) → KeptStands (kept_of t) events → KeptStands (kept_of after) events) is (λ events stands.
+      from_parts schema count new ps events (zip_schemas schema old new z running.schemas) (sym stands.count) (zip_stand events old new z (to_parts schema count old ps events running.schemas stands)))
+
+  pub settled_same : SameQueries s after
+  settled_same = subst (λ (t : State). SameQueries t after) is (refl, zip_queries old new z)
+
+  pub settled_count : count_of after ≡ count_of s
+  unfolding count_of
+  settled_count = ap (λ (t : State). t.count) is
+
+  pub settled_found : (query : ℕ) → found_of after query ≡ found_of s query
+  unfolding found_of
+  settled_found query = zip_found old new (query - 1) z ∙ ap (λ (t : State). found_of t query) is
+
+  pub settled_fewer : (query : ℕ) → len_of after query ≤ len_of s query
+  unfolding len_of
+  settled_fewer query = subst (λ (t : State). len_of after query ≤ len_of t query) is (zip_fewer old new (query - 1) z)
+
+  pub settled_peak : (query : ℕ) → peak_of after query ≡ peak_of s query
+  unfolding peak_of
+  settled_peak query = ap (λ (t : State). peak_of t query) is
+
+  pub settled_cursors : AreCarried (length old) old new ws vs → All (FitsPart old) ws → (j : ℕ) (d : CursorState) → j < length ws → IsKept s after (get_or ws j d) (get_or vs j d)
+  unfolding Fits rest
+  settled_cursors carried fits j d lt = subst (λ (t : State). IsKept t after (get_or ws j d) (get_or vs j d)) is (
+      let here = carried.each j d lt in
+      let f = fits j d lt in
+      let low = f.0 in
+      let high = f.1 in
+      let many = length_map (λ (p : Phase). p.kept) old in
+      let many_new = length_map (λ (p : Phase). p.kept) new in
+      let count_is = zip_count old new z in
+      let le : (get_or ws j d).query ≤ length old = omega arith in
+      let query : (get_or vs j d).query ≡ (get_or ws j d).query = ap (λ (x : CursorState). x.query) here.same in
+      record {
+        query = query;
+        path = ap (λ (x : CursorState). x.path) here.same;
+        fits = (omega arith, omega arith, subst (λ n. walks.Fits (get_or vs j d) (nodes_of new n)) (sym query) (here.fits le));
+        rest = ap (λ n. walks.rest (get_or vs j d) (nodes_of new n)) query ∙ here.rest le;
+      })
+
+  pub settled_left : AreTrimmed (length old) vs new → IsLeft after vs
+  settled_left trimmed k q p q_at p_at =
+      let one = mapped (λ (x : Phase). x.query) new k q q_at in
+      let two = mapped (λ (x : Phase). x.kept) new k p p_at in
+      let both : one.0 ≡ two.0 = (let e = sym one.1 ∙ two.1 in cc) in
+      let inside = slice_get_within new k one.0 one.1 in
+      let many = zip_count old new z in
+      subst (IsTrimmed (k + 1) vs q) (ap (λ (x : Phase). x.kept) both ∙ two.2) (subst (λ (y : Query). IsTrimmed (k + 1) vs y one.0.kept) one.2 (trimmed k one.0 (omega arith) one.1))
+
+  pub settled_steps : (before after' : ℕ) → after' ≤ before + sum_by cost old → after' ≤ before + compact_bounds s
+  settled_steps before after' le = subst (λ (t : State). after' ≤ before + compact_bounds t) is (let e = costs_same schema count old ps in omega arith)

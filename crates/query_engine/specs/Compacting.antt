@@ -1,0 +1,78 @@
+-- What a compaction makes of an engine's parts and of the cursors that are held over it, and how many steps it takes.
+use Rattle.std.specs.Prelude.{◌≡◌, ℕ, ◌+◌, ◌-◌, ◌*◌, ◌<◌, ◌≤◌, ◌≤ℤ◌, Some, List, [], length, map, get_or, slice_get}
+use Rattle.std.specs.Option.{option_map_or}
+use Rattle.stream_schema.specs.declared.Event.{Event}
+use Rattle.cel_terms.specs.declared.Query.{Query}
+use Rattle.cer_base.specs.declared.node.Node.{Node}
+use Rattle.cer_base.specs.Members.{newest}
+use Rattle.cer_base.specs.Nodes.{tree}
+use Rattle.tecs_enumerate.specs.Rest.{CursorState}
+use Rattle.tecs_enumerate.specs.Rest as walks
+use Rattle.query_standing.specs.Kept.{Part, low_at}
+use Rattle.all_or_none.specs.Phases.{Phase, IsIdle, StandsAt}
+use Rattle.arena_compact.specs.Marks.{Reaches}
+use Rattle.arena_compact.specs.Roots.{places}
+use Rattle.arena_compact.specs.Compacted.{least_of, roots_of}
+use Rattle.query_part.specs.Parts.{HasEvents}
+use Rattle.query_engine.specs.Bounds.{for_each_query}
+use Rattle.query_engine.specs.Engine.{State, len_of}
+
+-- how many entries the lists of the query's keys have
+unfoldable pub places_of : State → ℕ → ℕ
+places_of engine query = option_map_or (λ (p : Part). places p.rows) (slice_get engine.parts (query - 1)) 0
+
+-- eight steps for each node of each query, and four for each entry of a list
+abbrev pub compact_bounds : State → ℕ
+compact_bounds engine = for_each_query (length engine.queries) (λ k. 8 * len_of engine k + 4 * places_of engine k)
+
+-- the steps that one part may take
+abbrev pub cost : Phase → ℕ
+cost p = 8 * length p.kept.nodes + 4 * places p.kept.rows
+
+-- What is asked of a part: it is idle, as it is for some events, and there is room.
+pub record CanCompact (room : ℕ) (p : Phase) : Type 0 where
+  pub idle : IsIdle p
+  pub events : HasEvents p
+  pub enough : length p.kept.nodes ≤ room
+
+-- The part of the same query is idle and stands for the same events, with the same states and no more nodes.
+pub record IsCompacted (old new : Phase) : Type 0 where
+  pub schema : new.schema ≡ old.schema
+  pub query : new.query ≡ old.query
+  pub idle : IsIdle new
+  pub stands : (events : List Event) → StandsAt events old → StandsAt events new
+  pub table : new.kept.table ≡ old.kept.table
+  pub fewer : length new.kept.nodes ≤ length old.kept.nodes
+
+-- the nodes of the part of this number, from 1
+abbrev pub nodes_of : List Phase → ℕ → List Node
+nodes_of parts query = option_map_or (λ (p : Part). p.nodes) (slice_get (map (λ (p : Phase). p.kept) parts) (query - 1)) []
+
+-- the cursor is of a part, and fits its nodes
+abbrev pub FitsPart : List Phase → CursorState → Type 0
+FitsPart parts w = (1 ≤ w.query) × (w.query ≤ length (map (λ (p : Phase). p.kept) parts)) × walks.Fits w (nodes_of parts w.query)
+
+-- Once the first k parts are compacted, a cursor of one of them fits, with the same left; the others are as they were.
+pub record IsCarried (k : ℕ) (old new : List Phase) (w v : CursorState) : Type 0 where
+  pub same : v ≡ record w { stack = v.stack }
+  pub fits : w.query ≤ k → walks.Fits v (nodes_of new w.query)
+  pub rest : w.query ≤ k → walks.rest v (nodes_of new w.query) ≡ walks.rest w (nodes_of old w.query)
+  pub ahead : k < w.query → v ≡ w
+
+-- Each node of the part of this number is reached from its lists or from a held cursor of it, and its greatest start is of the least of its low clock and those of these cursors, or later.
+pub record IsTrimmed (query : ℕ) (held : List CursorState) (q : Query) (p : Part) : Type 0 where
+  pub reached : (id : ℕ) → id < length p.nodes → Reaches p.nodes (roots_of query p.rows held) id
+  pub recent : (id : ℕ) → id < length p.nodes → least_of query (low_at q p.clock) held ≤ℤ (newest (tree p.nodes id)).clock
+
+-- each of the first k parts is trimmed
+abbrev pub AreTrimmed : ℕ → List CursorState → List Phase → Type 0
+AreTrimmed k held parts = (j : ℕ) (p : Phase) → j < k → slice_get parts j ≡ Some p → IsTrimmed (j + 1) held p.query p.kept
+
+-- Of each query only such nodes are left as its lists or a held cursor reach, from the least of its low clock and those of its held cursors on.
+abbrev pub IsLeft : State → List CursorState → Type 0
+IsLeft engine held = (k : ℕ) (q : Query) (p : Part) → slice_get engine.queries k ≡ Some q → slice_get engine.parts k ≡ Some p → IsTrimmed (k + 1) held q p
+
+-- As many cursors, in their order, each carried over.
+pub record AreCarried (k : ℕ) (old new : List Phase) (ws vs : List CursorState) : Type 0 where
+  pub count : length vs ≡ length ws
+  pub each : (j : ℕ) (d : CursorState) → j < length ws → IsCarried k old new (get_or ws j d) (get_or vs j d)

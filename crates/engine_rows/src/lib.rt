@@ -5,6 +5,7 @@
 //! chance with `rand_pcg`.
 #![tactic(auto)]
 
+pub mod held;
 pub mod rows;
 #[cfg(test)]
 mod tests;

@@ -52,7 +52,7 @@ pub fn engine_of(alloc: Global, text: &str) -> Result<Engine, RowFault> {
 }
 
 /// The event of the line, of the engine's schema.
-fn event_of(alloc: Global, engine: &Engine, line: &[u8]) -> Result<Event, RowFault>
+pub fn event_of(alloc: Global, engine: &Engine, line: &[u8]) -> Result<Event, RowFault>
     ensures { IfOk result (IsOfSchema engine.now.schema) }
 {
     if line.contains(&b'\n') {

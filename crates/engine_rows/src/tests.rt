@@ -1,4 +1,5 @@
 mod beside;
+mod compactions;
 mod generator;
 
 use super::rows::{answers_after_each, engine_of, states_found};

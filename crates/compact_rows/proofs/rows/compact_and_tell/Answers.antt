@@ -1,4 +1,4 @@
-use Rattle.std.proofs.Common.{ℕ, List, All, length, arith}
+use Rattle.std.proofs.Common.{◌≡◌, ℕ, List, All, length, arith}
 use Rattle.std.proofs.lemmas.List.{length-map}
 use Rattle.tecs_enumerate.specs.Rest.{CursorState, Fits}
 use Rattle.std.proofs.lemmas.List.Elements.{All-map}

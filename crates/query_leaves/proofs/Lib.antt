@@ -1,6 +1,6 @@
 -- which names a list has
 pub mod Naming
--- what changes make of a tree
+-- what changes make of an occurrence
 pub mod Changes
 -- what the expansion of a formula computes
 pub mod Expanded

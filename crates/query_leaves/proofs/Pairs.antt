@@ -1,7 +1,10 @@
 -- Lists whose elements are related one by one.
-use Rattle.std.proofs.Common.{sym, ap, subst, ◌∙◌, ℕ, ◌+◌, ◌<◌, List, [], ◌∷◌, ◌++◌, length, take, get_or, map}
+use Rattle.std.proofs.Common.{◌≡◌, sym, ap, subst, ◌∙◌, ℕ, suc, ◌+◌, ◌-◌, ◌<◌, ◌≤◌, List, [], ◌∷◌, ◌++◌, length, take, drop, get_or, map, arith}
+use Rattle.std.specs.Prelude.{reverse}
+use Rattle.std.proofs.Math.Seq.{drop-cons}
 use Rattle.std.specs.List.{AllZip}
 use Rattle.std.proofs.lemmas.List.{take_more, map-append}
+use Rattle.query_leaves.proofs.Changes.{first_last}
 
 pub zip_append : {A B : Type 0} (R : A → B → Type 0) (xs zs : List A) (ys ws : List B) → AllZip R xs ys → AllZip R zs ws → AllZip R (xs ++ zs) (ys ++ ws)
 zip_append R [] zs [] ws h k = k
@@ -15,3 +18,13 @@ one_more R xs i d ys y less h r = subst (λ zs. AllZip R zs (ys ++ y ∷ [])) (s
 
 pub one_more_of : {A B C : Type 0} (f : A → C) (R : C → B → Type 0) (xs : List A) (i : ℕ) (d : A) (ys : List B) (y : B) → i < length xs → AllZip R (map f (take i xs)) ys → R (f (get_or xs i d)) y → AllZip R (map f (take (i + 1) xs)) (ys ++ y ∷ [])
 one_more_of f R xs i d ys y less h r = subst (λ zs. AllZip R zs (ys ++ y ∷ [])) (sym (ap (map f) (take_more xs i d less) ∙ map-append f (take i xs) (get_or xs i d ∷ []))) (zip_append R (map f (take i xs)) (f (get_or xs i d) ∷ []) ys (y ∷ []) h (r, tt))
+
+-- one more of a list that is taken from its end
+pub one_more_from : {A B C : Type 0} (f : A → C) (R : C → B → Type 0) (xs : List A) (k : ℕ) (d : A) (ys : List B) (y : B) → 0 < k → k ≤ length xs → AllZip R (map f (reverse (drop k xs))) ys → R (f (get_or xs (k - 1) d)) y → AllZip R (map f (reverse (drop (k - 1) xs))) (ys ++ y ∷ [])
+one_more_from f R xs k d ys y some within h r =
+    let at : suc (k - 1) ≡ k = omega arith in
+    let front : drop (k - 1) xs ≡ get_or xs (k - 1) d ∷ drop k xs =
+    drop-cons xs (k - 1) d (omega arith) ∙ ap (λ n. get_or xs (k - 1) d ∷ drop n xs) at in
+    subst (λ zs. AllZip R zs (ys ++ y ∷ []))
+    (sym (ap (λ l. map f (reverse l)) front ∙ first_last f (get_or xs (k - 1) d) (drop k xs)))
+    (zip_append R (map f (reverse (drop k xs))) (f (get_or xs (k - 1) d) ∷ []) ys (y ∷ []) h (r, tt))

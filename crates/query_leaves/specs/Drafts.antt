@@ -14,7 +14,6 @@ use Rattle.query_leaves.specs.LeafTree.{LeafTree, leaf, none, sequence, either, 
 use Rattle.query_leaves.specs.Expand.{Occurrence, filtered, expand}
 
 abbrev pub change_names : Change → List (List ℕ) → List (List ℕ)
-change_names change.Nothing names = names
 change_names (change.Named name) names = with_name name.now.text names
 change_names (change.Keep listed) names = only_names listed.now names
 change_names (change.Test name pred) names = names

@@ -71,30 +71,59 @@ pub fn one_or_more<'q>(alloc: Global, tight: bool, part: Draft<'q>) -> Result<Dr
 }
 
 /// The tree with the change made at each leaf.
-pub fn at_leaves<'q>(
+pub fn changed<'q>(
     alloc: Global,
+    draft: Draft<'q>,
     change: &Change<'q>,
-    draft: &Draft<'q>,
 ) -> Result<Draft<'q>, Memory>
-    ensures { IfOk result (λ after. tree_of_draft after ≡ at_leaves (change_leaf change.now) (tree_of_draft draft.now)) }
+    ensures { IfOk result (λ after. tree_of_draft after ≡ at_leaves (change_leaf change.now) (tree_of_draft draft.entry)) }
 {
     match draft {
         Draft::Never => Ok(Draft::Never),
-        Draft::Leaf(occurrence) => Ok(Draft::Leaf(occurrence.changed(alloc, change)?)),
+        Draft::Leaf(occurrence) => Ok(Draft::Leaf(occurrence.changed(change)?)),
         Draft::Sequence {
             tight,
             first,
             second,
         } => {
-            let before = at_leaves(alloc, change, first)?;
-            let after = at_leaves(alloc, change, second)?;
+            let before = changed(alloc, Box::into_inner(first), change)?;
+            let after = changed(alloc, Box::into_inner(second), change)?;
+            sequence(alloc, tight, before, after)
+        }
+        Draft::Either(first, second) => {
+            let first = changed(alloc, Box::into_inner(first), change)?;
+            let second = changed(alloc, Box::into_inner(second), change)?;
+            either(alloc, first, second)
+        }
+        Draft::Plus { tight, part } => plus(
+            alloc,
+            tight,
+            changed(alloc, Box::into_inner(part), change)?,
+        ),
+    }
+}
+
+/// A tree of its own that equals the one given.
+pub fn copied<'q>(alloc: Global, draft: &Draft<'q>) -> Result<Draft<'q>, Memory>
+    ensures { IfOk result (λ copy. tree_of_draft copy ≡ tree_of_draft draft.now) }
+{
+    match draft {
+        Draft::Never => Ok(Draft::Never),
+        Draft::Leaf(occurrence) => Ok(Draft::Leaf(occurrence.copy(alloc)?)),
+        Draft::Sequence {
+            tight,
+            first,
+            second,
+        } => {
+            let before = copied(alloc, first)?;
+            let after = copied(alloc, second)?;
             sequence(alloc, *tight, before, after)
         }
         Draft::Either(first, second) => {
-            let first = at_leaves(alloc, change, first)?;
-            let second = at_leaves(alloc, change, second)?;
+            let first = copied(alloc, first)?;
+            let second = copied(alloc, second)?;
             either(alloc, first, second)
         }
-        Draft::Plus { tight, part } => plus(alloc, *tight, at_leaves(alloc, change, part)?),
+        Draft::Plus { tight, part } => plus(alloc, *tight, copied(alloc, part)?),
     }
 }

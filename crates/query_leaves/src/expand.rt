@@ -4,7 +4,7 @@ ghost use Rattle.std.specs.Prelude.{◌≡◌, IfOk, fold};
 ghost use Rattle.query_leaves.specs.Expand.{filtered, under_all, postfixed, postfixed_by_all, expand, tree_of};
 ghost use Rattle.query_leaves.specs.Drafts.{tree_of_draft, tree_of_alternatives, tree_of_chain, tree_of_links, tree_of_choices};
 
-use crate::draft::{Draft, at_leaves, either, one_or_more, sequence};
+use crate::draft::{Draft, changed, copied, either, one_or_more, sequence};
 use crate::occurrence::{Change, Occurrence};
 use cel_terms::{Filter, Formula, Link, Postfix, Query};
 use cer_base::Memory;
@@ -15,13 +15,13 @@ use std::alloc::Global;
 fn filtered_by_all<'q>(
     alloc: Global,
     filters: &'q [Filter],
-    draft: &Draft<'q>,
+    draft: Draft<'q>,
 ) -> Result<Draft<'q>, Memory>
-    ensures { IfOk result (λ after. tree_of_draft after ≡ fold (λ t c. filtered c t) (tree_of_draft draft.now) filters.now) }
+    ensures { IfOk result (λ after. tree_of_draft after ≡ fold (λ t c. filtered c t) (tree_of_draft draft.entry) filters.now) }
 {
-    let mut after = copied(alloc, draft)?;
+    let mut after = draft;
     for part in filters {
-        after = filtered(alloc, part, &after)?;
+        after = filtered(alloc, part, after)?;
     }
     Ok(after)
 }
@@ -37,7 +37,7 @@ fn filtered_by_any<'q>(
 {
     let mut after = Draft::Never;
     for k in (0..filters.len()).rev() {
-        let choice = filtered(alloc, &filters[k], draft)?;
+        let choice = filtered(alloc, &filters[k], copied(alloc, draft)?)?;
         after = either(alloc, choice, after)?;
     }
     Ok(after)
@@ -45,22 +45,14 @@ fn filtered_by_any<'q>(
 
 /// The tree under the filter.
 #[cycle(filtered)]
-fn filtered<'q>(alloc: Global, filter: &'q Filter, draft: &Draft<'q>) -> Result<Draft<'q>, Memory>
-    ensures { IfOk result (λ after. tree_of_draft after ≡ filtered filter.now (tree_of_draft draft.now)) }
+fn filtered<'q>(alloc: Global, filter: &'q Filter, draft: Draft<'q>) -> Result<Draft<'q>, Memory>
+    ensures { IfOk result (λ after. tree_of_draft after ≡ filtered filter.now (tree_of_draft draft.entry)) }
 {
     match filter {
-        Filter::On(name, pred) => at_leaves(alloc, &Change::Test(name, pred), draft),
+        Filter::On(name, pred) => changed(alloc, draft, &Change::Test(name, pred)),
         Filter::All(filters) => filtered_by_all(alloc, filters, draft),
-        Filter::Any(filters) => filtered_by_any(alloc, filters, draft),
+        Filter::Any(filters) => filtered_by_any(alloc, filters, &draft),
     }
-}
-
-/// A tree of its own that equals the one given.
-#[tactic(auto, using(crate::proofs::Changes::nothing_changes))]
-fn copied<'q>(alloc: Global, draft: &Draft<'q>) -> Result<Draft<'q>, Memory>
-    ensures { IfOk result (λ copy. tree_of_draft copy ≡ tree_of_draft draft.now) }
-{
-    at_leaves(alloc, &Change::Nothing, draft)
 }
 
 /// The tree under each of the filters.
@@ -73,7 +65,7 @@ fn under_all<'q>(
 {
     let mut after = draft;
     for filter in filters {
-        after = filtered(alloc, filter, &after)?;
+        after = filtered(alloc, filter, after)?;
     }
     Ok(after)
 }
@@ -84,8 +76,8 @@ fn postfixed<'q>(alloc: Global, postfix: &'q Postfix, draft: Draft<'q>) -> Resul
     match postfix {
         Postfix::Plus => one_or_more(alloc, false, draft),
         Postfix::NextPlus => one_or_more(alloc, true, draft),
-        Postfix::Named(name) => at_leaves(alloc, &Change::Named(name), &draft),
-        Postfix::Keep(names) => at_leaves(alloc, &Change::Keep(names.as_slice()), &draft),
+        Postfix::Named(name) => changed(alloc, draft, &Change::Named(name)),
+        Postfix::Keep(names) => changed(alloc, draft, &Change::Keep(names.as_slice())),
     }
 }
 
@@ -178,6 +170,6 @@ pub fn tree_of<'q>(alloc: Global, query: &'q Query) -> Result<Draft<'q>, Memory>
     let draft = expand(alloc, &query.formula)?;
     match &query.select {
         None => Ok(draft),
-        Some(names) => at_leaves(alloc, &Change::Keep(names.as_slice()), &draft),
+        Some(names) => changed(alloc, draft, &Change::Keep(names.as_slice())),
     }
 }

@@ -1,11 +1,12 @@
 //! An occurrence of a type while its formula is expanded. It refers to the query for its
 //! predicates and names.
 
-ghost use Rattle.std.specs.Prelude.{◌≡◌, IfOk, [], ◌∷◌, map, bytes_eq};
+ghost use Rattle.std.specs.Prelude.{◌≡◌, IfOk, OnOk, [], ◌∷◌, map, reverse, bytes_eq};
 ghost use Rattle.std.specs.List.{list_any};
 ghost use Rattle.cel_terms.specs.Meaning.{lists_name, with_name, only_names};
+ghost use Rattle.query_leaves.specs.Expand.{rename_leaf, test_leaf};
 ghost use Rattle.cel_terms.specs.Answers.{is_bound};
-ghost use Rattle.query_leaves.specs.Drafts.{change_names, change_tests, change_leaf};
+ghost use Rattle.query_leaves.specs.Drafts.{change_leaf};
 
 use cel_terms::{Name, Pred};
 use cer_base::Memory;
@@ -16,12 +17,14 @@ use std::marker::Model;
 #[derive(Drop, Debug)]
 pub struct Occurrence<'q> {
     ty: &'q str,
+    /// The one that is asked first stands last, since one more comes before the others.
     tests: Vec<&'q Pred>,
+    /// The one that was given last stands last.
     names: Vec<&'q str>,
 }
 
 impl<'q> Model for Occurrence<'q> {
-    ghost use Rattle.std.specs.Prelude.{map};
+    ghost use Rattle.std.specs.Prelude.{map, reverse};
     ghost use Rattle.std.specs.Coded.{codes};
     ghost use Rattle.cel_terms.specs.contracts.Pred as pred;
     ghost use Rattle.query_leaves.specs.Expand.{Occurrence as Occurs};
@@ -30,14 +33,16 @@ impl<'q> Model for Occurrence<'q> {
 
     ghost coded = { Prim.hlevel (codes, pred.the_row.coded) };
 
-    ghost view = { λ o. record { type = o.ty.now; tests = map (λ p. p.now) o.tests.items; names = map (λ n. n.now) o.names.items } };
+    ghost view = { λ o. record {
+      type = o.ty.now;
+      tests = map (λ p. p.now) (reverse o.tests.items);
+      names = map (λ n. n.now) (reverse o.names.items);
+    } };
 }
 
 /// What is done to an occurrence.
 #[derive(Drop, Debug)]
 pub enum Change<'q> {
-    /// A copy of its own.
-    Nothing,
     /// It has one more name, where it has any.
     Named(&'q Name),
     /// It keeps those of its names that are listed.
@@ -67,9 +72,9 @@ impl<'q> Occurrence<'q> {
         self.ty
     }
 
-    /// What it asks of an event.
+    /// What it asks of an event, the first one last.
     pub fn tests(&self) -> &[&'q Pred]
-        ensures { map (λ p. p.now) result.now ≡ self.now.tests }
+        ensures { map (λ p. p.now) (reverse result.now) ≡ self.now.tests }
     {
         self.tests.as_slice()
     }
@@ -81,17 +86,57 @@ impl<'q> Occurrence<'q> {
         !self.names.is_empty()
     }
 
-    /// What the change makes of it.
-    pub fn changed(&self, alloc: Global, change: &Change<'q>) -> Result<Occurrence<'q>, Memory>
-        ensures { IfOk result (λ o. o ≡ change_leaf change.now self.now) }
+    /// A copy of its own.
+    pub fn copy(&self, alloc: Global) -> Result<Occurrence<'q>, Memory>
+        ensures { IfOk result (λ o. o ≡ self.now) }
     {
-        let names = changed_names(alloc, change, self.names.as_slice())?;
-        let tests = changed_tests(alloc, change, self.names.as_slice(), self.tests.as_slice())?;
         Ok(Occurrence {
             ty: self.ty,
-            tests,
-            names,
+            tests: Vec::from_slice(alloc, self.tests.as_slice())?,
+            names: Vec::from_slice(alloc, self.names.as_slice())?,
         })
+    }
+
+    /// What the change makes of it.
+    pub fn changed(self, change: &Change<'q>) -> Result<Occurrence<'q>, Memory>
+        ensures { IfOk result (λ o. o ≡ change_leaf change.now self.entry) }
+    {
+        let mut after = self;
+        match change {
+            Change::Named(name) => after.give(name.text.as_str())?,
+            Change::Keep(listed) => after.keep(*listed)?,
+            Change::Test(name, pred) => after.test(name.text.as_str(), *pred)?,
+        }
+        Ok(after)
+    }
+
+    /// Gives it one more name, where it has any.
+    fn give(&mut self, name: &'q str) -> Result<(), Memory>
+        ensures { OnOk result (self.new ≡ rename_leaf (with_name name.now) self.old) }
+    {
+        if !self.names.is_empty() {
+            self.names.push(name)?;
+        }
+        Ok(())
+    }
+
+    /// Keeps those of its names that are listed.
+    fn keep(&mut self, listed: &[Name]) -> Result<(), Memory>
+        ensures { OnOk result (self.new ≡ rename_leaf (only_names listed.now) self.old) }
+    {
+        let kept = only_names(*self.names.allocator(), listed, self.names.as_slice())?;
+        self.names = kept;
+        Ok(())
+    }
+
+    /// Asks one more of an event, where it has the name.
+    fn test(&mut self, name: &str, pred: &'q Pred) -> Result<(), Memory>
+        ensures { OnOk result (self.new ≡ test_leaf name.now pred.now self.old) }
+    {
+        if has_name(self.names.as_slice(), name) {
+            self.tests.push(pred)?;
+        }
+        Ok(())
     }
 }
 
@@ -123,21 +168,6 @@ fn some_has_text(listed: &[Name], name: &str) -> bool
     listed.iter().any(|n| n.text.as_str() == name)
 }
 
-/// The names with one more, where there is any.
-fn with_name<'q>(alloc: Global, name: &'q str, names: &[&'q str]) -> Result<Vec<&'q str>, Memory>
-    ensures { IfOk result (λ after. map (λ n. n.now) after.items ≡ with_name name.now (map (λ n. n.now) names.now)) }
-{
-    let mut after = Vec::new(alloc);
-    if names.is_empty() {
-        return Ok(after);
-    }
-    after.push(name)?;
-    for other in names {
-        after.push(*other)?;
-    }
-    Ok(after)
-}
-
 /// Those of the names that are listed.
 fn only_names<'q>(alloc: Global, listed: &[Name], names: &[&'q str]) -> Result<Vec<&'q str>, Memory>
     ensures { IfOk result (λ after. map (λ n. n.now) after.items ≡ only_names listed.now (map (λ n. n.now) names.now)) }
@@ -149,46 +179,4 @@ fn only_names<'q>(alloc: Global, listed: &[Name], names: &[&'q str]) -> Result<V
         }
     }
     Ok(after)
-}
-
-fn changed_names<'q>(
-    alloc: Global,
-    change: &Change<'q>,
-    names: &[&'q str],
-) -> Result<Vec<&'q str>, Memory>
-    ensures { IfOk result (λ after. map (λ n. n.now) after.items ≡ change_names change.now (map (λ n. n.now) names.now)) }
-{
-    match change {
-        Change::Named(name) => with_name(alloc, name.text.as_str(), names),
-        Change::Keep(listed) => only_names(alloc, *listed, names),
-        _ => Ok(Vec::from_slice(alloc, names)?),
-    }
-}
-
-/// The tests with one more before them.
-fn with_test<'q>(alloc: Global, pred: &'q Pred, tests: &[&'q Pred]) -> Result<Vec<&'q Pred>, Memory>
-    ensures { IfOk result (λ after. map (λ p. p.now) after.items ≡ pred.now ∷ map (λ p. p.now) tests.now) }
-{
-    let mut after = Vec::new(alloc);
-    after.push(pred)?;
-    for test in tests {
-        after.push(*test)?;
-    }
-    Ok(after)
-}
-
-fn changed_tests<'q>(
-    alloc: Global,
-    change: &Change<'q>,
-    names: &[&'q str],
-    tests: &[&'q Pred],
-) -> Result<Vec<&'q Pred>, Memory>
-    ensures { IfOk result (λ after. map (λ p. p.now) after.items ≡ change_tests change.now (map (λ n. n.now) names.now) (map (λ p. p.now) tests.now)) }
-{
-    match change {
-        Change::Test(name, pred) if has_name(names, name.text.as_str()) => {
-            with_test(alloc, *pred, tests)
-        }
-        _ => Ok(Vec::from_slice(alloc, tests)?),
-    }
 }

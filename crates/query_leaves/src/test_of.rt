@@ -1,6 +1,6 @@
 //! The tests of predicates, for the events of one type.
 
-ghost use Rattle.std.specs.Prelude.{◌≡◌, IfOk, map};
+ghost use Rattle.std.specs.Prelude.{◌≡◌, IfOk, map, reverse};
 ghost use Rattle.cel_terms.specs.declared.Pred.{Cmp};
 ghost use Rattle.query_leaves.specs.Tests.{IsTestOf, AreTestsOf};
 
@@ -64,18 +64,18 @@ fn test_of(alloc: Global, schema: &Schema, ty: TypeId, pred: &Pred) -> Result<Te
     }
 }
 
-/// The tests of the predicates that are referred to, in order.
+/// The tests of the predicates that are referred to, the last one's first.
 pub fn tests_of_all(
     alloc: Global,
     schema: &Schema,
     ty: TypeId,
     preds: &[&Pred],
 ) -> Result<Vec<Test>, Memory>
-    ensures { IfOk result (λ tests. AreTestsOf schema.now ty (map (λ p. p.now) preds.now) tests.items) }
+    ensures { IfOk result (λ tests. AreTestsOf schema.now ty (map (λ p. p.now) (reverse preds.now)) tests.items) }
 {
     let mut tests = Vec::new(alloc);
-    for pred in preds {
-        tests.push(test_of(alloc, schema, ty, *pred)?)?;
+    for k in (0..preds.len()).rev() {
+        tests.push(test_of(alloc, schema, ty, preds[k])?)?;
     }
     Ok(tests)
 }

@@ -84,7 +84,9 @@ fn lists_text<S: NodeStore, L: Ledger>(
     let mut text = String::new(alloc);
     for k in 0..lists.len() {
         let state = lists.state(k);
-        let mut cursor = Cursor::begin(alloc, store, 1, lists.list(k).as_slice(), 0, steps)?;
+        let mut entries = Vec::new(alloc);
+        lists.list(k).push_to(&mut entries)?;
+        let mut cursor = Cursor::begin(alloc, store, 1, entries.as_slice(), 0, steps)?;
         let members = write_all(alloc, &mut cursor, store, steps)?;
         let line = format!(in alloc; "{state}: {members}")?;
         text.push_str(&line)?;

@@ -54,7 +54,9 @@ fn write_list<L: Ledger>(
     requires roots { All (IsRoot store.now) list.now }
 {
     let starts = starts_of(alloc, list)?;
-    let mut cursor = Cursor::begin(alloc, store, 1, list.as_slice(), 0, steps)?;
+    let mut entries = Vec::new(alloc);
+    list.push_to(&mut entries)?;
+    let mut cursor = Cursor::begin(alloc, store, 1, entries.as_slice(), 0, steps)?;
     let members = write_all(alloc, &mut cursor, store, steps)?;
     let line = format!(in alloc; "{state} {starts:?}: {members}")?;
     text.push_str(&line)?;

@@ -240,3 +240,8 @@ pub returns-in_ok-ready-in-Some-2-clause-kept : goal.returns-in_ok-ready-in-Some
 returns-in_ok-ready-in-Some-2-clause-kept g c =
     let i = idle_part c.self.inside.schema c.self.inside.query c.self.inside.step c.self.inside.ready c.self.inside.matches c.self.inside.clock.last c.self.inside.here c.args.self.now c.self.view_is c.requires.idle in
     λ j. record { schema = i.schema_is j; query = i.query_is j; kept = (ap (λ h. part_of h c.self.inside.clock.last c.self.inside.here) c.in_ok-ready-in-Some-2.ensures.marks.0 ∙ i.kept_is) j; ready = None }
+
+pub returns-in_ok-ready-in-Some-known-clause-kept : goal.returns-in_ok-ready-in-Some-known-clause-kept
+returns-in_ok-ready-in-Some-known-clause-kept g c =
+    let i = idle_part c.self.inside.schema c.self.inside.query c.self.inside.step c.self.inside.ready c.self.inside.matches c.self.inside.clock.last c.self.inside.here c.args.self.now c.self.view_is c.requires.idle in
+    λ j. record { schema = i.schema_is j; query = i.query_is j; kept = (ap (λ h. part_of h c.self.inside.clock.last c.self.inside.here) c.in_ok-ready-in-Some-known.ensures.marks.0 ∙ i.kept_is) j; ready = None }

@@ -60,6 +60,9 @@ pub enum EventFault {
     /// The clock of the query of this number falls below that of its last event.
     #[error("time falls from {before} to {now} in query {query}")]
     TimeBack { query: u64, before: i128, now: i128 },
+    /// The event's clock is further below the greatest one that came than an event may be late.
+    #[error("time {now} comes too late after {high}")]
+    TooLate { high: i64, now: i64 },
 }
 
 /// Why there is no further line.

@@ -26,7 +26,7 @@ AreEventsOver schema queries before texts events line =
     AfterGood schema queries before (AreEventsAfter schema queries before texts events) (λ next. AreEventsAfter schema queries (before ++ next ∷ []) texts events) line
 
 -- the same stop in time
-one_time : (schema : Declared) (queries : List Query) (before : List Event) (next : Event) (number : ℕ) (stop halt : Stop) → StopsInTime schema queries before next number stop → StopsInTime schema queries before next number halt → stop ≡ halt
+pub one_time : (schema : Declared) (queries : List Query) (before : List Event) (next : Event) (number : ℕ) (stop halt : Stop) → StopsInTime schema queries before next number stop → StopsInTime schema queries before next number halt → stop ≡ halt
 one_time schema queries before next number stop halt one other =
     let same = one_first schema queries before next one.query other.query one.from other.from one.now other.now one.falls other.falls in
     let q = ap (λ k. runs.Event number (event.TimeBack k one.from one.now)) same.query_is in
@@ -34,7 +34,8 @@ one_time schema queries before next number stop halt one other =
     let n = ap (λ k. runs.Event number (event.TimeBack other.query other.from k)) same.now_is in
     one.stops ∙ q ∙ b ∙ n ∙ sym other.stops
 
-not_in_time : (schema : Declared) (queries : List Query) (before : List Event) (next : Event) (number : ℕ) (stop : Stop) → NoneFallsBack schema queries before next → StopsInTime schema queries before next number stop → ⊥
+-- none falls, or one does
+pub not_in_time : (schema : Declared) (queries : List Query) (before : List Event) (next : Event) (number : ℕ) (stop : Stop) → NoneFallsBack schema queries before next → StopsInTime schema queries before next number stop → ⊥
 not_in_time schema queries before next number stop none stops = not_both schema queries before next stops.query stops.from stops.now none stops.falls
 
 -- a run is one

@@ -39,7 +39,8 @@ pub first_given : (reader : LineReader) (bytes : List ℕ) (left : Option (List 
 first_given reader bytes None texts given = absurd given
 first_given reader bytes (Some left) texts given = first_read reader bytes left texts given
 
-numbered : (reader : LineReader) (bytes : List ℕ) (left : Option (List ℕ)) (texts : List (List ℕ)) → HasGiven reader bytes left texts → reader.number ≡ length texts
+-- the last line that was given has as its number how many were
+pub numbered : (reader : LineReader) (bytes : List ℕ) (left : Option (List ℕ)) (texts : List (List ℕ)) → HasGiven reader bytes left texts → reader.number ≡ length texts
 numbered reader bytes None texts given = absurd given
 numbered reader bytes (Some left) texts given = sym given.counted ∙ sym (unmarked_length given.lines) ∙ ap length given.texts_are
 

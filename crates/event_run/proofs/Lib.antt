@@ -1,8 +1,8 @@
 -- In reading order.
 -- whether a clock falls depends on what queries say
 mod Alike
--- the first clock to fall is one, and computed
-mod FirstFalls
+-- the first clock to fall is one, and computed; for callers
+pub mod FirstFalls
 -- a run is one, every file has one, and what was taken is where it begins; for callers
 pub mod ForCallers
 -- what a reader of lines has given, and the run; for callers

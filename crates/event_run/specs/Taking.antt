@@ -83,14 +83,14 @@ StopsHere schema queries text number events refusal =
     (event_of_line schema text ≡ Err refusal)
     ⊎ ((next : Event) × (event_of_line schema text ≡ Ok (Some next)) × StopsInTime schema queries events next number (stop.Event number refusal))
 
--- What became of one event that was given to an engine that stood for these events. Private clauses alone cite this and the next.
+-- What became of one event, of the line of this number, that was given to an engine that stood for these events.
 abbrev pub AfterEvent : Declared → List Query → ℕ → State → Event → List Event → {T : Type 0} → Result T (OrMemory EventFault) → Type 0
 AfterEvent schema queries number engine next events (Ok done) = StandsFor engine (events ++ next ∷ []) × NoneFallsBack schema queries events next
 AfterEvent schema queries number engine next events (Err (Fault refusal)) =
     StandsFor engine events × StopsInTime schema queries events next number (stop.Event number refusal)
 AfterEvent schema queries number engine next events (Err Memory) = StandsFor engine events
 
--- What became of one line: an event that was taken, none, or a stop.
+-- What became of one line: an event that was taken, none, or a stop. Private clauses alone cite it.
 abbrev pub AfterText : Declared → List Query → ℕ → State → List ℕ → List Event → Result Bool (OrMemory EventFault) → Type 0
 AfterText schema queries number engine text events (Ok true) =
     (next : Event) × (event_of_line schema text ≡ Ok (Some next)) × StandsFor engine (events ++ next ∷ []) × NoneFallsBack schema queries events next

@@ -3,7 +3,7 @@
 //! Promised: `take_event` gives an engine the next event of a file, or says exactly why there is
 //! none, as `specs/Runs` defines it: the end, the first line that is no event, the first event with
 //! which a query's clock falls, too many bytes, or a fault of the source. A run is one thing, and
-//! every file has one (`laws`).
+//! every file has one (`laws`). `give_event` gives it an event that was read before.
 //! It stands on `event_reader` for lines and events, and on `query_engine`.
 #![tactic(auto)]
 
@@ -13,7 +13,7 @@ mod taking;
 mod tests;
 
 use event_reader::EventFault;
-pub use taking::take_event;
+pub use taking::{fault_of, give_event, take_event};
 
 /// What a call has found.
 #[derive(Debug, Clone, Copy, PartialEq, Eq)]

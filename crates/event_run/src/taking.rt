@@ -1,6 +1,6 @@
 //! One more event of a file, given to an engine.
 
-ghost use Rattle.std.specs.Prelude.{◌≡◌, ◌+◌, ◌<◌, ◌≤◌, ℕ, List, [], ◌∷◌, ◌++◌, true, false, Some, OnOk, OnErr, IfOk};
+ghost use Rattle.std.specs.Prelude.{◌≡◌, ◌+◌, ◌^◌, ◌<◌, ◌≤◌, ℕ, List, [], ◌∷◌, ◌++◌, true, false, Some, OnOk, OnErr, IfOk};
 ghost use Rattle.stream_schema.specs.declared.Event.{Event};
 ghost use Rattle.stream_schema.specs.Events.{IsOfSchema};
 ghost use Rattle.query_engine.specs.Engine.{StandsFor, count_of, SameQueries, update_bounds};
@@ -72,7 +72,7 @@ pub fn take_event<Q: Source, L: Ledger>(
 }
 
 /// Why there is no further line.
-fn fault_of(fault: LineFault) -> RunFault
+pub fn fault_of(fault: LineFault) -> RunFault
     ensures { result ≡ run_fault fault }
 {
     match fault {
@@ -119,15 +119,19 @@ fn give_line<L: Ledger>(
     }
 }
 
-/// Gives the engine the event of the line of this number.
-fn give_event<L: Ledger>(
+/// Gives the engine the event, which is of its schema, as the next one; the line of this number gave
+/// it. After an error the engine is as it was.
+///
+/// - `TimeBack`: the clock of a query would fall.
+/// - Memory ran out.
+pub fn give_event<L: Ledger>(
     line: u64,
     event: &Event,
     engine: &mut Engine,
     steps: &mut Steps<L>,
 ) -> Result<(), OrMemory<EventFault>>
     requires of_schema { IsOfSchema engine.old.schema event.now }
-    requires counted { count_of engine.old + 1 ≤ line }
+    requires room { count_of engine.old + 1 < 2 ^ 64 }
     ensures took { (events : List Event) → StandsFor engine.old events
         → AfterEvent engine.old.schema engine.old.queries line engine.new event.now events result }
     ensures counted { OnOk result (count_of engine.new ≡ count_of engine.old + 1) }

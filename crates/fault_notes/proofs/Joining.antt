@@ -11,3 +11,6 @@ two s t u a b first second = second ∙ ap (λ w. w ++ b) first ∙ append_assoc
 pub six : (s t u v w x y a b c d e f : List ℕ) → t ≡ s ++ a → u ≡ t ++ b → v ≡ u ++ c → w ≡ v ++ d → x ≡ w ++ e → y ≡ x ++ f → y ≡ s ++ (a ++ b ++ c ++ d ++ e ++ f)
 six s t u v w x y a b c d e f one other third fourth fifth sixth =
     two s x y (a ++ b ++ c ++ d ++ e) f (two s w x (a ++ b ++ c ++ d) e (two s v w (a ++ b ++ c) d (two s u v (a ++ b) c (two s t u a b one other) third) fourth) fifth) sixth
+
+pub four : (s t u v w a b c d : List ℕ) → t ≡ s ++ a → u ≡ t ++ b → v ≡ u ++ c → w ≡ v ++ d → w ≡ s ++ (a ++ b ++ c ++ d)
+four s t u v w a b c d one other third fourth = two s v w (a ++ b ++ c) d (two s u v (a ++ b) c (two s t u a b one other) third) fourth

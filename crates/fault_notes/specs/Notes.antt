@@ -74,11 +74,16 @@ event_words (event.FieldCount want got) = decimal got ++ codes " fields where " 
 event_words (event.BadValue field kind) = codes "field " ++ decimal field ++ codes " is no " ++ declared_kind kind
 event_words (event.TimeBack query before now) =
     codes "time falls from " ++ signed_decimal before ++ codes " to " ++ signed_decimal now ++ codes " in query " ++ decimal query
+event_words (event.TooLate high now) = codes "time " ++ signed_decimal now ++ codes " comes too late after " ++ signed_decimal high
 
 -- core: queries 4:25: unexpected token
 abbrev pub query_note : QueryFault → Place → List ℕ
 query_note fault place =
     note (codes "queries " ++ decimal place.line ++ codes ":" ++ decimal place.col ++ codes ": " ++ query_words fault)
+
+-- core: queries 1:1: clock attribute t is not INT in every type
+abbrev pub clock_note : List ℕ → List ℕ
+clock_note name = note (codes "queries 1:1: clock attribute " ++ name ++ codes " is not INT in every type")
 
 -- core: events line 3: open quote
 abbrev pub event_note : ℕ → EventFault → List ℕ

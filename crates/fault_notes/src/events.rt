@@ -45,6 +45,17 @@ fn push_time_back(text: &mut Vec<u8>, query: u64, before: i128, now: i128) -> Re
     push_number(text, query)
 }
 
+/// The clock of the late event, and the greatest one before it.
+fn push_too_late(text: &mut Vec<u8>, high: i64, now: i64) -> Result<(), Memory>
+    ensures { OnOk result (text.new.items
+        ≡ text.old.items ++ event_words (EventFault.TooLate high now)) }
+{
+    push(text, b"time ")?;
+    push_number(text, now)?;
+    push(text, b" comes too late after ")?;
+    push_number(text, high)
+}
+
 /// The words of the fault.
 fn push_words(text: &mut Vec<u8>, fault: &EventFault) -> Result<(), Memory>
     ensures { OnOk result (text.new.items ≡ text.old.items ++ event_words fault.now) }
@@ -64,6 +75,7 @@ fn push_words(text: &mut Vec<u8>, fault: &EventFault) -> Result<(), Memory>
         EventFault::TimeBack { query, before, now } => {
             push_time_back(text, *query, *before, *now)
         }
+        EventFault::TooLate { high, now } => push_too_late(text, *high, *now),
     }
 }
 

@@ -12,7 +12,7 @@ mod words;
 
 pub use events::{event_note, too_long_note};
 pub use fixed::{memory_note, open_note, read_note, usage_note, write_note};
-pub use queries::query_note;
+pub use queries::{clock_note, query_note};
 
 /// A file that the program reads.
 #[derive(Debug, Clone, Copy, PartialEq, Eq)]

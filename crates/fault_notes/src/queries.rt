@@ -1,7 +1,7 @@
 //! The note on a query text that was refused.
 
 ghost use Rattle.std.specs.Prelude.{◌≡◌, ◌++◌, IfOk, OnOk};
-ghost use Rattle.fault_notes.specs.Notes.{literal_kind, query_note, query_words};
+ghost use Rattle.fault_notes.specs.Notes.{clock_note, literal_kind, query_note, query_words};
 
 use crate::words::{push, push_counted, push_hex, push_named, push_number};
 use ceql_grammar::QueryFault;
@@ -73,6 +73,17 @@ fn push_words(text: &mut Vec<u8>, fault: &QueryFault) -> Result<(), Memory>
         }
         QueryFault::BadCount => push(text, b"ANY takes 1 to 4294967295"),
     }
+}
+
+/// The note on the name of a clock that some declared type does not have as a whole number.
+pub fn clock_note(alloc: Global, name: &str) -> Result<Vec<u8>, Memory>
+    ensures { IfOk result (λ v. v.items ≡ clock_note name.now) }
+{
+    let mut text = Vec::new(alloc);
+    let before = b"core: queries 1:1: clock attribute ";
+    push_named(&mut text, before, name, b" is not INT in every type")?;
+    text.push(LINE_FEED)?;
+    Ok(text)
 }
 
 /// `core: queries L:C: ` and the words of the fault.

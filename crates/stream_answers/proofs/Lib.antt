@@ -5,8 +5,8 @@ pub mod Portions
 mod Putting
 -- a part of the answers over a whole file
 mod Wholes
--- a run from event to event
-mod Running
+-- a run from event to event; for callers
+pub mod Running
 -- how a run ends
 mod Ends
 -- the steps, from event to event and at the end

@@ -4,7 +4,8 @@
 //! after each, the answers of all queries there, as `specs/Streams` says: all of them up to the
 //! end or to the first fault, and where the sink fails or memory runs out a first part of them.
 //! In sorted order lines are gathered until they fill a piece or the source has to be asked; in walk
-//! order each line is written before the next answer is asked for.
+//! order each line is written before the next answer is asked for. `Output` gathers and writes the
+//! lines of whatever gives an engine its events.
 //! It stands on `event_run` for the events and on `answer_blocks` for the answers.
 #![tactic(auto)]
 
@@ -14,7 +15,8 @@ mod stream;
 mod tests;
 
 use event_reader::EventFault;
-pub use stream::write_answers;
+pub use output::Output;
+pub use stream::{finish, stream_fault, write_answers};
 
 /// Why the answers ended before the end of the source.
 #[derive(Drop, Debug, Clone, Copy, PartialEq, Eq)]

@@ -12,7 +12,7 @@ ghost use Rattle.answer_text.specs.Output.{AreBlocks};
 ghost use Rattle.answer_text.specs.Rows.{lines_of};
 ghost use Rattle.answer_blocks.specs.Counted.{HasRowsAt};
 ghost use Rattle.stream_answers.specs.Counting.{StepsPut};
-ghost use Rattle.stream_answers.specs.Gathering.{Passed};
+ghost use Rattle.stream_answers.specs.Gathering.{PassesOn, Passed};
 
 use answer_blocks::{push_blocks, write_blocks};
 use answer_text::Order;
@@ -121,6 +121,60 @@ impl Output {
             return false;
         }
         lines.has_line()
+    }
+
+    /// The answers of all queries at the engine's last position, where no line need be written yet
+    /// because the reader is not asked for its next line before `settle`. In walk order each line is
+    /// written before the next answer is pulled. In sorted order lines wait until they fill a piece.
+    pub fn add<K: Sink, L: Ledger>(
+        &mut self,
+        engine: &Engine,
+        out: &mut K,
+        steps: &mut Steps<L>,
+    ) -> Result<(), OrMemory<WriteFault>>
+        requires seen { 0 < count_of engine.now }
+        ensures order { self.new.order ≡ self.old.order }
+        ensures passed { (events : List Event) → StandsFor engine.now events → (bytes : List ℕ)
+            × AreBlocks self.old.order engine.now.schema 1 engine.now.queries events
+            (length events - 1) bytes
+            × Passed (K.taken out.old) (K.taken out.new) self.old.held bytes self.new.held result }
+        ensures cause { HasCauseOrMemory (K.faults out.old) (K.faults out.new) result }
+    {
+        match self.order {
+            Order::Walk => {
+                let line = &mut self.line;
+                write_blocks(engine, out, line, steps)
+            }
+            Order::Sorted => {
+                match push_blocks(self.alloc, engine, &mut self.held, steps) {
+                    Ok(()) => {}
+                    Err(Memory) => return Err(OrMemory::Memory),
+                }
+                if self.held.len() < PIECE {
+                    return Ok(());
+                }
+                match self.flush(out) {
+                    Ok(()) => Ok(()),
+                    Err(WriteFault) => Err(OrMemory::Fault(WriteFault)),
+                }
+            }
+        }
+    }
+
+    /// Writes what is held, unless it may wait: then the reader has its next line at hand, so none
+    /// waits while the source is asked.
+    pub fn settle<K: Sink>(&mut self, lines: &mut Lines, out: &mut K) -> Result<(), WriteFault>
+        ensures lines { lines.new ≡ lines.old }
+        ensures waits { OnOk result ((self.new.held ≡ []) ⊎ (has_line_feed lines.old.pending ≡ true)) }
+        ensures order { self.new.order ≡ self.old.order }
+        ensures kept { OnOk result (PassesOn (K.taken out.old) (K.taken out.new) self.old.held [] self.new.held []) }
+        ensures part { OnErr result (TookPart (K.taken out.old) (K.taken out.new) self.old.held) }
+        ensures cause { HasCause (K.faults out.old) (K.faults out.new) result }
+    {
+        if self.may_wait(lines) {
+            return Ok(());
+        }
+        self.flush(out)
     }
 
     /// Writes what is held.

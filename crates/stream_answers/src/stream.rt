@@ -123,7 +123,7 @@ fn answer_events<Q: Source, K: Sink, L: Ledger>(
 }
 
 /// Why no further event was taken.
-fn stream_fault(stop: OrMemory<RunFault>) -> OrMemory<StreamFault>
+pub fn stream_fault(stop: OrMemory<RunFault>) -> OrMemory<StreamFault>
     ensures { result ≡ stream_fault stop }
 {
     match stop {
@@ -139,7 +139,7 @@ fn stream_fault(stop: OrMemory<RunFault>) -> OrMemory<StreamFault>
 }
 
 /// Writes what is held, and then gives the answer that was to come.
-fn finish<K: Sink>(
+pub fn finish<K: Sink>(
     output: &mut Output,
     out: &mut K,
     end: Result<(), OrMemory<StreamFault>>,

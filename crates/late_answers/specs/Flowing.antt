@@ -1,0 +1,186 @@
+-- How a late feed stands between its lines. Private clauses alone cite this file.
+use Rattle.std.specs.Prelude.{◌≡◌, ℕ, ◌+◌, ◌<◌, ◌≤◌, Bool, true, false, List, [], ◌∷◌, ◌++◌, length, Option, Some, None, Result, Ok, Err}
+use Rattle.std.specs.List.{AllByRecursion}
+use Rattle.cer_base.specs.declared.OrMemory.{OrMemory}
+use Rattle.cer_base.specs.declared.OrMemory.TheVariants.{Fault, Memory}
+use Rattle.cer_outside.specs.Bytes.{TookAll, TookPart}
+use Rattle.stream_schema.specs.Types.{Declared}
+use Rattle.stream_schema.specs.Events.{IsOfSchema}
+use Rattle.stream_schema.specs.declared.Event.{Event as StreamEvent}
+use Rattle.answer_text.specs.Output.{IsOutput}
+use Rattle.event_reader.specs.declared.EventFault.{EventFault}
+use Rattle.event_reader.specs.declared.LineFault.{LineFault}
+use Rattle.event_reader.specs.Reading.{LineReader, HasGiven, whole_lines}
+use Rattle.query_engine.specs.Engine.{State, StandsFor}
+use Rattle.event_run.specs.Runs.{Stop}
+use Rattle.event_run.specs.Runs as stop
+use Rattle.reorder_gate.specs.Gates as gates
+use Rattle.reorder_gate.specs.Gates.{Held, clock_at, all_due}
+use Rattle.reorder_gate.specs.Releasing.{released, BeginsWith}
+use Rattle.stream_answers.specs.declared.StreamFault.{StreamFault}
+use Rattle.stream_answers.specs.declared.StreamFault.TheVariants as fault
+use Rattle.stream_answers.specs.Gathering.{Gathered}
+use Rattle.late_answers.specs.Late.{Numbered, Feed, when, fed_from, fed, let_go, TakesOn, RunsLate, AreFed}
+use Rattle.late_answers.specs.Written.{AreReleasedRead, WroteLatePart}
+
+-- The gate has the feed's clock and bound.
+pub record Sits (a : Feed) (g : Held) : Type 0 where
+  pub clock : clock_at g.places ≡ when a
+  pub late : g.late ≡ a.late
+
+-- Events of the schema are held.
+abbrev pub AreOfSchema : Declared → Held → Type 0
+AreOfSchema schema g = AllByRecursion (λ e. IsOfSchema schema e.1) g.events
+
+-- The reader has given lines of a file of these bytes, all of them good, and these are their events; its source has the bytes left.
+pub record HasFed (a : Feed) (reader : LineReader) (bytes : List ℕ) (left : Option (List ℕ)) (put : List Numbered) : Type 0 where
+  pub texts : List (List ℕ)
+  pub given : HasGiven reader bytes left texts
+  pub good : AreFed a texts put
+
+-- the same of a source, where it tells its bytes
+abbrev pub HasFedOf : Feed → Option (List ℕ) → LineReader → Option (List ℕ) → List Numbered → Type 0
+HasFedOf a source reader left put = (bytes : List ℕ) → source ≡ Some bytes → HasFed a reader bytes left put
+
+-- The same of a source that failed, and tells what it has left: these are the events of all lines that end among the bytes before.
+pub record AreFedBefore (a : Feed) (bytes rest : List ℕ) (put : List Numbered) : Type 0 where
+  pub read : List ℕ
+  pub whole : bytes ≡ read ++ rest
+  pub good : AreFed a (whole_lines read) put
+
+abbrev pub AreFedRead : Feed → Option (List ℕ) → List ℕ → List Numbered → Type 0
+AreFedRead a None bytes put = ⊥
+AreFedRead a (Some rest) bytes put = AreFedBefore a bytes rest put
+
+-- the file of the source, where it tells it, feeds these events and then stops so
+abbrev pub Feeds : Feed → Option (List ℕ) → List Numbered → Stop → Type 0
+Feeds a source put halt = (bytes : List ℕ) → source ≡ Some bytes → fed a bytes ≡ record { put = put; stop = halt }
+
+-- What is known after one line was read and put into a gate of which these events have gone: one event more was put, or none.
+abbrev pub AfterPut : Feed → Option (List ℕ) → LineReader → Option (List ℕ) → Held → List Numbered → List Numbered → Result Bool (OrMemory StreamFault) → Type 0
+AfterPut a source reader left g put gone (Ok true) = (now : List Numbered) × gates.StandsFor g now gone × HasFedOf a source reader left now
+AfterPut a source reader left g put gone (Ok false) = Feeds a source put stop.End
+AfterPut a source reader left g put gone (Err (Fault (fault.Event line refusal))) = Feeds a source put (stop.Event line refusal)
+AfterPut a source reader left g put gone (Err (Fault (fault.InputTooLong taken))) = Feeds a source put (stop.InputTooLong taken)
+AfterPut a source reader left g put gone (Err (Fault fault.ReadFault)) = (bytes : List ℕ) → source ≡ Some bytes → AreFedRead a left bytes put
+AfterPut a source reader left g put gone (Err (Fault fault.WriteFault)) = ⊥
+AfterPut a source reader left g put gone (Err Memory) = Unit {0}
+
+-- the same of the text of one line: it feeds one event more or none, or it stops the feed, whatever follows
+abbrev pub AfterText : Feed → ℕ → List ℕ → Held → List Numbered → List Numbered → {T : Type 0} → Result T (OrMemory EventFault) → Type 0
+AfterText a number text g put gone (Ok done) =
+    (now : List Numbered) × gates.StandsFor g now gone × (fed_from a number put (text ∷ []) None ≡ record { put = now; stop = stop.End })
+AfterText a number text g put gone (Err (Fault refusal)) =
+    (later : List (List ℕ)) (why : Option LineFault) → fed_from a number put (text ∷ later) why ≡ record { put = put; stop = stop.Event number refusal }
+AfterText a number text g put gone (Err Memory) = Unit {0}
+
+-- a line took room of the reader, which is still open, and one event more is held at most
+abbrev pub TakesRoom : LineReader → LineReader → Held → Held → {F : Type 0} → Result Bool F → Type 0
+TakesRoom old new before now (Ok true) =
+    (new.room < old.room) × (new.closed ≡ false) × (new.number ≡ old.number + 1) × (length now.events ≤ length before.events + 1)
+TakesRoom old new before now (Ok false) = (now ≡ before) × (new.number ≡ old.number)
+TakesRoom old new before now (Err why) = Unit {0}
+
+-- Whatever a gate has let go after these events were put is what it lets go first of the whole file.
+pub record GoFirst (a : Feed) (source : Option (List ℕ)) (put : List Numbered) (finished : Bool) : Type 0 where
+  pub first : (bytes : List ℕ) → source ≡ Some bytes → (g : Held) (gone : List Numbered) → Sits a g → g.is_finished ≡ finished → gates.StandsFor g put gone →
+      BeginsWith gone (let_go a (fed a bytes).put (fed a bytes).stop)
+
+-- The queries took the events that have gone, with none of which a clock falls; their answers are written or held.
+pub record Flowing (a : Feed) (source : Option (List ℕ)) (put : List Numbered) (g : Held) (o : Gathered) (engine : State) (before after : Option (List ℕ)) : Type 0 where
+  pub order : o.order ≡ a.order
+  pub schema : engine.schema ≡ a.schema
+  pub queries : engine.queries ≡ a.queries
+  pub sits : Sits a g
+  pub go_first : GoFirst a source put g.is_finished
+  pub gone : List Numbered
+  pub gate_stands : gates.StandsFor g put gone
+  pub events : List StreamEvent
+  pub taken : TakesOn a.schema a.queries [] gone stop.End events stop.End
+  pub stands : StandsFor engine events
+  pub written : List ℕ
+  pub took : TookAll before after written
+  pub output : IsOutput a.order a.schema a.queries events (written ++ o.held)
+
+-- The same, where the event has gone that the engine is to take next.
+pub record Owing (a : Feed) (source : Option (List ℕ)) (put : List Numbered) (g : Held) (e : Numbered) (o : Gathered) (engine : State) (before after : Option (List ℕ)) : Type 0 where
+  pub order : o.order ≡ a.order
+  pub schema : engine.schema ≡ a.schema
+  pub queries : engine.queries ≡ a.queries
+  pub sits : Sits a g
+  pub go_first : GoFirst a source put g.is_finished
+  pub gone : List Numbered
+  pub gate_stands : gates.StandsFor g put (gone ++ e ∷ [])
+  pub events : List StreamEvent
+  pub taken : TakesOn a.schema a.queries [] gone stop.End events stop.End
+  pub stands : StandsFor engine events
+  pub written : List ℕ
+  pub took : TookAll before after written
+  pub output : IsOutput a.order a.schema a.queries events (written ++ o.held)
+
+-- The run over the file begins with these events.
+pub record BeginsLate (a : Feed) (bytes : List ℕ) (events : List StreamEvent) : Type 0 where
+  pub more : List StreamEvent
+  pub halt : Stop
+  pub runs : RunsLate a bytes (events ++ more) halt
+
+-- Of the answers over some events the first were written, what is held follows, and then the rest; what the source was tells of these events.
+pub record Unwritten (a : Feed) (source before after : Option (List ℕ)) (held rest : List ℕ) (Are : List ℕ → List StreamEvent → Type 0) : Type 0 where
+  pub events : List StreamEvent
+  pub written : List ℕ
+  pub took : TookAll before after written
+  pub output : IsOutput a.order a.schema a.queries events (written ++ (held ++ rest))
+  pub begins : (bytes : List ℕ) → source ≡ Some bytes → BeginsLate a bytes events
+  pub are : (bytes : List ℕ) → source ≡ Some bytes → Are bytes events
+
+-- The lines so far are put, and all that may go has gone.
+pub record Running (a : Feed) (source : Option (List ℕ)) (reader : LineReader) (left : Option (List ℕ)) (g : Held) (o : Gathered) (engine : State) (before after : Option (List ℕ)) : Type 0 where
+  pub put : List Numbered
+  pub flowing : Flowing a source put g o engine before after
+  pub due : flowing.gone ≡ released (when a) a.late put
+  pub fed : HasFedOf a source reader left put
+  pub most_bytes : reader.budget ≡ a.most_bytes
+
+-- An engine and a gate to which nothing was given, and a reader at the beginning of its file.
+pub record IsFresh (a : Feed) (reader : LineReader) (g : Held) (o : Gathered) (engine : State) : Type 0 where
+  pub order : o.order ≡ a.order
+  pub schema : engine.schema ≡ a.schema
+  pub queries : engine.queries ≡ a.queries
+  pub most_bytes : reader.budget ≡ a.most_bytes
+  pub sits : Sits a g
+  pub going : g.is_finished ≡ false
+  pub gate_stands : gates.StandsFor g [] []
+  pub held : g.events ≡ []
+  pub stands : StandsFor engine []
+  pub none_waits : o.held ≡ []
+  pub given : (bytes : List ℕ) → HasGiven reader bytes (Some bytes) []
+
+-- how a feed ends, before what is held is written
+abbrev pub Ended : Feed → Option (List ℕ) → Option (List ℕ) → Option (List ℕ) → Option (List ℕ) → List ℕ → {T : Type 0} → Result T (OrMemory StreamFault) → Type 0
+Ended a source left before after held (Ok done) = Unwritten a source before after held [] (λ bytes events. RunsLate a bytes events stop.End)
+Ended a source left before after held (Err (Fault (fault.Event line refusal))) =
+    Unwritten a source before after held [] (λ bytes events. RunsLate a bytes events (stop.Event line refusal))
+Ended a source left before after held (Err (Fault (fault.InputTooLong taken))) =
+    Unwritten a source before after held [] (λ bytes events. RunsLate a bytes events (stop.InputTooLong taken))
+Ended a source left before after held (Err (Fault fault.ReadFault)) = Unwritten a source before after held [] (AreReleasedRead a left)
+Ended a source left before after held (Err (Fault fault.WriteFault)) = WroteLatePart a source (TookPart before after)
+Ended a source left before after held (Err Memory) = (rest : List ℕ) × Unwritten a source before after held rest (λ bytes events. Unit {0})
+
+-- a write failed
+abbrev pub is_write_fault : {T : Type 0} → Result T (OrMemory StreamFault) → Bool
+is_write_fault (Err (Fault fault.WriteFault)) = true
+is_write_fault (Err (Fault fault.ReadFault)) = false
+is_write_fault (Err (Fault (fault.Event line refusal))) = false
+is_write_fault (Err (Fault (fault.InputTooLong taken))) = false
+is_write_fault (Err Memory) = false
+is_write_fault (Ok done) = false
+
+-- what became of the event that was next: the engine took it, or the feed ends
+abbrev pub AfterAnswer : Feed → Option (List ℕ) → List Numbered → Held → Gathered → State → Option (List ℕ) → Option (List ℕ) → {T : Type 0} → Result T (OrMemory StreamFault) → Type 0
+AfterAnswer a source put g o engine before after (Ok done) = Flowing a source put g o engine before after
+AfterAnswer a source put g o engine before after (Err why) = (left : Option (List ℕ)) → Ended a source left before after o.held {T = Unit {0}} (Err why)
+
+-- what became of the events that the gate could let go: all have gone, or the feed ends
+abbrev pub AfterRelease : Feed → Option (List ℕ) → List Numbered → Held → Gathered → State → Option (List ℕ) → Option (List ℕ) → {T : Type 0} → Result T (OrMemory StreamFault) → Type 0
+AfterRelease a source put g o engine before after (Ok done) = (f : Flowing a source put g o engine before after) × (f.gone ≡ all_due g put)
+AfterRelease a source put g o engine before after (Err why) = (left : Option (List ℕ)) → Ended a source left before after o.held {T = Unit {0}} (Err why)

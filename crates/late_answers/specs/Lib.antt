@@ -1,0 +1,4 @@
+pub mod Late
+pub mod Written
+pub mod Laws
+pub mod Flowing

@@ -1,0 +1,59 @@
+-- What has been written of the answers over late events, by how it ended.
+use Rattle.std.specs.Prelude.{◌≡◌, ℕ, List, [], ◌++◌, Option, Some, None, Result, Ok, Err}
+use Rattle.cer_base.specs.declared.OrMemory.{OrMemory}
+use Rattle.cer_base.specs.declared.OrMemory.TheVariants.{Fault, Memory}
+use Rattle.cer_outside.specs.Bytes.{TookPart}
+use Rattle.stream_schema.specs.declared.Event.{Event as StreamEvent}
+use Rattle.answer_text.specs.Output.{IsOutput}
+use Rattle.answer_blocks.specs.Taken.{TookPrefix}
+use Rattle.event_reader.specs.Reading.{whole_lines}
+use Rattle.event_run.specs.Runs.{Stop}
+use Rattle.event_run.specs.Runs as stop
+use Rattle.reorder_gate.specs.Releasing.{released}
+use Rattle.stream_answers.specs.declared.StreamFault.{StreamFault}
+use Rattle.stream_answers.specs.declared.StreamFault.TheVariants as fault
+use Rattle.stream_answers.specs.Streams.{Asked, WroteOver}
+use Rattle.late_answers.specs.Late.{Numbered, Feed, when, TakesOn, RunsLate, AreFed}
+
+-- what is asked of the answers, but for the clock
+abbrev pub asked : Feed → Asked
+asked a = record { order = a.order; schema = a.schema; queries = a.queries; most_bytes = a.most_bytes }
+
+-- The bytes are the answers over the events that the queries take of a file of these bytes.
+pub record AreLateAnswers (a : Feed) (lines bytes : List ℕ) : Type 0 where
+  pub events : List StreamEvent
+  pub halt : Stop
+  pub runs : RunsLate a lines events halt
+  pub output : IsOutput a.order a.schema a.queries events bytes
+
+-- All lines that end among the bytes that are no longer left are good; these are the events of them before which none can come that is not too late, in their order, and with none of them a clock falls.
+pub record AreReleasedBefore (a : Feed) (bytes rest : List ℕ) (events : List StreamEvent) : Type 0 where
+  pub read : List ℕ
+  pub whole : bytes ≡ read ++ rest
+  pub put : List Numbered
+  pub good : AreFed a (whole_lines read) put
+  pub taken : TakesOn a.schema a.queries [] (released (when a) a.late put) stop.End events stop.End
+
+-- the same of a source that tells what it has left
+abbrev pub AreReleasedRead : Feed → Option (List ℕ) → List ℕ → List StreamEvent → Type 0
+AreReleasedRead a None bytes events = ⊥
+AreReleasedRead a (Some rest) bytes events = AreReleasedBefore a bytes rest events
+
+-- the sink took the answers over all events that the queries take, which stop so
+abbrev pub WroteLateAll : Feed → Option (List ℕ) → Stop → Option (List ℕ) → Option (List ℕ) → Type 0
+WroteLateAll a source halt before after = WroteOver (asked a) source (λ lines events. RunsLate a lines events halt) before after
+
+-- The sink took a part of bytes, and where the source told its own, these are the answers over its events.
+pub record WroteLatePart (a : Feed) (source : Option (List ℕ)) (Took : List ℕ → Type 0) : Type 0 where
+  pub bytes : List ℕ
+  pub took : Took bytes
+  pub are : (lines : List ℕ) → source ≡ Some lines → AreLateAnswers a lines bytes
+
+-- all answers up to the stop; those over what the lines that were read released; a proper part after a fault of the sink; a first part where memory ran out
+abbrev pub WroteLate : Feed → Option (List ℕ) → Option (List ℕ) → Option (List ℕ) → Option (List ℕ) → {T : Type 0} → Result T (OrMemory StreamFault) → Type 0
+WroteLate a source left before after (Ok done) = WroteLateAll a source stop.End before after
+WroteLate a source left before after (Err (Fault (fault.Event line refusal))) = WroteLateAll a source (stop.Event line refusal) before after
+WroteLate a source left before after (Err (Fault (fault.InputTooLong taken))) = WroteLateAll a source (stop.InputTooLong taken) before after
+WroteLate a source left before after (Err (Fault fault.ReadFault)) = WroteOver (asked a) source (AreReleasedRead a left) before after
+WroteLate a source left before after (Err (Fault fault.WriteFault)) = WroteLatePart a source (TookPart before after)
+WroteLate a source left before after (Err Memory) = WroteLatePart a source (TookPrefix before after)

@@ -1,0 +1,175 @@
+//! The loop over the lines of a source whose events come late.
+
+ghost use Rattle.std.specs.Prelude.{◌≡◌, ◌+◌, ◌≤◌, ℕ, List, Option, [], false, true, length};
+ghost use Rattle.stream_schema.specs.declared.Event.{Event};
+ghost use Rattle.query_engine.specs.Engine.{StandsFor, count_of};
+ghost use Rattle.event_run.specs.Runs.{End};
+ghost use Rattle.reorder_gate.specs.Clocks.{clock_fits};
+ghost use Rattle.stream_answers.specs.Streams.{HasReadCause, HasWriteCause};
+ghost use Rattle.late_answers.specs.Late.{Feed};
+ghost use Rattle.late_answers.specs.Written.{WroteLate};
+ghost use Rattle.late_answers.specs.Flowing.{AreOfSchema, Ended, Feeds, Flowing, IsFresh, is_write_fault};
+
+use crate::feeding::put_line;
+use crate::releasing::release;
+use answer_text::Order;
+use cer_base::steps::Steps;
+use cer_base::{Memory, OrMemory};
+use cer_outside::{Sink, Source, WriteFault};
+use event_reader::Lines;
+use query_engine::Engine;
+use reorder_gate::Gate;
+use std::alloc::Global;
+use std::sync::ledger::Ledger;
+use stream_answers::{Output, StreamFault, finish};
+
+/// Gives the engine, which is new, the events of the source by their clocks, ties in the order of
+/// their lines, and writes the answers at each. The clock is the attribute of this name, which every
+/// declared type has as a whole number. An event may come late by `late`: each waits until its clock
+/// is at most the greatest one that came less `late`, or until the source ends. Of the source
+/// `most_bytes` bytes are too many.
+///
+/// After each line the events that need not wait are taken, and only the end of the source lets all
+/// of them go. The first of these faults ends it, after the answers that come before were written;
+/// where writing fails, that is the answer.
+///
+/// - `Event`: a line is refused; its event comes too late; or with an event that goes the clock of a
+///   query falls, and then the line is the event's own.
+/// - `InputTooLong`, `ReadFault`.
+/// - Memory ran out.
+pub fn write_late<Q: Source, K: Sink, L: Ledger>(
+    alloc: Global,
+    order: Order,
+    clock: &str,
+    late: u64,
+    most_bytes: u64,
+    engine: &mut Engine,
+    source: &mut Q,
+    out: &mut K,
+    steps: &mut Steps<L>,
+) -> Result<(), OrMemory<StreamFault>>
+    requires fits { clock_fits engine.old.schema clock.now ≡ true }
+    requires fresh { StandsFor engine.old [] }
+    requires none { count_of engine.old ≡ 0 }
+    ensures wrote { WroteLate (record {
+      order = order;
+      schema = engine.old.schema;
+      queries = engine.old.queries;
+      clock = clock.now;
+      late = late;
+      most_bytes = most_bytes;
+    })
+        (Q.left source.old) (Q.left source.new) (K.taken out.old) (K.taken out.new) result }
+    ensures read_cause { HasReadCause (Q.faults source.old) (Q.faults source.new) result }
+    ensures write_cause { HasWriteCause (K.faults out.old) (K.faults out.new) result }
+{
+    let mut lines = match Lines::new(alloc, most_bytes) {
+        Ok(lines) => lines,
+        Err(Memory) => return Err(OrMemory::Memory),
+    };
+    let mut gate = match Gate::new(alloc, engine.schema(), clock, late) {
+        Ok(gate) => gate,
+        Err(Memory) => return Err(OrMemory::Memory),
+    };
+    let mut output = Output::new(alloc, order);
+    answer_lines(
+        alloc,
+        &mut lines,
+        &mut gate,
+        &mut output,
+        engine,
+        source,
+        out,
+        steps,
+    )
+}
+
+/// Puts the events of all further lines, and gives the engine those that the gate lets go.
+fn answer_lines<Q: Source, K: Sink, L: Ledger>(
+    alloc: Global,
+    lines: &mut Lines,
+    gate: &mut Gate,
+    output: &mut Output,
+    engine: &mut Engine,
+    source: &mut Q,
+    out: &mut K,
+    steps: &mut Steps<L>,
+) -> Result<(), OrMemory<StreamFault>>
+    requires open { lines.old.closed ≡ false }
+    requires going { gate.old.is_finished ≡ false }
+    requires held { gate.old.events ≡ [] }
+    requires none { count_of engine.old ≡ 0 }
+    ensures wrote { (a : Feed) → IsFresh a lines.old gate.old output.old engine.old
+        → WroteLate a (Q.left source.old) (Q.left source.new) (K.taken out.old) (K.taken out.new)
+        result }
+    ensures read_cause { HasReadCause (Q.faults source.old) (Q.faults source.new) result }
+    ensures write_cause { HasWriteCause (K.faults out.old) (K.faults out.new) result }
+{
+    loop {
+        match put_line(alloc, lines, gate, engine.schema(), source) {
+            Ok(true) => {}
+            Ok(false) => return answer_rest(lines.number(), gate, output, engine, out, steps),
+            Err(stop) => return close(output, out, Err(stop)),
+        }
+        match release(lines.number(), gate, output, engine, out, steps) {
+            Ok(()) => {}
+            Err(fault) => return close(output, out, Err(fault)),
+        }
+        match output.settle(lines, out) {
+            Ok(()) => {}
+            Err(WriteFault) => return Err(OrMemory::Fault(StreamFault::WriteFault)),
+        }
+    }
+}
+
+/// Gives the engine all events that are held, at the end of the source.
+fn answer_rest<K: Sink, L: Ledger>(
+    read: u64,
+    gate: &mut Gate,
+    output: &mut Output,
+    engine: &mut Engine,
+    out: &mut K,
+    steps: &mut Steps<L>,
+) -> Result<(), OrMemory<StreamFault>>
+    requires counted { count_of engine.old + length gate.old.events ≤ read }
+    requires of_schema { AreOfSchema engine.old.schema gate.old }
+    ensures wrote { (a : Feed) (told left before : Option (List ℕ)) (put : List (ℕ × Event))
+        → Flowing a told put gate.old output.old engine.old before (K.taken out.old)
+        → Feeds a told put End → WroteLate a told left before (K.taken out.new) result }
+    ensures read_cause { (now : ℕ) → HasReadCause now now result }
+    ensures write_cause { HasWriteCause (K.faults out.old) (K.faults out.new) result }
+{
+    gate.finish();
+    let end = release(read, gate, output, engine, out, steps);
+    close(output, out, end)
+}
+
+/// Writes what is held, unless a write failed before, and then gives the answer that was to come.
+fn close<K: Sink>(
+    output: &mut Output,
+    out: &mut K,
+    end: Result<(), OrMemory<StreamFault>>,
+) -> Result<(), OrMemory<StreamFault>>
+    ensures closed { (a : Feed) (source left before : Option (List ℕ))
+        → Ended a source left before (K.taken out.old) output.old.held end
+        → WroteLate a source left before (K.taken out.new) result }
+    ensures read_cause { (before now : ℕ) → HasReadCause before now end
+        → HasReadCause before now result }
+    ensures write_cause { (before : ℕ) → HasWriteCause before (K.faults out.old) end
+        → HasWriteCause before (K.faults out.new) result }
+{
+    if is_write_fault(&end) {
+        return end;
+    }
+    finish(output, out, end)
+}
+
+/// Whether a write failed.
+fn is_write_fault(end: &Result<(), OrMemory<StreamFault>>) -> bool
+    ensures { result ≡ is_write_fault end.now }
+{
+    match end {
+        Err(OrMemory::Fault(StreamFault::WriteFault)) => true,
+        _ => false,
+    }
+}

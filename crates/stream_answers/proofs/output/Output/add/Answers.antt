@@ -1,0 +1,10 @@
+use Rattle.stream_answers.proofs.Putting.{walk_put, kept_put}
+use Rattle.stream_answers.proofs.output.Output.add.Goals as goal
+
+pub returns-in-Err-clause-passed : goal.returns-in-Err-clause-passed
+returns-in-Err-clause-passed g c = λ events stands.
+    kept_put _ _ events _ c.self.inside.order c.self.inside.held.items _ _ _ c.self.view_is c.in-Err.ensures.kept
+
+pub returns-in-Walk-clause-passed : goal.returns-in-Walk-clause-passed
+returns-in-Walk-clause-passed g c = λ events stands.
+    walk_put _ _ events _ c.self.inside.order c.self.inside.held.items _ _ _ c.write_blocks.result c.self.view_is c.in-Walk.is c.self.invariant (c.write_blocks.ensures.took events stands)

@@ -4,9 +4,9 @@ use Rattle.answer_text.specs.declared.Order.{Order}
 use Rattle.answer_text.specs.declared.Order.TheVariants.{Sorted}
 use Rattle.command_words.specs.declared.Command.{Command}
 use Rattle.command_words.specs.declared.Command.TheVariants.{Run, Sample}
-use Rattle.command_words.specs.CommandLine.{AsksFor}
+use Rattle.command_words.specs.CommandLine.{AsksFor, AskNothing}
 use Rattle.command_words.proofs.ForCallers.{one_command}
-use Rattle.core_top.specs.Command.{RunWords, IsRun, IsSample}
+use Rattle.core_top.specs.Command.{RunWords, Job, running, AsksJob, IsRun, IsSample}
 
 -- the run that a command is, or any other
 abbrev run_of : Command → RunWords
@@ -23,10 +23,21 @@ one_sample words s c t d one other =
     let same = one_command words (Sample s c) (Sample t d) one other in
     (cc, cc)
 
-pub no_run_and_sample : (words : List (List ℕ)) (r : RunWords) (seed count : ℕ) → IsRun words r → IsSample words seed count → ⊥
+-- and so is the job
+pub one_job : (words : List (List ℕ)) (job other : Job) → AsksJob words job → AsksJob words other → job ≡ other
+one_job words (running r) (running s) one other = ap running (one_run words r s one other)
+
+no_run_and_sample : (words : List (List ℕ)) (r : RunWords) (seed count : ℕ) → IsRun words r → IsSample words seed count → ⊥
 no_run_and_sample words r seed count one other =
     let same = one_command words (Run r.queries r.events r.order r.most_bytes) (Sample seed count) one other in
     cc
+
+pub no_job_and_sample : (words : List (List ℕ)) (job : Job) (seed count : ℕ) → AsksJob words job → IsSample words seed count → ⊥
+no_job_and_sample words (running r) seed count one other = no_run_and_sample words r seed count one other
+
+-- words that ask for a job ask for something
+pub asks_something : (words : List (List ℕ)) (job : Job) → AskNothing words → AsksJob words job → ⊥
+asks_something words (running r) ask asked = ask _ asked
 
 -- the run that was read, where its names are lent
 pub run_asked : (words : List (List ℕ)) (q e x y : List ℕ) (order : Order) (most_bytes : ℕ) → x ≡ q → y ≡ e → AsksFor words (Run q e order most_bytes) →

@@ -11,6 +11,7 @@ use Rattle.answer_text.specs.declared.Order.{Order}
 use Rattle.answer_text.specs.Output.{IsOutput}
 use Rattle.event_run.specs.Runs.{Stop, RunsTo, AreEventsOf}
 use Rattle.event_reader.specs.Reading.{whole_lines}
+use Rattle.core_top.specs.Command.{Job, running}
 
 -- the text declares the schema and asks the queries
 abbrev pub Accepts : List ℕ → Declared → List Query → Type 0
@@ -30,6 +31,18 @@ pub record StopsAt (text lines : List ℕ) (most_bytes : ℕ) (stop : Stop) : Ty
   pub events : List Event
   pub accepted : Accepts text schema queries
   pub runs : RunsTo schema queries most_bytes lines events stop
+
+-- the job goes on to its event file after this query text
+abbrev pub Takes : Job → List ℕ → Type 0
+Takes (running r) = IsAcceptedText
+
+-- this is why the job takes the query text not, and where
+abbrev pub IsRefusedBy : Job → List ℕ → QueryFault → Place → Type 0
+IsRefusedBy (running r) text fault place = IsRefusedText text fault place
+
+-- the events that the job reads stop so
+abbrev pub StopsOver : Job → List ℕ → List ℕ → Stop → Type 0
+StopsOver (running r) text lines stop = StopsAt text lines r.most_bytes stop
 
 -- The bytes are the answers of the text's queries over the events that they take of the file, where they stop so.
 pub record AreAnswers (order : Order) (most_bytes : ℕ) (text lines : List ℕ) (stop : Stop) (bytes : List ℕ) : Type 0 where

@@ -7,7 +7,7 @@ use Rattle.event_run.specs.Runs.{Stop, End, Event, InputTooLong}
 use Rattle.fault_notes.specs.declared.File.TheVariants as file
 use Rattle.core_top.specs.declared.Cause.{Cause}
 use Rattle.core_top.specs.declared.Cause.TheVariants as cause
-use Rattle.core_top.specs.Command.{RunWords}
+use Rattle.core_top.specs.Command.{RunWords, Job, running}
 use Rattle.core_top.specs.Accepted.{AreAnswers, AreAnswersSoFar}
 use Rattle.core_sample.specs.Summary.{IsSummary}
 
@@ -46,6 +46,10 @@ Wrote (cause.ReadFault file.Queries to) content r left before after = after ≡ 
 Wrote cause.Usage content r left before after = after ≡ before
 Wrote (cause.Queries fault place) content r left before after = after ≡ before
 Wrote (cause.OpenFault opened from to) content r left before after = after ≡ before
+
+-- the same after any job
+abbrev pub WroteBy : Cause → (List ℕ → Content) → Job → Option (List ℕ) → Option (List ℕ) → Option (List ℕ) → Type 0
+WroteBy given content (running r) left before after = Wrote given content r left before after
 
 -- What the output has taken after a sample, which ends by no other cause: its summary, a proper first part, or a first part.
 abbrev pub WroteSample : Cause → ℕ → ℕ → Option (List ℕ) → Option (List ℕ) → Type 0

@@ -5,6 +5,7 @@ ghost use Rattle.cer_base.specs.Answers.{OnFault};
 ghost use Rattle.cer_outside.specs.Causes.{AllStay};
 ghost use Rattle.cer_outside.specs.Content.{Holds, OfOpened};
 ghost use Rattle.query_engine.specs.Engine.{StandsFor, count_of};
+ghost use Rattle.core_top.specs.Command.{running};
 ghost use Rattle.core_top.specs.Accepted.{Accepts, IsRefusedText};
 ghost use Rattle.core_top.specs.Causes.{CountsWrites};
 ghost use Rattle.core_top.specs.Steps.{StepsBy, RunSteps};
@@ -43,12 +44,12 @@ pub fn run_files<H: Host, K: Sink, L: Ledger>(
           before = K.taken out.old;
           after = K.taken out.new;
         })
-        (record {
+        (running (record {
           queries = queries.now;
           events = events.now;
           order = order;
           most_bytes = most_bytes;
-        })
+        }))
         host.old host.new result.cause result.failed }
     ensures steps { RunSteps result.cause (H.content host.old) (record {
       queries = queries.now;

@@ -1,12 +1,14 @@
 use Rattle.std.proofs.Common.{refl, inl, map, string_bytes}
+use Rattle.core_top.specs.declared.Cause.TheVariants as cause
+use Rattle.core_top.specs.Command.{running}
 use Rattle.core_top.specs.Run.{ran, sampled, refused, unread}
-use Rattle.core_top.proofs.Words.{run_asked, no_run_and_sample}
-use Rattle.core_top.proofs.StepClauses.{run_steps}
+use Rattle.core_top.proofs.Words.{run_asked, no_job_and_sample}
+use Rattle.core_top.proofs.StepClauses.{job_steps, no_steps}
 use Rattle.core_top.proofs.top.run.Goals as goal
 
 pub returns-in-Ok-Run-clause-finished : goal.returns-in-Ok-Run-clause-finished
 returns-in-Ok-Run-clause-finished g c =
-    ran _ (run_asked _ _ _ _ _ _ _ c.as_str.ensures c.as_str-in-Ok-Run.ensures (rw c.in-Ok-Run.field-0-is at c.in-Ok-Run.ensures.asks)) c.run_files.ensures.ends
+    ran (running _) (run_asked _ _ _ _ _ _ _ c.as_str.ensures c.as_str-in-Ok-Run.ensures (rw c.in-Ok-Run.field-0-is at c.in-Ok-Run.ensures.asks)) c.run_files.ensures.ends
 
 pub returns-in-Ok-Sample-clause-finished : goal.returns-in-Ok-Sample-clause-finished
 returns-in-Ok-Sample-clause-finished g c =
@@ -24,14 +26,14 @@ returns-in-Err-Fault-clause-finished g c =
     (record { none = c.of-in-Err-Fault.ensures.failed; wrote = refl; counts_writes = refl; unopened = refl })
 
 pub returns-in-Ok-Run-clause-steps : goal.returns-in-Ok-Run-clause-steps
-returns-in-Ok-Run-clause-steps g c = λ r asked.
-    run_steps (map string_bytes c.args.words.now) (g.H.Host.content c.args.host.now) _ r c.run_files.result.cause (g.K.Sink.taken c.args.out.now) (g.K.Sink.taken c.run_files.new.out) c.args.steps.now c.run_files.new.steps (run_asked _ _ _ _ _ _ _ c.as_str.ensures c.as_str-in-Ok-Run.ensures (rw c.in-Ok-Run.field-0-is at c.in-Ok-Run.ensures.asks)) asked c.run_files.ensures.steps
+returns-in-Ok-Run-clause-steps g c = λ job asked.
+    job_steps (map string_bytes c.args.words.now) (g.H.Host.content c.args.host.now) (running _) job c.run_files.result.cause (g.K.Sink.taken c.args.out.now) (g.K.Sink.taken c.run_files.new.out) c.args.steps.now c.run_files.new.steps (run_asked _ _ _ _ _ _ _ c.as_str.ensures c.as_str-in-Ok-Run.ensures (rw c.in-Ok-Run.field-0-is at c.in-Ok-Run.ensures.asks)) asked c.run_files.ensures.steps
 
 pub returns-in-Ok-Sample-clause-steps : goal.returns-in-Ok-Sample-clause-steps
-returns-in-Ok-Sample-clause-steps g c = λ r asked. absurd (no_run_and_sample _ r _ _ asked (rw c.in-Ok-Sample.field-0-is at c.in-Ok-Sample.ensures.asks))
+returns-in-Ok-Sample-clause-steps g c = λ job asked. absurd (no_job_and_sample _ job _ _ asked (rw c.in-Ok-Sample.field-0-is at c.in-Ok-Sample.ensures.asks))
 
 pub returns-in-Err-Memory-clause-steps : goal.returns-in-Err-Memory-clause-steps
-returns-in-Err-Memory-clause-steps g c = λ r asked. rw c.of.ensures.cause (inl refl)
+returns-in-Err-Memory-clause-steps g c = λ job asked. rw c.of.ensures.cause (no_steps (g.H.Host.content c.args.host.now) job cause.Memory (g.K.Sink.taken c.args.out.now) (g.K.Sink.taken c.args.out.now) c.args.steps.now tt)
 
 pub returns-in-Err-Fault-clause-steps : goal.returns-in-Err-Fault-clause-steps
-returns-in-Err-Fault-clause-steps g c = λ r asked. rw c.of-in-Err-Fault.ensures.cause refl
+returns-in-Err-Fault-clause-steps g c = λ job asked. rw c.of-in-Err-Fault.ensures.cause (no_steps (g.H.Host.content c.args.host.now) job cause.Usage (g.K.Sink.taken c.args.out.now) (g.K.Sink.taken c.args.out.now) c.args.steps.now tt)

@@ -72,7 +72,7 @@ pub fn take_event<Q: Source, L: Ledger>(
 }
 
 /// Why there is no further line.
-fn fault_of(fault: LineFault) -> RunFault
+pub(crate) fn fault_of(fault: LineFault) -> RunFault
     ensures { result ≡ run_fault fault }
 {
     match fault {

@@ -12,10 +12,11 @@ use Rattle.event_run.specs.Runs.{Stop, RunsTo}
 use Rattle.event_run.proofs.ForCallers.{one_run_of_trees}
 use Rattle.answer_blocks.specs.Taken.{TookPrefix}
 use Rattle.stream_answers.proofs.Portions.{prefix_of_all}
+use Rattle.answer_explain.specs.declared.written.TheConstants.{MOST_BYTES}
 use Rattle.fault_notes.specs.declared.File.TheVariants as file
 use Rattle.core_top.specs.declared.Cause.{Cause}
 use Rattle.core_top.specs.declared.Cause.TheVariants as cause
-use Rattle.core_top.specs.Command.{RunWords, Job, running}
+use Rattle.core_top.specs.Command.{RunWords, Job, running, explaining}
 use Rattle.core_top.specs.Accepted.{Accepts, IsAcceptedText, IsRefusedText, StopsAt, Takes, IsRefusedBy, StopsOver}
 use Rattle.core_top.specs.Output.{AreFileAnswers, WroteAll, WroteBy}
 use Rattle.core_top.specs.Notes.{NeedsMemory}
@@ -68,22 +69,27 @@ answered_stop content r stop before after text lines first second wrote =
 -- No job takes a text that it refuses.
 pub takes_or_refuses : (job : Job) (text : List ℕ) (fault : QueryFault) (place : Place) → Takes job text → IsRefusedBy job text fault place → ⊥
 takes_or_refuses (running r) text fault place taken refused = not_both text fault place taken refused
+takes_or_refuses (explaining x) text fault place taken refused = not_both text fault place taken refused
 
 -- A text is refused for one reason, at one place.
 pub one_refusal : (job : Job) (text : List ℕ) (fault other : QueryFault) (place there : Place) → IsRefusedBy job text fault place → IsRefusedBy job text other there → cause.Queries fault place ≡ cause.Queries other there
 one_refusal (running r) text fault other place there refused again = one_fault text fault other place there refused again
+one_refusal (explaining x) text fault other place there refused again = one_fault text fault other place there refused again
 
 -- The events stop in one way,
 pub one_end : (job : Job) (text lines : List ℕ) (s t : Stop) → StopsOver job text lines s → StopsOver job text lines t → s ≡ t
 one_end (running r) text lines s t one other = one_stop text lines r.most_bytes s t one other
+one_end (explaining x) text lines s t one other = one_stop text lines MOST_BYTES s t one other
 
 -- and only after a text that is taken.
 pub taken_where_stopped : (job : Job) (text lines : List ℕ) (stop : Stop) → StopsOver job text lines stop → Takes job text
 taken_where_stopped (running r) text lines stop stops = (stops.schema, stops.queries, stops.accepted)
+taken_where_stopped (explaining x) text lines stop stops = (stops.schema, stops.queries, stops.accepted)
 
 -- Each refusal of the language is one of the job.
 pub refused_by : (job : Job) (fault : QueryFault) (place : Place) (text : List ℕ) → IsRefusedText text fault place → IsRefusedBy job text fault place
 refused_by (running r) fault place text refused = refused
+refused_by (explaining x) fault place text refused = refused
 
 -- the job ended before it had events
 abbrev pub IsEarly : Cause → Type 0
@@ -105,6 +111,15 @@ wrote_nothing (running r) cause.Usage content left before after early nothing = 
 wrote_nothing (running r) (cause.Event line fault) content left before after early nothing = absurd early
 wrote_nothing (running r) (cause.InputTooLong taken) content left before after early nothing = absurd early
 wrote_nothing (running r) (cause.WriteFault from to) content left before after early nothing = absurd early
+wrote_nothing (explaining x) (cause.Queries fault place) content left before after early nothing = nothing
+wrote_nothing (explaining x) (cause.OpenFault opened from to) content left before after early nothing = nothing
+wrote_nothing (explaining x) (cause.ReadFault read to) content left before after early nothing = nothing
+wrote_nothing (explaining x) cause.Memory content left before after early nothing = nothing
+wrote_nothing (explaining x) cause.Fine content left before after early nothing = absurd early
+wrote_nothing (explaining x) cause.Usage content left before after early nothing = nothing
+wrote_nothing (explaining x) (cause.Event line fault) content left before after early nothing = nothing
+wrote_nothing (explaining x) (cause.InputTooLong taken) content left before after early nothing = nothing
+wrote_nothing (explaining x) (cause.WriteFault from to) content left before after early nothing = absurd early
 
 -- all answers are a first part of them
 some_part : (content : List ℕ → Content) (r : RunWords) (stop : Stop) (before after : Option (List ℕ)) → WroteAll content r stop before after →
@@ -130,3 +145,12 @@ wrote_for_memory (running r) (cause.OpenFault opened from to) content left other
 wrote_for_memory (running r) (cause.ReadFault read to) content left other before after needs wrote = absurd needs
 wrote_for_memory (running r) (cause.WriteFault from to) content left other before after needs wrote = absurd needs
 wrote_for_memory (running r) cause.Memory content left other before after needs wrote = absurd needs
+wrote_for_memory (explaining x) (cause.Queries fault place) content left other before after needs wrote = wrote
+wrote_for_memory (explaining x) (cause.Event line fault) content left other before after needs wrote = wrote
+wrote_for_memory (explaining x) (cause.InputTooLong taken) content left other before after needs wrote = wrote
+wrote_for_memory (explaining x) cause.Fine content left other before after needs wrote = absurd needs
+wrote_for_memory (explaining x) cause.Usage content left other before after needs wrote = absurd needs
+wrote_for_memory (explaining x) (cause.OpenFault opened from to) content left other before after needs wrote = absurd needs
+wrote_for_memory (explaining x) (cause.ReadFault read to) content left other before after needs wrote = absurd needs
+wrote_for_memory (explaining x) (cause.WriteFault from to) content left other before after needs wrote = absurd needs
+wrote_for_memory (explaining x) cause.Memory content left other before after needs wrote = absurd needs

@@ -13,6 +13,8 @@ mod Jobs
 mod Ends
 -- the same of a run
 mod RunEnds
+-- the same of an explanation
+mod ExplainEnds
 -- what the end of a job says of each answer
 mod Clauses
 -- a note for which there was no memory

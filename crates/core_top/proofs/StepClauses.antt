@@ -9,7 +9,7 @@ use Rattle.stream_answers.specs.Steps.{CountsAll, Counts}
 use Rattle.fault_notes.specs.declared.File.TheVariants as file
 use Rattle.core_top.specs.declared.Cause.{Cause}
 use Rattle.core_top.specs.declared.Cause.TheVariants as cause
-use Rattle.core_top.specs.Command.{RunWords, Job, running, AsksJob}
+use Rattle.core_top.specs.Command.{RunWords, Job, running, explaining, AsksJob}
 use Rattle.core_top.specs.Accepted.{Accepts}
 use Rattle.core_top.specs.Notes.{NeedsMemory, IsNoted}
 use Rattle.core_top.specs.Run.{Sources, QueriesStop, IsOpening}
@@ -100,6 +100,7 @@ for_memory content r cause.Memory before after old now needs h = absurd needs
 
 job_for_memory : (content : List ℕ → Content) (job : Job) (told : Cause) (before after : Option (List ℕ)) (old now : ℕ) → NeedsMemory told → StepsOf told content job before after old now → StepsOf cause.Memory content job before after old now
 job_for_memory content (running r) told before after old now needs h = for_memory content r told before after old now needs h
+job_for_memory content (explaining x) told before after old now needs h = h
 
 pub noted_steps : {S : Type 0} (content : List ℕ → Content) (job : Job) (told given last : Cause) (failed left : Option S) (before after : Option (List ℕ)) (old now : ℕ) → last ≡ given → IsNoted told failed given left → StepsOf told content job before after old now → StepsOf last content job before after old now
 noted_steps content job told given last failed left before after old now same noted h =
@@ -120,6 +121,7 @@ no_steps content (running r) (cause.InputTooLong taken) before after now ends = 
 no_steps content (running r) (cause.OpenFault opened from to) before after now ends = absurd ends
 no_steps content (running r) (cause.ReadFault read to) before after now ends = absurd ends
 no_steps content (running r) (cause.WriteFault from to) before after now ends = absurd ends
+no_steps content (explaining x) given before after now ends = refl
 
 -- the job that the words ask for
 pub job_steps : (words : List (List ℕ)) (content : List ℕ → Content) (job other : Job) (given : Cause) (before after : Option (List ℕ)) (old now : ℕ) → AsksJob words job → AsksJob words other → StepsOf given content job before after old now → StepsOf given content other before after old now

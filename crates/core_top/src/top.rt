@@ -17,11 +17,13 @@ ghost use Rattle.core_top.specs.Steps.{StepsOf};
 ghost use Rattle.core_top.specs.Notes.{note_of, TookNote};
 ghost use Rattle.core_top.specs.Run.{Finished, left_of};
 
+use super::explain::explain_files;
 use super::notes::noted;
 use super::opening::Stop;
 use super::run::run_files;
 use super::sample::run_sample;
 use super::{Cause, Done};
+use answer_explain::Question;
 use cer_base::OrMemory;
 use cer_base::steps::Steps;
 use cer_outside::{Host, Sink};
@@ -32,7 +34,8 @@ use std::sync::ledger::Ledger;
 /// Does what the words after the program's name ask for.
 ///
 /// `run QUERIES EVENTS` reads the query text and the event file of the host and writes the answers
-/// to `out`; `sample SEED COUNT` writes a summary of two fixed queries. The note of the cause goes
+/// to `out`; `explain QUERIES EVENTS QUERY START END [POSITION]...` writes why one of them is an
+/// answer; `sample SEED COUNT` writes a summary of two fixed queries. The note of the cause goes
 /// to `notes`; a fault there changes neither status nor cause, but that where there is no memory
 /// for a note, memory is the cause.
 pub fn core_main<H: Host, K: Sink, N: Sink, L: Ledger>(
@@ -45,7 +48,7 @@ pub fn core_main<H: Host, K: Sink, N: Sink, L: Ledger>(
 ) -> Done<H::Src>
     // The headline: what the output has taken after each cause. With status 0 a run has written
     // exactly the answers of the query text over the event file, position by position and query by
-    // query, each once.
+    // query, each once, and an explanation that of the complex event that is asked for.
     ensures wrote { (job : Job) → AsksJob (map string_bytes words.items) job
         → WroteBy result.cause (H.content host.old) job
         (left_of (record { faults = H.Src.faults; left = H.Src.left }) result.failed)
@@ -90,8 +93,8 @@ pub fn core_main<H: Host, K: Sink, N: Sink, L: Ledger>(
         → H.content host.old (name_of file job) ≡ Missing
         → EndsWithout file result.cause × (K.taken out.new ≡ K.taken out.old) }
 
-    // A text that the job takes and an event file that is read to its end are answered, but for memory and
-    // the outside.
+    // A text that the job takes and an event file that is read to its end are answered, but for
+    // memory and the outside.
     ensures complete { (job : Job) (text lines : List ℕ)
         → AsksJob (map string_bytes words.items) job
         → H.content host.old (queries_of job) ≡ Holds text
@@ -109,7 +112,8 @@ pub fn core_main<H: Host, K: Sink, N: Sink, L: Ledger>(
         → CountsOpens result.cause job (H.faults host.old) (H.faults host.new) }
     ensures counts_writes { CountsWrites result.cause (K.faults out.old) (K.faults out.new) }
 
-    // However a run ends, its steps are bounded by the events of the file and their answers.
+    // However a run ends, its steps are bounded by the events of the file and their answers; an
+    // explanation takes none.
     ensures steps { (job : Job) → AsksJob (map string_bytes words.items) job
         → StepsOf result.cause (H.content host.old) job (K.taken out.old) (K.taken out.new)
         steps.old steps.new }
@@ -178,6 +182,31 @@ fn run<H: Host, K: Sink, L: Ledger>(
             out,
             steps,
         ),
+        Ok(
+            Command::Explain {
+                queries,
+                events,
+                query,
+                start,
+                end,
+                positions,
+            },
+        ) => {
+            let question = Question {
+                query,
+                start,
+                end,
+                positions,
+            };
+            explain_files(
+                alloc,
+                queries.as_str(),
+                events.as_str(),
+                &question,
+                host,
+                out,
+            )
+        }
         Ok(Command::Sample { seed, count }) => run_sample(alloc, seed, count, out, steps),
         Err(OrMemory::Memory) => Stop::of(Cause::Memory),
         Err(OrMemory::Fault(_)) => Stop::of(Cause::Usage),

@@ -1,3 +1,4 @@
 pub mod Output
 pub mod Rows
 pub mod Texts
+pub mod Explanations

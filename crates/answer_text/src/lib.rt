@@ -1,4 +1,5 @@
-//! What the program writes: the line of a complex event, and the order of those of one position.
+//! What the program writes: the line of a complex event, the order of those of one position, and
+//! the lines that explain one.
 //!
 //! Promised: `push_line` puts exactly the bytes behind a text that `specs/Output` defines, or memory
 //! ran out and the text is as it was; `order` tells which of two comes before the other, and takes
@@ -12,11 +13,13 @@ use cer_base::{Memory, Pos};
 use std::alloc::Global;
 
 pub mod answer;
+mod explaining;
 #[cfg(test)]
 mod tests;
 pub mod writing;
 
 pub use answer::Answer;
+pub use explaining::{none, push_binding};
 pub use writing::push_line;
 
 /// How the lines of one position are ordered.

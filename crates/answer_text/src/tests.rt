@@ -29,6 +29,20 @@ fn a_line_goes_behind_the_text(rt: HostRuntime) -> Result<(), Fail> {
     Ok(())
 }
 
+#[test]
+fn names_are_laid_out(rt: HostRuntime) -> Result<(), Fail> {
+    let mut text = line(rt.alloc(), 1, 1, 3, &[3])?;
+    push_binding(rt.alloc(), &mut text, "A", &[1, 2])?;
+    push_binding(rt.alloc(), &mut text, "b", &[3])?;
+    assert_eq!(rt;
+        text.as_slice(),
+        b"1 [1,3] {3}\nA {1,2}\nb {3}\n".as_slice()
+    );
+    let text = none(rt.alloc())?;
+    assert_eq!(rt; text.as_slice(), b"none\n".as_slice());
+    Ok(())
+}
+
 /// Each row has two answers, positions greatest first, and how the first compares to the second.
 #[test]
 fn answers_are_ordered(rt: HostRuntime) -> Result<(), Fail> {

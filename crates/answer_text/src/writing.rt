@@ -32,7 +32,7 @@ fn push_listed(text: &mut Vec<u8>, number: u64, is_first: bool) -> Result<(), Me
     push_number(text, number)
 }
 
-fn push_positions(text: &mut Vec<u8>, falling: &[Pos]) -> Result<(), Memory>
+pub(crate) fn push_positions(text: &mut Vec<u8>, falling: &[Pos]) -> Result<(), Memory>
     ensures positions { OnOk result (text.new.items
         ≡ text.old.items ++ positions_text (reverse falling.now)) }
     ensures kept { OnErr result (StartsWith text.old.items text.new.items) }

@@ -3,7 +3,7 @@ use Rattle.std.proofs.Common.{◌≡◌, [], ◌∷◌, None, codes, refl}
 use Rattle.answer_text.specs.declared.Order.TheVariants.{Walk, Sorted}
 use Rattle.clap.proofs.OnLiterals.{clap_on_literals}
 use Rattle.command_words.specs.CommandLine.{AsksFor, command_of}
-use Rattle.command_words.specs.declared.Command.TheVariants.{Run, Sample}
+use Rattle.command_words.specs.declared.Command.TheVariants.{Run, Sample, Explain}
 
 pub options_stand_between : AsksFor (codes "run" ∷ codes "--order=walk" ∷ codes "q" ∷ codes "--max-bytes" ∷ codes "+05" ∷ codes "-" ∷ [])
     (Run (codes "q") (codes "-") Walk 5)
@@ -13,6 +13,14 @@ options_stand_between = refl
 pub numbers_have_zeros : AsksFor (codes "sample" ∷ codes "+7" ∷ codes "007" ∷ []) (Sample 7 7)
 unfolding clap_on_literals
 numbers_have_zeros = refl
+
+pub positions_are_listed : AsksFor (codes "explain" ∷ codes "q" ∷ codes "e" ∷ codes "1" ∷ codes "2" ∷ codes "5" ∷ codes "5" ∷ codes "2" ∷ []) (Explain (codes "q") (codes "e") 1 2 5 (5 ∷ 2 ∷ []))
+unfolding clap_on_literals
+positions_are_listed = refl
+
+pub no_position_is_needed : AsksFor (codes "explain" ∷ codes "q" ∷ codes "e" ∷ codes "1" ∷ codes "2" ∷ codes "5" ∷ []) (Explain (codes "q") (codes "e") 1 2 5 [])
+unfolding clap_on_literals
+no_position_is_needed = refl
 
 pub one_name_is_refused : command_of (codes "run" ∷ codes "q" ∷ []) ≡ None
 unfolding clap_on_literals

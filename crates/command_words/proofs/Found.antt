@@ -1,7 +1,8 @@
 -- What the reading of the matches cites.
-use Rattle.std.proofs.Common.{◌≡◌, ◌∙◌, ℕ, Option, Some, None, Result, Ok, Err, arith, ap, refl, true, false, Bool}
+use Rattle.std.proofs.Common.{◌≡◌, ◌∙◌, ℕ, List, [], ◌∷◌, map, Option, Some, None, Result, Ok, Err, arith, ap, refl, true, false, Bool}
 use Rattle.std.specs.Prelude.{option_and_then, option_map, unwrap_or}
 use Rattle.std.specs.Borrow.{Bor}
+use Rattle.std.specs.List.{cons_option, filter_map}
 use Rattle.std.specs.Str.Parse.{ParsesUnsigned}
 use Rattle.clap.specs.Words.{Text}
 use Rattle.clap.specs.Matches.{ReadsOne}
@@ -35,6 +36,11 @@ pub number_found : (text : Option Text) (one : Option ℕ) → (text ≡ None �
     → one ≡ option_and_then number_of text
 number_found None one none some = none refl
 number_found (Some t) one none some = some t refl
+
+-- the numbers of the texts behind references
+pub read_of_each : (texts : List (Bor Text)) → filter_map number_of (map (λ text. text.now) texts) ≡ filter_map (λ text. number_of text.now) texts
+read_of_each [] = refl
+read_of_each (text ∷ texts) = ap (cons_option (number_of text.now)) (read_of_each texts)
 
 -- a name and what was found behind it, together
 pub names_fused : {X A B : Type 0} (g : X → A × B) (o : Option X) → option_map (λ x. (g x).0) o ≡ option_map (λ p. p.0) (option_map g o)

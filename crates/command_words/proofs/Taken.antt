@@ -1,4 +1,4 @@
--- What clap found in words that it takes: one of the two commands.
+-- What clap found in words that it takes: one of the commands.
 use Rattle.std.proofs.Common.{◌≡◌, ◌⊎◌, List, [], ◌∷◌, Option, Some, None, Bool, cond, codes, refl, sym, inl, inr, true, false, true≢false}
 use Rattle.std.specs.Prelude.{is_some, option_map}
 use Rattle.clap.specs.Faults.{check_fault, defaults_fault, entered_fault, level_fault, settle_fault, walk_fault}
@@ -35,27 +35,35 @@ level_has s names words has below asks e =
     let after_settles = last_none settles (or_else defaults checks) after_below in
     has_one s (finished s.rules end) has asks (last_none defaults checks after_settles)
 
--- what was found is behind one of two names
+-- what was found is behind one of three names
 abbrev IsFound : Text → Option (Text × List Row) → Type 0
 IsFound name found = (rows : List Row) × (found ≡ Some (name, rows))
 
-one_of_two : (first second : Bool) (a b : Shape) (words : List Text)
-    → is_some (option_map (λ s. rows_at s words) (cond first (Some a) (cond second (Some b) None))) ≡ true
-    → IsFound a.name (option_map (λ s. rows_at s words) (cond first (Some a) (cond second (Some b) None)))
-    ⊎ IsFound b.name (option_map (λ s. rows_at s words) (cond first (Some a) (cond second (Some b) None)))
-one_of_two true second a b words some = inl (_, refl)
-one_of_two false true a b words some = inr (_, refl)
-one_of_two false false a b words some = absurd (true≢false (sym some))
+-- the first of three shapes whose test passes
+abbrev first_of_three : Bool → Bool → Bool → Shape → Shape → Shape → Option Shape
+first_of_three first second third a b c = cond first (Some a) (cond second (Some b) (cond third (Some c) None))
 
-entered_one : (stop : Option (Text × List Text)) → is_some (entered (built program) stop) ≡ true
-    → IsFound (codes "run") (entered (built program) stop) ⊎ IsFound (codes "sample") (entered (built program) stop)
+one_of_three : (first second third : Bool) (a b c : Shape) (words : List Text)
+    → is_some (option_map (λ s. rows_at s words) (first_of_three first second third a b c)) ≡ true
+    → IsFound a.name (option_map (λ s. rows_at s words) (first_of_three first second third a b c))
+    ⊎ (IsFound b.name (option_map (λ s. rows_at s words) (first_of_three first second third a b c))
+    ⊎ IsFound c.name (option_map (λ s. rows_at s words) (first_of_three first second third a b c)))
+one_of_three true second third a b c words some = inl (_, refl)
+one_of_three false true third a b c words some = inr (inl (_, refl))
+one_of_three false false true a b c words some = inr (inr (_, refl))
+one_of_three false false false a b c words some = absurd (true≢false (sym some))
+
+-- behind the name of one of the commands
+abbrev pub IsOfCommand : Option (Text × List Row) → Type 0
+IsOfCommand found = IsFound (codes "run") found ⊎ (IsFound (codes "sample") found ⊎ IsFound (codes "explain") found)
+
+entered_one : (stop : Option (Text × List Text)) → is_some (entered (built program) stop) ≡ true → IsOfCommand (entered (built program) stop)
 entered_one None some = absurd (true≢false (sym some))
 entered_one (Some p) some =
-    one_of_two (answers_to p.0 (codes "run", [])) (answers_to p.0 (codes "sample", [])) _ _ p.1 some
+    one_of_three (answers_to p.0 (codes "run", [])) (answers_to p.0 (codes "sample", [])) (answers_to p.0 (codes "explain", [])) _ _ _ p.1 some
 
--- clap found one of the two commands in words that it takes
-pub taken_is_found : (words : List Text) → is_taken words ≡ true
-    → IsFound (codes "run") (subcommand_of program words) ⊎ IsFound (codes "sample") (subcommand_of program words)
+-- clap found one of the commands in words that it takes
+pub taken_is_found : (words : List Text) → is_taken words ≡ true → IsOfCommand (subcommand_of program words)
 taken_is_found words taken =
     let stop = stop_after (built program).top.rules (names_of (built program)) words in
     entered_one stop (level_has (built program).top (names_of (built program)) words (is_some (entered (built program) stop))

@@ -1,15 +1,16 @@
 -- What the words after the program's name ask for: the command that clap reads in them.
 use Rattle.std.specs.Prelude.{◌≡◌, ℕ, Bool, true, false, List, [], ◌∷◌, Option, Some, None, codes}
 use Rattle.std.specs.Prelude.{if◌then◌else◌, option_map, option_and_then, unwrap_or}
+use Rattle.std.specs.List.{filter_map}
 use Rattle.std.specs.Option.{option_map_or}
 use Rattle.std.specs.Str.{bytes_eq}
 use Rattle.std.specs.Str.Parse.{digits_value, without_leading_plus}
 use Rattle.clap.specs.ValueTests.{is_unsigned_in}
-use Rattle.clap.specs.Words.{Kinds, Row, Text, fault_of, first_of, one_of, subcommand_of}
+use Rattle.clap.specs.Words.{Kinds, Row, Text, all_of, fault_of, first_of, one_of, subcommand_of}
 use Rattle.answer_text.specs.declared.Order.{Order}
 use Rattle.answer_text.specs.declared.Order.TheVariants.{Walk, Sorted}
 use Rattle.command_words.specs.declared.Command.{Command}
-use Rattle.command_words.specs.declared.Command.TheVariants.{Run, Sample}
+use Rattle.command_words.specs.declared.Command.TheVariants.{Run, Sample, Explain}
 use Rattle.command_words.specs.Program.{program}
 
 -- the name under an id
@@ -24,6 +25,10 @@ number_of text = if is_unsigned_in 0 18446744073709551615 text
 -- the number under an id, or the one that holds where none is given
 abbrev pub number_in : ℕ → Text → List Row → ℕ
 number_in default id rows = unwrap_or (option_and_then number_of (one_of id rows)) default
+
+-- the numbers under an id, as they come
+abbrev pub numbers_in : Text → List Row → List ℕ
+numbers_in id rows = filter_map number_of (unwrap_or (all_of id rows) [])
 
 abbrev pub order_of : Text → Option Order
 order_of text = if bytes_eq text (codes "walk") then Some Walk
@@ -45,9 +50,16 @@ run_in rows = option_map (run_with rows) (order_in rows)
 abbrev pub sample_in : List Row → Command
 sample_in rows = Sample (number_in 0 (codes "seed") rows) (number_in 0 (codes "count") rows)
 
+-- what was found behind `explain`, as a question
+abbrev pub explain_in : List Row → Command
+explain_in rows = Explain (text_in (codes "queries") rows) (text_in (codes "events") rows)
+    (number_in 0 (codes "query") rows) (number_in 0 (codes "start") rows)
+    (number_in 0 (codes "end") rows) (numbers_in (codes "positions") rows)
+
 abbrev pub command_named : Text → List Row → Option Command
 command_named name rows = if bytes_eq name (codes "run") then run_in rows
-    else (if bytes_eq name (codes "sample") then Some (sample_in rows) else None)
+    else (if bytes_eq name (codes "sample") then Some (sample_in rows)
+    else (if bytes_eq name (codes "explain") then Some (explain_in rows) else None))
 
 -- the command of a subcommand and what was found behind it
 abbrev pub command_at : Option (Text × List Row) → Option Command

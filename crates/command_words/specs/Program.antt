@@ -1,11 +1,16 @@
--- The program's command, in the terms of clap: its two commands, their names, options and numbers.
+-- The program's command, in the terms of clap: its commands, their names, options and numbers.
 use Rattle.std.specs.Prelude.{[], ℕ, Some, codes, true}
 use Rattle.clap.specs.Words.{App, Rule, Shape, Text, new_app, new_rule, with_rule, with_subcommand}
+use Rattle.clap.specs.declared.builder.action.ArgAction.TheVariants.{Append}
 use Rattle.clap.specs.declared.builder.value_parser.ValueParser.TheVariants.{Unsigned}
 
 -- a word that has to be there
 abbrev pub name : Text → Rule
 name id = record (new_rule id) { required = true }
+
+-- a word that may be there any number of times
+abbrev pub repeated : Text → Rule
+repeated id = record (new_rule id) { action = Some Append }
 
 -- an option of one value
 abbrev pub option : Text → Rule
@@ -14,6 +19,10 @@ option id = record (new_rule id) { long = Some id }
 -- the same, where the value is a whole number from the least to the most
 abbrev pub numbered : ℕ → ℕ → Rule → Rule
 numbered least most rule = record rule { parser = Some (Unsigned least most) }
+
+-- the same, where the value is a whole number of 64 bits
+abbrev pub whole : Rule → Rule
+whole rule = numbered 0 18446744073709551615 rule
 
 -- --max-bytes N
 abbrev pub most_bytes : Rule
@@ -27,8 +36,18 @@ run = with_rule (with_rule (with_rule (with_rule (new_app (codes "run")) (name (
 -- sample SEED COUNT
 abbrev pub sample : App
 sample = with_rule (with_rule (new_app (codes "sample"))
-    (numbered 0 18446744073709551615 (name (codes "seed"))))
+    (whole (name (codes "seed"))))
     (numbered 0 10000000 (name (codes "count")))
+
+-- a command of this name over QUERIES EVENTS
+abbrev pub over_files : Text → App
+over_files id = with_rule (with_rule (new_app id) (name (codes "queries"))) (name (codes "events"))
+
+-- explain QUERIES EVENTS QUERY START END [POSITION]...
+abbrev pub explain : App
+explain = with_rule (with_rule (with_rule (with_rule (over_files (codes "explain"))
+    (whole (name (codes "query")))) (whole (name (codes "start")))) (whole (name (codes "end"))))
+    (whole (repeated (codes "positions")))
 
 -- the words are those after the program's name; there is no help and no version, and one of the
 -- commands has to be there
@@ -42,5 +61,6 @@ bare top = record top {
 }
 
 abbrev pub program : App
-program = with_subcommand (with_subcommand
-    (record { top = bare (new_app (codes "core_cli")).top; subs = [] }) run.top) sample.top
+program = with_subcommand (with_subcommand (with_subcommand
+    (record { top = bare (new_app (codes "core_cli")).top; subs = [] }) run.top) sample.top)
+    explain.top

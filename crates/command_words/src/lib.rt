@@ -1,4 +1,5 @@
-//! What the words after the program's name ask for: a run over two files, or a sample.
+//! What the words after the program's name ask for: a run over two files, a sample, or why a complex
+//! event is an answer.
 //!
 //! Promised: the answer is `clap`'s own reading of the program's command, which `specs/Program` and
 //! `specs/CommandLine` write out, and `Usage` where the words ask for nothing by it. By the laws in
@@ -17,7 +18,7 @@ mod reading;
 mod tests;
 
 use answer_text::Order;
-use cer_base::{OrMemory, Text};
+use cer_base::{Listed, OrMemory, Text};
 use std::alloc::Global;
 
 /// What the words after the program's name ask for.
@@ -35,6 +36,18 @@ pub enum Command {
     Sample {
         seed: u64,
         count: u64,
+    },
+    /// Why a complex event is an answer to a query of one file over the events of another.
+    Explain {
+        queries: Text,
+        events: Text,
+        /// The query's number, from 1.
+        query: u64,
+        /// The first and the last position of the complex event, from 0.
+        start: u64,
+        end: u64,
+        /// Its marked positions, as they were given.
+        positions: Listed<u64>,
     },
 }
 

@@ -4,12 +4,12 @@ ghost use Rattle.clap.specs.Words.{app_of, kind_of, rule_of, subcommand_of, subc
 ghost use Rattle.cer_base.specs.Answers.{OnFault};
 ghost use Rattle.cer_base.specs.declared.OrMemory.TheVariants.{Memory};
 ghost use Rattle.command_words.specs.CommandLine.{is_taken};
-ghost use Rattle.command_words.specs.Program.{most_bytes, name, option, program, run, sample};
+ghost use Rattle.command_words.specs.Program.{explain, most_bytes, name, option, over_files, program, repeated, run, sample, whole};
 
 use crate::Usage;
 use cer_base::OrMemory;
 use clap::error::ErrorKind;
-use clap::{Arg, ArgMatches, value_parser};
+use clap::{Arg, ArgAction, ArgMatches, value_parser};
 use std::alloc::{AllocError, Global};
 
 /// What `clap` found in the words, where it takes them.
@@ -46,6 +46,24 @@ fn name<'a>(alloc: Global, id: &'a str) -> Arg<'a>
     ensures local { result.global ≡ false }
 {
     Arg::new(alloc, id).required(true)
+}
+
+/// A whole number of 64 bits that has to be there.
+fn number<'a>(alloc: Global, id: &'a str) -> Arg<'a>
+    ensures rule { rule_of result ≡ whole (name id.entry.now) }
+    ensures local { result.global ≡ false }
+{
+    name(alloc, id).value_parser(value_parser!(u64))
+}
+
+/// Whole numbers of 64 bits, as many as there are.
+fn numbers<'a>(alloc: Global, id: &'a str) -> Arg<'a>
+    ensures rule { rule_of result ≡ whole (repeated id.entry.now) }
+    ensures local { result.global ≡ false }
+{
+    Arg::new(alloc, id)
+        .action(ArgAction::Append)
+        .value_parser(value_parser!(u64))
 }
 
 /// An option of any one value.
@@ -89,12 +107,37 @@ fn sample<'a>(alloc: Global) -> Result<clap::Command<'a>, AllocError>
     clap::Command::new(alloc, "sample").arg(seed)?.arg(count)
 }
 
-/// The command that has one of the two as its subcommand, and no help and no version.
+/// A command of this name over `QUERIES EVENTS`.
+fn over_files<'a>(alloc: Global, id: &'a str) -> Result<clap::Command<'a>, AllocError>
+    ensures { IfOk result (λ c. app_of c ≡ over_files id.entry.now) }
+{
+    let queries = name(alloc, "queries");
+    let events = name(alloc, "events");
+    clap::Command::new(alloc, id).arg(queries)?.arg(events)
+}
+
+/// `explain QUERIES EVENTS QUERY START END [POSITION]...`
+fn explain<'a>(alloc: Global) -> Result<clap::Command<'a>, AllocError>
+    ensures { IfOk result (λ c. app_of c ≡ explain) }
+{
+    let query = number(alloc, "query");
+    let start = number(alloc, "start");
+    let end = number(alloc, "end");
+    let positions = numbers(alloc, "positions");
+    over_files(alloc, "explain")?
+        .arg(query)?
+        .arg(start)?
+        .arg(end)?
+        .arg(positions)
+}
+
+/// The command that has one of these as its subcommand, and no help and no version.
 fn program<'a>(alloc: Global) -> Result<clap::Command<'a>, AllocError>
     ensures { IfOk result (λ c. app_of c ≡ program) }
 {
     let run = run(alloc)?;
     let sample = sample(alloc)?;
+    let explain = explain(alloc)?;
     clap::Command::new(alloc, "core_cli")
         .no_binary_name(true)
         .disable_help_flag(true)
@@ -102,5 +145,6 @@ fn program<'a>(alloc: Global) -> Result<clap::Command<'a>, AllocError>
         .disable_version_flag(true)
         .subcommand_required(true)
         .subcommand(run)?
-        .subcommand(sample)
+        .subcommand(sample)?
+        .subcommand(explain)
 }

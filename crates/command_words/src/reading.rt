@@ -1,19 +1,20 @@
 //! The command in what `clap` found.
-ghost use Rattle.std.specs.Prelude.{◌≡◌, IfOk, Some, None};
+ghost use Rattle.std.specs.Prelude.{◌≡◌, ◌++◌, [], IfOk, OnOk, Some, None};
+ghost use Rattle.std.specs.List.{cons_option, filter_map};
 ghost use Rattle.clap.specs.Words.{found_of, rows_of, subcommand_rows_of};
 ghost use Rattle.cer_base.specs.Answers.{OnFault};
-ghost use Rattle.command_words.specs.CommandLine.{command_at, number_in, order_in, order_of};
-ghost use Rattle.command_words.specs.CommandLine.{run_in, sample_in, text_in};
+ghost use Rattle.command_words.specs.CommandLine.{command_at, number_in, number_of, numbers_in};
+ghost use Rattle.command_words.specs.CommandLine.{explain_in, order_in, order_of, run_in, sample_in, text_in};
 
 use crate::{Command, Usage};
 use answer_text::Order;
-use cer_base::{Memory, OrMemory, Text};
+use cer_base::{Listed, Memory, OrMemory, Text};
 use clap::ArgMatches;
 use std::alloc::Global;
 
 const MOST_BYTES: u64 = 1099511627776;
 
-/// The command in the matches, where they have one of the two and an order's name.
+/// The command in the matches, where they have one of the commands and an order's name.
 pub(crate) fn command_in(
     alloc: Global,
     matches: &ArgMatches<'_>,
@@ -29,6 +30,9 @@ pub(crate) fn command_in(
     }
     if name == "sample" {
         return Ok(sample_in(found));
+    }
+    if name == "explain" {
+        return explain_in(alloc, found);
     }
     Err(OrMemory::Fault(Usage))
 }
@@ -61,6 +65,21 @@ fn sample_in(matches: &ArgMatches<'_>) -> Command
     Command::Sample { seed, count }
 }
 
+/// What was found behind `explain`.
+fn explain_in(alloc: Global, matches: &ArgMatches<'_>) -> Result<Command, OrMemory<Usage>>
+    ensures read { IfOk result (λ c. c ≡ explain_in (rows_of (found_of matches.now))) }
+    ensures none { OnFault result (λ u. ⊥) }
+{
+    Ok(Command::Explain {
+        queries: text_in(alloc, matches, "queries")?,
+        events: text_in(alloc, matches, "events")?,
+        query: number_in(matches, "query", 0),
+        start: number_in(matches, "start", 0),
+        end: number_in(matches, "end", 0),
+        positions: numbers_in(alloc, matches, "positions")?,
+    })
+}
+
 fn text_in(alloc: Global, matches: &ArgMatches<'_>, id: &str) -> Result<Text, Memory>
     ensures { IfOk result (λ text. text ≡ text_in id.now (rows_of (found_of matches.now))) }
 {
@@ -71,6 +90,49 @@ fn number_in(matches: &ArgMatches<'_>, id: &str, default: u64) -> u64
     ensures { result ≡ number_in default id.now (rows_of (found_of matches.now)) }
 {
     matches.get_one::<u64>(id).unwrap_or(default)
+}
+
+fn numbers_in(alloc: Global, matches: &ArgMatches<'_>, id: &str) -> Result<Listed<u64>, Memory>
+    ensures { IfOk result (λ numbers. numbers ≡ numbers_in id.now (rows_of (found_of matches.now))) }
+{
+    match matches.get_strs(id) {
+        Some(texts) => Ok(Listed::of(numbers_of(alloc, texts)?)),
+        None => Ok(Listed::of(Vec::new(alloc))),
+    }
+}
+
+/// The numbers that the texts have in decimal digits.
+fn numbers_of(alloc: Global, texts: &[&str]) -> Result<Vec<u64>, Memory>
+    ensures { IfOk result (λ numbers. numbers.items
+        ≡ filter_map (λ text. number_of text.now) texts.now) }
+{
+    let mut numbers = Vec::new(alloc);
+    for text in texts {
+        add_number(&mut numbers, number_of(text))?;
+    }
+    Ok(numbers)
+}
+
+/// Puts the number at the end, if it is one.
+fn add_number(numbers: &mut Vec<u64>, number: Option<u64>) -> Result<(), Memory>
+    ensures { OnOk result (numbers.new.items ≡ numbers.old.items ++ cons_option number []) }
+{
+    match number {
+        Some(number) => {
+            numbers.push(number)?;
+            Ok(())
+        }
+        None => Ok(()),
+    }
+}
+
+fn number_of(text: &str) -> Option<u64>
+    ensures { result ≡ number_of text.now }
+{
+    match text.parse::<u64>() {
+        Ok(number) => Some(number),
+        Err(_) => None,
+    }
 }
 
 fn order_in(matches: &ArgMatches<'_>) -> Option<Order>

@@ -2,7 +2,7 @@ use super::*;
 use std::test::Fail;
 
 /// Each row has the words, a blank between two of them, and what they ask for.
-const ROWS: [(&str, &str); 64] = [
+const ROWS: [(&str, &str); 75] = [
     // the two commands, and what holds where no option is given
     ("run q e", "run q e Sorted 1099511627776"),
     ("sample 7 3", "sample 7 3"),
@@ -81,6 +81,24 @@ const ROWS: [(&str, &str); 64] = [
     ("", "usage"),
     ("walk q e", "usage"),
     ("--order walk run q e", "usage"),
+    // a question: any number of positions, in any order, and repeats
+    ("explain q e 1 1 3 3", "explain q e 1 1 3 [3]"),
+    ("explain q e 1 1 3", "explain q e 1 1 3 []"),
+    (
+        "explain q e 2 0 5 4 0 4 +3",
+        "explain q e 2 0 5 [4, 0, 4, 3]",
+    ),
+    (
+        "explain q e 0 18446744073709551615 0 0",
+        "explain q e 0 18446744073709551615 0 [0]",
+    ),
+    ("explain -- - -e 1 1 3 3", "explain - -e 1 1 3 [3]"),
+    ("explain q e 1 1", "usage"),
+    ("explain q e 1 1 x", "usage"),
+    ("explain q e 1 1 18446744073709551616", "usage"),
+    ("explain q e 1 1 3 3 x", "usage"),
+    ("explain q e 1 1 3 -3", "usage"),
+    ("explain q e 1 1 3 --order walk", "usage"),
     // what the program does not have
     ("--help", "usage"),
     ("-h", "usage"),
@@ -113,6 +131,19 @@ fn shown(alloc: Global, asked: Result<Command, OrMemory<Usage>>) -> Result<Strin
             format!(in alloc; "{names} {order:?} {most_bytes}")?
         }
         Ok(Command::Sample { seed, count }) => format!(in alloc; "sample {seed} {count}")?,
+        Ok(
+            Command::Explain {
+                queries,
+                events,
+                query,
+                start,
+                end,
+                positions,
+            },
+        ) => {
+            let names = format!(in alloc; "explain {} {}", queries.as_str(), events.as_str())?;
+            format!(in alloc; "{names} {query} {start} {end} {:?}", positions.as_slice())?
+        }
         Err(OrMemory::Fault(Usage)) => "usage".to_string(alloc)?,
         Err(OrMemory::Memory) => "memory".to_string(alloc)?,
     })

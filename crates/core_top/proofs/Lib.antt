@@ -7,15 +7,21 @@ mod WholeFiles
 mod Texts
 -- what the answers over a source are of the host's files
 mod Streams
--- how each exit of a run meets what is said of its end
+-- what each job makes of its files is one thing
+mod Jobs
+-- how each exit of a job meets what is said of its end
 mod Ends
--- what the end of a run says of each answer
+-- the same of a run
+mod RunEnds
+-- the same of an explanation
+mod ExplainEnds
+-- what the end of a job says of each answer
 mod Clauses
 -- a note for which there was no memory
 mod Noted
 -- each clause of the top call
 mod TopClauses
--- runs over a host that never fails
+-- jobs over a host that never fails
 mod SureRuns
--- the steps of a run
+-- the steps of a job
 mod StepClauses

@@ -1,60 +1,44 @@
 -- A note for which there was no memory: memory is the cause then.
 use Rattle.std.proofs.Common.{◌≡◌, ℕ, ◌⊎◌, inl, inr, List, Option, None, refl, sym, ◌∙◌, ap, subst}
-use Rattle.cer_outside.specs.Content.{Content}
-use Rattle.answer_blocks.specs.Taken.{TookPrefix}
-use Rattle.stream_answers.proofs.Portions.{prefix_of_all}
-use Rattle.event_run.specs.Runs.{Stop}
 use Rattle.core_top.specs.declared.Cause.{Cause}
 use Rattle.core_top.specs.declared.Cause.TheVariants as cause
-use Rattle.core_top.specs.Command.{RunWords}
+use Rattle.core_top.specs.Command.{Job}
 use Rattle.core_top.specs.Notes.{NeedsMemory, IsNoted, TookNote}
-use Rattle.core_top.specs.Output.{AreFileAnswers, WroteAll, WroteSample}
-use Rattle.core_top.specs.Run.{Sources, Outside, Ended, Finished, ran, sampled, refused, unread}
+use Rattle.core_top.specs.Output.{WroteSample}
+use Rattle.core_top.specs.Run.{Sources, Outside, Ended, left_of, Finished, ran, sampled, refused, unread}
+use Rattle.core_top.proofs.Jobs.{wrote_for_memory}
 use Rattle.core_top.proofs.Clauses.{at_cause}
 
--- all answers are a first part of them
-some_part : (content : List ℕ → Content) (r : RunWords) (stop : Stop) (before after : Option (List ℕ)) → WroteAll content r stop before after →
-    (bytes : List ℕ) × AreFileAnswers content r (λ s. Unit {0}) bytes × TookPrefix before after bytes
-some_part content r stop before after wrote = (
-  wrote.bytes,
-  record {
-    has_queries = wrote.are.has_queries;
-    has_events = wrote.are.has_events;
-    answers = λ text lines first second. let all = wrote.are.answers text lines first second in (all.0, tt, all.2);
-  },
-  prefix_of_all before after wrote.bytes wrote.took,
-)
-
--- the run whose note was not made
-ended_for_memory : {S H : Type 0} (sources : Sources S) (call : H → List ℕ → H → Type 0) (o : Outside) (r : RunWords) (first last : H) (told : Cause) (failed : Option S) →
-    NeedsMemory told → Ended sources call o r first last told failed → Ended sources call o r first last cause.Memory None
-ended_for_memory sources call o r first last (cause.Queries fault place) failed needs ended = record {
-  holds = refl;
-  wrote = inl ended.wrote;
+-- the job whose note was not made
+ended_for_memory : {S H : Type 0} (sources : Sources S) (call : H → List ℕ → H → Type 0) (o : Outside) (job : Job) (first last : H) (told : Cause) (failed : Option S) →
+    NeedsMemory told → Ended sources call o job first last told failed → Ended sources call o job first last cause.Memory None
+ended_for_memory sources call o job first last (cause.Queries fault place) failed needs ended = record {
+  holds = (refl, inl ended.holds.1);
+  wrote = wrote_for_memory job (cause.Queries fault place) o.content (left_of sources failed) None o.before o.after needs ended.wrote;
   counts_opens = ended.counts_opens;
   counts_writes = ended.counts_writes;
   opens = record { files = ended.opens.files; told = inr (inl ended.opens.told); turn = ended.opens.turn; steps = ended.opens.steps };
 }
-ended_for_memory sources call o r first last (cause.Event line fault) failed needs ended = record {
-  holds = refl;
-  wrote = inr (some_part o.content r _ o.before o.after ended.wrote);
+ended_for_memory sources call o job first last (cause.Event line fault) failed needs ended = record {
+  holds = (refl, inr ended.holds.both);
+  wrote = wrote_for_memory job (cause.Event line fault) o.content (left_of sources failed) None o.before o.after needs ended.wrote;
   counts_opens = ended.counts_opens;
   counts_writes = ended.counts_writes;
   opens = record { files = ended.opens.files; told = inr (inr ended.opens.told); turn = ended.opens.turn; steps = ended.opens.steps };
 }
-ended_for_memory sources call o r first last (cause.InputTooLong taken) failed needs ended = record {
-  holds = refl;
-  wrote = inr (some_part o.content r _ o.before o.after ended.wrote);
+ended_for_memory sources call o job first last (cause.InputTooLong taken) failed needs ended = record {
+  holds = (refl, inr ended.holds.both);
+  wrote = wrote_for_memory job (cause.InputTooLong taken) o.content (left_of sources failed) None o.before o.after needs ended.wrote;
   counts_opens = ended.counts_opens;
   counts_writes = ended.counts_writes;
   opens = record { files = ended.opens.files; told = inr (inr ended.opens.told); turn = ended.opens.turn; steps = ended.opens.steps };
 }
-ended_for_memory sources call o r first last cause.Fine failed needs ended = absurd needs
-ended_for_memory sources call o r first last cause.Usage failed needs ended = absurd needs
-ended_for_memory sources call o r first last (cause.OpenFault opened before after) failed needs ended = absurd needs
-ended_for_memory sources call o r first last (cause.ReadFault read after) failed needs ended = absurd needs
-ended_for_memory sources call o r first last (cause.WriteFault before after) failed needs ended = absurd needs
-ended_for_memory sources call o r first last cause.Memory failed needs ended = absurd needs
+ended_for_memory sources call o job first last cause.Fine failed needs ended = absurd needs
+ended_for_memory sources call o job first last cause.Usage failed needs ended = absurd needs
+ended_for_memory sources call o job first last (cause.OpenFault opened before after) failed needs ended = absurd needs
+ended_for_memory sources call o job first last (cause.ReadFault read after) failed needs ended = absurd needs
+ended_for_memory sources call o job first last (cause.WriteFault before after) failed needs ended = absurd needs
+ended_for_memory sources call o job first last cause.Memory failed needs ended = absurd needs
 
 -- no note of these ends takes memory
 not_of_sample : (told : Cause) (seed count : ℕ) (before after : Option (List ℕ)) → NeedsMemory told → WroteSample told seed count before after → ⊥
@@ -70,7 +54,7 @@ not_of_sample cause.Memory seed count before after needs wrote = needs
 
 finished_for_memory : {S H : Type 0} (sources : Sources S) (call : H → List ℕ → H → Type 0) (words : List (List ℕ)) (o : Outside) (first last : H) (told : Cause) (failed : Option S) →
     NeedsMemory told → Finished sources call words o first last told failed → Finished sources call words o first last cause.Memory None
-finished_for_memory sources call words o first last told failed needs (ran r asked ended) = ran r asked (ended_for_memory sources call o r first last told failed needs ended)
+finished_for_memory sources call words o first last told failed needs (ran job asked ended) = ran job asked (ended_for_memory sources call o job first last told failed needs ended)
 finished_for_memory sources call words o first last told failed needs (sampled seed count asked ended) = absurd (not_of_sample told seed count o.before o.after needs ended.wrote)
 finished_for_memory sources call words o first last told failed needs (refused ask usage ended) = absurd (at_cause NeedsMemory told cause.Usage usage needs)
 finished_for_memory sources call words o first last told failed needs (unread memory ended) = absurd (at_cause NeedsMemory told cause.Memory memory needs)

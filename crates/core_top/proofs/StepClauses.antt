@@ -1,4 +1,4 @@
--- The steps of a run, as the parts of the program tell them to each other.
+-- The steps of a job, as the parts of the program tell them to each other.
 use Rattle.std.proofs.Common.{◌≡◌, ℕ, ◌⊎◌, inl, inr, List, Option, Some, None, refl, sym, ◌∙◌, ap, subst}
 use Rattle.stream_schema.specs.Types.{Declared}
 use Rattle.cel_terms.specs.declared.Query.{Query}
@@ -9,13 +9,13 @@ use Rattle.stream_answers.specs.Steps.{CountsAll, Counts}
 use Rattle.fault_notes.specs.declared.File.TheVariants as file
 use Rattle.core_top.specs.declared.Cause.{Cause}
 use Rattle.core_top.specs.declared.Cause.TheVariants as cause
-use Rattle.core_top.specs.Command.{RunWords, IsRun, IsSample}
+use Rattle.core_top.specs.Command.{RunWords, Job, running, explaining, AsksJob}
 use Rattle.core_top.specs.Accepted.{Accepts}
 use Rattle.core_top.specs.Notes.{NeedsMemory, IsNoted}
 use Rattle.core_top.specs.Run.{Sources, QueriesStop, IsOpening}
-use Rattle.core_top.specs.Steps.{OverFiles, StepsBy, RunSteps}
+use Rattle.core_top.specs.Steps.{OverFiles, StepsBy, RunSteps, StepsOf}
 use Rattle.core_top.proofs.Streams.{asked_of, source_told, text_told}
-use Rattle.core_top.proofs.Words.{one_run}
+use Rattle.core_top.proofs.Words.{one_job}
 
 -- what is said over other files
 pub steps_map : (Over Under : (Asked → List ℕ → Type 0) → Type 0) → ((Says : Asked → List ℕ → Type 0) → Over Says → Under Says) → (given : Cause) (before after : Option (List ℕ)) (old now : ℕ) → StepsBy Over given before after old now → StepsBy Under given before after old now
@@ -71,6 +71,12 @@ steps_of_file content lines_of r schema queries given before after old now same 
     steps_map (λ Says. (bytes : List ℕ) → lines_of ≡ Holds bytes → Says (asked_of r schema queries) bytes) (OverFiles content r)
     (λ Says over text lines first second. (schema, queries, text_told (content r.queries) text (λ w. Accepts w schema queries) first accepted, over lines (same ∙ second))) given before after old now h
 
+-- nothing was asked, or memory ran out while the words were read
+abbrev pub IsEnd : Cause → Type 0
+IsEnd cause.Usage = Unit {0}
+IsEnd cause.Memory = Unit {0}
+IsEnd _ = ⊥
+
 -- A note for which there was no memory: memory is the cause then.
 forget : (content : List ℕ → Content) (r : RunWords) (Stops : Stop → Type 0) (Took : List ℕ → Type 0) (old now : ℕ) → OverFiles content r (λ a lines. CountsAll a lines Stops Took old now) → OverFiles content r (λ a lines. Counts a lines old now)
 forget content r Stops Took old now h = λ text lines first second.
@@ -92,19 +98,36 @@ for_memory content r (cause.ReadFault read to) before after old now needs h = ab
 for_memory content r (cause.WriteFault from to) before after old now needs h = absurd needs
 for_memory content r cause.Memory before after old now needs h = absurd needs
 
-pub noted_steps : {S : Type 0} (content : List ℕ → Content) (r : RunWords) (told given last : Cause) (failed left : Option S) (before after : Option (List ℕ)) (old now : ℕ) → last ≡ given → IsNoted told failed given left → RunSteps told content r before after old now → RunSteps last content r before after old now
-noted_steps content r told given last failed left before after old now same noted h =
-    let P : Cause → Type 0 = λ k. RunSteps k content r before after old now in
+job_for_memory : (content : List ℕ → Content) (job : Job) (told : Cause) (before after : Option (List ℕ)) (old now : ℕ) → NeedsMemory told → StepsOf told content job before after old now → StepsOf cause.Memory content job before after old now
+job_for_memory content (running r) told before after old now needs h = for_memory content r told before after old now needs h
+job_for_memory content (explaining x) told before after old now needs h = h
+
+pub noted_steps : {S : Type 0} (content : List ℕ → Content) (job : Job) (told given last : Cause) (failed left : Option S) (before after : Option (List ℕ)) (old now : ℕ) → last ≡ given → IsNoted told failed given left → StepsOf told content job before after old now → StepsOf last content job before after old now
+noted_steps content job told given last failed left before after old now same noted h =
+    let P : Cause → Type 0 = λ k. StepsOf k content job before after old now in
     subst P (sym same) (elim noted [
       | inl is ↦ subst P (sym is.0) h
-      | inr none ↦ subst P (sym none.1) (for_memory content r told before after old now none.0 h)
+      | inr none ↦ subst P (sym none.1) (job_for_memory content job told before after old now none.0 h)
     ])
 
--- the run that the words ask for
-pub run_steps : (words : List (List ℕ)) (content : List ℕ → Content) (r s : RunWords) (given : Cause) (before after : Option (List ℕ)) (old now : ℕ) → IsRun words r → IsRun words s → RunSteps given content r before after old now → RunSteps given content s before after old now
-run_steps words content r s given before after old now one other h =
-    let P : RunWords → Type 0 = λ w. RunSteps given content w before after old now in subst P (one_run words r s one other) h
+-- a job that took no step
+pub no_steps : (content : List ℕ → Content) (job : Job) (given : Cause) (before after : Option (List ℕ)) (now : ℕ) → IsEnd given → StepsOf given content job before after now now
+no_steps content (running r) cause.Memory before after now ends = inl refl
+no_steps content (running r) cause.Usage before after now ends = refl
+no_steps content (running r) cause.Fine before after now ends = absurd ends
+no_steps content (running r) (cause.Queries fault place) before after now ends = absurd ends
+no_steps content (running r) (cause.Event line fault) before after now ends = absurd ends
+no_steps content (running r) (cause.InputTooLong taken) before after now ends = absurd ends
+no_steps content (running r) (cause.OpenFault opened from to) before after now ends = absurd ends
+no_steps content (running r) (cause.ReadFault read to) before after now ends = absurd ends
+no_steps content (running r) (cause.WriteFault from to) before after now ends = absurd ends
+no_steps content (explaining x) given before after now ends = refl
+
+-- the job that the words ask for
+pub job_steps : (words : List (List ℕ)) (content : List ℕ → Content) (job other : Job) (given : Cause) (before after : Option (List ℕ)) (old now : ℕ) → AsksJob words job → AsksJob words other → StepsOf given content job before after old now → StepsOf given content other before after old now
+job_steps words content job other given before after old now one two h =
+    let P : Job → Type 0 = λ w. StepsOf given content w before after old now in subst P (one_job words job other one two) h
 
 -- and by another name of the words
-pub run_as : (words others : List (List ℕ)) (r : RunWords) → others ≡ words → IsRun words r → IsRun others r
-run_as words others r same asked = let P : List (List ℕ) → Type 0 = λ w. IsRun w r in subst P (sym same) asked
+pub job_as : (words others : List (List ℕ)) (job : Job) → others ≡ words → AsksJob words job → AsksJob others job
+job_as words others job same asked = let P : List (List ℕ) → Type 0 = λ w. AsksJob w job in subst P (sym same) asked

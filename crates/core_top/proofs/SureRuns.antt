@@ -1,4 +1,4 @@
--- A run over a host that never fails ends well, or memory ran out.
+-- A job over a host that never fails ends well, or memory ran out.
 use Rattle.std.proofs.Common.{◌≡◌, ℕ, List, Option, Some, None, refl, sym, ◌∙◌, ap, arith, IsSomeAnd, cond, is_some}
 use Rattle.cer_outside.specs.Causes.{Rose}
 use Rattle.cer_outside.specs.Content.{Content, Missing, Holds}
@@ -8,9 +8,9 @@ use Rattle.fault_notes.specs.declared.File.{File}
 use Rattle.fault_notes.specs.declared.File.TheVariants as file
 use Rattle.core_top.specs.declared.Cause.{Cause}
 use Rattle.core_top.specs.declared.Cause.TheVariants as cause
-use Rattle.core_top.specs.Command.{RunWords, IsRun}
+use Rattle.core_top.specs.Command.{Job, queries_of, events_of, AsksJob}
 use Rattle.core_top.specs.Causes.{IsFineOrOutside, IsFineOrMemory, HasOpenFault, HasReadFault, name_of}
-use Rattle.core_top.proofs.Words.{one_run}
+use Rattle.core_top.proofs.Words.{one_job}
 
 -- a count that is 0 has not risen
 pub never_rose : (before after : ℕ) → after ≡ 0 → Rose before after → ⊥
@@ -25,16 +25,16 @@ pub no_faults : (files : List FileState) (others : ℕ) (name bytes : List ℕ) 
 no_faults files others name bytes told = none_of (file_under files name) bytes others told
 
 -- neither name has faults
-pub neither : (new : List ℕ → ℕ) (r : RunWords) → new r.queries ≡ 0 → new r.events ≡ 0 → (opened : File) → new (name_of opened r) ≡ 0
-neither new r first second file.Queries = first
-neither new r first second file.Events = second
+pub neither : (new : List ℕ → ℕ) (job : Job) → new (queries_of job) ≡ 0 → new (events_of job) ≡ 0 → (opened : File) → new (name_of opened job) ≡ 0
+neither new job first second file.Queries = first
+neither new job first second file.Events = second
 
 -- no file of the words failed to open
-pub never_open : (words : List (List ℕ)) (content : List ℕ → Content) (old new : List ℕ → ℕ) (r : RunWords) (opened : File) (before after : ℕ) →
-    IsRun words r → new r.queries ≡ 0 → new r.events ≡ 0 → HasOpenFault words content old new opened before after → ⊥
-never_open words content old new r opened before after is first second fault =
-    let same = one_run words fault.run r fault.asked is in
-    let here : new (name_of opened fault.run) ≡ 0 = ap (λ w. new (name_of opened w)) same ∙ neither new r first second opened in
+pub never_open : (words : List (List ℕ)) (content : List ℕ → Content) (old new : List ℕ → ℕ) (job : Job) (opened : File) (before after : ℕ) →
+    AsksJob words job → new (queries_of job) ≡ 0 → new (events_of job) ≡ 0 → HasOpenFault words content old new opened before after → ⊥
+never_open words content old new job opened before after is first second fault =
+    let same = one_job words fault.job job fault.asked is in
+    let here : new (name_of opened fault.job) ≡ 0 = ap (λ w. new (name_of opened w)) same ∙ neither new job first second opened in
     never_rose before after (fault.to ∙ here) fault.rose
 
 -- no source failed

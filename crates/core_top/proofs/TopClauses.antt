@@ -7,33 +7,35 @@ use Rattle.cer_outside.specs.Causes.{Rose, AllStay}
 use Rattle.cer_outside.specs.Content.{Missing, Holds}
 use Rattle.event_run.specs.Runs.{Stop, End, Event, InputTooLong}
 use Rattle.fault_notes.specs.declared.File.{File}
+use Rattle.fault_notes.specs.declared.File.TheVariants as file
 use Rattle.core_top.specs.declared.Cause.{Cause}
 use Rattle.core_top.specs.declared.Cause.TheVariants as cause
 use Rattle.command_words.specs.CommandLine.{AskNothing}
-use Rattle.core_top.specs.Command.{RunWords, IsRun, IsSample}
-use Rattle.core_top.specs.Accepted.{IsRefusedText, StopsAt}
+use Rattle.core_top.specs.Command.{Job, queries_of, events_of, AsksJob, IsSample}
+use Rattle.core_top.specs.Accepted.{IsRefusedBy, StopsOver}
 use Rattle.core_top.specs.Causes.{Exactly, IsFromOutside, IsFineOrOutside, IsReading, HasOpenFault, HasReadFault, HasWriteFault, CountsOpens, CountsWrites, EndsWithout, name_of}
 use Rattle.core_top.specs.Opening.{OpensInTurn}
-use Rattle.core_top.specs.Output.{Wrote, WroteSample}
+use Rattle.core_top.specs.Output.{WroteBy, WroteSample}
 use Rattle.core_top.specs.Run.{Sources, Outside, left_of, CauseHolds, Ended, EndedSample, EndedUnasked, Finished, ran, sampled, refused, unread}
 use Rattle.core_top.specs.Notes.{IsNoted}
 use Rattle.core_top.proofs.Noted.{noted_finished}
-use Rattle.core_top.proofs.Words.{one_run, one_sample, no_run_and_sample}
-use Rattle.core_top.proofs.Clauses.{told, at_cause, cause_of, answered_stop, queries_whenever, stop_whenever, fine_or_outside, no_source, failed_reading, ends_without}
+use Rattle.core_top.proofs.Words.{one_job, one_sample, no_job_and_sample, asks_something}
+use Rattle.core_top.proofs.Jobs.{told, wrote_nothing}
+use Rattle.core_top.proofs.Clauses.{at_cause, cause_of, queries_whenever, stop_whenever, stops_of_cause, fine_or_outside, no_source, failed_reading, ends_without}
 
--- How a run of these words ended, where they ask for one.
-pub record RanWell {S H : Type 0} (sources : Sources S) (call : H → List ℕ → H → Type 0) (o : Outside) (r : RunWords) (first last : H) (given : Cause) (failed : Option S) : Type 0 where
-  pub way : Ended sources call o r first last given failed ⊎ ((given ≡ cause.Memory) × EndedUnasked o first last failed)
+-- How a job ended that the words ask for.
+pub record EndedWell {S H : Type 0} (sources : Sources S) (call : H → List ℕ → H → Type 0) (o : Outside) (job : Job) (first last : H) (given : Cause) (failed : Option S) : Type 0 where
+  pub way : Ended sources call o job first last given failed ⊎ ((given ≡ cause.Memory) × EndedUnasked o first last failed)
 
--- Where the words ask for a run, it ended, or memory ran out while they were read.
-pub ran_well : {S H : Type 0} (sources : Sources S) (call : H → List ℕ → H → Type 0) (words : List (List ℕ)) (o : Outside) (first last : H) (given : Cause) (failed : Option S) →
-    Finished sources call words o first last given failed → (r : RunWords) → IsRun words r → RanWell sources call o r first last given failed
-ran_well sources call words o first last given failed (ran other asked ended) r is =
-    let P : RunWords → Type 0 = λ w. Ended sources call o w first last given failed in
-    record { way = inl (subst P (one_run words other r asked is) ended) }
-ran_well sources call words o first last given failed (sampled seed count asked ended) r is = absurd (no_run_and_sample words r seed count is asked)
-ran_well sources call words o first last given failed (refused ask usage ended) r is = absurd (ask _ is)
-ran_well sources call words o first last given failed (unread memory ended) r is = record { way = inr (memory, ended) }
+-- Where the words ask for a job, it ended, or memory ran out while they were read.
+pub ended_well : {S H : Type 0} (sources : Sources S) (call : H → List ℕ → H → Type 0) (words : List (List ℕ)) (o : Outside) (first last : H) (given : Cause) (failed : Option S) →
+    Finished sources call words o first last given failed → (job : Job) → AsksJob words job → EndedWell sources call o job first last given failed
+ended_well sources call words o first last given failed (ran other asked ended) job is =
+    let P : Job → Type 0 = λ w. Ended sources call o w first last given failed in
+    record { way = inl (subst P (one_job words other job asked is) ended) }
+ended_well sources call words o first last given failed (sampled seed count asked ended) job is = absurd (no_job_and_sample words job seed count is asked)
+ended_well sources call words o first last given failed (refused ask usage ended) job is = absurd (asks_something words job ask is)
+ended_well sources call words o first last given failed (unread memory ended) job is = record { way = inr (memory, ended) }
 
 -- a cause that is another one
 other_cause : (given one : Cause) → given ≡ one → (want : Cause) → given ≡ want → one ≡ want
@@ -41,9 +43,9 @@ other_cause given one same want is = sym same ∙ is
 
 pub usage_clause : {S H : Type 0} (sources : Sources S) (call : H → List ℕ → H → Type 0) (words : List (List ℕ)) (o : Outside) (first last : H) (given : Cause) (failed : Option S) →
     Finished sources call words o first last given failed → Exactly given cause.Usage (AskNothing words)
-usage_clause sources call words o first last given failed (ran r asked ended) = record {
-  only = λ same. absurd (at_cause (λ k. CauseHolds sources o r k failed) given cause.Usage same ended.holds);
-  whenever = λ ask. absurd (ask _ asked);
+usage_clause sources call words o first last given failed (ran job asked ended) = record {
+  only = λ same. absurd (at_cause (λ k. CauseHolds sources o job k failed) given cause.Usage same ended.holds);
+  whenever = λ ask. absurd (asks_something words job ask asked);
 }
 usage_clause sources call words o first last given failed (sampled seed count asked ended) = record {
   only = λ same. absurd (at_cause (λ k. WroteSample k seed count o.before o.after) given cause.Usage same ended.wrote);
@@ -56,12 +58,12 @@ usage_clause sources call words o first last given failed (unread memory ended) 
 }
 
 pub queries_clause : {S H : Type 0} (sources : Sources S) (call : H → List ℕ → H → Type 0) (words : List (List ℕ)) (o : Outside) (first last : H) (given : Cause) (failed : Option S) → Finished sources call words o first last given failed →
-    (r : RunWords) (text : List ℕ) (fault : QueryFault) (place : Place) → IsRun words r → o.content r.queries ≡ Holds text → Exactly given (cause.Queries fault place) (IsRefusedText text fault place)
-queries_clause sources call words o first last given failed finished r text fault place is first_told =
-    elim (ran_well sources call words o first last given failed finished r is).way [
+    (job : Job) (text : List ℕ) (fault : QueryFault) (place : Place) → AsksJob words job → o.content (queries_of job) ≡ Holds text → Exactly given (cause.Queries fault place) (IsRefusedBy job text fault place)
+queries_clause sources call words o first last given failed finished job text fault place is first_told =
+    elim (ended_well sources call words o first last given failed finished job is).way [
       | inl ended ↦ record {
-        only = λ same. told _ text (λ w. IsRefusedText w fault place) first_told (at_cause (λ k. CauseHolds sources o r k failed) given (cause.Queries fault place) same ended.holds).1;
-        whenever = λ refused. queries_whenever sources o r given failed text fault place first_told ended.holds refused;
+        only = λ same. told _ text (λ w. IsRefusedBy job w fault place) first_told (at_cause (λ k. CauseHolds sources o job k failed) given (cause.Queries fault place) same ended.holds).2;
+        whenever = λ refused. queries_whenever sources o job given failed text fault place first_told ended.holds refused;
       }
       | inr none ↦ record {
         only = λ same. let wrong : cause.Memory ≡ cause.Queries fault place = sym none.0 ∙ same in absurd cc;
@@ -71,13 +73,13 @@ queries_clause sources call words o first last given failed finished r text faul
 
 -- a stop of the events, by its cause
 stop_clause : {S H : Type 0} (sources : Sources S) (call : H → List ℕ → H → Type 0) (words : List (List ℕ)) (o : Outside) (first last : H) (given : Cause) (failed : Option S) → Finished sources call words o first last given failed →
-    (r : RunWords) (text lines : List ℕ) (stop : Stop) → ((w : Option (List ℕ)) → Wrote (cause_of stop) o.content r w o.before o.after → StopsAt text lines r.most_bytes stop) → (cause.Memory ≡ cause_of stop → ⊥) →
-    IsRun words r → o.content r.queries ≡ Holds text → o.content r.events ≡ Holds lines → Exactly given (cause_of stop) (StopsAt text lines r.most_bytes stop)
-stop_clause sources call words o first last given failed finished r text lines stop stops other is first_told second_told =
-    elim (ran_well sources call words o first last given failed finished r is).way [
+    (job : Job) (text lines : List ℕ) (stop : Stop) → (cause.Memory ≡ cause_of stop → ⊥) →
+    AsksJob words job → o.content (queries_of job) ≡ Holds text → o.content (events_of job) ≡ Holds lines → Exactly given (cause_of stop) (StopsOver job text lines stop)
+stop_clause sources call words o first last given failed finished job text lines stop other is first_told second_told =
+    elim (ended_well sources call words o first last given failed finished job is).way [
       | inl ended ↦ record {
-        only = λ same. stops (left_of sources failed) (at_cause (λ k. Wrote k o.content r (left_of sources failed) o.before o.after) given (cause_of stop) same ended.wrote);
-        whenever = λ fact. stop_whenever sources o r given failed text lines stop first_told second_told ended.holds ended.wrote fact;
+        only = λ same. stops_of_cause sources o job failed text lines stop first_told second_told (at_cause (λ k. CauseHolds sources o job k failed) given (cause_of stop) same ended.holds);
+        whenever = λ fact. stop_whenever sources o job given failed text lines stop first_told second_told ended.holds fact;
       }
       | inr none ↦ record {
         only = λ same. absurd (other (sym none.0 ∙ same));
@@ -86,37 +88,37 @@ stop_clause sources call words o first last given failed finished r text lines s
     ]
 
 pub event_clause : {S H : Type 0} (sources : Sources S) (call : H → List ℕ → H → Type 0) (words : List (List ℕ)) (o : Outside) (first last : H) (given : Cause) (failed : Option S) → Finished sources call words o first last given failed →
-    (r : RunWords) (text lines : List ℕ) (line : ℕ) (fault : EventFault) → IsRun words r → o.content r.queries ≡ Holds text → o.content r.events ≡ Holds lines →
-    Exactly given (cause.Event line fault) (StopsAt text lines r.most_bytes (Event line fault))
-event_clause sources call words o first last given failed finished r text lines line fault is first_told second_told =
-    stop_clause sources call words o first last given failed finished r text lines (Event line fault)
-    (λ w wrote. answered_stop o.content r (Event line fault) o.before o.after text lines first_told second_told wrote) (λ wrong. cc) is first_told second_told
+    (job : Job) (text lines : List ℕ) (line : ℕ) (fault : EventFault) → AsksJob words job → o.content (queries_of job) ≡ Holds text → o.content (events_of job) ≡ Holds lines →
+    Exactly given (cause.Event line fault) (StopsOver job text lines (Event line fault))
+event_clause sources call words o first last given failed finished job text lines line fault is first_told second_told =
+    stop_clause sources call words o first last given failed finished job text lines (Event line fault)
+    (λ wrong. cc) is first_told second_told
 
 pub too_long_clause : {S H : Type 0} (sources : Sources S) (call : H → List ℕ → H → Type 0) (words : List (List ℕ)) (o : Outside) (first last : H) (given : Cause) (failed : Option S) → Finished sources call words o first last given failed →
-    (r : RunWords) (text lines : List ℕ) (taken : ℕ) → IsRun words r → o.content r.queries ≡ Holds text → o.content r.events ≡ Holds lines →
-    Exactly given (cause.InputTooLong taken) (StopsAt text lines r.most_bytes (InputTooLong taken))
-too_long_clause sources call words o first last given failed finished r text lines taken is first_told second_told =
-    stop_clause sources call words o first last given failed finished r text lines (InputTooLong taken)
-    (λ w wrote. answered_stop o.content r (InputTooLong taken) o.before o.after text lines first_told second_told wrote) (λ wrong. cc) is first_told second_told
+    (job : Job) (text lines : List ℕ) (taken : ℕ) → AsksJob words job → o.content (queries_of job) ≡ Holds text → o.content (events_of job) ≡ Holds lines →
+    Exactly given (cause.InputTooLong taken) (StopsOver job text lines (InputTooLong taken))
+too_long_clause sources call words o first last given failed finished job text lines taken is first_told second_told =
+    stop_clause sources call words o first last given failed finished job text lines (InputTooLong taken)
+    (λ wrong. cc) is first_told second_told
 
 pub complete_clause : {S H : Type 0} (sources : Sources S) (call : H → List ℕ → H → Type 0) (words : List (List ℕ)) (o : Outside) (first last : H) (given : Cause) (failed : Option S) → Finished sources call words o first last given failed →
-    (r : RunWords) (text lines : List ℕ) → IsRun words r → o.content r.queries ≡ Holds text → o.content r.events ≡ Holds lines → StopsAt text lines r.most_bytes End → IsFineOrOutside given
-complete_clause sources call words o first last given failed finished r text lines is first_told second_told stops =
-    let exact = stop_clause sources call words o first last given failed finished r text lines End
-    (λ w wrote. answered_stop o.content r End o.before o.after text lines first_told second_told wrote) (λ wrong. cc) is first_told second_told in
+    (job : Job) (text lines : List ℕ) → AsksJob words job → o.content (queries_of job) ≡ Holds text → o.content (events_of job) ≡ Holds lines → StopsOver job text lines End → IsFineOrOutside given
+complete_clause sources call words o first last given failed finished job text lines is first_told second_told stops =
+    let exact = stop_clause sources call words o first last given failed finished job text lines End
+    (λ wrong. cc) is first_told second_told in
     fine_or_outside given (exact.whenever stops)
 
 pub wrote_clause : {S H : Type 0} (sources : Sources S) (call : H → List ℕ → H → Type 0) (words : List (List ℕ)) (o : Outside) (first last : H) (given : Cause) (failed : Option S) → Finished sources call words o first last given failed →
-    (r : RunWords) → IsRun words r → Wrote given o.content r (left_of sources failed) o.before o.after
-wrote_clause sources call words o first last given failed finished r is =
-    elim (ran_well sources call words o first last given failed finished r is).way [
+    (job : Job) → AsksJob words job → WroteBy given o.content job (left_of sources failed) o.before o.after
+wrote_clause sources call words o first last given failed finished job is =
+    elim (ended_well sources call words o first last given failed finished job is).way [
       | inl ended ↦ ended.wrote
-      | inr none ↦ at_cause (λ k. Wrote k o.content r (left_of sources failed) o.before o.after) cause.Memory given (sym none.0) (inl none.1.wrote)
+      | inr none ↦ at_cause (λ k. WroteBy k o.content job (left_of sources failed) o.before o.after) cause.Memory given (sym none.0) (wrote_nothing job cause.Memory o.content (left_of sources failed) o.before o.after tt none.1.wrote)
     ]
 
 pub sampled_clause : {S H : Type 0} (sources : Sources S) (call : H → List ℕ → H → Type 0) (words : List (List ℕ)) (o : Outside) (first last : H) (given : Cause) (failed : Option S) → Finished sources call words o first last given failed →
     (seed count : ℕ) → IsSample words seed count → WroteSample given seed count o.before o.after
-sampled_clause sources call words o first last given failed (ran r asked ended) seed count is = absurd (no_run_and_sample words r seed count asked is)
+sampled_clause sources call words o first last given failed (ran job asked ended) seed count is = absurd (no_job_and_sample words job seed count asked is)
 sampled_clause sources call words o first last given failed (sampled other number asked ended) seed count is =
     let same = one_sample words other number seed count asked is in
     let P : ℕ → Type 0 = λ s. WroteSample given s number o.before o.after in
@@ -128,23 +130,23 @@ sampled_clause sources call words o first last given failed (unread memory ended
 
 pub silent_clause : {S H : Type 0} (sources : Sources S) (call : H → List ℕ → H → Type 0) (words : List (List ℕ)) (o : Outside) (first last : H) (given : Cause) (failed : Option S) → Finished sources call words o first last given failed →
     AskNothing words → (o.after ≡ o.before) × (last ≡ first)
-silent_clause sources call words o first last given failed (ran r asked ended) ask = absurd (ask _ asked)
+silent_clause sources call words o first last given failed (ran job asked ended) ask = absurd (asks_something words job ask asked)
 silent_clause sources call words o first last given failed (sampled seed count asked ended) ask = absurd (ask _ asked)
 silent_clause sources call words o first last given failed (refused again usage ended) ask = (ended.wrote, ended.unopened)
 silent_clause sources call words o first last given failed (unread memory ended) ask = (ended.wrote, ended.unopened)
 
 pub unopened_clause : {S H : Type 0} (sources : Sources S) (call : H → List ℕ → H → Type 0) (words : List (List ℕ)) (o : Outside) (first last : H) (given : Cause) (failed : Option S) → Finished sources call words o first last given failed →
     (seed count : ℕ) → IsSample words seed count → last ≡ first
-unopened_clause sources call words o first last given failed (ran r asked ended) seed count is = absurd (no_run_and_sample words r seed count asked is)
+unopened_clause sources call words o first last given failed (ran job asked ended) seed count is = absurd (no_job_and_sample words job seed count asked is)
 unopened_clause sources call words o first last given failed (sampled other number asked ended) seed count is = ended.unopened
 unopened_clause sources call words o first last given failed (refused ask usage ended) seed count is = ended.unopened
 unopened_clause sources call words o first last given failed (unread memory ended) seed count is = ended.unopened
 
 pub open_clause : {S H : Type 0} (sources : Sources S) (call : H → List ℕ → H → Type 0) (words : List (List ℕ)) (o : Outside) (first last : H) (given : Cause) (failed : Option S) → Finished sources call words o first last given failed →
     (opened : File) (before after : ℕ) → given ≡ cause.OpenFault opened before after → HasOpenFault words o.content o.old o.new opened before after
-open_clause sources call words o first last given failed (ran r asked ended) opened before after same =
-    let holds = at_cause (λ k. CauseHolds sources o r k failed) given (cause.OpenFault opened before after) same ended.holds in
-    record { run = r; asked = asked; turn = holds.1; from = holds.2; to = holds.3; rose = holds.4 }
+open_clause sources call words o first last given failed (ran job asked ended) opened before after same =
+    let holds = at_cause (λ k. CauseHolds sources o job k failed) given (cause.OpenFault opened before after) same ended.holds in
+    record { job = job; asked = asked; turn = holds.2; from = holds.3; to = holds.4; rose = holds.5 }
 open_clause sources call words o first last given failed (sampled seed count asked ended) opened before after same =
     absurd (at_cause (λ k. WroteSample k seed count o.before o.after) given (cause.OpenFault opened before after) same ended.wrote)
 open_clause sources call words o first last given failed (refused ask usage ended) opened before after same =
@@ -157,11 +159,18 @@ source_with : {S : Type 0} (failed : Option S) (P Q : S → Type 0) → ((source
 source_with None P Q follows fact = fact
 source_with (Some source) P Q follows fact = follows source fact
 
+-- what is said of a source that failed in a job
+job_read : {S : Type 0} (sources : Sources S) (words : List (List ℕ)) (o : Outside) (job : Job) (read : File) (after : ℕ) (failed : Option S) → AsksJob words job → CauseHolds sources o job (cause.ReadFault read after) failed →
+    IsSomeAnd failed (λ source. HasReadFault words o.content read after (sources.faults source) (sources.left source))
+job_read sources words o job file.Queries after failed asked holds =
+    source_with failed _ _ (λ source fault. record { job = job; asked = asked; turn = tt; told = fault.told; rose = fault.rose; rest = fault.rest }) holds.1
+job_read sources words o job file.Events after failed asked holds =
+    source_with failed _ _ (λ source fault. record { job = job; asked = asked; turn = holds.0; told = fault.told; rose = fault.rose; rest = fault.rest }) holds.1
+
 pub read_clause : {S H : Type 0} (sources : Sources S) (call : H → List ℕ → H → Type 0) (words : List (List ℕ)) (o : Outside) (first last : H) (given : Cause) (failed : Option S) → Finished sources call words o first last given failed →
     (read : File) (after : ℕ) → given ≡ cause.ReadFault read after → IsSomeAnd failed (λ source. HasReadFault words o.content read after (sources.faults source) (sources.left source))
-read_clause sources call words o first last given failed (ran r asked ended) read after same =
-    let holds = at_cause (λ k. CauseHolds sources o r k failed) given (cause.ReadFault read after) same ended.holds in
-    source_with failed _ _ (λ source fault. record { run = r; asked = asked; turn = holds.0; told = fault.told; rose = fault.rose; rest = fault.rest }) holds.1
+read_clause sources call words o first last given failed (ran job asked ended) read after same =
+    job_read sources words o job read after failed asked (at_cause (λ k. CauseHolds sources o job k failed) given (cause.ReadFault read after) same ended.holds)
 read_clause sources call words o first last given failed (sampled seed count asked ended) read after same =
     absurd (at_cause (λ k. WroteSample k seed count o.before o.after) given (cause.ReadFault read after) same ended.wrote)
 read_clause sources call words o first last given failed (refused ask usage ended) read after same =
@@ -171,9 +180,9 @@ read_clause sources call words o first last given failed (unread memory ended) r
 
 pub write_clause : {S H : Type 0} (sources : Sources S) (call : H → List ℕ → H → Type 0) (words : List (List ℕ)) (o : Outside) (first last : H) (given : Cause) (failed : Option S) → Finished sources call words o first last given failed →
     (before after : ℕ) → given ≡ cause.WriteFault before after → HasWriteFault o.out_old o.out_new before after
-write_clause sources call words o first last given failed (ran r asked ended) before after same =
-    let holds = at_cause (λ k. CauseHolds sources o r k failed) given (cause.WriteFault before after) same ended.holds in
-    record { from = holds.1; to = holds.2; rose = holds.3 }
+write_clause sources call words o first last given failed (ran job asked ended) before after same =
+    let holds = at_cause (λ k. CauseHolds sources o job k failed) given (cause.WriteFault before after) same ended.holds in
+    record { from = holds.2; to = holds.3; rose = holds.4 }
 write_clause sources call words o first last given failed (sampled seed count asked ended) before after same =
     let from = ended.fault before after same in record { from = from.0; to = from.1; rose = from.2 }
 write_clause sources call words o first last given failed (refused ask usage ended) before after same =
@@ -197,37 +206,37 @@ reads_no_sample cause.Memory seed count before after wrote reading = reading
 reads_no_sample (cause.InputTooLong taken) seed count before after wrote reading = reading
 
 pub failed_clause : {S H : Type 0} (sources : Sources S) (call : H → List ℕ → H → Type 0) (words : List (List ℕ)) (o : Outside) (first last : H) (given : Cause) (failed : Option S) → Finished sources call words o first last given failed → IsSome failed ↔ IsReading given
-failed_clause sources call words o first last given failed (ran r asked ended) = failed_reading sources o r given failed ended.holds
+failed_clause sources call words o first last given failed (ran job asked ended) = failed_reading sources o job given failed ended.holds
 failed_clause sources call words o first last given failed (sampled seed count asked ended) = reading_none given failed ended.none (reads_no_sample given seed count o.before o.after ended.wrote)
 failed_clause sources call words o first last given failed (refused ask usage ended) = reading_none given failed ended.none (at_cause (λ k. IsReading k → ⊥) cause.Usage given (sym usage) (λ h. h))
 failed_clause sources call words o first last given failed (unread memory ended) = reading_none given failed ended.none (at_cause (λ k. IsReading k → ⊥) cause.Memory given (sym memory) (λ h. h))
 
 pub missing_clause : {S H : Type 0} (sources : Sources S) (call : H → List ℕ → H → Type 0) (words : List (List ℕ)) (o : Outside) (first last : H) (given : Cause) (failed : Option S) → Finished sources call words o first last given failed →
-    (r : RunWords) (lost : File) → IsRun words r → o.content (name_of lost r) ≡ Missing → EndsWithout lost given × (o.after ≡ o.before)
-missing_clause sources call words o first last given failed finished r lost is missing =
-    elim (ran_well sources call words o first last given failed finished r is).way [
-      | inl ended ↦ ends_without sources o r given failed lost missing ended.holds ended.wrote
+    (job : Job) (lost : File) → AsksJob words job → o.content (name_of lost job) ≡ Missing → EndsWithout lost given × (o.after ≡ o.before)
+missing_clause sources call words o first last given failed finished job lost is missing =
+    elim (ended_well sources call words o first last given failed finished job is).way [
+      | inl ended ↦ ends_without sources o job given failed lost missing ended.holds
       | inr none ↦ (at_cause (EndsWithout lost) cause.Memory given (sym none.0) tt, none.1.wrote)
     ]
 
 pub opens_clause : {S H : Type 0} (sources : Sources S) (call : H → List ℕ → H → Type 0) (words : List (List ℕ)) (o : Outside) (first last : H) (given : Cause) (failed : Option S) → Finished sources call words o first last given failed →
-    (r : RunWords) → IsRun words r → OpensInTurn call (o.content r.queries) r given first last
-opens_clause sources call words o first last given failed finished r is =
-    elim (ran_well sources call words o first last given failed finished r is).way [
+    (job : Job) → AsksJob words job → OpensInTurn call (o.content (queries_of job)) job given first last
+opens_clause sources call words o first last given failed finished job is =
+    elim (ended_well sources call words o first last given failed finished job is).way [
       | inl ended ↦ ended.opens
-      | inr none ↦ at_cause (λ k. OpensInTurn call (o.content r.queries) r k first last) cause.Memory given (sym none.0) (record { files = []; told = inl refl; turn = tt; steps = none.1.unopened })
+      | inr none ↦ at_cause (λ k. OpensInTurn call (o.content (queries_of job)) job k first last) cause.Memory given (sym none.0) (record { files = []; told = inl refl; turn = tt; steps = none.1.unopened })
     ]
 
 pub counts_opens_clause : {S H : Type 0} (sources : Sources S) (call : H → List ℕ → H → Type 0) (words : List (List ℕ)) (o : Outside) (first last : H) (given : Cause) (failed : Option S) → Finished sources call words o first last given failed →
-    (last ≡ first → AllStay o.old o.new) → (r : RunWords) → IsRun words r → CountsOpens given r o.old o.new
-counts_opens_clause sources call words o first last given failed finished stay r is =
-    elim (ran_well sources call words o first last given failed finished r is).way [
+    (last ≡ first → AllStay o.old o.new) → (job : Job) → AsksJob words job → CountsOpens given job o.old o.new
+counts_opens_clause sources call words o first last given failed finished stay job is =
+    elim (ended_well sources call words o first last given failed finished job is).way [
       | inl ended ↦ ended.counts_opens
-      | inr none ↦ at_cause (λ k. CountsOpens k r o.old o.new) cause.Memory given (sym none.0) (stay none.1.unopened)
+      | inr none ↦ at_cause (λ k. CountsOpens k job o.old o.new) cause.Memory given (sym none.0) (stay none.1.unopened)
     ]
 
 pub counts_writes_clause : {S H : Type 0} (sources : Sources S) (call : H → List ℕ → H → Type 0) (words : List (List ℕ)) (o : Outside) (first last : H) (given : Cause) (failed : Option S) → Finished sources call words o first last given failed → CountsWrites given o.out_old o.out_new
-counts_writes_clause sources call words o first last given failed (ran r asked ended) = ended.counts_writes
+counts_writes_clause sources call words o first last given failed (ran job asked ended) = ended.counts_writes
 counts_writes_clause sources call words o first last given failed (sampled seed count asked ended) = ended.counts_writes
 counts_writes_clause sources call words o first last given failed (refused ask usage ended) = at_cause (λ k. CountsWrites k o.out_old o.out_new) cause.Usage given (sym usage) ended.counts_writes
 counts_writes_clause sources call words o first last given failed (unread memory ended) = at_cause (λ k. CountsWrites k o.out_old o.out_new) cause.Memory given (sym memory) ended.counts_writes

@@ -6,8 +6,8 @@ use Rattle.fault_notes.specs.declared.File.{File}
 use Rattle.fault_notes.specs.declared.File.TheVariants as file
 use Rattle.core_top.specs.declared.Cause.{Cause}
 use Rattle.core_top.specs.declared.Cause.TheVariants as cause
-use Rattle.core_top.specs.Command.{RunWords, IsRun}
-use Rattle.core_top.specs.Accepted.{IsAcceptedText}
+use Rattle.core_top.specs.Command.{Job, queries_of, events_of, AsksJob}
+use Rattle.core_top.specs.Accepted.{Takes}
 use Rattle.core_top.specs.SourceBytes.{IsRestOf}
 
 -- the exit status of each cause
@@ -52,32 +52,32 @@ pub record Exactly (given answer : Cause) (fact : Type 0) : Type 0 where
   pub whenever : fact → (given ≡ answer) ⊎ IsFromOutside given
 
 -- the file's name on the command line
-abbrev pub name_of : File → RunWords → List ℕ
-name_of file.Queries r = r.queries
-name_of file.Events r = r.events
+abbrev pub name_of : File → Job → List ℕ
+name_of file.Queries job = queries_of job
+name_of file.Events job = events_of job
 
--- the event file is opened only after the query file, whose text, where it is told, is accepted
-abbrev pub ComesInTurn : File → Content → Type 0
-ComesInTurn file.Queries text = Unit {0}
-ComesInTurn file.Events text = OfOpened text IsAcceptedText
+-- the event file is opened only after the query file, whose text, where it is told, is one that the job takes
+abbrev pub ComesInTurn : Job → File → Content → Type 0
+ComesInTurn job file.Queries text = Unit {0}
+ComesInTurn job file.Events text = OfOpened text (Takes job)
 
 -- The host's count for the file's name rose in the call, from before to after.
 pub record HasOpenFault (words : List (List ℕ)) (content : List ℕ → Content) (old new : List ℕ → ℕ) (opened : File) (before after : ℕ) : Type 0 where
-  pub run : RunWords
-  pub asked : IsRun words run
-  pub turn : ComesInTurn opened (content run.queries)
-  pub from : before ≡ old (name_of opened run)
-  pub to : after ≡ new (name_of opened run)
+  pub job : Job
+  pub asked : AsksJob words job
+  pub turn : ComesInTurn job opened (content (queries_of job))
+  pub from : before ≡ old (name_of opened job)
+  pub to : after ≡ new (name_of opened job)
   pub rose : Rose before after
 
 -- The count of the source that failed rose from 0 to after, and it has left the last part of the host's bytes under the file's name.
 pub record HasReadFault (words : List (List ℕ)) (content : List ℕ → Content) (read : File) (after : ℕ) (faults : ℕ) (left : Option (List ℕ)) : Type 0 where
-  pub run : RunWords
-  pub asked : IsRun words run
-  pub turn : ComesInTurn read (content run.queries)
+  pub job : Job
+  pub asked : AsksJob words job
+  pub turn : ComesInTurn job read (content (queries_of job))
   pub told : faults ≡ after
   pub rose : Rose 0 after
-  pub rest : IsRestOf (content (name_of read run)) left
+  pub rest : IsRestOf (content (name_of read job)) left
 
 -- The output's count of faults rose in the call, from before to after.
 pub record HasWriteFault (old new before after : ℕ) : Type 0 where
@@ -86,9 +86,9 @@ pub record HasWriteFault (old new before after : ℕ) : Type 0 where
   pub rose : Rose before after
 
 -- The host's counts: as they were, but for the file that could not be opened.
-abbrev pub CountsOpens : Cause → RunWords → (List ℕ → ℕ) → (List ℕ → ℕ) → Type 0
-CountsOpens (cause.OpenFault opened before after) r old new = RoseAt (name_of opened r) old new
-CountsOpens _ r old new = AllStay old new
+abbrev pub CountsOpens : Cause → Job → (List ℕ → ℕ) → (List ℕ → ℕ) → Type 0
+CountsOpens (cause.OpenFault opened before after) job old new = RoseAt (name_of opened job) old new
+CountsOpens _ job old new = AllStay old new
 
 -- The output's count: as it was, but where a write failed.
 abbrev pub CountsWrites : Cause → ℕ → ℕ → Type 0

@@ -1,8 +1,9 @@
 -- What the words of the command line ask the program for.
 use Rattle.std.specs.Prelude.{ℕ, List}
 use Rattle.answer_text.specs.declared.Order.{Order}
-use Rattle.command_words.specs.declared.Command.TheVariants.{Run, Sample}
+use Rattle.command_words.specs.declared.Command.TheVariants.{Run, Sample, Explain}
 use Rattle.command_words.specs.CommandLine.{AsksFor}
+use Rattle.answer_explain.specs.declared.Question.{Question}
 
 -- the names of the two files, how the lines of one position are ordered, and how many bytes of events are too many
 pub record RunWords : Type 0 where
@@ -13,6 +14,35 @@ pub record RunWords : Type 0 where
 
 abbrev pub IsRun : List (List ℕ) → RunWords → Type 0
 IsRun words r = AsksFor words (Run r.queries r.events r.order r.most_bytes)
+
+-- the names of the two files, and which complex event is asked for
+pub record ExplainWords : Type 0 where
+  pub queries : List ℕ
+  pub events : List ℕ
+  pub question : Question
+
+abbrev pub IsExplain : List (List ℕ) → ExplainWords → Type 0
+IsExplain words x = AsksFor words (Explain x.queries x.events x.question.query x.question.start x.question.end x.question.positions)
+
+-- what is to be done with a query file and an event file
+pub data Job : Type 0 where
+  running : RunWords → Job
+  explaining : ExplainWords → Job
+
+-- the name of its query file
+abbrev pub queries_of : Job → List ℕ
+queries_of (running r) = r.queries
+queries_of (explaining x) = x.queries
+
+-- the name of its event file
+abbrev pub events_of : Job → List ℕ
+events_of (running r) = r.events
+events_of (explaining x) = x.events
+
+-- the words ask for this job
+abbrev pub AsksJob : List (List ℕ) → Job → Type 0
+AsksJob words (running r) = IsRun words r
+AsksJob words (explaining x) = IsExplain words x
 
 -- this seed of the generator, and so many events
 abbrev pub IsSample : List (List ℕ) → ℕ → ℕ → Type 0

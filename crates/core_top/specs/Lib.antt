@@ -6,4 +6,5 @@ pub mod Opening
 pub mod Notes
 pub mod SourceBytes
 pub mod Run
+pub mod Explaining
 pub mod Steps

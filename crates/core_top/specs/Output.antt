@@ -7,8 +7,8 @@ use Rattle.event_run.specs.Runs.{Stop, End, Event, InputTooLong}
 use Rattle.fault_notes.specs.declared.File.TheVariants as file
 use Rattle.core_top.specs.declared.Cause.{Cause}
 use Rattle.core_top.specs.declared.Cause.TheVariants as cause
-use Rattle.core_top.specs.Command.{RunWords}
-use Rattle.core_top.specs.Accepted.{AreAnswers, AreAnswersSoFar}
+use Rattle.core_top.specs.Command.{RunWords, ExplainWords, Job, running, explaining}
+use Rattle.core_top.specs.Accepted.{AreAnswers, AreAnswersSoFar, IsExplained}
 use Rattle.core_sample.specs.Summary.{IsSummary}
 
 -- The host lacks neither file, and where it tells their bytes, these are the answers to them, with a stop that passes.
@@ -46,6 +46,23 @@ Wrote (cause.ReadFault file.Queries to) content r left before after = after ≡ 
 Wrote cause.Usage content r left before after = after ≡ before
 Wrote (cause.Queries fault place) content r left before after = after ≡ before
 Wrote (cause.OpenFault opened from to) content r left before after = after ≡ before
+
+-- The host lacks neither file, and where it tells their bytes, these are the explanation over them.
+pub record AreFileExplanation (content : List ℕ → Content) (x : ExplainWords) (bytes : List ℕ) : Type 0 where
+  pub has_queries : content x.queries ≢ Missing
+  pub has_events : content x.events ≢ Missing
+  pub explained : (text lines : List ℕ) → content x.queries ≡ Holds text → content x.events ≡ Holds lines → IsExplained text lines x.question bytes
+
+-- What the output has taken of an explanation, by its cause: all of it, a proper first part after a failed write, and else nothing.
+abbrev pub WroteExplanation : Cause → (List ℕ → Content) → ExplainWords → Option (List ℕ) → Option (List ℕ) → Type 0
+WroteExplanation cause.Fine content x before after = (bytes : List ℕ) × AreFileExplanation content x bytes × TookAll before after bytes
+WroteExplanation (cause.WriteFault from to) content x before after = (bytes : List ℕ) × AreFileExplanation content x bytes × TookPart before after bytes
+WroteExplanation _ content x before after = after ≡ before
+
+-- the same after any job
+abbrev pub WroteBy : Cause → (List ℕ → Content) → Job → Option (List ℕ) → Option (List ℕ) → Option (List ℕ) → Type 0
+WroteBy given content (running r) left before after = Wrote given content r left before after
+WroteBy given content (explaining x) left before after = WroteExplanation given content x before after
 
 -- What the output has taken after a sample, which ends by no other cause: its summary, a proper first part, or a first part.
 abbrev pub WroteSample : Cause → ℕ → ℕ → Option (List ℕ) → Option (List ℕ) → Type 0

@@ -1,9 +1,10 @@
--- How a run over two files ends, as the parts of the program tell it to each other. Private clauses alone cite this file.
+-- How a call of the program ends, as its parts tell it to each other. Private clauses alone cite this file.
 use Rattle.std.specs.Prelude.{◌≡◌, ◌≢◌, ℕ, ◌⊎◌, List, Option, Some, None, IsSomeAnd}
 use Rattle.cer_outside.specs.Causes.{Rose, AllStay, RoseAt}
 use Rattle.cer_outside.specs.Content.{Content, Missing, Holds, HasOpened, OfOpened}
 use Rattle.cer_outside.specs.Bytes.{TookPart}
 use Rattle.answer_blocks.specs.Taken.{TookPrefix}
+use Rattle.event_run.specs.Runs.{Stop}
 use Rattle.event_run.specs.Runs as stop
 use Rattle.event_run.specs.Taking.{AreEventsRead}
 use Rattle.stream_answers.specs.Streams.{Asked, WroteOver, WroteAll, WrotePartOf}
@@ -12,10 +13,10 @@ use Rattle.fault_notes.specs.declared.File.TheVariants as file
 use Rattle.core_top.specs.declared.Cause.{Cause}
 use Rattle.core_top.specs.declared.Cause.TheVariants as cause
 use Rattle.command_words.specs.CommandLine.{AskNothing}
-use Rattle.core_top.specs.Command.{RunWords, IsRun, IsSample}
-use Rattle.core_top.specs.Accepted.{IsAcceptedText, IsRefusedText}
+use Rattle.core_top.specs.Command.{Job, queries_of, events_of, AsksJob, IsSample}
+use Rattle.core_top.specs.Accepted.{IsRefusedText, Takes, IsRefusedBy, StopsOver}
 use Rattle.core_top.specs.Causes.{ComesInTurn, name_of, CountsOpens, CountsWrites}
-use Rattle.core_top.specs.Output.{Wrote, WroteSample}
+use Rattle.core_top.specs.Output.{WroteBy, WroteSample}
 use Rattle.core_top.specs.SourceBytes.{IsRestOf}
 use Rattle.core_top.specs.Opening.{OpensInTurn}
 
@@ -88,29 +89,42 @@ pub record Outside : Type 0 where
   pub before : Option (List ℕ)
   pub after : Option (List ℕ)
 
--- the query text, where it is told, is accepted
-abbrev pub HasAccepted : Outside → RunWords → Type 0
-HasAccepted o r = OfOpened (o.content r.queries) IsAcceptedText
+-- the query text, where it is told, is one that the job takes
+abbrev pub HasTaken : Outside → Job → Type 0
+HasTaken o job = OfOpened (o.content (queries_of job)) (Takes job)
+
+-- The host lacks neither file.
+pub record HasBoth (o : Outside) (job : Job) : Type 0 where
+  pub queries : o.content (queries_of job) ≢ Missing
+  pub events : o.content (events_of job) ≢ Missing
+
+-- The job went on to its events, and where the host tells both files they stop so.
+pub record HasStopped {S : Type 0} (o : Outside) (job : Job) (stop : Stop) (failed : Option S) : Type 0 where
+  pub none : failed ≡ None
+  pub taken : HasTaken o job
+  pub both : HasBoth o job
+  pub stops : (text lines : List ℕ) → o.content (queries_of job) ≡ Holds text → o.content (events_of job) ≡ Holds lines → StopsOver job text lines stop
 
 -- what holds of a cause besides what was written
-abbrev pub CauseHolds : {S : Type 0} → Sources S → Outside → RunWords → Cause → Option S → Type 0
-CauseHolds sources o r cause.Fine failed = (failed ≡ None) × HasAccepted o r
-CauseHolds sources o r cause.Usage failed = ⊥
-CauseHolds sources o r (cause.Queries fault place) failed = (failed ≡ None) × OfOpened (o.content r.queries) (λ text. IsRefusedText text fault place)
-CauseHolds sources o r (cause.Event line fault) failed = (failed ≡ None) × HasAccepted o r
-CauseHolds sources o r (cause.InputTooLong taken) failed = (failed ≡ None) × HasAccepted o r
-CauseHolds sources o r (cause.OpenFault opened from to) failed = (failed ≡ None) × ComesInTurn opened (o.content r.queries) × (from ≡ o.old (name_of opened r)) × (to ≡ o.new (name_of opened r)) × Rose from to
-CauseHolds sources o r (cause.ReadFault read to) failed = ComesInTurn read (o.content r.queries) × IsSomeAnd failed (FailedWith sources (o.content (name_of read r)) to)
-CauseHolds sources o r (cause.WriteFault from to) failed = (failed ≡ None) × (from ≡ o.out_old) × (to ≡ o.out_new) × Rose from to
-CauseHolds sources o r cause.Memory failed = failed ≡ None
+abbrev pub CauseHolds : {S : Type 0} → Sources S → Outside → Job → Cause → Option S → Type 0
+CauseHolds sources o job cause.Fine failed = HasStopped o job stop.End failed
+CauseHolds sources o job cause.Usage failed = ⊥
+CauseHolds sources o job (cause.Queries fault place) failed = (failed ≡ None) × (o.after ≡ o.before) × OfOpened (o.content (queries_of job)) (λ text. IsRefusedBy job text fault place)
+CauseHolds sources o job (cause.Event line fault) failed = HasStopped o job (stop.Event line fault) failed
+CauseHolds sources o job (cause.InputTooLong taken) failed = HasStopped o job (stop.InputTooLong taken) failed
+CauseHolds sources o job (cause.OpenFault opened from to) failed = (failed ≡ None) × (o.after ≡ o.before) × ComesInTurn job opened (o.content (queries_of job)) × (from ≡ o.old (name_of opened job)) × (to ≡ o.new (name_of opened job)) × Rose from to
+CauseHolds sources o job (cause.ReadFault file.Queries to) failed = (o.after ≡ o.before) × IsSomeAnd failed (FailedWith sources (o.content (queries_of job)) to)
+CauseHolds sources o job (cause.ReadFault file.Events to) failed = HasTaken o job × IsSomeAnd failed (FailedWith sources (o.content (events_of job)) to)
+CauseHolds sources o job (cause.WriteFault from to) failed = (failed ≡ None) × HasBoth o job × (from ≡ o.out_old) × (to ≡ o.out_new) × Rose from to
+CauseHolds sources o job cause.Memory failed = (failed ≡ None) × ((o.after ≡ o.before) ⊎ HasBoth o job)
 
--- The run ended by this cause, with this source that failed.
-pub record Ended {S H : Type 0} (sources : Sources S) (call : H → List ℕ → H → Type 0) (o : Outside) (r : RunWords) (first last : H) (given : Cause) (failed : Option S) : Type 0 where
-  pub holds : CauseHolds sources o r given failed
-  pub wrote : Wrote given o.content r (left_of sources failed) o.before o.after
-  pub counts_opens : CountsOpens given r o.old o.new
+-- The job ended by this cause, with this source that failed.
+pub record Ended {S H : Type 0} (sources : Sources S) (call : H → List ℕ → H → Type 0) (o : Outside) (job : Job) (first last : H) (given : Cause) (failed : Option S) : Type 0 where
+  pub holds : CauseHolds sources o job given failed
+  pub wrote : WroteBy given o.content job (left_of sources failed) o.before o.after
+  pub counts_opens : CountsOpens given job o.old o.new
   pub counts_writes : CountsWrites given o.out_old o.out_new
-  pub opens : OpensInTurn call (o.content r.queries) r given first last
+  pub opens : OpensInTurn call (o.content (queries_of job)) job given first last
 
 -- The sample ended by this cause.
 pub record SampleStop {S : Type 0} (seed count out_old out_new : ℕ) (before after : Option (List ℕ)) (given : Cause) (failed : Option S) : Type 0 where
@@ -136,7 +150,7 @@ pub record EndedUnasked {S H : Type 0} (o : Outside) (first last : H) (failed : 
 
 -- how a call ended, by what its words ask for
 pub data Finished {S H : Type 0} (sources : Sources S) (call : H → List ℕ → H → Type 0) (words : List (List ℕ)) (o : Outside) (first last : H) : Cause → Option S → Type 0 where
-  ran : {given : Cause} {failed : Option S} (r : RunWords) → IsRun words r → Ended sources call o r first last given failed → Finished sources call words o first last given failed
+  ran : {given : Cause} {failed : Option S} (job : Job) → AsksJob words job → Ended sources call o job first last given failed → Finished sources call words o first last given failed
   sampled : {given : Cause} {failed : Option S} (seed count : ℕ) → IsSample words seed count → EndedSample o seed count first last given failed → Finished sources call words o first last given failed
   refused : {given : Cause} {failed : Option S} → AskNothing words → given ≡ cause.Usage → EndedUnasked o first last failed → Finished sources call words o first last given failed
   unread : {given : Cause} {failed : Option S} → given ≡ cause.Memory → EndedUnasked o first last failed → Finished sources call words o first last given failed

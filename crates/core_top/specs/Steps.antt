@@ -1,4 +1,4 @@
--- How many steps a run takes, by how it ended.
+-- How many steps a job takes, by how it ended.
 use Rattle.std.specs.Prelude.{◌≡◌, ℕ, ◌⊎◌, List, Option}
 use Rattle.stream_schema.specs.Types.{Declared}
 use Rattle.cel_terms.specs.declared.Query.{Query}
@@ -10,7 +10,7 @@ use Rattle.stream_answers.specs.Steps.{CountsAll, Counts, CountsAtFault}
 use Rattle.fault_notes.specs.declared.File.TheVariants as file
 use Rattle.core_top.specs.declared.Cause.{Cause}
 use Rattle.core_top.specs.declared.Cause.TheVariants as cause
-use Rattle.core_top.specs.Command.{RunWords}
+use Rattle.core_top.specs.Command.{RunWords, Job, running, explaining}
 use Rattle.core_top.specs.Accepted.{Accepts}
 
 -- what is said of the schema and the queries of the query text and of the bytes of the event file, where the host tells both
@@ -35,3 +35,8 @@ StepsBy Over (cause.OpenFault opened from to) before after old now = now ≡ old
 -- the same of the host's two files
 abbrev pub RunSteps : Cause → (List ℕ → Content) → RunWords → Option (List ℕ) → Option (List ℕ) → ℕ → ℕ → Type 0
 RunSteps given content r before after old now = StepsBy (OverFiles content r) given before after old now
+
+-- the same of any job; an explanation takes none
+abbrev pub StepsOf : Cause → (List ℕ → Content) → Job → Option (List ℕ) → Option (List ℕ) → ℕ → ℕ → Type 0
+StepsOf given content (running r) before after old now = RunSteps given content r before after old now
+StepsOf given content (explaining x) before after old now = now ≡ old

@@ -1,9 +1,11 @@
 //! The program, from the words of its command line to the bytes that it writes.
 //!
-//! Promised: with status 0 the output is exactly the answers of the query file over the event
-//! file, each once; any other status names its one cause. Both are clauses of `core_main`.
+//! Promised: with status 0 the output of a run is exactly the answers of the query file over the
+//! event file, each once, and that of `explain` is why one of them is an answer; any other status
+//! names its one cause. These are clauses of `core_main`.
 //! It stands on `command_words` for its words, `ceql_parser` for query texts, `stream_answers` for
-//! the answers over an event file, `core_sample` for samples, and `fault_notes` for its notes.
+//! the answers over an event file, `answer_explain` for what explains one, `core_sample` for samples,
+//! and `fault_notes` for its notes.
 #![tactic(auto)]
 
 use ceql_parser::QueryFault;
@@ -12,9 +14,11 @@ use event_reader::EventFault;
 pub use fault_notes::File;
 pub use top::core_main;
 
+mod explain;
 mod files;
 mod notes;
 mod opening;
+mod queries;
 mod run;
 mod sample;
 pub mod sure;

@@ -1,19 +1,19 @@
 //! The order of work of a run: the query file, the event file, the answers.
 
 ghost use Rattle.std.specs.Prelude.{◌≡◌, ℕ, List, [], Some, IfOk, IfErr};
-ghost use Rattle.cer_base.specs.Answers.{OnFault};
 ghost use Rattle.cer_outside.specs.Causes.{AllStay};
 ghost use Rattle.cer_outside.specs.Content.{Holds, OfOpened};
 ghost use Rattle.query_engine.specs.Engine.{StandsFor, count_of};
-ghost use Rattle.core_top.specs.Accepted.{Accepts, IsRefusedText};
+ghost use Rattle.core_top.specs.Command.{running};
+ghost use Rattle.core_top.specs.Accepted.{Accepts};
 ghost use Rattle.core_top.specs.Causes.{CountsWrites};
 ghost use Rattle.core_top.specs.Steps.{StepsBy, RunSteps};
 ghost use Rattle.core_top.specs.Run.{Ended, QueriesStop, EventsStop, SourceStop, StopCounts};
 
-use super::opening::{Stop, open, take_whole};
+use super::opening::{Stop, open};
+use super::queries::read_accepted;
 use super::{Cause, File};
 use answer_text::Order;
-use ceql_parser::{QueryError, read_queries};
 use cer_base::steps::Steps;
 use cer_base::{Memory, OrMemory};
 use cer_outside::{Host, Sink, Source};
@@ -43,12 +43,12 @@ pub fn run_files<H: Host, K: Sink, L: Ledger>(
           before = K.taken out.old;
           after = K.taken out.new;
         })
-        (record {
+        (running (record {
           queries = queries.now;
           events = events.now;
           order = order;
           most_bytes = most_bytes;
-        })
+        }))
         host.old host.new result.cause result.failed }
     ensures steps { RunSteps result.cause (H.content host.old) (record {
       queries = queries.now;
@@ -90,33 +90,13 @@ fn read_engine<H: Host>(alloc: Global, host: &mut H, queries: &str) -> Result<En
     ensures opened { H.opens host.old queries.now host.new }
     ensures kept { (any : List ℕ) → H.content host.new any ≡ H.content host.old any }
 {
-    let text = match take_whole(alloc, host, File::Queries, queries) {
-        Ok(text) => text,
+    let accepted = match read_accepted(alloc, host, queries) {
+        Ok(accepted) => accepted,
         Err(stop) => return Err(stop),
     };
-    match engine_of(alloc, text.as_slice()) {
+    match Engine::new(alloc, accepted.schema, accepted.queries) {
         Ok(engine) => Ok(engine),
-        Err(OrMemory::Memory) => Err(Stop::of(Cause::Memory)),
-        Err(OrMemory::Fault(error)) => Err(Stop::of(Cause::Queries {
-            fault: error.fault,
-            place: error.place,
-        })),
-    }
-}
-
-/// An engine for the queries of the text.
-fn engine_of(alloc: Global, text: &[u8]) -> Result<Engine, OrMemory<QueryError>>
-    ensures accepted { IfOk result (λ e. Accepts text.now e.schema e.queries) }
-    ensures stands { IfOk result (λ e. StandsFor e []) }
-    ensures count { IfOk result (λ e. count_of e ≡ 0) }
-    ensures refused { OnFault result (λ error. IsRefusedText text.now error.fault error.place) }
-{
-    match read_queries(alloc, text) {
-        Ok(accepted) => match Engine::new(alloc, accepted.schema, accepted.queries) {
-            Ok(engine) => Ok(engine),
-            Err(Memory) => Err(OrMemory::Memory),
-        },
-        Err(refusal) => Err(refusal),
+        Err(Memory) => Err(Stop::of(Cause::Memory)),
     }
 }
 

@@ -5,8 +5,8 @@ ghost use Rattle.cer_outside.specs.Causes.{Rose};
 ghost use Rattle.cer_outside.specs.Content.{Holds};
 ghost use Rattle.cer_outside.specs.Files.{content_under};
 ghost use Rattle.event_run.specs.Runs as stop;
-ghost use Rattle.core_top.specs.Command.{RunWords, IsRun};
-ghost use Rattle.core_top.specs.Accepted.{StopsAt};
+ghost use Rattle.core_top.specs.Command.{Job, queries_of, events_of, AsksJob};
+ghost use Rattle.core_top.specs.Accepted.{StopsOver};
 ghost use Rattle.core_top.specs.Causes.{IsFineOrMemory};
 
 use super::Done;
@@ -18,8 +18,8 @@ use cer_outside::sources::SureSource;
 use std::alloc::Global;
 use std::sync::ledger::Ledger;
 
-/// A run over an accepted text and an event file that is read to its end, on a host that never
-/// fails and has both: where the output's count of faults did not rise, all was well or memory ran
+/// A job over a query text that it takes and an event file that is read to its end, on a host that
+/// never fails and has both: where the output's count of faults did not rise, all was well or memory ran
 /// out.
 pub fn run_over_sure<K: Sink, N: Sink, L: Ledger>(
     alloc: Global,
@@ -29,10 +29,10 @@ pub fn run_over_sure<K: Sink, N: Sink, L: Ledger>(
     notes: &mut N,
     steps: &mut Steps<L>,
 ) -> Done<SureSource>
-    ensures { (r : RunWords) (text lines : List ℕ) → IsRun (map string_bytes words.items) r
-        → content_under host.old.files r.queries ≡ Holds text
-        → content_under host.old.files r.events ≡ Holds lines
-        → StopsAt text lines r.most_bytes stop.End
+    ensures { (job : Job) (text lines : List ℕ) → AsksJob (map string_bytes words.items) job
+        → content_under host.old.files (queries_of job) ≡ Holds text
+        → content_under host.old.files (events_of job) ≡ Holds lines
+        → StopsOver job text lines stop.End
         → (Rose (K.faults out.old) (K.faults out.new) → ⊥) → IsFineOrMemory result.cause }
 {
     core_main(alloc, words, host, out, notes, steps)

@@ -8,20 +8,22 @@ ghost use Rattle.cer_outside.specs.Content.{Missing, Holds};
 ghost use Rattle.event_run.specs.Runs as stop;
 ghost use Rattle.fault_notes.specs.declared.File.{File};
 ghost use Rattle.command_words.specs.CommandLine.{AskNothing};
-ghost use Rattle.core_top.specs.Command.{RunWords, IsRun, IsSample};
-ghost use Rattle.core_top.specs.Accepted.{IsRefusedText, StopsAt};
+ghost use Rattle.core_top.specs.Command.{Job, queries_of, events_of, AsksJob, IsSample};
+ghost use Rattle.core_top.specs.Accepted.{IsRefusedBy, StopsOver};
 ghost use Rattle.core_top.specs.Causes.{status_of, name_of, Exactly, IsFineOrOutside, IsReading, HasOpenFault, HasReadFault, HasWriteFault, CountsOpens, CountsWrites, EndsWithout};
 ghost use Rattle.core_top.specs.Opening.{OpensInTurn};
-ghost use Rattle.core_top.specs.Output.{Wrote, WroteSample};
-ghost use Rattle.core_top.specs.Steps.{RunSteps};
+ghost use Rattle.core_top.specs.Output.{WroteBy, WroteSample};
+ghost use Rattle.core_top.specs.Steps.{StepsOf};
 ghost use Rattle.core_top.specs.Notes.{note_of, TookNote};
 ghost use Rattle.core_top.specs.Run.{Finished, left_of};
 
+use super::explain::explain_files;
 use super::notes::noted;
 use super::opening::Stop;
 use super::run::run_files;
 use super::sample::run_sample;
 use super::{Cause, Done};
+use answer_explain::Question;
 use cer_base::OrMemory;
 use cer_base::steps::Steps;
 use cer_outside::{Host, Sink};
@@ -32,7 +34,8 @@ use std::sync::ledger::Ledger;
 /// Does what the words after the program's name ask for.
 ///
 /// `run QUERIES EVENTS` reads the query text and the event file of the host and writes the answers
-/// to `out`; `sample SEED COUNT` writes a summary of two fixed queries. The note of the cause goes
+/// to `out`; `explain QUERIES EVENTS QUERY START END [POSITION]...` writes why one of them is an
+/// answer; `sample SEED COUNT` writes a summary of two fixed queries. The note of the cause goes
 /// to `notes`; a fault there changes neither status nor cause, but that where there is no memory
 /// for a note, memory is the cause.
 pub fn core_main<H: Host, K: Sink, N: Sink, L: Ledger>(
@@ -43,11 +46,11 @@ pub fn core_main<H: Host, K: Sink, N: Sink, L: Ledger>(
     notes: &mut N,
     steps: &mut Steps<L>,
 ) -> Done<H::Src>
-    // The headline: with status 0 a run has written exactly the answers of the query text over the
-    // event file, position by position and query by query, each once; and what the output has taken
-    // after each other cause.
-    ensures wrote { (r : RunWords) → IsRun (map string_bytes words.items) r
-        → Wrote result.cause (H.content host.old) r
+    // The headline: what the output has taken after each cause. With status 0 a run has written
+    // exactly the answers of the query text over the event file, position by position and query by
+    // query, each once, and an explanation that of the complex event that is asked for.
+    ensures wrote { (job : Job) → AsksJob (map string_bytes words.items) job
+        → WroteBy result.cause (H.content host.old) job
         (left_of (record { faults = H.Src.faults; left = H.Src.left }) result.failed)
         (K.taken out.old) (K.taken out.new) }
     ensures sampled { (seed count : ℕ) → IsSample (map string_bytes words.items) seed count
@@ -58,19 +61,22 @@ pub fn core_main<H: Host, K: Sink, N: Sink, L: Ledger>(
 
     // Each answer has its cause.
     ensures usage { Exactly result.cause Cause.Usage (AskNothing (map string_bytes words.items)) }
-    ensures queries { (r : RunWords) (text : List ℕ) (fault : QueryFault) (place : Place)
-        → IsRun (map string_bytes words.items) r → H.content host.old r.queries ≡ Holds text
-        → Exactly result.cause (Cause.Queries fault place) (IsRefusedText text fault place) }
-    ensures event { (r : RunWords) (text lines : List ℕ) (line : ℕ) (fault : EventFault)
-        → IsRun (map string_bytes words.items) r → H.content host.old r.queries ≡ Holds text
-        → H.content host.old r.events ≡ Holds lines
+    ensures queries { (job : Job) (text : List ℕ) (fault : QueryFault) (place : Place)
+        → AsksJob (map string_bytes words.items) job
+        → H.content host.old (queries_of job) ≡ Holds text
+        → Exactly result.cause (Cause.Queries fault place) (IsRefusedBy job text fault place) }
+    ensures event { (job : Job) (text lines : List ℕ) (line : ℕ) (fault : EventFault)
+        → AsksJob (map string_bytes words.items) job
+        → H.content host.old (queries_of job) ≡ Holds text
+        → H.content host.old (events_of job) ≡ Holds lines
         → Exactly result.cause (Cause.Event line fault)
-        (StopsAt text lines r.most_bytes (stop.Event line fault)) }
-    ensures too_long { (r : RunWords) (text lines : List ℕ) (taken : ℕ)
-        → IsRun (map string_bytes words.items) r → H.content host.old r.queries ≡ Holds text
-        → H.content host.old r.events ≡ Holds lines
+        (StopsOver job text lines (stop.Event line fault)) }
+    ensures too_long { (job : Job) (text lines : List ℕ) (taken : ℕ)
+        → AsksJob (map string_bytes words.items) job
+        → H.content host.old (queries_of job) ≡ Holds text
+        → H.content host.old (events_of job) ≡ Holds lines
         → Exactly result.cause (Cause.InputTooLong taken)
-        (StopsAt text lines r.most_bytes (stop.InputTooLong taken)) }
+        (StopsOver job text lines (stop.InputTooLong taken)) }
     ensures open_fault { (file : File) (before after : ℕ)
         → result.cause ≡ Cause.OpenFault file before after
         → HasOpenFault (map string_bytes words.items) (H.content host.old)
@@ -83,31 +89,33 @@ pub fn core_main<H: Host, K: Sink, N: Sink, L: Ledger>(
     ensures failed { IsSome result.failed ↔ IsReading result.cause }
 
     // A file that the host lacks is never opened, and nothing is written without it.
-    ensures missing { (r : RunWords) (file : File) → IsRun (map string_bytes words.items) r
-        → H.content host.old (name_of file r) ≡ Missing
+    ensures missing { (job : Job) (file : File) → AsksJob (map string_bytes words.items) job
+        → H.content host.old (name_of file job) ≡ Missing
         → EndsWithout file result.cause × (K.taken out.new ≡ K.taken out.old) }
 
-    // An accepted text and an event file that is read to its end are answered, but for memory and
-    // the outside.
-    ensures complete { (r : RunWords) (text lines : List ℕ)
-        → IsRun (map string_bytes words.items) r
-        → H.content host.old r.queries ≡ Holds text → H.content host.old r.events ≡ Holds lines
-        → StopsAt text lines r.most_bytes stop.End → IsFineOrOutside result.cause }
+    // A text that the job takes and an event file that is read to its end are answered, but for
+    // memory and the outside.
+    ensures complete { (job : Job) (text lines : List ℕ)
+        → AsksJob (map string_bytes words.items) job
+        → H.content host.old (queries_of job) ≡ Holds text
+        → H.content host.old (events_of job) ≡ Holds lines
+        → StopsOver job text lines stop.End → IsFineOrOutside result.cause }
 
     // Each file is opened once and in its turn, and no other name; no call failed but the one that
     // is the cause.
-    ensures opens { (r : RunWords) → IsRun (map string_bytes words.items) r
-        → OpensInTurn H.opens (H.content host.old r.queries) r result.cause host.old host.new }
+    ensures opens { (job : Job) → AsksJob (map string_bytes words.items) job
+        → OpensInTurn H.opens (H.content host.old (queries_of job)) job result.cause host.old host.new }
     ensures unopened { AskNothing (map string_bytes words.items) → host.new ≡ host.old }
     ensures unopened_sample { (seed count : ℕ)
         → IsSample (map string_bytes words.items) seed count → host.new ≡ host.old }
-    ensures counts_opens { (r : RunWords) → IsRun (map string_bytes words.items) r
-        → CountsOpens result.cause r (H.faults host.old) (H.faults host.new) }
+    ensures counts_opens { (job : Job) → AsksJob (map string_bytes words.items) job
+        → CountsOpens result.cause job (H.faults host.old) (H.faults host.new) }
     ensures counts_writes { CountsWrites result.cause (K.faults out.old) (K.faults out.new) }
 
-    // However a run ends, its steps are bounded by the events of the file and their answers.
-    ensures steps { (r : RunWords) → IsRun (map string_bytes words.items) r
-        → RunSteps result.cause (H.content host.old) r (K.taken out.old) (K.taken out.new)
+    // However a run ends, its steps are bounded by the events of the file and their answers; an
+    // explanation takes none.
+    ensures steps { (job : Job) → AsksJob (map string_bytes words.items) job
+        → StepsOf result.cause (H.content host.old) job (K.taken out.old) (K.taken out.new)
         steps.old steps.new }
 
     ensures note { TookNote (N.taken notes.old) (N.taken notes.new)
@@ -151,8 +159,8 @@ fn run<H: Host, K: Sink, L: Ledger>(
           after = K.taken out.new;
         })
         host.old host.new result.cause result.failed }
-    ensures steps { (r : RunWords) → IsRun (map string_bytes words.now) r
-        → RunSteps result.cause (H.content host.old) r (K.taken out.old) (K.taken out.new)
+    ensures steps { (job : Job) → AsksJob (map string_bytes words.now) job
+        → StepsOf result.cause (H.content host.old) job (K.taken out.old) (K.taken out.new)
         steps.old steps.new }
     ensures kept { (name : List ℕ) → H.content host.new name ≡ H.content host.old name }
 {
@@ -174,6 +182,31 @@ fn run<H: Host, K: Sink, L: Ledger>(
             out,
             steps,
         ),
+        Ok(
+            Command::Explain {
+                queries,
+                events,
+                query,
+                start,
+                end,
+                positions,
+            },
+        ) => {
+            let question = Question {
+                query,
+                start,
+                end,
+                positions,
+            };
+            explain_files(
+                alloc,
+                queries.as_str(),
+                events.as_str(),
+                &question,
+                host,
+                out,
+            )
+        }
         Ok(Command::Sample { seed, count }) => run_sample(alloc, seed, count, out, steps),
         Err(OrMemory::Memory) => Stop::of(Cause::Memory),
         Err(OrMemory::Fault(_)) => Stop::of(Cause::Usage),

@@ -11,3 +11,5 @@ pub mod Given
 mod Turns
 -- steps where memory ran out
 mod Wants
+-- the events of a file as a list
+mod Listed

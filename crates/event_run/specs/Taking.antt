@@ -61,7 +61,7 @@ AfterCall schema queries reader engine Had left events (Err Memory) =
     StandsFor engine events × ((bytes : List ℕ) → Had bytes → BeginsRun schema queries reader.budget bytes events)
 
 -- the source's count of faults rose where it failed, and else stays
-abbrev pub HasSourceCause : ℕ → ℕ → Result Taken (OrMemory RunFault) → Type 0
+abbrev pub HasSourceCause : {T : Type 0} → ℕ → ℕ → Result T (OrMemory RunFault) → Type 0
 HasSourceCause before now (Err (Fault fault.ReadFault)) = Rose before now
 HasSourceCause before now _ = now ≡ before
 

@@ -2,17 +2,21 @@
 //!
 //! Promised: `take_event` gives an engine the next event of a file, or says exactly why there is
 //! none, as `specs/Runs` defines it: the end, the first line that is no event, the first event with
-//! which a query's clock falls, too many bytes, or a fault of the source. A run is one thing, and
-//! every file has one (`laws`). `give_event` gives it an event that was read before.
+//! which a query's clock falls, too many bytes, or a fault of the source. `give_event` gives it an
+//! event that was read before, and `read_events` lists the events of a file without an engine. A
+//! run is one thing, and every file has one (`laws`).
 //! It stands on `event_reader` for lines and events, and on `query_engine`.
 #![tactic(auto)]
 
+mod clocks;
 pub mod laws;
+mod listing;
 mod taking;
 #[cfg(test)]
 mod tests;
 
 use event_reader::EventFault;
+pub use listing::read_events;
 pub use taking::{fault_of, give_event, take_event};
 
 /// What a call has found.

@@ -3,7 +3,7 @@
 ghost use Rattle.std.specs.Prelude.{◌≡◌, ◌<◌, ◌≤◌, false, IfOk};
 ghost use Rattle.query_engine.specs.Engine.{count_of};
 
-use crate::{RunFault, Taken, take_event};
+use crate::{RunFault, Taken, read_events, take_event};
 use ceql_parser::read_queries;
 use cer_base::steps::Steps;
 use cer_base::{Memory, OrMemory};
@@ -245,6 +245,62 @@ fn the_longest_line_is_an_event(rt: HostRuntime) -> Result<(), Fail> {
         }
         let words = run_words(alloc, TEXTS, line.as_slice(), AMPLE, 4096, 0)?;
         assert_eq!(rt; words.as_str(), wanted, "at {len}");
+    }
+    Ok(())
+}
+
+/// How many events a list of the file has, or why there is none.
+fn listed_words(
+    alloc: Global,
+    queries: &str,
+    bytes: &[u8],
+    most_bytes: u64,
+    fails: u64,
+) -> Result<String, AllocError> {
+    let Ok(accepted) = read_queries(alloc, queries.as_bytes()) else {
+        return Err(AllocError);
+    };
+    let fails = Vec::from_slice(alloc, &[fails])?;
+    let mut source = MemSource::new(Vec::from_slice(alloc, bytes)?, 4, fails);
+    let queries = accepted.queries.as_slice();
+    match read_events(alloc, &accepted.schema, queries, most_bytes, &mut source) {
+        Ok(events) => words_of(alloc, events.len() as u64, Ok(())),
+        Err(stop) => words_of(alloc, 0, Err(stop)),
+    }
+}
+
+#[test]
+fn events_are_listed_as_they_are_taken(rt: HostRuntime) -> Result<(), Fail> {
+    let alloc = rt.alloc();
+    for (queries, bytes, most_bytes, fails, wanted) in [
+        (BY_POSITION, "A,2\n\nB,1\n", AMPLE, 0, "2, end"),
+        (BY_POSITION, "A,2\n", 4, 0, "0, 4 bytes are too many"),
+        (BY_POSITION, "A,2\nB,1\n", AMPLE, 2, "0, cannot read"),
+        (
+            BY_POSITION,
+            "A,1\n\nA,x\n",
+            AMPLE,
+            0,
+            "0, line 3: field 1 is of another kind",
+        ),
+        (
+            BY_TIME,
+            "A,10\nB,11\n\nA,10\nC,1\n",
+            AMPLE,
+            0,
+            "0, line 4: time falls from 11 to 10 in query 1",
+        ),
+        (
+            THREE,
+            "A,3\nB,4\nA,2\n",
+            AMPLE,
+            0,
+            "0, line 3: time falls from 4 to 2 in query 2",
+        ),
+        (THREE, "A,3\nB,4\nA,4\n", AMPLE, 0, "3, end"),
+    ] {
+        let words = listed_words(alloc, queries, bytes.as_bytes(), most_bytes, fails)?;
+        assert_eq!(rt; words.as_str(), wanted, "at {bytes}");
     }
     Ok(())
 }

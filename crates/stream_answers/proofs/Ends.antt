@@ -109,18 +109,18 @@ ends_for_fault a source reader left before middle after held blocks engine budge
 
 -- the source's count, where no further event was taken
 pub read_cause : {T : Type 0} (before now : ℕ) (middle after : Option (List ℕ)) (old new : ℕ) (held : List ℕ) (why : OrMemory RunFault) (result : Result T (OrMemory StreamFault)) →
-    HasSourceCause before now (Err why) → Finished middle after old new held (Err (stream_fault why)) result → HasReadCause before now result
+    HasSourceCause {T = Taken} before now (Err why) → Finished middle after old new held (Err (stream_fault why)) result → HasReadCause before now result
 read_cause {T} before now middle after old new held why result cause finished =
     let P : Result T (OrMemory StreamFault) → Type 0 = λ r. HasReadCause before now r in
     elim finished.way [ inl fine ↦ subst P (sym fine.0) (kept why cause) | inr failed ↦ subst P (sym failed.0) (either why cause) ]
   where
-    kept : (w : OrMemory RunFault) → HasSourceCause before now (Err w) → HasReadCause {T = T} before now (Err (stream_fault w))
+    kept : (w : OrMemory RunFault) → HasSourceCause {T = Taken} before now (Err w) → HasReadCause {T = T} before now (Err (stream_fault w))
     kept Memory c = c
     kept (Fault run.ReadFault) c = c
     kept (Fault (run.Event line refusal)) c = c
     kept (Fault (run.InputTooLong most)) c = c
 
-    either : (w : OrMemory RunFault) → HasSourceCause before now (Err w) → (now ≡ before) ⊎ Rose before now
+    either : (w : OrMemory RunFault) → HasSourceCause {T = Taken} before now (Err w) → (now ≡ before) ⊎ Rose before now
     either Memory c = inl c
     either (Fault run.ReadFault) c = inr c
     either (Fault (run.Event line refusal)) c = inl c

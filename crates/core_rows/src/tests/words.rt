@@ -46,7 +46,11 @@ sample 0 3 4 | 2 |  | usage
 sample -1 3 | 2 |  | usage
 sample 18446744073709551616 3 | 2 |  | usage
 sample 0 10000001 | 2 |  | usage
-sample 0 3 --order walk | 2 |  | usage";
+sample 0 3 --order walk | 2 |  | usage
+explain q e 1 0 | 2 |  | usage
+explain q e 1 0 0 0 x | 2 |  | usage
+explain q e 1 0 0 -1 | 2 |  | usage
+explain q e 1 0 0 0 --max-bytes 9 | 2 |  | usage";
 
 /// The sums over two thousand events were counted by the definitions, by another program.
 const SAMPLES: &str = "\

@@ -1,13 +1,14 @@
 use Rattle.std.proofs.Common.{refl}
-use Rattle.core_top.proofs.Ends.{queries_ended, events_ended}
-use Rattle.core_top.specs.Command.{RunWords}
+use Rattle.core_top.proofs.Ends.{queries_ended}
+use Rattle.core_top.proofs.RunEnds.{events_ended}
+use Rattle.core_top.specs.Command.{RunWords, running}
 use Rattle.core_top.specs.Steps.{OverFiles}
 use Rattle.core_top.proofs.StepClauses.{queries_steps, steps_of_file}
 use Rattle.core_top.proofs.run.run_files.Goals as goal
 
 pub returns-in-Err-clause-ends : goal.returns-in-Err-clause-ends
 returns-in-Err-clause-ends g c =
-    queries_ended _ _ _ _ _ _ _ _ refl refl c.read_engine.ensures.opened c.in-Err.ensures.stop c.in-Err.ensures.counts_stop
+    queries_ended _ _ _ (running (record { queries = c.args.queries.now; events = c.args.events.now; order = c.args.order; most_bytes = c.args.most_bytes })) _ _ _ _ refl refl c.read_engine.ensures.opened c.in-Err.ensures.stop c.in-Err.ensures.counts_stop
 
 pub returns-clause-ends : goal.returns-clause-ends
 returns-clause-ends g c =

@@ -1,7 +1,7 @@
 -- Each clause follows from how the call ended.
 use Rattle.std.proofs.Common.{ap, map, string_bytes}
 use Rattle.core_top.proofs.TopClauses.{finished_as, silent_clause, counts_opens_clause, usage_clause, queries_clause, event_clause, too_long_clause, open_clause, read_clause, write_clause, wrote_clause, sampled_clause, failed_clause, missing_clause, complete_clause, opens_clause, unopened_clause, counts_writes_clause}
-use Rattle.core_top.proofs.StepClauses.{noted_steps, run_as}
+use Rattle.core_top.proofs.StepClauses.{noted_steps, job_as}
 use Rattle.core_top.proofs.top.core_main.Goals as goal
 
 pub returns-clause-usage : goal.returns-clause-usage
@@ -59,6 +59,6 @@ pub returns-clause-counts_opens : goal.returns-clause-counts_opens
 returns-clause-counts_opens g c = counts_opens_clause _ _ _ _ _ _ _ _ (finished_as _ _ _ _ _ _ _ _ _ _ _ _ _ (ap (map string_bytes) c.as_slice.ensures.value) c.done.ensures.cause c.done.ensures.failed c.noted.ensures.stop c.run-stop.ensures.finished) (λ same name. ap (λ h. g.H.Host.faults h name) same)
 
 pub returns-clause-steps : goal.returns-clause-steps
-returns-clause-steps g c = λ r asked.
-    noted_steps (g.H.Host.content c.args.host.now) r c.run-stop.result.cause c.noted.result.cause c.done.result.cause c.run-stop.result.failed c.noted.result.failed (g.K.Sink.taken c.args.out.now) (g.K.Sink.taken c.run-stop.new.out) c.args.steps.now c.run-stop.new.steps
-    c.done.ensures.cause c.noted.ensures.stop (c.run-stop.ensures.steps r (run_as _ _ r (ap (map string_bytes) c.as_slice.ensures.value) asked))
+returns-clause-steps g c = λ job asked.
+    noted_steps (g.H.Host.content c.args.host.now) job c.run-stop.result.cause c.noted.result.cause c.done.result.cause c.run-stop.result.failed c.noted.result.failed (g.K.Sink.taken c.args.out.now) (g.K.Sink.taken c.run-stop.new.out) c.args.steps.now c.run-stop.new.steps
+    c.done.ensures.cause c.noted.ensures.stop (c.run-stop.ensures.steps job (job_as _ _ job (ap (map string_bytes) c.as_slice.ensures.value) asked))

@@ -1,11 +1,10 @@
-use Rattle.std.proofs.Common.{Ok, Err, map, subst, sym, refl}
 use Rattle.core_top.proofs.Texts.{answer_opened, first_as}
 use Rattle.core_top.proofs.Ends.{queries_fault}
-use Rattle.core_top.proofs.run.read_engine.Goals as goal
+use Rattle.core_top.proofs.queries.read_accepted.Goals as goal
 
-pub returns-in-Ok-engine_of-clause-accepted : goal.returns-in-Ok-engine_of-clause-accepted
-returns-in-Ok-engine_of-clause-accepted g c =
-    answer_opened _ _ _ (first_as _ _ _ c.as_slice.ensures.value c.in-Ok.ensures.bytes) c.in-Ok-engine_of.ensures.accepted
+pub returns-in-Ok-accepted_of-clause-accepted : goal.returns-in-Ok-accepted_of-clause-accepted
+returns-in-Ok-accepted_of-clause-accepted g c =
+    answer_opened _ _ _ (first_as _ _ _ c.as_slice.ensures.value c.in-Ok.ensures.bytes) c.in-Ok-accepted_of.ensures.accepted
 
 pub returns-clause-stop : goal.returns-clause-stop
 returns-clause-stop g c =

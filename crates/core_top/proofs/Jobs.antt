@@ -1,0 +1,156 @@
+-- What each job makes of a query text and an event file is one thing; and what each has written where it ended early.
+use Rattle.std.proofs.Common.{◌≡◌, ℕ, inl, inr, List, map, Option, Ok, Err, sym, ap, subst}
+use Rattle.cer_base.specs.declared.Place.{Place}
+use Rattle.stream_schema.specs.Types.{Declared}
+use Rattle.cel_terms.specs.declared.Query.{Query}
+use Rattle.ceql_grammar.specs.declared.faults.QueryFault.{QueryFault}
+use Rattle.ceql_grammar.specs.declared.faults.QueryError.{QueryError}
+use Rattle.ceql_parser.specs.QueryTrees.{QueryTree, query_tree}
+use Rattle.ceql_parser.proofs.TextAnswers.{one_text_answer}
+use Rattle.cer_outside.specs.Content.{Content, Holds, OfOpened}
+use Rattle.event_run.specs.Runs.{Stop, RunsTo}
+use Rattle.event_run.proofs.ForCallers.{one_run_of_trees}
+use Rattle.answer_blocks.specs.Taken.{TookPrefix}
+use Rattle.stream_answers.proofs.Portions.{prefix_of_all}
+use Rattle.answer_explain.specs.declared.written.TheConstants.{MOST_BYTES}
+use Rattle.fault_notes.specs.declared.File.TheVariants as file
+use Rattle.core_top.specs.declared.Cause.{Cause}
+use Rattle.core_top.specs.declared.Cause.TheVariants as cause
+use Rattle.core_top.specs.Command.{RunWords, Job, running, explaining}
+use Rattle.core_top.specs.Accepted.{Accepts, IsAcceptedText, IsRefusedText, StopsAt, Takes, IsRefusedBy, StopsOver}
+use Rattle.core_top.specs.Output.{AreFileAnswers, WroteAll, WroteBy}
+use Rattle.core_top.specs.Notes.{NeedsMemory}
+
+-- a fact of the bytes that are told
+pub told : (content : Content) (text : List ℕ) (P : List ℕ → Type 0) → content ≡ Holds text → OfOpened content P → P text
+told content text P same fact = let Q : Content → Type 0 = λ w. OfOpened w P in subst Q same fact
+
+-- a text is not both accepted and refused
+not_both : (text : List ℕ) (fault : QueryFault) (place : Place) → IsAcceptedText text → IsRefusedText text fault place → ⊥
+not_both text fault place accepted refused =
+    let same = one_text_answer text _ _ accepted.2 refused in cc
+
+-- a text has one fault, at one place
+one_fault : (text : List ℕ) (fault other : QueryFault) (place there : Place) → IsRefusedText text fault place → IsRefusedText text other there → cause.Queries fault place ≡ cause.Queries other there
+one_fault text fault other place there refused again =
+    let same = one_text_answer text _ _ refused again in
+    let error : ◌≡◌ {A = QueryError} (record { fault = fault; place = place }) (record { fault = other; place = there }) = cc in
+    ap (λ (e : QueryError). cause.Queries e.fault e.place) error
+
+-- what a text is accepted as: one schema, and queries that say the same
+accepted_schema : (text : List ℕ) (s t : Declared) (p q : List Query) → Accepts text s p → Accepts text t q → s ≡ t
+accepted_schema text s t p q one other =
+    let same = one_text_answer text _ _ one other in
+    let pair : ◌≡◌ {A = Declared × List QueryTree} (s, map query_tree p) (t, map query_tree q) = cc in
+    ap (λ (x : Declared × List QueryTree). x.0) pair
+
+accepted_trees : (text : List ℕ) (s t : Declared) (p q : List Query) → Accepts text s p → Accepts text t q → map query_tree p ≡ map query_tree q
+accepted_trees text s t p q one other =
+    let same = one_text_answer text _ _ one other in
+    let pair : ◌≡◌ {A = Declared × List QueryTree} (s, map query_tree p) (t, map query_tree q) = cc in
+    ap (λ (x : Declared × List QueryTree). x.1) pair
+
+-- a run stops in one way
+one_stop : (text lines : List ℕ) (most : ℕ) (s t : Stop) → StopsAt text lines most s → StopsAt text lines most t → s ≡ t
+one_stop text lines most s t one other =
+    let P : Declared → Type 0 = λ d. RunsTo d other.queries most lines other.events t in
+    let runs = subst P (sym (accepted_schema text one.schema other.schema one.queries other.queries one.accepted other.accepted)) other.runs in
+    (one_run_of_trees one.schema one.queries other.queries most lines one.events other.events s t
+    (accepted_trees text one.schema other.schema one.queries other.queries one.accepted other.accepted) one.runs runs).1
+
+-- where there are answers the run stops so
+pub answered_stop : (content : List ℕ → Content) (r : RunWords) (stop : Stop) (before after : Option (List ℕ)) (text lines : List ℕ) →
+    content r.queries ≡ Holds text → content r.events ≡ Holds lines → WroteAll content r stop before after → StopsAt text lines r.most_bytes stop
+answered_stop content r stop before after text lines first second wrote =
+    let all = wrote.are.answers text lines first second in
+    let P : Stop → Type 0 = StopsAt text lines r.most_bytes in
+    subst P all.1 (record { schema = all.2.schema; queries = all.2.queries; events = all.2.events; accepted = all.2.accepted; runs = all.2.runs })
+
+-- No job takes a text that it refuses.
+pub takes_or_refuses : (job : Job) (text : List ℕ) (fault : QueryFault) (place : Place) → Takes job text → IsRefusedBy job text fault place → ⊥
+takes_or_refuses (running r) text fault place taken refused = not_both text fault place taken refused
+takes_or_refuses (explaining x) text fault place taken refused = not_both text fault place taken refused
+
+-- A text is refused for one reason, at one place.
+pub one_refusal : (job : Job) (text : List ℕ) (fault other : QueryFault) (place there : Place) → IsRefusedBy job text fault place → IsRefusedBy job text other there → cause.Queries fault place ≡ cause.Queries other there
+one_refusal (running r) text fault other place there refused again = one_fault text fault other place there refused again
+one_refusal (explaining x) text fault other place there refused again = one_fault text fault other place there refused again
+
+-- The events stop in one way,
+pub one_end : (job : Job) (text lines : List ℕ) (s t : Stop) → StopsOver job text lines s → StopsOver job text lines t → s ≡ t
+one_end (running r) text lines s t one other = one_stop text lines r.most_bytes s t one other
+one_end (explaining x) text lines s t one other = one_stop text lines MOST_BYTES s t one other
+
+-- and only after a text that is taken.
+pub taken_where_stopped : (job : Job) (text lines : List ℕ) (stop : Stop) → StopsOver job text lines stop → Takes job text
+taken_where_stopped (running r) text lines stop stops = (stops.schema, stops.queries, stops.accepted)
+taken_where_stopped (explaining x) text lines stop stops = (stops.schema, stops.queries, stops.accepted)
+
+-- Each refusal of the language is one of the job.
+pub refused_by : (job : Job) (fault : QueryFault) (place : Place) (text : List ℕ) → IsRefusedText text fault place → IsRefusedBy job text fault place
+refused_by (running r) fault place text refused = refused
+refused_by (explaining x) fault place text refused = refused
+
+-- the job ended before it had events
+abbrev pub IsEarly : Cause → Type 0
+IsEarly (cause.Queries fault place) = Unit {0}
+IsEarly (cause.OpenFault opened before after) = Unit {0}
+IsEarly (cause.ReadFault file.Queries after) = Unit {0}
+IsEarly cause.Memory = Unit {0}
+IsEarly _ = ⊥
+
+-- Nothing was written then.
+pub wrote_nothing : (job : Job) (given : Cause) (content : List ℕ → Content) (left before after : Option (List ℕ)) → IsEarly given → after ≡ before → WroteBy given content job left before after
+wrote_nothing (running r) (cause.Queries fault place) content left before after early nothing = nothing
+wrote_nothing (running r) (cause.OpenFault opened from to) content left before after early nothing = nothing
+wrote_nothing (running r) (cause.ReadFault file.Queries to) content left before after early nothing = nothing
+wrote_nothing (running r) (cause.ReadFault file.Events to) content left before after early nothing = absurd early
+wrote_nothing (running r) cause.Memory content left before after early nothing = inl nothing
+wrote_nothing (running r) cause.Fine content left before after early nothing = absurd early
+wrote_nothing (running r) cause.Usage content left before after early nothing = absurd early
+wrote_nothing (running r) (cause.Event line fault) content left before after early nothing = absurd early
+wrote_nothing (running r) (cause.InputTooLong taken) content left before after early nothing = absurd early
+wrote_nothing (running r) (cause.WriteFault from to) content left before after early nothing = absurd early
+wrote_nothing (explaining x) (cause.Queries fault place) content left before after early nothing = nothing
+wrote_nothing (explaining x) (cause.OpenFault opened from to) content left before after early nothing = nothing
+wrote_nothing (explaining x) (cause.ReadFault read to) content left before after early nothing = nothing
+wrote_nothing (explaining x) cause.Memory content left before after early nothing = nothing
+wrote_nothing (explaining x) cause.Fine content left before after early nothing = absurd early
+wrote_nothing (explaining x) cause.Usage content left before after early nothing = nothing
+wrote_nothing (explaining x) (cause.Event line fault) content left before after early nothing = nothing
+wrote_nothing (explaining x) (cause.InputTooLong taken) content left before after early nothing = nothing
+wrote_nothing (explaining x) (cause.WriteFault from to) content left before after early nothing = absurd early
+
+-- all answers are a first part of them
+some_part : (content : List ℕ → Content) (r : RunWords) (stop : Stop) (before after : Option (List ℕ)) → WroteAll content r stop before after →
+    (bytes : List ℕ) × AreFileAnswers content r (λ s. Unit {0}) bytes × TookPrefix before after bytes
+some_part content r stop before after wrote = (
+  wrote.bytes,
+  record {
+    has_queries = wrote.are.has_queries;
+    has_events = wrote.are.has_events;
+    answers = λ text lines first second. let all = wrote.are.answers text lines first second in (all.0, tt, all.2);
+  },
+  prefix_of_all before after wrote.bytes wrote.took,
+)
+
+-- What was written before a note that was not made is what was written where memory ran out.
+pub wrote_for_memory : (job : Job) (told : Cause) (content : List ℕ → Content) (left other before after : Option (List ℕ)) → NeedsMemory told → WroteBy told content job left before after → WroteBy cause.Memory content job other before after
+wrote_for_memory (running r) (cause.Queries fault place) content left other before after needs wrote = inl wrote
+wrote_for_memory (running r) (cause.Event line fault) content left other before after needs wrote = inr (some_part content r _ before after wrote)
+wrote_for_memory (running r) (cause.InputTooLong taken) content left other before after needs wrote = inr (some_part content r _ before after wrote)
+wrote_for_memory (running r) cause.Fine content left other before after needs wrote = absurd needs
+wrote_for_memory (running r) cause.Usage content left other before after needs wrote = absurd needs
+wrote_for_memory (running r) (cause.OpenFault opened from to) content left other before after needs wrote = absurd needs
+wrote_for_memory (running r) (cause.ReadFault read to) content left other before after needs wrote = absurd needs
+wrote_for_memory (running r) (cause.WriteFault from to) content left other before after needs wrote = absurd needs
+wrote_for_memory (running r) cause.Memory content left other before after needs wrote = absurd needs
+wrote_for_memory (explaining x) (cause.Queries fault place) content left other before after needs wrote = wrote
+wrote_for_memory (explaining x) (cause.Event line fault) content left other before after needs wrote = wrote
+wrote_for_memory (explaining x) (cause.InputTooLong taken) content left other before after needs wrote = wrote
+wrote_for_memory (explaining x) cause.Fine content left other before after needs wrote = absurd needs
+wrote_for_memory (explaining x) cause.Usage content left other before after needs wrote = absurd needs
+wrote_for_memory (explaining x) (cause.OpenFault opened from to) content left other before after needs wrote = absurd needs
+wrote_for_memory (explaining x) (cause.ReadFault read to) content left other before after needs wrote = absurd needs
+wrote_for_memory (explaining x) (cause.WriteFault from to) content left other before after needs wrote = absurd needs
+wrote_for_memory (explaining x) cause.Memory content left other before after needs wrote = absurd needs

@@ -2,7 +2,7 @@
 ghost use Rattle.std.specs.Prelude.{◌≡◌, IfOk, Some, None};
 ghost use Rattle.clap.specs.Words.{found_of, rows_of, subcommand_rows_of};
 ghost use Rattle.cer_base.specs.Answers.{OnFault};
-ghost use Rattle.command_words.specs.CommandLine.{command_at, number_in, order_in, order_of};
+ghost use Rattle.command_words.specs.CommandLine.{command_at, number_at, number_in, order_in, order_of};
 ghost use Rattle.command_words.specs.CommandLine.{run_in, sample_in, text_in};
 
 use crate::{Command, Usage};
@@ -43,11 +43,13 @@ fn run_in(alloc: Global, matches: &ArgMatches<'_>) -> Result<Command, OrMemory<U
     };
     let queries = text_in(alloc, matches, "queries")?;
     let events = text_in(alloc, matches, "events")?;
+    let compact_every = number_at(matches, "compact-every");
     let most_bytes = number_in(matches, "max-bytes", MOST_BYTES);
     Ok(Command::Run {
         queries,
         events,
         order,
+        compact_every,
         most_bytes,
     })
 }
@@ -67,10 +69,16 @@ fn text_in(alloc: Global, matches: &ArgMatches<'_>, id: &str) -> Result<Text, Me
     Text::copy_of(alloc, matches.get_str(id).unwrap_or(""))
 }
 
+fn number_at(matches: &ArgMatches<'_>, id: &str) -> Option<u64>
+    ensures { result ≡ number_at id.now (rows_of (found_of matches.now)) }
+{
+    matches.get_one::<u64>(id)
+}
+
 fn number_in(matches: &ArgMatches<'_>, id: &str, default: u64) -> u64
     ensures { result ≡ number_in default id.now (rows_of (found_of matches.now)) }
 {
-    matches.get_one::<u64>(id).unwrap_or(default)
+    number_at(matches, id).unwrap_or(default)
 }
 
 fn order_in(matches: &ArgMatches<'_>) -> Option<Order>

@@ -19,3 +19,5 @@ mod TopClauses
 mod SureRuns
 -- the steps of a run
 mod StepClauses
+-- the engine that a run leaves
+mod Leaving

@@ -7,3 +7,4 @@ pub mod Notes
 pub mod SourceBytes
 pub mod Run
 pub mod Steps
+pub mod Left

@@ -2,15 +2,16 @@ use Rattle.std.proofs.Common.{refl, inl, map, string_bytes}
 use Rattle.core_top.specs.Run.{ran, sampled, refused, unread}
 use Rattle.core_top.proofs.Words.{run_asked, no_run_and_sample}
 use Rattle.core_top.proofs.StepClauses.{run_steps}
+use Rattle.core_top.proofs.Leaving.{left_asked}
 use Rattle.core_top.proofs.top.run.Goals as goal
 
 pub returns-in-Ok-Run-clause-finished : goal.returns-in-Ok-Run-clause-finished
 returns-in-Ok-Run-clause-finished g c =
-    ran _ (run_asked _ _ _ _ _ _ _ c.as_str.ensures c.as_str-in-Ok-Run.ensures (rw c.in-Ok-Run.field-0-is at c.in-Ok-Run.ensures.asks)) c.run_files.ensures.ends
+    ran _ (run_asked _ _ _ _ _ _ _ _ c.as_str.ensures c.as_str-in-Ok-Run.ensures (rw c.in-Ok-Run.field-0-is at c.in-Ok-Run.ensures.asks)) c.run_files.ensures.ends
 
 pub returns-in-Ok-Sample-clause-finished : goal.returns-in-Ok-Sample-clause-finished
 returns-in-Ok-Sample-clause-finished g c =
-    let stop = c.run_sample.ensures in
+    let stop = c.run_sample.ensures.ends in
     sampled _ _ (rw c.in-Ok-Sample.field-0-is at c.in-Ok-Sample.ensures.asks)
     (record { wrote = stop.wrote; fault = stop.fault; none = stop.none; counts_writes = stop.counts_writes; unopened = refl })
 
@@ -25,7 +26,7 @@ returns-in-Err-Fault-clause-finished g c =
 
 pub returns-in-Ok-Run-clause-steps : goal.returns-in-Ok-Run-clause-steps
 returns-in-Ok-Run-clause-steps g c = λ r asked.
-    run_steps (map string_bytes c.args.words.now) (g.H.Host.content c.args.host.now) _ r c.run_files.result.cause (g.K.Sink.taken c.args.out.now) (g.K.Sink.taken c.run_files.new.out) c.args.steps.now c.run_files.new.steps (run_asked _ _ _ _ _ _ _ c.as_str.ensures c.as_str-in-Ok-Run.ensures (rw c.in-Ok-Run.field-0-is at c.in-Ok-Run.ensures.asks)) asked c.run_files.ensures.steps
+    run_steps (map string_bytes c.args.words.now) (g.H.Host.content c.args.host.now) _ r c.run_files.result.cause (g.K.Sink.taken c.args.out.now) (g.K.Sink.taken c.run_files.new.out) c.args.steps.now c.run_files.new.steps (run_asked _ _ _ _ _ _ _ _ c.as_str.ensures c.as_str-in-Ok-Run.ensures (rw c.in-Ok-Run.field-0-is at c.in-Ok-Run.ensures.asks)) asked c.run_files.ensures.steps
 
 pub returns-in-Ok-Sample-clause-steps : goal.returns-in-Ok-Sample-clause-steps
 returns-in-Ok-Sample-clause-steps g c = λ r asked. absurd (no_run_and_sample _ r _ _ asked (rw c.in-Ok-Sample.field-0-is at c.in-Ok-Sample.ensures.asks))
@@ -35,3 +36,19 @@ returns-in-Err-Memory-clause-steps g c = λ r asked. rw c.of.ensures.cause (inl 
 
 pub returns-in-Err-Fault-clause-steps : goal.returns-in-Err-Fault-clause-steps
 returns-in-Err-Fault-clause-steps g c = λ r asked. rw c.of-in-Err-Fault.ensures.cause refl
+
+pub returns-in-Ok-Run-clause-left : goal.returns-in-Ok-Run-clause-left
+returns-in-Ok-Run-clause-left g c = λ r asked.
+    left_asked (map string_bytes c.args.words.now) (g.H.Host.content c.args.host.now) _ r c.run_files.result.cause c.run_files.result.left (run_asked _ _ _ _ _ _ _ _ c.as_str.ensures c.as_str-in-Ok-Run.ensures (rw c.in-Ok-Run.field-0-is at c.in-Ok-Run.ensures.asks)) asked c.run_files.ensures.left
+
+pub returns-in-Ok-Run-clause-none_left : goal.returns-in-Ok-Run-clause-none_left
+returns-in-Ok-Run-clause-none_left g c = λ none. absurd (none _ (run_asked _ _ _ _ _ _ _ _ c.as_str.ensures c.as_str-in-Ok-Run.ensures (rw c.in-Ok-Run.field-0-is at c.in-Ok-Run.ensures.asks)))
+
+pub returns-in-Ok-Sample-clause-left : goal.returns-in-Ok-Sample-clause-left
+returns-in-Ok-Sample-clause-left g c = λ r asked. absurd (no_run_and_sample _ r _ _ asked (rw c.in-Ok-Sample.field-0-is at c.in-Ok-Sample.ensures.asks))
+
+pub returns-in-Err-Memory-clause-left : goal.returns-in-Err-Memory-clause-left
+returns-in-Err-Memory-clause-left g c = λ r asked. rw c.of.ensures.cause c.of.ensures.left
+
+pub returns-in-Err-Fault-clause-left : goal.returns-in-Err-Fault-clause-left
+returns-in-Err-Fault-clause-left g c = λ r asked. rw c.of-in-Err-Fault.ensures.cause c.of-in-Err-Fault.ensures.left

@@ -1,14 +1,19 @@
 -- What some words ask for, computed: a reader sees by them that the definition is what the words say.
-use Rattle.std.proofs.Common.{◌≡◌, [], ◌∷◌, None, codes, refl}
+use Rattle.std.proofs.Common.{◌≡◌, [], ◌∷◌, Some, None, codes, refl}
 use Rattle.answer_text.specs.declared.Order.TheVariants.{Walk, Sorted}
 use Rattle.clap.proofs.OnLiterals.{clap_on_literals}
 use Rattle.command_words.specs.CommandLine.{AsksFor, command_of}
 use Rattle.command_words.specs.declared.Command.TheVariants.{Run, Sample, Explain}
 
 pub options_stand_between : AsksFor (codes "run" ∷ codes "--order=walk" ∷ codes "q" ∷ codes "--max-bytes" ∷ codes "+05" ∷ codes "-" ∷ [])
-    (Run (codes "q") (codes "-") Walk 5)
+    (Run (codes "q") (codes "-") Walk None 5)
 unfolding clap_on_literals
 options_stand_between = refl
+
+pub compactions_are_asked_for : AsksFor (codes "run" ∷ codes "q" ∷ codes "--compact-every" ∷ codes "1000" ∷ codes "e" ∷ [])
+    (Run (codes "q") (codes "e") Sorted (Some 1000) 1099511627776)
+unfolding clap_on_literals
+compactions_are_asked_for = refl
 
 pub numbers_have_zeros : AsksFor (codes "sample" ∷ codes "+7" ∷ codes "007" ∷ []) (Sample 7 7)
 unfolding clap_on_literals
@@ -30,6 +35,6 @@ pub help_is_refused : command_of (codes "--help" ∷ []) ≡ None
 unfolding clap_on_literals
 help_is_refused = refl
 
-pub defaults_hold : AsksFor (codes "run" ∷ codes "q.core" ∷ codes "e.csv" ∷ []) (Run (codes "q.core") (codes "e.csv") Sorted 1099511627776)
+pub defaults_hold : AsksFor (codes "run" ∷ codes "q.core" ∷ codes "e.csv" ∷ []) (Run (codes "q.core") (codes "e.csv") Sorted None 1099511627776)
 unfolding clap_on_literals
 defaults_hold = refl

@@ -74,5 +74,5 @@ module _ (queries events : Text) (first : strip_byte 45 queries ≡ None) (secon
   unfolding walked
   found_is = ap (λ (w : Walk). Some (codes "run", finished below.rules w.held)) two_is
 
-  pub names_alone : AsksFor (codes "run" ∷ queries ∷ events ∷ []) (Run queries events Sorted 1099511627776)
+  pub names_alone : AsksFor (codes "run" ∷ queries ∷ events ∷ []) (Run queries events Sorted None 1099511627776)
   names_alone = rw (ap is_none fault_is) (ap command_at found_is)

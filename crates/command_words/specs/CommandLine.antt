@@ -22,9 +22,13 @@ abbrev pub number_of : Text → Option ℕ
 number_of text = if is_unsigned_in 0 18446744073709551615 text
     then Some (digits_value 10 (without_leading_plus text)) else None
 
+-- the number under an id, where one is given
+abbrev pub number_at : Text → List Row → Option ℕ
+number_at id rows = option_and_then number_of (one_of id rows)
+
 -- the number under an id, or the one that holds where none is given
 abbrev pub number_in : ℕ → Text → List Row → ℕ
-number_in default id rows = unwrap_or (option_and_then number_of (one_of id rows)) default
+number_in default id rows = unwrap_or (number_at id rows) default
 
 -- the numbers under an id, as they come
 abbrev pub numbers_in : Text → List Row → List ℕ
@@ -40,7 +44,7 @@ order_in rows = option_map_or order_of (first_of (codes "order") rows) (Some Sor
 
 abbrev pub run_with : List Row → Order → Command
 run_with rows order = Run (text_in (codes "queries") rows) (text_in (codes "events") rows) order
-    (number_in 1099511627776 (codes "max-bytes") rows)
+    (number_at (codes "compact-every") rows) (number_in 1099511627776 (codes "max-bytes") rows)
 
 -- what was found behind `run`, as a run; none where the order is of neither name
 abbrev pub run_in : List Row → Option Command

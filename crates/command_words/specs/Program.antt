@@ -24,14 +24,22 @@ numbered least most rule = record rule { parser = Some (Unsigned least most) }
 abbrev pub whole : Rule → Rule
 whole rule = numbered 0 18446744073709551615 rule
 
+-- --compact-every N
+abbrev pub compact_every : Rule
+compact_every = numbered 1 4294967295 (option (codes "compact-every"))
+
 -- --max-bytes N
 abbrev pub most_bytes : Rule
 most_bytes = numbered 1 4611686018427387904 (option (codes "max-bytes"))
 
--- run QUERIES EVENTS [--order walk|sorted] [--max-bytes N]
+-- the name of a command, behind which stand those of a query file and an event file
+abbrev pub over_files : Text → App
+over_files id = with_rule (with_rule (new_app id) (name (codes "queries"))) (name (codes "events"))
+
+-- run QUERIES EVENTS [--order walk|sorted] [--compact-every N] [--max-bytes N]
 abbrev pub run : App
-run = with_rule (with_rule (with_rule (with_rule (new_app (codes "run")) (name (codes "queries")))
-    (name (codes "events"))) (option (codes "order"))) most_bytes
+run = with_rule (with_rule (with_rule (over_files (codes "run")) (option (codes "order")))
+    compact_every) most_bytes
 
 -- sample SEED COUNT
 abbrev pub sample : App

@@ -29,6 +29,8 @@ pub enum Command {
         queries: Text,
         events: Text,
         order: Order,
+        /// From 1. The engine is compacted after every so many events, where it is given.
+        compact_every: Option<u64>,
         /// From 1.
         most_bytes: u64,
     },

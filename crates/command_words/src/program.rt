@@ -4,7 +4,7 @@ ghost use Rattle.clap.specs.Words.{app_of, kind_of, rule_of, subcommand_of, subc
 ghost use Rattle.cer_base.specs.Answers.{OnFault};
 ghost use Rattle.cer_base.specs.declared.OrMemory.TheVariants.{Memory};
 ghost use Rattle.command_words.specs.CommandLine.{is_taken};
-ghost use Rattle.command_words.specs.Program.{explain, most_bytes, name, option, over_files, program, repeated, run, sample, whole};
+ghost use Rattle.command_words.specs.Program.{compact_every, explain, most_bytes, name, option, over_files, program, repeated, run, sample, whole};
 
 use crate::Usage;
 use cer_base::OrMemory;
@@ -74,6 +74,15 @@ fn option<'a>(alloc: Global, id: &'a str) -> Arg<'a>
     Arg::new(alloc, id).long(id)
 }
 
+/// `--compact-every N`, N from 1 to 2^32 - 1.
+fn compact_every<'a>(alloc: Global) -> Arg<'a>
+    ensures rule { rule_of result ≡ compact_every }
+    ensures local { result.global ≡ false }
+{
+    let numbers = value_parser!(u64).range(1..=4294967295);
+    option(alloc, "compact-every").value_parser(numbers)
+}
+
 /// `--max-bytes N`, N from 1 to 2^62.
 fn most_bytes<'a>(alloc: Global) -> Arg<'a>
     ensures rule { rule_of result ≡ most_bytes }
@@ -83,18 +92,25 @@ fn most_bytes<'a>(alloc: Global) -> Arg<'a>
     option(alloc, "max-bytes").value_parser(numbers)
 }
 
-/// `run QUERIES EVENTS [--order walk|sorted] [--max-bytes N]`
-fn run<'a>(alloc: Global) -> Result<clap::Command<'a>, AllocError>
-    ensures { IfOk result (λ c. app_of c ≡ run) }
+/// A command of this name, behind which stand the names of a query file and an event file.
+fn over_files<'a>(alloc: Global, id: &'a str) -> Result<clap::Command<'a>, AllocError>
+    ensures { IfOk result (λ c. app_of c ≡ over_files id.entry.now) }
 {
     let queries = name(alloc, "queries");
     let events = name(alloc, "events");
+    clap::Command::new(alloc, id).arg(queries)?.arg(events)
+}
+
+/// `run QUERIES EVENTS [--order walk|sorted] [--compact-every N] [--max-bytes N]`
+fn run<'a>(alloc: Global) -> Result<clap::Command<'a>, AllocError>
+    ensures { IfOk result (λ c. app_of c ≡ run) }
+{
     let order = option(alloc, "order");
+    let compact_every = compact_every(alloc);
     let most_bytes = most_bytes(alloc);
-    clap::Command::new(alloc, "run")
-        .arg(queries)?
-        .arg(events)?
+    over_files(alloc, "run")?
         .arg(order)?
+        .arg(compact_every)?
         .arg(most_bytes)
 }
 

@@ -3,7 +3,7 @@ ghost use Rattle.std.specs.Prelude.{◌≡◌, ◌++◌, [], IfOk, OnOk, Some, N
 ghost use Rattle.std.specs.List.{cons_option, filter_map};
 ghost use Rattle.clap.specs.Words.{found_of, rows_of, subcommand_rows_of};
 ghost use Rattle.cer_base.specs.Answers.{OnFault};
-ghost use Rattle.command_words.specs.CommandLine.{command_at, number_in, number_of, numbers_in};
+ghost use Rattle.command_words.specs.CommandLine.{command_at, number_at, number_in, number_of, numbers_in};
 ghost use Rattle.command_words.specs.CommandLine.{explain_in, order_in, order_of, run_in, sample_in, text_in};
 
 use crate::{Command, Usage};
@@ -47,11 +47,13 @@ fn run_in(alloc: Global, matches: &ArgMatches<'_>) -> Result<Command, OrMemory<U
     };
     let queries = text_in(alloc, matches, "queries")?;
     let events = text_in(alloc, matches, "events")?;
+    let compact_every = number_at(matches, "compact-every");
     let most_bytes = number_in(matches, "max-bytes", MOST_BYTES);
     Ok(Command::Run {
         queries,
         events,
         order,
+        compact_every,
         most_bytes,
     })
 }
@@ -86,10 +88,16 @@ fn text_in(alloc: Global, matches: &ArgMatches<'_>, id: &str) -> Result<Text, Me
     Text::copy_of(alloc, matches.get_str(id).unwrap_or(""))
 }
 
+fn number_at(matches: &ArgMatches<'_>, id: &str) -> Option<u64>
+    ensures { result ≡ number_at id.now (rows_of (found_of matches.now)) }
+{
+    matches.get_one::<u64>(id)
+}
+
 fn number_in(matches: &ArgMatches<'_>, id: &str, default: u64) -> u64
     ensures { result ≡ number_in default id.now (rows_of (found_of matches.now)) }
 {
-    matches.get_one::<u64>(id).unwrap_or(default)
+    number_at(matches, id).unwrap_or(default)
 }
 
 fn numbers_in(alloc: Global, matches: &ArgMatches<'_>, id: &str) -> Result<Listed<u64>, Memory>

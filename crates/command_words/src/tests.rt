@@ -2,7 +2,7 @@ use super::*;
 use std::test::Fail;
 
 /// Each row has the words, a blank between two of them, and what they ask for.
-const ROWS: [(&str, &str); 75] = [
+const ROWS: [(&str, &str); 84] = [
     // the two commands, and what holds where no option is given
     ("run q e", "run q e Sorted 1099511627776"),
     ("sample 7 3", "sample 7 3"),
@@ -22,6 +22,25 @@ const ROWS: [(&str, &str); 75] = [
     ),
     ("run q e --max-bytes 4611686018427387905", "usage"),
     ("run q e --max-bytes 18446744073709551616", "usage"),
+    (
+        "run q e --compact-every 1",
+        "run q e Sorted 1099511627776, compacted every 1",
+    ),
+    (
+        "run --compact-every=4294967295 q --order walk e",
+        "run q e Walk 1099511627776, compacted every 4294967295",
+    ),
+    (
+        "run --compact-every 3 --max-bytes 9 q e",
+        "run q e Sorted 9, compacted every 3",
+    ),
+    ("run q e --compact-every 0", "usage"),
+    ("run q e --compact-every 4294967296", "usage"),
+    ("run q e --compact-every 18446744073709551617", "usage"),
+    ("run q e --compact-every", "usage"),
+    ("run q e --compact-every 5 --compact-every 5", "usage"),
+    ("run q e --compact 5", "usage"),
+    ("sample 7 3 --compact-every 5", "usage"),
     ("sample 0 0", "sample 0 0"),
     (
         "sample 18446744073709551615 0",
@@ -105,7 +124,6 @@ const ROWS: [(&str, &str); 75] = [
     ("help", "usage"),
     ("--version", "usage"),
     ("run --help", "usage"),
-    ("run q e --compact-every 5", "usage"),
     ("sample 7 3 --order walk", "usage"),
 ];
 
@@ -124,11 +142,17 @@ fn shown(alloc: Global, asked: Result<Command, OrMemory<Usage>>) -> Result<Strin
                 queries,
                 events,
                 order,
+                compact_every,
                 most_bytes,
             },
         ) => {
             let names = format!(in alloc; "run {} {}", queries.as_str(), events.as_str())?;
-            format!(in alloc; "{names} {order:?} {most_bytes}")?
+            match compact_every {
+                Some(n) => {
+                    format!(in alloc; "{names} {order:?} {most_bytes}, compacted every {n}")?
+                }
+                None => format!(in alloc; "{names} {order:?} {most_bytes}")?,
+            }
         }
         Ok(Command::Sample { seed, count }) => format!(in alloc; "sample {seed} {count}")?,
         Ok(

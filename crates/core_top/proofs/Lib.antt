@@ -25,3 +25,5 @@ mod TopClauses
 mod SureRuns
 -- the steps of a job
 mod StepClauses
+-- the engine that a run leaves
+mod Leaving

@@ -18,57 +18,57 @@ use Rattle.core_top.proofs.Streams.{asked_of, source_told, text_told}
 use Rattle.core_top.proofs.Words.{one_job}
 
 -- what is said over other files
-pub steps_map : (Over Under : (Asked → List ℕ → Type 0) → Type 0) → ((Says : Asked → List ℕ → Type 0) → Over Says → Under Says) → (given : Cause) (before after : Option (List ℕ)) (old now : ℕ) → StepsBy Over given before after old now → StepsBy Under given before after old now
-steps_map Over Under less cause.Fine before after old now h = less _ h
-steps_map Over Under less (cause.Event line fault) before after old now h = less _ h
-steps_map Over Under less (cause.InputTooLong taken) before after old now h = less _ h
-steps_map Over Under less (cause.ReadFault file.Events to) before after old now h = less _ h
-steps_map Over Under less (cause.WriteFault from to) before after old now h = less _ h
-steps_map Over Under less cause.Memory before after old now (inl none) = inl none
-steps_map Over Under less cause.Memory before after old now (inr some) = inr (less _ some)
-steps_map Over Under less (cause.ReadFault file.Queries to) before after old now h = h
-steps_map Over Under less cause.Usage before after old now h = h
-steps_map Over Under less (cause.Queries fault place) before after old now h = h
-steps_map Over Under less (cause.OpenFault opened from to) before after old now h = h
+pub steps_map : (every : Option ℕ) → (Over Under : (Asked → List ℕ → Type 0) → Type 0) → ((Says : Asked → List ℕ → Type 0) → Over Says → Under Says) → (given : Cause) (before after : Option (List ℕ)) (old now : ℕ) → StepsBy every Over given before after old now → StepsBy every Under given before after old now
+steps_map every Over Under less cause.Fine before after old now h = less _ h
+steps_map every Over Under less (cause.Event line fault) before after old now h = less _ h
+steps_map every Over Under less (cause.InputTooLong taken) before after old now h = less _ h
+steps_map every Over Under less (cause.ReadFault file.Events to) before after old now h = less _ h
+steps_map every Over Under less (cause.WriteFault from to) before after old now h = less _ h
+steps_map every Over Under less cause.Memory before after old now (inl none) = inl none
+steps_map every Over Under less cause.Memory before after old now (inr some) = inr (less _ some)
+steps_map every Over Under less (cause.ReadFault file.Queries to) before after old now h = h
+steps_map every Over Under less cause.Usage before after old now h = h
+steps_map every Over Under less (cause.Queries fault place) before after old now h = h
+steps_map every Over Under less (cause.OpenFault opened from to) before after old now h = h
 
 -- the event file was not opened
-pub opening_steps : (Over : (Asked → List ℕ → Type 0) → Type 0) (given : Cause) (before after : Option (List ℕ)) (now : ℕ) → IsOpening given → StepsBy Over given before after now now
-opening_steps Over (cause.OpenFault opened from to) before after now opening = refl
-opening_steps Over cause.Memory before after now opening = inl refl
-opening_steps Over cause.Fine before after now opening = absurd opening
-opening_steps Over cause.Usage before after now opening = absurd opening
-opening_steps Over (cause.Queries fault place) before after now opening = absurd opening
-opening_steps Over (cause.Event line fault) before after now opening = absurd opening
-opening_steps Over (cause.InputTooLong taken) before after now opening = absurd opening
-opening_steps Over (cause.ReadFault read to) before after now opening = absurd opening
-opening_steps Over (cause.WriteFault from to) before after now opening = absurd opening
+pub opening_steps : (every : Option ℕ) → (Over : (Asked → List ℕ → Type 0) → Type 0) (given : Cause) (before after : Option (List ℕ)) (now : ℕ) → IsOpening given → StepsBy every Over given before after now now
+opening_steps every Over (cause.OpenFault opened from to) before after now opening = refl
+opening_steps every Over cause.Memory before after now opening = inl refl
+opening_steps every Over cause.Fine before after now opening = absurd opening
+opening_steps every Over cause.Usage before after now opening = absurd opening
+opening_steps every Over (cause.Queries fault place) before after now opening = absurd opening
+opening_steps every Over (cause.Event line fault) before after now opening = absurd opening
+opening_steps every Over (cause.InputTooLong taken) before after now opening = absurd opening
+opening_steps every Over (cause.ReadFault read to) before after now opening = absurd opening
+opening_steps every Over (cause.WriteFault from to) before after now opening = absurd opening
 
 -- there was no engine
-pub queries_steps : {S : Type 0} (Over : (Asked → List ℕ → Type 0) → Type 0) (sources : Sources S) (whole : Content) (from to : ℕ) (given : Cause) (failed : Option S) (before after : Option (List ℕ)) (now : ℕ) → QueriesStop sources whole from to given failed → StepsBy Over given before after now now
-queries_steps Over sources whole from to (cause.OpenFault opened x y) failed before after now stops = refl
-queries_steps Over sources whole from to cause.Memory failed before after now stops = inl refl
-queries_steps Over sources whole from to (cause.Queries fault place) failed before after now stops = refl
-queries_steps Over sources whole from to (cause.ReadFault file.Queries y) failed before after now stops = refl
-queries_steps Over sources whole from to (cause.ReadFault file.Events y) failed before after now stops = absurd (let wrong = stops.0 in cc)
-queries_steps Over sources whole from to cause.Fine failed before after now stops = absurd stops
-queries_steps Over sources whole from to cause.Usage failed before after now stops = absurd stops
-queries_steps Over sources whole from to (cause.Event line fault) failed before after now stops = absurd stops
-queries_steps Over sources whole from to (cause.InputTooLong taken) failed before after now stops = absurd stops
-queries_steps Over sources whole from to (cause.WriteFault x y) failed before after now stops = absurd stops
+pub queries_steps : (every : Option ℕ) → {S : Type 0} (Over : (Asked → List ℕ → Type 0) → Type 0) (sources : Sources S) (whole : Content) (from to : ℕ) (given : Cause) (failed : Option S) (before after : Option (List ℕ)) (now : ℕ) → QueriesStop sources whole from to given failed → StepsBy every Over given before after now now
+queries_steps every Over sources whole from to (cause.OpenFault opened x y) failed before after now stops = refl
+queries_steps every Over sources whole from to cause.Memory failed before after now stops = inl refl
+queries_steps every Over sources whole from to (cause.Queries fault place) failed before after now stops = refl
+queries_steps every Over sources whole from to (cause.ReadFault file.Queries y) failed before after now stops = refl
+queries_steps every Over sources whole from to (cause.ReadFault file.Events y) failed before after now stops = absurd (let wrong = stops.0 in cc)
+queries_steps every Over sources whole from to cause.Fine failed before after now stops = absurd stops
+queries_steps every Over sources whole from to cause.Usage failed before after now stops = absurd stops
+queries_steps every Over sources whole from to (cause.Event line fault) failed before after now stops = absurd stops
+queries_steps every Over sources whole from to (cause.InputTooLong taken) failed before after now stops = absurd stops
+queries_steps every Over sources whole from to (cause.WriteFault x y) failed before after now stops = absurd stops
 
 -- over a source that was opened, and so over the file
-pub steps_of_source : (content : Content) (source : Option (List ℕ)) (a : Asked) (given : Cause) (before after : Option (List ℕ)) (old now : ℕ) → HasOpened content source →
-    StepsBy (λ Says. (bytes : List ℕ) → source ≡ Some bytes → Says a bytes) given before after old now → StepsBy (λ Says. (bytes : List ℕ) → content ≡ Holds bytes → Says a bytes) given before after old now
-steps_of_source content source a given before after old now opened h =
-    steps_map (λ Says. (bytes : List ℕ) → source ≡ Some bytes → Says a bytes) (λ Says. (bytes : List ℕ) → content ≡ Holds bytes → Says a bytes)
+pub steps_of_source : (every : Option ℕ) → (content : Content) (source : Option (List ℕ)) (a : Asked) (given : Cause) (before after : Option (List ℕ)) (old now : ℕ) → HasOpened content source →
+    StepsBy every (λ Says. (bytes : List ℕ) → source ≡ Some bytes → Says a bytes) given before after old now → StepsBy every (λ Says. (bytes : List ℕ) → content ≡ Holds bytes → Says a bytes) given before after old now
+steps_of_source every content source a given before after old now opened h =
+    steps_map every (λ Says. (bytes : List ℕ) → source ≡ Some bytes → Says a bytes) (λ Says. (bytes : List ℕ) → content ≡ Holds bytes → Says a bytes)
     (λ Says over bytes told. over bytes (source_told content source bytes opened told)) given before after old now h
 
 -- over the file, and so over both
 pub steps_of_file : (content : List ℕ → Content) (lines_of : Content) (r : RunWords) (schema : Declared) (queries : List Query) (given : Cause) (before after : Option (List ℕ)) (old now : ℕ) → lines_of ≡ content r.events →
     OfOpened (content r.queries) (λ text. Accepts text schema queries) →
-    StepsBy (λ Says. (bytes : List ℕ) → lines_of ≡ Holds bytes → Says (asked_of r schema queries) bytes) given before after old now → RunSteps given content r before after old now
+    StepsBy r.compact_every (λ Says. (bytes : List ℕ) → lines_of ≡ Holds bytes → Says (asked_of r schema queries) bytes) given before after old now → RunSteps given content r before after old now
 steps_of_file content lines_of r schema queries given before after old now same accepted h =
-    steps_map (λ Says. (bytes : List ℕ) → lines_of ≡ Holds bytes → Says (asked_of r schema queries) bytes) (OverFiles content r)
+    steps_map r.compact_every (λ Says. (bytes : List ℕ) → lines_of ≡ Holds bytes → Says (asked_of r schema queries) bytes) (OverFiles content r)
     (λ Says over text lines first second. (schema, queries, text_told (content r.queries) text (λ w. Accepts w schema queries) first accepted, over lines (same ∙ second))) given before after old now h
 
 -- nothing was asked, or memory ran out while the words were read
@@ -78,7 +78,7 @@ IsEnd cause.Memory = Unit {0}
 IsEnd _ = ⊥
 
 -- A note for which there was no memory: memory is the cause then.
-forget : (content : List ℕ → Content) (r : RunWords) (Stops : Stop → Type 0) (Took : List ℕ → Type 0) (old now : ℕ) → OverFiles content r (λ a lines. CountsAll a lines Stops Took old now) → OverFiles content r (λ a lines. Counts a lines old now)
+forget : (content : List ℕ → Content) (r : RunWords) (Stops : Stop → Type 0) (Took : List ℕ → Type 0) (old now : ℕ) → OverFiles content r (λ a lines. CountsAll r.compact_every a lines Stops Took old now) → OverFiles content r (λ a lines. Counts r.compact_every a lines old now)
 forget content r Stops Took old now h = λ text lines first second.
     let w = h text lines first second in (
       w.0,

@@ -1,5 +1,5 @@
 -- What the words ask for is one thing.
-use Rattle.std.proofs.Common.{◌≡◌, ℕ, List, [], refl, ◌∙◌, ap, sym, subst}
+use Rattle.std.proofs.Common.{◌≡◌, ℕ, Option, None, List, [], refl, ◌∙◌, ap, sym, subst}
 use Rattle.answer_text.specs.declared.Order.{Order}
 use Rattle.answer_text.specs.declared.Order.TheVariants.{Sorted}
 use Rattle.command_words.specs.declared.Command.{Command}
@@ -11,14 +11,14 @@ use Rattle.core_top.specs.Command.{RunWords, ExplainWords, Job, running, explain
 
 -- the job that a command is, or any other
 abbrev job_of : Command → Job
-job_of (Run queries events order most_bytes) = running (record { queries = queries; events = events; order = order; most_bytes = most_bytes })
-job_of (Sample seed count) = running (record { queries = []; events = []; order = Sorted; most_bytes = 0 })
+job_of (Run queries events order compact_every most_bytes) = running (record { queries = queries; events = events; order = order; compact_every = compact_every; most_bytes = most_bytes })
+job_of (Sample seed count) = running (record { queries = []; events = []; order = Sorted; compact_every = None; most_bytes = 0 })
 job_of (Explain queries events query start end positions) =
     explaining (record { queries = queries; events = events; question = record { query = query; start = start; end = end; positions = positions } })
 
 -- the command that a job is
 abbrev command_of_job : Job → Command
-command_of_job (running r) = Run r.queries r.events r.order r.most_bytes
+command_of_job (running r) = Run r.queries r.events r.order r.compact_every r.most_bytes
 command_of_job (explaining x) = Explain x.queries x.events x.question.query x.question.start x.question.end x.question.positions
 
 asks_command : (words : List (List ℕ)) (job : Job) → AsksJob words job → AsksFor words (command_of_job job)
@@ -28,6 +28,17 @@ asks_command words (explaining x) asked = asked
 job_again : (job : Job) → job_of (command_of_job job) ≡ job
 job_again (running r) = refl
 job_again (explaining x) = refl
+
+-- the run that a command is, or any other
+abbrev run_of : Command → RunWords
+run_of (Run queries events order compact_every most_bytes) = record { queries = queries; events = events; order = order; compact_every = compact_every; most_bytes = most_bytes }
+run_of (Sample seed count) = record { queries = []; events = []; order = Sorted; compact_every = None; most_bytes = 0 }
+run_of (Explain queries events query start end positions) = record { queries = []; events = []; order = Sorted; compact_every = None; most_bytes = 0 }
+
+pub one_run : (words : List (List ℕ)) (r s : RunWords) → IsRun words r → IsRun words s → r ≡ s
+one_run words r s one other =
+    let same = one_command words (Run r.queries r.events r.order r.compact_every r.most_bytes) (Run s.queries s.events s.order s.compact_every s.most_bytes) one other in
+    ap run_of same
 
 pub one_sample : (words : List (List ℕ)) (s c t d : ℕ) → IsSample words s c → IsSample words t d → (s ≡ t) × (c ≡ d)
 one_sample words s c t d one other =
@@ -40,7 +51,7 @@ one_job words job other one two =
     sym (job_again job) ∙ ap job_of (one_command words (command_of_job job) (command_of_job other) (asks_command words job one) (asks_command words other two)) ∙ job_again other
 
 no_sample : (job : Job) (seed count : ℕ) → command_of_job job ≡ Sample seed count → ⊥
-no_sample (running r) seed count same = let wrong : Run r.queries r.events r.order r.most_bytes ≡ Sample seed count = same in cc
+no_sample (running r) seed count same = let wrong : Run r.queries r.events r.order r.compact_every r.most_bytes ≡ Sample seed count = same in cc
 no_sample (explaining x) seed count same =
     let wrong : Explain x.queries x.events x.question.query x.question.start x.question.end x.question.positions ≡ Sample seed count = same in cc
 
@@ -48,16 +59,21 @@ pub no_job_and_sample : (words : List (List ℕ)) (job : Job) (seed count : ℕ)
 no_job_and_sample words job seed count one other =
     no_sample job seed count (one_command words (command_of_job job) (Sample seed count) (asks_command words job one) other)
 
+pub no_run_and_explanation : (words : List (List ℕ)) (r : RunWords) (x : ExplainWords) → IsRun words r → IsExplain words x → ⊥
+no_run_and_explanation words r x one other =
+    let same = one_command words (Run r.queries r.events r.order r.compact_every r.most_bytes) (Explain x.queries x.events x.question.query x.question.start x.question.end x.question.positions) one other in
+    cc
+
 -- words that ask for a job ask for something
 pub asks_something : (words : List (List ℕ)) (job : Job) → AskNothing words → AsksJob words job → ⊥
 asks_something words job ask asked = ask (command_of_job job) (asks_command words job asked)
 
 -- the run that was read, where its names are lent
-pub run_asked : (words : List (List ℕ)) (q e x y : List ℕ) (order : Order) (most_bytes : ℕ) → x ≡ q → y ≡ e → AsksFor words (Run q e order most_bytes) →
-    IsRun words (record { queries = x; events = y; order = order; most_bytes = most_bytes })
-run_asked words q e x y order most_bytes first second asked =
-    let P : List ℕ → Type 0 = λ w. AsksFor words (Run w y order most_bytes) in
-    let Q : List ℕ → Type 0 = λ w. AsksFor words (Run q w order most_bytes) in
+pub run_asked : (words : List (List ℕ)) (q e x y : List ℕ) (order : Order) (compact_every : Option ℕ) (most_bytes : ℕ) → x ≡ q → y ≡ e → AsksFor words (Run q e order compact_every most_bytes) →
+    IsRun words (record { queries = x; events = y; order = order; compact_every = compact_every; most_bytes = most_bytes })
+run_asked words q e x y order compact_every most_bytes first second asked =
+    let P : List ℕ → Type 0 = λ w. AsksFor words (Run w y order compact_every most_bytes) in
+    let Q : List ℕ → Type 0 = λ w. AsksFor words (Run q w order compact_every most_bytes) in
     subst P (sym first) (subst Q (sym second) asked)
 
 -- the question that was read, where its names are lent

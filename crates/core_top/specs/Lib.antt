@@ -8,3 +8,4 @@ pub mod SourceBytes
 pub mod Run
 pub mod Explaining
 pub mod Steps
+pub mod Left

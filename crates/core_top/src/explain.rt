@@ -41,6 +41,7 @@ pub fn explain_files<H: Host, K: Sink>(
           question = question.now;
         }))
         host.old host.new result.cause result.failed }
+    ensures none_left { result.left ≡ None }
     ensures kept { (any : List ℕ) → H.content host.new any ≡ H.content host.old any }
 {
     let accepted = match read_accepted(alloc, host, queries) {
@@ -69,6 +70,7 @@ fn explain_file<H: Host, K: Sink>(
         (H.faults host.old events.now) (H.faults host.new events.now)
         (K.faults out.old) (K.faults out.new) (K.taken out.old) (K.taken out.new)
         result.cause result.failed }
+    ensures none_left { result.left ≡ None }
     ensures counts { StopCounts result.cause events.now (H.faults host.old) (H.faults host.new) }
     ensures writes { CountsWrites result.cause (K.faults out.old) (K.faults out.new) }
     ensures opened { H.opens host.old events.now host.new }
@@ -98,6 +100,7 @@ fn explain_source<S: Source + Drop, K: Sink>(
         (S.left source)
         (K.faults out.old) (K.faults out.new) (K.taken out.old) (K.taken out.new)
         result.cause result.failed }
+    ensures none_left { result.left ≡ None }
     ensures writes { CountsWrites result.cause (K.faults out.old) (K.faults out.new) }
 {
     let before = out.fault_count();
@@ -123,6 +126,7 @@ fn explain_source<S: Source + Drop, K: Sink>(
                     after,
                 },
                 failed: Some(source),
+                left: None,
             }
         }
     }

@@ -12,6 +12,7 @@ use ceql_parser::QueryFault;
 use cer_base::Place;
 use event_reader::EventFault;
 pub use fault_notes::File;
+use query_engine::Engine;
 pub use top::core_main;
 
 mod explain;
@@ -50,11 +51,13 @@ pub enum Cause {
 }
 
 /// How a call of the program ended.
-#[derive(Drop, Debug)]
+#[derive(Drop)]
 pub struct Done<S> {
     /// The exit status, from 0 to 8.
     pub status: u8,
     pub cause: Cause,
     /// The source that failed, where the cause is a `ReadFault`.
     pub failed: Option<S>,
+    /// The engine of a run whose status is 0.
+    pub left: Option<Engine>,
 }

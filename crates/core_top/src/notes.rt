@@ -1,6 +1,6 @@
 //! The note of a cause, written to standard error.
 
-ghost use Rattle.std.specs.Prelude.{◌≡◌, OnOk, OnErr};
+ghost use Rattle.std.specs.Prelude.{◌≡◌, ◌⊎◌, OnOk, OnErr};
 ghost use Rattle.core_top.specs.Notes.{note_of, TookNote, NeedsMemory, IsNoted};
 
 use super::Cause;
@@ -56,6 +56,8 @@ fn write_note_of<N: Sink>(alloc: Global, notes: &mut N, cause: &Cause) -> Result
 /// Writes the note of how the call ended. Where there is no memory for it, memory is the cause.
 pub fn noted<S: Drop, N: Sink>(alloc: Global, notes: &mut N, stop: Stop<S>) -> Stop<S>
     ensures stop { IsNoted stop.cause stop.failed result.cause result.failed }
+    ensures left { ((result.cause ≡ stop.cause) × (result.left ≡ stop.left))
+        ⊎ ((result.cause ≡ Cause.Memory) × (result.left ≡ None)) }
     ensures took { TookNote (N.taken notes.old) (N.taken notes.new)
         (N.faults notes.old) (N.faults notes.new) (note_of result.cause) }
 {

@@ -10,24 +10,29 @@ use super::files::{MOST_READ, read_whole};
 use super::{Cause, File};
 use cer_base::OrMemory;
 use cer_outside::{Host, OpenError, Source};
+use query_engine::Engine;
 use std::alloc::Global;
 
-/// A call that ended: its cause, and the source that failed where reading did.
+/// A call that ended: its cause, the source that failed where reading did, and the engine of a run
+/// where all was well.
 #[derive(Drop)]
 pub struct Stop<S> {
     pub cause: Cause,
     pub failed: Option<S>,
+    pub left: Option<Engine>,
 }
 
 impl<S> Stop<S> {
-    /// With no source that failed.
+    /// With no source that failed, and no engine.
     pub fn of(cause: Cause) -> Stop<S>
         ensures cause { result.cause ≡ cause }
         ensures failed { result.failed ≡ None }
+        ensures left { result.left ≡ None }
     {
         Stop {
             cause,
             failed: None,
+            left: None,
         }
     }
 }
@@ -48,6 +53,7 @@ pub fn open<H: Host>(
         file (H.content host.old name.now)
         (H.faults host.old name.now) (H.faults host.new name.now) stop.cause stop.failed) }
     ensures opening { IfErr result (λ stop. IsOpening stop.cause) }
+    ensures none_left { IfErr result (λ stop. stop.left ≡ None) }
     ensures counts { IfOk result (λ source. AllStay (H.faults host.old) (H.faults host.new)) }
     ensures counts_stop { IfErr result
         (λ stop. StopCounts stop.cause name.now (H.faults host.old) (H.faults host.new)) }
@@ -82,6 +88,7 @@ pub fn take_whole<H: Host>(
         ReadingStops (record { faults = H.Src.faults; left = H.Src.left })
         file (H.content host.old name.now)
         (H.faults host.old name.now) (H.faults host.new name.now) stop.cause stop.failed) }
+    ensures none_left { IfErr result (λ stop. stop.left ≡ None) }
     ensures counts { IfOk result (λ bytes. AllStay (H.faults host.old) (H.faults host.new)) }
     ensures counts_stop { IfErr result
         (λ stop. StopCounts stop.cause name.now (H.faults host.old) (H.faults host.new)) }
@@ -100,6 +107,7 @@ pub fn take_whole<H: Host>(
             Err(Stop {
                 cause: Cause::ReadFault { file, after },
                 failed: Some(source),
+                left: None,
             })
         }
     }

@@ -24,6 +24,7 @@ pub fn read_accepted<H: Host>(
     ensures accepted { IfOk result (λ a.
         OfOpened (H.content host.old queries.now) (λ text. Accepts text a.schema a.queries)) }
     ensures checked { IfOk result (λ a. All (IsChecked a.schema) a.queries) }
+    ensures none_left { IfErr result (λ stop. stop.left ≡ None) }
     ensures stop { IfErr result (λ stop.
         QueriesStop (record { faults = H.Src.faults; left = H.Src.left })
         (H.content host.old queries.now)

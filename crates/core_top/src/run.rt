@@ -1,10 +1,12 @@
 //! The order of work of a run: the query file, the event file, the answers.
 
-ghost use Rattle.std.specs.Prelude.{◌≡◌, ℕ, List, [], Some, IfOk, IfErr};
+ghost use Rattle.std.specs.Prelude.{◌≡◌, ◌↔◌, ℕ, true, List, [], Some, IfOk, IfErr};
 ghost use Rattle.cer_outside.specs.Causes.{AllStay};
 ghost use Rattle.cer_outside.specs.Content.{Holds, OfOpened};
-ghost use Rattle.query_engine.specs.Engine.{StandsFor, count_of};
+ghost use Rattle.query_engine.specs.Engine.{StandsFor, SameQueries, count_of};
+ghost use Rattle.stream_answers.specs.Streams.{StandsForAll};
 ghost use Rattle.core_top.specs.Command.{running};
+ghost use Rattle.core_top.specs.Left.{IsLeft};
 ghost use Rattle.core_top.specs.Accepted.{Accepts};
 ghost use Rattle.core_top.specs.Causes.{CountsWrites};
 ghost use Rattle.core_top.specs.Steps.{StepsBy, RunSteps};
@@ -28,6 +30,7 @@ pub fn run_files<H: Host, K: Sink, L: Ledger>(
     queries: &str,
     events: &str,
     order: Order,
+    compact_every: Option<u64>,
     most_bytes: u64,
     host: &mut H,
     out: &mut K,
@@ -47,6 +50,7 @@ pub fn run_files<H: Host, K: Sink, L: Ledger>(
           queries = queries.now;
           events = events.now;
           order = order;
+          compact_every = compact_every;
           most_bytes = most_bytes;
         }))
         host.old host.new result.cause result.failed }
@@ -54,24 +58,58 @@ pub fn run_files<H: Host, K: Sink, L: Ledger>(
       queries = queries.now;
       events = events.now;
       order = order;
+      compact_every = compact_every;
       most_bytes = most_bytes;
     }) (K.taken out.old) (K.taken out.new) steps.old steps.new }
+    ensures left { IsLeft result.cause (H.content host.old) (record {
+      queries = queries.now;
+      events = events.now;
+      order = order;
+      compact_every = compact_every;
+      most_bytes = most_bytes;
+    }) result.left }
     ensures kept { (any : List ℕ) → H.content host.new any ≡ H.content host.old any }
 {
     let mut engine = match read_engine(alloc, host, queries) {
         Ok(engine) => engine,
         Err(stop) => return stop,
     };
-    answer_file(
+    let stop = answer_file(
         alloc,
         &mut engine,
         events,
         order,
+        compact_every,
         most_bytes,
         host,
         out,
         steps,
-    )
+    );
+    leaving(stop, engine)
+}
+
+/// With the engine, where all was well.
+fn leaving<S>(stop: Stop<S>, engine: Engine) -> Stop<S>
+    ensures cause { result.cause ≡ stop.cause }
+    ensures failed { result.failed ≡ stop.failed }
+    ensures fine { result.cause ≡ Cause.Fine → result.left ≡ Some engine }
+    ensures other { (result.cause ≡ Cause.Fine → ⊥) → stop.left ≡ None → result.left ≡ None }
+{
+    if !is_fine(&stop.cause) {
+        return stop;
+    }
+    Stop {
+        cause: stop.cause,
+        failed: stop.failed,
+        left: Some(engine),
+    }
+}
+
+/// Whether all was well.
+fn is_fine(cause: &Cause) -> bool
+    ensures { (result ≡ true) ↔ (cause.now ≡ Cause.Fine) }
+{
+    matches!(cause, Cause::Fine)
 }
 
 /// An engine for the queries of the host's file.
@@ -80,6 +118,7 @@ fn read_engine<H: Host>(alloc: Global, host: &mut H, queries: &str) -> Result<En
         OfOpened (H.content host.old queries.now) (λ text. Accepts text e.schema e.queries)) }
     ensures stands { IfOk result (λ e. StandsFor e []) }
     ensures count { IfOk result (λ e. count_of e ≡ 0) }
+    ensures none_left { IfErr result (λ stop. stop.left ≡ None) }
     ensures stop { IfErr result (λ stop.
         QueriesStop (record { faults = H.Src.faults; left = H.Src.left })
         (H.content host.old queries.now)
@@ -106,6 +145,7 @@ fn answer_file<H: Host, K: Sink, L: Ledger>(
     engine: &mut Engine,
     events: &str,
     order: Order,
+    compact_every: Option<u64>,
     most_bytes: u64,
     host: &mut H,
     out: &mut K,
@@ -124,7 +164,7 @@ fn answer_file<H: Host, K: Sink, L: Ledger>(
         (H.faults host.old events.now) (H.faults host.new events.now)
         (K.faults out.old) (K.faults out.new) (K.taken out.old) (K.taken out.new)
         result.cause result.failed }
-    ensures steps { StepsBy
+    ensures steps { StepsBy compact_every
         (λ Says. (bytes : List ℕ) → H.content host.old events.now ≡ Holds bytes → Says (record {
           order = order;
           schema = engine.old.schema;
@@ -132,13 +172,31 @@ fn answer_file<H: Host, K: Sink, L: Ledger>(
           most_bytes = most_bytes;
         }) bytes)
         result.cause (K.taken out.old) (K.taken out.new) steps.old steps.new }
+    ensures left { result.cause ≡ Cause.Fine → (bytes : List ℕ)
+        → H.content host.old events.now ≡ Holds bytes → StandsForAll (record {
+          order = order;
+          schema = engine.old.schema;
+          queries = engine.old.queries;
+          most_bytes = most_bytes;
+        }) bytes engine.new }
+    ensures none_left { result.left ≡ None }
+    ensures same { SameQueries engine.old engine.new }
     ensures counts { StopCounts result.cause events.now (H.faults host.old) (H.faults host.new) }
     ensures writes { CountsWrites result.cause (K.faults out.old) (K.faults out.new) }
     ensures opened { H.opens host.old events.now host.new }
     ensures kept { (any : List ℕ) → H.content host.new any ≡ H.content host.old any }
 {
     match open(alloc, host, File::Events, events) {
-        Ok(source) => answer_source(alloc, engine, source, order, most_bytes, out, steps),
+        Ok(source) => answer_source(
+            alloc,
+            engine,
+            source,
+            order,
+            compact_every,
+            most_bytes,
+            out,
+            steps,
+        ),
         Err(stop) => stop,
     }
 }
@@ -149,6 +207,7 @@ fn answer_source<S: Source + Drop, K: Sink, L: Ledger>(
     engine: &mut Engine,
     mut source: S,
     order: Order,
+    compact_every: Option<u64>,
     most_bytes: u64,
     out: &mut K,
     steps: &mut Steps<L>,
@@ -166,7 +225,7 @@ fn answer_source<S: Source + Drop, K: Sink, L: Ledger>(
         (S.left source)
         (K.faults out.old) (K.faults out.new) (K.taken out.old) (K.taken out.new)
         result.cause result.failed }
-    ensures steps { StepsBy
+    ensures steps { StepsBy compact_every
         (λ Says. (bytes : List ℕ) → S.left source ≡ Some bytes → Says (record {
           order = order;
           schema = engine.old.schema;
@@ -174,10 +233,28 @@ fn answer_source<S: Source + Drop, K: Sink, L: Ledger>(
           most_bytes = most_bytes;
         }) bytes)
         result.cause (K.taken out.old) (K.taken out.new) steps.old steps.new }
+    ensures left { result.cause ≡ Cause.Fine → (bytes : List ℕ) → S.left source ≡ Some bytes
+        → StandsForAll (record {
+          order = order;
+          schema = engine.old.schema;
+          queries = engine.old.queries;
+          most_bytes = most_bytes;
+        }) bytes engine.new }
+    ensures none_left { result.left ≡ None }
+    ensures same { SameQueries engine.old engine.new }
     ensures writes { CountsWrites result.cause (K.faults out.old) (K.faults out.new) }
 {
     let before = out.fault_count();
-    match write_answers(alloc, order, most_bytes, engine, &mut source, out, steps) {
+    match write_answers(
+        alloc,
+        order,
+        most_bytes,
+        compact_every,
+        engine,
+        &mut source,
+        out,
+        steps,
+    ) {
         Ok(()) => Stop::of(Cause::Fine),
         Err(OrMemory::Memory) => Stop::of(Cause::Memory),
         Err(OrMemory::Fault(StreamFault::Event { line, fault })) => {
@@ -198,6 +275,7 @@ fn answer_source<S: Source + Drop, K: Sink, L: Ledger>(
                     after,
                 },
                 failed: Some(source),
+                left: None,
             }
         }
     }

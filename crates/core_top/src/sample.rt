@@ -20,8 +20,9 @@ pub fn run_sample<S, K: Sink, L: Ledger>(
     out: &mut K,
     steps: &mut Steps<L>,
 ) -> Stop<S>
-    ensures { SampleStop seed count (K.faults out.old) (K.faults out.new)
+    ensures ends { SampleStop seed count (K.faults out.old) (K.faults out.new)
         (K.taken out.old) (K.taken out.new) result.cause result.failed }
+    ensures none_left { result.left ≡ None }
 {
     let before = out.fault_count();
     match write_sample(alloc, seed, count, out, steps) {

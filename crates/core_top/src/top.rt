@@ -8,11 +8,12 @@ ghost use Rattle.cer_outside.specs.Content.{Missing, Holds};
 ghost use Rattle.event_run.specs.Runs as stop;
 ghost use Rattle.fault_notes.specs.declared.File.{File};
 ghost use Rattle.command_words.specs.CommandLine.{AskNothing};
-ghost use Rattle.core_top.specs.Command.{Job, queries_of, events_of, AsksJob, IsSample};
+ghost use Rattle.core_top.specs.Command.{RunWords, Job, queries_of, events_of, AsksJob, IsRun, IsSample};
 ghost use Rattle.core_top.specs.Accepted.{IsRefusedBy, StopsOver};
 ghost use Rattle.core_top.specs.Causes.{status_of, name_of, Exactly, IsFineOrOutside, IsReading, HasOpenFault, HasReadFault, HasWriteFault, CountsOpens, CountsWrites, EndsWithout};
 ghost use Rattle.core_top.specs.Opening.{OpensInTurn};
 ghost use Rattle.core_top.specs.Output.{WroteBy, WroteSample};
+ghost use Rattle.core_top.specs.Left.{IsLeft};
 ghost use Rattle.core_top.specs.Steps.{StepsOf};
 ghost use Rattle.core_top.specs.Notes.{note_of, TookNote};
 ghost use Rattle.core_top.specs.Run.{Finished, left_of};
@@ -118,6 +119,13 @@ pub fn core_main<H: Host, K: Sink, N: Sink, L: Ledger>(
         → StepsOf result.cause (H.content host.old) job (K.taken out.old) (K.taken out.new)
         steps.old steps.new }
 
+    // The engine of a run is left with status 0, and with no other; it stands for exactly the events
+    // of the event file. No other call leaves one.
+    ensures left { (r : RunWords) → IsRun (map string_bytes words.items) r
+        → IsLeft result.cause (H.content host.old) r result.left }
+    ensures none_left { ((r : RunWords) → IsRun (map string_bytes words.items) r → ⊥)
+        → result.left ≡ None }
+
     ensures note { TookNote (N.taken notes.old) (N.taken notes.new)
         (N.faults notes.old) (N.faults notes.new) (note_of result.cause) }
     ensures kept { (name : List ℕ) → H.content host.new name ≡ H.content host.old name }
@@ -131,11 +139,13 @@ fn done<S>(stop: Stop<S>) -> Done<S>
     ensures status { result.status ≡ status_of result.cause }
     ensures cause { result.cause ≡ stop.cause }
     ensures failed { result.failed ≡ stop.failed }
+    ensures left { result.left ≡ stop.left }
 {
     Done {
         status: status(&stop.cause),
         cause: stop.cause,
         failed: stop.failed,
+        left: stop.left,
     }
 }
 
@@ -162,6 +172,10 @@ fn run<H: Host, K: Sink, L: Ledger>(
     ensures steps { (job : Job) → AsksJob (map string_bytes words.now) job
         → StepsOf result.cause (H.content host.old) job (K.taken out.old) (K.taken out.new)
         steps.old steps.new }
+    ensures left { (r : RunWords) → IsRun (map string_bytes words.now) r
+        → IsLeft result.cause (H.content host.old) r result.left }
+    ensures none_left { ((r : RunWords) → IsRun (map string_bytes words.now) r → ⊥)
+        → result.left ≡ None }
     ensures kept { (name : List ℕ) → H.content host.new name ≡ H.content host.old name }
 {
     match read_command(alloc, words) {
@@ -170,6 +184,7 @@ fn run<H: Host, K: Sink, L: Ledger>(
                 queries,
                 events,
                 order,
+                compact_every,
                 most_bytes,
             },
         ) => run_files(
@@ -177,6 +192,7 @@ fn run<H: Host, K: Sink, L: Ledger>(
             queries.as_str(),
             events.as_str(),
             order,
+            compact_every,
             most_bytes,
             host,
             out,

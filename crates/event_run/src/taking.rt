@@ -3,7 +3,8 @@
 ghost use Rattle.std.specs.Prelude.{◌≡◌, ◌+◌, ◌^◌, ◌<◌, ◌≤◌, ℕ, List, [], ◌∷◌, ◌++◌, true, false, Some, OnOk, OnErr, IfOk};
 ghost use Rattle.stream_schema.specs.declared.Event.{Event};
 ghost use Rattle.stream_schema.specs.Events.{IsOfSchema};
-ghost use Rattle.query_engine.specs.Engine.{StandsFor, count_of, SameQueries, update_bounds};
+ghost use Rattle.query_engine.specs.Bounds.{update_bound};
+ghost use Rattle.query_engine.specs.Engine.{StandsFor, count_of, found_of, len_of, SameQueries, update_bounds};
 ghost use Rattle.cer_base.specs.Answers.{OnFault};
 ghost use Rattle.event_reader.specs.Events.{event_of_line};
 ghost use Rattle.query_engine.specs.Clocks.{NoneFallsBack};
@@ -47,6 +48,8 @@ pub fn take_event<Q: Source, L: Ledger>(
     ensures cause { HasSourceCause (Q.faults source.old) (Q.faults source.new) result }
     ensures room { TakesRoom lines.old lines.new result }
     ensures steps { TakesSteps (update_bounds engine.new) steps.old steps.new result }
+    ensures growth { result ≡ Ok Taken.Event → (query : ℕ) → len_of engine.new query
+        ≤ len_of engine.old query + update_bound (found_of engine.new query) }
     ensures wanting_steps { (events : List Event) → StandsFor engine.old events
         → OnMemory result (WantsSteps engine.old.schema engine.old.queries events
         (λ next. (bytes : List ℕ) → HasTaken engine.old.schema engine.old.queries lines.old bytes
@@ -103,6 +106,9 @@ fn give_line<L: Ledger>(
     ensures steps { OnOk result (steps.new ≤ steps.old + update_bounds engine.new) }
     ensures no_step { OnFault result (λ fault. steps.new ≡ steps.old) }
     ensures skipped { result ≡ Ok false → steps.new ≡ steps.old }
+    ensures kept { result ≡ Ok false → engine.new ≡ engine.old }
+    ensures growth { result ≡ Ok true → (query : ℕ) → len_of engine.new query
+        ≤ len_of engine.old query + update_bound (found_of engine.new query) }
     ensures wanting_steps { (events : List Event) → StandsFor engine.old events
         → OnMemory result (WantsSteps engine.old.schema engine.old.queries events
         (λ next. (event_of_line engine.old.schema lines.now.text ≡ Ok (Some next))
@@ -135,6 +141,8 @@ pub fn give_event<L: Ledger>(
     ensures took { (events : List Event) → StandsFor engine.old events
         → AfterEvent engine.old.schema engine.old.queries line engine.new event.now events result }
     ensures counted { OnOk result (count_of engine.new ≡ count_of engine.old + 1) }
+    ensures growth { OnOk result ((query : ℕ) → len_of engine.new query
+        ≤ len_of engine.old query + update_bound (found_of engine.new query)) }
     ensures unchanged { OnErr result (engine.new ≡ engine.old) }
     ensures same { SameQueries engine.old engine.new }
     ensures steps { OnOk result (steps.new ≤ steps.old + update_bounds engine.new) }

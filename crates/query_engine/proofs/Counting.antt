@@ -73,7 +73,7 @@ fewer_queries k (suc n) f =
 
 -- THE BOUND OF A QUERY
 
-square : (n : ℕ) → n ^ 2 ≡ n * n
+pub square : (n : ℕ) → n ^ 2 ≡ n * n
 square n = pow-suc n 1 ∙ (ap (λ (z : ℕ). z * n) (pow-suc n 0 ∙ (ap (λ (z : ℕ). z * n) (pow-zero n) ∙ omega arith)))
 
 pub bound_grows : (m n : ℕ) → m ≤ n → update_bound m ≤ update_bound n
@@ -120,7 +120,7 @@ first_meet_fewer schema queries events more most meet k q at = meet_fewer schema
 
 -- AN EVENT
 
-query_at : (xs : List Query) (k : ℕ) → k < length xs → (q : Query) × (slice_get xs k ≡ Some q)
+pub query_at : (xs : List Query) (k : ℕ) → k < length xs → (q : Query) × (slice_get xs k ≡ Some q)
 query_at [] k within = absurd (omega arith)
 query_at (x ∷ xs) zero within = (x, refl)
 query_at (x ∷ xs) (suc k) within = query_at xs k (omega arith)

@@ -51,7 +51,7 @@ without (z ∷ ys) x (suc k, within, at) =
     }
 
 -- No more different ones than there are in another list that has them all.
-few : {A : Type 0} (xs ys : List A) → HasNoRepeats xs → ((x : A) → Contains xs x → Contains ys x) → length xs ≤ length ys
+pub few : {A : Type 0} (xs ys : List A) → HasNoRepeats xs → ((x : A) → Contains xs x → Contains ys x) → length xs ≤ length ys
 few [] ys h all = omega arith
 few (x ∷ xs) ys h all =
     let w = without ys x (all x (0, omega arith, refl)) in

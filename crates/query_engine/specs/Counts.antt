@@ -1,10 +1,10 @@
--- How many steps an event may take of all queries, by the states that the runs over all events meet.
-use Rattle.std.specs.Prelude.{◌≡◌, ℕ, ◌+◌, ◌*◌, ◌≤◌, List, ◌++◌, length, Some, slice_get}
+-- How many steps an event, and a compaction, may take of all queries, by the states that the runs over all events meet.
+use Rattle.std.specs.Prelude.{◌≡◌, ℕ, ◌+◌, ◌*◌, ◌≤◌, List, [], ◌∷◌, ◌++◌, length, Some, slice_get}
 use Rattle.stream_schema.specs.Types.{Declared}
 use Rattle.stream_schema.specs.declared.Event.{Event}
 use Rattle.cel_terms.specs.declared.Query.{Query}
 use Rattle.query_engine.specs.Bounds.{update_bound, for_each_query, MeetAtMost}
-use Rattle.query_engine.specs.Engine.{State, StandsFor, found_of, update_bounds}
+use Rattle.query_engine.specs.Engine.{State, StandsFor, SameQueries, found_of, len_of, update_bounds}
 
 -- The runs over the events meet at most so many states of each query, by its number, from 1.
 abbrev pub MeetMost : Declared → List Query → List Event → (ℕ → ℕ) → Type 0
@@ -40,3 +40,22 @@ EventIsBounded = (engine : State) (events : List Event) (most : ℕ → ℕ) →
 -- The runs of a query meet no more than some number of states, whatever the events.
 abbrev pub SomeNumberIsMost : Type 0
 SomeNumberIsMost = (schema : Declared) (q : Query) → (n : ℕ) × ((events : List Event) → MeetAtMost schema q events n)
+
+-- No query has more nodes than so many events may add.
+abbrev pub HasFewNodes : State → ℕ → (ℕ → ℕ) → Type 0
+HasFewNodes engine events most = (k : ℕ) (q : Query) → slice_get engine.queries k ≡ Some q → len_of engine (k + 1) ≤ events * update_bound (most (k + 1))
+
+-- A compaction's steps for all queries, after so many events: nine for each node that these may have added.
+abbrev pub compaction_bound : ℕ → (ℕ → ℕ) → ℕ → ℕ
+compaction_bound queries most events = for_each_query queries (λ k. 9 * update_bound (most k) * events)
+
+-- An engine that took no event has no node.
+abbrev pub FirstHasNoNode : Type 0
+FirstHasNoNode = (engine : State) (most : ℕ → ℕ) → StandsFor engine [] → HasFewNodes engine 0 most
+
+-- An event that was taken adds no more than its bound.
+abbrev pub EventAddsFew : Type 0
+EventAddsFew = (old new : State) (events : List Event) (event : Event) (most : ℕ → ℕ) →
+    SameQueries old new → StandsFor new (events ++ event ∷ []) → MeetMost new.schema new.queries (events ++ event ∷ []) most →
+    ((query : ℕ) → len_of new query ≤ len_of old query + update_bound (found_of new query)) →
+    HasFewNodes old (length events) most → HasFewNodes new (length (events ++ event ∷ [])) most

@@ -3,6 +3,7 @@
 ghost use Rattle.std.specs.Prelude.{◌≡◌, ◌+◌, ◌≤◌, length, All, sum_by};
 ghost use Rattle.std.specs.List.{AllZip};
 ghost use Rattle.all_or_none.specs.Phases.{Phase, IsIdle};
+ghost use Rattle.query_part.specs.Compacting.{HasStatesOnce};
 ghost use Rattle.query_engine.specs.Compacting.{CanCompact, FitsPart, IsCompacted, AreTrimmed, AreCarried, cost};
 
 use crate::cursor::Cursor;
@@ -35,6 +36,16 @@ pub fn most_nodes(parts: &[Part]) -> u64
         most = parts[k].len().max(most);
     }
     most
+}
+
+/// No state stands twice in a key's lists of a part.
+pub fn states_once(parts: &[Part])
+    requires idle { All IsIdle parts.now }
+    ensures { All (λ (p : Phase). All HasStatesOnce p.kept.rows) parts.now }
+{
+    for k in 0..parts.len() {
+        parts[k].states_once();
+    }
 }
 
 /// Compacts each part, with the cursors of it that are held. The room is for as many nodes as each

@@ -1,10 +1,13 @@
 -- What a compaction makes of what is kept of a query.
-use Rattle.std.proofs.Common.{◌≡◌, ℕ, zero, suc, ℤ, ◌≤◌, List, [], ◌∷◌, length, All, Option, Some, refl, sym, ap, subst, ◌∙◌, slice_get, get_or, arith}
+use Rattle.std.proofs.Common.{◌≡◌, ℕ, zero, suc, ℤ, ◌+◌, ◌<◌, ◌≤◌, List, [], ◌∷◌, take, slice_index_or, length, All, Option, Some, refl, sym, ap, subst, ◌∙◌, slice_get, get_or, arith}
 use Rattle.std.specs.Prelude.{◌≤ℤ◌, nat_le}
 use Rattle.std.proofs.Math.Dec.{leb-zero}
 use Rattle.std.proofs.lemmas.List.Recursion.{is_count_by}
 use Rattle.cer_base.specs.Fields.{max_of}
 use Rattle.std.proofs.lemmas.Option.{slice_get-get_or}
+use Rattle.std.proofs.lemmas.List.{take_more}
+use Rattle.std.proofs.lemmas.List.Elements.{All-nil, All-cons, All-append}
+use Rattle.query_part.specs.declared.matches.Lists.{Lists}
 use Rattle.stream_schema.specs.Types.{Declared}
 use Rattle.stream_schema.specs.declared.Event.{Event}
 use Rattle.cel_terms.specs.declared.Query.{Query}
@@ -21,7 +24,7 @@ use Rattle.arena_compact.proofs.Standing.{still_stand}
 use Rattle.arena_compact.proofs.Ends.{least_under}
 use Rattle.query_part.specs.Matches.{Held}
 use Rattle.query_part.specs.Parts.{part_of}
-use Rattle.query_part.specs.Compacting.{CursorsCompacted, PartCompacted}
+use Rattle.query_part.specs.Compacting.{HasStatesOnce, CursorsCompacted, PartCompacted}
 use Rattle.query_part.proofs.Prepare.{Idle}
 
 -- all nodes have a greatest start at the first position or later
@@ -102,3 +105,9 @@ module _ (schema : Declared) (q : Query) (h k : Held) (c : Option ℤ) (n : Opti
 
   pub part_fewer : length k.nodes ≤ length p.kept.nodes
   part_fewer = subst (λ (x : Part). length k.nodes ≤ length x.nodes) i.kept_is (fewer_nodes (least_of number low ws) h.nodes k.nodes (roots_of number k.rows vs) left.nodes)
+
+-- one key's lists more in which no state stands twice
+pub one_more_once : (ls : List Lists) (k : ℕ) (l : Lists) → k < length ls → HasStatesOnce (slice_index_or ls k l).active.entries → All (λ (x : Lists). HasStatesOnce x.active.entries) (take k ls) → All (λ (x : Lists). HasStatesOnce x.active.entries) (take (k + 1) ls)
+one_more_once ls k l less once h =
+    rw (take_more ls k l less) (All-append (λ (x : Lists). HasStatesOnce x.active.entries) (take k ls) (slice_index_or ls k l ∷ []) h
+    (All-cons (λ (x : Lists). HasStatesOnce x.active.entries) (slice_index_or ls k l) [] once (All-nil (λ (x : Lists). HasStatesOnce x.active.entries))))

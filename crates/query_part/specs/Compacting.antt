@@ -1,8 +1,10 @@
 -- What a compaction makes of what is kept of a query, and of the cursors that are held over it.
-use Rattle.std.specs.Prelude.{◌≡◌, ℕ, ◌<◌, ℤ, List, length, get_or}
+use Rattle.std.specs.Prelude.{◌≡◌, ℕ, ◌<◌, ℤ, List, length, map, get_or, nat_eq}
+use Rattle.std.specs.List.{IsDistinct}
+use Rattle.cer_base.specs.declared.node.Root.{Root}
 use Rattle.cer_base.specs.declared.node.Node.{Node}
 use Rattle.tecs_enumerate.specs.Rest.{CursorState}
-use Rattle.query_standing.specs.Kept.{Part}
+use Rattle.query_standing.specs.Kept.{Rows, Part}
 use Rattle.arena_compact.specs.Compacted.{least_of, roots_of, Compacted, KeysCompacted, CursorCompacted}
 
 -- As many cursors, in their order, those of the query with the same left.
@@ -19,3 +21,7 @@ pub record PartCompacted (query : ℕ) (low : ℤ) (old new : Part) (ws vs : Lis
   pub nodes : Compacted (least_of query low ws) old.nodes new.nodes (roots_of query new.rows vs)
   pub lists : KeysCompacted (least_of query low ws) old.nodes new.nodes old.rows new.rows
   pub cursors : CursorsCompacted query old.nodes new.nodes ws vs
+
+-- no state stands twice in a key's lists
+abbrev pub HasStatesOnce : Rows → Type 0
+HasStatesOnce rows = IsDistinct nat_eq (map (λ (r : ℕ × List Root). r.0) rows)

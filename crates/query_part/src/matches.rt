@@ -16,6 +16,7 @@ ghost use Rattle.tecs_enumerate.specs.Rest.{CursorState, rest, recent_of, Fits};
 ghost use Rattle.union_lists.specs.Lists.{IsUnionList};
 ghost use Rattle.arena_compact.specs.Roots.{places};
 ghost use Rattle.arena_compact.specs.Compacted.{least_of, roots_of, Compacted, KeysCompacted, CursorCompacted};
+ghost use Rattle.query_part.specs.Compacting.{HasStatesOnce};
 ghost use Rattle.query_part.specs.Matches.{Held, MayRest, HasKeyThere, HasBegun, none_open, cut, CanCut, AreMarks, TakesKey, CanTake, IsReady, HasWorked, CanList, entries_for};
 
 use arena_compact::{HasCursor, HasLists, Room, compact};
@@ -74,7 +75,8 @@ pub struct Matches {
 
 impl Model for Matches {
     ghost use Rattle.std.specs.Prelude.{◌≡◌, length, map, All};
-    ghost use Rattle.query_part.specs.Matches.{Held, MayRest};
+    ghost use Rattle.query_part.specs.Compacting.{HasStatesOnce};
+ghost use Rattle.query_part.specs.Matches.{Held, MayRest};
 
     ghost Value = { Held };
 
@@ -158,6 +160,15 @@ fn wake(lists: &mut [Lists])
 {
     for k in 0..lists.len() {
         lists[k].rests = false;
+    }
+}
+
+/// No state stands twice in a key's lists.
+fn states_once(lists: &[Lists])
+    ensures { All (λ l. HasStatesOnce l.active.entries) lists.now }
+{
+    for k in 0..lists.len() {
+        let _states = lists[k].active.len();
     }
 }
 
@@ -394,6 +405,13 @@ impl Matches {
         ensures { result ≡ length self.now.nodes }
     {
         self.store.len()
+    }
+
+    /// No state stands twice in a key's lists. It goes through the keys, and takes no step.
+    pub fn states_once(&self)
+        ensures { All HasStatesOnce self.now.rows }
+    {
+        states_once(self.lists.as_slice());
     }
 
     /// The entries of the accepting states' lists of the key, none where no key is told.

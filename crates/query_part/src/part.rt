@@ -12,7 +12,7 @@ ghost use Rattle.window_clock.specs.Places.{IsNear, IsOf, HasWidth, clock_in};
 ghost use Rattle.query_part.specs.KeyPlaces.{AreKeyPlaces};
 ghost use Rattle.query_part.specs.Matches.{HasKeyThere};
 ghost use Rattle.query_part.specs.Parts.{AreTypesRead, IsMachineOf, HaveClocks, HasEvents};
-ghost use Rattle.query_part.specs.Compacting.{PartCompacted};
+ghost use Rattle.query_part.specs.Compacting.{HasStatesOnce, PartCompacted};
 ghost use Rattle.arena_compact.specs.Roots.{places};
 
 use crate::machine::{Machine, Reading};
@@ -159,6 +159,14 @@ impl Part {
         ensures { result ≡ length self.now.kept.nodes }
     {
         self.matches.len()
+    }
+
+    /// No state stands twice in a key's lists. It goes through the keys, and takes no step.
+    pub fn states_once(&self)
+        requires idle { IsIdle self.now }
+        ensures { All HasStatesOnce self.now.kept.rows }
+    {
+        self.matches.states_once();
     }
 
     /// How the clock would fall with the event as the next one, if it would.

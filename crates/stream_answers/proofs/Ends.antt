@@ -1,5 +1,6 @@
 -- How a run ends.
 use Rattle.std.proofs.Common.{◌≡◌, ℕ, ◌⊎◌, List, [], ◌∷◌, ◌++◌, Option, Some, None, Result, Ok, Err, inl, inr, refl, sym, ◌∙◌, ap, subst, append_assoc}
+use Rattle.std.specs.Prelude.{OnOk}
 use Rattle.std.proofs.lemmas.List.{append-nil}
 use Rattle.cer_base.specs.declared.OrMemory.{OrMemory}
 use Rattle.cer_base.specs.declared.OrMemory.TheVariants.{Fault, Memory}
@@ -20,7 +21,7 @@ use Rattle.event_run.specs.Taking.{HasTaken, BeginsRun, AfterCall, HasSourceCaus
 use Rattle.stream_answers.specs.declared.StreamFault.{StreamFault}
 use Rattle.stream_answers.specs.declared.StreamFault.TheVariants as fault
 use Rattle.stream_answers.specs.Gathering.{PassesOn, Running, Finished, stream_fault}
-use Rattle.stream_answers.specs.Streams.{Asked, WroteOver, WroteAll, WrotePartOf, WroteStream, HasReadCause}
+use Rattle.stream_answers.specs.Streams.{Asked, StandsForAll, WroteOver, WroteAll, WrotePartOf, WroteStream, HasReadCause}
 use Rattle.stream_answers.proofs.Portions.{took_both, took_then_part, part_of_more, prefix_of_more, prefix_of_all}
 use Rattle.stream_answers.proofs.Wholes.{part_of_run}
 use Rattle.stream_answers.proofs.Running.{Owing, Came, output_with, in_turn, begins_so}
@@ -100,12 +101,41 @@ ends_for_memory {T} a source reader left before middle later after held blocks n
           subst P (sym failed.0) (part_of_run a source events (written ++ now ++ put.0) (TookPart before after) output begun (λ rest p. part_of_more before after (written ++ now ++ put.0) rest p) (part_of_more before after (written ++ now) put.0 part))
     ]
 
+-- memory ran out while the engine was compacted
+pub ends_for_compaction : {T : Type 0} (a : Asked) (source : Option (List ℕ)) (reader : LineReader) (left before middle after : Option (List ℕ)) (held : List ℕ) (old new : ℕ) (engine : State) (result : Result T (OrMemory StreamFault)) →
+    reader.budget ≡ a.most_bytes → (r : Running a source reader left before middle held engine) → Finished middle after old new held (Err Memory) result → WroteStream a source left before after result
+ends_for_compaction a source reader left before middle after held old new engine result budget r finished =
+    let begun = begins_so a source reader left r.events budget r.taken in
+    ends a source left before middle after held r.written old new r.events (Err Memory) result r.took r.output begun finished
+    (λ all. part_of_run a source r.events (r.written ++ held) (TookPrefix before after) r.output begun (λ rest p. prefix_of_more before after (r.written ++ held) rest p) (prefix_of_all before after (r.written ++ held) all))
+
 -- a write failed meanwhile
 pub ends_for_fault : (a : Asked) (source : Option (List ℕ)) (reader : LineReader) (left before middle after : Option (List ℕ)) (held blocks : List ℕ) (engine : State) →
     reader.budget ≡ a.most_bytes → (o : Owing a source reader left before middle held engine) → Came a (o.events ++ o.next ∷ []) blocks → TookPart middle after (held ++ blocks) → WrotePartOf a source (TookPart before after)
 ends_for_fault a source reader left before middle after held blocks engine budget o came part =
     part_of_run a source (o.events ++ o.next ∷ []) (o.written ++ (held ++ blocks)) (TookPart before after) (output_with a o.events o.next o.written held blocks o.output came)
     (begins_so a source reader left (o.events ++ o.next ∷ []) budget o.taken) (λ rest p. part_of_more before after (o.written ++ (held ++ blocks)) rest p) (took_then_part before middle after o.written (held ++ blocks) o.took part)
+
+-- the engine, where the source has ended
+pub stands_at_end : (a : Asked) (source : Option (List ℕ)) (old_reader reader : LineReader) (had left before middle : Option (List ℕ)) (held : List ℕ) (engine now : State) →
+    reader.budget ≡ a.most_bytes → (r : Running a source old_reader had before middle held engine) →
+    AfterCall a.schema a.queries reader now (λ bytes. HasTaken a.schema a.queries old_reader bytes had r.events) left r.events (Ok taken.End) → (bytes : List ℕ) → source ≡ Some bytes → StandsForAll a bytes now
+stands_at_end a source old_reader reader had left before middle held engine now budget r took bytes told = record {
+  events = r.events;
+  runs = subst (λ n. RunsTo a.schema a.queries n bytes r.events stop.End) budget (took.1 bytes (r.taken bytes told));
+  stands = took.0;
+}
+
+-- a fact, where all was well
+pub ok_then : {T E : Type 0} (r : Result T E) (P : Type 0) → P → OnOk r P
+ok_then (Ok done) P p = p
+ok_then (Err why) P p = tt
+
+-- nothing of what was to come after a fault
+pub none_ok : {T : Type 0} (middle after : Option (List ℕ)) (old new : ℕ) (held : List ℕ) (why : OrMemory StreamFault) (result : Result T (OrMemory StreamFault)) (P : Type 0) → Finished middle after old new held (Err why) result → OnOk result P
+none_ok {T} middle after old new held why result P finished =
+    let Q : Result T (OrMemory StreamFault) → Type 0 = λ r. OnOk r P in
+    elim finished.way [ inl fine ↦ subst Q (sym fine.0) tt | inr failed ↦ subst Q (sym failed.0) tt ]
 
 -- the source's count, where no further event was taken
 pub read_cause : {T : Type 0} (before now : ℕ) (middle after : Option (List ℕ)) (old new : ℕ) (held : List ℕ) (why : OrMemory RunFault) (result : Result T (OrMemory StreamFault)) →

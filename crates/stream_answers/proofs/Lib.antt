@@ -7,6 +7,8 @@ mod Putting
 mod Wholes
 -- a run from event to event; for callers
 pub mod Running
+-- the compaction after an event
+mod Compacted
 -- how a run ends
 mod Ends
 -- the steps, from event to event and at the end

@@ -63,6 +63,19 @@ owes a source old new had left before after held engine now r took = record {
   taken = λ lines same. took.2 lines (r.taken lines same);
 }
 
+-- The engine stands for the same, whatever was done with it.
+abbrev pub owes_still : (a : Asked) (source : Option (List ℕ)) (reader : LineReader) (left before after : Option (List ℕ)) (held : List ℕ) (engine now : State) → (o : Owing a source reader left before after held engine) →
+    StandsFor now (o.events ++ o.next ∷ []) → Owing a source reader left before after held now
+owes_still a source reader left before after held engine now o stands = record {
+  events = o.events;
+  next = o.next;
+  stands = stands;
+  written = o.written;
+  took = o.took;
+  output = o.output;
+  taken = o.taken;
+}
+
 -- Its answers came.
 pub record Came (a : Asked) (events : List Event) (blocks : List ℕ) : Type 0 where
   pub blocks_are : AreBlocks a.order a.schema 1 a.queries events (length events - 1) blocks

@@ -22,7 +22,8 @@ use Rattle.event_reader.specs.Lines.{file_lines}
 use Rattle.query_engine.specs.Bounds.{update_bound, for_each_query}
 use Rattle.query_engine.specs.Engine.{State, StandsFor, update_bounds}
 use Rattle.query_engine.specs.Counts.{MeetMost, event_bound, cursor_bounds}
-use Rattle.query_engine.proofs.Counting.{first_meet_fewer, event_is_bounded, refused_is_bounded}
+use Rattle.query_engine.proofs.Counting.{first_meet_fewer, event_is_bounded, refused_is_bounded, one_query_more, fewer_queries}
+use Rattle.query_engine.proofs.FewNodes.{first_has_no_node}
 use Rattle.event_run.specs.declared.Taken.{Taken}
 use Rattle.event_run.specs.declared.Taken.TheVariants as taken
 use Rattle.event_run.specs.declared.RunFault.{RunFault}
@@ -36,12 +37,12 @@ use Rattle.stream_answers.specs.declared.StreamFault.{StreamFault}
 use Rattle.stream_answers.specs.declared.StreamFault.TheVariants as fault
 use Rattle.stream_answers.specs.Gathering.{Gathered, PassesOn, Passed, Running, Finished, stream_fault}
 use Rattle.stream_answers.specs.Streams.{Asked}
-use Rattle.stream_answers.specs.Steps.{run_bound, AreBounded, CountsAll, Counts, CountsUpTo, CountsAtFault, StepsOver}
-use Rattle.stream_answers.specs.Counting.{Counted, StepsAtFault, StepsPut}
+use Rattle.stream_answers.specs.Steps.{compaction_at, compactions, run_bound, AreBounded, CountsAll, Counts, CountsUpTo, CountsAtFault, StepsOver}
+use Rattle.stream_answers.specs.Counting.{Counted, IsCompacted, StepsAtFault, StepsPut}
 use Rattle.stream_answers.proofs.Portions.{took_none, took_both, took_then_part, part_of_more}
 use Rattle.stream_answers.proofs.Putting.{passed_walk}
 use Rattle.stream_answers.proofs.Wholes.{begins_empty}
-use Rattle.stream_answers.proofs.Running.{starts, Owing, Came, runs_on, begins_so}
+use Rattle.stream_answers.proofs.Running.{starts, Owing, Came, owes_still, runs_on, begins_so}
 
 -- PUTTING
 
@@ -91,266 +92,297 @@ kept_rows engine order held now_held s before most now view kept is put =
           (r.0, r.1, ((lines_of r.0, record { written = []; took = took_none before; whole = ap (λ h. h ++ lines_of r.0) (sym kept) }), r.2.1));
     }))
 
--- FROM EVENT TO EVENT
+module _ (every : Option ℕ) where
+  -- FROM EVENT TO EVENT
 
--- one event more, with the rows at it
-bounded_more : (a : Asked) (engine : State) (events : List StreamEvent) (next : StreamEvent) (rows more : List Row) (first old seen now : ℕ) → engine.schema ≡ a.schema → engine.queries ≡ a.queries →
-    StandsFor engine (events ++ next ∷ []) → AreBounded a.schema a.queries events rows first old → seen ≤ old + update_bounds engine → now ≤ seen + cursor_bounds engine + row_delays more →
-    AreBounded a.schema a.queries (events ++ next ∷ []) (rows ++ more) first now
-bounded_more a engine events next rows more first old seen now same alike stands bounded took put = λ most meet.
-    let all = events ++ next ∷ [] in
-    let before = bounded most (first_meet_fewer a.schema a.queries events (next ∷ []) most meet) in
-    let S : Declared → Type 0 = λ s. MeetMost s a.queries all most in
-    let Q : List Query → Type 0 = λ qs. MeetMost engine.schema qs all most in
-    let here = event_is_bounded engine all most stands (subst Q (sym alike) (subst S (sym same) meet)) in
-    let e = event_bound (length a.queries) most in
-    let costs : event_bound (length engine.queries) most ≡ e = ap (λ (qs : List Query). event_bound (length qs) most) alike in
-    let count : length all ≡ length events + 1 = length-append events (next ∷ []) in
-    let product : length all * e ≡ length events * e + e = ap (λ (n : ℕ). n * e) count ∙ omega arith in
-    let both = delays_both rows more in
-    omega (arith, before, here, costs, product, both, took, put)
+  -- one event more, with the rows at it, and the compaction after it
+  bounded_on : (a : Asked) (engine : State) (events : List StreamEvent) (next : StreamEvent) (rows more : List Row) (first old seen paused now : ℕ) → engine.schema ≡ a.schema → engine.queries ≡ a.queries →
+      StandsFor engine (events ++ next ∷ []) → AreBounded every a.schema a.queries events rows first old → seen ≤ old + update_bounds engine → paused ≤ seen + cursor_bounds engine + row_delays more →
+      ((most : ℕ → ℕ) → MeetMost a.schema a.queries (events ++ next ∷ []) most → now ≤ paused + compaction_at every (length a.queries) most (length (events ++ next ∷ []))) →
+      AreBounded every a.schema a.queries (events ++ next ∷ []) (rows ++ more) first now
+  bounded_on a engine events next rows more first old seen paused now same alike stands bounded took put compacted = λ most meet.
+      let all = events ++ next ∷ [] in
+      let before = bounded most (first_meet_fewer a.schema a.queries events (next ∷ []) most meet) in
+      let S : Declared → Type 0 = λ s. MeetMost s a.queries all most in
+      let Q : List Query → Type 0 = λ qs. MeetMost engine.schema qs all most in
+      let here = event_is_bounded engine all most stands (subst Q (sym alike) (subst S (sym same) meet)) in
+      let e = event_bound (length a.queries) most in
+      let costs : event_bound (length engine.queries) most ≡ e = ap (λ (qs : List Query). event_bound (length qs) most) alike in
+      let count : length all ≡ length events + 1 = length-append events (next ∷ []) in
+      let product : length all * e ≡ length events * e + e = ap (λ (n : ℕ). n * e) count ∙ omega arith in
+      let both = delays_both rows more in
+      let last = compacted most meet in
+      let f = compaction_at every (length a.queries) most in
+      let sums : compactions every (length a.queries) most (length all) ≡ compactions every (length a.queries) most (length events) + f (length all) =
+      ap (compactions every (length a.queries) most) count ∙ (one_query_more (length events) f ∙ ap (λ (n : ℕ). compactions every (length a.queries) most (length events) + f n) (sym count)) in
+      omega (arith, before, here, costs, product, both, took, put, last, sums)
 
--- the rows in the words of those who asked
-pub rows_as : (order asked_order : Order) (schema asked_schema : Declared) (queries asked_queries : List Query) (events : List StreamEvent) (rows : List Row) → order ≡ asked_order → schema ≡ asked_schema → queries ≡ asked_queries →
-    AreRowsAt order schema 1 queries events (length events - 1) rows → AreRowsAt asked_order asked_schema 1 asked_queries events (length events - 1) rows
-rows_as order asked_order schema asked_schema queries asked_queries events rows o s q are =
-    let O : Order → Type 0 = λ x. AreRowsAt x schema 1 queries events (length events - 1) rows in
-    let S : Declared → Type 0 = λ x. AreRowsAt asked_order x 1 queries events (length events - 1) rows in
-    let Q : List Query → Type 0 = λ x. AreRowsAt asked_order asked_schema 1 x events (length events - 1) rows in
-    subst Q q (subst S s (subst O o are))
+  -- one event more, with the rows at it
+  bounded_more : (a : Asked) (engine : State) (events : List StreamEvent) (next : StreamEvent) (rows more : List Row) (first old seen now : ℕ) → engine.schema ≡ a.schema → engine.queries ≡ a.queries →
+      StandsFor engine (events ++ next ∷ []) → AreBounded every a.schema a.queries events rows first old → seen ≤ old + update_bounds engine → now ≤ seen + cursor_bounds engine + row_delays more →
+      AreBounded every a.schema a.queries (events ++ next ∷ []) (rows ++ more) first now
+  bounded_more a engine events next rows more first old seen now same alike stands bounded took put =
+      bounded_on a engine events next rows more first old seen now now same alike stands bounded took put (λ most meet. omega arith)
 
--- at the beginning
-pub counts_start : (a : Asked) (source before : Option (List ℕ)) (reader : LineReader) (held : List ℕ) (engine : State) (first : ℕ) →
-    StandsFor engine [] → ((bytes : List ℕ) → HasGiven reader bytes (Some bytes) []) → held ≡ [] → Counted a source reader source before before held engine first first
-counts_start a source before reader held engine first stands given empty = record {
-  running = starts a source before reader held engine stands given empty;
-  rows = [];
-  are_rows = refl;
-  lines = empty;
-  bounded = λ most meet. omega arith;
-}
+  -- the rows in the words of those who asked
+  pub rows_as : (order asked_order : Order) (schema asked_schema : Declared) (queries asked_queries : List Query) (events : List StreamEvent) (rows : List Row) → order ≡ asked_order → schema ≡ asked_schema → queries ≡ asked_queries →
+      AreRowsAt order schema 1 queries events (length events - 1) rows → AreRowsAt asked_order asked_schema 1 asked_queries events (length events - 1) rows
+  rows_as order asked_order schema asked_schema queries asked_queries events rows o s q are =
+      let O : Order → Type 0 = λ x. AreRowsAt x schema 1 queries events (length events - 1) rows in
+      let S : Declared → Type 0 = λ x. AreRowsAt asked_order x 1 queries events (length events - 1) rows in
+      let Q : List Query → Type 0 = λ x. AreRowsAt asked_order asked_schema 1 x events (length events - 1) rows in
+      subst Q q (subst S s (subst O o are))
 
--- the answers were put
-pub counts_on : (a : Asked) (source : Option (List ℕ)) (reader : LineReader) (left before middle after : Option (List ℕ)) (held now_held : List ℕ) (engine : State) → (o : Owing a source reader left before middle held engine) →
-    (rows more : List Row) (first old seen now : ℕ) → engine.schema ≡ a.schema → engine.queries ≡ a.queries → AreRowsAt a.order a.schema 1 a.queries (o.events ++ o.next ∷ []) (length (o.events ++ o.next ∷ []) - 1) more →
-    PassesOn middle after held (lines_of more) now_held [] → AreOutputRows a.order a.schema a.queries o.events rows → o.written ++ held ≡ lines_of rows →
-    AreBounded a.schema a.queries o.events rows first old → seen ≤ old + update_bounds engine → now ≤ seen + cursor_bounds engine + row_delays more → Counted a source reader left before after now_held engine first now
-counts_on a source reader left before middle after held now_held engine o rows more first old seen now same alike are_more passed are_rows lines bounded took put =
-    let came : Came a (o.events ++ o.next ∷ []) (lines_of more) =
-    record { blocks_are = blocks_of_rows a.order a.schema 1 a.queries (o.events ++ o.next ∷ []) (length (o.events ++ o.next ∷ []) - 1) more are_more } in record {
-      running = runs_on a source reader left before middle after held (lines_of more) now_held engine o came passed;
-      rows = rows ++ more;
-      are_rows = rows_grow_at_last a.order a.schema a.queries o.events o.next rows more are_rows are_more;
-      lines = lines_more o.written held (lines_of more) passed.written now_held passed.whole lines ∙ sym (lines_both rows more);
-      bounded = bounded_more a engine o.events o.next rows more first old seen now same alike o.stands bounded took put;
-    }
-  where
-    lines_more : (written held came put now : List ℕ) → held ++ came ≡ put ++ (now ++ []) → written ++ held ≡ lines_of rows → (written ++ put) ++ now ≡ lines_of rows ++ came
-    lines_more written held came put now whole so_far =
-        append_assoc written put now ∙ (ap (λ (l : List ℕ). written ++ (put ++ l)) (sym (append-nil now)) ∙ (ap (λ (l : List ℕ). written ++ l) (sym whole)
-        ∙ (sym (append_assoc written held came) ∙ ap (λ (l : List ℕ). l ++ came) so_far)))
+  -- at the beginning
+  pub counts_start : (a : Asked) (source before : Option (List ℕ)) (reader : LineReader) (held : List ℕ) (engine : State) (first : ℕ) →
+      StandsFor engine [] → ((bytes : List ℕ) → HasGiven reader bytes (Some bytes) []) → held ≡ [] → Counted every a source reader source before before held engine first first
+  counts_start a source before reader held engine first stands given empty = record {
+    running = starts a source before reader held engine stands given empty;
+    rows = [];
+    are_rows = refl;
+    lines = empty;
+    bounded = λ most meet. omega arith;
+    few = λ most meet. first_has_no_node engine most stands;
+  }
 
--- OVER A WHOLE FILE
+  -- the answers were put, and the engine is compacted where that is due
+  pub counts_on : (a : Asked) (source : Option (List ℕ)) (reader : LineReader) (left before middle after : Option (List ℕ)) (held now_held : List ℕ) (engine compacted : State) → (o : Owing a source reader left before middle held engine) →
+      (rows more : List Row) (first old seen paused now : ℕ) → engine.schema ≡ a.schema → engine.queries ≡ a.queries → AreRowsAt a.order a.schema 1 a.queries (o.events ++ o.next ∷ []) (length (o.events ++ o.next ∷ []) - 1) more →
+      PassesOn middle after held (lines_of more) now_held [] → AreOutputRows a.order a.schema a.queries o.events rows → o.written ++ held ≡ lines_of rows →
+      AreBounded every a.schema a.queries o.events rows first old → seen ≤ old + update_bounds engine → paused ≤ seen + cursor_bounds engine + row_delays more →
+      IsCompacted every a (o.events ++ o.next ∷ []) compacted paused now → Counted every a source reader left before after now_held compacted first now
+  counts_on a source reader left before middle after held now_held engine compacted o rows more first old seen paused now same alike are_more passed are_rows lines bounded took put c =
+      let came : Came a (o.events ++ o.next ∷ []) (lines_of more) =
+      record { blocks_are = blocks_of_rows a.order a.schema 1 a.queries (o.events ++ o.next ∷ []) (length (o.events ++ o.next ∷ []) - 1) more are_more } in record {
+        running = runs_on a source reader left before middle after held (lines_of more) now_held compacted (owes_still a source reader left before middle held engine compacted o c.stands) came passed;
+        rows = rows ++ more;
+        are_rows = rows_grow_at_last a.order a.schema a.queries o.events o.next rows more are_rows are_more;
+        lines = lines_more o.written held (lines_of more) passed.written now_held passed.whole lines ∙ sym (lines_both rows more);
+        bounded = bounded_on a engine o.events o.next rows more first old seen paused now same alike o.stands bounded took put c.steps;
+        few = c.few;
+      }
+    where
+      lines_more : (written held came put now : List ℕ) → held ++ came ≡ put ++ (now ++ []) → written ++ held ≡ lines_of rows → (written ++ put) ++ now ≡ lines_of rows ++ came
+      lines_more written held came put now whole so_far =
+          append_assoc written put now ∙ (ap (λ (l : List ℕ). written ++ (put ++ l)) (sym (append-nil now)) ∙ (ap (λ (l : List ℕ). written ++ l) (sym whole)
+          ∙ (sym (append_assoc written held came) ∙ ap (λ (l : List ℕ). l ++ came) so_far)))
 
--- What bounds the steps by the first events bounds them by all.
-pub counts_whole : (a : Asked) (lines : List ℕ) (events : List StreamEvent) (rows : List Row) (before now : ℕ) → BeginsRun a.schema a.queries a.most_bytes lines events → AreOutputRows a.order a.schema a.queries events rows →
-    AreBounded a.schema a.queries events rows before now → Counts a lines before now
-counts_whole a lines events rows before now begun are_rows bounded =
-    let all = events ++ begun.more in
-    let grown = rows_grow a.order a.schema a.queries events begun.more rows (λ end. some_blocks_are a.order a.schema 1 a.queries all end) are_rows in record {
-      events = all;
-      stop = begun.stop;
-      runs = begun.runs;
-      stops = tt;
-      rows = rows ++ grown.0;
-      are_rows = grown.1;
-      took = tt;
-      bounded = λ most meet.
-          let few = bounded most (first_meet_fewer a.schema a.queries events begun.more most meet) in
-          let e = event_bound (length a.queries) most in
-          let count : length all ≡ length events + length begun.more = length-append events begun.more in
-          let product : length all * e ≡ length events * e + length begun.more * e = ap (λ (n : ℕ). n * e) count ∙ omega arith in
-          let both = delays_both rows grown.0 in
-          omega (arith, few, product, both);
-    }
+  -- OVER A WHOLE FILE
 
--- no step was taken
-pub counts_none : (a : Asked) (lines : List ℕ) (now : ℕ) → Counts a lines now now
-counts_none a lines now = counts_whole a lines [] [] now now (begins_empty a lines) refl (λ most meet. omega arith)
+  -- What bounds the steps by the first events bounds them by all.
+  pub counts_whole : (a : Asked) (lines : List ℕ) (events : List StreamEvent) (rows : List Row) (before now : ℕ) → BeginsRun a.schema a.queries a.most_bytes lines events → AreOutputRows a.order a.schema a.queries events rows →
+      AreBounded every a.schema a.queries events rows before now → Counts every a lines before now
+  counts_whole a lines events rows before now begun are_rows bounded =
+      let all = events ++ begun.more in
+      let grown = rows_grow a.order a.schema a.queries events begun.more rows (λ end. some_blocks_are a.order a.schema 1 a.queries all end) are_rows in record {
+        events = all;
+        stop = begun.stop;
+        runs = begun.runs;
+        stops = tt;
+        rows = rows ++ grown.0;
+        are_rows = grown.1;
+        took = tt;
+        bounded = λ most meet.
+            let few = bounded most (first_meet_fewer a.schema a.queries events begun.more most meet) in
+            let e = event_bound (length a.queries) most in
+            let count : length all ≡ length events + length begun.more = length-append events begun.more in
+            let product : length all * e ≡ length events * e + length begun.more * e = ap (λ (n : ℕ). n * e) count ∙ omega arith in
+            let both = delays_both rows grown.0 in
+            let f = compaction_at every (length a.queries) most in
+            let more : compactions every (length a.queries) most (length events) ≤ compactions every (length a.queries) most (length all) =
+            subst (λ (n : ℕ). compactions every (length a.queries) most (length events) ≤ compactions every (length a.queries) most n) (sym count) (fewer_queries (length events) (length begun.more) f) in
+            omega (arith, few, product, both, more);
+      }
 
--- memory ran out while an event was taken
-counts_wanting : (a : Asked) (lines : List ℕ) (events : List StreamEvent) (next : StreamEvent) (rows : List Row) (first old seen : ℕ) → BeginsRun a.schema a.queries a.most_bytes lines (events ++ next ∷ []) →
-    AreOutputRows a.order a.schema a.queries events rows → AreBounded a.schema a.queries events rows first old → AreWantingSteps a.schema a.queries (events ++ next ∷ []) old seen → Counts a lines first seen
-counts_wanting a lines events next rows first old seen begun are_rows bounded wants =
-    let all = events ++ next ∷ [] in
-    let blocks = some_blocks_are a.order a.schema 1 a.queries all (length all - 1) in
-    let more = rows_of_blocks a.order a.schema 1 a.queries all (length all - 1) blocks.0 blocks.1 in
-    counts_whole a lines all (rows ++ more.0) first seen begun (rows_grow_at_last a.order a.schema a.queries events next rows more.0 are_rows more.1)
-    (λ most meet.
-    let before = bounded most (first_meet_fewer a.schema a.queries events (next ∷ []) most meet) in
-    let here = wants most meet in
-    let within = refused_is_bounded (length a.queries) most in
-    let e = event_bound (length a.queries) most in
-    let count : length all ≡ length events + 1 = length-append events (next ∷ []) in
-    let product : length all * e ≡ length events * e + e = ap (λ (n : ℕ). n * e) count ∙ omega arith in
-    let both = delays_both rows more.0 in
-    omega (arith, before, here, within, product, both))
+  -- no step was taken
+  pub counts_none : (a : Asked) (lines : List ℕ) (now : ℕ) → Counts every a lines now now
+  counts_none a lines now = counts_whole a lines [] [] now now (begins_empty a lines) refl (λ most meet. omega arith)
 
--- HOW A RUN ENDS
+  -- memory ran out while an event was taken
+  counts_wanting : (a : Asked) (lines : List ℕ) (events : List StreamEvent) (next : StreamEvent) (rows : List Row) (first old seen : ℕ) → BeginsRun a.schema a.queries a.most_bytes lines (events ++ next ∷ []) →
+      AreOutputRows a.order a.schema a.queries events rows → AreBounded every a.schema a.queries events rows first old → AreWantingSteps a.schema a.queries (events ++ next ∷ []) old seen → Counts every a lines first seen
+  counts_wanting a lines events next rows first old seen begun are_rows bounded wants =
+      let all = events ++ next ∷ [] in
+      let blocks = some_blocks_are a.order a.schema 1 a.queries all (length all - 1) in
+      let more = rows_of_blocks a.order a.schema 1 a.queries all (length all - 1) blocks.0 blocks.1 in
+      counts_whole a lines all (rows ++ more.0) first seen begun (rows_grow_at_last a.order a.schema a.queries events next rows more.0 are_rows more.1)
+      (λ most meet.
+      let before = bounded most (first_meet_fewer a.schema a.queries events (next ∷ []) most meet) in
+      let here = wants most meet in
+      let within = refused_is_bounded (length a.queries) most in
+      let e = event_bound (length a.queries) most in
+      let count : length all ≡ length events + 1 = length-append events (next ∷ []) in
+      let product : length all * e ≡ length events * e + e = ap (λ (n : ℕ). n * e) count ∙ omega arith in
+      let both = delays_both rows more.0 in
+      let f = compaction_at every (length a.queries) most in
+      let later : compactions every (length a.queries) most (length events) ≤ compactions every (length a.queries) most (length all) =
+      subst (λ (n : ℕ). compactions every (length a.queries) most (length events) ≤ compactions every (length a.queries) most n) (sym count) (fewer_queries (length events) 1 f) in
+      omega (arith, before, here, within, product, both, later))
 
--- nothing was to be written, and so it was
-none_taken : (middle after : Option (List ℕ)) (held : List ℕ) → held ≡ [] → TookPart middle after held → TookAll middle after held
-none_taken None after held none part = part
-none_taken (Some m) None held none part = absurd part
-none_taken (Some m) (Some n) held none part = absurd (let within = part.within in let l = ap length none in omega arith)
+  -- HOW A RUN ENDS
 
-at_fault : (a : Asked) (lines : List ℕ) (before after : Option (List ℕ)) (first now : ℕ) (o : Order) → o ≡ Sorted → Counts a lines first now → CountsAtFault o a lines before after first now
-at_fault a lines before after first now o sorted counts = subst (λ (x : Order). CountsAtFault x a lines before after first now) (sym sorted) counts
+  -- nothing was to be written, and so it was
+  none_taken : (middle after : Option (List ℕ)) (held : List ℕ) → held ≡ [] → TookPart middle after held → TookAll middle after held
+  none_taken None after held none part = part
+  none_taken (Some m) None held none part = absurd part
+  none_taken (Some m) (Some n) held none part = absurd (let within = part.within in let l = ap length none in omega arith)
 
-walk_or_sorted : (o : Order) → (o ≡ Walk) ⊎ (o ≡ Sorted)
-walk_or_sorted Walk = inl refl
-walk_or_sorted Sorted = inr refl
+  at_fault : (a : Asked) (lines : List ℕ) (before after : Option (List ℕ)) (first now : ℕ) (o : Order) → o ≡ Sorted → Counts every a lines first now → CountsAtFault every o a lines before after first now
+  at_fault a lines before after first now o sorted counts = subst (λ (x : Order). CountsAtFault every x a lines before after first now) (sym sorted) counts
 
-steps_end : {T : Type 0} (a : Asked) (lines : List ℕ) (before middle after : Option (List ℕ)) (held : List ℕ) (old new : ℕ) (end result : Result T (OrMemory StreamFault)) (first now : ℕ) →
-    Finished middle after old new held end result → (a.order ≡ Walk → (held ≡ []) × (result ≡ end)) → Counts a lines first now → (TookAll middle after held → StepsOver a lines before after first now end) → StepsOver a lines before after first now result
-steps_end {T} a lines before middle after held old new end result first now finished walk counts well =
-    let P : Result T (OrMemory StreamFault) → Type 0 = λ r. StepsOver a lines before after first now r in
-    elim finished.way [
-      | inl fine ↦ subst P (sym fine.0) (well fine.1)
-      | inr failed ↦ elim (walk_or_sorted a.order) [
-        | inl is ↦ let w = walk is in subst P (sym w.1) (well (none_taken middle after held w.0 failed.1))
-        | inr is ↦ subst P (sym failed.0) (at_fault a lines before after first now a.order is counts)
+  walk_or_sorted : (o : Order) → (o ≡ Walk) ⊎ (o ≡ Sorted)
+  walk_or_sorted Walk = inl refl
+  walk_or_sorted Sorted = inr refl
+
+  steps_end : {T : Type 0} (a : Asked) (lines : List ℕ) (before middle after : Option (List ℕ)) (held : List ℕ) (old new : ℕ) (end result : Result T (OrMemory StreamFault)) (first now : ℕ) →
+      Finished middle after old new held end result → (a.order ≡ Walk → (held ≡ []) × (result ≡ end)) → Counts every a lines first now → (TookAll middle after held → StepsOver every a lines before after first now end) → StepsOver every a lines before after first now result
+  steps_end {T} a lines before middle after held old new end result first now finished walk counts well =
+      let P : Result T (OrMemory StreamFault) → Type 0 = λ r. StepsOver every a lines before after first now r in
+      elim finished.way [
+        | inl fine ↦ subst P (sym fine.0) (well fine.1)
+        | inr failed ↦ elim (walk_or_sorted a.order) [
+          | inl is ↦ let w = walk is in subst P (sym w.1) (well (none_taken middle after held w.0 failed.1))
+          | inr is ↦ subst P (sym failed.0) (at_fault a lines before after first now a.order is counts)
+        ]
       ]
-    ]
 
--- the run ended by itself
-stopped : (a : Asked) (lines : List ℕ) (before middle after : Option (List ℕ)) (held written : List ℕ) (events : List StreamEvent) (halt : Stop) (rows : List Row) (first now : ℕ) →
-    RunsTo a.schema a.queries a.most_bytes lines events halt → AreOutputRows a.order a.schema a.queries events rows → written ++ held ≡ lines_of rows → AreBounded a.schema a.queries events rows first now →
-    TookAll before middle written → TookAll middle after held → CountsAll a lines (λ h. h ≡ halt) (TookAll before after) first now
-stopped a lines before middle after held written events halt rows first now runs are_rows same bounded took all = record {
-  events = events;
-  stop = halt;
-  runs = runs;
-  stops = refl;
-  rows = rows;
-  are_rows = are_rows;
-  took = subst (TookAll before after) same (took_both before middle after written held took all);
-  bounded = bounded;
-}
+  -- the run ended by itself
+  stopped : (a : Asked) (lines : List ℕ) (before middle after : Option (List ℕ)) (held written : List ℕ) (events : List StreamEvent) (halt : Stop) (rows : List Row) (first now : ℕ) →
+      RunsTo a.schema a.queries a.most_bytes lines events halt → AreOutputRows a.order a.schema a.queries events rows → written ++ held ≡ lines_of rows → AreBounded every a.schema a.queries events rows first now →
+      TookAll before middle written → TookAll middle after held → CountsAll every a lines (λ h. h ≡ halt) (TookAll before after) first now
+  stopped a lines before middle after held written events halt rows first now runs are_rows same bounded took all = record {
+    events = events;
+    stop = halt;
+    runs = runs;
+    stops = refl;
+    rows = rows;
+    are_rows = are_rows;
+    took = subst (TookAll before after) same (took_both before middle after written held took all);
+    bounded = bounded;
+  }
 
-whole_run : (a : Asked) (lines : List ℕ) (events : List StreamEvent) (halt : Stop) → RunsTo a.schema a.queries a.most_bytes lines events halt → BeginsRun a.schema a.queries a.most_bytes lines events
-whole_run a lines events halt runs = let P : List StreamEvent → Type 0 = λ e. RunsTo a.schema a.queries a.most_bytes lines e halt in record { more = []; stop = halt; runs = subst P (sym (append-nil events)) runs }
+  whole_run : (a : Asked) (lines : List ℕ) (events : List StreamEvent) (halt : Stop) → RunsTo a.schema a.queries a.most_bytes lines events halt → BeginsRun a.schema a.queries a.most_bytes lines events
+  whole_run a lines events halt runs = let P : List StreamEvent → Type 0 = λ e. RunsTo a.schema a.queries a.most_bytes lines e halt in record { more = []; stop = halt; runs = subst P (sym (append-nil events)) runs }
 
--- the run over the file, with the bytes that are too many by another name
-runs_as : (a : Asked) (most : ℕ) (lines : List ℕ) (events : List StreamEvent) (halt : Stop) → most ≡ a.most_bytes → RunsTo a.schema a.queries most lines events halt → RunsTo a.schema a.queries a.most_bytes lines events halt
-runs_as a most lines events halt same runs = subst (λ n. RunsTo a.schema a.queries n lines events halt) same runs
+  -- the run over the file, with the bytes that are too many by another name
+  runs_as : (a : Asked) (most : ℕ) (lines : List ℕ) (events : List StreamEvent) (halt : Stop) → most ≡ a.most_bytes → RunsTo a.schema a.queries most lines events halt → RunsTo a.schema a.queries a.most_bytes lines events halt
+  runs_as a most lines events halt same runs = subst (λ n. RunsTo a.schema a.queries n lines events halt) same runs
 
-bounded_same : (a : Asked) (events : List StreamEvent) (rows : List Row) (first old now : ℕ) → now ≡ old → AreBounded a.schema a.queries events rows first old → AreBounded a.schema a.queries events rows first now
-bounded_same a events rows first old now same bounded = subst (λ (n : ℕ). AreBounded a.schema a.queries events rows first n) (sym same) bounded
+  bounded_same : (a : Asked) (events : List StreamEvent) (rows : List Row) (first old now : ℕ) → now ≡ old → AreBounded every a.schema a.queries events rows first old → AreBounded every a.schema a.queries events rows first now
+  bounded_same a events rows first old now same bounded = subst (λ (n : ℕ). AreBounded every a.schema a.queries events rows first n) (sym same) bounded
 
-halts : {T : Type 0} (a : Asked) (lines : List ℕ) (before middle after : Option (List ℕ)) (held written : List ℕ) (old new : ℕ) (events : List StreamEvent) (halt : Stop) (rows : List Row) (end result : Result T (OrMemory StreamFault)) (first now : ℕ) →
-    RunsTo a.schema a.queries a.most_bytes lines events halt → AreOutputRows a.order a.schema a.queries events rows → written ++ held ≡ lines_of rows → AreBounded a.schema a.queries events rows first now →
-    TookAll before middle written → Finished middle after old new held end result → (a.order ≡ Walk → (held ≡ []) × (result ≡ end)) →
-    (CountsAll a lines (λ h. h ≡ halt) (TookAll before after) first now → StepsOver a lines before after first now end) → StepsOver a lines before after first now result
-halts a lines before middle after held written old new events halt rows end result first now runs are_rows same bounded took finished walk well =
-    steps_end a lines before middle after held old new end result first now finished walk (counts_whole a lines events rows first now (whole_run a lines events halt runs) are_rows bounded)
-    (λ all. well (stopped a lines before middle after held written events halt rows first now runs are_rows same bounded took all))
+  halts : {T : Type 0} (a : Asked) (lines : List ℕ) (before middle after : Option (List ℕ)) (held written : List ℕ) (old new : ℕ) (events : List StreamEvent) (halt : Stop) (rows : List Row) (end result : Result T (OrMemory StreamFault)) (first now : ℕ) →
+      RunsTo a.schema a.queries a.most_bytes lines events halt → AreOutputRows a.order a.schema a.queries events rows → written ++ held ≡ lines_of rows → AreBounded every a.schema a.queries events rows first now →
+      TookAll before middle written → Finished middle after old new held end result → (a.order ≡ Walk → (held ≡ []) × (result ≡ end)) →
+      (CountsAll every a lines (λ h. h ≡ halt) (TookAll before after) first now → StepsOver every a lines before after first now end) → StepsOver every a lines before after first now result
+  halts a lines before middle after held written old new events halt rows end result first now runs are_rows same bounded took finished walk well =
+      steps_end a lines before middle after held old new end result first now finished walk (counts_whole a lines events rows first now (whole_run a lines events halt runs) are_rows bounded)
+      (λ all. well (stopped a lines before middle after held written events halt rows first now runs are_rows same bounded took all))
 
-pub steps_at_end : {T : Type 0} (a : Asked) (source : Option (List ℕ)) (lines : List ℕ) (old_reader reader : LineReader) (had left before middle after : Option (List ℕ)) (held : List ℕ) (old new : ℕ) (engine now_engine : State) (done : T) (result : Result T (OrMemory StreamFault)) (first before_steps now : ℕ) →
-    source ≡ Some lines → reader.budget ≡ a.most_bytes → (c : Counted a source old_reader had before middle held engine first before_steps) →
-    AfterCall a.schema a.queries reader now_engine (λ bytes. HasTaken a.schema a.queries old_reader bytes had c.running.events) left c.running.events (Ok taken.End) → now ≡ before_steps →
-    Finished middle after old new held (Ok done) result → (a.order ≡ Walk → (held ≡ []) × (result ≡ Ok done)) → StepsOver a lines before after first now result
-steps_at_end a source lines old_reader reader had left before middle after held old new engine now_engine done result first before_steps now told budget c took same finished walk =
-    let runs = runs_as a reader.budget lines c.running.events stop.End budget (took.1 lines (c.running.taken lines told)) in
-    halts a lines before middle after held c.running.written old new c.running.events stop.End c.rows (Ok done) result first now runs c.are_rows c.lines
-    (bounded_same a c.running.events c.rows first before_steps now same c.bounded) c.running.took finished walk (λ all. all)
+  pub steps_at_end : {T : Type 0} (a : Asked) (source : Option (List ℕ)) (lines : List ℕ) (old_reader reader : LineReader) (had left before middle after : Option (List ℕ)) (held : List ℕ) (old new : ℕ) (engine now_engine : State) (done : T) (result : Result T (OrMemory StreamFault)) (first before_steps now : ℕ) →
+      source ≡ Some lines → reader.budget ≡ a.most_bytes → (c : Counted every a source old_reader had before middle held engine first before_steps) →
+      AfterCall a.schema a.queries reader now_engine (λ bytes. HasTaken a.schema a.queries old_reader bytes had c.running.events) left c.running.events (Ok taken.End) → now ≡ before_steps →
+      Finished middle after old new held (Ok done) result → (a.order ≡ Walk → (held ≡ []) × (result ≡ Ok done)) → StepsOver every a lines before after first now result
+  steps_at_end a source lines old_reader reader had left before middle after held old new engine now_engine done result first before_steps now told budget c took same finished walk =
+      let runs = runs_as a reader.budget lines c.running.events stop.End budget (took.1 lines (c.running.taken lines told)) in
+      halts a lines before middle after held c.running.written old new c.running.events stop.End c.rows (Ok done) result first now runs c.are_rows c.lines
+      (bounded_same a c.running.events c.rows first before_steps now same c.bounded) c.running.took finished walk (λ all. all)
 
-pub steps_by : {T : Type 0} (a : Asked) (source : Option (List ℕ)) (lines : List ℕ) (old_reader reader : LineReader) (had left before middle after : Option (List ℕ)) (held : List ℕ) (old new : ℕ) (engine now_engine : State) (why : OrMemory RunFault) (result : Result T (OrMemory StreamFault)) (first before_steps now : ℕ) →
-    source ≡ Some lines → reader.budget ≡ a.most_bytes → old_reader.budget ≡ a.most_bytes → engine.schema ≡ a.schema → engine.queries ≡ a.queries → (c : Counted a source old_reader had before middle held engine first before_steps) →
-    AfterCall a.schema a.queries reader now_engine (λ bytes. HasTaken a.schema a.queries old_reader bytes had c.running.events) left c.running.events (Err why) → TakesSteps (update_bounds now_engine) before_steps now (Err why) →
-    OnMemory {T = Taken} (Err why) (WantsSteps engine.schema engine.queries c.running.events (λ next. (bytes : List ℕ) → HasTaken engine.schema engine.queries old_reader bytes had c.running.events → BeginsRun engine.schema engine.queries reader.budget bytes (c.running.events ++ next ∷ [])) before_steps now) →
-    Finished middle after old new held (Err (stream_fault why)) result → (a.order ≡ Walk → (held ≡ []) × (result ≡ Err (stream_fault why))) → StepsOver a lines before after first now result
-steps_by a source lines old_reader reader had left before middle after held old new engine now_engine Memory result first before_steps now told budget same_budget same alike c took steps wants finished walk =
-    let begun = begins_so a source old_reader had c.running.events same_budget c.running.taken lines told in
-    let Wants : Declared → List Query → Type 0 = λ s qs. WantsSteps s qs c.running.events (λ next. (bytes : List ℕ) → HasTaken s qs old_reader bytes had c.running.events → BeginsRun s qs reader.budget bytes (c.running.events ++ next ∷ [])) before_steps now in
-    let w : Wants a.schema a.queries = subst (λ (qs : List Query). Wants a.schema qs) alike (subst (λ (s : Declared). Wants s engine.queries) same wants) in
-    let counts : Counts a lines first now = elim w [
-      | inl none ↦ counts_whole a lines c.running.events c.rows first now begun c.are_rows (bounded_same a c.running.events c.rows first before_steps now none c.bounded)
-      | inr some ↦ counts_wanting a lines c.running.events some.0 c.rows first before_steps now
-          (subst (λ n. BeginsRun a.schema a.queries n lines (c.running.events ++ some.0 ∷ [])) budget (some.1 lines (c.running.taken lines told))) c.are_rows c.bounded some.2
-    ] in
-    steps_end a lines before middle after held old new (Err Memory) result first now finished walk counts (λ all. counts)
-steps_by a source lines old_reader reader had left before middle after held old new engine now_engine (Fault run.ReadFault) result first before_steps now told budget same_budget same alike c took steps wants finished walk =
-    let begun = begins_so a source old_reader had c.running.events same_budget c.running.taken lines told in
-    let counts = counts_whole a lines c.running.events c.rows first now begun c.are_rows (bounded_same a c.running.events c.rows first before_steps now steps c.bounded) in
-    steps_end a lines before middle after held old new (Err (Fault fault.ReadFault)) result first now finished walk counts (λ all. counts)
-steps_by a source lines old_reader reader had left before middle after held old new engine now_engine (Fault (run.Event line refusal)) result first before_steps now told budget same_budget same alike c took steps wants finished walk =
-    let runs = runs_as a reader.budget lines c.running.events (stop.Event line refusal) budget (took.1 lines (c.running.taken lines told)) in
-    halts a lines before middle after held c.running.written old new c.running.events (stop.Event line refusal) c.rows (Err (Fault (fault.Event line refusal))) result first now runs c.are_rows c.lines
-    (bounded_same a c.running.events c.rows first before_steps now steps c.bounded) c.running.took finished walk (λ all. all)
-steps_by a source lines old_reader reader had left before middle after held old new engine now_engine (Fault (run.InputTooLong most)) result first before_steps now told budget same_budget same alike c took steps wants finished walk =
-    let runs = runs_as a reader.budget lines c.running.events (stop.InputTooLong most) budget (took.1 lines (c.running.taken lines told)) in
-    halts a lines before middle after held c.running.written old new c.running.events (stop.InputTooLong most) c.rows (Err (Fault (fault.InputTooLong most))) result first now runs c.are_rows c.lines
-    (bounded_same a c.running.events c.rows first before_steps now steps c.bounded) c.running.took finished walk (λ all. all)
+  pub steps_by : {T : Type 0} (a : Asked) (source : Option (List ℕ)) (lines : List ℕ) (old_reader reader : LineReader) (had left before middle after : Option (List ℕ)) (held : List ℕ) (old new : ℕ) (engine now_engine : State) (why : OrMemory RunFault) (result : Result T (OrMemory StreamFault)) (first before_steps now : ℕ) →
+      source ≡ Some lines → reader.budget ≡ a.most_bytes → old_reader.budget ≡ a.most_bytes → engine.schema ≡ a.schema → engine.queries ≡ a.queries → (c : Counted every a source old_reader had before middle held engine first before_steps) →
+      AfterCall a.schema a.queries reader now_engine (λ bytes. HasTaken a.schema a.queries old_reader bytes had c.running.events) left c.running.events (Err why) → TakesSteps (update_bounds now_engine) before_steps now (Err why) →
+      OnMemory {T = Taken} (Err why) (WantsSteps engine.schema engine.queries c.running.events (λ next. (bytes : List ℕ) → HasTaken engine.schema engine.queries old_reader bytes had c.running.events → BeginsRun engine.schema engine.queries reader.budget bytes (c.running.events ++ next ∷ [])) before_steps now) →
+      Finished middle after old new held (Err (stream_fault why)) result → (a.order ≡ Walk → (held ≡ []) × (result ≡ Err (stream_fault why))) → StepsOver every a lines before after first now result
+  steps_by a source lines old_reader reader had left before middle after held old new engine now_engine Memory result first before_steps now told budget same_budget same alike c took steps wants finished walk =
+      let begun = begins_so a source old_reader had c.running.events same_budget c.running.taken lines told in
+      let Wants : Declared → List Query → Type 0 = λ s qs. WantsSteps s qs c.running.events (λ next. (bytes : List ℕ) → HasTaken s qs old_reader bytes had c.running.events → BeginsRun s qs reader.budget bytes (c.running.events ++ next ∷ [])) before_steps now in
+      let w : Wants a.schema a.queries = subst (λ (qs : List Query). Wants a.schema qs) alike (subst (λ (s : Declared). Wants s engine.queries) same wants) in
+      let counts : Counts every a lines first now = elim w [
+        | inl none ↦ counts_whole a lines c.running.events c.rows first now begun c.are_rows (bounded_same a c.running.events c.rows first before_steps now none c.bounded)
+        | inr some ↦ counts_wanting a lines c.running.events some.0 c.rows first before_steps now
+            (subst (λ n. BeginsRun a.schema a.queries n lines (c.running.events ++ some.0 ∷ [])) budget (some.1 lines (c.running.taken lines told))) c.are_rows c.bounded some.2
+      ] in
+      steps_end a lines before middle after held old new (Err Memory) result first now finished walk counts (λ all. counts)
+  steps_by a source lines old_reader reader had left before middle after held old new engine now_engine (Fault run.ReadFault) result first before_steps now told budget same_budget same alike c took steps wants finished walk =
+      let begun = begins_so a source old_reader had c.running.events same_budget c.running.taken lines told in
+      let counts = counts_whole a lines c.running.events c.rows first now begun c.are_rows (bounded_same a c.running.events c.rows first before_steps now steps c.bounded) in
+      steps_end a lines before middle after held old new (Err (Fault fault.ReadFault)) result first now finished walk counts (λ all. counts)
+  steps_by a source lines old_reader reader had left before middle after held old new engine now_engine (Fault (run.Event line refusal)) result first before_steps now told budget same_budget same alike c took steps wants finished walk =
+      let runs = runs_as a reader.budget lines c.running.events (stop.Event line refusal) budget (took.1 lines (c.running.taken lines told)) in
+      halts a lines before middle after held c.running.written old new c.running.events (stop.Event line refusal) c.rows (Err (Fault (fault.Event line refusal))) result first now runs c.are_rows c.lines
+      (bounded_same a c.running.events c.rows first before_steps now steps c.bounded) c.running.took finished walk (λ all. all)
+  steps_by a source lines old_reader reader had left before middle after held old new engine now_engine (Fault (run.InputTooLong most)) result first before_steps now told budget same_budget same alike c took steps wants finished walk =
+      let runs = runs_as a reader.budget lines c.running.events (stop.InputTooLong most) budget (took.1 lines (c.running.taken lines told)) in
+      halts a lines before middle after held c.running.written old new c.running.events (stop.InputTooLong most) c.rows (Err (Fault (fault.InputTooLong most))) result first now runs c.are_rows c.lines
+      (bounded_same a c.running.events c.rows first before_steps now steps c.bounded) c.running.took finished walk (λ all. all)
 
--- memory ran out while the answers of an event were put
-pub steps_for_memory : {T : Type 0} (a : Asked) (source : Option (List ℕ)) (lines : List ℕ) (reader : LineReader) (left before middle later after : Option (List ℕ)) (held now_held : List ℕ) (old new : ℕ) (engine : State) → (o : Owing a source reader left before middle held engine) →
-    (rows more : List Row) (first before_steps seen now : ℕ) (result : Result T (OrMemory StreamFault)) → source ≡ Some lines → reader.budget ≡ a.most_bytes → engine.schema ≡ a.schema → engine.queries ≡ a.queries →
-    AreRowsAt a.order a.schema 1 a.queries (o.events ++ o.next ∷ []) (length (o.events ++ o.next ∷ []) - 1) more → AreOutputRows a.order a.schema a.queries o.events rows → o.written ++ held ≡ lines_of rows →
-    AreBounded a.schema a.queries o.events rows first before_steps → seen ≤ before_steps + update_bounds engine → now ≤ seen + cursor_bounds engine + row_delays more →
-    Finished later after old new now_held (Err Memory) result → (a.order ≡ Walk → (now_held ≡ []) × (result ≡ Err Memory)) → StepsOver a lines before after first now result
-steps_for_memory a source lines reader left before middle later after held now_held old new engine o rows more first before_steps seen now result told budget same alike are_more are_rows so_far bounded took put finished walk =
-    let all = o.events ++ o.next ∷ [] in
-    let begun = begins_so a source reader left all budget o.taken lines told in
-    let counts = counts_whole a lines all (rows ++ more) first now begun (rows_grow_at_last a.order a.schema a.queries o.events o.next rows more are_rows are_more)
-    (bounded_more a engine o.events o.next rows more first before_steps seen now same alike o.stands bounded took put) in
-    steps_end a lines before later after now_held old new (Err Memory) result first now finished walk counts (λ taken. counts)
+  -- memory ran out while the answers of an event were put
+  pub steps_for_memory : {T : Type 0} (a : Asked) (source : Option (List ℕ)) (lines : List ℕ) (reader : LineReader) (left before middle later after : Option (List ℕ)) (held now_held : List ℕ) (old new : ℕ) (engine : State) → (o : Owing a source reader left before middle held engine) →
+      (rows more : List Row) (first before_steps seen now : ℕ) (result : Result T (OrMemory StreamFault)) → source ≡ Some lines → reader.budget ≡ a.most_bytes → engine.schema ≡ a.schema → engine.queries ≡ a.queries →
+      AreRowsAt a.order a.schema 1 a.queries (o.events ++ o.next ∷ []) (length (o.events ++ o.next ∷ []) - 1) more → AreOutputRows a.order a.schema a.queries o.events rows → o.written ++ held ≡ lines_of rows →
+      AreBounded every a.schema a.queries o.events rows first before_steps → seen ≤ before_steps + update_bounds engine → now ≤ seen + cursor_bounds engine + row_delays more →
+      Finished later after old new now_held (Err Memory) result → (a.order ≡ Walk → (now_held ≡ []) × (result ≡ Err Memory)) → StepsOver every a lines before after first now result
+  steps_for_memory a source lines reader left before middle later after held now_held old new engine o rows more first before_steps seen now result told budget same alike are_more are_rows so_far bounded took put finished walk =
+      let all = o.events ++ o.next ∷ [] in
+      let begun = begins_so a source reader left all budget o.taken lines told in
+      let counts = counts_whole a lines all (rows ++ more) first now begun (rows_grow_at_last a.order a.schema a.queries o.events o.next rows more are_rows are_more)
+      (bounded_more a engine o.events o.next rows more first before_steps seen now same alike o.stands bounded took put) in
+      steps_end a lines before later after now_held old new (Err Memory) result first now finished walk counts (λ taken. counts)
 
--- the answer whose line was not written is one of its position
-one_ends : (a : Asked) (events : List StreamEvent) (whole later : List Row) (one : Row) (rows : List Row) → rows ≡ whole ++ one ∷ later → AreRowsAt a.order a.schema 1 a.queries events (length events - 1) rows → one.end ≡ length events - 1
-one_ends a events whole later one rows is are =
-    let has : Contains (whole ++ one ∷ later) one = Contains-append_right whole (one ∷ later) one (0, omega arith, refl) in
-    ends_at a.order a.schema 1 a.queries events (length events - 1) rows are one (subst (λ (l : List Row). Contains l one) (sym is) has)
+  -- memory ran out while the engine was compacted
+  pub steps_for_compaction : {T : Type 0} (a : Asked) (source : Option (List ℕ)) (lines : List ℕ) (reader : LineReader) (left before middle after : Option (List ℕ)) (held : List ℕ) (old new : ℕ) (engine : State) (result : Result T (OrMemory StreamFault)) (first now : ℕ) →
+      source ≡ Some lines → reader.budget ≡ a.most_bytes → Counted every a source reader left before middle held engine first now → Finished middle after old new held (Err Memory) result →
+      (a.order ≡ Walk → (held ≡ []) × (result ≡ Err Memory)) → StepsOver every a lines before after first now result
+  steps_for_compaction a source lines reader left before middle after held old new engine result first now told budget c finished walk =
+      let begun = begins_so a source reader left c.running.events budget c.running.taken lines told in
+      let counts = counts_whole a lines c.running.events c.rows first now begun c.are_rows c.bounded in
+      steps_end a lines before middle after held old new (Err Memory) result first now finished walk counts (λ taken. counts)
 
--- a write failed meanwhile
-counts_up_to : (a : Asked) (source : Option (List ℕ)) (lines : List ℕ) (reader : LineReader) (left before middle after : Option (List ℕ)) (held : List ℕ) (engine : State) → (o : Owing a source reader left before middle held engine) →
-    (rows more : List Row) (first before_steps seen now : ℕ) → BeginsRun a.schema a.queries a.most_bytes lines (o.events ++ o.next ∷ []) → engine.schema ≡ a.schema → engine.queries ≡ a.queries → held ≡ [] →
-    AreRowsAt a.order a.schema 1 a.queries (o.events ++ o.next ∷ []) (length (o.events ++ o.next ∷ []) - 1) more → AreOutputRows a.order a.schema a.queries o.events rows → o.written ++ held ≡ lines_of rows →
-    AreBounded a.schema a.queries o.events rows first before_steps → seen ≤ before_steps + update_bounds engine → StopsAmong middle after more (seen + cursor_bounds engine) now → CountsUpTo a lines before after first now
-counts_up_to a source lines reader left before middle after held engine o rows more first before_steps seen now begun same alike none are_more are_rows so_far bounded took s =
-    let all = o.events ++ o.next ∷ [] in
-    let P : List Row → Type 0 = AreOutputRows a.order a.schema a.queries all in
-    let whole : rows ++ more ≡ (rows ++ s.whole) ++ s.one ∷ s.later = ap (λ (l : List Row). rows ++ l) s.rows_are ∙ sym (append_assoc rows s.whole (s.one ∷ s.later)) in
-    let written : o.written ≡ lines_of rows = sym (append-nil o.written) ∙ (ap (λ (l : List ℕ). o.written ++ l) (sym none) ∙ so_far) in
-    let count : length all ≡ length o.events + 1 = length-append o.events (o.next ∷ []) in
-    let B : List Row → Type 0 = λ r. AreBounded a.schema a.queries all r first now in record {
-      events = all;
-      more = begun.more;
-      stop = begun.stop;
-      runs = begun.runs;
-      whole = rows ++ s.whole;
-      one = s.one;
-      later = s.later;
-      are_rows = subst P whole (rows_grow_at_last a.order a.schema a.queries o.events o.next rows more are_rows are_more);
-      last = let at = one_ends a all s.whole s.later s.one more s.rows_are are_more in omega arith;
-      middle = s.middle;
-      took = subst (TookAll before s.middle) (sym (lines_both rows s.whole)) (took_both before middle s.middle (lines_of rows) (lines_of s.whole) (subst (TookAll before middle) written o.took) s.took);
-      part = s.part;
-      bounded = subst B (sym (append_assoc rows s.whole (s.one ∷ []))) (bounded_more a engine o.events o.next rows (s.whole ++ s.one ∷ []) first before_steps seen now same alike o.stands bounded took s.steps);
-    }
+  -- the answer whose line was not written is one of its position
+  one_ends : (a : Asked) (events : List StreamEvent) (whole later : List Row) (one : Row) (rows : List Row) → rows ≡ whole ++ one ∷ later → AreRowsAt a.order a.schema 1 a.queries events (length events - 1) rows → one.end ≡ length events - 1
+  one_ends a events whole later one rows is are =
+      let has : Contains (whole ++ one ∷ later) one = Contains-append_right whole (one ∷ later) one (0, omega arith, refl) in
+      ends_at a.order a.schema 1 a.queries events (length events - 1) rows are one (subst (λ (l : List Row). Contains l one) (sym is) has)
 
-pub steps_for_fault : (a : Asked) (source : Option (List ℕ)) (lines : List ℕ) (reader : LineReader) (left before middle after : Option (List ℕ)) (held : List ℕ) (engine : State) → (o : Owing a source reader left before middle held engine) →
-    (rows more : List Row) (first before_steps seen now : ℕ) (order : Order) → source ≡ Some lines → reader.budget ≡ a.most_bytes → engine.schema ≡ a.schema → engine.queries ≡ a.queries → order ≡ a.order →
-    AreRowsAt a.order a.schema 1 a.queries (o.events ++ o.next ∷ []) (length (o.events ++ o.next ∷ []) - 1) more → AreOutputRows a.order a.schema a.queries o.events rows → o.written ++ held ≡ lines_of rows →
-    AreBounded a.schema a.queries o.events rows first before_steps → seen ≤ before_steps + update_bounds engine → StepsAtFault order middle after more (seen + cursor_bounds engine) now → (a.order ≡ Walk → held ≡ []) →
-    CountsAtFault a.order a lines before after first now
-steps_for_fault a source lines reader left before middle after held engine o rows more first before_steps seen now order told budget same alike is are_more are_rows so_far bounded took put none =
-    over a.order refl (subst (λ (x : Order). StepsAtFault x middle after more (seen + cursor_bounds engine) now) is put)
-  where
-    over : (x : Order) → a.order ≡ x → StepsAtFault x middle after more (seen + cursor_bounds engine) now → CountsAtFault x a lines before after first now
-    over Walk walk steps =
-        counts_up_to a source lines reader left before middle after held engine o rows more first before_steps seen now (begins_so a source reader left (o.events ++ o.next ∷ []) budget o.taken lines told) same alike (none walk)
-        are_more are_rows so_far bounded took steps
-    over Sorted sorted steps =
-        counts_whole a lines (o.events ++ o.next ∷ []) (rows ++ more) first now (begins_so a source reader left (o.events ++ o.next ∷ []) budget o.taken lines told) (rows_grow_at_last a.order a.schema a.queries o.events o.next rows more are_rows are_more)
-        (bounded_more a engine o.events o.next rows more first before_steps seen now same alike o.stands bounded took steps)
+  -- a write failed meanwhile
+  counts_up_to : (a : Asked) (source : Option (List ℕ)) (lines : List ℕ) (reader : LineReader) (left before middle after : Option (List ℕ)) (held : List ℕ) (engine : State) → (o : Owing a source reader left before middle held engine) →
+      (rows more : List Row) (first before_steps seen now : ℕ) → BeginsRun a.schema a.queries a.most_bytes lines (o.events ++ o.next ∷ []) → engine.schema ≡ a.schema → engine.queries ≡ a.queries → held ≡ [] →
+      AreRowsAt a.order a.schema 1 a.queries (o.events ++ o.next ∷ []) (length (o.events ++ o.next ∷ []) - 1) more → AreOutputRows a.order a.schema a.queries o.events rows → o.written ++ held ≡ lines_of rows →
+      AreBounded every a.schema a.queries o.events rows first before_steps → seen ≤ before_steps + update_bounds engine → StopsAmong middle after more (seen + cursor_bounds engine) now → CountsUpTo every a lines before after first now
+  counts_up_to a source lines reader left before middle after held engine o rows more first before_steps seen now begun same alike none are_more are_rows so_far bounded took s =
+      let all = o.events ++ o.next ∷ [] in
+      let P : List Row → Type 0 = AreOutputRows a.order a.schema a.queries all in
+      let whole : rows ++ more ≡ (rows ++ s.whole) ++ s.one ∷ s.later = ap (λ (l : List Row). rows ++ l) s.rows_are ∙ sym (append_assoc rows s.whole (s.one ∷ s.later)) in
+      let written : o.written ≡ lines_of rows = sym (append-nil o.written) ∙ (ap (λ (l : List ℕ). o.written ++ l) (sym none) ∙ so_far) in
+      let count : length all ≡ length o.events + 1 = length-append o.events (o.next ∷ []) in
+      let B : List Row → Type 0 = λ r. AreBounded every a.schema a.queries all r first now in record {
+        events = all;
+        more = begun.more;
+        stop = begun.stop;
+        runs = begun.runs;
+        whole = rows ++ s.whole;
+        one = s.one;
+        later = s.later;
+        are_rows = subst P whole (rows_grow_at_last a.order a.schema a.queries o.events o.next rows more are_rows are_more);
+        last = let at = one_ends a all s.whole s.later s.one more s.rows_are are_more in omega arith;
+        middle = s.middle;
+        took = subst (TookAll before s.middle) (sym (lines_both rows s.whole)) (took_both before middle s.middle (lines_of rows) (lines_of s.whole) (subst (TookAll before middle) written o.took) s.took);
+        part = s.part;
+        bounded = subst B (sym (append_assoc rows s.whole (s.one ∷ []))) (bounded_more a engine o.events o.next rows (s.whole ++ s.one ∷ []) first before_steps seen now same alike o.stands bounded took s.steps);
+      }
+
+  pub steps_for_fault : (a : Asked) (source : Option (List ℕ)) (lines : List ℕ) (reader : LineReader) (left before middle after : Option (List ℕ)) (held : List ℕ) (engine : State) → (o : Owing a source reader left before middle held engine) →
+      (rows more : List Row) (first before_steps seen now : ℕ) (order : Order) → source ≡ Some lines → reader.budget ≡ a.most_bytes → engine.schema ≡ a.schema → engine.queries ≡ a.queries → order ≡ a.order →
+      AreRowsAt a.order a.schema 1 a.queries (o.events ++ o.next ∷ []) (length (o.events ++ o.next ∷ []) - 1) more → AreOutputRows a.order a.schema a.queries o.events rows → o.written ++ held ≡ lines_of rows →
+      AreBounded every a.schema a.queries o.events rows first before_steps → seen ≤ before_steps + update_bounds engine → StepsAtFault order middle after more (seen + cursor_bounds engine) now → (a.order ≡ Walk → held ≡ []) →
+      CountsAtFault every a.order a lines before after first now
+  steps_for_fault a source lines reader left before middle after held engine o rows more first before_steps seen now order told budget same alike is are_more are_rows so_far bounded took put none =
+      over a.order refl (subst (λ (x : Order). StepsAtFault x middle after more (seen + cursor_bounds engine) now) is put)
+    where
+      over : (x : Order) → a.order ≡ x → StepsAtFault x middle after more (seen + cursor_bounds engine) now → CountsAtFault every x a lines before after first now
+      over Walk walk steps =
+          counts_up_to a source lines reader left before middle after held engine o rows more first before_steps seen now (begins_so a source reader left (o.events ++ o.next ∷ []) budget o.taken lines told) same alike (none walk)
+          are_more are_rows so_far bounded took steps
+      over Sorted sorted steps =
+          counts_whole a lines (o.events ++ o.next ∷ []) (rows ++ more) first now (begins_so a source reader left (o.events ++ o.next ∷ []) budget o.taken lines told) (rows_grow_at_last a.order a.schema a.queries o.events o.next rows more are_rows are_more)
+          (bounded_more a engine o.events o.next rows more first before_steps seen now same alike o.stands bounded took steps)

@@ -10,6 +10,7 @@ use Rattle.cel_terms.specs.declared.Query.{Query}
 use Rattle.answer_text.specs.declared.Order.{Order}
 use Rattle.answer_text.specs.Output.{IsOutput}
 use Rattle.answer_blocks.specs.Taken.{TookPrefix}
+use Rattle.query_engine.specs.Engine.{State, StandsFor}
 use Rattle.event_run.specs.Runs.{Stop, RunsTo}
 use Rattle.event_run.specs.Runs as stop
 use Rattle.event_run.specs.Taking.{AreEventsRead}
@@ -37,6 +38,12 @@ pub record WroteOver (a : Asked) (source : Option (List ℕ)) (Are : List ℕ �
   pub output : IsOutput a.order a.schema a.queries events bytes
   pub took : TookAll before after bytes
   pub are : (lines : List ℕ) → source ≡ Some lines → Are lines events
+
+-- The engine stands for exactly the events that the queries take of a file of these bytes, which is read to its end.
+pub record StandsForAll (a : Asked) (lines : List ℕ) (engine : State) : Type 0 where
+  pub events : List StreamEvent
+  pub runs : RunsTo a.schema a.queries a.most_bytes lines events stop.End
+  pub stands : StandsFor engine events
 
 -- it took those over all events that the queries take, which stop so
 abbrev pub WroteAll : Asked → Option (List ℕ) → Stop → Option (List ℕ) → Option (List ℕ) → Type 0

@@ -1,11 +1,13 @@
 //! The loop over the events of a source.
 
-ghost use Rattle.std.specs.Prelude.{◌≡◌, ◌≤◌, ℕ, List, [], false, Some};
+ghost use Rattle.std.specs.Prelude.{◌≡◌, ◌+◌, ◌≤◌, ℕ, List, [], length, false, Some, OnOk};
+ghost use Rattle.stream_schema.specs.declared.Event.{Event};
 ghost use Rattle.event_reader.specs.Reading.{HasGiven};
-ghost use Rattle.query_engine.specs.Engine.{StandsFor, count_of};
+ghost use Rattle.query_engine.specs.Engine.{StandsFor, SameQueries, count_of, len_of};
+ghost use Rattle.query_engine.specs.Counts.{MeetMost, HasFewNodes};
 ghost use Rattle.stream_answers.specs.Gathering.{Finished, stream_fault};
-ghost use Rattle.stream_answers.specs.Steps.{StepsOver};
-ghost use Rattle.stream_answers.specs.Streams.{WroteStream, HasReadCause, HasWriteCause};
+ghost use Rattle.stream_answers.specs.Steps.{StepsOver, is_due, compaction_at};
+ghost use Rattle.stream_answers.specs.Streams.{WroteStream, StandsForAll, HasReadCause, HasWriteCause};
 
 use crate::StreamFault;
 use crate::output::Output;
@@ -24,15 +26,20 @@ use std::sync::ledger::Ledger;
 /// asked for. In sorted order lines are gathered, and written at the latest when 65,536 bytes of
 /// them stand or the next line of the source is not at hand: none waits while the source is asked.
 ///
+/// With `compact_every` the engine is compacted after every so many events, their answers being
+/// written or held. Without it, or with 0, it never is.
+///
 /// The first fault ends it, after the answers that come before were written; where writing fails,
 /// that is the answer.
 ///
-/// However it ends, its steps are bounded by the events of the source and by their answers; where
-/// writing fails in walk order, by those up to the answer whose line was not written.
+/// However it ends, its steps are bounded by the events of the source, by their answers and by the
+/// compactions; where writing fails in walk order, by those up to the answer whose line was not
+/// written. Where it ends well, the engine stands for exactly the events of the source.
 pub fn write_answers<Q: Source, K: Sink, L: Ledger>(
     alloc: Global,
     order: Order,
     most_bytes: u64,
+    compact_every: Option<u64>,
     engine: &mut Engine,
     source: &mut Q,
     out: &mut K,
@@ -47,12 +54,20 @@ pub fn write_answers<Q: Source, K: Sink, L: Ledger>(
       most_bytes = most_bytes;
     })
         (Q.left source.old) (Q.left source.new) (K.taken out.old) (K.taken out.new) result }
-    ensures steps { (bytes : List ℕ) → Q.left source.old ≡ Some bytes → StepsOver (record {
+    ensures steps { (bytes : List ℕ) → Q.left source.old ≡ Some bytes → StepsOver compact_every (record {
       order = order;
       schema = engine.old.schema;
       queries = engine.old.queries;
       most_bytes = most_bytes;
     }) bytes (K.taken out.old) (K.taken out.new) steps.old steps.new result }
+    ensures stands { OnOk result ((bytes : List ℕ) → Q.left source.old ≡ Some bytes
+        → StandsForAll (record {
+          order = order;
+          schema = engine.old.schema;
+          queries = engine.old.queries;
+          most_bytes = most_bytes;
+        }) bytes engine.new) }
+    ensures same { SameQueries engine.old engine.new }
     ensures read_cause { HasReadCause (Q.faults source.old) (Q.faults source.new) result }
     ensures write_cause { HasWriteCause (K.faults out.old) (K.faults out.new) result }
 {
@@ -67,6 +82,7 @@ pub fn write_answers<Q: Source, K: Sink, L: Ledger>(
         &mut lines,
         &mut row,
         &mut output,
+        compact_every,
         engine,
         source,
         out,
@@ -80,6 +96,7 @@ fn answer_events<Q: Source, K: Sink, L: Ledger>(
     lines: &mut Lines,
     row: &mut Row,
     output: &mut Output,
+    compact_every: Option<u64>,
     engine: &mut Engine,
     source: &mut Q,
     out: &mut K,
@@ -97,12 +114,20 @@ fn answer_events<Q: Source, K: Sink, L: Ledger>(
       most_bytes = lines.old.budget;
     })
         (Q.left source.old) (Q.left source.new) (K.taken out.old) (K.taken out.new) result }
-    ensures steps { (bytes : List ℕ) → Q.left source.old ≡ Some bytes → StepsOver (record {
+    ensures steps { (bytes : List ℕ) → Q.left source.old ≡ Some bytes → StepsOver compact_every (record {
       order = output.old.order;
       schema = engine.old.schema;
       queries = engine.old.queries;
       most_bytes = lines.old.budget;
     }) bytes (K.taken out.old) (K.taken out.new) steps.old steps.new result }
+    ensures stands { OnOk result ((bytes : List ℕ) → Q.left source.old ≡ Some bytes
+        → StandsForAll (record {
+          order = output.old.order;
+          schema = engine.old.schema;
+          queries = engine.old.queries;
+          most_bytes = lines.old.budget;
+        }) bytes engine.new) }
+    ensures same { SameQueries engine.old engine.new }
     ensures read_cause { HasReadCause (Q.faults source.old) (Q.faults source.new) result }
     ensures write_cause { HasWriteCause (K.faults out.old) (K.faults out.new) result }
 {
@@ -119,7 +144,44 @@ fn answer_events<Q: Source, K: Sink, L: Ledger>(
                 return Err(OrMemory::Fault(StreamFault::WriteFault));
             }
         }
+        match compact_if_due(compact_every, engine, steps) {
+            Ok(()) => {}
+            Err(Memory) => return finish(output, out, Err(OrMemory::Memory)),
+        }
     }
+}
+
+/// Whether the engine is compacted after so many events.
+fn is_due(every: Option<u64>, events: u64) -> bool
+    ensures { result ≡ is_due every events }
+{
+    match every {
+        Some(n) => n > 0 && events % n == 0,
+        None => false,
+    }
+}
+
+/// Compacts the engine where it has taken so many events that it is due. After `Memory` it is as it
+/// was.
+fn compact_if_due<L: Ledger>(
+    every: Option<u64>,
+    engine: &mut Engine,
+    steps: &mut Steps<L>,
+) -> Result<(), Memory>
+    ensures stands { (events : List Event) → StandsFor engine.old events
+        → StandsFor engine.new events }
+    ensures same { SameQueries engine.old engine.new }
+    ensures count { count_of engine.new ≡ count_of engine.old }
+    ensures fewer { (query : ℕ) → len_of engine.new query ≤ len_of engine.old query }
+    ensures steps { (events : List Event) (most : ℕ → ℕ) → StandsFor engine.old events
+        → MeetMost engine.old.schema engine.old.queries events most
+        → HasFewNodes engine.old (length events) most → steps.new ≤ steps.old
+        + compaction_at every (length engine.old.queries) most (length events) }
+{
+    if !is_due(every, engine.events()) {
+        return Ok(());
+    }
+    engine.compact(&mut [], steps)
 }
 
 /// Why no further event was taken.

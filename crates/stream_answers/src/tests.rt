@@ -73,7 +73,7 @@ fn run_over<L: Ledger>(
     requires some { 0 < blank.parts }
 {
     let mut steps: Steps<L> = Steps::start(blank);
-    write_answers(alloc, order, AMPLE, engine, source, out, &mut steps)
+    write_answers(alloc, order, AMPLE, None, engine, source, out, &mut steps)
 }
 
 /// What is answered over these bytes, of which a read brings at most `piece`, where the read and the

@@ -119,7 +119,7 @@ pub fn failing_host(
 }
 
 /// The host that has the query text as `q` and the events as `e`, and never fails.
-fn sure_host(alloc: Global, queries: &[u8], events: &[u8]) -> Result<SureHost, AllocError> {
+pub fn sure_host(alloc: Global, queries: &[u8], events: &[u8]) -> Result<SureHost, AllocError> {
     let mut files = Vec::new(alloc);
     for (name, bytes) in [("q", queries), ("e", events)] {
         let Ok(name) = Text::copy_of(alloc, name) else {

@@ -13,6 +13,8 @@ run --order=sorted q e | A,1 / A,2 | 0 | 1 [0,0] {0} / 1 [1,1] {1}
 run q --order sorted e | A,1 / A,2 | 0 | 1 [0,0] {0} / 1 [1,1] {1}
 run q e --order walk | A,1 / A,2 | 0 | 1 [0,0] {0} / 1 [1,1] {1}
 run --order=walk q e --max-bytes 9 | A,1 / A,2 | 0 | 1 [0,0] {0} / 1 [1,1] {1}
+run q e --compact-every 1 | A,1 / A,2 | 0 | 1 [0,0] {0} / 1 [1,1] {1}
+run --compact-every=4294967295 --order walk q e | A,1 / A,2 | 0 | 1 [0,0] {0} / 1 [1,1] {1}
 run -- q e | A,1 / A,2 | 0 | 1 [0,0] {0} / 1 [1,1] {1}
 run q e --max-bytes 4611686018427387904 | A,1 / A,2 | 0 | 1 [0,0] {0} / 1 [1,1] {1}
 run q e --max-bytes 8 | A,1 / A,2 | 8 | 1 [0,0] {0} / 1 [1,1] {1} | events longer than 8 bytes
@@ -40,7 +42,12 @@ run q e --order walk --order walk | 2 |  | usage
 run q e --max-bytes 0 | 2 |  | usage
 run q e --max-bytes 4611686018427387905 | 2 |  | usage
 run q e --max-bytes 9 --max-bytes 9 | 2 |  | usage
-run q e --compact-every 5 | 2 |  | usage
+run q e --compact-every 0 | 2 |  | usage
+run q e --compact-every 4294967296 | 2 |  | usage
+run q e --compact-every -1 | 2 |  | usage
+run q e --compact-every | 2 |  | usage
+run q e --compact-every 5 --compact-every 5 | 2 |  | usage
+sample 0 3 --compact-every 5 | 2 |  | usage
 sample 0 | 2 |  | usage
 sample 0 3 4 | 2 |  | usage
 sample -1 3 | 2 |  | usage

@@ -1,4 +1,6 @@
-use Rattle.std.proofs.Common.{None, refl, ◌∙◌, arith}
+use Rattle.std.proofs.Common.{◌+◌, ◌≤◌, None, refl, subst, ◌∙◌, arith}
+use Rattle.query_engine.specs.Bounds.{update_bound}
+use Rattle.query_engine.specs.Engine.{State, found_of, len_of}
 use Rattle.event_run.proofs.Given.{at_end, begins}
 use Rattle.event_run.proofs.Wants.{wants_as}
 use Rattle.event_run.proofs.Turns.{begins_before, no_line, taken_empty, taken_event, stopped_line}
@@ -28,6 +30,11 @@ returns-in-Ok-true-clause-took g c = λ events stands.
           ((rw c.in-Ok-Line.field-0-is at c.in-Ok-Line.ensures.lines) bytes) took.1 took.3 (inv.taken events stands bytes had),
     )
 
+pub returns-in-Ok-true-clause-growth : goal.returns-in-Ok-true-clause-growth
+returns-in-Ok-true-clause-growth g c = λ taken query.
+    let grown = (rw c.in-Ok-true.field-0-test at c.in-Ok-true.ensures.growth) refl query in
+    subst (λ (e : State). len_of c.give_line.new.engine query ≤ len_of e query + update_bound (found_of c.give_line.new.engine query)) c.loop-fault.invariant.kept grown
+
 pub returns-in-Err-Memory-clause-took : goal.returns-in-Err-Memory-clause-took
 returns-in-Err-Memory-clause-took g c = λ events stands.
     let inv = c.loop-fault.invariant in
@@ -54,10 +61,12 @@ loop-fault-preserved g c =
     let moved = rw c.in-Ok-Line.field-0-is at c.in-Ok-Line.ensures.moves in
     let took = rw c.in-Ok-false.field-0-test at c.in-Ok-false.ensures.took in
     let skipped = rw c.in-Ok-false.field-0-test at c.in-Ok-false.ensures.skipped in
+    let kept = rw c.in-Ok-false.field-0-test at c.in-Ok-false.ensures.kept in
     record {
       open_is = moved.1.closed_is;
       counted = c.give_line.ensures.counted;
       same = (c.give_line.ensures.same.0 ∙ inv.same.0, c.give_line.ensures.same.1 ∙ inv.same.1);
+      kept = kept refl ∙ inv.kept;
       budget = moved.1.budget ∙ inv.budget;
       room = omega (arith, moved.1.room_within, inv.room);
       faults = c.in-Ok-Line.ensures.cause ∙ inv.faults;

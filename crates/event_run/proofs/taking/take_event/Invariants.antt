@@ -10,6 +10,7 @@ invariant-loop-fault g l = record {
   open_is : l.lines.closed ≡ false;
   counted : count_of l.engine ≤ l.lines.number;
   same : SameQueries l.fn.engine l.engine;
+  kept : l.engine ≡ l.fn.engine;
   budget : l.lines.budget ≡ l.fn.lines.budget;
   room : l.lines.room ≤ l.fn.lines.room;
   faults : g.Q.Source.faults l.source ≡ g.Q.Source.faults l.fn.source;

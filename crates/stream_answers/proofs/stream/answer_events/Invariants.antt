@@ -7,7 +7,7 @@ use Rattle.stream_answers.proofs.stream.answer_events.Given as goal
 -- the answers over the events so far are written or held
 abbrev pub invariant-loop-output : goal.invariant-loop-output
 invariant-loop-output g l = record {
-  counting : Counted (record { order = l.fn.output.order; schema = l.fn.engine.schema; queries = l.fn.engine.queries; most_bytes = l.fn.lines.budget })
+  counting : Counted l.fn.compact_every (record { order = l.fn.output.order; schema = l.fn.engine.schema; queries = l.fn.engine.queries; most_bytes = l.fn.lines.budget })
       (g.Q.Source.left l.fn.source) l.lines (g.Q.Source.left l.source) (g.K.Sink.taken l.fn.out) (g.K.Sink.taken l.out) l.output.held l.engine l.fn.steps l.steps;
   none_waits : l.fn.output.order ≡ Walk → l.output.held ≡ [];
   open_is : l.lines.closed ≡ false;

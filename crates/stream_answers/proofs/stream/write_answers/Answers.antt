@@ -6,4 +6,4 @@ pub returns-in-Err-clause-wrote : goal.returns-in-Err-clause-wrote
 returns-in-Err-clause-wrote g c = wrote_none _ _ _
 
 pub returns-in-Err-clause-steps : goal.returns-in-Err-clause-steps
-returns-in-Err-clause-steps g c = λ bytes same. counts_none _ bytes _
+returns-in-Err-clause-steps g c = λ bytes same. counts_none _ _ bytes _

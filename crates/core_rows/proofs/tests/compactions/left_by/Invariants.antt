@@ -1,0 +1,5 @@
+use Rattle.core_rows.proofs.tests.compactions.left_by.Given as goal
+
+-- the call counts in the ledger that its blank opens
+abbrev pub ghosts-nodes_left : goal.ghosts-nodes_left
+ghosts-nodes_left a = record { name = a.blank.name; parts = a.blank.parts }

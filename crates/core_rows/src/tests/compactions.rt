@@ -1,0 +1,109 @@
+//! Runs that compact the engine after every so many events: the same answers, and fewer nodes.
+
+ghost use Rattle.std.specs.Prelude.{◌≡◌, ◌<◌};
+
+use super::calls::{sure_host, words_of};
+use super::rows::{PLAIN, rows_hold};
+use cer_base::steps::Steps;
+use cer_outside::hosts::SureHost;
+use cer_outside::sinks::MemSink;
+use core_top::core_main;
+use query_engine::Engine;
+use std::alloc::{AllocError, Global};
+use std::marker::Brand;
+use std::sync::ledger::{Blank, Ledger};
+use std::test::*;
+
+/// All runs of A so far: the same lines whether the engine is compacted after each event, or never.
+const ALL_RUNS: &str = "\
+words | formula | events | output
+run q e | A+ | A,1 / A,2 / A,3 | 1 [0,0] {0} / 1 [0,1] {0,1} / 1 [1,1] {1} / 1 [0,2] {0,1,2} / 1 [0,2] {0,2} / 1 [1,2] {1,2} / 1 [2,2] {2}
+run q e --compact-every 1 | A+ | A,1 / A,2 / A,3 | 1 [0,0] {0} / 1 [0,1] {0,1} / 1 [1,1] {1} / 1 [0,2] {0,1,2} / 1 [0,2] {0,2} / 1 [1,2] {1,2} / 1 [2,2] {2}";
+
+/// A dozen events, and a window of two.
+const DOZEN: &str = "\
+words | query | events | output
+run q e | SELECT * FROM S WHERE A ; B WITHIN 2 EVENTS | A,0 / A,1 / B,2 / A,3 / B,4 / B,5 / A,6 / A,7 / A,8 / B,9 / B,10 / A,11 | 1 [0,2] {0,2} / 1 [1,2] {1,2} / 1 [3,4] {3,4} / 1 [3,5] {3,5} / 1 [7,9] {7,9} / 1 [8,9] {8,9} / 1 [8,10] {8,10}
+run q e --compact-every 3 | SELECT * FROM S WHERE A ; B WITHIN 2 EVENTS | A,0 / A,1 / B,2 / A,3 / B,4 / B,5 / A,6 / A,7 / A,8 / B,9 / B,10 / A,11 | 1 [0,2] {0,2} / 1 [1,2] {1,2} / 1 [3,4] {3,4} / 1 [3,5] {3,5} / 1 [7,9] {7,9} / 1 [8,9] {8,9} / 1 [8,10] {8,10}
+run q e --compact-every 5 | SELECT * FROM S WHERE A ; B WITHIN 2 EVENTS | A,0 / A,1 / B,2 / A,3 / B,4 / B,5 / A,6 / A,7 / A,8 / B,9 / B,10 / A,11 | 1 [0,2] {0,2} / 1 [1,2] {1,2} / 1 [3,4] {3,4} / 1 [3,5] {3,5} / 1 [7,9] {7,9} / 1 [8,9] {8,9} / 1 [8,10] {8,10}";
+
+/// A query whose window reaches one event back. Two states are met, so an event adds at most
+/// 16 * (2 + 2) ^ 2 = 256 nodes, and at least one.
+const BACK: &str = "SELECT * FROM S WHERE A+ WITHIN 1 EVENTS\n";
+
+/// So many events are given to it.
+const EVENTS: u64 = 4000;
+
+/// How many nodes an engine has of all queries, and how many there were at most after an event.
+fn nodes_of(engine: &Engine) -> (u64, u64) {
+    let mut left: u64 = 0;
+    let mut most: u64 = 0;
+    for k in 0..engine.queries() {
+        left = left.saturating_add(engine.len(k + 1));
+        most = most.saturating_add(engine.peak(k + 1));
+    }
+    (left, most)
+}
+
+/// The nodes of the engine that the call leaves, `None` where it leaves none. The output takes all.
+fn nodes_left<L: Ledger>(
+    alloc: Global,
+    words: Vec<String>,
+    host: &mut SureHost,
+    blank: Blank,
+) -> Result<Option<(u64, u64)>, AllocError>
+    requires name { blank.name ≡ L.name }
+    requires parts { blank.parts ≡ L.parts }
+    requires some { 0 < blank.parts }
+{
+    let Ok(mut out) = MemSink::new(alloc, 65_536, 1_048_576, Vec::new(alloc)) else {
+        return Err(AllocError);
+    };
+    let Ok(mut notes) = MemSink::new(alloc, 65_536, 65_536, Vec::new(alloc)) else {
+        return Err(AllocError);
+    };
+    let mut steps: Steps<L> = Steps::start(blank);
+    let done = core_main(alloc, words, host, &mut out, &mut notes, &mut steps);
+    Ok(match &done.left {
+        Some(engine) => Some(nodes_of(engine)),
+        None => None,
+    })
+}
+
+/// The nodes that a call of these words leaves, over the query and these events.
+fn left_by(alloc: Global, words: &str, events: &[u8]) -> Result<Option<(u64, u64)>, AllocError> {
+    let queries = format!(in alloc; "{PLAIN}{BACK}")?;
+    let mut host = sure_host(alloc, queries.as_bytes(), events)?;
+    nodes_left::<Brand>(alloc, words_of(alloc, words)?, &mut host, Blank::new(1))
+}
+
+#[test]
+fn answers_stay(rt: HostRuntime) -> Result<(), Fail> {
+    let alloc = rt.alloc();
+    rows_hold(&rt, alloc, PLAIN, ALL_RUNS)?;
+    rows_hold(&rt, alloc, PLAIN, DOZEN)
+}
+
+/// Every event is read, and in the window are at most two at the last compaction, and twelve at the
+/// event before the next one.
+#[test]
+fn nodes_go(rt: HostRuntime) -> Result<(), Fail> {
+    let alloc = rt.alloc();
+    let mut events = String::new(alloc);
+    for _ in 0..EVENTS {
+        events.push_str("A,1\n")?;
+    }
+    let events = events.as_bytes();
+    let Some((left, most)) = left_by(alloc, "run q e", events)? else {
+        return Err(Fail::new("no engine is left"));
+    };
+    assert!(rt; left >= EVENTS && most >= EVENTS);
+    let Some((left, most)) = left_by(alloc, "run q e --compact-every 10", events)? else {
+        return Err(Fail::new("no engine is left"));
+    };
+    assert!(rt; left <= 2 * 256);
+    assert!(rt; most <= 12 * 256);
+    assert!(rt; left_by(alloc, "run q f", events)?.is_none());
+    assert!(rt; left_by(alloc, "sample 0 3", events)?.is_none());
+    Ok(())
+}

@@ -1,0 +1,19 @@
+-- The engine that a run leaves.
+use Rattle.std.specs.Prelude.{◌≡◌, ℕ, List, Option, None, IsSomeAnd}
+use Rattle.cer_outside.specs.Content.{Content, Holds}
+use Rattle.query_engine.specs.Engine.{State}
+use Rattle.stream_answers.specs.Streams.{StandsForAll}
+use Rattle.core_top.specs.declared.Cause.{Cause}
+use Rattle.core_top.specs.declared.Cause.TheVariants as cause
+use Rattle.core_top.specs.Command.{RunWords}
+use Rattle.core_top.specs.Accepted.{Accepts}
+
+-- Where the host tells both files, the engine is of the schema and the queries of the query text, and stands for exactly the events of the event file, which is read to its end.
+pub record StandsForFile (content : List ℕ → Content) (r : RunWords) (engine : State) : Type 0 where
+  pub told : (text lines : List ℕ) → content r.queries ≡ Holds text → content r.events ≡ Holds lines →
+      Accepts text engine.schema engine.queries × StandsForAll (record { order = r.order; schema = engine.schema; queries = engine.queries; most_bytes = r.most_bytes }) lines engine
+
+-- an engine is left where all was well, and then it stands for the file; else none is
+abbrev pub IsLeft : Cause → (List ℕ → Content) → RunWords → Option State → Type 0
+IsLeft cause.Fine content r left = IsSomeAnd left (StandsForFile content r)
+IsLeft _ content r left = left ≡ None

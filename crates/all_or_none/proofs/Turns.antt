@@ -42,14 +42,14 @@ same_suc f g (x ∷ xs) (y ∷ ys) (suc k) v d l e left done new =
 pub same_next : {A B : Type 0} (f g : A → B) (xs ys : List A) (k : ℕ) (v d : A) → k < length xs → length xs ≡ length ys → drop k xs ≡ drop k ys → map f (take k xs) ≡ map g (take k ys) → f v ≡ g (slice_index_or xs k d) → map f (take (k + 1) (slice_set xs k v)) ≡ map g (take (k + 1) ys)
 same_next f g xs ys k v d l e left done new = rw add-one (same_suc f g xs ys k v d l e left done new)
 
-zip_suc : {A B : Type 0} (R : B → B → Type 0) (f : A → B) (xs ys : List A) (k : ℕ) (v d : A) → k < length xs → length xs ≡ length ys → drop k xs ≡ drop k ys → AllZip R (map f (take k ys)) (map f (take k xs)) → R (f (slice_index_or xs k d)) (f v) → AllZip R (map f (take (suc k) ys)) (map f (take (suc k) (slice_set xs k v)))
-zip_suc R f [] ys k v d l e left done new = absurd (omega arith)
-zip_suc R f (x ∷ xs) [] k v d l e left done new = absurd (omega arith)
-zip_suc R f (x ∷ xs) (y ∷ ys) zero v d l e left done new = let same : x ≡ y = cc in (subst (λ z. R (f z) (f v)) same new, tt)
-zip_suc R f (x ∷ xs) (y ∷ ys) (suc k) v d l e left done new = (done.0, zip_suc R f xs ys k v d (omega arith) (omega arith) left done.1 new)
+zip_suc : {A B : Type 0} (R : B → B → Type 0) (f g : A → B) (xs ys : List A) (k : ℕ) (v d : A) → k < length xs → length xs ≡ length ys → drop k xs ≡ drop k ys → AllZip R (map f (take k ys)) (map g (take k xs)) → R (f (slice_index_or xs k d)) (g v) → AllZip R (map f (take (suc k) ys)) (map g (take (suc k) (slice_set xs k v)))
+zip_suc R f g [] ys k v d l e left done new = absurd (omega arith)
+zip_suc R f g (x ∷ xs) [] k v d l e left done new = absurd (omega arith)
+zip_suc R f g (x ∷ xs) (y ∷ ys) zero v d l e left done new = let same : x ≡ y = cc in (subst (λ z. R (f z) (g v)) same new, tt)
+zip_suc R f g (x ∷ xs) (y ∷ ys) (suc k) v d l e left done new = (done.0, zip_suc R f g xs ys k v d (omega arith) (omega arith) left done.1 new)
 
-pub zip_next : {A B : Type 0} (R : B → B → Type 0) (f : A → B) (xs ys : List A) (k : ℕ) (v d : A) → k < length xs → length xs ≡ length ys → drop k xs ≡ drop k ys → AllZip R (map f (take k ys)) (map f (take k xs)) → R (f (slice_index_or xs k d)) (f v) → AllZip R (map f (take (k + 1) ys)) (map f (take (k + 1) (slice_set xs k v)))
-zip_next R f xs ys k v d l e left done new = rw add-one (zip_suc R f xs ys k v d l e left done new)
+pub zip_next : {A B : Type 0} (R : B → B → Type 0) (f g : A → B) (xs ys : List A) (k : ℕ) (v d : A) → k < length xs → length xs ≡ length ys → drop k xs ≡ drop k ys → AllZip R (map f (take k ys)) (map g (take k xs)) → R (f (slice_index_or xs k d)) (g v) → AllZip R (map f (take (k + 1) ys)) (map g (take (k + 1) (slice_set xs k v)))
+zip_next R f g xs ys k v d l e left done new = rw add-one (zip_suc R f g xs ys k v d l e left done new)
 
 -- where the walk stops, all is as it was
 pub same_whole : {A B : Type 0} (f : A → B) (xs ys : List A) (k : ℕ) (v d : A) → k < length xs → length xs ≡ length ys → drop k xs ≡ drop k ys → map f (take k xs) ≡ map f (take k ys) → f v ≡ f (slice_index_or xs k d) → map f (slice_set xs k v) ≡ map f ys

@@ -1,5 +1,5 @@
 -- One event over the parts of several queries, in two phases.
-use Rattle.std.specs.Prelude.{◌≡◌, ℕ, ◌+◌, ◌≤◌, ℤ, List, [], ◌∷◌, ◌++◌, length, All, Option, Some, None, IsSomeAnd}
+use Rattle.std.specs.Prelude.{◌≡◌, ◌≢◌, ℕ, ◌+◌, ◌≤◌, ◌⊎◌, ℤ, Bool, List, [], ◌∷◌, ◌++◌, length, All, Option, Some, None, IsSomeAnd}
 use Rattle.std.specs.List.{AllZip}
 use Rattle.stream_schema.specs.Types.{Declared}
 use Rattle.stream_schema.specs.Events.{IsOfSchema}
@@ -7,14 +7,16 @@ use Rattle.stream_schema.specs.declared.Event.{Event}
 use Rattle.cel_terms.specs.declared.Query.{Query}
 use Rattle.query_standing.specs.Bounds.{update_bound, MeetAtMost}
 use Rattle.query_standing.specs.Clocks.{Reads, FallsBack}
-use Rattle.query_standing.specs.Kept.{Part, Extends, PartStands}
+use Rattle.query_standing.specs.Kept.{Part, Extends, PartStands, roots_at}
 
--- What a part is seen as: its schema and query, what is kept, and what a commit makes of that, where it is prepared.
+-- What a part is seen as: its schema and query, what is kept, what a commit makes of that, where it is prepared, how many events there were when the last one had come that did not pass it by, and whether its clock floats: whether it is the position of each event, also of one that passes it by.
 pub record Phase : Type 0 where
   pub schema : Declared
   pub query : Query
   pub kept : Part
   pub ready : Option Part
+  pub upto : ℕ
+  pub floats : Bool
 
 -- how many steps, and how many nodes, one event may take with the states of the part
 abbrev pub part_bound : Part → ℕ
@@ -42,12 +44,34 @@ IsIdle p = p.ready ≡ None
 abbrev pub back : Phase → Phase
 back p = record p { ready = None }
 
--- after a commit
-pub record IsCommitted (old new : Phase) : Type 0 where
+-- after a commit of the event at the position
+pub record IsCommitted (position : ℕ) (old new : Phase) : Type 0 where
   pub schema : new.schema ≡ old.schema
   pub query : new.query ≡ old.query
   pub kept : old.ready ≡ Some new.kept
   pub idle : new.ready ≡ None
+  pub upto : new.upto ≡ position + 1
+
+-- Where the last of so many events passed it by, the part has no answer there.
+abbrev pub IsQuiet : ℕ → Phase → Type 0
+IsQuiet count p = p.upto ≢ count → roots_at p.query p.kept ≡ []
+
+-- The idle part takes the event by being left as it is.
+pub record HasPassed (event : Event) (position : ℕ) (old new : Phase) : Type 0 where
+  pub schema : new.schema ≡ old.schema
+  pub query : new.query ≡ old.query
+  pub was_idle : IsIdle old
+  pub idle : IsIdle new
+  pub quiet : roots_at new.query new.kept ≡ []
+  pub step : IsStep old.schema old.query event position old.kept new.kept
+
+-- It is prepared for the event, or may be left as it is.
+abbrev pub IsSet : Event → ℕ → Phase → Phase → Type 0
+IsSet event position old new = IsPrepared event position old ⊎ HasPassed event position old new
+
+-- After the event: what was prepared is put in, and what may be left as it is was left.
+abbrev pub IsTaken : Event → ℕ → Phase → Phase → Type 0
+IsTaken event position old new = (IsPrepared event position old × IsCommitted position old new) ⊎ HasPassed event position old new
 
 -- What is kept of the part's query is as it is after these events.
 abbrev pub StandsAt : List Event → Phase → Type 0

@@ -1,17 +1,19 @@
 //! One event over what is kept of several queries: all take it, or none does.
 //!
-//! What is kept of one query is a part, given as a trait: it makes ready what the event changes,
-//! which may run out of memory, and then either puts it in or gives it up, which may not. Promised:
-//! the event is taken by all parts or by none, and what stood for the events stands for one more;
-//! after a refusal each part is exactly as it was; the steps are bounded by the states that were
-//! found, and after a refusal by those that any run meets. It stands on `query_standing`.
+//! What is kept of one query is a part, given as a trait: it tells whether the event may pass it by,
+//! or it makes ready what the event changes, which may run out of memory, and then either puts it in
+//! or gives it up, which may not. A part that an event passes by is not touched: what it is follows
+//! from how many events there were. Promised: the event is taken by all parts or by none, and what
+//! stood for the events stands for one more; after a refusal each part is exactly as it was; the
+//! steps are bounded by the states that were found, and after a refusal by those that any run meets.
+//! It stands on `query_standing`.
 #![tactic(auto)]
 
-ghost use Rattle.std.specs.Prelude.{◌≡◌, ℕ, ◌+◌, ◌^◌, ◌<◌, ◌≤◌, List, [], ◌∷◌, ◌++◌, length, map, sum_by, All, IfOk, OnOk, OnErr};
+ghost use Rattle.std.specs.Prelude.{◌≡◌, ℕ, ◌+◌, ◌^◌, ◌<◌, ◌≤◌, true, List, [], ◌∷◌, ◌++◌, length, map, sum_by, All, IfOk, OnOk, OnErr};
 ghost use Rattle.std.specs.List.{AllZip};
 ghost use Rattle.stream_schema.specs.declared.Event.{Event};
 ghost use Rattle.query_standing.specs.Bounds.{update_bound};
-ghost use Rattle.all_or_none.specs.Phases.{Phase, CanPrepare, IsPrepared, IsIdle, back, IsCommitted, StandsAt, InTime, ready_bound, kept_bound, AreBounded, HasGrown};
+ghost use Rattle.all_or_none.specs.Phases.{Phase, CanPrepare, IsPrepared, IsIdle, IsQuiet, back, HasPassed, IsSet, IsTaken, IsWithin, StandsAt, InTime, ready_bound, kept_bound, AreBounded, HasGrown};
 
 use cer_base::steps::Steps;
 use cer_base::{Memory, Pos};
@@ -22,8 +24,15 @@ use stream_schema::Event;
 pub trait Keeps {
     ghost use Rattle.all_or_none.specs.Phases.{Phase, CanPrepare, ready_bound, IsWithin};
 
-    /// What it is.
-    ghost phase: { Self → Phase };
+    /// What it is after so many events.
+    ghost phase: { ℕ → Self → Phase };
+
+    /// Whether the event may pass it by: it is then left as it is.
+    fn passes(&self, event: &Event, position: Pos) -> bool
+        requires idle { IsIdle (phase position self.now) }
+        requires can { CanPrepare event.now position (phase position self.now) }
+        ensures passed { result ≡ true → HasPassed event.now position (phase position self.now)
+            (phase (position + 1) self.now) };
 
     /// Makes ready what the event changes. After `Memory` it is as it was.
     fn prepare<L: Ledger>(
@@ -32,51 +41,84 @@ pub trait Keeps {
         position: Pos,
         steps: &mut Steps<L>,
     ) -> Result<(), Memory>
-        requires idle { IsIdle (phase self.old) }
-        requires can { CanPrepare event.now position (phase self.old) }
-        ensures kept { back (phase self.new) ≡ back (phase self.old) }
-        ensures ready { OnOk result (IsPrepared event.now position (phase self.new)) }
-        ensures refused { OnErr result (IsIdle (phase self.new)) }
-        ensures steps { OnOk result (steps.new ≤ steps.old + ready_bound (phase self.new)) }
-        ensures within { IsWithin event.now position (phase self.old) steps.old steps.new };
+        requires idle { IsIdle (phase position self.old) }
+        requires can { CanPrepare event.now position (phase position self.old) }
+        ensures kept { back (phase position self.new) ≡ back (phase position self.old) }
+        ensures ready { OnOk result (IsPrepared event.now position (phase position self.new)) }
+        ensures refused { OnErr result (IsIdle (phase position self.new)) }
+        ensures steps { OnOk result (steps.new
+            ≤ steps.old + ready_bound (phase position self.new)) }
+        ensures within { IsWithin event.now position (phase position self.old)
+            steps.old steps.new };
 
-    /// Puts in what was made ready. It takes no memory.
+    /// Puts in what was made ready, if anything was. It takes no memory.
     fn commit(&mut self, event: &Event, position: Pos)
-        requires { IsPrepared event.now position (phase self.old) }
-        ensures { IsCommitted (phase self.old) (phase self.new) };
+        requires room { position + 1 < 2 ^ 64 }
+        requires set { IsSet event.now position (phase position self.old)
+            (phase (position + 1) self.old) }
+        ensures { IsTaken event.now position (phase position self.old)
+            (phase (position + 1) self.new) };
 
     /// Gives up what was made ready. It takes no memory.
     fn take_back(&mut self)
-        ensures { phase self.new ≡ back (phase self.old) };
+        ensures { (count : ℕ) → phase count self.new ≡ back (phase count self.old) };
 }
 
-/// Each part prepares, up to the first that cannot.
+/// The part prepares, where the event may not pass it by.
+fn prepare_one<P: Keeps, L: Ledger>(
+    part: &mut P,
+    event: &Event,
+    position: Pos,
+    steps: &mut Steps<L>,
+) -> Result<(), Memory>
+    requires idle { IsIdle (P.phase position part.old) }
+    requires can { CanPrepare event.now position (P.phase position part.old) }
+    ensures kept { back (P.phase position part.new) ≡ back (P.phase position part.old) }
+    ensures set { OnOk result (IsSet event.now position (P.phase position part.new)
+        (P.phase (position + 1) part.new)) }
+    ensures steps { OnOk result (steps.new
+        ≤ steps.old + ready_bound (P.phase position part.new)) }
+    ensures within { IsWithin event.now position (P.phase position part.old)
+        steps.old steps.new }
+{
+    if part.passes(event, position) {
+        return Ok(());
+    }
+    part.prepare(event, position, steps)
+}
+
+/// Each part prepares that the event may not pass by, up to the first that cannot.
 fn prepare_all<P: Keeps, L: Ledger>(
     parts: &mut [P],
     event: &Event,
     position: Pos,
     steps: &mut Steps<L>,
 ) -> Result<(), Memory>
-    requires idle { All (λ p. IsIdle (P.phase p)) parts.old }
-    requires can { All (λ p. CanPrepare event.now position (P.phase p)) parts.old }
-    ensures kept { map (λ p. back (P.phase p)) parts.new ≡ map (λ p. back (P.phase p)) parts.old }
-    ensures ready { OnOk result (All (λ p. IsPrepared event.now position (P.phase p)) parts.new) }
+    requires idle { All (λ p. IsIdle (P.phase position p)) parts.old }
+    requires can { All (λ p. CanPrepare event.now position (P.phase position p)) parts.old }
+    ensures kept { map (λ p. back (P.phase position p)) parts.new
+        ≡ map (λ p. back (P.phase position p)) parts.old }
+    ensures set { OnOk result (All (λ p. IsSet event.now position (P.phase position p)
+        (P.phase (position + 1) p)) parts.new) }
     ensures steps { OnOk result (steps.new
-        ≤ steps.old + sum_by (λ p. ready_bound (P.phase p)) parts.new) }
+        ≤ steps.old + sum_by (λ p. ready_bound (P.phase position p)) parts.new) }
     ensures within { (events : List Event) (most : List ℕ) → length events ≡ position
-        → AreBounded events event.now (map P.phase parts.old) most → steps.new
+        → AreBounded events event.now (map (P.phase position) parts.old) most → steps.new
         ≤ steps.old + sum_by update_bound most }
 {
     for k in 0..parts.len() {
-        parts[k].prepare(event, position, steps)?;
+        prepare_one(&mut parts[k], event, position, steps)?;
     }
     Ok(())
 }
 
 /// Each part commits.
 fn commit_all<P: Keeps>(parts: &mut [P], event: &Event, position: Pos)
-    requires { All (λ p. IsPrepared event.now position (P.phase p)) parts.old }
-    ensures { AllZip IsCommitted (map P.phase parts.old) (map P.phase parts.new) }
+    requires room { position + 1 < 2 ^ 64 }
+    requires set { All (λ p. IsSet event.now position (P.phase position p)
+        (P.phase (position + 1) p)) parts.old }
+    ensures { AllZip (IsTaken event.now position) (map (P.phase position) parts.old)
+        (map (P.phase (position + 1)) parts.new) }
 {
     for k in 0..parts.len() {
         parts[k].commit(event, position);
@@ -85,7 +127,8 @@ fn commit_all<P: Keeps>(parts: &mut [P], event: &Event, position: Pos)
 
 /// Each part is taken back.
 fn take_back_all<P: Keeps>(parts: &mut [P])
-    ensures { map P.phase parts.new ≡ map (λ p. back (P.phase p)) parts.old }
+    ensures { (count : ℕ) → map (P.phase count) parts.new
+        ≡ map (λ p. back (P.phase count p)) parts.old }
 {
     for k in 0..parts.len() {
         parts[k].take_back();
@@ -99,20 +142,23 @@ pub fn see<P: Keeps, L: Ledger>(
     position: Pos,
     steps: &mut Steps<L>,
 ) -> Result<(), Memory>
-    requires idle { All (λ p. IsIdle (P.phase p)) parts.old }
-    requires can { All (λ p. CanPrepare event.now position (P.phase p)) parts.old }
+    requires room { position + 1 < 2 ^ 64 }
+    requires idle { All (λ p. IsIdle (P.phase position p)) parts.old }
+    requires can { All (λ p. CanPrepare event.now position (P.phase position p)) parts.old }
     ensures stands { OnOk result ((events : List Event) → length events ≡ position
-        → All (λ p. InTime events event.now (P.phase p)) parts.old
-        → All (λ p. StandsAt events (P.phase p)) parts.old
-        → All (λ p. StandsAt (events ++ event.now ∷ []) (P.phase p)) parts.new) }
-    ensures idle { All (λ p. IsIdle (P.phase p)) parts.new }
-    ensures grown { OnOk result (AllZip (HasGrown event.now) (map P.phase parts.old)
-        (map P.phase parts.new)) }
-    ensures unchanged { OnErr result (map P.phase parts.new ≡ map P.phase parts.old) }
+        → All (λ p. InTime events event.now (P.phase position p)) parts.old
+        → All (λ p. StandsAt events (P.phase position p)) parts.old
+        → All (λ p. StandsAt (events ++ event.now ∷ []) (P.phase (position + 1) p)) parts.new) }
+    ensures idle { OnOk result (All (λ p. IsIdle (P.phase (position + 1) p)) parts.new) }
+    ensures quiet { OnOk result (All (λ p. IsQuiet (position + 1) (P.phase (position + 1) p)) parts.new) }
+    ensures grown { OnOk result (AllZip (HasGrown event.now) (map (P.phase position) parts.old)
+        (map (P.phase (position + 1)) parts.new)) }
+    ensures unchanged { OnErr result (map (P.phase position) parts.new
+        ≡ map (P.phase position) parts.old) }
     ensures steps { OnOk result (steps.new
-        ≤ steps.old + sum_by (λ p. kept_bound (P.phase p)) parts.new) }
+        ≤ steps.old + sum_by (λ p. kept_bound (P.phase (position + 1) p)) parts.new) }
     ensures within { (events : List Event) (most : List ℕ) → length events ≡ position
-        → AreBounded events event.now (map P.phase parts.old) most → steps.new
+        → AreBounded events event.now (map (P.phase position) parts.old) most → steps.new
         ≤ steps.old + sum_by update_bound most }
 {
     match prepare_all(parts, event, position, steps) {

@@ -8,7 +8,9 @@ use Rattle.stream_schema.specs.declared.Event.{Event}
 use Rattle.query_leaves.specs.declared.Leaf.{Leaf}
 use Rattle.query_leaves.specs.Shapes.{each_holds}
 use Rattle.query_leaves.specs.Conditions.{can_read, leaf_conditions}
-use Rattle.predicate_bits.specs.Groups.{IsGroup}
+use Rattle.std.specs.Prelude.{Vec}
+use Rattle.std.specs.declared.alloc.Global.{Global}
+use Rattle.predicate_bits.specs.Groups.{IsGroup, AreGrouped}
 
 -- the set has those of the first numbers whose leaf can read the event, and no other number
 pub record IsFilledUpTo (n : ℕ) (list : List Leaf) (event : Event) (numbers : List ℕ) (set : List Bool) : Type 0 where
@@ -94,3 +96,45 @@ filled_all i list event numbers set group h end k = one_bool (has set k) (leaf_c
     is_in b (Some l) e =
         let parts = and_parts (eqb l.ty event.ty) (each_holds l.tests.items event) (sym (ap (λ x. can_read x event) e) ∙ b) in
         listed (group.whole k l e (eqb-true l.ty event.ty parts.0)) b
+
+-- none of the first numbers is that of a leaf that can read the event
+abbrev pub IsNoneUpTo : ℕ → List Leaf → Event → List ℕ → Type 0
+IsNoneUpTo n list event numbers = (i : ℕ) → i < n → i < length numbers → leaf_conditions list event (slice_index_or numbers i 0) ≡ false
+
+pub none_past : (i : ℕ) (list : List Leaf) (event : Event) (numbers : List ℕ) (n : ℕ) → IsNoneUpTo i list event numbers → i < length numbers → n ≡ slice_index_or numbers i n → leaf_conditions list event n ≡ false → IsNoneUpTo (i + 1) list event numbers
+none_past i list event numbers n h within read bit j less in_range = by (cases_lt j i)
+  where
+    by : (j < i) ⊎ (i ≤ j) → leaf_conditions list event (slice_index_or numbers j 0) ≡ false
+    by (inl low) = h j low in_range
+    by (inr high) =
+        let same : j ≡ i = omega arith in
+        let here = ap (λ x. slice_index_or numbers x 0) same ∙ (get_or_default numbers i 0 n within ∙ sym read) in
+        ap (leaf_conditions list event) here ∙ bit
+
+-- all numbers of the event's type are looked at
+pub none_all : (i : ℕ) (list : List Leaf) (event : Event) (numbers : List ℕ) → IsGroup list event.ty numbers → IsNoneUpTo i list event numbers → length numbers ≤ i → (k : ℕ) → leaf_conditions list event k ≡ false
+none_all i list event numbers group h end k = by (slice_get list k) refl (leaf_conditions list event k) refl
+  where
+    listed : Contains numbers k → leaf_conditions list event k ≡ false
+    listed c =
+        let less = c.1 in
+        let here = get_or_default numbers c.0 0 k c.1 ∙ c.2 in
+        ap (leaf_conditions list event) (sym here) ∙ h c.0 (omega arith) c.1
+
+    by : (o : Option Leaf) → slice_get list k ≡ o → (b : Bool) → leaf_conditions list event k ≡ b → leaf_conditions list event k ≡ false
+    by o e false bit = bit
+    by None e true bit = ap (λ x. can_read x event) e
+    by (Some l) e true bit =
+        let parts = and_parts (eqb l.ty event.ty) (each_holds l.tests.items event) (sym (ap (λ x. can_read x event) e) ∙ bit) in
+        listed (group.whole k l e (eqb-true l.ty event.ty parts.0))
+
+-- a type that has no list is that of no leaf
+pub none_grouped : (list : List Leaf) (event : Event) (find : ℕ → Option (Vec ℕ Global)) → AreGrouped list find → find event.ty ≡ None → (k : ℕ) → leaf_conditions list event k ≡ false
+none_grouped list event find grouped none k = by (slice_get list k) refl (leaf_conditions list event k) refl
+  where
+    by : (o : Option Leaf) → slice_get list k ≡ o → (b : Bool) → leaf_conditions list event k ≡ b → leaf_conditions list event k ≡ false
+    by o e false bit = bit
+    by None e true bit = ap (λ x. can_read x event) e
+    by (Some l) e true bit =
+        let parts = and_parts (eqb l.ty event.ty) (each_holds l.tests.items event) (sym (ap (λ x. can_read x event) e) ∙ bit) in
+        absurd (grouped.whole k l e (ap find (eqb-true l.ty event.ty parts.0) ∙ none))

@@ -1,6 +1,6 @@
 //! The conditions of a query's leaves.
 
-ghost use Rattle.std.specs.Prelude.{◌≡◌, ℕ, ◌<◌, Some, false, length, slice_get, IfOk};
+ghost use Rattle.std.specs.Prelude.{◌≡◌, ℕ, ◌<◌, Some, false, true, length, slice_get, IfOk};
 ghost use Rattle.std.specs.Option.{option_copied};
 ghost use Rattle.cer_base.specs.Bits.{has, room_for};
 ghost use Rattle.query_leaves.specs.Conditions.{leaf_conditions};
@@ -71,6 +71,16 @@ impl Conditions {
             add(self.list.as_slice(), numbers.as_slice(), event, into);
         }
     }
+
+    /// Whether no leaf can read the event.
+    pub fn read_none(&self, event: &Event) -> bool
+        ensures { result ≡ true → (k : ℕ) → leaf_conditions self.now event.now k ≡ false }
+    {
+        match group_of(self.groups.as_slice(), event.ty) {
+            Some(numbers) => hold_none(self.list.as_slice(), numbers.as_slice(), event),
+            None => true,
+        }
+    }
 }
 
 /// Takes all numbers out. Most events leave none, so that is tested first.
@@ -97,6 +107,20 @@ fn holds_at(list: &[Leaf], number: usize, event: &Event) -> bool
     ensures { (l : Leaf) → slice_get list.now number ≡ Some l → result ≡ tests_hold l.tests.items event.now }
 {
     each_holds(list[number].tests.as_slice(), event)
+}
+
+/// Whether the tests of none of the leaves of these numbers, which are of the event's type, hold of the
+/// event.
+fn hold_none(list: &[Leaf], numbers: &[usize], event: &Event) -> bool
+    requires group { IsGroup list.now event.now.ty numbers.now }
+    ensures { result ≡ true → (k : ℕ) → leaf_conditions list.now event.now k ≡ false }
+{
+    for number in numbers {
+        if holds_at(list, *number, event) {
+            return false;
+        }
+    }
+    true
 }
 
 /// Puts in those of the numbers, which are of the event's type, whose tests hold of the event.

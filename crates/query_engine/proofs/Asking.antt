@@ -1,6 +1,8 @@
 -- What is asked of an engine by a query's number.
-use Rattle.std.proofs.Common.{◌≡◌, ℕ, suc, ◌-◌, ◌<◌, ◌≤◌, List, [], map, length, sym, ap, subst, ◌∙◌, Some, slice_get, slice_index_or, arith}
+use Rattle.std.proofs.Common.{◌≡◌, ℕ, suc, ◌-◌, ◌<◌, ◌≤◌, List, [], ◌∷◌, map, length, refl, sym, ap, subst, ◌∙◌, Option, Some, None, slice_get, slice_index_or, arith}
 use Rattle.std.specs.Option.{option_map_or}
+use Rattle.std.specs.Prelude.{max, MatchOption, IfNone}
+use Rattle.cer_base.specs.declared.node.Stamp.{Stamp}
 use Rattle.std.proofs.lemmas.Option.{slice_get-get_or}
 use Rattle.stream_schema.specs.Types.{Declared}
 use Rattle.stream_schema.specs.declared.Event.{Event}
@@ -10,11 +12,11 @@ use Rattle.tecs_enumerate.specs.Rest.{CursorState, recent_of}
 use Rattle.tecs_enumerate.specs.Rest as walks
 use Rattle.query_standing.specs.Bounds.{MeetAtMost}
 use Rattle.query_standing.specs.Holding.{answer_of}
-use Rattle.query_standing.specs.Kept.{Part, KeptStands, low_at, roots_at, kept_rest}
+use Rattle.query_standing.specs.Kept.{Part, KeptStands, KeptFits, low_at, roots_at, kept_rest}
 use Rattle.query_standing.proofs.FoundStates.{states_are_met}
 use Rattle.query_standing.proofs.Parts.{part_gives, kept_gives}
 use Rattle.all_or_none.specs.Phases.{Phase}
-use Rattle.query_engine.specs.Engine.{State, StandsFor, IsNumber, count_of, found_of, rest, kept_of}
+use Rattle.query_engine.specs.Engine.{State, StandsFor, IsNumber, count_of, found_of, len_of, peak_of, Fits, rest, kept_of}
 use Rattle.query_engine.proofs.Standing.{state, map_at, length_map}
 
 -- the part of a query's number is there
@@ -32,6 +34,12 @@ part_there parts k p inside e = slice_get-get_or parts k p inside ∙ ap Some (s
 -- its query is the one that is asked for
 same_query : (parts : List Phase) (k : ℕ) (p : Phase) (q : Query) → slice_get parts k ≡ Some p → slice_get (map (λ (p : Phase). p.query) parts) k ≡ Some q → p.query ≡ q
 same_query parts k p q at q_at = let both = sym (map_at (λ (p : Phase). p.query) parts k p at) ∙ q_at in cc
+
+-- the nodes that a cursor of the part walks
+nodes_here : (parts : List Phase) (query : ℕ) (p : Phase) (w : CursorState) → p ≡ slice_index_or parts (query - 1) p → w.query ≡ query → query - 1 < length parts → option_map_or (λ (x : Part). x.nodes) (slice_get (map (λ (p : Phase). p.kept) parts) (w.query - 1)) [] ≡ p.kept.nodes
+nodes_here parts query p w here of inside =
+    ap (λ k. option_map_or (λ (x : Part). x.nodes) (slice_get (map (λ (p : Phase). p.kept) parts) (k - 1)) []) of
+    ∙ ap (λ o. option_map_or (λ (x : Part). x.nodes) o []) (map_at (λ (p : Phase). p.kept) parts (query - 1) p (part_there parts (query - 1) p inside here))
 
 -- a cursor that is begun at the part's lists gives the answers
 pub part_answers : (schema : Declared) (count : ℕ) (parts : List Phase) (peaks : List ℕ) (s : State) (query : ℕ) (p : Phase) (w : CursorState) → state schema count parts peaks ≡ s → 0 < count_of s → IsNumber s query → p ≡ slice_index_or parts (query - 1) p → w.query ≡ query → walks.rest w p.kept.nodes ≡ recent_of (low_at p.query p.kept.clock) p.kept.nodes (roots_at p.query p.kept) → (events : List Event) (q : Query) → StandsFor s events → slice_get s.queries (query - 1) ≡ Some q → AreAnswersAt s.schema q events (length events - 1) (map answer_of (rest s w))
@@ -75,6 +83,14 @@ found_there schema count parts peaks s query p is number here =
     ap (λ (t : State). option_map_or (λ (x : Part). length x.table.states) (slice_get t.parts (query - 1)) 0) (sym is)
     ∙ ap (λ o. option_map_or (λ (x : Part). length x.table.states) o 0) (map_at (λ (p : Phase). p.kept) parts (query - 1) p (part_there parts (query - 1) p inside here))
 
+-- so many nodes are kept for it
+pub len_there : (schema : Declared) (count : ℕ) (parts : List Phase) (peaks : List ℕ) (s : State) (query : ℕ) (p : Phase) → state schema count parts peaks ≡ s → IsNumber s query → p ≡ slice_index_or parts (query - 1) p → len_of s query ≡ length p.kept.nodes
+unfolding len_of
+len_there schema count parts peaks s query p is number here =
+    let inside = number_inside schema count parts peaks s query is number in
+    ap (λ (t : State). option_map_or (λ (x : Part). length x.nodes) (slice_get t.parts (query - 1)) 0) (sym is)
+    ∙ ap (λ o. option_map_or (λ (x : Part). length x.nodes) o 0) (map_at (λ (p : Phase). p.kept) parts (query - 1) p (part_there parts (query - 1) p inside here))
+
 -- as many as the runs lead to, at most
 pub found_most : (schema : Declared) (count : ℕ) (parts : List Phase) (peaks : List ℕ) (s : State) (query : ℕ) (p : Phase) (found : ℕ) → state schema count parts peaks ≡ s → IsNumber s query → p ≡ slice_index_or parts (query - 1) p → found ≡ length p.kept.table.states → (events : List Event) (q : Query) (n : ℕ) → StandsFor s events → slice_get s.queries (query - 1) ≡ Some q → MeetAtMost s.schema q events n → found ≤ n
 unfolding StandsFor
@@ -87,3 +103,70 @@ found_most schema count parts peaks s query p found is number here found_is =
         let at = part_there parts (query - 1) p inside here in
         let few = states_are_met schema q events p.kept n (stands.each (query - 1) q p.kept q_at (map_at (λ (p : Phase). p.kept) parts (query - 1) p at)) most in
         omega arith
+
+-- the cursor of the part's nodes fits the engine, and is to give the same
+pub cursor_fits : (schema : Declared) (count : ℕ) (parts : List Phase) (peaks : List ℕ) (s : State) (query : ℕ) (p : Phase) (w : CursorState) → state schema count parts peaks ≡ s → IsNumber s query → p ≡ slice_index_or parts (query - 1) p → w.query ≡ query → walks.Fits w p.kept.nodes → Fits s w
+unfolding Fits
+cursor_fits schema count parts peaks s query p w is number here of fits =
+    let inside = number_inside schema count parts peaks s query is number in
+    let long = length_map (λ (p : Phase). p.kept) parts in
+    let low = number.0 in
+    subst (λ (t : State). KeptFits (kept_of t) w) is (omega arith, omega arith, subst (walks.Fits w) (sym (nodes_here parts query p w here of inside)) fits)
+
+pub fits_within : (schema : Declared) (count : ℕ) (parts : List Phase) (peaks : List ℕ) (s : State) (w : CursorState) → state schema count parts peaks ≡ s → Fits s w → (1 ≤ w.query) × (w.query - 1 < length parts)
+unfolding Fits
+fits_within schema count parts peaks s w is fits =
+    let f : KeptFits (kept_of (state schema count parts peaks)) w = subst (λ (t : State). KeptFits (kept_of t) w) (sym is) fits in
+    let long = length_map (λ (p : Phase). p.kept) parts in
+    let low = f.0 in
+    let high = f.1 in
+    (omega arith, omega arith)
+
+pub fits_part : (schema : Declared) (count : ℕ) (parts : List Phase) (peaks : List ℕ) (s : State) (p : Phase) (w : CursorState) → state schema count parts peaks ≡ s → Fits s w → p ≡ slice_index_or parts (w.query - 1) p → walks.Fits w p.kept.nodes
+unfolding Fits
+fits_part schema count parts peaks s p w is fits here =
+    let f : KeptFits (kept_of (state schema count parts peaks)) w = subst (λ (t : State). KeptFits (kept_of t) w) (sym is) fits in
+    let inside = fits_within schema count parts peaks s w is fits in
+    subst (walks.Fits w) (nodes_here parts w.query p w here refl inside.1) f.2
+
+pub rest_part : (schema : Declared) (count : ℕ) (parts : List Phase) (peaks : List ℕ) (s : State) (query : ℕ) (p : Phase) (w : CursorState) → state schema count parts peaks ≡ s → query - 1 < length parts → p ≡ slice_index_or parts (query - 1) p → w.query ≡ query → rest s w ≡ walks.rest w p.kept.nodes
+unfolding rest
+rest_part schema count parts peaks s query p w is inside here of = ap (λ (t : State). kept_rest (kept_of t) w) (sym is) ∙ ap (walks.rest w) (nodes_here parts query p w here of inside)
+
+-- what a pull gives of the part is what it gives of the engine
+pub pull_gives : (schema : Declared) (count : ℕ) (parts : List Phase) (peaks : List ℕ) (s : State) (p : Phase) (w v : CursorState) (r : Option Stamp) → state schema count parts peaks ≡ s → Fits s w → p ≡ slice_index_or parts (w.query - 1) p → v.query ≡ w.query → MatchOption r (walks.rest w p.kept.nodes ≡ []) (λ start. walks.rest w p.kept.nodes ≡ record { start = start; positions = v.path } ∷ walks.rest v p.kept.nodes) → MatchOption r (rest s w ≡ []) (λ start. rest s w ≡ record { start = start; positions = v.path } ∷ rest s v)
+pull_gives schema count parts peaks s p w v None is fits here same given =
+    let inside = fits_within schema count parts peaks s w is fits in
+    rest_part schema count parts peaks s w.query p w is inside.1 here refl ∙ given
+pull_gives schema count parts peaks s p w v (Some start) is fits here same given =
+    let inside = fits_within schema count parts peaks s w is fits in
+    rest_part schema count parts peaks s w.query p w is inside.1 here refl ∙ (given ∙ ap (λ zs. record { start = start; positions = v.path } ∷ zs) (sym (rest_part schema count parts peaks s w.query p v is inside.1 here same)))
+
+pub pull_ends : (schema : Declared) (count : ℕ) (parts : List Phase) (peaks : List ℕ) (s : State) (p : Phase) (w v : CursorState) (r : Option Stamp) → state schema count parts peaks ≡ s → Fits s w → p ≡ slice_index_or parts (w.query - 1) p → v.query ≡ w.query → IfNone r ((walks.rest v p.kept.nodes ≡ []) × (v.path ≡ [])) → IfNone r ((rest s v ≡ []) × (v.path ≡ []))
+pull_ends schema count parts peaks s p w v None is fits here same given =
+    let inside = fits_within schema count parts peaks s w is fits in
+    (rest_part schema count parts peaks s w.query p v is inside.1 here same ∙ given.0, given.1)
+pull_ends schema count parts peaks s p w v (Some start) is fits here same given = tt
+
+pub pull_fits : (schema : Declared) (count : ℕ) (parts : List Phase) (peaks : List ℕ) (s : State) (p : Phase) (w v : CursorState) → state schema count parts peaks ≡ s → Fits s w → p ≡ slice_index_or parts (w.query - 1) p → v.query ≡ w.query → walks.Fits v p.kept.nodes → Fits s v
+unfolding Fits
+pull_fits schema count parts peaks s p w v is fits here same given =
+    let inside = fits_within schema count parts peaks s w is fits in
+    let long = length_map (λ (p : Phase). p.kept) parts in
+    let low = inside.0 in
+    let high = inside.1 in
+    subst (λ (t : State). KeptFits (kept_of t) v) is (omega arith, omega arith, subst (walks.Fits v) (sym (nodes_here parts w.query p v here same inside.1)) given)
+
+-- the query of the number
+pub query_there : (schema : Declared) (count : ℕ) (parts : List Phase) (peaks : List ℕ) (s : State) (query : ℕ) (p : Phase) → state schema count parts peaks ≡ s → IsNumber s query → p ≡ slice_index_or parts (query - 1) p → slice_get s.queries (query - 1) ≡ Some p.query
+query_there schema count parts peaks s query p is number here =
+    let inside = number_inside schema count parts peaks s query is number in
+    ap (λ (t : State). slice_get t.queries (query - 1)) (sym is) ∙ map_at (λ (p : Phase). p.query) parts (query - 1) p (part_there parts (query - 1) p inside here)
+
+-- the greater of the peak that is kept and how many nodes there are
+pub peak_there : (schema : Declared) (count : ℕ) (parts : List Phase) (peaks : List ℕ) (s : State) (query : ℕ) (p : Phase) → state schema count parts peaks ≡ s → IsNumber s query → p ≡ slice_index_or parts (query - 1) p → peak_of s query ≡ max (slice_index_or peaks (query - 1) 0) (length p.kept.nodes)
+unfolding peak_of
+peak_there schema count parts peaks s query p is number here =
+    let inside = number_inside schema count parts peaks s query is number in
+    ap (λ (t : State). max (slice_index_or t.peaks (query - 1) 0) (option_map_or (λ (x : Part). length x.nodes) (slice_get t.parts (query - 1)) 0)) (sym is)
+    ∙ ap (λ o. max (slice_index_or peaks (query - 1) 0) (option_map_or (λ (x : Part). length x.nodes) o 0)) (map_at (λ (p : Phase). p.kept) parts (query - 1) p (part_there parts (query - 1) p inside here))

@@ -50,6 +50,17 @@ grown_there event (o ∷ old) [] k z = absurd z
 grown_there event (o ∷ old) (n ∷ new) zero z = z.0.grows.growth
 grown_there event (o ∷ old) (n ∷ new) (suc k) z = grown_there event old new k z.1
 
+-- no node goes
+pub nodes_grow : (event : Event) (old new : List Phase) (k : ℕ) → AllZip (HasGrown event) old new → nodes_there old k ≤ nodes_there new k
+nodes_grow event [] [] k z = omega arith
+nodes_grow event [] (n ∷ new) k z = absurd z
+nodes_grow event (o ∷ old) [] k z = absurd z
+nodes_grow event (o ∷ old) (n ∷ new) zero z =
+    let same = ap length z.0.grows.extends.nodes in
+    let long = length-append o.kept.nodes z.0.grows.extends.more_nodes in
+    omega arith
+nodes_grow event (o ∷ old) (n ∷ new) (suc k) z = nodes_grow event old new k z.1
+
 pub unread_there : (schema : Declared) (event : Event) (old new : List Phase) (k : ℕ) (q : Query) → AllZip (HasGrown event) old new → All (λ (p : Phase). p.schema ≡ schema) old → slice_get (map (λ (p : Phase). p.query) old) k ≡ Some q → (Reads schema q event → ⊥) → nodes_there new k ≡ nodes_there old k
 unread_there schema event [] [] k q z schemas at unread = refl
 unread_there schema event [] (n ∷ new) k q z schemas at unread = absurd z

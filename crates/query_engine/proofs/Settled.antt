@@ -1,6 +1,6 @@
 -- What an engine is after all its parts are compacted.
-use Rattle.std.proofs.Common.{◌≡◌, ℕ, zero, suc, ◌+◌, ◌-◌, ◌*◌, ◌<◌, ◌≤◌, List, [], ◌∷◌, map, length, get_or, refl, sym, ap, ap₂, subst, ◌∙◌, All, Some, slice_get, arith}
-use Rattle.std.specs.Prelude.{sum_by}
+use Rattle.std.proofs.Common.{◌≡◌, ℕ, zero, suc, ◌+◌, ◌-◌, ◌*◌, ◌<◌, ◌≤◌, List, [], ◌∷◌, map, length, get_or, slice_index_or, refl, sym, ap, ap₂, subst, ◌∙◌, All, Some, slice_get, arith}
+use Rattle.std.specs.Prelude.{sum_by, max}
 use Rattle.std.specs.List.{AllZip}
 use Rattle.std.specs.Option.{option_map_or}
 use Rattle.std.proofs.lemmas.Option.{slice_get_within}
@@ -12,10 +12,13 @@ use Rattle.tecs_enumerate.specs.Rest.{CursorState}
 use Rattle.tecs_enumerate.specs.Rest as walks
 use Rattle.query_standing.specs.Kept.{Part, KeptStands}
 use Rattle.query_standing.specs.Bounds.{for_each_query}
-use Rattle.all_or_none.specs.Phases.{Phase, IsIdle, StandsAt}
+use Rattle.all_or_none.specs.Phases.{Phase, IsIdle, IsQuiet, StandsAt}
+use Rattle.query_part.specs.Parts.{seen, woken}
 use Rattle.arena_compact.specs.Roots.{places}
 use Rattle.query_engine.specs.Engine.{State, StandsFor, kept_of, count_of, found_of, len_of, peak_of, Fits, rest, SameQueries, IsKept}
-use Rattle.query_engine.specs.Running.{IsRunning}
+use Rattle.query_engine.specs.Running.{IsRunning, IsKeeping, raised}
+use Rattle.query_engine.proofs.Growth.{nodes_there, raised_there, raised_count}
+use Rattle.query_engine.proofs.Keeping.{fresh_all, fresh_quiet, woken_upto, woken_running, woken_state, raised_seen}
 use Rattle.query_engine.specs.Compacting.{places_of, compact_bounds, cost, CanCompact, IsCompacted, nodes_of, FitsPart, IsTrimmed, AreTrimmed, IsLeft, AreCarried}
 use Rattle.query_engine.proofs.Standing.{state, mapped, map_at, from_parts, to_parts, length_map}
 use Rattle.query_engine.proofs.Sums.{sum_from}
@@ -80,6 +83,9 @@ costs_same schema count parts ps =
         ap (λ i. 8 * option_map_or (λ (x : Part). length x.nodes) (slice_get (map (λ (x : Phase). x.kept) parts) i) 0 + 4 * option_map_or (λ (x : Part). places x.rows) (slice_get (map (λ (x : Phase). x.kept) parts) i) 0) here
         ∙ ap (λ o. 8 * option_map_or (λ (x : Part). length x.nodes) o 0 + 4 * option_map_or (λ (x : Part). places x.rows) o 0) there
 
+most_stays : (x n m : ℕ) → m ≤ n → max (max x n) m ≡ max x n
+most_stays x n m le = omega arith
+
 -- before: each part can be compacted, and each held cursor is of a part
 pub can_compact : (schema : Declared) (count : ℕ) (old mut : List Phase) (ps : List ℕ) (room : ℕ) → IsRunning schema count old ps → mut ≡ old → All (λ (p : Phase). length p.kept.nodes ≤ room) old → All (CanCompact room) mut
 can_compact schema count old mut ps room running mut_is many =
@@ -94,12 +100,45 @@ unfolding Fits
 can_hold schema count old mut ps s held is mut_is fits =
     subst (λ (ps' : List Phase). All (FitsPart ps') held) (sym mut_is) (subst (λ (t : State). All (Fits t) held) (sym is) fits)
 
-module _ (schema : Declared) (count : ℕ) (old new : List Phase) (ps : List ℕ) (ws vs : List CursorState) (running : IsRunning schema count old ps) (z : AllZip IsCompacted old new) (s : State) (is : state schema count old ps ≡ s) where
-  abbrev after : State
-  after = state schema count new ps
+-- the last event did not pass them by, as it did not before
+zip_upto : (count : ℕ) (old new : List Phase) → AllZip IsCompacted old new → All (λ (p : Phase). p.upto ≡ count) old → All (λ (p : Phase). p.upto ≡ count) new
+zip_upto count [] [] z h = All-nil (λ (p : Phase). p.upto ≡ count)
+zip_upto count [] (n ∷ new) z h = absurd z
+zip_upto count (o ∷ old) [] z h = absurd z
+zip_upto count (o ∷ old) (n ∷ new) z h = All-cons (λ (p : Phase). p.upto ≡ count) n new (z.0.upto ∙ All-head (λ (p : Phase). p.upto ≡ count) o old h) (zip_upto count old new z.1 (All-tail (λ (p : Phase). p.upto ≡ count) o old h))
 
-  pub settled_running : IsRunning schema count new ps
-  settled_running = record {
+-- so they are what they are kept as
+pub compacted_are : (count : ℕ) (parts mut found raw : List Phase) → mut ≡ parts → AllZip IsCompacted (map (woken count) mut) found → raw ≡ found → found ≡ map (seen count) raw
+compacted_are count parts mut found raw mut_is z raw_is =
+    sym (ap (map (seen count)) raw_is ∙ fresh_all count found (zip_upto count (map (woken count) mut) found z (woken_upto count mut)))
+
+pub compacted_zip : (count : ℕ) (parts mut found raw : List Phase) → mut ≡ parts → AllZip IsCompacted (map (woken count) mut) found → raw ≡ found → AllZip IsCompacted (map (woken count) parts) (map (seen count) raw)
+compacted_zip count parts mut found raw mut_is z raw_is =
+    subst (AllZip IsCompacted (map (woken count) parts)) (compacted_are count parts mut found raw mut_is z raw_is) (subst (λ (ps : List Phase). AllZip IsCompacted (map (woken count) ps) found) mut_is z)
+
+-- What the compaction of the parts that are kept is, as one of settled parts.
+pub record Compaction (schema : Declared) (count : ℕ) (parts raw : List Phase) (ps qs : List ℕ) (s : State) : Type 0 where
+  pub running : IsRunning schema count (map (woken count) parts) ps
+  pub zip : AllZip IsCompacted (map (woken count) parts) (map (seen count) raw)
+  pub peaks : qs ≡ raised ps (map (woken count) parts)
+  pub is : state schema count (map (woken count) parts) ps ≡ s
+  pub quiet : All (IsQuiet count) (map (seen count) raw)
+
+pub compaction : (schema : Declared) (count : ℕ) (parts mut found raw slice : List Phase) (ps mut_ps found_ps qs : List ℕ) (s : State) → IsKeeping schema count parts ps → state schema count (map (seen count) parts) ps ≡ s → mut ≡ parts → AllZip IsCompacted (map (woken count) mut) found → raw ≡ found → slice ≡ parts → mut_ps ≡ ps → found_ps ≡ raised mut_ps slice → qs ≡ found_ps → Compaction schema count parts raw ps qs s
+compaction schema count parts mut found raw slice ps mut_ps found_ps qs s keeps is mut_is z raw_is slice_is mut_ps_is raise qs_is = record {
+  running = woken_running schema count parts ps keeps;
+  zip = compacted_zip count parts mut found raw mut_is z raw_is;
+  peaks = qs_is ∙ (raise ∙ (ap (λ xs. raised xs slice) mut_ps_is ∙ (ap (raised ps) slice_is ∙ raised_seen count ps parts)));
+  is = woken_state schema count parts ps ∙ is;
+  quiet = subst (All (IsQuiet count)) (compacted_are count parts mut found raw mut_is z raw_is) (fresh_quiet count found (zip_upto count (map (woken count) mut) found z (woken_upto count mut)));
+}
+
+module _ (schema : Declared) (count : ℕ) (old new : List Phase) (ps qs : List ℕ) (ws vs : List CursorState) (running : IsRunning schema count old ps) (z : AllZip IsCompacted old new) (peaks : qs ≡ raised ps old) (s : State) (is : state schema count old ps ≡ s) where
+  abbrev after : State
+  after = state schema count new qs
+
+  pub settled_running : All (IsQuiet count) new → IsRunning schema count new qs
+  settled_running quiet = record {
     schemas = zip_schemas schema old new z running.schemas;
     idle = zip_idle old new z;
     run = record {
@@ -107,13 +146,14 @@ module _ (schema : Declared) (count : ℕ) (old new : List Phase) (ps : List ℕ
       length_is = running.run.length_is;
       stands = zip_stand running.run.events old new z running.run.stands;
     };
-    peaks_are = running.peaks_are ∙ sym (zip_count old new z);
+    quiet = quiet;
+    peaks_are = ap length peaks ∙ (raised_count ps old ∙ (running.peaks_are ∙ sym (zip_count old new z)));
   }
 
   pub settled_stands : (events : List Event) → StandsFor s events → StandsFor after events
   unfolding StandsFor
   settled_stands = subst (λ (t : State). (events : List Event) → KeptStands (kept_of t) events → KeptStands (kept_of after) events) is (λ events stands.
-      from_parts schema count new ps events (zip_schemas schema old new z running.schemas) (sym stands.count) (zip_stand events old new z (to_parts schema count old ps events running.schemas stands)))
+      from_parts schema count new qs events (zip_schemas schema old new z running.schemas) (sym stands.count) (zip_stand events old new z (to_parts schema count old ps events running.schemas stands)))
 
   pub settled_same : SameQueries s after
   settled_same = subst (λ (t : State). SameQueries t after) is (refl, zip_queries old new z)
@@ -132,7 +172,10 @@ module _ (schema : Declared) (count : ℕ) (old new : List Phase) (ps : List ℕ
 
   pub settled_peak : (query : ℕ) → peak_of after query ≡ peak_of s query
   unfolding peak_of
-  settled_peak query = ap (λ (t : State). peak_of t query) is
+  settled_peak query = subst (λ (t : State). peak_of after query ≡ peak_of t query) is (
+      let raise = ap (λ zs. slice_index_or zs (query - 1) 0) peaks ∙ raised_there ps old (query - 1) running.peaks_are in
+      let fewer = zip_fewer old new (query - 1) z in
+      ap (λ x. max x (nodes_there new (query - 1))) raise ∙ most_stays (slice_index_or ps (query - 1) 0) (nodes_there old (query - 1)) (nodes_there new (query - 1)) fewer)
 
   pub settled_cursors : AreCarried (length old) old new ws vs → All (FitsPart old) ws → (j : ℕ) (d : CursorState) → j < length ws → IsKept s after (get_or ws j d) (get_or vs j d)
   unfolding Fits rest

@@ -40,6 +40,7 @@ pub record IsCompacted (old new : Phase) : Type 0 where
   pub schema : new.schema ≡ old.schema
   pub query : new.query ≡ old.query
   pub idle : IsIdle new
+  pub upto : new.upto ≡ old.upto
   pub stands : (events : List Event) → StandsAt events old → StandsAt events new
   pub table : new.kept.table ≡ old.kept.table
   pub fewer : length new.kept.nodes ≤ length old.kept.nodes

@@ -1,9 +1,10 @@
 -- What the engine keeps between two calls, and which query falls first among its parts.
-use Rattle.std.specs.Prelude.{◌≡◌, ℕ, ◌-◌, ◌<◌, ◌≤◌, max, List, [], ◌∷◌, length, All, Some, slice_get}
+use Rattle.std.specs.Prelude.{◌≡◌, ℕ, ◌-◌, ◌<◌, ◌≤◌, max, List, [], ◌∷◌, length, map, All, Some, slice_get}
 use Rattle.stream_schema.specs.Types.{Declared}
 use Rattle.stream_schema.specs.declared.Event.{Event}
 use Rattle.query_standing.specs.Clocks.{FallsBack}
-use Rattle.all_or_none.specs.Phases.{Phase, IsIdle, StandsAt, InTime}
+use Rattle.all_or_none.specs.Phases.{Phase, IsIdle, IsQuiet, StandsAt, InTime}
+use Rattle.query_part.specs.Parts.{seen}
 use Rattle.query_engine.specs.declared.falls.FallOf.{FallOf}
 
 -- For some events, so many, each part is as it is.
@@ -17,12 +18,23 @@ pub record IsRunning (schema : Declared) (count : ℕ) (parts : List Phase) (pea
   pub schemas : All (λ (p : Phase). p.schema ≡ schema) parts
   pub idle : All IsIdle parts
   pub run : HaveRun count parts
+  pub quiet : All (IsQuiet count) parts
+  pub peaks_are : length peaks ≡ length parts
+
+-- The same of parts as they are kept, some of which the last events passed by.
+pub record IsKeeping (schema : Declared) (count : ℕ) (parts : List Phase) (peaks : List ℕ) : Type 0 where
+  pub schemas : All (λ (p : Phase). p.schema ≡ schema) parts
+  pub idle : All IsIdle parts
+  pub run : HaveRun count (map (seen count) parts)
+  pub quiet : All (IsQuiet count) (map (seen count) parts)
   pub peaks_are : length peaks ≡ length parts
 
 -- What a part is before any event.
 pub record IsFirst (schema : Declared) (p : Phase) : Type 0 where
   pub schema_is : p.schema ≡ schema
   pub idle : IsIdle p
+  pub upto : p.upto ≡ 0
+  pub none : p.kept.nodes ≡ []
   pub stands : StandsAt [] p
 
 -- The clock of the part with this number, from 1, would fall, and of no part before it.

@@ -1,13 +1,15 @@
 //! Compaction of the parts of an engine.
 
-ghost use Rattle.std.specs.Prelude.{◌≡◌, ◌+◌, ◌≤◌, length, All, sum_by};
+ghost use Rattle.std.specs.Prelude.{◌≡◌, ◌+◌, ◌≤◌, length, map, All, sum_by};
 ghost use Rattle.std.specs.List.{AllZip};
 ghost use Rattle.all_or_none.specs.Phases.{Phase, IsIdle};
+ghost use Rattle.query_part.specs.Parts.{woken};
 ghost use Rattle.query_part.specs.Compacting.{HasStatesOnce};
 ghost use Rattle.query_engine.specs.Compacting.{CanCompact, FitsPart, IsCompacted, AreTrimmed, AreCarried, cost};
 
 use crate::cursor::Cursor;
 use arena_compact::{HasCursor, Room};
+use cer_base::Pos;
 use cer_base::node::Id;
 use cer_base::steps::Steps;
 use query_part::Part;
@@ -48,9 +50,19 @@ pub fn states_once(parts: &[Part])
     }
 }
 
+/// Settles each part after so many events.
+fn settle_all(parts: &mut [Part], count: Pos)
+    requires idle { All IsIdle parts.old }
+    ensures { parts.new ≡ map (woken count) parts.old }
+{
+    for k in 0..parts.len() {
+        parts[k].settle(count);
+    }
+}
+
 /// Compacts each part, with the cursors of it that are held. The room is for as many nodes as each
 /// has. It takes no memory.
-pub fn compact_all<L: Ledger>(
+fn compact_all<L: Ledger>(
     parts: &mut [Part],
     held: &mut [Cursor],
     room: &mut Room,
@@ -66,4 +78,25 @@ pub fn compact_all<L: Ledger>(
     for k in 0..parts.len() {
         parts[k].compact(k as u64 + 1, held, room, steps);
     }
+}
+
+/// Settles and compacts each part, as after so many events.
+pub fn compact_parts<L: Ledger>(
+    parts: &mut [Part],
+    count: Pos,
+    held: &mut [Cursor],
+    room: &mut Room,
+    steps: &mut Steps<L>,
+)
+    requires idle { All IsIdle parts.old }
+    requires parts { All (CanCompact room.old) (map (woken count) parts.old) }
+    requires held { All (FitsPart (map (woken count) parts.old)) held.old }
+    ensures parts { AllZip IsCompacted (map (woken count) parts.old) parts.new }
+    ensures left { AreTrimmed (length parts.old) held.new parts.new }
+    ensures held { AreCarried (length parts.old) (map (woken count) parts.old) parts.new held.old
+        held.new }
+    ensures steps { steps.new ≤ steps.old + sum_by cost (map (woken count) parts.old) }
+{
+    settle_all(parts, count);
+    compact_all(parts, held, room, steps);
 }

@@ -1,9 +1,10 @@
 //! Whether the clock of some query would fall.
 
-ghost use Rattle.std.specs.Prelude.{◌≡◌, List, length, All, IfSome, IfNone};
+ghost use Rattle.std.specs.Prelude.{◌≡◌, List, length, map, All, IfSome, IfNone};
 ghost use Rattle.stream_schema.specs.Events.{IsOfSchema};
 ghost use Rattle.stream_schema.specs.declared.Event.{Event as EventData};
 ghost use Rattle.all_or_none.specs.Phases.{IsIdle, StandsAt, InTime};
+ghost use Rattle.query_part.specs.Parts.{seen};
 ghost use Rattle.query_engine.specs.Running.{IsFirstPart};
 
 use cer_base::Pos;
@@ -24,9 +25,11 @@ pub fn first_fall(parts: &[Part], event: &Event, position: Pos) -> Option<FallOf
     requires of_schema { All (λ p. IsOfSchema p.schema event.now) parts.now }
     requires idle { All IsIdle parts.now }
     ensures falls { IfSome result (λ f. (events : List EventData) → length events ≡ position
-        → All (StandsAt events) parts.now → IsFirstPart events event.now parts.now f) }
+        → All (StandsAt events) (map (seen position) parts.now)
+        → IsFirstPart events event.now (map (seen position) parts.now) f) }
     ensures in_time { IfNone result ((events : List EventData) → length events ≡ position
-        → All (StandsAt events) parts.now → All (InTime events event.now) parts.now) }
+        → All (StandsAt events) (map (seen position) parts.now)
+        → All (InTime events event.now) (map (seen position) parts.now)) }
 {
     for k in 0..parts.len() {
         if let Some(fall) = parts[k].test(event, position) {

@@ -1,6 +1,6 @@
 //! The parts of an engine, one for each query.
 
-ghost use Rattle.std.specs.Prelude.{◌≡◌, [], ◌∷◌, ◌++◌, length, map, All, OnOk};
+ghost use Rattle.std.specs.Prelude.{◌≡◌, ℕ, [], ◌∷◌, ◌++◌, length, map, All, IfOk, OnOk, slice_index_or};
 ghost use Rattle.cel_terms.specs.Checked.{IsChecked};
 ghost use Rattle.all_or_none.specs.Phases.{IsIdle};
 ghost use Rattle.query_engine.specs.Running.{IsFirst, raised};
@@ -56,4 +56,13 @@ pub fn raise(peaks: &mut [u64], parts: &[Part])
     for k in 0..peaks.len() {
         peaks[k] = peaks[k].max(parts[k].len());
     }
+}
+
+/// A peak for each part, which is 0 before any event.
+pub fn first_peaks(alloc: Global, parts: &[Part]) -> Result<Vec<u64>, Memory>
+    ensures count { IfOk result (λ v. length v.items ≡ length parts.now) }
+    ensures zero { IfOk result (λ v. (k : ℕ) → slice_index_or v.items k 0 ≡ 0) }
+{
+    let peaks = vec![in alloc; 0; parts.len()]?;
+    Ok(peaks)
 }

@@ -42,7 +42,7 @@ entries_same t (r ∷ rows) = go (accepts (automaton_of_cea t.cea) (standing_at 
     go true same = ap (λ z. r.1 ++ z) same
     go false same = same
 
-roots_same : (q : Query) (h : Held) (c : Option ℤ) (here m : Option ℕ) → automaton_of_cea h.table.cea ≡ automaton_of (tree_of q) → entries_for h m ≡ roots_for q (part_of h c here) m
+pub roots_same : (q : Query) (h : Held) (c : Option ℤ) (here m : Option ℕ) → automaton_of_cea h.table.cea ≡ automaton_of (tree_of q) → entries_for h m ≡ roots_for q (part_of h c here) m
 roots_same q h c here None e = refl
 roots_same q h c here (Some n) e = entries_same h.table (slice_index_or h.rows n []) ∙ ap (λ a. roots_of a (standing_at h.table.states) (slice_index_or h.rows n [])) e
 

@@ -9,3 +9,6 @@ mod Times
 mod Worked
 mod Resting
 mod Compacting
+-- for callers too
+pub mod Fresh
+mod Sleeping

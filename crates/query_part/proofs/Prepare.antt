@@ -39,7 +39,7 @@ use Rattle.query_part.specs.declared.matches.Ready.{Ready}
 use Rattle.query_part.specs.declared.part.Step.{Step}
 use Rattle.query_part.specs.declared.part.Step.TheVariants.{Unread, NoKey, Resting, Keyed}
 use Rattle.query_part.specs.Matches.{Held, HasKeyThere, HasRest, IsReady}
-use Rattle.query_part.specs.Parts.{part_of, kept_of, ready_of, IsAlone, AreTypesRead, IsMade}
+use Rattle.query_part.specs.Parts.{part_of, kept_of, ready_of, clock_at, here_at, settled, seen, IsAlone, AreTypesRead, IsMade}
 use Rattle.partition_table.specs.Keys.{is_at, are_at, Decides-value}
 use Rattle.query_part.proofs.Cuts.{mid_table}
 
@@ -59,16 +59,16 @@ pub record Facts (schema : Declared) (q : Query) (event : Event) (position : ℕ
   pub in_time : (before now : ℤ) → FallsBack schema q events event before now → ⊥
   pub stands : PartStands schema q events (part_of h c n)
 
-pub facts : (schema : Declared) (q : Query) (event : Event) (position : ℕ) (step : Option Step) (r : Option Ready) (h : Held) (c : Option ℤ) (n : Option ℕ) (p : Phase) → record { schema = schema; query = q; kept = kept_of step r h c n; ready = ready_of step r h c n } ≡ p → IsIdle p → CanPrepare event position p → Facts schema q event position h c n
-facts schema q event position step r h c n p is idle can =
+pub facts : (schema : Declared) (q : Query) (event : Event) (position : ℕ) (step : Option Step) (r : Option Ready) (h : Held) (c : Option ℤ) (n : Option ℕ) (upto : ℕ) (floats : Bool) (p : Phase) → record { schema = schema; query = q; kept = kept_of step r h c n; ready = ready_of step r h c n; upto = upto; floats = floats } ≡ p → IsIdle (seen position p) → CanPrepare event position (seen position p) → Facts schema q event position h (clock_at floats upto position c) (here_at floats upto position n)
+facts schema q event position step r h c n upto floats p is idle can =
     let rest : ready_of step r h c n ≡ None = subst IsIdle (sym is) idle in
-    let know : CanPrepare event position (record { schema = schema; query = q; kept = kept_of step r h c n; ready = ready_of step r h c n }) = subst (CanPrepare event position) (sym is) can in
+    let know : CanPrepare event position (seen position (record { schema = schema; query = q; kept = kept_of step r h c n; ready = ready_of step r h c n; upto = upto; floats = floats })) = subst (λ (x : Phase). CanPrepare event position (seen position x)) (sym is) can in
     record {
       events = know.events;
       count = know.count;
       of_schema = know.of_schema;
       in_time = know.in_time;
-      stands = subst (PartStands schema q know.events) (idle_kept step r h c n rest) know.stands;
+      stands = subst (λ k. PartStands schema q know.events (settled floats upto position k)) (idle_kept step r h c n rest) know.stands;
     }
 
 -- where the part is idle, it is as it is for some events
@@ -77,8 +77,22 @@ pub record Idle (schema : Declared) (q : Query) (h : Held) (c : Option ℤ) (n :
   pub query_is : q ≡ p.query
   pub kept_is : part_of h c n ≡ p.kept
 
-pub idle_part : (schema : Declared) (q : Query) (step : Option Step) (r : Option Ready) (h : Held) (c : Option ℤ) (n : Option ℕ) (p : Phase) → record { schema = schema; query = q; kept = kept_of step r h c n; ready = ready_of step r h c n } ≡ p → IsIdle p → Idle schema q h c n p
-idle_part schema q step r h c n p is idle = record {
+pub idle_part : (schema : Declared) (q : Query) (step : Option Step) (r : Option Ready) (h : Held) (c : Option ℤ) (n : Option ℕ) (upto : ℕ) (floats : Bool) (count : ℕ) (p : Phase) → record { schema = schema; query = q; kept = kept_of step r h c n; ready = ready_of step r h c n; upto = upto; floats = floats } ≡ p → IsIdle p → Idle schema q h (clock_at floats upto count c) (here_at floats upto count n) (seen count p)
+idle_part schema q step r h c n upto floats count p is idle = record {
+  schema_is = ap (λ (x : Phase). x.schema) is;
+  query_is = ap (λ (x : Phase). x.query) is;
+  kept_is = ap (settled floats upto count) (sym (idle_kept step r h c n (ap (λ (x : Phase). x.ready) is ∙ idle))) ∙ ap (λ (x : Phase). (seen count x).kept) is;
+}
+
+-- its fields, where it is idle
+pub idle_fields : (schema : Declared) (q : Query) (step : Option Step) (r : Option Ready) (h : Held) (c : Option ℤ) (n : Option ℕ) (upto : ℕ) (floats : Bool) (p : Phase) → record { schema = schema; query = q; kept = kept_of step r h c n; ready = ready_of step r h c n; upto = upto; floats = floats } ≡ p → IsIdle p → record { schema = schema; query = q; kept = part_of h c n; ready = None; upto = upto; floats = floats } ≡ p
+idle_fields schema q step r h c n upto floats p is idle =
+    let rest : ready_of step r h c n ≡ None = ap (λ (x : Phase). x.ready) is ∙ idle in
+    (λ i. record { schema = schema; query = q; kept = sym (idle_kept step r h c n rest) i; ready = sym rest i; upto = upto; floats = floats }) ∙ is
+
+-- the same once the last event had come that did not pass it by
+pub idle_awake : (schema : Declared) (q : Query) (step : Option Step) (r : Option Ready) (h : Held) (c : Option ℤ) (n : Option ℕ) (upto : ℕ) (floats : Bool) (p : Phase) → record { schema = schema; query = q; kept = kept_of step r h c n; ready = ready_of step r h c n; upto = upto; floats = floats } ≡ p → IsIdle p → Idle schema q h c n p
+idle_awake schema q step r h c n upto floats p is idle = record {
   schema_is = ap (λ (x : Phase). x.schema) is;
   query_is = ap (λ (x : Phase). x.query) is;
   kept_is = sym (idle_kept step r h c n (ap (λ (x : Phase). x.ready) is ∙ idle)) ∙ ap (λ (x : Phase). x.kept) is;

@@ -1,10 +1,12 @@
 -- What is kept of a query while an event is prepared: it is still seen as what it was, and what a commit makes of it is told.
-use Rattle.std.specs.Prelude.{◌≡◌, ◌≢◌, ℕ, ◌<◌, ◌==◌, ℤ, Bool, false, List, [], length, Option, Some, None, slice_set, slice_index_or}
+use Rattle.std.specs.Prelude.{◌≡◌, ◌≢◌, ℕ, ◌-◌, ◌<◌, ◌==◌, ℤ, pos, Bool, true, false, if◌then◌else◌, List, [], length, Option, Some, None, slice_set, slice_index_or}
 use Rattle.std.specs.List.{list_any}
 use Rattle.stream_schema.specs.Types.{Declared}
 use Rattle.stream_schema.specs.Events.{IsOfSchema}
 use Rattle.stream_schema.specs.declared.Event.{Event}
 use Rattle.cel_terms.specs.declared.Query.{Query}
+use Rattle.cel_terms.specs.declared.Window.{Window}
+use Rattle.window_clock.specs.Clocks.{clock_of}
 use Rattle.cel_terms.specs.Answers.{query_types}
 use Rattle.query_leaves.specs.Expand.{tree_of}
 use Rattle.cea_determinise.specs.Runs.{Automaton}
@@ -60,6 +62,40 @@ CanEnd (Some (NoKey now)) ready h = IsNear now
 CanEnd (Some (Resting now number)) ready h = IsNear now
 CanEnd (Some (Keyed now)) None h = Unit {0}
 CanEnd (Some (Keyed now)) (Some r) h = IsNear now × CanCut r.marks h × (r.number < length h.rows)
+
+-- the last clock after so many events
+abbrev pub clock_at : Bool → ℕ → ℕ → Option ℤ → Option ℤ
+clock_at false upto n clock = clock
+clock_at true upto n clock = if n == upto then clock else Some (pos (n - 1))
+
+-- the number of the last event's key after so many: of one that was not looked at the one key's, where the clock floats, and else of none
+abbrev pub here_at : Bool → ℕ → ℕ → Option ℕ → Option ℕ
+here_at false upto n here = if n == upto then here else None
+here_at true upto n here = if n == upto then here else Some 0
+
+-- what is kept, after so many events
+abbrev pub settled : Bool → ℕ → ℕ → Part → Part
+settled floats upto n part = record part { clock = clock_at floats upto n part.clock; here = here_at floats upto n part.here }
+
+-- what the part is after so many events
+abbrev pub seen : ℕ → Phase → Phase
+seen count p = record p { kept = settled p.floats p.upto count p.kept }
+
+-- the same, as a part that the last of them did not pass by
+abbrev pub woken : ℕ → Phase → Phase
+woken count p = record p { kept = settled p.floats p.upto count p.kept; upto = count }
+
+-- a clock in the window is the position
+abbrev pub IsByPosition : Window → Type 0
+IsByPosition window = (schema : Declared) (event : Event) (p : ℕ) → clock_of schema window event p ≡ Some (pos p)
+
+-- A clock that floats is the position, and the query reads each type.
+pub record Floats (schema : Declared) (q : Query) (source : Source) (types : List Bool) : Type 0 where
+  pub clock : (event : Event) (p : ℕ) → clock_in source event p ≡ Some (pos p)
+  pub all : (ty : ℕ) → ty < length schema.types → slice_index_or types ty false ≡ true
+
+abbrev pub MayFloat : Declared → Query → Source → List Bool → Bool → Type 0
+MayFloat schema q source types floats = floats ≡ true → Floats schema q source types
 
 -- a number that is told is that of the one key, of a query without a partition, and the key's lists rest
 abbrev pub IsAlone : Query → Option ℕ → Held → Type 0

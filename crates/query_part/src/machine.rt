@@ -9,10 +9,10 @@ ghost use Rattle.query_leaves.specs.Lawful.{AreNumbered};
 ghost use Rattle.window_clock.specs.Places.{IsOf, HasWidth};
 ghost use Rattle.query_part.specs.Matches.{none_open};
 ghost use Rattle.query_part.specs.KeyPlaces.{AreKeyPlaces};
-ghost use Rattle.query_part.specs.Parts.{AreTypesRead, IsMachineOf, HasAutomaton};
+ghost use Rattle.query_part.specs.Parts.{AreTypesRead, IsMachineOf, HasAutomaton, MayFloat};
 
 use crate::matches::Matches;
-use crate::reading::{Places, key_places, types_read};
+use crate::reading::{Places, floats, key_places, types_read};
 use cea_compile::compile;
 use cel_terms::Query;
 use cer_base::Memory;
@@ -30,6 +30,8 @@ pub struct Reading {
     pub clock: Clock,
     pub types: Vec<bool>,
     pub keys: Vec<Option<Places>>,
+    /// Whether the clock is the position, and each type is read.
+    pub floats: bool,
 }
 
 impl Reading {
@@ -41,15 +43,19 @@ impl Reading {
         ensures keys { IfOk result (λ r. AreKeyPlaces schema.now query.now r.keys.items) }
         ensures clock { IfOk result (λ r. IsOf schema.now query.now.window r.clock.source) }
         ensures blank { IfOk result (λ r. r.clock.last ≡ None) }
+        ensures floats { IfOk result (λ r. MayFloat schema.now query.now r.clock.source
+            r.types.items r.floats) }
     {
         let clock = Clock::of(alloc, schema, query)?;
         let types = types_read(alloc, schema, query)?;
         let keys = key_places(alloc, schema, query)?;
+        let floats = floats(schema, &query.window, types.as_slice());
         Ok(Reading {
             schema: schema.copy(alloc)?,
             clock,
             types,
             keys,
+            floats,
         })
     }
 }

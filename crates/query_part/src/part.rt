@@ -1,17 +1,18 @@
 //! What is kept of one query, and what an event makes of it in two phases.
 
-ghost use Rattle.std.specs.Prelude.{◌≡◌, ◌≢◌, ℕ, ◌+◌, ◌*◌, ◌≤◌, false, List, [], ◌∷◌, length, map, All, Some, None, slice_index_or, IfOk, IfSome, IfNone, MatchOption, OnOk, OnErr};
+ghost use Rattle.std.specs.Prelude.{◌≡◌, ◌≢◌, ℕ, ◌+◌, ◌*◌, ◌≤◌, false, true, List, [], ◌∷◌, length, map, All, Some, None, slice_index_or, IfOk, IfSome, IfNone, MatchOption, OnOk, OnErr};
 ghost use Rattle.stream_schema.specs.declared.Event.{Event as EventData};
 ghost use Rattle.stream_schema.specs.Events.{IsOfSchema};
 ghost use Rattle.cel_terms.specs.Checked.{IsChecked};
+ghost use Rattle.cer_base.specs.Nodes.{WellFormed};
 ghost use Rattle.tecs_enumerate.specs.Rest.{recent_of, rest, Fits};
 ghost use Rattle.query_standing.specs.Clocks.{Reads, FallsBack};
 ghost use Rattle.query_standing.specs.Kept.{PartStands, low_at, roots_at};
-ghost use Rattle.all_or_none.specs.Phases.{IsPrepared, IsIdle, back, IsCommitted, CanPrepare, StandsAt, InTime, part_bound};
+ghost use Rattle.all_or_none.specs.Phases.{IsPrepared, IsIdle, IsQuiet, back, IsCommitted, CanPrepare, StandsAt, InTime, part_bound};
 ghost use Rattle.window_clock.specs.Places.{IsNear, IsOf, HasWidth, clock_in};
 ghost use Rattle.query_part.specs.KeyPlaces.{AreKeyPlaces};
 ghost use Rattle.query_part.specs.Matches.{HasKeyThere};
-ghost use Rattle.query_part.specs.Parts.{AreTypesRead, IsMachineOf, HaveClocks, HasEvents};
+ghost use Rattle.query_part.specs.Parts.{AreTypesRead, IsMachineOf, HaveClocks, MayFloat, HasEvents, seen, woken};
 ghost use Rattle.query_part.specs.Compacting.{HasStatesOnce, PartCompacted};
 ghost use Rattle.arena_compact.specs.Roots.{places};
 
@@ -52,13 +53,18 @@ pub enum Step {
 #[derive(Drop)]
 pub struct Part {
     alloc: Global,
+    /// Whether its clock is the position, and it reads each type: what an event makes of it then
+    /// that passes it by follows from the event's position.
+    floats: bool,
     /// For each type whether the query reads it.
     types: Vec<bool>,
     /// The number of the one key, where the query has no partition and the key's lists are known to
     /// rest.
     alone: Option<u64>,
     step: Option<Step>,
-    /// The number of the last event's key, where it is read and has one.
+    /// How many events there were when the last one had come that did not pass it by.
+    upto: Pos,
+    /// The number of that event's key, where it is read and has one.
     here: Option<u64>,
     clock: Clock,
     bits: Bits,
@@ -76,7 +82,7 @@ impl Model for Part {
     ghost use Rattle.std.specs.Coded.{codes};
     ghost use Rattle.cel_terms.specs.contracts.Formula as formula;
     ghost use Rattle.all_or_none.specs.Phases.{Phase};
-    ghost use Rattle.query_part.specs.Parts.{kept_of, ready_of, CanEnd, IsAlone, IsMade};
+    ghost use Rattle.query_part.specs.Parts.{kept_of, ready_of, CanEnd, IsAlone, IsMade, MayFloat};
 
     ghost Value = { Phase };
 
@@ -87,11 +93,14 @@ impl Model for Part {
       query = p.query;
       kept = kept_of p.step p.ready p.matches p.clock.last p.here;
       ready = ready_of p.step p.ready p.matches p.clock.last p.here;
+      upto = p.upto;
+      floats = p.floats;
     } };
 
     ghost invariant = { λ p. IsMade p.schema p.query p.types.items p.keys.items p.conditions
         p.clock.source p.bits p.matches × CanEnd p.step p.ready p.matches
-        × IsAlone p.query p.alone p.matches };
+        × IsAlone p.query p.alone p.matches
+        × MayFloat p.schema p.query p.clock.source p.types.items p.floats };
 }
 
 /// The part with these tables, before any event.
@@ -101,17 +110,23 @@ fn joined(alloc: Global, query: Query, reading: Reading, machine: Machine) -> Pa
     requires clock { IsOf reading.schema query.window reading.clock.source }
     requires clocks { HaveClocks reading.schema query reading.clock.source }
     requires blank { reading.clock.last ≡ None }
+    requires floats { MayFloat reading.schema query reading.clock.source reading.types.items
+        reading.floats }
     requires machine { IsMachineOf reading.schema query machine.conditions machine.bits
         machine.matches }
     ensures given { (result.schema ≡ reading.schema) × (result.query ≡ query) }
     ensures idle { IsIdle result }
+    ensures upto { result.upto ≡ 0 }
+    ensures none { result.kept.nodes ≡ [] }
     ensures stands { StandsAt [] result }
 {
     Part {
         alloc,
+        floats: reading.floats,
         types: reading.types,
         alone: None,
         step: None,
+        upto: 0,
         here: None,
         clock: reading.clock,
         bits: machine.bits,
@@ -130,6 +145,8 @@ impl Part {
         requires checked { IsChecked schema.now query }
         ensures given { IfOk result (λ p. (p.schema ≡ schema.now) × (p.query ≡ query)) }
         ensures idle { IfOk result IsIdle }
+        ensures upto { IfOk result (λ p. p.upto ≡ 0) }
+        ensures none { IfOk result (λ p. p.kept.nodes ≡ []) }
         ensures stands { IfOk result (StandsAt []) }
     {
         schema.well_declared();
@@ -169,16 +186,20 @@ impl Part {
         self.matches.states_once();
     }
 
-    /// How the clock would fall with the event as the next one, if it would.
+    /// How the clock would fall with the event as the next one, if it would. A position does not.
     pub fn test(&self, event: &Event, position: Pos) -> Option<TimeBack>
         requires of_schema { IsOfSchema self.now.schema event.now }
         requires idle { IsIdle self.now }
         ensures falls { IfSome result (λ f. (events : List EventData) → length events ≡ position
-            → StandsAt events self.now → FallsBack self.now.schema self.now.query events event.now
-            f.before f.now) }
+            → StandsAt events (seen position self.now) → FallsBack self.now.schema self.now.query
+            events event.now f.before f.now) }
         ensures in_time { IfNone result ((events : List EventData) → length events ≡ position
-            → StandsAt events self.now → InTime events event.now self.now) }
+            → StandsAt events (seen position self.now)
+            → InTime events event.now (seen position self.now)) }
     {
+        if self.floats {
+            return None;
+        }
         if !is_read(self.types.as_slice(), event.ty) {
             return None;
         }
@@ -188,28 +209,40 @@ impl Part {
         }
     }
 
-    /// Whether a cursor that is opened now may give an answer: whether some state of the lists of
-    /// the last event's key accepts. It takes no step.
-    pub fn may_answer(&self) -> bool
+    /// Whether a cursor that is opened after so many events may give an answer: whether the last one
+    /// did not pass the part by, and some state of the lists of its key accepts. It takes no step.
+    pub fn may_answer(&self, count: Pos) -> bool
         requires idle { IsIdle self.now }
-        requires events { HasEvents self.now }
-        ensures none { result ≡ false → roots_at self.now.query self.now.kept ≡ [] }
+        requires events { HasEvents (seen count self.now) }
+        requires quiet { IsQuiet count (seen count self.now) }
+        ensures none { result ≡ false → roots_at self.now.query (seen count self.now).kept ≡ [] }
     {
+        if self.upto != count {
+            return false;
+        }
         self.matches.may_list(self.here)
     }
 
-    /// A cursor with the query's number on the answers at the last event.
-    pub fn cursor<L: Ledger>(&self, number: u64, steps: &mut Steps<L>) -> Result<Cursor, Memory>
+    /// A cursor with the query's number on the answers at the last of so many events.
+    pub fn cursor<L: Ledger>(
+        &self,
+        count: Pos,
+        number: u64,
+        steps: &mut Steps<L>,
+    ) -> Result<Cursor, Memory>
         requires idle { IsIdle self.now }
-        requires events { HasEvents self.now }
+        requires events { HasEvents (seen count self.now) }
+        requires quiet { IsQuiet count (seen count self.now) }
         ensures rest { IfOk result (λ c. rest c self.now.kept.nodes
-            ≡ recent_of (low_at self.now.query self.now.kept.clock) self.now.kept.nodes
-            (roots_at self.now.query self.now.kept)) }
+            ≡ recent_of (low_at self.now.query (seen count self.now).kept.clock)
+            self.now.kept.nodes (roots_at self.now.query (seen count self.now).kept)) }
         ensures fits { IfOk result (λ c. Fits c self.now.kept.nodes) }
-        ensures begun { IfOk result (λ c. (c.query ≡ number)
-            × (c.low ≡ low_at self.now.query self.now.kept.clock) × (c.path ≡ [])) }
+        ensures begun { IfOk result (λ c. (c.query ≡ number) × (c.path ≡ [])) }
         ensures steps { steps.new ≤ steps.old + part_bound self.now.kept }
     {
+        if self.upto != count {
+            return self.matches.cursor(None, number, self.clock.low(), steps);
+        }
         self.matches
             .cursor(self.here, number, self.clock.low(), steps)
     }
@@ -217,7 +250,7 @@ impl Part {
     /// The cursor's next answer, which is of this part.
     pub fn next<L: Ledger>(&self, cursor: &mut Cursor, steps: &mut Steps<L>) -> Option<Stamp>
         requires idle { IsIdle self.now }
-        requires events { HasEvents self.now }
+        requires well_formed { WellFormed self.now.kept.nodes }
         requires fits { Fits cursor.old self.now.kept.nodes }
         ensures answer { MatchOption result (rest cursor.old self.now.kept.nodes ≡ [])
             (λ start. rest cursor.old self.now.kept.nodes
@@ -233,10 +266,28 @@ impl Part {
         self.matches.next(cursor, steps)
     }
 
+    /// Notes what the clock and the last key are after so many events.
+    pub fn settle(&mut self, count: Pos)
+        requires idle { IsIdle self.old }
+        ensures { self.new ≡ woken count self.old }
+    {
+        self.step = None;
+        if self.upto == count {
+            return;
+        }
+        if self.floats {
+            self.clock.set(i128::from(count.saturating_sub(1)));
+            self.here = Some(0);
+        } else {
+            self.here = None;
+        }
+        self.upto = count;
+    }
+
     /// Keeps of the nodes what the lists and the part's cursors, those with its number, need from
     /// its low clock and their own on. It stands for the same events as before, and each of these
     /// cursors has the same answers left; the others are not touched. The room is for as many nodes
-    /// as there are. It takes no memory.
+    /// as there are. It takes no memory. The last event did not pass the part by, or it was settled.
     pub fn compact<C: HasCursor, L: Ledger>(
         &mut self,
         number: u64,
@@ -251,6 +302,7 @@ impl Part {
         requires room { length self.old.kept.nodes ≤ room.old }
         ensures same { (self.new.schema ≡ self.old.schema) × (self.new.query ≡ self.old.query) }
         ensures idle { IsIdle self.new }
+        ensures upto { self.new.upto ≡ self.old.upto }
         ensures stands { (events : List EventData) → StandsAt events self.old
             → StandsAt events self.new }
         ensures compacted { PartCompacted number (low_at self.old.query self.old.kept.clock)
@@ -264,6 +316,16 @@ impl Part {
         self.step = None;
         let low = self.clock.low();
         self.matches.compact(number, cursors, low, room, steps);
+    }
+}
+
+/// Whether the number is told, and that of the first key.
+fn is_first(number: Option<u64>) -> bool
+    ensures { result ≡ true → number ≡ Some 0 }
+{
+    match number {
+        Some(number) => number == 0,
+        None => false,
     }
 }
 
@@ -290,7 +352,24 @@ fn alone_of(query: &Query, number: u64) -> Option<u64>
 }
 
 impl Keeps for Part {
-    ghost phase = { λ p. p };
+    ghost phase = { λ n p. seen n p };
+
+    fn passes(&self, event: &Event, position: Pos) -> bool {
+        if self.upto > position {
+            return false;
+        }
+        if !self.floats {
+            return !is_read(self.types.as_slice(), event.ty);
+        }
+        if !is_first(self.alone) {
+            return false;
+        }
+        if !self.conditions.read_none(event) {
+            return false;
+        }
+        let _now = self.clock.now(event, position);
+        true
+    }
 
     fn prepare<L: Ledger>(
         &mut self,
@@ -343,21 +422,27 @@ impl Keeps for Part {
         }
     }
 
-    fn commit(&mut self, _event: &Event, _position: Pos) {
+    fn commit(&mut self, _event: &Event, position: Pos) {
         match self.step.take() {
             None => {}
-            Some(Step::Unread) => self.here = None,
+            Some(Step::Unread) => {
+                self.upto = position + 1;
+                self.here = None;
+            }
             Some(Step::NoKey(now)) => {
+                self.upto = position + 1;
                 self.clock.set(now);
                 self.here = None;
             }
             Some(Step::Resting(now, number)) => {
+                self.upto = position + 1;
                 self.clock.set(now);
                 self.here = Some(number);
             }
             Some(Step::Keyed(now)) => match self.ready.take() {
                 None => {}
                 Some(ready) => {
+                    self.upto = position + 1;
                     self.clock.set(now);
                     self.here = Some(ready.number);
                     self.alone = None;

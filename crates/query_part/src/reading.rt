@@ -1,13 +1,13 @@
 //! Which events a query reads, and their keys.
 
-ghost use Rattle.std.specs.Prelude.{◌≡◌, ℕ, ◌<◌, ◌==◌, ◌++◌, false, Some, None, option_map, option_and_then, take, drop, slice_get, slice_index_or, IfOk, length};
+ghost use Rattle.std.specs.Prelude.{◌≡◌, ℕ, ◌<◌, ◌==◌, ◌++◌, false, true, Some, None, option_map, option_and_then, take, drop, slice_get, slice_index_or, IfOk, length};
 ghost use Rattle.std.specs.Option.{option_copied};
 ghost use Rattle.std.specs.List.{list_any};
 ghost use Rattle.cel_terms.specs.Answers.{types_of_stream};
 ghost use Rattle.query_part.specs.KeyPlaces.{places_in, values_there, key_there, AreKeyPlaces};
-ghost use Rattle.query_part.specs.Parts.{reads_type, AreTypesRead};
+ghost use Rattle.query_part.specs.Parts.{reads_type, AreTypesRead, IsByPosition};
 
-use cel_terms::{Name, Query};
+use cel_terms::{Name, Query, Window};
 use cer_base::{Listed, Memory};
 use partition_table::Key;
 use std::alloc::Global;
@@ -66,6 +66,42 @@ pub fn is_read(table: &[bool], ty: TypeId) -> bool
         Some(read) => *read,
         None => false,
     }
+}
+
+/// Whether each type of the schema is read.
+fn are_all_read(schema: &Schema, table: &[bool]) -> bool
+    ensures { result ≡ true → (ty : ℕ) → ty < length schema.now.types
+        → slice_index_or table.now ty false ≡ true }
+{
+    for ty in 0..schema.types() {
+        if !is_read(table, ty) {
+            return false;
+        }
+    }
+    true
+}
+
+/// Whether a clock in the window is the position.
+fn is_by_position(window: &Window) -> bool
+    ensures { result ≡ true → IsByPosition window.now }
+{
+    match window {
+        Window::Free => true,
+        Window::Events(_) => true,
+        Window::Clock(_, _) => false,
+    }
+}
+
+/// Whether a clock in the window is the position, and each type of the schema is read.
+pub fn floats(schema: &Schema, window: &Window, table: &[bool]) -> bool
+    ensures clock { result ≡ true → IsByPosition window.now }
+    ensures all { result ≡ true → (ty : ℕ) → ty < length schema.now.types
+        → slice_index_or table.now ty false ≡ true }
+{
+    if !is_by_position(window) {
+        return false;
+    }
+    are_all_read(schema, table)
 }
 
 /// The places of the attributes among those of the type, the first one's first, where it has all.

@@ -1,61 +1,61 @@
-use Rattle.std.proofs.Common.{◌≡◌, ◌<◌, length, arith}
+use Rattle.std.proofs.Common.{◌≡◌, ◌+◌, ◌<◌, length, arith}
 use Rattle.query_standing.specs.Bounds.{update_bound}
-use Rattle.all_or_none.specs.Phases.{back, IsIdle, IsPrepared, CanPrepare, InTime, StandsAt, MeetsAtMost, ready_bound}
+use Rattle.all_or_none.specs.Phases.{back, IsIdle, IsSet, CanPrepare, InTime, StandsAt, MeetsAtMost, ready_bound}
 use Rattle.std.proofs.lemmas.List.Sums.{sum_by-take-le}
 use Rattle.all_or_none.proofs.Turns.{all_here, all_next, same_next, left_next, same_whole, sum_next, pair_at, all_mapped}
 use Rattle.all_or_none.proofs.prepare_all.Goals as goal
 
-pub prepare-requires-clause-can : goal.prepare-requires-clause-can
-prepare-requires-clause-can g c =
+pub prepare_one-requires-clause-can : goal.prepare_one-requires-clause-can
+prepare_one-requires-clause-can g c =
     let inside : c.loop-k.k < length c.loop-k.parts = omega arith in
     let same : length c.loop-k.parts ≡ length c.args.parts.now = omega arith in
-    all_here (λ p. CanPrepare c.args.event.now c.args.position (g.P.Keeps.phase p)) c.loop-k.parts c.args.parts.now c.loop-k.k c.index-parts-k.result inside same c.loop-k.invariant.left c.requires.can
+    all_here (λ p. CanPrepare c.args.event.now c.args.position (g.P.Keeps.phase c.args.position p)) c.loop-k.parts c.args.parts.now c.loop-k.k c.index-parts-k.result inside same c.loop-k.invariant.left c.requires.can
 
-pub prepare-requires-clause-idle : goal.prepare-requires-clause-idle
-prepare-requires-clause-idle g c =
+pub prepare_one-requires-clause-idle : goal.prepare_one-requires-clause-idle
+prepare_one-requires-clause-idle g c =
     let inside : c.loop-k.k < length c.loop-k.parts = omega arith in
     let same : length c.loop-k.parts ≡ length c.args.parts.now = omega arith in
-    all_here (λ p. IsIdle (g.P.Keeps.phase p)) c.loop-k.parts c.args.parts.now c.loop-k.k c.index-parts-k.result inside same c.loop-k.invariant.left c.requires.idle
+    all_here (λ p. IsIdle (g.P.Keeps.phase c.args.position p)) c.loop-k.parts c.args.parts.now c.loop-k.k c.index-parts-k.result inside same c.loop-k.invariant.left c.requires.idle
 
-pub returns-in_err-prepare-clause-kept : goal.returns-in_err-prepare-clause-kept
-returns-in_err-prepare-clause-kept g c =
+pub returns-in_err-prepare_one-clause-kept : goal.returns-in_err-prepare_one-clause-kept
+returns-in_err-prepare_one-clause-kept g c =
     let inside : c.loop-k.k < length c.loop-k.parts = omega arith in
     let same : length c.loop-k.parts ≡ length c.args.parts.now = omega arith in
-    same_whole (λ p. back (g.P.Keeps.phase p)) c.loop-k.parts c.args.parts.now c.loop-k.k c.prepare.new.self c.index-parts-k.result inside same c.loop-k.invariant.left c.loop-k.invariant.kept c.prepare.ensures.kept
+    same_whole (λ p. back (g.P.Keeps.phase c.args.position p)) c.loop-k.parts c.args.parts.now c.loop-k.k c.prepare_one.new.part c.index-parts-k.result inside same c.loop-k.invariant.left c.loop-k.invariant.kept c.prepare_one.ensures.kept
 
 pub loop-k-preserved : goal.loop-k-preserved
 loop-k-preserved g c =
     let inside : c.loop-k.k < length c.loop-k.parts = omega arith in
     let same : length c.loop-k.parts ≡ length c.args.parts.now = omega arith in
     record {
-      kept = same_next (λ p. back (g.P.Keeps.phase p)) (λ p. back (g.P.Keeps.phase p)) c.loop-k.parts c.args.parts.now c.loop-k.k c.prepare.new.self c.index-parts-k.result inside same c.loop-k.invariant.left c.loop-k.invariant.kept c.prepare.ensures.kept;
-      ready = all_next (λ p. IsPrepared c.args.event.now c.args.position (g.P.Keeps.phase p)) c.loop-k.parts c.loop-k.k c.prepare.new.self inside c.loop-k.invariant.ready c.in_ok-prepare.ensures.ready;
-      left = left_next c.loop-k.parts c.args.parts.now c.loop-k.k c.prepare.new.self inside same c.loop-k.invariant.left;
-      steps = (let sum = sum_next (λ p. ready_bound (g.P.Keeps.phase p)) c.loop-k.parts c.loop-k.k c.prepare.new.self inside in let before = c.loop-k.invariant.steps in let own = c.in_ok-prepare.ensures.steps in omega arith);
+      kept = same_next (λ p. back (g.P.Keeps.phase c.args.position p)) (λ p. back (g.P.Keeps.phase c.args.position p)) c.loop-k.parts c.args.parts.now c.loop-k.k c.prepare_one.new.part c.index-parts-k.result inside same c.loop-k.invariant.left c.loop-k.invariant.kept c.prepare_one.ensures.kept;
+      set = all_next (λ p. IsSet c.args.event.now c.args.position (g.P.Keeps.phase c.args.position p) (g.P.Keeps.phase (c.args.position + 1) p)) c.loop-k.parts c.loop-k.k c.prepare_one.new.part inside c.loop-k.invariant.set c.in_ok-prepare_one.ensures.set;
+      left = left_next c.loop-k.parts c.args.parts.now c.loop-k.k c.prepare_one.new.part inside same c.loop-k.invariant.left;
+      steps = (let sum = sum_next (λ p. ready_bound (g.P.Keeps.phase c.args.position p)) c.loop-k.parts c.loop-k.k c.prepare_one.new.part inside in let before = c.loop-k.invariant.steps in let own = c.in_ok-prepare_one.ensures.steps in omega arith);
       within = λ events most count bounded. (
-          let phase = g.P.Keeps.phase in
+          let phase = g.P.Keeps.phase c.args.position in
           let event = c.args.event.now in
           let pair = pair_at (MeetsAtMost events event) phase update_bound c.loop-k.parts c.args.parts.now most c.loop-k.k c.index-parts-k.result inside same c.loop-k.invariant.left bounded.each in
           let time = all_here (λ p. InTime events event (phase p)) c.loop-k.parts c.args.parts.now c.loop-k.k c.index-parts-k.result inside same c.loop-k.invariant.left (all_mapped (InTime events event) phase c.args.parts.now bounded.in_time) in
           let stands = all_here (λ p. StandsAt events (phase p)) c.loop-k.parts c.args.parts.now c.loop-k.k c.index-parts-k.result inside same c.loop-k.invariant.left (all_mapped (StandsAt events) phase c.args.parts.now bounded.stands) in
           let before = c.loop-k.invariant.within events most count bounded in
-          let own = c.prepare.ensures.within events pair.other count time stands pair.related in
+          let own = c.prepare_one.ensures.within events pair.other count time stands pair.related in
           let sum = pair.sum in
           omega arith
           );
     }
 
-pub returns-in_err-prepare-clause-within : goal.returns-in_err-prepare-clause-within
-returns-in_err-prepare-clause-within g c events most count bounded =
+pub returns-in_err-prepare_one-clause-within : goal.returns-in_err-prepare_one-clause-within
+returns-in_err-prepare_one-clause-within g c events most count bounded =
     let inside : c.loop-k.k < length c.loop-k.parts = omega arith in
     let same : length c.loop-k.parts ≡ length c.args.parts.now = omega arith in
-    let phase = g.P.Keeps.phase in
+    let phase = g.P.Keeps.phase c.args.position in
     let event = c.args.event.now in
     let pair = pair_at (MeetsAtMost events event) phase update_bound c.loop-k.parts c.args.parts.now most c.loop-k.k c.index-parts-k.result inside same c.loop-k.invariant.left bounded.each in
     let time = all_here (λ p. InTime events event (phase p)) c.loop-k.parts c.args.parts.now c.loop-k.k c.index-parts-k.result inside same c.loop-k.invariant.left (all_mapped (InTime events event) phase c.args.parts.now bounded.in_time) in
     let stands = all_here (λ p. StandsAt events (phase p)) c.loop-k.parts c.args.parts.now c.loop-k.k c.index-parts-k.result inside same c.loop-k.invariant.left (all_mapped (StandsAt events) phase c.args.parts.now bounded.stands) in
     let before = c.loop-k.invariant.within events most count bounded in
-    let own = c.prepare.ensures.within events pair.other count time stands pair.related in
+    let own = c.prepare_one.ensures.within events pair.other count time stands pair.related in
     let sum = pair.sum in
     let all = pair.within in
     omega arith

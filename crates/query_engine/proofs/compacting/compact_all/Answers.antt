@@ -58,6 +58,7 @@ loop-k-preserved g c =
       schema = c.compact.ensures.same.0;
       query = c.compact.ensures.same.1;
       idle = c.compact.ensures.idle;
+      upto = c.compact.ensures.upto;
       stands = c.compact.ensures.stands;
       table = of.table;
       fewer = c.compact.ensures.fewer;
@@ -66,7 +67,7 @@ loop-k-preserved g c =
     let paid = c.loop-k.invariant.paid in
     let step = c.compact.ensures.steps in
     record {
-      done = zip_next IsCompacted (λ p. p) c.loop-k.parts c.args.parts.now c.loop-k.k c.compact.new.self c.index-parts-k.result inside same left c.loop-k.invariant.done one;
+      done = zip_next IsCompacted (λ p. p) (λ p. p) c.loop-k.parts c.args.parts.now c.loop-k.k c.compact.new.self c.index-parts-k.result inside same left c.loop-k.invariant.done one;
       left = left_next c.loop-k.parts c.args.parts.now c.loop-k.k c.compact.new.self inside same left;
       held = all_carried c.loop-k.k c.args.parts.now c.loop-k.parts q inside here c.compact.new.self c.args.held.now c.loop-k.held c.compact.new.cursors c.requires.held c.loop-k.invariant.held of.cursors;
       same_room = c.compact.ensures.room ∙ c.loop-k.invariant.same_room;

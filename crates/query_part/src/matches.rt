@@ -76,7 +76,7 @@ pub struct Matches {
 impl Model for Matches {
     ghost use Rattle.std.specs.Prelude.{◌≡◌, length, map, All};
     ghost use Rattle.query_part.specs.Compacting.{HasStatesOnce};
-ghost use Rattle.query_part.specs.Matches.{Held, MayRest};
+    ghost use Rattle.query_part.specs.Matches.{Held, MayRest};
 
     ghost Value = { Held };
 

@@ -47,10 +47,6 @@ sample = with_rule (with_rule (new_app (codes "sample"))
     (whole (name (codes "seed"))))
     (numbered 0 10000000 (name (codes "count")))
 
--- a command of this name over QUERIES EVENTS
-abbrev pub over_files : Text → App
-over_files id = with_rule (with_rule (new_app id) (name (codes "queries"))) (name (codes "events"))
-
 -- explain QUERIES EVENTS QUERY START END [POSITION]...
 abbrev pub explain : App
 explain = with_rule (with_rule (with_rule (with_rule (over_files (codes "explain"))

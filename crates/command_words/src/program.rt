@@ -123,15 +123,6 @@ fn sample<'a>(alloc: Global) -> Result<clap::Command<'a>, AllocError>
     clap::Command::new(alloc, "sample").arg(seed)?.arg(count)
 }
 
-/// A command of this name over `QUERIES EVENTS`.
-fn over_files<'a>(alloc: Global, id: &'a str) -> Result<clap::Command<'a>, AllocError>
-    ensures { IfOk result (λ c. app_of c ≡ over_files id.entry.now) }
-{
-    let queries = name(alloc, "queries");
-    let events = name(alloc, "events");
-    clap::Command::new(alloc, id).arg(queries)?.arg(events)
-}
-
 /// `explain QUERIES EVENTS QUERY START END [POSITION]...`
 fn explain<'a>(alloc: Global) -> Result<clap::Command<'a>, AllocError>
     ensures { IfOk result (λ c. app_of c ≡ explain) }

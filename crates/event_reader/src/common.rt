@@ -21,6 +21,7 @@ const MANY: u64 = 100_000_000_000_000_000;
 
 /// The type of the line's event, whose values are then the list's. Where it answers `None`, nothing is
 /// said of the line or of the values.
+#[inline(always)]
 pub fn read_common(
     alloc: Global,
     schema: &Schema,

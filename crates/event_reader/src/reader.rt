@@ -113,6 +113,7 @@ impl Lines {
     ///
     /// Of its source it has then taken all of the budget where the input is too long, and else no
     /// more than the budget.
+    #[inline(always)]
     pub fn next<Q: Source>(&mut self, source: &mut Q) -> Result<Next, LineFault>
         requires { self.old.closed ≡ false }
         ensures lines { (bytes : List ℕ) (texts : List (List ℕ)) → HasGiven self.old bytes (Q.left source.old) texts → Follows self.new bytes (Q.left source.new) texts result }

@@ -72,6 +72,7 @@ impl Row {
     /// An event that is read is of the schema. Where none is read, the row holds no value. A line
     /// without quotes whose values are whole numbers of few digits takes no memory where an event
     /// of as many values was read before.
+    #[inline(always)]
     #[tactic(auto, using(crate::proofs::OfSchema::row_is))]
     pub fn read(
         &mut self,
@@ -88,6 +89,7 @@ impl Row {
     }
 
     /// The same, but for what is said of the schema.
+    #[inline(always)]
     fn read_line(
         &mut self,
         alloc: Global,

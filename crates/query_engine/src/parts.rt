@@ -9,20 +9,31 @@ use cel_terms::Query;
 use cer_base::Memory;
 use query_part::Part;
 use std::alloc::Global;
+use std::rc::Rc;
 use stream_schema::Schema;
+
+/// A copy of the schema that all parts share.
+pub fn shared(alloc: Global, schema: &Schema) -> Result<Rc<Schema>, Memory>
+    ensures { IfOk result (λ shared. shared.value ≡ schema.now) }
+{
+    match Rc::new(alloc, schema.copy(alloc)?) {
+        Ok(shared) => Ok(shared),
+        Err(_) => Err(Memory),
+    }
+}
 
 /// Puts the part of the query last, as it is before any event.
 fn add_part(
     parts: &mut Vec<Part>,
     alloc: Global,
-    schema: &Schema,
+    schema: &Rc<Schema>,
     query: Query,
 ) -> Result<(), Memory>
-    requires checked { IsChecked schema.now query }
-    requires first { All (IsFirst schema.now) parts.old.items }
+    requires checked { IsChecked schema.now.value query }
+    requires first { All (IsFirst schema.now.value) parts.old.items }
     ensures queries { OnOk result (map (λ p. p.query) parts.new.items
         ≡ map (λ p. p.query) parts.old.items ++ query ∷ []) }
-    ensures first { OnOk result (All (IsFirst schema.now) parts.new.items) }
+    ensures first { OnOk result (All (IsFirst schema.now.value) parts.new.items) }
 {
     let part = Part::new(alloc, schema, query)?;
     parts.push(part)?;
@@ -33,13 +44,13 @@ fn add_part(
 pub fn add_parts(
     parts: &mut Vec<Part>,
     alloc: Global,
-    schema: &Schema,
+    schema: &Rc<Schema>,
     queries: Vec<Query>,
 ) -> Result<(), Memory>
-    requires checked { All (IsChecked schema.now) queries.items }
+    requires checked { All (IsChecked schema.now.value) queries.items }
     requires empty { parts.old.items ≡ [] }
     ensures queries { OnOk result (map (λ p. p.query) parts.new.items ≡ queries.items) }
-    ensures first { OnOk result (All (IsFirst schema.now) parts.new.items) }
+    ensures first { OnOk result (All (IsFirst schema.now.value) parts.new.items) }
 {
     for query in queries {
         add_part(parts, alloc, schema, query)?;

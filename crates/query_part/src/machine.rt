@@ -26,7 +26,6 @@ use window_clock::Clock;
 /// How events are read: which types, and where their clock and their key stand.
 #[derive(Drop)]
 pub struct Reading {
-    pub schema: Schema,
     pub clock: Clock,
     pub types: Vec<bool>,
     pub keys: Vec<Option<Places>>,
@@ -38,7 +37,6 @@ impl Reading {
     /// How the query reads the events of the schema.
     pub fn of(alloc: Global, schema: &Schema, query: &Query) -> Result<Reading, Memory>
         requires wide { HasWidth query.now.window }
-        ensures schema { IfOk result (λ r. r.schema ≡ schema.now) }
         ensures types { IfOk result (λ r. AreTypesRead schema.now query.now r.types.items) }
         ensures keys { IfOk result (λ r. AreKeyPlaces schema.now query.now r.keys.items) }
         ensures clock { IfOk result (λ r. IsOf schema.now query.now.window r.clock.source) }
@@ -51,7 +49,6 @@ impl Reading {
         let keys = key_places(alloc, schema, query)?;
         let floats = floats(schema, &query.window, types.as_slice());
         Ok(Reading {
-            schema: schema.copy(alloc)?,
             clock,
             types,
             keys,

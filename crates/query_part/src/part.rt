@@ -29,6 +29,7 @@ use cer_base::{Memory, Pos};
 use predicate_bits::Conditions;
 use std::alloc::Global;
 use std::marker::Model;
+use std::rc::Rc;
 use std::sync::ledger::Ledger;
 use stream_schema::{Event, Schema};
 use tecs_enumerate::Cursor;
@@ -75,7 +76,8 @@ pub struct Part {
     /// The lists that are ready, where the step has a key.
     ready: Option<Ready>,
     query: Query,
-    schema: Schema,
+    /// That of the engine, which all parts share.
+    schema: Rc<Schema>,
 }
 
 impl Model for Part {
@@ -89,7 +91,7 @@ impl Model for Part {
     ghost coded = { Prim.hlevel (codes, formula.the_row.coded) };
 
     ghost view = { λ p. record {
-      schema = p.schema;
+      schema = p.schema.value;
       query = p.query;
       kept = kept_of p.step p.ready p.matches p.clock.last p.here;
       ready = ready_of p.step p.ready p.matches p.clock.last p.here;
@@ -97,24 +99,30 @@ impl Model for Part {
       floats = p.floats;
     } };
 
-    ghost invariant = { λ p. IsMade p.schema p.query p.types.items p.keys.items p.conditions
+    ghost invariant = { λ p. IsMade p.schema.value p.query p.types.items p.keys.items p.conditions
         p.clock.source p.bits p.matches × CanEnd p.step p.ready p.matches
         × IsAlone p.query p.alone p.matches
-        × MayFloat p.schema p.query p.clock.source p.types.items p.floats };
+        × MayFloat p.schema.value p.query p.clock.source p.types.items p.floats };
 }
 
 /// The part with these tables, before any event.
-fn joined(alloc: Global, query: Query, reading: Reading, machine: Machine) -> Part
-    requires types { AreTypesRead reading.schema query reading.types.items }
-    requires keys { AreKeyPlaces reading.schema query reading.keys.items }
-    requires clock { IsOf reading.schema query.window reading.clock.source }
-    requires clocks { HaveClocks reading.schema query reading.clock.source }
+fn joined(
+    alloc: Global,
+    schema: Rc<Schema>,
+    query: Query,
+    reading: Reading,
+    machine: Machine,
+) -> Part
+    requires types { AreTypesRead schema.value query reading.types.items }
+    requires keys { AreKeyPlaces schema.value query reading.keys.items }
+    requires clock { IsOf schema.value query.window reading.clock.source }
+    requires clocks { HaveClocks schema.value query reading.clock.source }
     requires blank { reading.clock.last ≡ None }
-    requires floats { MayFloat reading.schema query reading.clock.source reading.types.items
+    requires floats { MayFloat schema.value query reading.clock.source reading.types.items
         reading.floats }
-    requires machine { IsMachineOf reading.schema query machine.conditions machine.bits
+    requires machine { IsMachineOf schema.value query machine.conditions machine.bits
         machine.matches }
-    ensures given { (result.schema ≡ reading.schema) × (result.query ≡ query) }
+    ensures given { (result.schema ≡ schema.value) × (result.query ≡ query) }
     ensures idle { IsIdle result }
     ensures upto { result.upto ≡ 0 }
     ensures none { result.kept.nodes ≡ [] }
@@ -135,24 +143,26 @@ fn joined(alloc: Global, query: Query, reading: Reading, machine: Machine) -> Pa
         matches: machine.matches,
         ready: None,
         query,
-        schema: reading.schema,
+        schema,
     }
 }
 
 impl Part {
     /// What is kept of the query, which is checked for the schema, before any event.
-    pub fn new(alloc: Global, schema: &Schema, query: Query) -> Result<Part, Memory>
-        requires checked { IsChecked schema.now query }
-        ensures given { IfOk result (λ p. (p.schema ≡ schema.now) × (p.query ≡ query)) }
+    pub fn new(alloc: Global, schema: &Rc<Schema>, query: Query) -> Result<Part, Memory>
+        requires checked { IsChecked schema.now.value query }
+        ensures given { IfOk result (λ p. (p.schema ≡ schema.now.value) × (p.query ≡ query)) }
         ensures idle { IfOk result IsIdle }
         ensures upto { IfOk result (λ p. p.upto ≡ 0) }
         ensures none { IfOk result (λ p. p.kept.nodes ≡ []) }
         ensures stands { IfOk result (StandsAt []) }
     {
-        schema.well_declared();
-        let reading = Reading::of(alloc, schema, &query)?;
-        let machine = Machine::of(alloc, schema, &query)?;
-        Ok(joined(alloc, query, reading, machine))
+        let declared = schema.as_ref();
+        declared.well_declared();
+        let reading = Reading::of(alloc, declared, &query)?;
+        let machine = Machine::of(alloc, declared, &query)?;
+        let shared = schema.clone()?;
+        Ok(joined(alloc, shared, query, reading, machine))
     }
 
     /// The query.

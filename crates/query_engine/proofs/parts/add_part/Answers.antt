@@ -7,5 +7,5 @@ pub returns-clause-first : goal.returns-clause-first
 returns-clause-first c =
     let e = c.in_ok-part.ensures in
     let p = c.in_ok-part.part in
-    let own : IsFirst c.args.schema.now p = record { schema_is = e.given.0; idle = e.idle; upto = e.upto; none = e.none; stands = e.stands } in
-    subst (All (IsFirst c.args.schema.now)) (sym c.in_ok-push.ensures.items) (All-append (IsFirst c.args.schema.now) c.args.parts.now.items (p ∷ []) c.requires.first (All-cons (IsFirst c.args.schema.now) p [] own (All-nil (IsFirst c.args.schema.now))))
+    let own : IsFirst c.args.schema.now.value p = record { schema_is = e.given.0; idle = e.idle; upto = e.upto; none = e.none; stands = e.stands } in
+    subst (All (IsFirst c.args.schema.now.value)) (sym c.in_ok-push.ensures.items) (All-append (IsFirst c.args.schema.now.value) c.args.parts.now.items (p ∷ []) c.requires.first (All-cons (IsFirst c.args.schema.now.value) p [] own (All-nil (IsFirst c.args.schema.now.value))))

@@ -4,7 +4,7 @@ use Rattle.cel_terms.specs.Checked.{IsChecked}
 use Rattle.query_engine.proofs.parts.add_parts.Goals as goal
 
 pub add_part-requires-clause-checked : goal.add_part-requires-clause-checked
-add_part-requires-clause-checked c = All-head (IsChecked c.args.schema.now) c.in-Some.query _ (subst (All (IsChecked c.args.schema.now)) c.in-Some.ensures.steps.0 c.loop-query.invariant.checked)
+add_part-requires-clause-checked c = All-head (IsChecked c.args.schema.now.value) c.in-Some.query _ (subst (All (IsChecked c.args.schema.now.value)) c.in-Some.ensures.steps.0 c.loop-query.invariant.checked)
 
 pub loop-query-preserved : goal.loop-query-preserved
 loop-query-preserved c = record {
@@ -12,5 +12,5 @@ loop-query-preserved c = record {
   finite = tt;
   queries = c.in_ok-add_part.ensures.queries ∙ ap (λ qs. qs ++ c.in-Some.query ∷ []) c.loop-query.invariant.queries;
   first = c.in_ok-add_part.ensures.first;
-  checked = All-tail (IsChecked c.args.schema.now) c.in-Some.query _ (subst (All (IsChecked c.args.schema.now)) c.in-Some.ensures.steps.0 c.loop-query.invariant.checked);
+  checked = All-tail (IsChecked c.args.schema.now.value) c.in-Some.query _ (subst (All (IsChecked c.args.schema.now.value)) c.in-Some.ensures.steps.0 c.loop-query.invariant.checked);
 }

@@ -8,6 +8,6 @@ invariant-loop-query l = record {
   next : (goal.iterator-loop-query).can_next l.query-iterator;
   finite : (goal.iterator-loop-query).is_finite l.query-iterator;
   queries : map (λ p. p.query) l.parts.items ≡ l.yielded;
-  first : All (IsFirst l.schema) l.parts.items;
-  checked : All (IsChecked l.schema) l.query-iterator.rest.items;
+  first : All (IsFirst l.schema.value) l.parts.items;
+  checked : All (IsChecked l.schema.value) l.query-iterator.rest.items;
 }

@@ -15,26 +15,26 @@ use Rattle.query_part.proofs.part.Part.compact.Goals as goal
 
 pub compact-requires-clause-well_formed : goal.compact-requires-clause-well_formed
 compact-requires-clause-well_formed g c =
-    let i = idle_awake c.self.inside.schema c.self.inside.query c.self.inside.step c.self.inside.ready c.self.inside.matches c.self.inside.clock.last c.self.inside.here c.self.inside.upto c.self.inside.floats c.args.self.now c.self.view_is c.requires.idle in
+    let i = idle_awake c.self.inside.schema.value c.self.inside.query c.self.inside.step c.self.inside.ready c.self.inside.matches c.self.inside.clock.last c.self.inside.here c.self.inside.upto c.self.inside.floats c.args.self.now c.self.view_is c.requires.idle in
     let e = c.requires.events in
-    let s = inner_stands c.self.inside.schema c.self.inside.query c.self.inside.matches c.self.inside.clock.last c.self.inside.here c.args.self.now i e.events e.stands in
+    let s = inner_stands c.self.inside.schema.value c.self.inside.query c.self.inside.matches c.self.inside.clock.last c.self.inside.here c.args.self.now i e.events e.stands in
     s.nodes
 
 pub compact-requires-clause-lists : goal.compact-requires-clause-lists
 compact-requires-clause-lists g c =
-    let i = idle_awake c.self.inside.schema c.self.inside.query c.self.inside.step c.self.inside.ready c.self.inside.matches c.self.inside.clock.last c.self.inside.here c.self.inside.upto c.self.inside.floats c.args.self.now c.self.view_is c.requires.idle in
+    let i = idle_awake c.self.inside.schema.value c.self.inside.query c.self.inside.step c.self.inside.ready c.self.inside.matches c.self.inside.clock.last c.self.inside.here c.self.inside.upto c.self.inside.floats c.args.self.now c.self.view_is c.requires.idle in
     let e = c.requires.events in
-    let s = inner_stands c.self.inside.schema c.self.inside.query c.self.inside.matches c.self.inside.clock.last c.self.inside.here c.args.self.now i e.events e.stands in
-    part_lists c.self.inside.schema c.self.inside.query e.events c.self.inside.matches c.self.inside.clock.last c.self.inside.here s
+    let s = inner_stands c.self.inside.schema.value c.self.inside.query c.self.inside.matches c.self.inside.clock.last c.self.inside.here c.args.self.now i e.events e.stands in
+    part_lists c.self.inside.schema.value c.self.inside.query e.events c.self.inside.matches c.self.inside.clock.last c.self.inside.here s
 
 pub compact-requires-clause-cursors : goal.compact-requires-clause-cursors
 compact-requires-clause-cursors g c =
-    let i = idle_awake c.self.inside.schema c.self.inside.query c.self.inside.step c.self.inside.ready c.self.inside.matches c.self.inside.clock.last c.self.inside.here c.self.inside.upto c.self.inside.floats c.args.self.now c.self.view_is c.requires.idle in
+    let i = idle_awake c.self.inside.schema.value c.self.inside.query c.self.inside.step c.self.inside.ready c.self.inside.matches c.self.inside.clock.last c.self.inside.here c.self.inside.upto c.self.inside.floats c.args.self.now c.self.view_is c.requires.idle in
     subst (λ (x : Part). All (λ (w : CursorState). w.query ≡ c.args.number → Fits w x.nodes) (map g.C.HasCursor.walk c.args.cursors.now)) (sym i.kept_is) c.requires.cursors
 
 pub compact-requires-clause-room : goal.compact-requires-clause-room
 compact-requires-clause-room g c =
-    let i = idle_awake c.self.inside.schema c.self.inside.query c.self.inside.step c.self.inside.ready c.self.inside.matches c.self.inside.clock.last c.self.inside.here c.self.inside.upto c.self.inside.floats c.args.self.now c.self.view_is c.requires.idle in
+    let i = idle_awake c.self.inside.schema.value c.self.inside.query c.self.inside.step c.self.inside.ready c.self.inside.matches c.self.inside.clock.last c.self.inside.here c.self.inside.upto c.self.inside.floats c.args.self.now c.self.view_is c.requires.idle in
     subst (λ (x : Part). length x.nodes ≤ c.args.room.now) (sym i.kept_is) c.requires.room
 
 pub invariant_of-self : goal.invariant_of-self
@@ -56,15 +56,15 @@ invariant_of-self g c =
 
 pub returns-clause-same : goal.returns-clause-same
 returns-clause-same g c =
-    let i = idle_awake c.self.inside.schema c.self.inside.query c.self.inside.step c.self.inside.ready c.self.inside.matches c.self.inside.clock.last c.self.inside.here c.self.inside.upto c.self.inside.floats c.args.self.now c.self.view_is c.requires.idle in
+    let i = idle_awake c.self.inside.schema.value c.self.inside.query c.self.inside.step c.self.inside.ready c.self.inside.matches c.self.inside.clock.last c.self.inside.here c.self.inside.upto c.self.inside.floats c.args.self.now c.self.view_is c.requires.idle in
     (i.schema_is, i.query_is)
 
 pub returns-clause-stands : goal.returns-clause-stands
 returns-clause-stands g c =
-    let i = idle_awake c.self.inside.schema c.self.inside.query c.self.inside.step c.self.inside.ready c.self.inside.matches c.self.inside.clock.last c.self.inside.here c.self.inside.upto c.self.inside.floats c.args.self.now c.self.view_is c.requires.idle in
+    let i = idle_awake c.self.inside.schema.value c.self.inside.query c.self.inside.step c.self.inside.ready c.self.inside.matches c.self.inside.clock.last c.self.inside.here c.self.inside.upto c.self.inside.floats c.args.self.now c.self.view_is c.requires.idle in
     let small : SFits w128 c.low-low.result = search rules in
     let same : to_z w128 (of_z w128 c.low-low.result) ≡ c.low-low.result = to_z-of_z _ _ small in
-    let low = low_is c.self.inside.schema c.self.inside.query c.self.inside.matches c.self.inside.clock.last c.self.inside.here c.args.self.now c.self.inside.clock.source (to_z w128 (of_z w128 c.low-low.result)) i c.self.invariant.0.clock (same ∙ c.low-low.ensures.low) in
+    let low = low_is c.self.inside.schema.value c.self.inside.query c.self.inside.matches c.self.inside.clock.last c.self.inside.here c.args.self.now c.self.inside.clock.source (to_z w128 (of_z w128 c.low-low.result)) i c.self.invariant.0.clock (same ∙ c.low-low.ensures.low) in
     let f = g.C.HasCursor.walk in let n = length-map c.args.cursors.now f in let m = length-map c.compact.new.cursors f in
     let left : Left c.args.number (to_z w128 (of_z w128 c.low-low.result)) c.self.inside.matches c.compact.new.self (map f c.args.cursors.now) (map f c.compact.new.cursors) = record {
       same = c.compact.ensures.same;
@@ -72,14 +72,14 @@ returns-clause-stands g c =
       lists = c.compact.ensures.lists;
       cursors = record { count = m ∙ (c.compact.ensures.count ∙ sym n); each = λ k d lt. c.compact.ensures.cursors k d (omega arith) };
     } in
-    λ events stands. part_stands c.self.inside.schema c.self.inside.query c.self.inside.matches c.compact.new.self c.self.inside.clock.last c.self.inside.here c.args.self.now c.args.number (to_z w128 (of_z w128 c.low-low.result)) (map f c.args.cursors.now) (map f c.compact.new.cursors) i low left events (inner_stands c.self.inside.schema c.self.inside.query c.self.inside.matches c.self.inside.clock.last c.self.inside.here c.args.self.now i events stands)
+    λ events stands. part_stands c.self.inside.schema.value c.self.inside.query c.self.inside.matches c.compact.new.self c.self.inside.clock.last c.self.inside.here c.args.self.now c.args.number (to_z w128 (of_z w128 c.low-low.result)) (map f c.args.cursors.now) (map f c.compact.new.cursors) i low left events (inner_stands c.self.inside.schema.value c.self.inside.query c.self.inside.matches c.self.inside.clock.last c.self.inside.here c.args.self.now i events stands)
 
 pub returns-clause-compacted : goal.returns-clause-compacted
 returns-clause-compacted g c =
-    let i = idle_awake c.self.inside.schema c.self.inside.query c.self.inside.step c.self.inside.ready c.self.inside.matches c.self.inside.clock.last c.self.inside.here c.self.inside.upto c.self.inside.floats c.args.self.now c.self.view_is c.requires.idle in
+    let i = idle_awake c.self.inside.schema.value c.self.inside.query c.self.inside.step c.self.inside.ready c.self.inside.matches c.self.inside.clock.last c.self.inside.here c.self.inside.upto c.self.inside.floats c.args.self.now c.self.view_is c.requires.idle in
     let small : SFits w128 c.low-low.result = search rules in
     let same : to_z w128 (of_z w128 c.low-low.result) ≡ c.low-low.result = to_z-of_z _ _ small in
-    let low = low_is c.self.inside.schema c.self.inside.query c.self.inside.matches c.self.inside.clock.last c.self.inside.here c.args.self.now c.self.inside.clock.source (to_z w128 (of_z w128 c.low-low.result)) i c.self.invariant.0.clock (same ∙ c.low-low.ensures.low) in
+    let low = low_is c.self.inside.schema.value c.self.inside.query c.self.inside.matches c.self.inside.clock.last c.self.inside.here c.args.self.now c.self.inside.clock.source (to_z w128 (of_z w128 c.low-low.result)) i c.self.invariant.0.clock (same ∙ c.low-low.ensures.low) in
     let f = g.C.HasCursor.walk in let n = length-map c.args.cursors.now f in let m = length-map c.compact.new.cursors f in
     let left : Left c.args.number (to_z w128 (of_z w128 c.low-low.result)) c.self.inside.matches c.compact.new.self (map f c.args.cursors.now) (map f c.compact.new.cursors) = record {
       same = c.compact.ensures.same;
@@ -87,14 +87,14 @@ returns-clause-compacted g c =
       lists = c.compact.ensures.lists;
       cursors = record { count = m ∙ (c.compact.ensures.count ∙ sym n); each = λ k d lt. c.compact.ensures.cursors k d (omega arith) };
     } in
-    part_compacted c.self.inside.schema c.self.inside.query c.self.inside.matches c.compact.new.self c.self.inside.clock.last c.self.inside.here c.args.self.now c.args.number (to_z w128 (of_z w128 c.low-low.result)) (map f c.args.cursors.now) (map f c.compact.new.cursors) i low left
+    part_compacted c.self.inside.schema.value c.self.inside.query c.self.inside.matches c.compact.new.self c.self.inside.clock.last c.self.inside.here c.args.self.now c.args.number (to_z w128 (of_z w128 c.low-low.result)) (map f c.args.cursors.now) (map f c.compact.new.cursors) i low left
 
 pub returns-clause-fewer : goal.returns-clause-fewer
 returns-clause-fewer g c =
-    let i = idle_awake c.self.inside.schema c.self.inside.query c.self.inside.step c.self.inside.ready c.self.inside.matches c.self.inside.clock.last c.self.inside.here c.self.inside.upto c.self.inside.floats c.args.self.now c.self.view_is c.requires.idle in
+    let i = idle_awake c.self.inside.schema.value c.self.inside.query c.self.inside.step c.self.inside.ready c.self.inside.matches c.self.inside.clock.last c.self.inside.here c.self.inside.upto c.self.inside.floats c.args.self.now c.self.view_is c.requires.idle in
     let small : SFits w128 c.low-low.result = search rules in
     let same : to_z w128 (of_z w128 c.low-low.result) ≡ c.low-low.result = to_z-of_z _ _ small in
-    let low = low_is c.self.inside.schema c.self.inside.query c.self.inside.matches c.self.inside.clock.last c.self.inside.here c.args.self.now c.self.inside.clock.source (to_z w128 (of_z w128 c.low-low.result)) i c.self.invariant.0.clock (same ∙ c.low-low.ensures.low) in
+    let low = low_is c.self.inside.schema.value c.self.inside.query c.self.inside.matches c.self.inside.clock.last c.self.inside.here c.args.self.now c.self.inside.clock.source (to_z w128 (of_z w128 c.low-low.result)) i c.self.invariant.0.clock (same ∙ c.low-low.ensures.low) in
     let f = g.C.HasCursor.walk in let n = length-map c.args.cursors.now f in let m = length-map c.compact.new.cursors f in
     let left : Left c.args.number (to_z w128 (of_z w128 c.low-low.result)) c.self.inside.matches c.compact.new.self (map f c.args.cursors.now) (map f c.compact.new.cursors) = record {
       same = c.compact.ensures.same;
@@ -102,10 +102,10 @@ returns-clause-fewer g c =
       lists = c.compact.ensures.lists;
       cursors = record { count = m ∙ (c.compact.ensures.count ∙ sym n); each = λ k d lt. c.compact.ensures.cursors k d (omega arith) };
     } in
-    part_fewer c.self.inside.schema c.self.inside.query c.self.inside.matches c.compact.new.self c.self.inside.clock.last c.self.inside.here c.args.self.now c.args.number (to_z w128 (of_z w128 c.low-low.result)) (map f c.args.cursors.now) (map f c.compact.new.cursors) i low left
+    part_fewer c.self.inside.schema.value c.self.inside.query c.self.inside.matches c.compact.new.self c.self.inside.clock.last c.self.inside.here c.args.self.now c.args.number (to_z w128 (of_z w128 c.low-low.result)) (map f c.args.cursors.now) (map f c.compact.new.cursors) i low left
 
 pub returns-clause-steps : goal.returns-clause-steps
 returns-clause-steps g c =
-    let i = idle_awake c.self.inside.schema c.self.inside.query c.self.inside.step c.self.inside.ready c.self.inside.matches c.self.inside.clock.last c.self.inside.here c.self.inside.upto c.self.inside.floats c.args.self.now c.self.view_is c.requires.idle in
+    let i = idle_awake c.self.inside.schema.value c.self.inside.query c.self.inside.step c.self.inside.ready c.self.inside.matches c.self.inside.clock.last c.self.inside.here c.self.inside.upto c.self.inside.floats c.args.self.now c.self.view_is c.requires.idle in
     let paid = c.compact.ensures.steps in
     subst (λ (x : Part). c.compact.new.steps ≤ c.args.steps.now + 8 * length x.nodes + 4 * places x.rows) i.kept_is paid

@@ -1,8 +1,10 @@
 use super::*;
+use std::process::Abort;
 use std::test::Fail;
 
-/// Each row has the words, a blank between two of them, and what they ask for.
-const ROWS: [(&str, &str); 84] = [
+/// Each row has the words, a blank between two of them, and what they ask for: options, numbers and
+/// names of a run and a sample.
+const RUNS: [(&str, &str); 59] = [
     // the two commands, and what holds where no option is given
     ("run q e", "run q e Sorted 1099511627776"),
     ("sample 7 3", "sample 7 3"),
@@ -91,6 +93,10 @@ const ROWS: [(&str, &str); 84] = [
     ("run q e --order random", "usage"),
     ("run q e --ord walk", "usage"),
     ("run q e -o walk", "usage"),
+];
+
+/// The same of other words: too few or too many, questions, and what the program does not have.
+const OTHERS: [(&str, &str); 25] = [
     // too few names, too many, and names of no command
     ("run", "usage"),
     ("run q", "usage"),
@@ -173,12 +179,25 @@ fn shown(alloc: Global, asked: Result<Command, OrMemory<Usage>>) -> Result<Strin
     })
 }
 
+fn row_holds(rt: &impl Abort, alloc: Global, line: &str, wanted: &str) -> Result<(), Fail> {
+    let words = words_of(alloc, line)?;
+    let told = shown(alloc, read_command(alloc, words.as_slice()))?;
+    assert_eq!(rt; told.as_str(), wanted, "at {line}");
+    Ok(())
+}
+
 #[test]
-fn words_ask_for_what_the_rows_say(rt: HostRuntime) -> Result<(), Fail> {
-    for (line, wanted) in ROWS {
-        let words = words_of(rt.alloc(), line)?;
-        let told = shown(rt.alloc(), read_command(rt.alloc(), words.as_slice()))?;
-        assert_eq!(rt; told.as_str(), wanted, "at {line}");
+fn words_of_a_run_or_a_sample(rt: HostRuntime) -> Result<(), Fail> {
+    for (line, wanted) in RUNS {
+        row_holds(&rt, rt.alloc(), line, wanted)?;
+    }
+    Ok(())
+}
+
+#[test]
+fn other_words(rt: HostRuntime) -> Result<(), Fail> {
+    for (line, wanted) in OTHERS {
+        row_holds(&rt, rt.alloc(), line, wanted)?;
     }
     Ok(())
 }

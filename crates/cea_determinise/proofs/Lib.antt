@@ -3,3 +3,4 @@ pub mod Below
 pub mod Reached
 pub mod Growth
 pub mod Classes
+pub mod Listed

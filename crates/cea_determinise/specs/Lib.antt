@@ -4,3 +4,4 @@ pub mod Cea
 pub mod Det
 pub mod Keys
 pub mod Places
+pub mod Rows

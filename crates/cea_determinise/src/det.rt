@@ -9,10 +9,12 @@ ghost use Rattle.cea_determinise.specs.Runs.{accepts};
 ghost use Rattle.cea_determinise.specs.Cea.{automaton_of_cea, standing, standing_of, IsWellFormed, HasLeavesBelow};
 ghost use Rattle.cea_determinise.specs.declared.cea.StateSets.{StateSets};
 ghost use Rattle.cea_determinise.specs.declared.table.Successors.{Successors};
+ghost use Rattle.cea_determinise.specs.Rows.{IsListed};
 ghost use Rattle.cea_determinise.specs.Det.{sets_at, standing_at, class_at, AreSuccessors, IsSound, Reached, StaysWithin, AreBoth, IsNumber, Adds, AddsClass};
 
 use crate::cea::{Cea, Side, StateSets};
 use crate::places::Places;
+use crate::rows::{KnownRow, KnownRows};
 use crate::successor::successor;
 use crate::table::{Both, EventClass, Mark, State, Successors, TransitionKey};
 use cer_base::Memory;
@@ -41,16 +43,21 @@ pub struct Det {
     transitions: IndexMap<TransitionKey, Successors>,
     /// Where a pair may stand among the transitions, which is then tried before its hash is made.
     places: Places,
+    /// Rows of states whose transitions are known.
+    rows: KnownRows,
 }
 
 impl Model for Det {
+    ghost use Rattle.std.specs.Prelude.{All};
     ghost use Rattle.cea_determinise.specs.Det.{Table, IsSound};
+    ghost use Rattle.cea_determinise.specs.Rows.{IsListed};
 
     ghost Value = { Table };
 
     ghost view = { λ d. record { cea = d.cea; states = d.states.keys; classes = d.classes.keys; transitions = d.transitions.entries } };
 
-    ghost invariant = { λ d. IsSound (record { cea = d.cea; states = d.states.keys; classes = d.classes.keys; transitions = d.transitions.entries }) };
+    ghost invariant = { λ d. IsSound (record { cea = d.cea; states = d.states.keys; classes = d.classes.keys; transitions = d.transitions.entries })
+        × All (IsListed d.transitions.entries) d.rows };
 }
 
 impl Det {
@@ -66,6 +73,7 @@ impl Det {
             classes: IndexSet::new(alloc),
             transitions: IndexMap::new(alloc),
             places: Places::new(alloc),
+            rows: KnownRows::new(alloc),
         }
     }
 
@@ -150,6 +158,7 @@ impl Det {
         self.states.truncate(mark.states as usize);
         self.transitions.truncate(mark.pairs as usize);
         self.classes.truncate(mark.classes as usize);
+        self.rows.clear();
     }
 
     /// The class of these leaves, where it is known.
@@ -212,6 +221,23 @@ impl Det {
             Some(found) => Some(found),
             None => self.transitions.get(&key).copied(),
         }
+    }
+
+    /// The row that was kept under the number, or another one.
+    pub fn known_row(&self, number: u64) -> Option<&KnownRow>
+        ensures listed { IfSome result (λ r. IsListed self.now.transitions r.now) }
+        ensures sound { IsSound self.now }
+    {
+        self.rows.get(number)
+    }
+
+    /// Keeps the row under the number, which is below `ROW_NUMBERS`. Where there is no memory it is
+    /// not kept.
+    pub fn keep_row(&mut self, number: u64, row: KnownRow)
+        requires { IsListed self.old.transitions row }
+        ensures { self.new ≡ self.old }
+    {
+        self.rows.put(number, row);
     }
 
     /// Both successors of the state on an event of the class.

@@ -3,7 +3,8 @@
 //! Promised: the successors of a state on an event are exactly those of the definition (`specs/Runs`,
 //! and `specs/Strict` for the phase); a state keeps its number, and no state has two. Events that
 //! the same leaves can read are of one class, which is looked up once an event; a pair of state and
-//! class that is known is then one look-up of two numbers, without memory.
+//! class that is known is then one look-up of two numbers, without memory. What a whole row of states
+//! does on a class may be kept, and is then found at once.
 //!
 //! It stands on `cer_base` for sets of leaves and counts of steps, and on `indexmap` for its tables.
 #![tactic(auto)]
@@ -12,6 +13,7 @@ pub mod cea;
 pub mod det;
 mod keys;
 mod places;
+pub mod rows;
 mod sets;
 mod successor;
 pub mod table;

@@ -39,6 +39,16 @@ impl Targets {
         }
     }
 
+    /// These states, of which none stands twice. It takes memory where there are more than four.
+    pub fn of(alloc: Global, states: &[State]) -> Result<Targets, Memory>
+        requires { IsDistinct nat_eq states.now }
+        ensures { IfOk result (λ targets. targets ≡ states.now) }
+    {
+        Ok(Targets {
+            states: SmallVec::from_slice(alloc, states)?,
+        })
+    }
+
     /// The states, in order. None stands twice.
     pub fn as_slice(&self) -> &[State]
         ensures states { result.now ≡ self.now }

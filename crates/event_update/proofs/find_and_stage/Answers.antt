@@ -11,27 +11,27 @@ use Rattle.event_update.proofs.find_and_stage.Goals as goal
 pub returns-in_err-class-clause-det : goal.returns-in_err-class-clause-det
 returns-in_err-class-clause-det g c = discovers_class _ _ _ c.class.ensures.added _ _
 
-pub prepare_with-requires-clause-class : goal.prepare_with-requires-clause-class
-prepare_with-requires-clause-class g c = class_within c.class.new.self.classes c.in_ok-class.class c.args.bits.now c.in_ok-class.ensures.class
+pub prepare_at-requires-clause-class : goal.prepare_at-requires-clause-class
+prepare_at-requires-clause-class g c = class_within c.class.new.self.classes c.in_ok-class.class c.args.bits.now c.in_ok-class.ensures.class
 
-pub prepare_with-requires-clause-can : goal.prepare_with-requires-clause-can
-prepare_with-requires-clause-can g c = can_added _ _ _ c.class.ensures.added _ _ _ c.requires.can
+pub prepare_at-requires-clause-can : goal.prepare_at-requires-clause-can
+prepare_at-requires-clause-can g c = can_added _ _ _ c.class.ensures.added _ _ _ c.requires.can
 
 pub returns-clause-advanced : goal.returns-clause-advanced
 returns-clause-advanced g c =
-    if_ok c.prepare_with.result _ _ (λ s is. record { class = c.in_ok-class.class; of_class = class_found_later _ _ _ _ c.prepare_with.ensures.det c.in_ok-class.class c.args.bits.now c.in_ok-class.ensures.class; advanced = is }) c.prepare_with.ensures.advanced
+    if_ok c.prepare_at.result _ _ (λ s is. record { class = c.in_ok-class.class; of_class = class_found_later _ _ _ _ c.prepare_at.ensures.det c.in_ok-class.class c.args.bits.now c.in_ok-class.ensures.class; advanced = is }) c.prepare_at.ensures.advanced
 
 pub returns-clause-stands : goal.returns-clause-stands
 returns-clause-stands g c =
     let is = class_is c.class.new.self.classes c.in_ok-class.class c.args.bits.now c.in_ok-class.ensures.class in
-    if_ok c.prepare_with.result _ _ (λ s stands low xs later st. subst (λ (bs : List Bool). Stands c.prepare_with.new.det low (xs ++ seen c.args.stamp bs ∷ []) (g.S.NodeStore.nodes c.prepare_with.new.store) (rows_after c.args.active.now.entries s)) is (stands low xs later (stands_added _ _ _ c.class.ensures.added _ _ _ _ st))) c.prepare_with.ensures.stands
+    if_ok c.prepare_at.result _ _ (λ s stands low xs later st. subst (λ (bs : List Bool). Stands c.prepare_at.new.det low (xs ++ seen c.args.stamp bs ∷ []) (g.S.NodeStore.nodes c.prepare_at.new.store) (rows_after c.args.active.now.entries s)) is (stands low xs later (stands_added _ _ _ c.class.ensures.added _ _ _ _ st))) c.prepare_at.ensures.stands
 
 pub returns-clause-det : goal.returns-clause-det
 returns-clause-det g c =
     let is = class_is c.class.new.self.classes c.in_ok-class.class c.args.bits.now c.in_ok-class.ensures.class in
-    discovers_added _ _ _ c.class.ensures.added _ _ _ (subst (λ (bs : List Bool). Discovers c.class.new.self (0 ∷ keys c.args.active.now) bs c.prepare_with.new.det) is c.prepare_with.ensures.det)
+    discovers_added _ _ _ c.class.ensures.added _ _ _ (subst (λ (bs : List Bool). Discovers c.class.new.self (0 ∷ keys c.args.active.now) bs c.prepare_at.new.det) is c.prepare_at.ensures.det)
 
 pub returns-clause-counted : goal.returns-clause-counted
 returns-clause-counted g c =
     let one = c.class.ensures.steps in
-    if_ok c.prepare_with.result _ _ (λ s counted. omega (arith, one, counted)) c.prepare_with.ensures.counted
+    if_ok c.prepare_at.result _ _ (λ s counted. omega (arith, one, counted)) c.prepare_at.ensures.counted

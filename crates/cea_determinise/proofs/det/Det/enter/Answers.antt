@@ -4,6 +4,7 @@ use Rattle.indexmap.proofs.CallerLemmas.{insert_entry-new}
 use Rattle.cea_determinise.specs.Keys.{is_same_key}
 use Rattle.cea_determinise.specs.Det.{Table, class_at, AreBoth, Reached}
 use Rattle.cea_determinise.proofs.Growth.{sound_one, sound_two, sound_pair, reached_two, successors_two}
+use Rattle.cea_determinise.proofs.Listed.{rows_stay}
 use Rattle.cea_determinise.proofs.det.Det.enter.Goals as goal
 
 pub invariant_of-self : goal.invariant_of-self
@@ -12,7 +13,7 @@ invariant_of-self g c =
     let s = c.args.key.state in
     let b = class_at c.args.self.now.classes c.args.key.class in
     let are = subst (λ (o : Table). AreBoth o s b c.args.both) (sym c.self.view_is) c.requires.both in
-    sound_one t s b true c.args.both.marked c.number.new.states.keys are.marked c.number.ensures.added c.self.invariant
+    (sound_one t s b true c.args.both.marked c.number.new.states.keys are.marked c.number.ensures.added c.self.invariant.0, c.self.invariant.1)
 
 pub invariant_of-self-in_err-unmarked : goal.invariant_of-self-in_err-unmarked
 invariant_of-self-in_err-unmarked g c =
@@ -20,7 +21,7 @@ invariant_of-self-in_err-unmarked g c =
     let s = c.args.key.state in
     let b = class_at c.args.self.now.classes c.args.key.class in
     let are = subst (λ (o : Table). AreBoth o s b c.args.both) (sym c.self.view_is) c.requires.both in
-    sound_two t s b c.args.both c.number.new.states.keys c.number-2.new.states.keys are c.number.ensures.added c.number-2.ensures.added c.self.invariant
+    (sound_two t s b c.args.both c.number.new.states.keys c.number-2.new.states.keys are c.number.ensures.added c.number-2.ensures.added c.self.invariant.0, c.self.invariant.1)
 
 pub returns-in_err-unmarked-clause-states : goal.returns-in_err-unmarked-clause-states
 returns-in_err-unmarked-clause-states g c =
@@ -37,7 +38,7 @@ invariant_of-self-in_err-insert g c =
     let s = c.args.key.state in
     let b = class_at c.args.self.now.classes c.args.key.class in
     let are = subst (λ (o : Table). AreBoth o s b c.args.both) (sym c.self.view_is) c.requires.both in
-    rw c.in_err-insert.ensures.err (sound_two t s b c.args.both c.number.new.states.keys c.number-2.new.states.keys are c.number.ensures.added c.number-2.ensures.added c.self.invariant)
+    (rw c.in_err-insert.ensures.err (sound_two t s b c.args.both c.number.new.states.keys c.number-2.new.states.keys are c.number.ensures.added c.number-2.ensures.added c.self.invariant.0), rw c.in_err-insert.ensures.err c.self.invariant.1)
 
 pub returns-in_err-insert-clause-states : goal.returns-in_err-insert-clause-states
 returns-in_err-insert-clause-states g c =
@@ -59,9 +60,11 @@ invariant_of-self-2 g c =
     let is_class : b ≡ class_at t.classes c.args.key.class = ap (λ (o : Table). class_at o.classes c.args.key.class) (sym c.self.view_is) in
     let known = subst (λ (o : Table). c.args.key.class < length o.classes) (sym c.self.view_is) c.requires.class in
     let right = successors_two t s b c.args.key.class is_class known c.args.both c.number.new.states.keys c.number-2.new.states.keys c.in_ok-marked.marked c.in_ok-unmarked.unmarked are c.number.ensures.added c.number-2.ensures.added c.in_ok-marked.ensures.numbered c.in_ok-unmarked.ensures.numbered state in
-    let entered = c.in_ok-insert.ensures.entries ∙ insert_entry-new is_same_key c.self.inside.transitions c.args.key _ new in
-    sound_pair t.cea c.number-2.new.states.keys t.classes t.transitions c.args.key _ c.insert.new.self.entries entered right
-    (sound_two t s b c.args.both c.number.new.states.keys c.number-2.new.states.keys are c.number.ensures.added c.number-2.ensures.added c.self.invariant)
+    let entered = c.in_ok-insert.ensures.entries ∙ insert_entry-new is_same_key c.self.inside.transitions c.args.key _ new in (
+      sound_pair t.cea c.number-2.new.states.keys t.classes t.transitions c.args.key _ c.insert.new.self.entries entered right
+          (sound_two t s b c.args.both c.number.new.states.keys c.number-2.new.states.keys are c.number.ensures.added c.number-2.ensures.added c.self.invariant.0),
+      rows_stay _ _ _ _ entered c.self.invariant.1,
+    )
 
 pub returns-clause-successors : goal.returns-clause-successors
 returns-clause-successors g c =

@@ -10,7 +10,7 @@ returns-in-None-clause-value c = c.copied.ensures ∙ c.get.ensures.value ∙ ap
 
 pub returns-in-None-clause-right : goal.returns-in-None-clause-right
 returns-in-None-clause-right c =
-    let sound = subst IsSound c.self.view_is c.self.invariant in
+    let sound = subst IsSound c.self.view_is c.self.invariant.0 in
     let value = c.copied.ensures ∙ c.get.ensures.value ∙ ap (λ (t : Table). lookup (is_same_key c.args.key) t.transitions) c.self.view_is in
     let t = c.args.self.now in
     if_found_right t.cea t.states t.classes c.args.key t.transitions c.copied.result value sound.transitions

@@ -13,4 +13,4 @@ returns-then-eq-clause-right c =
     let same : c.in-Some.stored.now ≡ c.args.key = (Decides-key c.in-Some.stored.now c.args.key).0 (sym c.eq.ensures ∙ c.if-eq.true) in
     let value = subst (λ (k : TransitionKey). lookup (is_same_key k) c.self.inside.transitions.entries ≡ Some found) same c.in-Some.ensures.value in
     let now = subst (λ (o : Table). lookup (is_same_key c.args.key) o.transitions ≡ Some found) c.self.view_is value in
-    found_right t.cea t.states t.classes c.args.key t.transitions found now (subst IsSound c.self.view_is c.self.invariant).transitions
+    found_right t.cea t.states t.classes c.args.key t.transitions found now (subst IsSound c.self.view_is c.self.invariant.0).transitions

@@ -1,0 +1,126 @@
+//! What whole rows of states did on events of a class, kept so that it is found at once.
+ghost use Rattle.std.specs.Prelude.{◌≡◌, List, [], All, IfSome};
+ghost use Rattle.cea_determinise.specs.declared.table.TransitionKey.{TransitionKey as Key};
+ghost use Rattle.cea_determinise.specs.declared.table.Successors.{Successors as Found};
+ghost use Rattle.cea_determinise.specs.Rows.{IsListed};
+
+use crate::table::{EventClass, State, Successors};
+use cer_base::Memory;
+use std::alloc::Global;
+use std::marker::Model;
+
+/// So many rows are kept.
+const KEPT_ROWS: usize = 64;
+
+/// So many numbers may have a row, from 0.
+pub const ROW_NUMBERS: u64 = 256;
+
+/// What an event does to a row of states.
+#[derive(Drop, Debug, Clone, Copy)]
+pub enum Effect {
+    /// The start has no successor, and each state has itself alone, not marked.
+    Stays,
+    /// The start has no successor, and each state has one of its own, not marked.
+    Moves,
+    /// Anything.
+    Changes,
+}
+
+/// Some states other than the start, in order, with what events of a class do to them.
+#[derive(Drop)]
+pub struct KnownRow {
+    pub class: EventClass,
+    pub states: Vec<State>,
+    /// The successors of the start, then of each state.
+    pub successors: Vec<Successors>,
+    pub effect: Effect,
+    /// Where the states move to, if they move.
+    pub targets: Vec<State>,
+}
+
+/// Rows by numbers that their owner gives them: seen as the list of the rows.
+#[derive(Drop)]
+pub struct KnownRows {
+    rows: Vec<KnownRow>,
+    /// For each number where its row may stand.
+    places: Vec<usize>,
+}
+
+impl Model for KnownRows {
+    ghost use Rattle.std.specs.Prelude.{List};
+    ghost use Rattle.cea_determinise.specs.declared.rows.KnownRow.{KnownRow};
+
+    ghost Value = { List KnownRow };
+
+    ghost view = { λ k. k.rows.items };
+}
+
+/// Where the row of the number may stand.
+fn place(places: &[usize], number: u64) -> usize {
+    if number < places.len() as u64 {
+        places[number as usize]
+    } else {
+        usize::MAX
+    }
+}
+
+/// Notes where the row of the number stands.
+fn tell(places: &mut Vec<usize>, number: u64, place: usize) -> Result<(), Memory> {
+    if ROW_NUMBERS <= number {
+        return Ok(());
+    }
+    if places.len() as u64 <= number {
+        places.resize(number as usize + 1, usize::MAX)?;
+    }
+    places[number as usize] = place;
+    Ok(())
+}
+
+impl KnownRows {
+    /// No row. It takes no memory.
+    pub fn new(alloc: Global) -> KnownRows
+        ensures { result ≡ [] }
+    {
+        KnownRows {
+            rows: Vec::new(alloc),
+            places: Vec::new(alloc),
+        }
+    }
+
+    /// Forgets all rows.
+    pub fn clear(&mut self)
+        ensures { self.new ≡ [] }
+    {
+        self.rows.clear();
+    }
+
+    /// The row that was kept last under the number, or another one.
+    pub fn get(&self, number: u64) -> Option<&KnownRow>
+        ensures { (ts : List (Key × Found)) → All (IsListed ts) self.now → IfSome result
+            (λ r. IsListed ts r.now) }
+    {
+        let place = place(self.places.as_slice(), number);
+        if place < self.rows.len() {
+            Some(&self.rows[place])
+        } else {
+            None
+        }
+    }
+
+    /// Keeps the row under the number, in the place of the one that was kept there. It is not kept
+    /// where there is no room or no memory, or where the number is too high.
+    pub fn put(&mut self, number: u64, row: KnownRow)
+        ensures { (ts : List (Key × Found)) → All (IsListed ts) self.old → IsListed ts row
+            → All (IsListed ts) self.new }
+    {
+        let known = place(self.places.as_slice(), number);
+        let len = self.rows.len();
+        if known < len {
+            self.rows[known] = row;
+        } else if len < KEPT_ROWS {
+            // Where this has no memory, the row is looked up state by state.
+            let _told = tell(&mut self.places, number, len);
+            let _kept = self.rows.push(row);
+        }
+    }
+}

@@ -1,0 +1,50 @@
+use Rattle.std.proofs.Common.{arith, refl, ◌+◌, ◌∷◌, length}
+use Rattle.event_update.specs.ActiveLists.{keys}
+use Rattle.cea_determinise.specs.Det.{class_at}
+use Rattle.event_update.specs.Update.{next_in}
+use Rattle.event_update.proofs.GivenBack.{discovers_none}
+use Rattle.event_update.proofs.Kept.{known_told, stands_after}
+use Rattle.event_update.proofs.Placing.{if_ok}
+use Rattle.event_update.proofs.Stays.{few_states, staged_whole, much, nodes_made}
+use Rattle.event_update.proofs.prepare_at.Goals as goal
+
+pub returns-in-Some-clause-advanced : goal.returns-in-Some-clause-advanced
+returns-in-Some-clause-advanced g c =
+    let t = c.args.det.now in
+    let told = known_told t c.args.class (0 ∷ keys c.args.active.now) c.in-Some.row.now.successors.items c.in-Some.ensures.known in
+    if_ok c.work_out.result _ _ (λ s is. staged_whole _ (next_in t c.args.class) _ _ _ _ _ _ told is) c.work_out.ensures.staged
+
+pub returns-in-Some-clause-stands : goal.returns-in-Some-clause-stands
+returns-in-Some-clause-stands g c =
+    let t = c.args.det.now in
+    let bits = class_at t.classes c.args.class in
+    let ns = 0 ∷ keys c.args.active.now in
+    let told = known_told t c.args.class ns c.in-Some.row.now.successors.items c.in-Some.ensures.known in
+    let few = few_states t c.args.active.now.entries c.len-len.ensures.unique c.requires.can.states in
+    if_ok c.work_out.result _ _ (λ s is low xs later st. stands_after t t bits c.args.class refl c.args.stamp _ _ c.args.active.now.entries _ _ (discovers_none t ns bits) c.in-Some.ensures.known c.requires.can few (staged_whole _ (next_in t c.args.class) _ _ _ _ _ _ told is) low xs later st) c.work_out.ensures.staged
+
+pub returns-in-Some-clause-det : goal.returns-in-Some-clause-det
+returns-in-Some-clause-det g c = discovers_none c.args.det.now (0 ∷ keys c.args.active.now) (class_at c.args.det.now.classes c.args.class)
+
+pub returns-in-Some-clause-pushes : goal.returns-in-Some-clause-pushes
+returns-in-Some-clause-pushes g c =
+    let found = length c.args.det.now.states in
+    let few = few_states c.args.det.now c.args.active.now.entries c.len-len.ensures.unique c.requires.can.states in
+    let p = c.work_out.ensures.pushes (found + 1) (found + 1) c.requires.can.narrow (omega arith) (omega arith) in
+    let b = nodes_made (length c.args.active.now.entries) found (omega arith) in
+    omega arith
+
+pub returns-in-Some-clause-steps : goal.returns-in-Some-clause-steps
+returns-in-Some-clause-steps g c =
+    let found = length c.args.det.now.states in
+    let few = few_states c.args.det.now c.args.active.now.entries c.len-len.ensures.unique c.requires.can.states in
+    let one = c.tick_times.ensures in
+    let long = c.len-len.ensures.len in
+    let p = c.work_out.ensures.steps (found + 1) (found + 1) c.requires.can.narrow (omega arith) (omega arith) in
+    let b = much (length c.args.active.now.entries) found (omega arith) in
+    omega arith
+
+pub returns-in-Some-clause-counted : goal.returns-in-Some-clause-counted
+returns-in-Some-clause-counted g c =
+    let one = c.tick_times.ensures in
+    if_ok c.work_out.result _ _ (λ s counted. omega (arith, one, counted)) c.work_out.ensures.counted

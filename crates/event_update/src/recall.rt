@@ -1,0 +1,114 @@
+//! Rows of states that were met before on events of the same class: what the event does to them is
+//! found at once.
+ghost use Rattle.std.specs.Prelude.{◌≡◌, ℕ, ◌+◌, true, ◌∷◌, length, IfOk, IfSome, nat_eq};
+ghost use Rattle.std.specs.List.{IsDistinct};
+ghost use Rattle.cea_determinise.specs.Rows.{GoTo};
+ghost use Rattle.cea_determinise.specs.declared.rows.Effect.TheVariants.{Stays, Moves};
+ghost use Rattle.event_update.specs.ActiveLists.{keys};
+ghost use Rattle.event_update.specs.Update.{AreKnown, IsTold, IsRowOf};
+
+use crate::Active;
+use crate::moves::stay;
+use crate::relabel::find_targets;
+use cea_determinise::det::Det;
+use cea_determinise::rows::{Effect, KnownRow, ROW_NUMBERS};
+use cea_determinise::table::{EventClass, State, Successors};
+use cer_base::Memory;
+
+/// A number below `ROW_NUMBERS` for the states and the class, the same for the same ones.
+pub fn row_number(active: &Active, class: EventClass) -> u64 {
+    let mut number = class % ROW_NUMBERS * 83 % ROW_NUMBERS;
+    for k in 0..active.len() {
+        number = (number * 5 + active.state(k) % ROW_NUMBERS) % ROW_NUMBERS;
+    }
+    number
+}
+
+/// Whether the states with open matches are these, in order.
+fn are_states(active: &Active, states: &[State]) -> bool
+    ensures { result ≡ true → keys active.now ≡ states.now }
+{
+    let len = active.len();
+    if states.len() != len {
+        return false;
+    }
+    for k in 0..len {
+        if active.state(k) != states[k] {
+            return false;
+        }
+    }
+    true
+}
+
+/// What is kept of these states on events of the class, where the row under the number is theirs.
+pub fn recall<'a>(
+    active: &Active,
+    det: &'a Det,
+    class: EventClass,
+    number: u64,
+) -> Option<&'a KnownRow>
+    ensures row { IfSome result (λ r. IsRowOf (keys active.now) r.now) }
+    ensures known { IfSome result (λ r. AreKnown det.now class (0 ∷ keys active.now)
+        r.now.successors.items) }
+{
+    match det.known_row(number) {
+        None => None,
+        Some(row) => {
+            if row.class == class && are_states(active, row.states.as_slice()) {
+                Some(row)
+            } else {
+                None
+            }
+        }
+    }
+}
+
+/// The states in order.
+fn states_of(active: &Active) -> Result<Vec<State>, Memory>
+    ensures { IfOk result (λ states. states.items ≡ keys active.now) }
+{
+    let len = active.len();
+    let mut states = Vec::with_capacity(*active.allocator(), len)?;
+    for k in 0..len {
+        states.push(active.state(k))?;
+    }
+    Ok(states)
+}
+
+/// What the event does to the states, whose successors these are, the start's first; and where they
+/// move to, if they move.
+fn effect_of(active: &Active, moves: &[Successors]) -> Result<(Effect, Vec<State>), Memory>
+    requires { length moves.now ≡ 1 + length active.now.entries }
+    ensures stays { IfOk result (λ e. e.0 ≡ Stays → GoTo (keys active.now) moves.now) }
+    ensures moves { IfOk result (λ e. e.0 ≡ Moves → GoTo e.1.items moves.now
+        × IsDistinct nat_eq e.1.items) }
+{
+    let alloc = *active.allocator();
+    if stay(active, moves) {
+        return Ok((Effect::Stays, Vec::new(alloc)));
+    }
+    match find_targets(alloc, moves)? {
+        None => Ok((Effect::Changes, Vec::new(alloc))),
+        Some(targets) => Ok((Effect::Moves, Vec::from_slice(alloc, targets.as_slice())?)),
+    }
+}
+
+/// The row of the states, whose successors on events of the class are these, the start's first.
+pub fn row_of(active: &Active, class: EventClass, moves: &[Successors]) -> Result<KnownRow, Memory>
+    requires count { length moves.now ≡ 1 + length active.now.entries }
+    requires told { IsTold (0 ∷ keys active.now) moves.now }
+    ensures row { IfOk result (IsRowOf (keys active.now)) }
+    ensures class { IfOk result (λ r. r.class ≡ class) }
+    ensures successors { IfOk result (λ r. r.successors.items ≡ moves.now) }
+{
+    let states = states_of(active)?;
+    let successors = Vec::from_slice(*active.allocator(), moves)?;
+    let (effect, targets) = effect_of(active, moves)?;
+    Ok(KnownRow {
+        class,
+        states,
+        successors,
+        effect,
+        targets,
+    })
+}

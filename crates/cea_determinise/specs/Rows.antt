@@ -1,21 +1,23 @@
 -- What is kept of whole rows of states.
-use Rattle.std.specs.Prelude.{◌≡◌, ℕ, List, [], ◌∷◌, map, Option, Some, None, nat_eq}
+use Rattle.std.specs.Prelude.{◌≡◌, ℕ, List, [], ◌∷◌, map, Some, None, nat_eq}
 use Rattle.std.specs.List.{IsDistinct}
 use Rattle.std.specs.Map.{lookup}
 use Rattle.cea_determinise.specs.declared.table.TransitionKey.{TransitionKey}
 use Rattle.cea_determinise.specs.declared.table.Successors.{Successors}
 use Rattle.cea_determinise.specs.declared.rows.KnownRow.{KnownRow}
-use Rattle.cea_determinise.specs.declared.rows.Effect.TheVariants.{Stays, Moves}
+use Rattle.cea_determinise.specs.declared.rows.Effect.{Effect}
+use Rattle.cea_determinise.specs.declared.rows.Effect.TheVariants.{Stays, Moves, Changes}
 use Rattle.cea_determinise.specs.Keys.{is_same_key}
 
 -- the start has no successor, and the states have these ones in order, unmarked
 abbrev pub GoTo : List ℕ → List Successors → Type 0
 GoTo ns moves = moves ≡ record { marked = None; unmarked = None } ∷ map (λ (n : ℕ). record { marked = None; unmarked = Some n }) ns
 
--- What the row does is as it says.
-pub record HasEffect (r : KnownRow) : Type 0 where
-  pub stays : r.effect ≡ Stays → GoTo r.states.items r.successors.items
-  pub moves : r.effect ≡ Moves → GoTo r.targets.items r.successors.items × IsDistinct nat_eq r.targets.items
+-- the states, whose successors these are, the start's first, do as it says
+abbrev pub IsEffect : Effect → List ℕ → List Successors → Type 0
+IsEffect Stays ns moves = GoTo ns moves
+IsEffect (Moves targets) ns moves = GoTo targets.value.items moves × IsDistinct nat_eq targets.value.items
+IsEffect Changes ns moves = Unit {0}
 
 -- the transitions tell these successors of the states on events of the class, in order
 abbrev pub AreListed : List (TransitionKey × Successors) → ℕ → List ℕ → List Successors → Type 0
@@ -27,4 +29,4 @@ AreListed ts class (n ∷ ns) (s ∷ ss) = (lookup (is_same_key (record { state 
 -- The transitions tell the row's successors, and what it does is as it says.
 pub record IsListed (ts : List (TransitionKey × Successors)) (r : KnownRow) : Type 0 where
   pub told : AreListed ts r.class (0 ∷ r.states.items) r.successors.items
-  pub effect : HasEffect r
+  pub effect : IsEffect r.effect r.states.items r.successors.items

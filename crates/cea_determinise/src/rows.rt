@@ -8,6 +8,7 @@ use crate::table::{EventClass, State, Successors};
 use cer_base::Memory;
 use std::alloc::Global;
 use std::marker::Model;
+use std::rc::Rc;
 
 /// So many rows are kept.
 const KEPT_ROWS: usize = 64;
@@ -16,12 +17,13 @@ const KEPT_ROWS: usize = 64;
 pub const ROW_NUMBERS: u64 = 256;
 
 /// What an event does to a row of states.
-#[derive(Drop, Debug, Clone, Copy)]
+#[derive(Drop)]
 pub enum Effect {
     /// The start has no successor, and each state has itself alone, not marked.
     Stays,
-    /// The start has no successor, and each state has one of its own, not marked.
-    Moves,
+    /// The start has no successor, and each state has one of these alone, in order, not marked. None
+    /// of them stands twice.
+    Moves(Rc<Vec<State>>),
     /// Anything.
     Changes,
 }
@@ -34,8 +36,6 @@ pub struct KnownRow {
     /// The successors of the start, then of each state.
     pub successors: Vec<Successors>,
     pub effect: Effect,
-    /// Where the states move to, if they move.
-    pub targets: Vec<State>,
 }
 
 /// Rows by numbers that their owner gives them: seen as the list of the rows.

@@ -1,14 +1,13 @@
 -- Rows that the table keeps are rows that it knows.
-use Rattle.std.proofs.Common.{◌≡◌, ℕ, suc, List, [], ◌∷◌, ◌++◌, Some, take, sym, ap, subst, ◌∙◌, nat_eq, arith}
+use Rattle.std.proofs.Common.{◌≡◌, ℕ, suc, List, [], ◌∷◌, ◌++◌, Some, take, sym, ap, subst, ◌∙◌, arith}
 use Rattle.std.specs.Prelude.{slice_get}
-use Rattle.std.specs.List.{IsDistinct}
 use Rattle.cea_determinise.specs.declared.table.Successors.{Successors}
 use Rattle.cea_determinise.specs.declared.rows.KnownRow.{KnownRow}
-use Rattle.cea_determinise.specs.declared.rows.Effect.TheVariants.{Stays, Moves}
+use Rattle.cea_determinise.specs.declared.rows.Effect.{Effect}
 use Rattle.cea_determinise.specs.Det.{Table, IsSound}
-use Rattle.cea_determinise.specs.Rows.{AreListed, IsListed, GoTo}
+use Rattle.cea_determinise.specs.Rows.{AreListed, IsListed, IsEffect}
 use Rattle.cea_determinise.proofs.Growth.{found_right}
-use Rattle.event_update.specs.Update.{next_in, AreKnown, IsRowOf, Stay}
+use Rattle.event_update.specs.Update.{next_in, AreKnown, IsRowOf}
 use Rattle.event_update.proofs.Known.{take_more, known_length}
 use Rattle.event_update.proofs.Kept.{known_told}
 
@@ -37,7 +36,7 @@ row_is t sound r class ns h is_class is_states =
       same = sym is_states;
       count = omega (arith, long);
       told = record { next = next_in t class; told = known_told t class (0 ∷ ns) r.successors.items known };
-      effect = h.effect;
+      effect = subst (λ (ms : List ℕ). IsEffect r.effect ms r.successors.items) (sym is_states) h.effect;
     }
 
 pub row_listed : (t : Table) (r : KnownRow) (class : ℕ) (ns : List ℕ) (ss : List Successors) → r.class ≡ class → r.successors.items ≡ ss → IsRowOf ns r → AreKnown t class (0 ∷ ns) ss → IsListed t.transitions r
@@ -46,14 +45,11 @@ row_listed t r class ns ss is_class is_successors row h = record {
       subst (λ c. AreListed t.transitions c (0 ∷ r.states.items) r.successors.items) (sym is_class)
       (subst (λ (ms : List ℕ). AreListed t.transitions class (0 ∷ ms) r.successors.items) (sym row.same)
       (subst (λ (ms : List Successors). AreListed t.transitions class (0 ∷ ns) ms) (sym is_successors) (known_listed t class (0 ∷ ns) ss h)));
-  effect = row.effect;
+  effect = subst (λ (ms : List ℕ). IsEffect r.effect ms r.successors.items) (sym row.same) row.effect;
 }
 
-pub row_stays : (ns : List ℕ) (r : KnownRow) → IsRowOf ns r → r.effect ≡ Stays → Stay ns r.successors.items
-row_stays ns r row is = subst (λ (ms : List ℕ). GoTo ms r.successors.items) row.same (row.effect.stays is)
-
-pub row_moves : (ns targets : List ℕ) (r : KnownRow) → IsRowOf ns r → r.effect ≡ Moves → targets ≡ r.targets.items → GoTo targets r.successors.items × IsDistinct nat_eq targets
-row_moves ns targets r row is e = subst (λ (ms : List ℕ). GoTo ms r.successors.items × IsDistinct nat_eq ms) (sym e) (row.effect.moves is)
+pub row_effect : (ns : List ℕ) (r : KnownRow) (e : Effect) → IsRowOf ns r → r.effect ≡ e → IsEffect e ns r.successors.items
+row_effect ns r e row is = subst (λ (f : Effect). IsEffect f ns r.successors.items) is row.effect
 
 pub copied_next : (xs copy new : List ℕ) (k j n : ℕ) → j ≡ suc k → copy ≡ take k xs → slice_get xs k ≡ Some n → new ≡ copy ++ n ∷ [] → new ≡ take j xs
 copied_next xs copy new k j n step h at e = e ∙ ap (λ zs. zs ++ n ∷ []) h ∙ sym (take_more xs k n at) ∙ ap (λ i. take i xs) (sym step)

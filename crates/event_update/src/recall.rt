@@ -1,9 +1,7 @@
 //! Rows of states that were met before on events of the same class: what the event does to them is
 //! found at once.
-ghost use Rattle.std.specs.Prelude.{◌≡◌, ℕ, ◌+◌, true, ◌∷◌, length, IfOk, IfSome, nat_eq};
-ghost use Rattle.std.specs.List.{IsDistinct};
-ghost use Rattle.cea_determinise.specs.Rows.{GoTo};
-ghost use Rattle.cea_determinise.specs.declared.rows.Effect.TheVariants.{Stays, Moves};
+ghost use Rattle.std.specs.Prelude.{◌≡◌, ℕ, ◌+◌, true, ◌∷◌, length, IfOk, IfSome};
+ghost use Rattle.cea_determinise.specs.Rows.{IsEffect};
 ghost use Rattle.event_update.specs.ActiveLists.{keys};
 ghost use Rattle.event_update.specs.Update.{AreKnown, IsTold, IsRowOf};
 
@@ -14,6 +12,7 @@ use cea_determinise::det::Det;
 use cea_determinise::rows::{Effect, KnownRow, ROW_NUMBERS};
 use cea_determinise::table::{EventClass, State, Successors};
 use cer_base::Memory;
+use std::rc::Rc;
 
 /// A number below `ROW_NUMBERS` for the states and the class, the same for the same ones.
 pub fn row_number(active: &Active, class: EventClass) -> u64 {
@@ -75,21 +74,21 @@ fn states_of(active: &Active) -> Result<Vec<State>, Memory>
     Ok(states)
 }
 
-/// What the event does to the states, whose successors these are, the start's first; and where they
-/// move to, if they move.
-fn effect_of(active: &Active, moves: &[Successors]) -> Result<(Effect, Vec<State>), Memory>
+/// What the event does to the states, whose successors these are, the start's first.
+fn effect_of(active: &Active, moves: &[Successors]) -> Result<Effect, Memory>
     requires { length moves.now ≡ 1 + length active.now.entries }
-    ensures stays { IfOk result (λ e. e.0 ≡ Stays → GoTo (keys active.now) moves.now) }
-    ensures moves { IfOk result (λ e. e.0 ≡ Moves → GoTo e.1.items moves.now
-        × IsDistinct nat_eq e.1.items) }
+    ensures { IfOk result (λ effect. IsEffect effect (keys active.now) moves.now) }
 {
     let alloc = *active.allocator();
     if stay(active, moves) {
-        return Ok((Effect::Stays, Vec::new(alloc)));
+        return Ok(Effect::Stays);
     }
     match find_targets(alloc, moves)? {
-        None => Ok((Effect::Changes, Vec::new(alloc))),
-        Some(targets) => Ok((Effect::Moves, Vec::from_slice(alloc, targets.as_slice())?)),
+        None => Ok(Effect::Changes),
+        Some(targets) => match Rc::new(alloc, targets) {
+            Ok(shared) => Ok(Effect::Moves(shared)),
+            Err(_) => Err(Memory),
+        },
     }
 }
 
@@ -103,12 +102,11 @@ pub fn row_of(active: &Active, class: EventClass, moves: &[Successors]) -> Resul
 {
     let states = states_of(active)?;
     let successors = Vec::from_slice(*active.allocator(), moves)?;
-    let (effect, targets) = effect_of(active, moves)?;
+    let effect = effect_of(active, moves)?;
     Ok(KnownRow {
         class,
         states,
         successors,
         effect,
-        targets,
     })
 }

@@ -8,14 +8,14 @@ ghost use Rattle.event_update.specs.Update.{IsOther, GoTo, GoesOn};
 use crate::moves::is_none;
 use cea_determinise::table::{State, Successors};
 use cer_base::Memory;
-use smallvec::SmallVec;
 use std::alloc::Global;
 use std::marker::Model;
+use std::rc::Rc;
 
 /// A state for each list, in the order of the lists: where the list goes. None stands twice.
 #[derive(Drop)]
 pub struct Targets {
-    states: SmallVec<State, 4>,
+    states: Rc<Vec<State>>,
 }
 
 impl Model for Targets {
@@ -24,29 +24,18 @@ impl Model for Targets {
 
     ghost Value = { List ℕ };
 
-    ghost view = { λ t. t.states.items };
+    ghost view = { λ t. t.states.value.items };
 
-    ghost invariant = { λ t. IsDistinct nat_eq t.states.items };
+    ghost invariant = { λ t. IsDistinct nat_eq t.states.value.items };
 }
 
 impl Targets {
-    /// No state. It takes no memory.
-    fn new(alloc: Global) -> Targets
-        ensures { result ≡ [] }
+    /// These states, of which none stands twice. It takes no memory.
+    pub fn of(states: Rc<Vec<State>>) -> Targets
+        requires { IsDistinct nat_eq states.value.items }
+        ensures { result ≡ states.value.items }
     {
-        Targets {
-            states: SmallVec::new(alloc),
-        }
-    }
-
-    /// These states, of which none stands twice. It takes memory where there are more than four.
-    pub fn of(alloc: Global, states: &[State]) -> Result<Targets, Memory>
-        requires { IsDistinct nat_eq states.now }
-        ensures { IfOk result (λ targets. targets ≡ states.now) }
-    {
-        Ok(Targets {
-            states: SmallVec::from_slice(alloc, states)?,
-        })
+        Targets { states }
     }
 
     /// The states, in order. None stands twice.
@@ -55,6 +44,42 @@ impl Targets {
         ensures unique { IsDistinct nat_eq self.now }
     {
         self.states.as_slice()
+    }
+}
+
+/// States of which none stands twice, as they are found.
+#[derive(Drop)]
+struct Apart {
+    states: Vec<State>,
+}
+
+impl Model for Apart {
+    ghost use Rattle.std.specs.Prelude.{ℕ, List, nat_eq};
+    ghost use Rattle.std.specs.List.{IsDistinct};
+
+    ghost Value = { List ℕ };
+
+    ghost view = { λ a. a.states.items };
+
+    ghost invariant = { λ a. IsDistinct nat_eq a.states.items };
+}
+
+impl Apart {
+    /// No state. It takes no memory.
+    fn new(alloc: Global) -> Apart
+        ensures { result ≡ [] }
+    {
+        Apart {
+            states: Vec::new(alloc),
+        }
+    }
+
+    /// The states, in order.
+    fn into_states(self) -> Vec<State>
+        ensures states { result.items ≡ self }
+        ensures unique { IsDistinct nat_eq self }
+    {
+        self.states
     }
 
     /// Whether the state is none of these.
@@ -92,7 +117,7 @@ fn only(to: Successors) -> Option<State>
 
 /// One list more goes to its state's successor, where that is the only one, not marked, and none
 /// of these.
-fn take(targets: &mut Targets, to: Successors) -> Result<bool, Memory>
+fn take(targets: &mut Apart, to: Successors) -> Result<bool, Memory>
     ensures { IfOk result (λ taken. taken ≡ true → (n : ℕ) × GoesOn to n
         × (targets.new ≡ targets.old ++ n ∷ [])) }
 {
@@ -109,22 +134,20 @@ fn take(targets: &mut Targets, to: Successors) -> Result<bool, Memory>
 }
 
 /// Where the lists go, where the start has no successor and each state has one of its own, not
-/// marked. It takes memory where there are more than four.
-pub fn find_targets(alloc: Global, moves: &[Successors]) -> Result<Option<Targets>, Memory>
+/// marked.
+pub fn find_targets(alloc: Global, moves: &[Successors]) -> Result<Option<Vec<State>>, Memory>
     requires { 0 < length moves.now }
-    ensures go { IfOk result (λ t. IfSome t (λ ns. GoTo ns moves.now)) }
-    ensures unique { IfOk result (λ t. IfSome t (IsDistinct nat_eq)) }
+    ensures go { IfOk result (λ t. IfSome t (λ ns. GoTo ns.items moves.now)) }
+    ensures unique { IfOk result (λ t. IfSome t (λ ns. IsDistinct nat_eq ns.items)) }
 {
     if !is_none(moves[0]) {
         return Ok(None);
     }
-    let mut targets = Targets::new(alloc);
+    let mut targets = Apart::new(alloc);
     for k in 1..moves.len() {
         if !take(&mut targets, moves[k])? {
             return Ok(None);
         }
     }
-    // No state stands twice.
-    let _states = targets.as_slice();
-    Ok(Some(targets))
+    Ok(Some(targets.into_states()))
 }

@@ -1,12 +1,12 @@
 -- What both phases do together.
-use Rattle.std.proofs.Common.{◌≡◌, ℕ, ◌+◌, ◌≤◌, ◌⊎◌, inl, inr, arith, List, [], ◌∷◌, ◌++◌, map, length, refl, sym, ap, subst, ◌∙◌, All, Option, Some, None}
+use Rattle.std.proofs.Common.{◌≡◌, ℕ, ◌+◌, ◌≤◌, inl, inr, arith, List, [], ◌∷◌, ◌++◌, map, length, refl, sym, ap, subst, ◌∙◌, All, Option, Some, None}
 use Rattle.std.specs.Prelude.{IsSomeAnd, sum_by}
 use Rattle.std.specs.List.{AllZip}
 use Rattle.std.proofs.lemmas.List.Elements.{All-nil, All-cons, All-head, All-tail, All-map}
 use Rattle.stream_schema.specs.declared.Event.{Event}
 use Rattle.query_standing.specs.Kept.{Part, PartStands}
 use Rattle.std.proofs.lemmas.List.Sums.{sum_by-cons}
-use Rattle.all_or_none.specs.Phases.{Phase, Grows, IsStep, IsPrepared, IsIdle, IsQuiet, back, IsCommitted, HasPassed, IsTaken, StandsAt, InTime, HasGrown, bound_of, ready_bound, kept_bound}
+use Rattle.all_or_none.specs.Phases.{Phase, Grows, IsStep, IsIdle, IsQuiet, back, IsTaken, StandsAt, InTime, HasGrown, bound_of, ready_bound, kept_bound}
 use Rattle.all_or_none.proofs.Turns.{all_mapped}
 
 step_of : (o : Option Part) (p : Part) (S : Part → Type 0) → o ≡ Some p → IsSomeAnd o S → S p

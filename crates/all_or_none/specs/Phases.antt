@@ -1,6 +1,6 @@
 -- One event over the parts of several queries, in two phases.
-use Rattle.std.specs.Prelude.{◌≡◌, ◌≢◌, ℕ, ◌+◌, ◌≤◌, ◌⊎◌, ℤ, Bool, List, [], ◌∷◌, ◌++◌, length, All, Option, Some, None, IsSomeAnd}
-use Rattle.std.specs.List.{AllZip}
+use Rattle.std.specs.Prelude.{◌≡◌, ◌≢◌, ℕ, ◌+◌, ◌<◌, ◌≤◌, ◌==◌, ◌⊎◌, ℤ, Bool, true, false, List, [], ◌∷◌, ◌++◌, length, All, Option, Some, None, IsSomeAnd, slice_get, slice_index_or}
+use Rattle.std.specs.List.{AllZip, list_any}
 use Rattle.stream_schema.specs.Types.{Declared}
 use Rattle.stream_schema.specs.Events.{IsOfSchema}
 use Rattle.stream_schema.specs.declared.Event.{Event}
@@ -68,6 +68,31 @@ pub record HasPassed (event : Event) (position : ℕ) (old new : Phase) : Type 0
 -- It is prepared for the event, or may be left as it is.
 abbrev pub IsSet : Event → ℕ → Phase → Phase → Type 0
 IsSet event position old new = IsPrepared event position old ⊎ HasPassed event position old new
+
+-- It is prepared and its number is put in last, or the event may pass it by.
+abbrev pub IsNoted : Event → ℕ → ℕ → Phase → Phase → List ℕ → List ℕ → Type 0
+IsNoted event position number before after old new = (IsPrepared event position before × (new ≡ old ++ number ∷ [])) ⊎ (HasPassed event position before after × (new ≡ old))
+
+-- whether the number is among these
+abbrev pub is_among : List ℕ → ℕ → Bool
+is_among numbers number = list_any (λ n. n == number) numbers
+
+-- each is greater than those before it
+abbrev pub AreRising : List ℕ → Type 0
+AreRising numbers = (i j : ℕ) → i < j → j < length numbers → slice_index_or numbers i 0 < slice_index_or numbers j 0
+
+-- The numbers, from 1 and rising, are those of the first so many parts that are prepared; the event may pass by the others of these.
+pub record AreSet {P : Type 0} (before after : P → Phase) (event : Event) (position count : ℕ) (numbers : List ℕ) (parts : List P) : Type 0 where
+  pub rising : AreRising numbers
+  pub within : (n : ℕ) → is_among numbers n ≡ true → (1 ≤ n) × (n ≤ count)
+  pub prepared : (k : ℕ) (p : P) → k < count → slice_get parts k ≡ Some p → is_among numbers (k + 1) ≡ true → IsPrepared event position (before p)
+  pub others : (k : ℕ) (p : P) → k < count → slice_get parts k ≡ Some p → is_among numbers (k + 1) ≡ false → HasPassed event position (before p) (after p)
+
+-- The numbers, from 1 and rising, are those of parts, and no part but these may have an answer.
+pub record MayAnswer (numbers : List ℕ) (parts : List Phase) : Type 0 where
+  pub rising : AreRising numbers
+  pub within : (n : ℕ) → is_among numbers n ≡ true → (1 ≤ n) × (n ≤ length parts)
+  pub others : (k : ℕ) (p : Phase) → slice_get parts k ≡ Some p → is_among numbers (k + 1) ≡ false → roots_at p.query p.kept ≡ []
 
 -- After the event: what was prepared is put in, and what may be left as it is was left.
 abbrev pub IsTaken : Event → ℕ → Phase → Phase → Type 0

@@ -9,11 +9,11 @@
 //! It stands on `query_standing`.
 #![tactic(auto)]
 
-ghost use Rattle.std.specs.Prelude.{◌≡◌, ℕ, ◌+◌, ◌^◌, ◌<◌, ◌≤◌, true, List, [], ◌∷◌, ◌++◌, length, map, sum_by, All, IfOk, OnOk, OnErr};
+ghost use Rattle.std.specs.Prelude.{◌≡◌, ℕ, ◌+◌, ◌^◌, ◌<◌, ◌≤◌, true, List, [], ◌∷◌, ◌++◌, length, map, sum_by, All, OnOk, OnErr};
 ghost use Rattle.std.specs.List.{AllZip};
 ghost use Rattle.stream_schema.specs.declared.Event.{Event};
 ghost use Rattle.query_standing.specs.Bounds.{update_bound};
-ghost use Rattle.all_or_none.specs.Phases.{Phase, CanPrepare, IsPrepared, IsIdle, IsQuiet, back, HasPassed, IsSet, IsTaken, IsWithin, StandsAt, InTime, ready_bound, kept_bound, AreBounded, HasGrown};
+ghost use Rattle.all_or_none.specs.Phases.{Phase, CanPrepare, IsPrepared, IsIdle, IsQuiet, back, HasPassed, IsSet, IsNoted, AreSet, MayAnswer, IsTaken, IsWithin, StandsAt, InTime, ready_bound, kept_bound, AreBounded, HasGrown};
 
 use cer_base::steps::Steps;
 use cer_base::{Memory, Pos};
@@ -64,9 +64,11 @@ pub trait Keeps {
         ensures { (count : ℕ) → phase count self.new ≡ back (phase count self.old) };
 }
 
-/// The part prepares, where the event may not pass it by.
+/// The part prepares, where the event may not pass it by, and its number is put in last.
 fn prepare_one<P: Keeps, L: Ledger>(
     part: &mut P,
+    number: u64,
+    touched: &mut Vec<u64>,
     event: &Event,
     position: Pos,
     steps: &mut Steps<L>,
@@ -74,8 +76,8 @@ fn prepare_one<P: Keeps, L: Ledger>(
     requires idle { IsIdle (P.phase position part.old) }
     requires can { CanPrepare event.now position (P.phase position part.old) }
     ensures kept { back (P.phase position part.new) ≡ back (P.phase position part.old) }
-    ensures set { OnOk result (IsSet event.now position (P.phase position part.new)
-        (P.phase (position + 1) part.new)) }
+    ensures noted { OnOk result (IsNoted event.now position number (P.phase position part.new)
+        (P.phase (position + 1) part.new) touched.old.items touched.new.items) }
     ensures steps { OnOk result (steps.new
         ≤ steps.old + ready_bound (P.phase position part.new)) }
     ensures within { IsWithin event.now position (P.phase position part.old)
@@ -84,12 +86,15 @@ fn prepare_one<P: Keeps, L: Ledger>(
     if part.passes(event, position) {
         return Ok(());
     }
+    touched.push(number)?;
     part.prepare(event, position, steps)
 }
 
-/// Each part prepares that the event may not pass by, up to the first that cannot.
+/// Each part prepares that the event may not pass by, up to the first that cannot. The numbers of
+/// these parts, from 1, are left in `touched`.
 fn prepare_all<P: Keeps, L: Ledger>(
     parts: &mut [P],
+    touched: &mut Vec<u64>,
     event: &Event,
     position: Pos,
     steps: &mut Steps<L>,
@@ -98,30 +103,32 @@ fn prepare_all<P: Keeps, L: Ledger>(
     requires can { All (λ p. CanPrepare event.now position (P.phase position p)) parts.old }
     ensures kept { map (λ p. back (P.phase position p)) parts.new
         ≡ map (λ p. back (P.phase position p)) parts.old }
-    ensures set { OnOk result (All (λ p. IsSet event.now position (P.phase position p)
-        (P.phase (position + 1) p)) parts.new) }
+    ensures set { OnOk result (AreSet (P.phase position) (P.phase (position + 1)) event.now
+        position (length parts.new) touched.new.items parts.new) }
     ensures steps { OnOk result (steps.new
         ≤ steps.old + sum_by (λ p. ready_bound (P.phase position p)) parts.new) }
     ensures within { (events : List Event) (most : List ℕ) → length events ≡ position
         → AreBounded events event.now (map (P.phase position) parts.old) most → steps.new
         ≤ steps.old + sum_by update_bound most }
 {
+    touched.clear();
     for k in 0..parts.len() {
-        prepare_one(&mut parts[k], event, position, steps)?;
+        prepare_one(&mut parts[k], k as u64 + 1, touched, event, position, steps)?;
     }
     Ok(())
 }
 
-/// Each part commits.
-fn commit_all<P: Keeps>(parts: &mut [P], event: &Event, position: Pos)
+/// The parts of these numbers, which are those that are prepared, commit.
+fn commit_all<P: Keeps>(parts: &mut [P], numbers: &[u64], event: &Event, position: Pos)
     requires room { position + 1 < 2 ^ 64 }
-    requires set { All (λ p. IsSet event.now position (P.phase position p)
-        (P.phase (position + 1) p)) parts.old }
-    ensures { AllZip (IsTaken event.now position) (map (P.phase position) parts.old)
+    requires set { AreSet (P.phase position) (P.phase (position + 1)) event.now position
+        (length parts.old) numbers.now parts.old }
+    ensures taken { AllZip (IsTaken event.now position) (map (P.phase position) parts.old)
         (map (P.phase (position + 1)) parts.new) }
+    ensures answering { MayAnswer numbers.now (map (P.phase (position + 1)) parts.new) }
 {
-    for k in 0..parts.len() {
-        parts[k].commit(event, position);
+    for number in numbers {
+        parts[*number as usize - 1].commit(event, position);
     }
 }
 
@@ -136,8 +143,12 @@ fn take_back_all<P: Keeps>(parts: &mut [P])
 }
 
 /// All parts take the event as the next one, or none does. After `Memory` each part is as it was.
+///
+/// `touched` has then the numbers, from 1 and rising, of the parts that the event did not pass by; no
+/// other may have an answer. Its memory is used again.
 pub fn see<P: Keeps, L: Ledger>(
     parts: &mut [P],
+    touched: &mut Vec<u64>,
     event: &Event,
     position: Pos,
     steps: &mut Steps<L>,
@@ -153,6 +164,8 @@ pub fn see<P: Keeps, L: Ledger>(
     ensures quiet { OnOk result (All (λ p. IsQuiet (position + 1) (P.phase (position + 1) p)) parts.new) }
     ensures grown { OnOk result (AllZip (HasGrown event.now) (map (P.phase position) parts.old)
         (map (P.phase (position + 1)) parts.new)) }
+    ensures answering { OnOk result (MayAnswer touched.new.items
+        (map (P.phase (position + 1)) parts.new)) }
     ensures unchanged { OnErr result (map (P.phase position) parts.new
         ≡ map (P.phase position) parts.old) }
     ensures steps { OnOk result (steps.new
@@ -161,9 +174,9 @@ pub fn see<P: Keeps, L: Ledger>(
         → AreBounded events event.now (map (P.phase position) parts.old) most → steps.new
         ≤ steps.old + sum_by update_bound most }
 {
-    match prepare_all(parts, event, position, steps) {
+    match prepare_all(parts, touched, event, position, steps) {
         Ok(()) => {
-            commit_all(parts, event, position);
+            commit_all(parts, touched.as_slice(), event, position);
             Ok(())
         }
         Err(refused) => {

@@ -1,3 +1,4 @@
 pub mod Listed
 pub mod Collected
 pub mod Filled
+mod Ranged

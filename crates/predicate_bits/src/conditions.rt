@@ -7,9 +7,11 @@ ghost use Rattle.query_leaves.specs.Conditions.{leaf_conditions};
 ghost use Rattle.query_leaves.specs.declared.Leaf.{Leaf};
 ghost use Rattle.query_leaves.specs.Shapes.{each_holds as tests_hold};
 ghost use Rattle.predicate_bits.specs.Groups.{IsGroup};
+ghost use Rattle.predicate_bits.specs.Ranges.{AreRangesOf};
 
 use crate::groups::grouped;
 use crate::holding::each_holds;
+use crate::ranges::{Range, may_hold, ranges_of};
 use cer_base::bits::Bits;
 use cer_base::{Listed, Memory};
 use query_leaves::Leaf;
@@ -21,6 +23,8 @@ use stream_schema::{Event, TypeId};
 #[derive(Drop)]
 pub struct Conditions {
     list: Listed<Leaf>,
+    /// The range that the tests of each leaf ask for.
+    ranges: Vec<Range>,
     /// The numbers of the leaves of each type, by the type's number.
     groups: Vec<Vec<usize>>,
 }
@@ -30,6 +34,7 @@ impl Model for Conditions {
     ghost use Rattle.query_leaves.specs.declared.Leaf.{Leaf};
     ghost use Rattle.std.specs.Prelude.{slice_get};
     ghost use Rattle.predicate_bits.specs.Groups.{AreGrouped};
+    ghost use Rattle.predicate_bits.specs.Ranges.{AreRangesOf};
     ghost use Rattle.query_leaves.specs.contracts.Test as test;
     ghost use Rattle.std.specs.Coded.{codes};
 
@@ -39,7 +44,8 @@ impl Model for Conditions {
 
     ghost view = { λ c. c.list };
 
-    ghost invariant = { λ c. AreGrouped c.list (slice_get c.groups.items) };
+    ghost invariant = { λ c. AreGrouped c.list (slice_get c.groups.items)
+        × AreRangesOf c.list c.ranges.items };
 }
 
 impl Conditions {
@@ -48,7 +54,12 @@ impl Conditions {
         ensures { IfOk result (λ c. c ≡ list) }
     {
         let groups = grouped(alloc, list.as_slice())?;
-        Ok(Conditions { list, groups })
+        let ranges = ranges_of(alloc, list.as_slice())?;
+        Ok(Conditions {
+            list,
+            ranges,
+            groups,
+        })
     }
 
     /// An empty set with room for the number of each leaf.
@@ -68,7 +79,14 @@ impl Conditions {
     {
         empty_out(into);
         if let Some(numbers) = group_of(self.groups.as_slice(), event.ty) {
-            add(self.list.as_slice(), numbers.as_slice(), event, into);
+            let ranges = self.ranges.as_slice();
+            add(
+                self.list.as_slice(),
+                ranges,
+                numbers.as_slice(),
+                event,
+                into,
+            );
         }
     }
 
@@ -77,7 +95,10 @@ impl Conditions {
         ensures { result ≡ true → (k : ℕ) → leaf_conditions self.now event.now k ≡ false }
     {
         match group_of(self.groups.as_slice(), event.ty) {
-            Some(numbers) => hold_none(self.list.as_slice(), numbers.as_slice(), event),
+            Some(numbers) => {
+                let ranges = self.ranges.as_slice();
+                hold_none(self.list.as_slice(), ranges, numbers.as_slice(), event)
+            }
             None => true,
         }
     }
@@ -102,21 +123,26 @@ fn group_of(groups: &[Vec<usize>], ty: TypeId) -> Option<&Vec<usize>>
 }
 
 /// Whether the tests of the leaf of this number hold of the event.
-fn holds_at(list: &[Leaf], number: usize, event: &Event) -> bool
-    requires { number < length list.now }
+fn holds_at(list: &[Leaf], ranges: &[Range], number: usize, event: &Event) -> bool
+    requires inside { number < length list.now }
+    requires ranges { AreRangesOf list.now ranges.now }
     ensures { (l : Leaf) → slice_get list.now number ≡ Some l → result ≡ tests_hold l.tests.items event.now }
 {
+    if !may_hold(&ranges[number], event) {
+        return false;
+    }
     each_holds(list[number].tests.as_slice(), event)
 }
 
 /// Whether the tests of none of the leaves of these numbers, which are of the event's type, hold of the
 /// event.
-fn hold_none(list: &[Leaf], numbers: &[usize], event: &Event) -> bool
+fn hold_none(list: &[Leaf], ranges: &[Range], numbers: &[usize], event: &Event) -> bool
+    requires ranges { AreRangesOf list.now ranges.now }
     requires group { IsGroup list.now event.now.ty numbers.now }
     ensures { result ≡ true → (k : ℕ) → leaf_conditions list.now event.now k ≡ false }
 {
     for number in numbers {
-        if holds_at(list, *number, event) {
+        if holds_at(list, ranges, *number, event) {
             return false;
         }
     }
@@ -124,7 +150,8 @@ fn hold_none(list: &[Leaf], numbers: &[usize], event: &Event) -> bool
 }
 
 /// Puts in those of the numbers, which are of the event's type, whose tests hold of the event.
-fn add(list: &[Leaf], numbers: &[usize], event: &Event, into: &mut Bits)
+fn add(list: &[Leaf], ranges: &[Range], numbers: &[usize], event: &Event, into: &mut Bits)
+    requires ranges { AreRangesOf list.now ranges.now }
     requires group { IsGroup list.now event.now.ty numbers.now }
     requires room { length into.old ≡ room_for (length list.now) }
     requires empty { (k : ℕ) → has into.old k ≡ false }
@@ -132,7 +159,7 @@ fn add(list: &[Leaf], numbers: &[usize], event: &Event, into: &mut Bits)
     ensures room { length into.new ≡ length into.old }
 {
     for number in numbers {
-        if holds_at(list, *number, event) {
+        if holds_at(list, ranges, *number, event) {
             into.insert(*number);
         }
     }

@@ -4,16 +4,53 @@ ghost use Rattle.std.specs.Prelude.{◌≡◌};
 ghost use Rattle.std.specs.List.{list_all, list_any};
 ghost use Rattle.std.specs.Option.{option_copied};
 ghost use Rattle.std.specs.Prelude.{slice_get};
+ghost use Rattle.stream_schema.specs.Comparing.{meets, value_meets};
+ghost use Rattle.query_leaves.specs.declared.Test.{Cmp};
 ghost use Rattle.query_leaves.specs.Shapes.{test_holds, each_holds};
 
 use query_leaves::Test;
-use stream_schema::{Event, Value, is_met_by};
+use std::cmp::Ordering;
+use stream_schema::{Event, Op, Value, is_met_by};
+
+/// Whether the order is one that the operator asks for.
+fn is_met(op: Op, order: Ordering) -> bool
+    ensures { result ≡ meets op order }
+{
+    match op {
+        Op::Eq => order.is_eq(),
+        Op::Ne => order.is_ne(),
+        Op::Lt => order.is_lt(),
+        Op::Le => order.is_le(),
+        Op::Gt => order.is_gt(),
+        Op::Ge => order.is_ge(),
+    }
+}
+
+/// Whether the value compares so with the literal, whole numbers without their places.
+fn compares(op: Op, value: &Value, literal: &Value) -> bool
+    ensures { result ≡ value_meets op value.now literal.now }
+{
+    match (value, literal) {
+        (Value::Int(a), Value::Int(b)) => is_met(op, a.cmp(b)),
+        _ => is_met_by(op, value, literal),
+    }
+}
 
 /// The value at the place.
 fn value_at(values: &[Value], place: usize) -> Option<&Value>
     ensures { option_copied result ≡ slice_get values.now place }
 {
     values.get(place)
+}
+
+/// Whether the value at the place compares so with the literal.
+fn compares_at(event: &Event, place: u64, op: Op, literal: &Value) -> bool
+    ensures { result ≡ test_holds (Cmp place op literal.now) event.now }
+{
+    match value_at(event.values.as_slice(), place as usize) {
+        Some(value) => compares(op, value, literal),
+        None => false,
+    }
 }
 
 #[cycle(holds)]
@@ -47,21 +84,61 @@ fn holds(test: &Test, event: &Event) -> bool
 {
     match test {
         Test::No => false,
-        Test::Cmp(place, op, literal) => {
-            match value_at(event.values.as_slice(), *place as usize) {
-                Some(value) => is_met_by(*op, value, literal),
-                None => false,
-            }
-        }
+        Test::Cmp(place, op, literal) => compares_at(event, *place, *op, literal),
         Test::Not(inner) => !holds(inner, event),
         Test::All(tests) => all_hold(tests, event),
         Test::Any(tests) => any_holds(tests, event),
     }
 }
 
-/// Whether each of the tests holds of the event.
+/// The same. A comparison is made here.
+fn holds_flat(test: &Test, event: &Event) -> bool
+    ensures { result ≡ test_holds test.now event.now }
+{
+    match test {
+        Test::Cmp(place, op, literal) => compares_at(event, *place, *op, literal),
+        _ => holds(test, event),
+    }
+}
+
+/// Whether all of the tests hold. Each comparison is made here.
+fn all_hold_flat(tests: &[Test], event: &Event) -> bool
+    ensures { result ≡ list_all (λ t. test_holds t event.now) tests.now }
+{
+    for test in tests {
+        if !holds_flat(test, event) {
+            return false;
+        }
+    }
+    true
+}
+
+/// Whether the test holds of the event. A comparison, and some that are joined, are made here.
+fn holds_joined(test: &Test, event: &Event) -> bool
+    ensures { result ≡ test_holds test.now event.now }
+{
+    match test {
+        Test::All(tests) => all_hold_flat(tests.as_slice(), event),
+        _ => holds_flat(test, event),
+    }
+}
+
+/// Whether all of the tests hold. Each that is a comparison or joins some is tested here.
+fn all_hold_joined(tests: &[Test], event: &Event) -> bool
+    ensures { result ≡ list_all (λ t. test_holds t event.now) tests.now }
+{
+    for test in tests {
+        if !holds_joined(test, event) {
+            return false;
+        }
+    }
+    true
+}
+
+/// Whether each of the tests holds of the event. Most are comparisons, or join some: these are tested
+/// without a call of the recursion.
 pub fn each_holds(tests: &[Test], event: &Event) -> bool
     ensures { result ≡ each_holds tests.now event.now }
 {
-    all_hold(tests, event)
+    all_hold_joined(tests, event)
 }

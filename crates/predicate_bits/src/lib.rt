@@ -8,6 +8,7 @@
 mod conditions;
 mod groups;
 mod holding;
+pub mod ranges;
 #[cfg(test)]
 mod tests;
 

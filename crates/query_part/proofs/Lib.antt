@@ -4,6 +4,7 @@ mod Clocks
 mod Discovered
 mod Giving
 mod AtFirst
+mod Marked
 mod Prepare
 mod Times
 mod Worked

@@ -1,14 +1,13 @@
 -- What a part is that the last events passed by.
-use Rattle.std.proofs.Common.{◌≡◌, ◌≢◌, ℕ, suc, ◌+◌, ◌-◌, ◌<◌, ◌≤◌, ◌==◌, ℤ, pos, Bool, true, false, not, List, [], length, refl, sym, ap, subst, ◌∙◌, inl, inr, Option, Some, None, slice_get, slice_index_or, arith}
-use Rattle.std.specs.Prelude.{IsSomeAnd, if◌then◌else◌, ◌≤ℤ◌, ◌<ℤ◌}
-use Rattle.std.proofs.lemmas.Bool.{eqb-true, eq-eqb, false≢true}
+use Rattle.std.proofs.Common.{◌≡◌, ℕ, ◌+◌, ◌-◌, ◌<◌, ◌≤◌, ◌==◌, ℤ, pos, Bool, true, false, not, List, [], length, refl, sym, ap, subst, ◌∙◌, Option, Some, None, slice_get, slice_index_or, arith}
+use Rattle.std.specs.Prelude.{IsSomeAnd, if◌then◌else◌, ◌≤ℤ◌}
+use Rattle.std.proofs.lemmas.Bool.{eqb-true, false≢true}
 use Rattle.std.proofs.lemmas.Option.{slice_get_within, slice_get-get_or}
 use Rattle.std.proofs.lemmas.Int.{ints}
 use Rattle.stream_schema.specs.Types.{Declared, DeclaredType}
 use Rattle.stream_schema.specs.Events.{IsOfSchema}
 use Rattle.stream_schema.specs.declared.Event.{Event}
 use Rattle.cel_terms.specs.declared.Query.{Query}
-use Rattle.cel_terms.specs.Answers.{HasClock}
 use Rattle.cer_base.specs.Bits.{has}
 use Rattle.query_leaves.specs.declared.Leaf.{Leaf}
 use Rattle.query_leaves.specs.Conditions.{leaf_conditions}
@@ -16,7 +15,7 @@ use Rattle.event_update.specs.Update.{accepted_entries}
 use Rattle.event_update.proofs.Resting.{resting_accept_none}
 use Rattle.window_clock.specs.declared.Source.{Source}
 use Rattle.window_clock.specs.Places.{clock_in, low_in, IsOf}
-use Rattle.query_standing.specs.Clocks.{Reads, FallsBack, least, low_of}
+use Rattle.query_standing.specs.Clocks.{Reads, FallsBack, least}
 use Rattle.query_standing.specs.Keys.{leaves_reading}
 use Rattle.query_standing.specs.Kept.{PartStands, roots_for}
 use Rattle.query_standing.proofs.Windows.{clock_is_one}

@@ -1,5 +1,5 @@
 -- What is kept of a query while an event is prepared: it is still seen as what it was, and what a commit makes of it is told.
-use Rattle.std.specs.Prelude.{◌≡◌, ◌≢◌, ℕ, ◌-◌, ◌<◌, ◌==◌, ℤ, pos, Bool, true, false, if◌then◌else◌, List, [], length, Option, Some, None, slice_set, slice_index_or}
+use Rattle.std.specs.Prelude.{◌≡◌, ◌≢◌, ℕ, ◌-◌, ◌<◌, ◌==◌, ℤ, pos, Bool, true, false, ◌||◌, if◌then◌else◌, List, [], length, Option, Some, None, slice_set, slice_index_or}
 use Rattle.std.specs.List.{list_any}
 use Rattle.stream_schema.specs.Types.{Declared}
 use Rattle.stream_schema.specs.Events.{IsOfSchema}
@@ -109,6 +109,11 @@ reads_type schema q ty = list_any (λ t. t == ty) (query_types schema q.streams)
 -- the table tells for each type whether the query reads it
 abbrev pub AreTypesRead : Declared → Query → List Bool → Type 0
 AreTypesRead schema q table = (ty : ℕ) → ty < length schema.types → slice_index_or table ty false ≡ reads_type schema q ty
+
+-- The table with those types marked too that the test tells.
+pub record AreMarked (told : ℕ → Bool) (old new : List Bool) : Type 0 where
+  pub count : length new ≡ length old
+  pub each : (ty : ℕ) → ty < length old → slice_index_or new ty false ≡ (slice_index_or old ty false || told ty)
 
 -- No match is open, and the automaton is this one.
 pub record HasAutomaton (a : Automaton) (is_strict : Bool) (h : Held) : Type 0 where

@@ -12,5 +12,6 @@ pub mod machine;
 pub mod matches;
 pub mod part;
 mod reading;
+mod types;
 
 pub use part::Part;

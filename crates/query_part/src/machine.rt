@@ -12,7 +12,8 @@ ghost use Rattle.query_part.specs.KeyPlaces.{AreKeyPlaces};
 ghost use Rattle.query_part.specs.Parts.{AreTypesRead, IsMachineOf, HasAutomaton, MayFloat};
 
 use crate::matches::Matches;
-use crate::reading::{Places, floats, key_places, types_read};
+use crate::reading::{Places, floats, key_places};
+use crate::types::types_read;
 use cea_compile::compile;
 use cel_terms::Query;
 use cer_base::Memory;

@@ -1,11 +1,9 @@
 //! Which events a query reads, and their keys.
 
-ghost use Rattle.std.specs.Prelude.{◌≡◌, ℕ, ◌<◌, ◌==◌, ◌++◌, false, true, Some, None, option_map, option_and_then, take, drop, slice_get, slice_index_or, IfOk, length};
+ghost use Rattle.std.specs.Prelude.{◌≡◌, ℕ, ◌<◌, ◌++◌, false, true, Some, None, option_map, option_and_then, take, drop, slice_get, slice_index_or, IfOk, length};
 ghost use Rattle.std.specs.Option.{option_copied};
-ghost use Rattle.std.specs.List.{list_any};
-ghost use Rattle.cel_terms.specs.Answers.{types_of_stream};
 ghost use Rattle.query_part.specs.KeyPlaces.{places_in, values_there, key_there, AreKeyPlaces};
-ghost use Rattle.query_part.specs.Parts.{reads_type, AreTypesRead, IsByPosition};
+ghost use Rattle.query_part.specs.Parts.{IsByPosition};
 
 use cel_terms::{Name, Query, Window};
 use cer_base::{Listed, Memory};
@@ -15,48 +13,6 @@ use stream_schema::{Event, Schema, TypeId, Value, copy_value};
 
 /// The places of a key's attributes in the events of a type.
 pub type Places = Listed<u64>;
-
-fn has_number(types: &[TypeId], ty: TypeId) -> bool
-    ensures { result ≡ list_any (λ t. t == ty) types.now }
-{
-    types.iter().any(|t| *t == ty)
-}
-
-/// Whether the stream of this name has the type.
-fn stream_has(schema: &Schema, name: &Name, ty: TypeId) -> bool
-    ensures { result ≡ list_any (λ t. t == ty) (types_of_stream schema.now.streams name.now.text) }
-{
-    match schema.streams(name.text.as_str()) {
-        Some(types) => has_number(types.as_slice(), ty),
-        None => false,
-    }
-}
-
-/// Whether some of the streams has the type.
-fn some_stream_has(schema: &Schema, names: &[Name], ty: TypeId) -> bool
-    ensures { result ≡ list_any (λ n. list_any (λ t. t == ty)
-        (types_of_stream schema.now.streams n.text)) names.now }
-{
-    names.iter().any(|name| stream_has(schema, name, ty))
-}
-
-/// Whether one of the query's streams has the type.
-fn reads_type(schema: &Schema, query: &Query, ty: TypeId) -> bool
-    ensures { result ≡ reads_type schema.now query.now ty }
-{
-    some_stream_has(schema, query.streams.as_slice(), ty)
-}
-
-/// For each type, by its number, whether the query reads it.
-pub fn types_read(alloc: Global, schema: &Schema, query: &Query) -> Result<Vec<bool>, Memory>
-    ensures { IfOk result (λ v. AreTypesRead schema.now query.now v.items) }
-{
-    let mut table = Vec::new(alloc);
-    for ty in 0..schema.types() {
-        table.push(reads_type(schema, query, ty))?;
-    }
-    Ok(table)
-}
 
 /// Whether the type of this number is read.
 pub fn is_read(table: &[bool], ty: TypeId) -> bool

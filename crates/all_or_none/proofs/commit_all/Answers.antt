@@ -1,19 +1,36 @@
-use Rattle.std.proofs.Common.{◌≡◌, ◌+◌, ◌<◌, length, arith}
-use Rattle.all_or_none.specs.Phases.{IsSet, IsTaken}
-use Rattle.all_or_none.proofs.Turns.{all_here, zip_next, left_next}
+use Rattle.std.proofs.Common.{rules, ◌+◌, ◌-◌, ◌<◌, length, slice_index_or, subst, refl}
+use Rattle.std.proofs.lemmas.List.{take_all}
+use Rattle.all_or_none.proofs.Committed.{HasCommitted, committed_none, positive, next_within, next_set, committed_next, committed_all, may_answer}
 use Rattle.all_or_none.proofs.commit_all.Goals as goal
+
+pub loop-number-init : goal.loop-number-init
+loop-number-init g c = committed_none (g.P.Keeps.phase c.args.position) (g.P.Keeps.phase (c.args.position + 1)) c.args.event.now c.args.position c.args.parts.now
 
 pub commit-requires-clause-set : goal.commit-requires-clause-set
 commit-requires-clause-set g c =
-    let inside : c.loop-k.k < length c.loop-k.parts = omega arith in
-    let same : length c.loop-k.parts ≡ length c.args.parts.now = omega arith in
-    all_here (λ p. IsSet c.args.event.now c.args.position (g.P.Keeps.phase c.args.position p) (g.P.Keeps.phase (c.args.position + 1) p)) c.loop-k.parts c.args.parts.now c.loop-k.k c.index-parts-k.result inside same c.loop-k.invariant.left c.requires.set
+    next_set (g.P.Keeps.phase c.args.position) (g.P.Keeps.phase (c.args.position + 1)) c.args.event.now c.args.position c.args.numbers.now c.loop-number.number-index (slice_index_or c.args.numbers.now c.loop-number.number-index 0) c.args.parts.now c.loop-number.parts c.loop-number-test.true refl c.requires.set c.loop-number.invariant _
 
-pub loop-k-preserved : goal.loop-k-preserved
-loop-k-preserved g c =
-    let inside : c.loop-k.k < length c.loop-k.parts = omega arith in
-    let same : length c.loop-k.parts ≡ length c.args.parts.now = omega arith in
-    record {
-      done = zip_next (IsTaken c.args.event.now c.args.position) (g.P.Keeps.phase c.args.position) (g.P.Keeps.phase (c.args.position + 1)) c.loop-k.parts c.args.parts.now c.loop-k.k c.commit.new.self c.index-parts-k.result inside same c.loop-k.invariant.left c.loop-k.invariant.done c.commit.ensures;
-      left = left_next c.loop-k.parts c.args.parts.now c.loop-k.k c.commit.new.self inside same c.loop-k.invariant.left;
-    }
+pub loop-number-preserved : goal.loop-number-preserved
+loop-number-preserved g c =
+    committed_next (g.P.Keeps.phase c.args.position) (g.P.Keeps.phase (c.args.position + 1)) c.args.event.now c.args.position c.args.numbers.now c.loop-number.number-index (slice_index_or c.args.numbers.now c.loop-number.number-index 0) c.args.parts.now c.loop-number.parts c.loop-number-test.true refl c.requires.set c.loop-number.invariant _ c.commit.new.self c.commit.ensures
+
+pub returns-clause-taken : goal.returns-clause-taken
+returns-clause-taken g c =
+    committed_all (g.P.Keeps.phase c.args.position) (g.P.Keeps.phase (c.args.position + 1)) c.args.event.now c.args.position c.args.numbers.now c.args.parts.now c.loop-number.parts c.requires.set
+    (subst (λ ns. HasCommitted (g.P.Keeps.phase c.args.position) (g.P.Keeps.phase (c.args.position + 1)) c.args.event.now c.args.position ns c.args.parts.now c.loop-number.parts) (take_all c.loop-number.number-index c.args.numbers.now c.loop-number-test.false) c.loop-number.invariant)
+
+pub returns-clause-answering : goal.returns-clause-answering
+returns-clause-answering g c =
+    may_answer (g.P.Keeps.phase c.args.position) (g.P.Keeps.phase (c.args.position + 1)) c.args.event.now c.args.position c.args.numbers.now c.args.parts.now c.loop-number.parts c.requires.set
+    (subst (λ ns. HasCommitted (g.P.Keeps.phase c.args.position) (g.P.Keeps.phase (c.args.position + 1)) c.args.event.now c.args.position ns c.args.parts.now c.loop-number.parts) (take_all c.loop-number.number-index c.args.numbers.now c.loop-number-test.false) c.loop-number.invariant)
+
+pub overflow_sub-number : goal.overflow_sub-number
+overflow_sub-number g c = positive (g.P.Keeps.phase c.args.position) (g.P.Keeps.phase (c.args.position + 1)) c.args.event.now c.args.position c.args.numbers.now c.loop-number.number-index (slice_index_or c.args.numbers.now c.loop-number.number-index 0) c.args.parts.now c.loop-number.parts c.loop-number-test.true refl c.requires.set c.loop-number.invariant
+
+pub bounds-parts-number : goal.bounds-parts-number
+bounds-parts-number g c = next_within (g.P.Keeps.phase c.args.position) (g.P.Keeps.phase (c.args.position + 1)) c.args.event.now c.args.position c.args.numbers.now c.loop-number.number-index (slice_index_or c.args.numbers.now c.loop-number.number-index 0) c.args.parts.now c.loop-number.parts c.loop-number-test.true refl c.requires.set c.loop-number.invariant
+
+pub offset_bounds-parts-number : goal.offset_bounds-parts-number
+offset_bounds-parts-number g c =
+    let inside : slice_index_or c.args.numbers.now c.loop-number.number-index 0 - 1 < length c.loop-number.parts = next_within (g.P.Keeps.phase c.args.position) (g.P.Keeps.phase (c.args.position + 1)) c.args.event.now c.args.position c.args.numbers.now c.loop-number.number-index (slice_index_or c.args.numbers.now c.loop-number.number-index 0) c.args.parts.now c.loop-number.parts c.loop-number-test.true refl c.requires.set c.loop-number.invariant in
+    search rules

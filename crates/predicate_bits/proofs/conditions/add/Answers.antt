@@ -4,8 +4,8 @@ use Rattle.predicate_bits.proofs.Filled.{IsFilledUpTo, within_list, within_room,
 use Rattle.predicate_bits.proofs.conditions.add.Goals.{then-holds_at, else-holds_at}
 use Rattle.predicate_bits.proofs.conditions.add.Goals as goal
 
-pub holds_at-requires : goal.holds_at-requires
-holds_at-requires c =
+pub holds_at-requires-clause-inside : goal.holds_at-requires-clause-inside
+holds_at-requires-clause-inside c =
     within_list c.args.list.now c.args.event.now.ty c.args.numbers.now c.loop-number.number-index (slice_index_or c.args.numbers.now c.loop-number.number-index 0) c.requires.group c.loop-number-test.true
     (get_or_default c.args.numbers.now c.loop-number.number-index 0 (slice_index_or c.args.numbers.now c.loop-number.number-index 0) c.loop-number-test.true)
 

@@ -1,10 +1,10 @@
-use Rattle.std.proofs.Common.{sym, ◌∙◌, slice_index_or}
+use Rattle.std.proofs.Common.{◌∙◌, slice_index_or}
 use Rattle.std.proofs.lemmas.List.{get_or_default}
 use Rattle.predicate_bits.proofs.Filled.{within_list, bit_at, none_past, none_all}
 use Rattle.predicate_bits.proofs.conditions.hold_none.Goals as goal
 
-pub holds_at-requires : goal.holds_at-requires
-holds_at-requires c =
+pub holds_at-requires-clause-inside : goal.holds_at-requires-clause-inside
+holds_at-requires-clause-inside c =
     within_list c.args.list.now c.args.event.now.ty c.args.numbers.now c.loop-number.number-index (slice_index_or c.args.numbers.now c.loop-number.number-index 0) c.requires.group c.loop-number-test.true
     (get_or_default c.args.numbers.now c.loop-number.number-index 0 (slice_index_or c.args.numbers.now c.loop-number.number-index 0) c.loop-number-test.true)
 

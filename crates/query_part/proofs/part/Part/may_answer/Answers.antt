@@ -1,4 +1,4 @@
-use Rattle.std.proofs.Common.{◌≡◌, ◌≢◌, ◌∙◌, [], sym, ap, subst, rules}
+use Rattle.std.proofs.Common.{◌≡◌, ◌∙◌, [], sym, ap, subst, rules}
 use Rattle.query_standing.specs.Kept.{roots_at}
 use Rattle.all_or_none.specs.Phases.{Phase}
 use Rattle.query_part.proofs.Prepare.{idle_awake, inner_stands}

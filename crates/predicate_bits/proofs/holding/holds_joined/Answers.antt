@@ -1,0 +1,12 @@
+use Rattle.std.proofs.Common.{ap, sym, ◌∙◌}
+use Rattle.std.specs.List.{list_all}
+use Rattle.query_leaves.specs.Shapes.{test_holds}
+use Rattle.predicate_bits.proofs.Listed.{holds_all}
+use Rattle.predicate_bits.proofs.holding.holds_joined.Goals as goal
+
+pub returns-in-All : goal.returns-in-All
+returns-in-All c =
+    let e = holds_all c.args.event.now c.in-All.tests in
+    let v = c.as_slice.ensures.value in
+    let i = ap (λ p. test_holds p c.args.event.now) c.in-All.is in
+    c.all_hold_flat.ensures ∙ ap (list_all (λ p. test_holds p c.args.event.now)) v ∙ sym e ∙ sym i

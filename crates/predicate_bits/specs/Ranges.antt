@@ -1,0 +1,28 @@
+-- The whole number that the tests of a leaf ask for, as a range.
+use Rattle.std.specs.Prelude.{◌≡◌, ℕ, ◌^◌, ℤ, pos, neg_ℤ, ◌≤ℤ◌, ◌<ℤ◌, Bool, true, List, length, Some, slice_get}
+use Rattle.stream_schema.specs.declared.Event.{Event}
+use Rattle.stream_schema.specs.declared.Value.TheVariants as value
+use Rattle.query_leaves.specs.declared.Leaf.{Leaf}
+use Rattle.query_leaves.specs.Shapes.{each_holds}
+use Rattle.predicate_bits.specs.declared.ranges.Range.{Range}
+
+-- a number that an attribute may have
+abbrev pub IsWide : ℤ → Type 0
+IsWide v = (neg_ℤ (pos (2 ^ 63)) ≤ℤ v) × (v <ℤ pos (2 ^ 63))
+
+abbrev pub IsIn : Range → ℤ → Type 0
+IsIn r v = (r.low ≤ℤ v) × (v ≤ℤ r.high)
+
+-- The number at the range's place that is in the range is in the new one, if the test holds of the event.
+pub record Narrows (old new : Range) (holds : Event → Bool) : Type 0 where
+  pub place : new.place ≡ old.place
+  pub narrow : (event : Event) (v : ℤ) → IsWide v → holds event ≡ true → slice_get event.values old.place ≡ Some (value.Int v) → IsIn old v → IsIn new v
+
+-- where the test holds, the whole number at the range's place, if there is one, is in the range
+abbrev pub AsksFor : Range → (Event → Bool) → Type 0
+AsksFor r holds = (event : Event) (v : ℤ) → IsWide v → holds event ≡ true → slice_get event.values r.place ≡ Some (value.Int v) → IsIn r v
+
+-- each leaf has its range
+pub record AreRangesOf (list : List Leaf) (ranges : List Range) : Type 0 where
+  pub count : length ranges ≡ length list
+  pub each : (k : ℕ) (l : Leaf) (r : Range) → slice_get list k ≡ Some l → slice_get ranges k ≡ Some r → AsksFor r (each_holds l.tests.items)

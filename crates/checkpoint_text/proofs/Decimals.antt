@@ -8,7 +8,7 @@ use Rattle.std.proofs.lemmas.Bool.{and_parts, and_from, leb-true, le-leb, eqb-tr
 use Rattle.std.proofs.lemmas.Fmt.{digits_decimal, digits_value-decimal, decimal-digits_value, decimal_nonempty, first_decimal, decimal_digit}
 use Rattle.std.proofs.lemmas.Str.Parse.{IsNumeralModel, numerals_by_fold, tells_all_ascii_digits}
 use Rattle.cer_base.specs.Digits.{read_on}
-use Rattle.checkpoint_text.specs.Numbers.{is_blank, is_numeral, number}
+use Rattle.checkpoint_text.specs.Numbers.{is_numeral, number}
 
 own : IsNumeralModel (λ ds. all_ascii_digits ds ≡ true) (read_on 0)
 own = numerals_by_fold (λ ds. all_ascii_digits ds ≡ true) tells_all_ascii_digits read_on (record { empty = λ n. refl; more = λ n c cs h. refl })
@@ -83,20 +83,21 @@ text_number most n small few =
     let shape : is_numeral (decimal n) ≡ true = numeral_from (decimal n) (digits_decimal own n low) (decimal_nonempty n low) (decimal_lead n low) in
     rw (and_from (is_numeral (decimal n)) (nat_le (read_on 0 (decimal n)) most) shape passes) (ap (λ m. Some m) value)
 
-no_blank : (byte : ℕ) → is_ascii_digit byte ≡ true → is_blank byte ≡ false
-no_blank byte e = by_test (is_blank byte) refl
+other_byte : (stop byte : ℕ) → is_ascii_digit stop ≡ false → is_ascii_digit byte ≡ true → (byte == stop) ≡ false
+other_byte stop byte no_digit e = by_test (byte == stop) refl
   where
-    by_test : (t : Bool) → is_blank byte ≡ t → t ≡ false
-    by_test true blank =
-        let clash : false ≡ true = ap is_ascii_digit (sym (eqb-true byte 32 blank)) ∙ e in
+    by_test : (t : Bool) → (byte == stop) ≡ t → t ≡ false
+    by_test true same =
+        let clash : false ≡ true = sym no_digit ∙ ap is_ascii_digit (sym (eqb-true byte stop same)) ∙ e in
         absurd (search (rules, clash))
-    by_test false blank = refl
+    by_test false same = refl
 
-digits_unblank : (digits : List ℕ) → all_ascii_digits digits ≡ true → list_any is_blank digits ≡ false
-digits_unblank [] all = refl
-digits_unblank (d ∷ digits) all =
+digits_without : (stop : ℕ) (digits : List ℕ) → is_ascii_digit stop ≡ false → all_ascii_digits digits ≡ true → list_any (λ b. b == stop) digits ≡ false
+digits_without stop [] no_digit all = refl
+digits_without stop (d ∷ digits) no_digit all =
     let parts = and_parts (is_ascii_digit d) (all_ascii_digits digits) all in
-    rw (no_blank d parts.0) (digits_unblank digits parts.1)
+    rw (other_byte stop d no_digit parts.0) (digits_without stop digits no_digit parts.1)
 
-pub decimal_unblank : (n : ℕ) → n < 2 ^ 64 → list_any is_blank (decimal n) ≡ false
-decimal_unblank n few = digits_unblank (decimal n) (digits_decimal own n few)
+-- a decimal has no byte but digits
+pub decimal_without : (stop n : ℕ) → is_ascii_digit stop ≡ false → n < 2 ^ 64 → list_any (λ b. b == stop) (decimal n) ≡ false
+decimal_without stop n no_digit few = digits_without stop (decimal n) no_digit (digits_decimal own n few)

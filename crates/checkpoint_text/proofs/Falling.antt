@@ -15,7 +15,7 @@ pub any_back_is : (schema : Declared) (queries : List Query) (events : List Even
 any_back_is schema [] events e = refl
 any_back_is schema (q ∷ queries) events e = ap (λ b. falls_with schema events e q || b) (any_back_is schema queries events e)
 
-folded : {A B : Type 0} (f : B → A → B) (b : B) (xs : List A) (x : A) → fold f b (xs ++ x ∷ []) ≡ f (fold f b xs) x
+pub folded : {A B : Type 0} (f : B → A → B) (b : B) (xs : List A) (x : A) → fold f b (xs ++ x ∷ []) ≡ f (fold f b xs) x
 folded f b [] x = refl
 folded f b (y ∷ xs) x = folded f (f b y) xs x
 

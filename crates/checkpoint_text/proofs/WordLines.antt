@@ -5,7 +5,7 @@ use Rattle.std.specs.List.{list_any}
 use Rattle.checkpoint_text.specs.Numbers.{is_blank, number, cut, behind, behind_in, two_numbers, counts_of, position_of}
 use Rattle.checkpoint_text.specs.Spelling.{counts_text, position_text}
 use Rattle.checkpoint_text.proofs.Words.{cut_is, parts_join, parts_of, mapped_some}
-use Rattle.checkpoint_text.proofs.Decimals.{number_text, text_number, decimal_unblank}
+use Rattle.checkpoint_text.proofs.Decimals.{number_text, text_number, decimal_without}
 
 same_bytes : (xs ys : List ℕ) → bytes_eq xs ys ≡ true → xs ≡ ys
 same_bytes xs ys e = search (rules, e)
@@ -62,6 +62,6 @@ counts_told text positions count e =
 pub told_counts : (positions count : ℕ) → positions ≤ 4611686018427387904 → count ≤ positions → counts_of (counts_text positions count) ≡ Some (positions, count)
 told_counts positions count few fewer =
     ap (λ o. option_and_then (λ ws. option_and_then two_numbers (cut ws)) (option_and_then (behind_in (codes "events")) o)) (cut_of (codes "events") (decimal positions ++ 32 ∷ decimal count) refl)
-    ∙ ap (option_and_then two_numbers) (cut_of (decimal positions) (decimal count) (decimal_unblank positions (omega arith)))
+    ∙ ap (option_and_then two_numbers) (cut_of (decimal positions) (decimal count) (decimal_without 32 positions refl (omega arith)))
     ∙ ap (option_and_then (λ p. option_map (λ k. (p, k)) (number p (decimal count)))) (text_number 4611686018427387904 positions (omega arith) few)
     ∙ ap (option_map (λ k. (positions, k))) (text_number positions count (omega arith) fewer)

@@ -5,3 +5,5 @@ pub mod Numbers
 pub mod Checkpoints
 pub mod Reading
 pub mod Spelling
+pub mod Keeping
+pub mod KeepLaws

@@ -1,12 +1,13 @@
 //! The clocks of the queries along events.
 
-ghost use Rattle.std.specs.Prelude.{◌≡◌, ◌==◌, length, map, Some, None, IfOk};
+ghost use Rattle.std.specs.Prelude.{◌≡◌, ◌==◌, ◌+ℤ◌, int_lt, length, map, Some, None, IfOk};
 ghost use Rattle.std.specs.List.{list_any};
 ghost use Rattle.cel_terms.specs.Answers.{types_of_stream};
 ghost use Rattle.cel_plain.specs.Below.{query_reads};
 ghost use Rattle.window_clock.specs.Clocks.{int_of, clock_of};
 ghost use Rattle.checkpoint_text.specs.Clocks.{clock_at, later, is_back};
 ghost use Rattle.checkpoint_text.specs.LastClocks.{any_back, next_clocks};
+ghost use Rattle.checkpoint_text.specs.Keeping.{is_within, are_within, any_needs};
 
 use crate::EventAt;
 use cel_plain::predicate::value_of;
@@ -148,4 +149,51 @@ pub fn no_clocks(alloc: Global, queries: &[Query]) -> Result<Vec<Option<i128>>, 
     ensures { IfOk result (λ clocks. clocks.items ≡ map (λ q. None) queries.now) }
 {
     Ok(vec![in alloc; None; queries.len()]?)
+}
+
+/// Whether the number that is so much above the first is below the last.
+fn is_past(from: i128, width: i128, last: i128) -> bool
+    ensures { result ≡ int_lt (from +ℤ width) last }
+{
+    match from.checked_add(width) {
+        Some(bound) => bound < last,
+        None => width < 0,
+    }
+}
+
+/// Whether a start with the first clock is in the window of an event with the last.
+fn is_within(window: &Window, from: i128, last: i128) -> bool
+    ensures { result ≡ is_within window.now from last }
+{
+    match window {
+        Window::Free => true,
+        Window::Events(n) => !is_past(from, i128::from(*n), last),
+        Window::Clock(_, n) => !is_past(from, *n, last),
+    }
+}
+
+fn are_within(window: &Window, from: Option<i128>, last: Option<i128>) -> bool
+    ensures { result ≡ are_within window.now from last }
+{
+    match from {
+        Some(from) => match last {
+            Some(last) => is_within(window, from, last),
+            None => true,
+        },
+        None => false,
+    }
+}
+
+/// Whether some query needs the event, the last clocks being these.
+pub fn any_needs(schema: &Schema, queries: &[Query], lasts: &[Option<i128>], at: &EventAt) -> bool
+    requires { length lasts.now ≡ length queries.now }
+    ensures { result ≡ any_needs schema.now queries.now lasts.now at.now }
+{
+    for k in 0..queries.len() {
+        let from = clock_at(schema, &queries[k], &at.event, at.position);
+        if are_within(&queries[k].window, from, lasts[k]) {
+            return true;
+        }
+    }
+    false
 }

@@ -7,6 +7,7 @@
 
 mod clocks;
 mod history;
+mod keeping;
 pub mod laws;
 mod numbers;
 mod reading;
@@ -15,6 +16,7 @@ mod stand;
 mod tests;
 
 pub use history::{EventAt, History};
+pub use keeping::{Keep, KeptLine};
 pub use numbers::MOST_POSITIONS;
 pub use reading::{MOST_BYTES, read_checkpoint};
 use thiserror::Error;

@@ -1,0 +1,13 @@
+use Rattle.std.proofs.Common.{sym, arith, length, eq-eqb}
+use Rattle.std.proofs.lemmas.List.Sums.{position_or_len_is}
+use Rattle.checkpoint_text.specs.declared.numbers.TheConstants.{BLANK}
+use Rattle.checkpoint_text.specs.Numbers.{is_blank}
+use Rattle.checkpoint_text.proofs.numbers.blank_at.Goals as goal
+
+pub returns-then-byte-eq-BLANK-clause-place : goal.returns-then-byte-eq-BLANK-clause-place
+returns-then-byte-eq-BLANK-clause-place c =
+    sym (position_or_len_is is_blank c.args.text.now c.loop-i.i 0 (omega arith) c.loop-i.invariant (λ _. eq-eqb _ BLANK c.if-byte-eq-BLANK.true))
+
+pub returns-clause-place : goal.returns-clause-place
+returns-clause-place c =
+    sym (position_or_len_is is_blank c.args.text.now (length c.args.text.now) 0 (omega arith) (λ k h. c.loop-i.invariant k (omega arith)) (λ h. absurd (omega arith)))

@@ -1,0 +1,41 @@
+-- The words and numbers of a line.
+use Rattle.std.specs.Prelude.{ℕ, ◌==◌, Bool, false, not, ◌&&◌, ◌||◌, if◌then◌else◌, nat_lt, nat_le, List, [], ◌∷◌, length, Option, Some, None, bytes_eq, codes, option_and_then, option_map}
+use Rattle.std.specs.Char.{is_ascii_digit}
+use Rattle.std.specs.List.{list_all, after_first, before_first, position_or_len}
+use Rattle.cer_base.specs.Digits.{read_on}
+use Rattle.checkpoint_text.specs.declared.numbers.TheConstants.{BLANK, ZERO, MOST_POSITIONS}
+
+-- some digits, the first of several not being 0
+abbrev pub is_numeral : List ℕ → Bool
+is_numeral [] = false
+is_numeral (d ∷ ds) = (length ds == 0 || not (d == ZERO)) && list_all is_ascii_digit (d ∷ ds)
+
+-- the number that they write, where it is at most so much
+abbrev pub number : ℕ → List ℕ → Option ℕ
+number most digits = if is_numeral digits && nat_le (read_on 0 digits) most then Some (read_on 0 digits) else None
+
+abbrev pub is_blank : ℕ → Bool
+is_blank byte = byte == BLANK
+
+-- what stands before the first blank and behind it, where there is one
+abbrev pub cut : List ℕ → Option (List ℕ × List ℕ)
+cut text = if nat_lt (position_or_len is_blank text) (length text) then Some (before_first is_blank text, after_first is_blank text) else None
+
+-- what stands behind this word and a blank
+abbrev pub behind_in : List ℕ → List ℕ × List ℕ → Option (List ℕ)
+behind_in word parts = if bytes_eq parts.0 word then Some parts.1 else None
+
+abbrev pub behind : List ℕ → List ℕ → Option (List ℕ)
+behind word text = option_and_then (behind_in word) (cut text)
+
+-- two numbers: the first at most the most positions, the second at most the first
+abbrev pub two_numbers : List ℕ × List ℕ → Option (ℕ × ℕ)
+two_numbers parts = option_and_then (λ positions. option_map (λ count. (positions, count)) (number positions parts.1)) (number MOST_POSITIONS parts.0)
+
+-- how many positions and events a line tells
+abbrev pub counts_of : List ℕ → Option (ℕ × ℕ)
+counts_of text = option_and_then (λ words. option_and_then two_numbers (cut words)) (behind (codes "events") text)
+
+-- the position that a line tells
+abbrev pub position_of : List ℕ → Option ℕ
+position_of text = option_and_then (number MOST_POSITIONS) (behind (codes "at") text)

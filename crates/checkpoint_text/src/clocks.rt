@@ -1,0 +1,199 @@
+//! The clocks of the queries along events.
+
+ghost use Rattle.std.specs.Prelude.{◌≡◌, ◌==◌, ◌+ℤ◌, int_lt, length, map, Some, None, IfOk};
+ghost use Rattle.std.specs.List.{list_any};
+ghost use Rattle.cel_terms.specs.Answers.{types_of_stream};
+ghost use Rattle.cel_plain.specs.Below.{query_reads};
+ghost use Rattle.window_clock.specs.Clocks.{int_of, clock_of};
+ghost use Rattle.checkpoint_text.specs.Clocks.{clock_at, later, is_back};
+ghost use Rattle.checkpoint_text.specs.LastClocks.{any_back, next_clocks};
+ghost use Rattle.checkpoint_text.specs.Keeping.{is_within, are_within, any_needs};
+
+use crate::EventAt;
+use cel_plain::predicate::value_of;
+use cel_terms::{Name, Query, Window};
+use cer_base::{Memory, Pos};
+use std::alloc::Global;
+use stream_schema::{Event, Schema, TypeId, Value};
+
+fn has_number(types: &[TypeId], ty: TypeId) -> bool
+    ensures { result ≡ list_any (λ t. t == ty) types.now }
+{
+    types.iter().any(|t| *t == ty)
+}
+
+/// Whether the stream of this name has the type.
+fn stream_has(schema: &Schema, name: &Name, ty: TypeId) -> bool
+    ensures { result ≡ list_any (λ t. t == ty)
+        (types_of_stream schema.now.streams name.now.text) }
+{
+    match schema.streams(name.text.as_str()) {
+        Some(types) => has_number(types.as_slice(), ty),
+        None => false,
+    }
+}
+
+/// Whether some of the streams has the type.
+fn some_stream_has(schema: &Schema, names: &[Name], ty: TypeId) -> bool
+    ensures { result ≡ list_any (λ n. list_any (λ t. t == ty)
+        (types_of_stream schema.now.streams n.text)) names.now }
+{
+    names.iter().any(|name| stream_has(schema, name, ty))
+}
+
+/// Whether one of the query's streams has the event's type.
+fn reads(schema: &Schema, query: &Query, event: &Event) -> bool
+    ensures { result ≡ query_reads schema.now query.now event.now }
+{
+    some_stream_has(schema, query.streams.as_slice(), event.ty)
+}
+
+/// The value as a whole number, where it is one.
+fn int_of(value: &Value) -> Option<i128>
+    ensures { result ≡ int_of (Some value.now) }
+{
+    match value {
+        Value::Int(n) => Some(i128::from(*n)),
+        _ => None,
+    }
+}
+
+/// The event's clock at the position, where it has one.
+fn clock_of(schema: &Schema, window: &Window, event: &Event, position: Pos) -> Option<i128>
+    ensures { result ≡ clock_of schema.now window.now event.now position }
+{
+    match window {
+        Window::Free => Some(i128::from(position)),
+        Window::Events(_) => Some(i128::from(position)),
+        Window::Clock(name, _) => match value_of(schema, event, name.text.as_str()) {
+            Some(value) => int_of(value),
+            None => None,
+        },
+    }
+}
+
+/// The event's clock, where the query reads it.
+fn clock_at(schema: &Schema, query: &Query, event: &Event, position: Pos) -> Option<i128>
+    ensures { result ≡ clock_at schema.now query.now
+        (record { position = position; event = event.now }) }
+{
+    if reads(schema, query, event) {
+        clock_of(schema, &query.window, event, position)
+    } else {
+        None
+    }
+}
+
+/// Whether both are there, and the second is below the first.
+fn is_back(last: Option<i128>, now: Option<i128>) -> bool
+    ensures { result ≡ is_back last now }
+{
+    match (last, now) {
+        (Some(before), Some(now)) => now < before,
+        _ => false,
+    }
+}
+
+fn later(last: Option<i128>, now: Option<i128>) -> Option<i128>
+    ensures { result ≡ later last now }
+{
+    match now {
+        Some(now) => Some(now),
+        None => last,
+    }
+}
+
+/// Whether the clock of some query falls with the event, the last clocks being these.
+pub fn any_back(
+    schema: &Schema,
+    queries: &[Query],
+    lasts: &[Option<i128>],
+    event: &Event,
+    position: Pos,
+) -> bool
+    requires { length lasts.now ≡ length queries.now }
+    ensures { result ≡ any_back schema.now queries.now lasts.now
+        (record { position = position; event = event.now }) }
+{
+    for k in 0..queries.len() {
+        if is_back(lasts[k], clock_at(schema, &queries[k], event, position)) {
+            return true;
+        }
+    }
+    false
+}
+
+/// The last clocks with the event, where they were these before.
+pub fn next_clocks(
+    alloc: Global,
+    schema: &Schema,
+    queries: &[Query],
+    lasts: &[Option<i128>],
+    event: &Event,
+    position: Pos,
+) -> Result<Vec<Option<i128>>, Memory>
+    requires { length lasts.now ≡ length queries.now }
+    ensures { IfOk result (λ clocks. clocks.items ≡ next_clocks schema.now queries.now lasts.now
+        (record { position = position; event = event.now })) }
+{
+    let mut clocks = Vec::new(alloc);
+    for k in 0..queries.len() {
+        clocks.push(later(lasts[k], clock_at(schema, &queries[k], event, position)))?;
+    }
+    Ok(clocks)
+}
+
+/// The last clocks of the queries before any event.
+#[tactic(auto, using(crate::proofs::Falling::none_yet))]
+pub fn no_clocks(alloc: Global, queries: &[Query]) -> Result<Vec<Option<i128>>, Memory>
+    ensures { IfOk result (λ clocks. clocks.items ≡ map (λ q. None) queries.now) }
+{
+    Ok(vec![in alloc; None; queries.len()]?)
+}
+
+/// Whether the number that is so much above the first is below the last.
+fn is_past(from: i128, width: i128, last: i128) -> bool
+    ensures { result ≡ int_lt (from +ℤ width) last }
+{
+    match from.checked_add(width) {
+        Some(bound) => bound < last,
+        None => width < 0,
+    }
+}
+
+/// Whether a start with the first clock is in the window of an event with the last.
+fn is_within(window: &Window, from: i128, last: i128) -> bool
+    ensures { result ≡ is_within window.now from last }
+{
+    match window {
+        Window::Free => true,
+        Window::Events(n) => !is_past(from, i128::from(*n), last),
+        Window::Clock(_, n) => !is_past(from, *n, last),
+    }
+}
+
+fn are_within(window: &Window, from: Option<i128>, last: Option<i128>) -> bool
+    ensures { result ≡ are_within window.now from last }
+{
+    match from {
+        Some(from) => match last {
+            Some(last) => is_within(window, from, last),
+            None => true,
+        },
+        None => false,
+    }
+}
+
+/// Whether some query needs the event, the last clocks being these.
+pub fn any_needs(schema: &Schema, queries: &[Query], lasts: &[Option<i128>], at: &EventAt) -> bool
+    requires { length lasts.now ≡ length queries.now }
+    ensures { result ≡ any_needs schema.now queries.now lasts.now at.now }
+{
+    for k in 0..queries.len() {
+        let from = clock_at(schema, &queries[k], &at.event, at.position);
+        if are_within(&queries[k].window, from, lasts[k]) {
+            return true;
+        }
+    }
+    false
+}

@@ -1,0 +1,62 @@
+//! The text of a checkpoint: how many events came, and those that the windows still need.
+//!
+//! Promised: `read_checkpoint` answers exactly the history that the text tells, or exactly the first
+//! line that is refused, and why; the laws say so apart from how it is read.
+//! It stands on `event_reader` for lines and events, and on `cel_plain` for what a query reads.
+#![tactic(auto)]
+
+mod clocks;
+mod history;
+mod keeping;
+pub mod laws;
+mod numbers;
+mod reading;
+mod stand;
+#[cfg(test)]
+mod tests;
+
+pub use history::{EventAt, History};
+pub use keeping::{Keep, KeptLine};
+pub use numbers::MOST_POSITIONS;
+pub use reading::{MOST_BYTES, read_checkpoint};
+use thiserror::Error;
+
+/// Why a line is refused.
+#[derive(Drop, Debug, Clone, Copy, PartialEq, Eq, Error)]
+pub enum CheckpointFault {
+    /// It has more than 65,536 bytes.
+    #[error("line too long")]
+    LongLine,
+    /// The first line is not `core checkpoint 1`.
+    #[error("bad header")]
+    BadHeader,
+    /// The second line is not `events P K` with P at most 2 to the 62 and K at most P.
+    #[error("bad count")]
+    BadCount,
+    /// It is not `at N` with N below P and above each N before.
+    #[error("bad position")]
+    BadPosition,
+    /// It is no event, or with its event the clock of a query falls.
+    #[error("bad event")]
+    BadEvent,
+    /// The text ends before this line, which is missing.
+    #[error("missing line")]
+    Short,
+    /// The line stands behind the last one.
+    #[error("extra line")]
+    Extra,
+    /// This many lines and no end are in the bytes that may be read; the line is the next one.
+    #[error("too long")]
+    TooLong,
+}
+
+/// Why a text has no history.
+#[derive(Drop, Debug, Clone, Copy, PartialEq, Eq, Error)]
+pub enum HistoryFault {
+    /// The line of this number, from 1, is the first that is refused.
+    #[error("line {line}: {fault}")]
+    Bad { line: u64, fault: CheckpointFault },
+    /// The source failed, and its count of faults rose.
+    #[error("cannot read")]
+    ReadFault,
+}

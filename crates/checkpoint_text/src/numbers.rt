@@ -1,0 +1,104 @@
+//! The words and numbers of a line.
+
+ghost use Rattle.std.specs.Prelude.{◌≡◌, ◌≤◌, length, option_map};
+ghost use Rattle.std.specs.Char.{is_ascii_digit};
+ghost use Rattle.std.specs.List.{list_all, position_or_len};
+ghost use Rattle.checkpoint_text.specs.Numbers.{is_numeral, number, is_blank, cut, behind, two_numbers, counts_of, position_of};
+
+use cer_base::digits::with_digits;
+
+/// Stands between the words of a line.
+pub const BLANK: u8 = b' ';
+
+/// No number of several digits begins with it.
+pub const ZERO: u8 = b'0';
+
+/// The most positions of a stream: 2 to the 62.
+pub const MOST_POSITIONS: u64 = 4611686018427387904;
+
+/// How many positions and events the line tells: `events P K`, K at most P.
+pub fn counts_of(text: &[u8]) -> Option<(u64, u64)>
+    ensures { result ≡ counts_of text.now }
+{
+    let words = behind(b"events", text)?;
+    let (positions, count) = cut(words)?;
+    two_numbers(positions, count)
+}
+
+fn two_numbers(positions: &[u8], count: &[u8]) -> Option<(u64, u64)>
+    ensures { result ≡ two_numbers (positions.now, count.now) }
+{
+    let positions = number(MOST_POSITIONS, positions)?;
+    let count = number(positions, count)?;
+    Some((positions, count))
+}
+
+/// The position that the line tells: `at N`.
+pub fn position_of(text: &[u8]) -> Option<u64>
+    ensures { result ≡ position_of text.now }
+{
+    let digits = behind(b"at", text)?;
+    number(MOST_POSITIONS, digits)
+}
+
+/// What stands behind this word and a blank.
+fn behind<'t>(word: &[u8], text: &'t [u8]) -> Option<&'t [u8]>
+    ensures { option_map (λ rest. rest.now) result ≡ behind word.now text.now }
+{
+    match cut(text) {
+        Some((first, rest)) => { if first == word { Some(rest) } else { None } }
+        None => None,
+    }
+}
+
+/// The number that the digits write, without leading zeros, where it is at most so much.
+#[tactic(auto, using(crate::proofs::Spelled::numbered))]
+fn number(most: u64, digits: &[u8]) -> Option<u64>
+    ensures { result ≡ number most digits.now }
+{
+    if !is_numeral(digits) {
+        return None;
+    }
+    with_digits(most, 0, digits)
+}
+
+/// Whether these are digits, the first of several not being 0.
+fn is_numeral(digits: &[u8]) -> bool
+    ensures { result ≡ is_numeral digits.now }
+{
+    match digits.split_first() {
+        Some((first, others)) => (others.is_empty() || *first != ZERO) && are_digits(digits),
+        None => false,
+    }
+}
+
+fn are_digits(bytes: &[u8]) -> bool
+    ensures { result ≡ list_all is_ascii_digit bytes.now }
+{
+    bytes.iter().all(|byte| byte.is_ascii_digit())
+}
+
+/// What stands before the first blank and behind it, where there is one.
+fn cut(text: &[u8]) -> Option<(&[u8], &[u8])>
+    ensures { option_map (λ parts. (parts.0.now, parts.1.now)) result ≡ cut text.now }
+{
+    let at = blank_at(text);
+    if at < text.len() {
+        Some((&text[..at], &text[at + 1..]))
+    } else {
+        None
+    }
+}
+
+/// The place of the first blank, or the text's length.
+fn blank_at(text: &[u8]) -> usize
+    ensures place { result ≡ position_or_len is_blank text.now }
+    ensures bound { result ≤ length text.now }
+{
+    for (i, byte) in text.iter().enumerate() {
+        if *byte == BLANK {
+            return i;
+        }
+    }
+    text.len()
+}

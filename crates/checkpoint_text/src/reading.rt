@@ -1,0 +1,154 @@
+//! The history that a text tells.
+
+ghost use Rattle.std.specs.Prelude.{◌≡◌, ◌≤◌, ℕ, List, [], false, length, None, Some};
+ghost use Rattle.checkpoint_text.specs.declared.history.EventAt.{EventAt};
+ghost use Rattle.checkpoint_text.specs.declared.reading.TheConstants as bytes;
+ghost use Rattle.event_reader.specs.Reading.{HasGiven};
+ghost use Rattle.checkpoint_text.specs.LastClocks.{last_clocks};
+ghost use Rattle.checkpoint_text.specs.Checkpoints.{at_stop};
+ghost use Rattle.checkpoint_text.specs.Reading.{IsOfText, IsEnd, EndsAs, HasReadCause, fault_of};
+
+use crate::clocks::no_clocks;
+use crate::stand::{Awaited, Stand, take_line};
+use crate::{CheckpointFault, EventAt, History, HistoryFault};
+use cel_terms::Query;
+use cer_base::{Listed, Memory, OrMemory};
+use cer_outside::Source;
+use event_reader::{LineFault, Lines, Next};
+use std::alloc::Global;
+use stream_schema::Schema;
+
+/// A text has fewer bytes: 2 to the 40.
+pub const MOST_BYTES: u64 = 1099511627776;
+
+/// The history that the text of a checkpoint tells.
+///
+/// - `Bad`: the first line that is refused, and why.
+/// - `ReadFault`: the source failed; no line before is refused.
+/// - Memory ran out.
+///
+/// The events are of the schema, and no query's clock falls along them.
+pub fn read_checkpoint<Q: Source>(
+    alloc: Global,
+    schema: &Schema,
+    queries: &[Query],
+    source: &mut Q,
+) -> Result<History, OrMemory<HistoryFault>>
+    ensures text { (bytes : List ℕ) → Q.left source.old ≡ Some bytes
+        → IsOfText schema.now queries.now bytes (Q.left source.new) result }
+    ensures cause { HasReadCause (Q.faults source.old) (Q.faults source.new) result }
+{
+    let mut lines = match Lines::new(alloc, MOST_BYTES) {
+        Ok(lines) => lines,
+        Err(Memory) => return Err(OrMemory::Memory),
+    };
+    let mut lasts = match no_clocks(alloc, queries) {
+        Ok(lasts) => lasts,
+        Err(Memory) => return Err(OrMemory::Memory),
+    };
+    let mut events = Vec::new(alloc);
+    match read_on(
+        alloc,
+        schema,
+        queries,
+        &mut lines,
+        source,
+        &mut events,
+        &mut lasts,
+    ) {
+        Ok(positions) => Ok(History {
+            positions,
+            events: Listed::of(events),
+        }),
+        Err(stop) => Err(stop),
+    }
+}
+
+/// Puts the events of all lines behind each other, and says how many positions there are.
+fn read_on<Q: Source>(
+    alloc: Global,
+    schema: &Schema,
+    queries: &[Query],
+    lines: &mut Lines,
+    source: &mut Q,
+    events: &mut Vec<EventAt>,
+    lasts: &mut Vec<Option<i128>>,
+) -> Result<u64, OrMemory<HistoryFault>>
+    requires open { lines.old.closed ≡ false }
+    requires budget { lines.old.budget ≡ bytes.MOST_BYTES }
+    requires first { lines.old.number ≡ 0 }
+    requires room { lines.old.room ≤ bytes.MOST_BYTES }
+    requires none { events.old.items ≡ [] }
+    requires lasts { lasts.old.items ≡ last_clocks schema.now queries.now [] }
+    ensures text { (bytes : List ℕ) → HasGiven lines.old bytes (Q.left source.old) []
+        → IsEnd schema.now queries.now bytes (Q.left source.new) events.new.items result }
+    ensures cause { HasReadCause (Q.faults source.old) (Q.faults source.new) result }
+{
+    let mut stand = Stand::start();
+    loop {
+        match lines.next(source) {
+            Ok(Next::Line) => {}
+            Ok(Next::End) => return at_end(lines.number(), &stand, events.len() as u64),
+            Err(fault) => return Err(OrMemory::Fault(fault_of(lines.number(), fault))),
+        }
+        match take_line(
+            alloc,
+            schema,
+            queries,
+            lines.text(),
+            &mut stand,
+            events,
+            lasts,
+        ) {
+            Ok(()) => {}
+            Err(OrMemory::Memory) => return Err(OrMemory::Memory),
+            Err(OrMemory::Fault(fault)) => {
+                let line = lines.number();
+                return Err(OrMemory::Fault(HistoryFault::Bad { line, fault }));
+            }
+        }
+    }
+}
+
+/// How many positions there are, where all was told that was announced in so many lines.
+fn at_end(lines: u64, stand: &Stand, count: u64) -> Result<u64, OrMemory<HistoryFault>>
+    requires { lines ≤ bytes.MOST_BYTES }
+    ensures { (events : List EventAt) → length events ≡ count
+        → EndsAs (at_stop lines (record { stand = stand.now; events = events }) None) events result }
+{
+    let line = lines + 1;
+    let missing = HistoryFault::Bad {
+        line,
+        fault: CheckpointFault::Short,
+    };
+    match stand.awaited {
+        Awaited::Position => {
+            if count == stand.count {
+                Ok(stand.positions)
+            } else {
+                Err(OrMemory::Fault(missing))
+            }
+        }
+        Awaited::Header => Err(OrMemory::Fault(missing)),
+        Awaited::Counts => Err(OrMemory::Fault(missing)),
+        Awaited::EventOf(_) => Err(OrMemory::Fault(missing)),
+    }
+}
+
+/// Why there is no further line behind so many.
+fn fault_of(lines: u64, fault: LineFault) -> HistoryFault
+    requires { lines ≤ bytes.MOST_BYTES }
+    ensures { result ≡ fault_of lines fault }
+{
+    match fault {
+        LineFault::ReadFault => HistoryFault::ReadFault,
+        LineFault::LineTooLong { line } => HistoryFault::Bad {
+            line,
+            fault: CheckpointFault::LongLine,
+        },
+        LineFault::InputTooLong { .. } => HistoryFault::Bad {
+            line: lines + 1,
+            fault: CheckpointFault::TooLong,
+        },
+    }
+}

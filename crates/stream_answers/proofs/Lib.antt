@@ -9,6 +9,8 @@ mod Wholes
 pub mod Running
 -- the compaction after an event
 mod Compacted
+-- the nodes that follow the windows, from event to event; for callers
+pub mod Windows
 -- how a run ends
 mod Ends
 -- the steps, from event to event and at the end

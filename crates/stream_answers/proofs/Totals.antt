@@ -96,7 +96,7 @@ module _ (every : Option ℕ) where
   -- FROM EVENT TO EVENT
 
   -- one event more, with the rows at it, and the compaction after it
-  bounded_on : (a : Asked) (engine : State) (events : List StreamEvent) (next : StreamEvent) (rows more : List Row) (first old seen paused now : ℕ) → engine.schema ≡ a.schema → engine.queries ≡ a.queries →
+  pub bounded_on : (a : Asked) (engine : State) (events : List StreamEvent) (next : StreamEvent) (rows more : List Row) (first old seen paused now : ℕ) → engine.schema ≡ a.schema → engine.queries ≡ a.queries →
       StandsFor engine (events ++ next ∷ []) → AreBounded every a.schema a.queries events rows first old → seen ≤ old + update_bounds engine → paused ≤ seen + cursor_bounds engine + row_delays more →
       ((most : ℕ → ℕ) → MeetMost a.schema a.queries (events ++ next ∷ []) most → now ≤ paused + compaction_at every (length a.queries) most (length (events ++ next ∷ []))) →
       AreBounded every a.schema a.queries (events ++ next ∷ []) (rows ++ more) first now
@@ -134,7 +134,7 @@ module _ (every : Option ℕ) where
       subst Q q (subst S s (subst O o are))
 
   -- at the beginning
-  pub counts_start : (a : Asked) (source before : Option (List ℕ)) (reader : LineReader) (held : List ℕ) (engine : State) (first : ℕ) →
+  abbrev pub counts_start : (a : Asked) (source before : Option (List ℕ)) (reader : LineReader) (held : List ℕ) (engine : State) (first : ℕ) →
       StandsFor engine [] → ((bytes : List ℕ) → HasGiven reader bytes (Some bytes) []) → held ≡ [] → Counted every a source reader source before before held engine first first
   counts_start a source before reader held engine first stands given empty = record {
     running = starts a source before reader held engine stands given empty;
@@ -145,8 +145,14 @@ module _ (every : Option ℕ) where
     few = λ most meet. first_has_no_node engine most stands;
   }
 
+  -- lines that were written or held, with those that came
+  pub lines_more : (rows : List Row) (written held came put now : List ℕ) → held ++ came ≡ put ++ (now ++ []) → written ++ held ≡ lines_of rows → (written ++ put) ++ now ≡ lines_of rows ++ came
+  lines_more rows written held came put now whole so_far =
+      append_assoc written put now ∙ (ap (λ (l : List ℕ). written ++ (put ++ l)) (sym (append-nil now)) ∙ (ap (λ (l : List ℕ). written ++ l) (sym whole)
+      ∙ (sym (append_assoc written held came) ∙ ap (λ (l : List ℕ). l ++ came) so_far)))
+
   -- the answers were put, and the engine is compacted where that is due
-  pub counts_on : (a : Asked) (source : Option (List ℕ)) (reader : LineReader) (left before middle after : Option (List ℕ)) (held now_held : List ℕ) (engine compacted : State) → (o : Owing a source reader left before middle held engine) →
+  abbrev pub counts_on : (a : Asked) (source : Option (List ℕ)) (reader : LineReader) (left before middle after : Option (List ℕ)) (held now_held : List ℕ) (engine compacted : State) → (o : Owing a source reader left before middle held engine) →
       (rows more : List Row) (first old seen paused now : ℕ) → engine.schema ≡ a.schema → engine.queries ≡ a.queries → AreRowsAt a.order a.schema 1 a.queries (o.events ++ o.next ∷ []) (length (o.events ++ o.next ∷ []) - 1) more →
       PassesOn middle after held (lines_of more) now_held [] → AreOutputRows a.order a.schema a.queries o.events rows → o.written ++ held ≡ lines_of rows →
       AreBounded every a.schema a.queries o.events rows first old → seen ≤ old + update_bounds engine → paused ≤ seen + cursor_bounds engine + row_delays more →
@@ -157,15 +163,10 @@ module _ (every : Option ℕ) where
         running = runs_on a source reader left before middle after held (lines_of more) now_held compacted (owes_still a source reader left before middle held engine compacted o c.stands) came passed;
         rows = rows ++ more;
         are_rows = rows_grow_at_last a.order a.schema a.queries o.events o.next rows more are_rows are_more;
-        lines = lines_more o.written held (lines_of more) passed.written now_held passed.whole lines ∙ sym (lines_both rows more);
+        lines = lines_more rows o.written held (lines_of more) passed.written now_held passed.whole lines ∙ sym (lines_both rows more);
         bounded = bounded_on a engine o.events o.next rows more first old seen paused now same alike o.stands bounded took put c.steps;
         few = c.few;
       }
-    where
-      lines_more : (written held came put now : List ℕ) → held ++ came ≡ put ++ (now ++ []) → written ++ held ≡ lines_of rows → (written ++ put) ++ now ≡ lines_of rows ++ came
-      lines_more written held came put now whole so_far =
-          append_assoc written put now ∙ (ap (λ (l : List ℕ). written ++ (put ++ l)) (sym (append-nil now)) ∙ (ap (λ (l : List ℕ). written ++ l) (sym whole)
-          ∙ (sym (append_assoc written held came) ∙ ap (λ (l : List ℕ). l ++ came) so_far)))
 
   -- OVER A WHOLE FILE
 
@@ -281,7 +282,7 @@ module _ (every : Option ℕ) where
 
   pub steps_at_end : {T : Type 0} (a : Asked) (source : Option (List ℕ)) (lines : List ℕ) (old_reader reader : LineReader) (had left before middle after : Option (List ℕ)) (held : List ℕ) (old new : ℕ) (engine now_engine : State) (done : T) (result : Result T (OrMemory StreamFault)) (first before_steps now : ℕ) →
       source ≡ Some lines → reader.budget ≡ a.most_bytes → (c : Counted every a source old_reader had before middle held engine first before_steps) →
-      AfterCall a.schema a.queries reader now_engine (λ bytes. HasTaken a.schema a.queries old_reader bytes had c.running.events) left c.running.events (Ok taken.End) → now ≡ before_steps →
+      AfterCall a.schema a.queries reader engine now_engine (λ bytes. HasTaken a.schema a.queries old_reader bytes had c.running.events) left c.running.events (Ok taken.End) → now ≡ before_steps →
       Finished middle after old new held (Ok done) result → (a.order ≡ Walk → (held ≡ []) × (result ≡ Ok done)) → StepsOver every a lines before after first now result
   steps_at_end a source lines old_reader reader had left before middle after held old new engine now_engine done result first before_steps now told budget c took same finished walk =
       let runs = runs_as a reader.budget lines c.running.events stop.End budget (took.1 lines (c.running.taken lines told)) in
@@ -290,7 +291,7 @@ module _ (every : Option ℕ) where
 
   pub steps_by : {T : Type 0} (a : Asked) (source : Option (List ℕ)) (lines : List ℕ) (old_reader reader : LineReader) (had left before middle after : Option (List ℕ)) (held : List ℕ) (old new : ℕ) (engine now_engine : State) (why : OrMemory RunFault) (result : Result T (OrMemory StreamFault)) (first before_steps now : ℕ) →
       source ≡ Some lines → reader.budget ≡ a.most_bytes → old_reader.budget ≡ a.most_bytes → engine.schema ≡ a.schema → engine.queries ≡ a.queries → (c : Counted every a source old_reader had before middle held engine first before_steps) →
-      AfterCall a.schema a.queries reader now_engine (λ bytes. HasTaken a.schema a.queries old_reader bytes had c.running.events) left c.running.events (Err why) → TakesSteps (update_bounds now_engine) before_steps now (Err why) →
+      AfterCall a.schema a.queries reader engine now_engine (λ bytes. HasTaken a.schema a.queries old_reader bytes had c.running.events) left c.running.events (Err why) → TakesSteps (update_bounds now_engine) before_steps now (Err why) →
       OnMemory {T = Taken} (Err why) (WantsSteps engine.schema engine.queries c.running.events (λ next. (bytes : List ℕ) → HasTaken engine.schema engine.queries old_reader bytes had c.running.events → BeginsRun engine.schema engine.queries reader.budget bytes (c.running.events ++ next ∷ [])) before_steps now) →
       Finished middle after old new held (Err (stream_fault why)) result → (a.order ≡ Walk → (held ≡ []) × (result ≡ Err (stream_fault why))) → StepsOver every a lines before after first now result
   steps_by a source lines old_reader reader had left before middle after held old new engine now_engine Memory result first before_steps now told budget same_budget same alike c took steps wants finished walk =

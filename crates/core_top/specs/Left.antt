@@ -8,10 +8,10 @@ use Rattle.core_top.specs.declared.Cause.TheVariants as cause
 use Rattle.core_top.specs.Command.{RunWords}
 use Rattle.core_top.specs.Accepted.{Accepts}
 
--- Where the host tells both files, the engine is of the schema and the queries of the query text, and stands for exactly the events of the event file, which is read to its end.
+-- Where the host tells both files, the engine is of the schema and the queries of the query text, and stands for exactly the events of the event file, which is read to its end. It was compacted after every so many events, where that was asked for, and its nodes follow the windows; before any event it had none.
 pub record StandsForFile (content : List ℕ → Content) (r : RunWords) (engine : State) : Type 0 where
   pub told : (text lines : List ℕ) → content r.queries ≡ Holds text → content r.events ≡ Holds lines →
-      Accepts text engine.schema engine.queries × StandsForAll (record { order = r.order; schema = engine.schema; queries = engine.queries; most_bytes = r.most_bytes }) lines engine
+      Accepts text engine.schema engine.queries × StandsForAll r.compact_every (λ query. 0) (record { order = r.order; schema = engine.schema; queries = engine.queries; most_bytes = r.most_bytes }) lines engine
 
 -- an engine is left where all was well, and then it stands for the file; else none is
 abbrev pub IsLeft : Cause → (List ℕ → Content) → RunWords → Option State → Type 0

@@ -33,4 +33,4 @@ pub returns-clause-left : goal.returns-clause-left
 returns-clause-left g c =
     let r : RunWords = record { queries = c.args.queries.now; events = c.args.events.now; order = c.args.order; compact_every = c.args.compact_every; most_bytes = c.args.most_bytes } in
     left_by (g.H.Host.content c.args.host.now) _ r c.in-Ok.engine c.answer_file-stop.new.engine c.leaving.result.cause c.answer_file-stop.result.cause c.leaving.result.left c.answer_file-stop.result.left c.leaving.ensures.cause (c.read_engine.ensures.kept _) c.in-Ok.ensures.accepted
-    c.answer_file-stop.ensures.same c.answer_file-stop.ensures.left c.answer_file-stop.ensures.none_left c.leaving.ensures.fine c.leaving.ensures.other
+    c.answer_file-stop.ensures.same c.in-Ok.ensures.peaks c.answer_file-stop.ensures.left c.answer_file-stop.ensures.none_left c.leaving.ensures.fine c.leaving.ensures.other

@@ -89,7 +89,7 @@ pub fn run_files<H: Host, K: Sink, L: Ledger>(
 }
 
 /// With the engine, where all was well.
-fn leaving<S>(stop: Stop<S>, engine: Engine) -> Stop<S>
+pub fn leaving<S>(stop: Stop<S>, engine: Engine) -> Stop<S>
     ensures cause { result.cause ≡ stop.cause }
     ensures failed { result.failed ≡ stop.failed }
     ensures fine { result.cause ≡ Cause.Fine → result.left ≡ Some engine }
@@ -113,7 +113,11 @@ fn is_fine(cause: &Cause) -> bool
 }
 
 /// An engine for the queries of the host's file.
-fn read_engine<H: Host>(alloc: Global, host: &mut H, queries: &str) -> Result<Engine, Stop<H::Src>>
+pub fn read_engine<H: Host>(
+    alloc: Global,
+    host: &mut H,
+    queries: &str,
+) -> Result<Engine, Stop<H::Src>>
     ensures accepted { IfOk result (λ e.
         OfOpened (H.content host.old queries.now) (λ text. Accepts text e.schema e.queries)) }
     ensures stands { IfOk result (λ e. StandsFor e []) }

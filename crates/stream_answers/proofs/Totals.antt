@@ -118,7 +118,7 @@ module _ (every : Option ℕ) where
       omega (arith, before, here, costs, product, both, took, put, last, sums)
 
   -- one event more, with the rows at it
-  bounded_more : (a : Asked) (engine : State) (events : List StreamEvent) (next : StreamEvent) (rows more : List Row) (first old seen now : ℕ) → engine.schema ≡ a.schema → engine.queries ≡ a.queries →
+  pub bounded_more : (a : Asked) (engine : State) (events : List StreamEvent) (next : StreamEvent) (rows more : List Row) (first old seen now : ℕ) → engine.schema ≡ a.schema → engine.queries ≡ a.queries →
       StandsFor engine (events ++ next ∷ []) → AreBounded every a.schema a.queries events rows first old → seen ≤ old + update_bounds engine → now ≤ seen + cursor_bounds engine + row_delays more →
       AreBounded every a.schema a.queries (events ++ next ∷ []) (rows ++ more) first now
   bounded_more a engine events next rows more first old seen now same alike stands bounded took put =
@@ -170,7 +170,22 @@ module _ (every : Option ℕ) where
 
   -- OVER A WHOLE FILE
 
-  -- What bounds the steps by the first events bounds them by all.
+  -- What bounds the steps by the first events and their rows bounds them by all.
+  pub bounded_all : (a : Asked) (events later : List StreamEvent) (rows more : List Row) (before now : ℕ) → AreBounded every a.schema a.queries events rows before now →
+      AreBounded every a.schema a.queries (events ++ later) (rows ++ more) before now
+  bounded_all a events later rows more before now bounded = λ most meet.
+      let all = events ++ later in
+      let few = bounded most (first_meet_fewer a.schema a.queries events later most meet) in
+      let e = event_bound (length a.queries) most in
+      let count : length all ≡ length events + length later = length-append events later in
+      let product : length all * e ≡ length events * e + length later * e = ap (λ (n : ℕ). n * e) count ∙ omega arith in
+      let both = delays_both rows more in
+      let f = compaction_at every (length a.queries) most in
+      let grown : compactions every (length a.queries) most (length events) ≤ compactions every (length a.queries) most (length all) =
+      subst (λ (n : ℕ). compactions every (length a.queries) most (length events) ≤ compactions every (length a.queries) most n) (sym count) (fewer_queries (length events) (length later) f) in
+      omega (arith, few, product, both, grown)
+
+  -- the same over a whole file
   pub counts_whole : (a : Asked) (lines : List ℕ) (events : List StreamEvent) (rows : List Row) (before now : ℕ) → BeginsRun a.schema a.queries a.most_bytes lines events → AreOutputRows a.order a.schema a.queries events rows →
       AreBounded every a.schema a.queries events rows before now → Counts every a lines before now
   counts_whole a lines events rows before now begun are_rows bounded =
@@ -183,16 +198,7 @@ module _ (every : Option ℕ) where
         rows = rows ++ grown.0;
         are_rows = grown.1;
         took = tt;
-        bounded = λ most meet.
-            let few = bounded most (first_meet_fewer a.schema a.queries events begun.more most meet) in
-            let e = event_bound (length a.queries) most in
-            let count : length all ≡ length events + length begun.more = length-append events begun.more in
-            let product : length all * e ≡ length events * e + length begun.more * e = ap (λ (n : ℕ). n * e) count ∙ omega arith in
-            let both = delays_both rows grown.0 in
-            let f = compaction_at every (length a.queries) most in
-            let more : compactions every (length a.queries) most (length events) ≤ compactions every (length a.queries) most (length all) =
-            subst (λ (n : ℕ). compactions every (length a.queries) most (length events) ≤ compactions every (length a.queries) most n) (sym count) (fewer_queries (length events) (length begun.more) f) in
-            omega (arith, few, product, both, more);
+        bounded = bounded_all a events begun.more rows grown.0 before now bounded;
       }
 
   -- no step was taken
@@ -200,6 +206,22 @@ module _ (every : Option ℕ) where
   counts_none a lines now = counts_whole a lines [] [] now now (begins_empty a lines) refl (λ most meet. omega arith)
 
   -- memory ran out while an event was taken
+  pub bounded_wanting : (a : Asked) (events : List StreamEvent) (next : StreamEvent) (rows more : List Row) (first old seen : ℕ) → AreBounded every a.schema a.queries events rows first old →
+      AreWantingSteps a.schema a.queries (events ++ next ∷ []) old seen → AreBounded every a.schema a.queries (events ++ next ∷ []) (rows ++ more) first seen
+  bounded_wanting a events next rows more first old seen bounded wants = λ most meet.
+      let all = events ++ next ∷ [] in
+      let before = bounded most (first_meet_fewer a.schema a.queries events (next ∷ []) most meet) in
+      let here = wants most meet in
+      let within = refused_is_bounded (length a.queries) most in
+      let e = event_bound (length a.queries) most in
+      let count : length all ≡ length events + 1 = length-append events (next ∷ []) in
+      let product : length all * e ≡ length events * e + e = ap (λ (n : ℕ). n * e) count ∙ omega arith in
+      let both = delays_both rows more in
+      let f = compaction_at every (length a.queries) most in
+      let later : compactions every (length a.queries) most (length events) ≤ compactions every (length a.queries) most (length all) =
+      subst (λ (n : ℕ). compactions every (length a.queries) most (length events) ≤ compactions every (length a.queries) most n) (sym count) (fewer_queries (length events) 1 f) in
+      omega (arith, before, here, within, product, both, later)
+
   counts_wanting : (a : Asked) (lines : List ℕ) (events : List StreamEvent) (next : StreamEvent) (rows : List Row) (first old seen : ℕ) → BeginsRun a.schema a.queries a.most_bytes lines (events ++ next ∷ []) →
       AreOutputRows a.order a.schema a.queries events rows → AreBounded every a.schema a.queries events rows first old → AreWantingSteps a.schema a.queries (events ++ next ∷ []) old seen → Counts every a lines first seen
   counts_wanting a lines events next rows first old seen begun are_rows bounded wants =
@@ -207,23 +229,12 @@ module _ (every : Option ℕ) where
       let blocks = some_blocks_are a.order a.schema 1 a.queries all (length all - 1) in
       let more = rows_of_blocks a.order a.schema 1 a.queries all (length all - 1) blocks.0 blocks.1 in
       counts_whole a lines all (rows ++ more.0) first seen begun (rows_grow_at_last a.order a.schema a.queries events next rows more.0 are_rows more.1)
-      (λ most meet.
-      let before = bounded most (first_meet_fewer a.schema a.queries events (next ∷ []) most meet) in
-      let here = wants most meet in
-      let within = refused_is_bounded (length a.queries) most in
-      let e = event_bound (length a.queries) most in
-      let count : length all ≡ length events + 1 = length-append events (next ∷ []) in
-      let product : length all * e ≡ length events * e + e = ap (λ (n : ℕ). n * e) count ∙ omega arith in
-      let both = delays_both rows more.0 in
-      let f = compaction_at every (length a.queries) most in
-      let later : compactions every (length a.queries) most (length events) ≤ compactions every (length a.queries) most (length all) =
-      subst (λ (n : ℕ). compactions every (length a.queries) most (length events) ≤ compactions every (length a.queries) most n) (sym count) (fewer_queries (length events) 1 f) in
-      omega (arith, before, here, within, product, both, later))
+      (bounded_wanting a events next rows more.0 first old seen bounded wants)
 
   -- HOW A RUN ENDS
 
   -- nothing was to be written, and so it was
-  none_taken : (middle after : Option (List ℕ)) (held : List ℕ) → held ≡ [] → TookPart middle after held → TookAll middle after held
+  pub none_taken : (middle after : Option (List ℕ)) (held : List ℕ) → held ≡ [] → TookPart middle after held → TookAll middle after held
   none_taken None after held none part = part
   none_taken (Some m) None held none part = absurd part
   none_taken (Some m) (Some n) held none part = absurd (let within = part.within in let l = ap length none in omega arith)
@@ -231,7 +242,7 @@ module _ (every : Option ℕ) where
   at_fault : (a : Asked) (lines : List ℕ) (before after : Option (List ℕ)) (first now : ℕ) (o : Order) → o ≡ Sorted → Counts every a lines first now → CountsAtFault every o a lines before after first now
   at_fault a lines before after first now o sorted counts = subst (λ (x : Order). CountsAtFault every x a lines before after first now) (sym sorted) counts
 
-  walk_or_sorted : (o : Order) → (o ≡ Walk) ⊎ (o ≡ Sorted)
+  pub walk_or_sorted : (o : Order) → (o ≡ Walk) ⊎ (o ≡ Sorted)
   walk_or_sorted Walk = inl refl
   walk_or_sorted Sorted = inr refl
 
@@ -340,7 +351,7 @@ module _ (every : Option ℕ) where
       steps_end a lines before middle after held old new (Err Memory) result first now finished walk counts (λ taken. counts)
 
   -- the answer whose line was not written is one of its position
-  one_ends : (a : Asked) (events : List StreamEvent) (whole later : List Row) (one : Row) (rows : List Row) → rows ≡ whole ++ one ∷ later → AreRowsAt a.order a.schema 1 a.queries events (length events - 1) rows → one.end ≡ length events - 1
+  pub one_ends : (a : Asked) (events : List StreamEvent) (whole later : List Row) (one : Row) (rows : List Row) → rows ≡ whole ++ one ∷ later → AreRowsAt a.order a.schema 1 a.queries events (length events - 1) rows → one.end ≡ length events - 1
   one_ends a events whole later one rows is are =
       let has : Contains (whole ++ one ∷ later) one = Contains-append_right whole (one ∷ later) one (0, omega arith, refl) in
       ends_at a.order a.schema 1 a.queries events (length events - 1) rows are one (subst (λ (l : List Row). Contains l one) (sym is) has)

@@ -166,7 +166,7 @@ fn is_due(every: Option<u64>, events: u64) -> bool
 
 /// Compacts the engine where it has taken so many events that it is due. After `Memory` it is as it
 /// was.
-fn compact_if_due<L: Ledger>(
+pub fn compact_if_due<L: Ledger>(
     every: Option<u64>,
     engine: &mut Engine,
     steps: &mut Steps<L>,

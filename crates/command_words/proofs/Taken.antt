@@ -35,32 +35,36 @@ level_has s names words has below asks e =
     let after_settles = last_none settles (or_else defaults checks) after_below in
     has_one s (finished s.rules end) has asks (last_none defaults checks after_settles)
 
--- what was found is behind one of three names
+-- what was found is behind one of four names
 abbrev IsFound : Text → Option (Text × List Row) → Type 0
 IsFound name found = (rows : List Row) × (found ≡ Some (name, rows))
 
--- the first of three shapes whose test passes
-abbrev first_of_three : Bool → Bool → Bool → Shape → Shape → Shape → Option Shape
-first_of_three first second third a b c = cond first (Some a) (cond second (Some b) (cond third (Some c) None))
+-- the first of four shapes whose test passes
+abbrev first_of_four : Bool → Bool → Bool → Bool → Shape → Shape → Shape → Shape → Option Shape
+first_of_four first second third fourth a b c d =
+    cond first (Some a) (cond second (Some b) (cond third (Some c) (cond fourth (Some d) None)))
 
-one_of_three : (first second third : Bool) (a b c : Shape) (words : List Text)
-    → is_some (option_map (λ s. rows_at s words) (first_of_three first second third a b c)) ≡ true
-    → IsFound a.name (option_map (λ s. rows_at s words) (first_of_three first second third a b c))
-    ⊎ (IsFound b.name (option_map (λ s. rows_at s words) (first_of_three first second third a b c))
-    ⊎ IsFound c.name (option_map (λ s. rows_at s words) (first_of_three first second third a b c)))
-one_of_three true second third a b c words some = inl (_, refl)
-one_of_three false true third a b c words some = inr (inl (_, refl))
-one_of_three false false true a b c words some = inr (inr (_, refl))
-one_of_three false false false a b c words some = absurd (true≢false (sym some))
+one_of_four : (first second third fourth : Bool) (a b c d : Shape) (words : List Text)
+    → is_some (option_map (λ s. rows_at s words) (first_of_four first second third fourth a b c d)) ≡ true
+    → IsFound a.name (option_map (λ s. rows_at s words) (first_of_four first second third fourth a b c d))
+    ⊎ (IsFound b.name (option_map (λ s. rows_at s words) (first_of_four first second third fourth a b c d))
+    ⊎ (IsFound c.name (option_map (λ s. rows_at s words) (first_of_four first second third fourth a b c d))
+    ⊎ IsFound d.name (option_map (λ s. rows_at s words) (first_of_four first second third fourth a b c d))))
+one_of_four true second third fourth a b c d words some = inl (_, refl)
+one_of_four false true third fourth a b c d words some = inr (inl (_, refl))
+one_of_four false false true fourth a b c d words some = inr (inr (inl (_, refl)))
+one_of_four false false false true a b c d words some = inr (inr (inr (_, refl)))
+one_of_four false false false false a b c d words some = absurd (true≢false (sym some))
 
 -- behind the name of one of the commands
 abbrev pub IsOfCommand : Option (Text × List Row) → Type 0
-IsOfCommand found = IsFound (codes "run") found ⊎ (IsFound (codes "sample") found ⊎ IsFound (codes "explain") found)
+IsOfCommand found = IsFound (codes "run") found ⊎ (IsFound (codes "sample") found
+    ⊎ (IsFound (codes "reorder") found ⊎ IsFound (codes "explain") found))
 
 entered_one : (stop : Option (Text × List Text)) → is_some (entered (built program) stop) ≡ true → IsOfCommand (entered (built program) stop)
 entered_one None some = absurd (true≢false (sym some))
 entered_one (Some p) some =
-    one_of_three (answers_to p.0 (codes "run", [])) (answers_to p.0 (codes "sample", [])) (answers_to p.0 (codes "explain", [])) _ _ _ p.1 some
+    one_of_four (answers_to p.0 (codes "run", [])) (answers_to p.0 (codes "sample", [])) (answers_to p.0 (codes "reorder", [])) (answers_to p.0 (codes "explain", [])) _ _ _ _ p.1 some
 
 -- clap found one of the commands in words that it takes
 pub taken_is_found : (words : List Text) → is_taken words ≡ true → IsOfCommand (subcommand_of program words)

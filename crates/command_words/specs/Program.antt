@@ -32,14 +32,27 @@ compact_every = numbered 1 4294967295 (option (codes "compact-every"))
 abbrev pub most_bytes : Rule
 most_bytes = numbered 1 4611686018427387904 (option (codes "max-bytes"))
 
+-- how much an event may come late
+abbrev pub late : Rule
+late = numbered 0 9223372036854775807 (name (codes "late"))
+
 -- the name of a command, behind which stand those of a query file and an event file
 abbrev pub over_files : Text → App
 over_files id = with_rule (with_rule (new_app id) (name (codes "queries"))) (name (codes "events"))
 
--- run QUERIES EVENTS [--order walk|sorted] [--compact-every N] [--max-bytes N]
+-- [--order walk|sorted] [--compact-every N] [--max-bytes N]
+abbrev pub with_run_options : App → App
+with_run_options app = with_rule (with_rule (with_rule app (option (codes "order"))) compact_every)
+    most_bytes
+
+-- run QUERIES EVENTS, with these options
 abbrev pub run : App
-run = with_rule (with_rule (with_rule (over_files (codes "run")) (option (codes "order")))
-    compact_every) most_bytes
+run = with_run_options (over_files (codes "run"))
+
+-- reorder QUERIES EVENTS CLOCK LATE, with these options
+abbrev pub reorder : App
+reorder = with_run_options (with_rule (with_rule (over_files (codes "reorder"))
+    (name (codes "clock"))) late)
 
 -- sample SEED COUNT
 abbrev pub sample : App
@@ -65,6 +78,6 @@ bare top = record top {
 }
 
 abbrev pub program : App
-program = with_subcommand (with_subcommand (with_subcommand
+program = with_subcommand (with_subcommand (with_subcommand (with_subcommand
     (record { top = bare (new_app (codes "core_cli")).top; subs = [] }) run.top) sample.top)
-    explain.top
+    reorder.top) explain.top

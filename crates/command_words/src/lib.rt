@@ -1,5 +1,5 @@
-//! What the words after the program's name ask for: a run over two files, a sample, or why a complex
-//! event is an answer.
+//! What the words after the program's name ask for: a run over two files, the same over late events,
+//! a sample, or why a complex event is an answer.
 //!
 //! Promised: the answer is `clap`'s own reading of the program's command, which `specs/Program` and
 //! `specs/CommandLine` write out, and `Usage` where the words ask for nothing by it. By the laws in
@@ -38,6 +38,20 @@ pub enum Command {
     Sample {
         seed: u64,
         count: u64,
+    },
+    /// The answers to the queries of one file over the events of another, which come late.
+    Reorder {
+        queries: Text,
+        events: Text,
+        /// The name of the attribute that is an event's clock.
+        clock: Text,
+        /// By how much an event's clock may be below one before it, from 0 to 2^63 - 1.
+        late: u64,
+        order: Order,
+        /// From 1. The engine is compacted after every so many events, where it is given.
+        compact_every: Option<u64>,
+        /// From 1.
+        most_bytes: u64,
     },
     /// Why a complex event is an answer to a query of one file over the events of another.
     Explain {

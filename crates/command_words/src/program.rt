@@ -4,7 +4,7 @@ ghost use Rattle.clap.specs.Words.{app_of, kind_of, rule_of, subcommand_of, subc
 ghost use Rattle.cer_base.specs.Answers.{OnFault};
 ghost use Rattle.cer_base.specs.declared.OrMemory.TheVariants.{Memory};
 ghost use Rattle.command_words.specs.CommandLine.{is_taken};
-ghost use Rattle.command_words.specs.Program.{compact_every, explain, most_bytes, name, option, over_files, program, repeated, run, sample, whole};
+ghost use Rattle.command_words.specs.Program.{compact_every, explain, late, most_bytes, name, option, over_files, program, reorder, repeated, run, sample, whole, with_run_options};
 
 use crate::Usage;
 use cer_base::OrMemory;
@@ -92,6 +92,14 @@ fn most_bytes<'a>(alloc: Global) -> Arg<'a>
     option(alloc, "max-bytes").value_parser(numbers)
 }
 
+/// How much an event may come late, from 0 to 2^63 - 1.
+fn late<'a>(alloc: Global) -> Arg<'a>
+    ensures rule { rule_of result ≡ late }
+    ensures local { result.global ≡ false }
+{
+    name(alloc, "late").value_parser(value_parser!(u64).range(..=9223372036854775807))
+}
+
 /// A command of this name, behind which stand the names of a query file and an event file.
 fn over_files<'a>(alloc: Global, id: &'a str) -> Result<clap::Command<'a>, AllocError>
     ensures { IfOk result (λ c. app_of c ≡ over_files id.entry.now) }
@@ -101,17 +109,35 @@ fn over_files<'a>(alloc: Global, id: &'a str) -> Result<clap::Command<'a>, Alloc
     clap::Command::new(alloc, id).arg(queries)?.arg(events)
 }
 
-/// `run QUERIES EVENTS [--order walk|sorted] [--compact-every N] [--max-bytes N]`
-fn run<'a>(alloc: Global) -> Result<clap::Command<'a>, AllocError>
-    ensures { IfOk result (λ c. app_of c ≡ run) }
+/// The command with `[--order walk|sorted] [--compact-every N] [--max-bytes N]`.
+fn with_run_options<'a>(
+    alloc: Global,
+    command: clap::Command<'a>,
+) -> Result<clap::Command<'a>, AllocError>
+    ensures { IfOk result (λ c. app_of c ≡ with_run_options (app_of command.entry)) }
 {
     let order = option(alloc, "order");
     let compact_every = compact_every(alloc);
     let most_bytes = most_bytes(alloc);
-    over_files(alloc, "run")?
-        .arg(order)?
-        .arg(compact_every)?
-        .arg(most_bytes)
+    command.arg(order)?.arg(compact_every)?.arg(most_bytes)
+}
+
+/// `run QUERIES EVENTS [--order walk|sorted] [--compact-every N] [--max-bytes N]`
+fn run<'a>(alloc: Global) -> Result<clap::Command<'a>, AllocError>
+    ensures { IfOk result (λ c. app_of c ≡ run) }
+{
+    let files = over_files(alloc, "run")?;
+    with_run_options(alloc, files)
+}
+
+/// `reorder QUERIES EVENTS CLOCK LATE`, with the options of a run.
+fn reorder<'a>(alloc: Global) -> Result<clap::Command<'a>, AllocError>
+    ensures { IfOk result (λ c. app_of c ≡ reorder) }
+{
+    let clock = name(alloc, "clock");
+    let late = late(alloc);
+    let words = over_files(alloc, "reorder")?.arg(clock)?.arg(late)?;
+    with_run_options(alloc, words)
 }
 
 /// `sample SEED COUNT`
@@ -144,6 +170,7 @@ fn program<'a>(alloc: Global) -> Result<clap::Command<'a>, AllocError>
 {
     let run = run(alloc)?;
     let sample = sample(alloc)?;
+    let reorder = reorder(alloc)?;
     let explain = explain(alloc)?;
     clap::Command::new(alloc, "core_cli")
         .no_binary_name(true)
@@ -153,5 +180,6 @@ fn program<'a>(alloc: Global) -> Result<clap::Command<'a>, AllocError>
         .subcommand_required(true)
         .subcommand(run)?
         .subcommand(sample)?
+        .subcommand(reorder)?
         .subcommand(explain)
 }

@@ -4,7 +4,7 @@ ghost use Rattle.std.specs.List.{cons_option, filter_map};
 ghost use Rattle.clap.specs.Words.{found_of, rows_of, subcommand_rows_of};
 ghost use Rattle.cer_base.specs.Answers.{OnFault};
 ghost use Rattle.command_words.specs.CommandLine.{command_at, number_at, number_in, number_of, numbers_in};
-ghost use Rattle.command_words.specs.CommandLine.{explain_in, order_in, order_of, run_in, sample_in, text_in};
+ghost use Rattle.command_words.specs.CommandLine.{explain_in, order_in, order_of, reorder_in, run_in, sample_in, text_in};
 
 use crate::{Command, Usage};
 use answer_text::Order;
@@ -30,6 +30,9 @@ pub(crate) fn command_in(
     }
     if name == "sample" {
         return Ok(sample_in(found));
+    }
+    if name == "reorder" {
+        return reorder_in(alloc, found);
     }
     if name == "explain" {
         return explain_in(alloc, found);
@@ -65,6 +68,25 @@ fn sample_in(matches: &ArgMatches<'_>) -> Command
     let seed = number_in(matches, "seed", 0);
     let count = number_in(matches, "count", 0);
     Command::Sample { seed, count }
+}
+
+/// What was found behind `reorder`.
+fn reorder_in(alloc: Global, matches: &ArgMatches<'_>) -> Result<Command, OrMemory<Usage>>
+    ensures read { IfOk result (λ c. reorder_in (rows_of (found_of matches.now)) ≡ Some c) }
+    ensures none { OnFault result (λ u. reorder_in (rows_of (found_of matches.now)) ≡ None) }
+{
+    let Some(order) = order_in(matches) else {
+        return Err(OrMemory::Fault(Usage));
+    };
+    Ok(Command::Reorder {
+        queries: text_in(alloc, matches, "queries")?,
+        events: text_in(alloc, matches, "events")?,
+        clock: text_in(alloc, matches, "clock")?,
+        late: number_in(matches, "late", 0),
+        order,
+        compact_every: number_at(matches, "compact-every"),
+        most_bytes: number_in(matches, "max-bytes", MOST_BYTES),
+    })
 }
 
 /// What was found behind `explain`.

@@ -96,7 +96,7 @@ const RUNS: [(&str, &str); 59] = [
 ];
 
 /// The same of other words: too few or too many, questions, and what the program does not have.
-const OTHERS: [(&str, &str); 25] = [
+const OTHERS: [(&str, &str); 38] = [
     // too few names, too many, and names of no command
     ("run", "usage"),
     ("run q", "usage"),
@@ -124,6 +124,29 @@ const OTHERS: [(&str, &str); 25] = [
     ("explain q e 1 1 3 3 x", "usage"),
     ("explain q e 1 1 3 -3", "usage"),
     ("explain q e 1 1 3 --order walk", "usage"),
+    // late events: a clock's name, a bound from 0 to 2^63 - 1, and the options of a run
+    ("reorder q e t 5", "reorder q e t 5 Sorted 1099511627776"),
+    (
+        "reorder q e t 0 --order walk --max-bytes 9",
+        "reorder q e t 0 Walk 9",
+    ),
+    (
+        "reorder --compact-every 3 q e --order=sorted t 9223372036854775807",
+        "reorder q e t 9223372036854775807 Sorted 1099511627776, compacted every 3",
+    ),
+    ("reorder q e t +007", "reorder q e t 7 Sorted 1099511627776"),
+    (
+        "reorder -- - -e -t 5",
+        "reorder - -e -t 5 Sorted 1099511627776",
+    ),
+    ("reorder q e t 9223372036854775808", "usage"),
+    ("reorder q e t -5", "usage"),
+    ("reorder q e t -- -5", "usage"),
+    ("reorder q e t x", "usage"),
+    ("reorder q e t", "usage"),
+    ("reorder q e t 5 5", "usage"),
+    ("reorder q e t 5 --order up", "usage"),
+    ("run q e t 5", "usage"),
     // what the program does not have
     ("--help", "usage"),
     ("-h", "usage"),
@@ -158,6 +181,26 @@ fn shown(alloc: Global, asked: Result<Command, OrMemory<Usage>>) -> Result<Strin
                     format!(in alloc; "{names} {order:?} {most_bytes}, compacted every {n}")?
                 }
                 None => format!(in alloc; "{names} {order:?} {most_bytes}")?,
+            }
+        }
+        Ok(
+            Command::Reorder {
+                queries,
+                events,
+                clock,
+                late,
+                order,
+                compact_every,
+                most_bytes,
+            },
+        ) => {
+            let names = format!(in alloc; "reorder {} {}", queries.as_str(), events.as_str())?;
+            let asked = format!(in alloc; "{names} {} {late}", clock.as_str())?;
+            match compact_every {
+                Some(n) => {
+                    format!(in alloc; "{asked} {order:?} {most_bytes}, compacted every {n}")?
+                }
+                None => format!(in alloc; "{asked} {order:?} {most_bytes}")?,
             }
         }
         Ok(Command::Sample { seed, count }) => format!(in alloc; "sample {seed} {count}")?,

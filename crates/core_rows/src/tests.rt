@@ -7,6 +7,7 @@ mod faults;
 mod limits;
 mod meaning;
 mod refusals;
+mod reordering;
 mod rows;
 mod texts;
 mod words;

@@ -9,11 +9,11 @@ use Rattle.fault_notes.specs.declared.File.TheVariants as file
 use Rattle.core_top.specs.declared.Cause.{Cause}
 use Rattle.core_top.specs.declared.Cause.TheVariants as cause
 use Rattle.core_top.specs.Command.{Job, queries_of, events_of}
-use Rattle.core_top.specs.Accepted.{Takes, IsRefusedBy, StopsOver}
+use Rattle.core_top.specs.Accepted.{Takes, IsRefusedBy, LacksItsClock, StopsOver}
 use Rattle.core_top.specs.Causes.{IsFromOutside, IsFineOrOutside, IsReading, EndsWithout, name_of}
 use Rattle.core_top.specs.SourceBytes.{IsRestOf}
 use Rattle.core_top.specs.Run.{Sources, FailedWith, Outside, HasBoth, HasStopped, CauseHolds}
-use Rattle.core_top.proofs.Jobs.{told, takes_or_refuses, one_refusal, one_end, taken_where_stopped}
+use Rattle.core_top.proofs.Jobs.{told, takes_or_refuses, takes_or_lacks, lacks_or_refuses, one_refusal, one_clock, one_end, taken_where_stopped}
 
 -- the same end by another name of the cause
 pub at_cause : (P : Cause → Type 0) (given want : Cause) → given ≡ want → P given → P want
@@ -31,12 +31,33 @@ queries_whenever sources o job cause.Fine failed text fault place same holds ref
 queries_whenever sources o job cause.Usage failed text fault place same holds refused = absurd holds
 queries_whenever sources o job (cause.Queries other there) failed text fault place same holds refused =
     inl (one_refusal job text other fault there place (told _ text (λ w. IsRefusedBy job w other there) same holds.2) refused)
+queries_whenever sources o job (cause.ClockKind name) failed text fault place same holds refused =
+    absurd (lacks_or_refuses job text name fault place (told _ text (λ w. LacksItsClock job w name) same holds.2) refused)
 queries_whenever sources o job (cause.Event line other) failed text fault place same holds refused = absurd (not_refused o job (Event line other) failed text fault place same holds refused)
 queries_whenever sources o job (cause.InputTooLong taken) failed text fault place same holds refused = absurd (not_refused o job (InputTooLong taken) failed text fault place same holds refused)
 queries_whenever sources o job (cause.OpenFault opened before after) failed text fault place same holds refused = inr tt
 queries_whenever sources o job (cause.ReadFault read after) failed text fault place same holds refused = inr tt
 queries_whenever sources o job (cause.WriteFault before after) failed text fault place same holds refused = inr tt
 queries_whenever sources o job cause.Memory failed text fault place same holds refused = inr tt
+
+-- the job took its text, so it does not lack its clock
+not_lacked : {S : Type 0} (o : Outside) (job : Job) (stop : Stop) (failed : Option S) (text name : List ℕ) → o.content (queries_of job) ≡ Holds text → HasStopped o job stop failed → LacksItsClock job text name → ⊥
+not_lacked o job stop failed text name same stopped lacks = takes_or_lacks job text name (told _ text (Takes job) same stopped.taken) lacks
+
+-- a clock that is lacked has its cause
+pub clock_whenever : {S : Type 0} (sources : Sources S) (o : Outside) (job : Job) (given : Cause) (failed : Option S) (text name : List ℕ) →
+    o.content (queries_of job) ≡ Holds text → CauseHolds sources o job given failed → LacksItsClock job text name → (given ≡ cause.ClockKind name) ⊎ IsFromOutside given
+clock_whenever sources o job cause.Fine failed text name same holds lacks = absurd (not_lacked o job End failed text name same holds lacks)
+clock_whenever sources o job cause.Usage failed text name same holds lacks = absurd holds
+clock_whenever sources o job (cause.Queries fault place) failed text name same holds lacks =
+    absurd (lacks_or_refuses job text name fault place lacks (told _ text (λ w. IsRefusedBy job w fault place) same holds.2))
+clock_whenever sources o job (cause.ClockKind other) failed text name same holds lacks = inl (one_clock job text other name (told _ text (λ w. LacksItsClock job w other) same holds.2) lacks)
+clock_whenever sources o job (cause.Event line fault) failed text name same holds lacks = absurd (not_lacked o job (Event line fault) failed text name same holds lacks)
+clock_whenever sources o job (cause.InputTooLong taken) failed text name same holds lacks = absurd (not_lacked o job (InputTooLong taken) failed text name same holds lacks)
+clock_whenever sources o job (cause.OpenFault opened before after) failed text name same holds lacks = inr tt
+clock_whenever sources o job (cause.ReadFault read after) failed text name same holds lacks = inr tt
+clock_whenever sources o job (cause.WriteFault before after) failed text name same holds lacks = inr tt
+clock_whenever sources o job cause.Memory failed text name same holds lacks = inr tt
 
 -- the cause of each stop
 abbrev pub cause_of : Stop → Cause
@@ -58,6 +79,8 @@ stop_whenever sources o job cause.Fine failed text lines stop first second holds
 stop_whenever sources o job cause.Usage failed text lines stop first second holds stops = absurd holds
 stop_whenever sources o job (cause.Queries fault place) failed text lines stop first second holds stops =
     absurd (takes_or_refuses job text fault place (taken_where_stopped job text lines stop stops) (told _ text (λ w. IsRefusedBy job w fault place) first holds.2))
+stop_whenever sources o job (cause.ClockKind name) failed text lines stop first second holds stops =
+    absurd (takes_or_lacks job text name (taken_where_stopped job text lines stop stops) (told _ text (λ w. LacksItsClock job w name) first holds.2))
 stop_whenever sources o job (cause.Event line fault) failed text lines stop first second holds stops = inl (stopped_so o job (Event line fault) failed text lines stop first second holds stops)
 stop_whenever sources o job (cause.InputTooLong taken) failed text lines stop first second holds stops = inl (stopped_so o job (InputTooLong taken) failed text lines stop first second holds stops)
 stop_whenever sources o job (cause.OpenFault opened before after) failed text lines stop first second holds stops = inr tt
@@ -79,6 +102,8 @@ fine_or_outside cause.Usage (inl same) = let wrong : cause.Usage ≡ cause.Fine 
 fine_or_outside cause.Usage (inr outside) = outside
 fine_or_outside (cause.Queries fault place) (inl same) = absurd cc
 fine_or_outside (cause.Queries fault place) (inr outside) = outside
+fine_or_outside (cause.ClockKind name) (inl same) = absurd cc
+fine_or_outside (cause.ClockKind name) (inr outside) = outside
 fine_or_outside (cause.Event line fault) (inl same) = absurd cc
 fine_or_outside (cause.Event line fault) (inr outside) = outside
 fine_or_outside (cause.InputTooLong taken) (inl same) = absurd cc
@@ -102,6 +127,7 @@ pub failed_reading : {S : Type 0} (sources : Sources S) (o : Outside) (job : Job
 failed_reading sources o job cause.Fine failed holds = (no_source failed holds.none, λ h. absurd h)
 failed_reading sources o job cause.Usage failed holds = absurd holds
 failed_reading sources o job (cause.Queries fault place) failed holds = (no_source failed holds.0, λ h. absurd h)
+failed_reading sources o job (cause.ClockKind name) failed holds = (no_source failed holds.0, λ h. absurd h)
 failed_reading sources o job (cause.Event line fault) failed holds = (no_source failed holds.none, λ h. absurd h)
 failed_reading sources o job (cause.InputTooLong taken) failed holds = (no_source failed holds.none, λ h. absurd h)
 failed_reading sources o job (cause.OpenFault opened before after) failed holds = (no_source failed holds.0, λ h. absurd h)
@@ -134,6 +160,8 @@ ends_without sources o job cause.Fine failed lost missing holds = absurd (lacks 
 ends_without sources o job cause.Usage failed lost missing holds = absurd holds
 ends_without sources o job (cause.Queries fault place) failed file.Queries missing holds = absurd (not_opened _ (λ text. IsRefusedBy job text fault place) missing holds.2)
 ends_without sources o job (cause.Queries fault place) failed file.Events missing holds = (tt, holds.1)
+ends_without sources o job (cause.ClockKind name) failed file.Queries missing holds = absurd (not_opened _ (λ text. LacksItsClock job text name) missing holds.2)
+ends_without sources o job (cause.ClockKind name) failed file.Events missing holds = (tt, holds.1)
 ends_without sources o job (cause.Event line fault) failed lost missing holds = absurd (lacks o job lost missing holds.both)
 ends_without sources o job (cause.InputTooLong taken) failed lost missing holds = absurd (lacks o job lost missing holds.both)
 ends_without sources o job (cause.OpenFault file.Queries before after) failed file.Queries missing holds = (inl refl, holds.1)

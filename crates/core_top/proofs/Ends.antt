@@ -95,6 +95,7 @@ queries_ended sources call o job first last cause.Memory failed nothing writes s
 }
 queries_ended sources call o job first last cause.Fine failed nothing writes step stops counts = absurd stops
 queries_ended sources call o job first last cause.Usage failed nothing writes step stops counts = absurd stops
+queries_ended sources call o job first last (cause.ClockKind name) failed nothing writes step stops counts = absurd stops
 queries_ended sources call o job first last (cause.Event line fault) failed nothing writes step stops counts = absurd stops
 queries_ended sources call o job first last (cause.InputTooLong taken) failed nothing writes step stops counts = absurd stops
 queries_ended sources call o job first last (cause.WriteFault before after) failed nothing writes step stops counts = absurd stops
@@ -123,6 +124,7 @@ unopened sources call o job first middle last whole held cause.Memory failed sta
 unopened sources call o job first middle last whole held cause.Fine failed stay taken nothing writes one other stops counts opening = absurd opening
 unopened sources call o job first middle last whole held cause.Usage failed stay taken nothing writes one other stops counts opening = absurd opening
 unopened sources call o job first middle last whole held (cause.Queries fault place) failed stay taken nothing writes one other stops counts opening = absurd opening
+unopened sources call o job first middle last whole held (cause.ClockKind name) failed stay taken nothing writes one other stops counts opening = absurd opening
 unopened sources call o job first middle last whole held (cause.Event line fault) failed stay taken nothing writes one other stops counts opening = absurd opening
 unopened sources call o job first middle last whole held (cause.InputTooLong taken_all) failed stay taken nothing writes one other stops counts opening = absurd opening
 unopened sources call o job first middle last whole held (cause.ReadFault read after) failed stay taken nothing writes one other stops counts opening = absurd opening

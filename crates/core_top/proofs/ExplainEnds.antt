@@ -134,6 +134,7 @@ explained sources call o x first middle last schema queries source held cause.Me
   opens = opened_both call _ (explaining x) _ first middle last (inr (inr refl)) (accepted_text (o.content x.queries) schema queries accepted) one other;
 }
 explained sources call o x first middle last schema queries source held cause.Usage failed stay accepted opened writes one other stops counts = absurd stops
+explained sources call o x first middle last schema queries source held (cause.ClockKind name) failed stay accepted opened writes one other stops counts = absurd stops
 explained sources call o x first middle last schema queries source held (cause.Queries fault place) failed stay accepted opened writes one other stops counts = absurd stops
 explained sources call o x first middle last schema queries source held (cause.OpenFault read before after) failed stay accepted opened writes one other stops counts = absurd stops
 

@@ -1,5 +1,5 @@
 -- What each job makes of a query text and an event file is one thing; and what each has written where it ended early.
-use Rattle.std.proofs.Common.{◌≡◌, ℕ, inl, inr, List, map, Option, Ok, Err, sym, ap, subst}
+use Rattle.std.proofs.Common.{◌≡◌, ℕ, true, false, true≢false, inl, inr, List, map, Option, Ok, Err, sym, ◌∙◌, ap, subst}
 use Rattle.cer_base.specs.declared.Place.{Place}
 use Rattle.stream_schema.specs.Types.{Declared}
 use Rattle.cel_terms.specs.declared.Query.{Query}
@@ -10,15 +10,18 @@ use Rattle.ceql_parser.proofs.TextAnswers.{one_text_answer}
 use Rattle.cer_outside.specs.Content.{Content, Holds, OfOpened}
 use Rattle.event_run.specs.Runs.{Stop, RunsTo}
 use Rattle.event_run.proofs.ForCallers.{one_run_of_trees}
+use Rattle.reorder_gate.specs.Clocks.{clock_fits}
+use Rattle.late_answers.specs.Late.{RunsLate}
+use Rattle.late_answers.proofs.ForCallers.{one_late_run_of_trees}
 use Rattle.answer_blocks.specs.Taken.{TookPrefix}
 use Rattle.stream_answers.proofs.Portions.{prefix_of_all}
 use Rattle.answer_explain.specs.declared.written.TheConstants.{MOST_BYTES}
 use Rattle.fault_notes.specs.declared.File.TheVariants as file
 use Rattle.core_top.specs.declared.Cause.{Cause}
 use Rattle.core_top.specs.declared.Cause.TheVariants as cause
-use Rattle.core_top.specs.Command.{RunWords, Job, running, explaining}
-use Rattle.core_top.specs.Accepted.{Accepts, IsAcceptedText, IsRefusedText, StopsAt, Takes, IsRefusedBy, StopsOver}
-use Rattle.core_top.specs.Output.{AreFileAnswers, WroteAll, WroteBy}
+use Rattle.core_top.specs.Command.{RunWords, ReorderWords, Job, running, reordering, explaining}
+use Rattle.core_top.specs.Accepted.{Accepts, IsAcceptedText, IsRefusedText, StopsAt, feed_of, HasClock, LacksClock, StopsLate, Takes, IsRefusedBy, LacksItsClock, StopsOver}
+use Rattle.core_top.specs.Output.{AreFileAnswers, WroteAll, AreLateFileAnswers, WroteLateAll, WroteBy}
 use Rattle.core_top.specs.Notes.{NeedsMemory}
 
 -- a fact of the bytes that are told
@@ -66,29 +69,81 @@ answered_stop content r stop before after text lines first second wrote =
     let P : Stop → Type 0 = StopsAt text lines r.most_bytes in
     subst P all.1 (record { schema = all.2.schema; queries = all.2.queries; events = all.2.events; accepted = all.2.accepted; runs = all.2.runs })
 
+-- a run over late events stops in one way
+one_late_stop : (w : ReorderWords) (text lines : List ℕ) (s t : Stop) → StopsLate w text lines s → StopsLate w text lines t → s ≡ t
+one_late_stop w text lines s t one other =
+    let P : Declared → Type 0 = λ d. RunsLate (feed_of w d other.queries) lines other.events t in
+    let runs = subst P (sym (accepted_schema text one.schema other.schema one.queries other.queries one.accepted other.accepted)) other.runs in
+    (one_late_run_of_trees w.order one.schema w.clock w.late w.most_bytes one.queries other.queries lines one.events other.events s t
+    (accepted_trees text one.schema other.schema one.queries other.queries one.accepted other.accepted) one.runs runs).1
+
+-- where there are answers it stops so
+pub late_stop : (content : List ℕ → Content) (w : ReorderWords) (stop : Stop) (before after : Option (List ℕ)) (text lines : List ℕ) →
+    content w.queries ≡ Holds text → content w.events ≡ Holds lines → WroteLateAll content w stop before after → StopsLate w text lines stop
+late_stop content w stop before after text lines first second wrote =
+    let all = wrote.are.answers text lines first second in
+    let P : Stop → Type 0 = StopsLate w text lines in
+    subst P all.1 (record { schema = all.2.schema; queries = all.2.queries; events = all.2.events; accepted = all.2.accepted; has_clock = all.2.has_clock; runs = all.2.runs })
+
+-- a text with the clock is accepted
+has_text : (clock text : List ℕ) → HasClock clock text → IsAcceptedText text
+has_text clock text has = (has.0, has.1, has.2)
+
+lacks_text : (clock text : List ℕ) → LacksClock clock text → IsAcceptedText text
+lacks_text clock text lacks = (lacks.0, lacks.1, lacks.2)
+
+-- a text has the clock or lacks it
+has_or_lacks : (clock text : List ℕ) → HasClock clock text → LacksClock clock text → ⊥
+has_or_lacks clock text has lacks =
+    let same = accepted_schema text has.0 lacks.0 has.1 lacks.1 has.2 lacks.2 in
+    true≢false (sym has.3 ∙ ap (λ (s : Declared). clock_fits s clock) same ∙ lacks.3)
+
+-- No job takes a text whose clock it lacks,
+pub takes_or_lacks : (job : Job) (text name : List ℕ) → Takes job text → LacksItsClock job text name → ⊥
+takes_or_lacks (running r) text name taken lacks = lacks
+takes_or_lacks (reordering w) text name taken lacks = has_or_lacks w.clock text taken lacks.1
+takes_or_lacks (explaining x) text name taken lacks = lacks
+
+-- nor refuses it as well;
+pub lacks_or_refuses : (job : Job) (text name : List ℕ) (fault : QueryFault) (place : Place) → LacksItsClock job text name → IsRefusedBy job text fault place → ⊥
+lacks_or_refuses (running r) text name fault place lacks refused = lacks
+lacks_or_refuses (reordering w) text name fault place lacks refused = not_both text fault place (lacks_text w.clock text lacks.1) refused
+lacks_or_refuses (explaining x) text name fault place lacks refused = lacks
+
+-- and the clock is one.
+pub one_clock : (job : Job) (text name other : List ℕ) → LacksItsClock job text name → LacksItsClock job text other → cause.ClockKind name ≡ cause.ClockKind other
+one_clock (running r) text name other lacks again = absurd lacks
+one_clock (reordering w) text name other lacks again = ap (λ (n : List ℕ). cause.ClockKind n) (lacks.0 ∙ sym again.0)
+one_clock (explaining x) text name other lacks again = absurd lacks
+
 -- No job takes a text that it refuses.
 pub takes_or_refuses : (job : Job) (text : List ℕ) (fault : QueryFault) (place : Place) → Takes job text → IsRefusedBy job text fault place → ⊥
 takes_or_refuses (running r) text fault place taken refused = not_both text fault place taken refused
+takes_or_refuses (reordering w) text fault place taken refused = not_both text fault place (has_text w.clock text taken) refused
 takes_or_refuses (explaining x) text fault place taken refused = not_both text fault place taken refused
 
 -- A text is refused for one reason, at one place.
 pub one_refusal : (job : Job) (text : List ℕ) (fault other : QueryFault) (place there : Place) → IsRefusedBy job text fault place → IsRefusedBy job text other there → cause.Queries fault place ≡ cause.Queries other there
 one_refusal (running r) text fault other place there refused again = one_fault text fault other place there refused again
+one_refusal (reordering w) text fault other place there refused again = one_fault text fault other place there refused again
 one_refusal (explaining x) text fault other place there refused again = one_fault text fault other place there refused again
 
 -- The events stop in one way,
 pub one_end : (job : Job) (text lines : List ℕ) (s t : Stop) → StopsOver job text lines s → StopsOver job text lines t → s ≡ t
 one_end (running r) text lines s t one other = one_stop text lines r.most_bytes s t one other
+one_end (reordering w) text lines s t one other = one_late_stop w text lines s t one other
 one_end (explaining x) text lines s t one other = one_stop text lines MOST_BYTES s t one other
 
 -- and only after a text that is taken.
 pub taken_where_stopped : (job : Job) (text lines : List ℕ) (stop : Stop) → StopsOver job text lines stop → Takes job text
 taken_where_stopped (running r) text lines stop stops = (stops.schema, stops.queries, stops.accepted)
+taken_where_stopped (reordering w) text lines stop stops = (stops.schema, stops.queries, stops.accepted, stops.has_clock)
 taken_where_stopped (explaining x) text lines stop stops = (stops.schema, stops.queries, stops.accepted)
 
 -- Each refusal of the language is one of the job.
 pub refused_by : (job : Job) (fault : QueryFault) (place : Place) (text : List ℕ) → IsRefusedText text fault place → IsRefusedBy job text fault place
 refused_by (running r) fault place text refused = refused
+refused_by (reordering w) fault place text refused = refused
 refused_by (explaining x) fault place text refused = refused
 
 -- the job ended before it had events
@@ -111,6 +166,19 @@ wrote_nothing (running r) cause.Usage content left before after early nothing = 
 wrote_nothing (running r) (cause.Event line fault) content left before after early nothing = absurd early
 wrote_nothing (running r) (cause.InputTooLong taken) content left before after early nothing = absurd early
 wrote_nothing (running r) (cause.WriteFault from to) content left before after early nothing = absurd early
+wrote_nothing (running r) (cause.ClockKind name) content left before after early nothing = absurd early
+wrote_nothing (reordering w) (cause.Queries fault place) content left before after early nothing = nothing
+wrote_nothing (reordering w) (cause.OpenFault opened from to) content left before after early nothing = nothing
+wrote_nothing (reordering w) (cause.ReadFault file.Queries to) content left before after early nothing = nothing
+wrote_nothing (reordering w) (cause.ReadFault file.Events to) content left before after early nothing = absurd early
+wrote_nothing (reordering w) cause.Memory content left before after early nothing = inl nothing
+wrote_nothing (reordering w) cause.Fine content left before after early nothing = absurd early
+wrote_nothing (reordering w) cause.Usage content left before after early nothing = absurd early
+wrote_nothing (reordering w) (cause.Event line fault) content left before after early nothing = absurd early
+wrote_nothing (reordering w) (cause.InputTooLong taken) content left before after early nothing = absurd early
+wrote_nothing (reordering w) (cause.WriteFault from to) content left before after early nothing = absurd early
+wrote_nothing (reordering w) (cause.ClockKind name) content left before after early nothing = nothing
+wrote_nothing (explaining x) (cause.ClockKind name) content left before after early nothing = nothing
 wrote_nothing (explaining x) (cause.Queries fault place) content left before after early nothing = nothing
 wrote_nothing (explaining x) (cause.OpenFault opened from to) content left before after early nothing = nothing
 wrote_nothing (explaining x) (cause.ReadFault read to) content left before after early nothing = nothing
@@ -134,6 +202,18 @@ some_part content r stop before after wrote = (
   prefix_of_all before after wrote.bytes wrote.took,
 )
 
+some_late_part : (content : List ℕ → Content) (w : ReorderWords) (stop : Stop) (before after : Option (List ℕ)) → WroteLateAll content w stop before after →
+    (bytes : List ℕ) × AreLateFileAnswers content w (λ s. Unit {0}) bytes × TookPrefix before after bytes
+some_late_part content w stop before after wrote = (
+  wrote.bytes,
+  record {
+    has_queries = wrote.are.has_queries;
+    has_events = wrote.are.has_events;
+    answers = λ text lines first second. let all = wrote.are.answers text lines first second in (all.0, tt, all.2);
+  },
+  prefix_of_all before after wrote.bytes wrote.took,
+)
+
 -- What was written before a note that was not made is what was written where memory ran out.
 pub wrote_for_memory : (job : Job) (told : Cause) (content : List ℕ → Content) (left other before after : Option (List ℕ)) → NeedsMemory told → WroteBy told content job left before after → WroteBy cause.Memory content job other before after
 wrote_for_memory (running r) (cause.Queries fault place) content left other before after needs wrote = inl wrote
@@ -145,6 +225,18 @@ wrote_for_memory (running r) (cause.OpenFault opened from to) content left other
 wrote_for_memory (running r) (cause.ReadFault read to) content left other before after needs wrote = absurd needs
 wrote_for_memory (running r) (cause.WriteFault from to) content left other before after needs wrote = absurd needs
 wrote_for_memory (running r) cause.Memory content left other before after needs wrote = absurd needs
+wrote_for_memory (running r) (cause.ClockKind name) content left other before after needs wrote = absurd wrote
+wrote_for_memory (reordering w) (cause.Queries fault place) content left other before after needs wrote = inl wrote
+wrote_for_memory (reordering w) (cause.Event line fault) content left other before after needs wrote = inr (some_late_part content w _ before after wrote)
+wrote_for_memory (reordering w) (cause.InputTooLong taken) content left other before after needs wrote = inr (some_late_part content w _ before after wrote)
+wrote_for_memory (reordering w) cause.Fine content left other before after needs wrote = absurd needs
+wrote_for_memory (reordering w) cause.Usage content left other before after needs wrote = absurd needs
+wrote_for_memory (reordering w) (cause.OpenFault opened from to) content left other before after needs wrote = absurd needs
+wrote_for_memory (reordering w) (cause.ReadFault read to) content left other before after needs wrote = absurd needs
+wrote_for_memory (reordering w) (cause.WriteFault from to) content left other before after needs wrote = absurd needs
+wrote_for_memory (reordering w) cause.Memory content left other before after needs wrote = absurd needs
+wrote_for_memory (reordering w) (cause.ClockKind name) content left other before after needs wrote = inl wrote
+wrote_for_memory (explaining x) (cause.ClockKind name) content left other before after needs wrote = wrote
 wrote_for_memory (explaining x) (cause.Queries fault place) content left other before after needs wrote = wrote
 wrote_for_memory (explaining x) (cause.Event line fault) content left other before after needs wrote = wrote
 wrote_for_memory (explaining x) (cause.InputTooLong taken) content left other before after needs wrote = wrote

@@ -1,59 +1,74 @@
--- The engine that a run leaves.
-use Rattle.std.proofs.Common.{◌≡◌, ◌⊎◌, ℕ, List, Option, Some, None, refl, sym, ◌∙◌, ap, subst, inl, inr, IsSomeAnd}
+-- The engine that a run leaves, over late events or not.
+use Rattle.std.proofs.Common.{◌≡◌, ◌⊎◌, ℕ, List, length, Option, Some, None, refl, sym, ◌∙◌, ap, subst, inl, inr, IsSomeAnd, arith}
 use Rattle.stream_schema.specs.Types.{Declared}
 use Rattle.cel_terms.specs.declared.Query.{Query}
 use Rattle.answer_text.specs.declared.Order.{Order}
 use Rattle.cer_outside.specs.Content.{Content, Holds, HasOpened, OfOpened}
-use Rattle.query_engine.specs.Engine.{State, SameQueries}
+use Rattle.query_engine.specs.Engine.{State, SameQueries, peak_of}
 use Rattle.stream_answers.specs.Streams.{Asked, StandsForAll}
+use Rattle.stream_answers.specs.Windows.{last_due}
+use Rattle.stream_answers.proofs.Windows.{windows_before}
+use Rattle.late_answers.specs.Late.{Feed}
+use Rattle.late_answers.specs.Written.{StandsForLate}
 use Rattle.core_top.specs.declared.Cause.{Cause}
 use Rattle.core_top.specs.declared.Cause.TheVariants as cause
-use Rattle.core_top.specs.Command.{RunWords, IsRun}
-use Rattle.core_top.specs.Accepted.{Accepts}
-use Rattle.core_top.specs.Left.{StandsForFile, IsLeft}
+use Rattle.core_top.specs.Command.{RunWords, ReorderWords, Job, running, reordering, explaining, AsksJob}
+use Rattle.core_top.specs.Accepted.{Accepts, feed_of}
+use Rattle.core_top.specs.Left.{StandsForFile, IsLeft, StandsForLateFile, IsLeftLate, IsLeftBy}
 use Rattle.core_top.specs.Run.{Sources, QueriesStop}
 use Rattle.core_top.proofs.Streams.{asked_of, source_told, text_told}
-use Rattle.core_top.proofs.Words.{one_run}
+use Rattle.core_top.proofs.Words.{one_job}
 
 -- over a source that was opened, and so over the file
-pub left_of_source : (content : Content) (source : Option (List ℕ)) (a : Asked) (engine : State) → HasOpened content source →
-    ((bytes : List ℕ) → source ≡ Some bytes → StandsForAll a bytes engine) → (bytes : List ℕ) → content ≡ Holds bytes → StandsForAll a bytes engine
-left_of_source content source a engine opened stands bytes told = stands bytes (source_told content source bytes opened told)
+pub left_of_source : (every : Option ℕ) (peaks : ℕ → ℕ) (content : Content) (source : Option (List ℕ)) (a : Asked) (engine : State) → HasOpened content source →
+    ((bytes : List ℕ) → source ≡ Some bytes → StandsForAll every peaks a bytes engine) → (bytes : List ℕ) → content ≡ Holds bytes → StandsForAll every peaks a bytes engine
+left_of_source every peaks content source a engine opened stands bytes told = stands bytes (source_told content source bytes opened told)
+
+-- an engine that is new had no peak
+from_none : (every : Option ℕ) (peaks : ℕ → ℕ) (a : Asked) (lines : List ℕ) (engine : State) → ((query : ℕ) → peaks query ≡ 0) → StandsForAll every peaks a lines engine → StandsForAll every (λ query. 0) a lines engine
+from_none every peaks a lines engine none s = record {
+  events = s.events;
+  runs = s.runs;
+  stands = s.stands;
+  windows = windows_before every peaks (λ query. 0) (last_due every (length s.events)) s.events engine (λ query. (let is = none query in omega arith)) s.windows;
+}
 
 -- over both files
-stands_for_file : (content : List ℕ → Content) (lines_of : Content) (r : RunWords) (old engine : State) → lines_of ≡ content r.events → OfOpened (content r.queries) (λ text. Accepts text old.schema old.queries) → SameQueries old engine →
-    ((bytes : List ℕ) → lines_of ≡ Holds bytes → StandsForAll (asked_of r old.schema old.queries) bytes engine) → StandsForFile content r engine
-stands_for_file content lines_of r old engine same accepted kept stands = record {
+stands_for_file : (content : List ℕ → Content) (lines_of : Content) (r : RunWords) (old engine : State) → lines_of ≡ content r.events → OfOpened (content r.queries) (λ text. Accepts text old.schema old.queries) → SameQueries old engine → ((query : ℕ) → peak_of old query ≡ 0) →
+    ((bytes : List ℕ) → lines_of ≡ Holds bytes → StandsForAll r.compact_every (peak_of old) (asked_of r old.schema old.queries) bytes engine) → StandsForFile content r engine
+stands_for_file content lines_of r old engine same accepted kept new stands = record {
   told = λ text lines first second. (
-      let here = stands lines (same ∙ second) in
+      let here = from_none r.compact_every (peak_of old) (asked_of r old.schema old.queries) lines engine new (stands lines (same ∙ second)) in
       let accepts = text_told (content r.queries) text (λ w. Accepts w old.schema old.queries) first accepted in
-      let P : Declared → Type 0 = λ s. Accepts text s old.queries × StandsForAll (asked_of r s old.queries) lines engine in
-      let Q : List Query → Type 0 = λ qs. Accepts text engine.schema qs × StandsForAll (asked_of r engine.schema qs) lines engine in
+      let P : Declared → Type 0 = λ s. Accepts text s old.queries × StandsForAll r.compact_every (λ query. 0) (asked_of r s old.queries) lines engine in
+      let Q : List Query → Type 0 = λ qs. Accepts text engine.schema qs × StandsForAll r.compact_every (λ query. 0) (asked_of r engine.schema qs) lines engine in
       subst Q (sym kept.1) (subst P (sym kept.0) (accepts, here))
       );
 }
 
 -- the engine by how the answers over the file ended
 pub left_by : (content : List ℕ → Content) (lines_of : Content) (r : RunWords) (old engine : State) (given told : Cause) (left before : Option State) → given ≡ told → lines_of ≡ content r.events → OfOpened (content r.queries) (λ text. Accepts text old.schema old.queries) →
-    SameQueries old engine → (told ≡ cause.Fine → (bytes : List ℕ) → lines_of ≡ Holds bytes → StandsForAll (asked_of r old.schema old.queries) bytes engine) → before ≡ None →
+    SameQueries old engine → ((query : ℕ) → peak_of old query ≡ 0) → (told ≡ cause.Fine → (bytes : List ℕ) → lines_of ≡ Holds bytes → StandsForAll r.compact_every (peak_of old) (asked_of r old.schema old.queries) bytes engine) → before ≡ None →
     (given ≡ cause.Fine → left ≡ Some engine) → ((given ≡ cause.Fine → ⊥) → before ≡ None → left ≡ None) → IsLeft given content r left
-left_by content lines_of r old engine cause.Fine told left before is same accepted kept stands none fine other =
+left_by content lines_of r old engine cause.Fine told left before is same accepted kept new stands none fine other =
     let P : Option State → Type 0 = λ o. IsSomeAnd o (StandsForFile content r) in
-    subst P (sym (fine refl)) (stands_for_file content lines_of r old engine same accepted kept (stands (sym is)))
-left_by content lines_of r old engine cause.Usage told left before is same accepted kept stands none fine other = other (λ e. cc) none
-left_by content lines_of r old engine (cause.Queries fault place) told left before is same accepted kept stands none fine other = other (λ e. cc) none
-left_by content lines_of r old engine (cause.Event line fault) told left before is same accepted kept stands none fine other = other (λ e. cc) none
-left_by content lines_of r old engine (cause.InputTooLong taken) told left before is same accepted kept stands none fine other = other (λ e. cc) none
-left_by content lines_of r old engine (cause.OpenFault opened from to) told left before is same accepted kept stands none fine other = other (λ e. cc) none
-left_by content lines_of r old engine (cause.ReadFault read to) told left before is same accepted kept stands none fine other = other (λ e. cc) none
-left_by content lines_of r old engine (cause.WriteFault from to) told left before is same accepted kept stands none fine other = other (λ e. cc) none
-left_by content lines_of r old engine cause.Memory told left before is same accepted kept stands none fine other = other (λ e. cc) none
+    subst P (sym (fine refl)) (stands_for_file content lines_of r old engine same accepted kept new (stands (sym is)))
+left_by content lines_of r old engine cause.Usage told left before is same accepted kept new stands none fine other = other (λ e. cc) none
+left_by content lines_of r old engine (cause.Queries fault place) told left before is same accepted kept new stands none fine other = other (λ e. cc) none
+left_by content lines_of r old engine (cause.ClockKind name) told left before is same accepted kept new stands none fine other = other (λ e. cc) none
+left_by content lines_of r old engine (cause.Event line fault) told left before is same accepted kept new stands none fine other = other (λ e. cc) none
+left_by content lines_of r old engine (cause.InputTooLong taken) told left before is same accepted kept new stands none fine other = other (λ e. cc) none
+left_by content lines_of r old engine (cause.OpenFault opened from to) told left before is same accepted kept new stands none fine other = other (λ e. cc) none
+left_by content lines_of r old engine (cause.ReadFault read to) told left before is same accepted kept new stands none fine other = other (λ e. cc) none
+left_by content lines_of r old engine (cause.WriteFault from to) told left before is same accepted kept new stands none fine other = other (λ e. cc) none
+left_by content lines_of r old engine cause.Memory told left before is same accepted kept new stands none fine other = other (λ e. cc) none
 
 -- no engine was left by a call that was not well
 pub none_by : (content : List ℕ → Content) (r : RunWords) (given : Cause) (left : Option State) → left ≡ None → (given ≡ cause.Fine → ⊥) → IsLeft given content r left
 none_by content r cause.Fine left none ill = absurd (ill refl)
 none_by content r cause.Usage left none ill = none
 none_by content r (cause.Queries fault place) left none ill = none
+none_by content r (cause.ClockKind name) left none ill = none
 none_by content r (cause.Event line fault) left none ill = none
 none_by content r (cause.InputTooLong taken) left none ill = none
 none_by content r (cause.OpenFault opened from to) left none ill = none
@@ -65,20 +80,89 @@ none_by content r cause.Memory left none ill = none
 pub not_fine : {S : Type 0} (sources : Sources S) (whole : Content) (from to : ℕ) (given : Cause) (failed : Option S) → QueriesStop sources whole from to given failed → given ≡ cause.Fine → ⊥
 not_fine {S} sources whole from to given failed stops fine = let P : Cause → Type 0 = λ k. QueriesStop sources whole from to k failed in subst P fine stops
 
--- the run that the words ask for
-pub left_asked : (words : List (List ℕ)) (content : List ℕ → Content) (r s : RunWords) (given : Cause) (left : Option State) → IsRun words r → IsRun words s → IsLeft given content r left → IsLeft given content s left
-left_asked words content r s given left one other h =
-    let P : RunWords → Type 0 = λ w. IsLeft given content w left in subst P (one_run words r s one other) h
+-- OVER LATE EVENTS
+
+-- over a source that was opened, and so over the file
+pub late_left_of_source : (content : Content) (source : Option (List ℕ)) (a : Feed) (engine : State) → HasOpened content source →
+    ((bytes : List ℕ) → source ≡ Some bytes → StandsForLate a bytes engine) → (bytes : List ℕ) → content ≡ Holds bytes → StandsForLate a bytes engine
+late_left_of_source content source a engine opened stands bytes told = stands bytes (source_told content source bytes opened told)
+
+-- over both files
+stands_for_late_file : (content : List ℕ → Content) (lines_of : Content) (w : ReorderWords) (old engine : State) → lines_of ≡ content w.events → OfOpened (content w.queries) (λ text. Accepts text old.schema old.queries) → SameQueries old engine →
+    ((bytes : List ℕ) → lines_of ≡ Holds bytes → StandsForLate (feed_of w old.schema old.queries) bytes engine) → StandsForLateFile content w engine
+stands_for_late_file content lines_of w old engine same accepted kept stands = record {
+  told = λ text lines first second. (
+      let here = stands lines (same ∙ second) in
+      let accepts = text_told (content w.queries) text (λ t. Accepts t old.schema old.queries) first accepted in
+      let P : Declared → Type 0 = λ s. Accepts text s old.queries × StandsForLate (feed_of w s old.queries) lines engine in
+      let Q : List Query → Type 0 = λ qs. Accepts text engine.schema qs × StandsForLate (feed_of w engine.schema qs) lines engine in
+      subst Q (sym kept.1) (subst P (sym kept.0) (accepts, here))
+      );
+}
+
+-- the engine by how the answers over the file ended
+pub late_left_by : (content : List ℕ → Content) (lines_of : Content) (w : ReorderWords) (old engine : State) (given told : Cause) (left before : Option State) → given ≡ told → lines_of ≡ content w.events → OfOpened (content w.queries) (λ text. Accepts text old.schema old.queries) →
+    SameQueries old engine → (told ≡ cause.Fine → (bytes : List ℕ) → lines_of ≡ Holds bytes → StandsForLate (feed_of w old.schema old.queries) bytes engine) → before ≡ None →
+    (given ≡ cause.Fine → left ≡ Some engine) → ((given ≡ cause.Fine → ⊥) → before ≡ None → left ≡ None) → IsLeftLate given content w left
+late_left_by content lines_of w old engine cause.Fine told left before is same accepted kept stands none fine other =
+    let P : Option State → Type 0 = λ o. IsSomeAnd o (StandsForLateFile content w) in
+    subst P (sym (fine refl)) (stands_for_late_file content lines_of w old engine same accepted kept (stands (sym is)))
+late_left_by content lines_of w old engine cause.Usage told left before is same accepted kept stands none fine other = other (λ e. cc) none
+late_left_by content lines_of w old engine (cause.Queries fault place) told left before is same accepted kept stands none fine other = other (λ e. cc) none
+late_left_by content lines_of w old engine (cause.ClockKind name) told left before is same accepted kept stands none fine other = other (λ e. cc) none
+late_left_by content lines_of w old engine (cause.Event line fault) told left before is same accepted kept stands none fine other = other (λ e. cc) none
+late_left_by content lines_of w old engine (cause.InputTooLong taken) told left before is same accepted kept stands none fine other = other (λ e. cc) none
+late_left_by content lines_of w old engine (cause.OpenFault opened from to) told left before is same accepted kept stands none fine other = other (λ e. cc) none
+late_left_by content lines_of w old engine (cause.ReadFault read to) told left before is same accepted kept stands none fine other = other (λ e. cc) none
+late_left_by content lines_of w old engine (cause.WriteFault from to) told left before is same accepted kept stands none fine other = other (λ e. cc) none
+late_left_by content lines_of w old engine cause.Memory told left before is same accepted kept stands none fine other = other (λ e. cc) none
+
+-- no engine was left by a call that was not well
+pub late_none_by : (content : List ℕ → Content) (w : ReorderWords) (given : Cause) (left : Option State) → left ≡ None → (given ≡ cause.Fine → ⊥) → IsLeftLate given content w left
+late_none_by content w cause.Fine left none ill = absurd (ill refl)
+late_none_by content w cause.Usage left none ill = none
+late_none_by content w (cause.Queries fault place) left none ill = none
+late_none_by content w (cause.ClockKind name) left none ill = none
+late_none_by content w (cause.Event line fault) left none ill = none
+late_none_by content w (cause.InputTooLong taken) left none ill = none
+late_none_by content w (cause.OpenFault opened from to) left none ill = none
+late_none_by content w (cause.ReadFault read to) left none ill = none
+late_none_by content w (cause.WriteFault from to) left none ill = none
+late_none_by content w cause.Memory left none ill = none
+
+-- OF ANY JOB
+
+-- none was left where memory ran out,
+memory_left : (content : List ℕ → Content) (job : Job) (left : Option State) → left ≡ None → IsLeftBy cause.Memory content job left
+memory_left content (running r) left none = none
+memory_left content (reordering w) left none = none
+memory_left content (explaining x) left none = none
+
+-- nor where nothing was asked
+usage_left : (content : List ℕ → Content) (job : Job) (left : Option State) → left ≡ None → IsLeftBy cause.Usage content job left
+usage_left content (running r) left none = none
+usage_left content (reordering w) left none = none
+usage_left content (explaining x) left none = none
+
+pub early_left : (content : List ℕ → Content) (job : Job) (given : Cause) (left : Option State) → (given ≡ cause.Memory) ⊎ (given ≡ cause.Usage) → left ≡ None → IsLeftBy given content job left
+early_left content job given left way none =
+    let P : Cause → Type 0 = λ k. IsLeftBy k content job left in
+    elim way [ inl memory ↦ subst P (sym memory) (memory_left content job left none) | inr usage ↦ subst P (sym usage) (usage_left content job left none) ]
+
+-- the job that the words ask for
+pub left_asked : (words : List (List ℕ)) (content : List ℕ → Content) (job other : Job) (given : Cause) (left : Option State) → AsksJob words job → AsksJob words other → IsLeftBy given content job left → IsLeftBy given content other left
+left_asked words content job other given left one two h =
+    let P : Job → Type 0 = λ w. IsLeftBy given content w left in subst P (one_job words job other one two) h
 
 -- with the note, and by another name
-pub left_noted : (content : List ℕ → Content) (r : RunWords) (told given last : Cause) (left noted done : Option State) → last ≡ given → done ≡ noted →
-    ((given ≡ told) × (noted ≡ left)) ⊎ ((given ≡ cause.Memory) × (noted ≡ None)) → IsLeft told content r left → IsLeft last content r done
-left_noted content r told given last left noted done same is way h =
-    let P : Cause → Type 0 = λ k. IsLeft k content r done in
-    let O : Option State → Type 0 = λ o. IsLeft told content r o in
+pub left_noted : (content : List ℕ → Content) (job : Job) (told given last : Cause) (left noted done : Option State) → last ≡ given → done ≡ noted →
+    ((given ≡ told) × (noted ≡ left)) ⊎ ((given ≡ cause.Memory) × (noted ≡ None)) → IsLeftBy told content job left → IsLeftBy last content job done
+left_noted content job told given last left noted done same is way h =
+    let P : Cause → Type 0 = λ k. IsLeftBy k content job done in
+    let O : Option State → Type 0 = λ o. IsLeftBy told content job o in
     elim way [
       | inl kept ↦ subst P (sym (same ∙ kept.0)) (subst O (sym (is ∙ kept.1)) h)
-      | inr forgot ↦ subst P (sym (same ∙ forgot.0)) (is ∙ forgot.1)
+      | inr forgot ↦ subst P (sym (same ∙ forgot.0)) (memory_left content job done (is ∙ forgot.1))
     ]
 
 pub none_noted : (left noted done : Option State) (given told : Cause) → done ≡ noted → ((given ≡ told) × (noted ≡ left)) ⊎ ((given ≡ cause.Memory) × (noted ≡ None)) → left ≡ None → done ≡ None

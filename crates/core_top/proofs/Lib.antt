@@ -13,6 +13,8 @@ mod Jobs
 mod Ends
 -- the same of a run
 mod RunEnds
+-- the same of a run over late events
+mod ReorderEnds
 -- the same of an explanation
 mod ExplainEnds
 -- what the end of a job says of each answer

@@ -19,6 +19,13 @@ ended_for_memory sources call o job first last (cause.Queries fault place) faile
   counts_writes = ended.counts_writes;
   opens = record { files = ended.opens.files; told = inr (inl ended.opens.told); turn = ended.opens.turn; steps = ended.opens.steps };
 }
+ended_for_memory sources call o job first last (cause.ClockKind name) failed needs ended = record {
+  holds = (refl, inl ended.holds.1);
+  wrote = wrote_for_memory job (cause.ClockKind name) o.content (left_of sources failed) None o.before o.after needs ended.wrote;
+  counts_opens = ended.counts_opens;
+  counts_writes = ended.counts_writes;
+  opens = record { files = ended.opens.files; told = inr (inl ended.opens.told); turn = ended.opens.turn; steps = ended.opens.steps };
+}
 ended_for_memory sources call o job first last (cause.Event line fault) failed needs ended = record {
   holds = (refl, inr ended.holds.both);
   wrote = wrote_for_memory job (cause.Event line fault) o.content (left_of sources failed) None o.before o.after needs ended.wrote;
@@ -43,6 +50,7 @@ ended_for_memory sources call o job first last cause.Memory failed needs ended =
 -- no note of these ends takes memory
 not_of_sample : (told : Cause) (seed count : ℕ) (before after : Option (List ℕ)) → NeedsMemory told → WroteSample told seed count before after → ⊥
 not_of_sample (cause.Queries fault place) seed count before after needs wrote = wrote
+not_of_sample (cause.ClockKind name) seed count before after needs wrote = wrote
 not_of_sample (cause.Event line fault) seed count before after needs wrote = wrote
 not_of_sample (cause.InputTooLong taken) seed count before after needs wrote = wrote
 not_of_sample cause.Fine seed count before after needs wrote = needs

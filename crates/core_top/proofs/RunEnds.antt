@@ -86,6 +86,7 @@ answered sources call o r first middle last schema queries source held cause.Mem
   opens = opened_both call _ (running r) _ first middle last (inr (inr refl)) (accepted_text (o.content r.queries) schema queries accepted) one other;
 }
 answered sources call o r first middle last schema queries source held cause.Usage failed stay accepted opened writes one other stops counts = absurd stops
+answered sources call o r first middle last schema queries source held (cause.ClockKind name) failed stay accepted opened writes one other stops counts = absurd stops
 answered sources call o r first middle last schema queries source held (cause.Queries fault place) failed stay accepted opened writes one other stops counts = absurd stops
 answered sources call o r first middle last schema queries source held (cause.OpenFault read before after) failed stay accepted opened writes one other stops counts = absurd stops
 

@@ -4,63 +4,82 @@ use Rattle.stream_schema.specs.Types.{Declared}
 use Rattle.cel_terms.specs.declared.Query.{Query}
 use Rattle.cer_outside.specs.Content.{Content, Holds, HasOpened, OfOpened}
 use Rattle.event_run.specs.Runs.{Stop}
-use Rattle.stream_answers.specs.Streams.{Asked}
-use Rattle.stream_answers.specs.Steps.{CountsAll, Counts}
+use Rattle.stream_answers.specs.Steps.{CountsAll}
+use Rattle.late_answers.specs.Steps.{LateCountsAll}
 use Rattle.fault_notes.specs.declared.File.TheVariants as file
 use Rattle.core_top.specs.declared.Cause.{Cause}
 use Rattle.core_top.specs.declared.Cause.TheVariants as cause
-use Rattle.core_top.specs.Command.{RunWords, Job, running, explaining, AsksJob}
-use Rattle.core_top.specs.Accepted.{Accepts}
+use Rattle.core_top.specs.Command.{RunWords, ReorderWords, Job, running, reordering, explaining, AsksJob}
+use Rattle.core_top.specs.Accepted.{Accepts, feed_of}
 use Rattle.core_top.specs.Notes.{NeedsMemory, IsNoted}
 use Rattle.core_top.specs.Run.{Sources, QueriesStop, IsOpening}
-use Rattle.core_top.specs.Steps.{OverFiles, StepsBy, RunSteps, StepsOf}
+use Rattle.core_top.specs.Reordering.{IsUnfit}
+use Rattle.core_top.specs.Steps.{Bounds, FaultBounds, StepsWithin, run_bounds, run_fault_bounds, late_bounds, late_fault_bounds, OverFiles, StepsBy, RunSteps, OverLateFiles, LateStepsBy, ReorderSteps, StepsOf}
 use Rattle.core_top.proofs.Streams.{asked_of, source_told, text_told}
 use Rattle.core_top.proofs.Words.{one_job}
 
 -- what is said over other files
-pub steps_map : (every : Option ℕ) → (Over Under : (Asked → List ℕ → Type 0) → Type 0) → ((Says : Asked → List ℕ → Type 0) → Over Says → Under Says) → (given : Cause) (before after : Option (List ℕ)) (old now : ℕ) → StepsBy every Over given before after old now → StepsBy every Under given before after old now
-steps_map every Over Under less cause.Fine before after old now h = less _ h
-steps_map every Over Under less (cause.Event line fault) before after old now h = less _ h
-steps_map every Over Under less (cause.InputTooLong taken) before after old now h = less _ h
-steps_map every Over Under less (cause.ReadFault file.Events to) before after old now h = less _ h
-steps_map every Over Under less (cause.WriteFault from to) before after old now h = less _ h
-steps_map every Over Under less cause.Memory before after old now (inl none) = inl none
-steps_map every Over Under less cause.Memory before after old now (inr some) = inr (less _ some)
-steps_map every Over Under less (cause.ReadFault file.Queries to) before after old now h = h
-steps_map every Over Under less cause.Usage before after old now h = h
-steps_map every Over Under less (cause.Queries fault place) before after old now h = h
-steps_map every Over Under less (cause.OpenFault opened from to) before after old now h = h
+pub steps_map : {A : Type 0} (All : Bounds A) (AtFault : FaultBounds A) (Over Under : (A → List ℕ → Type 0) → Type 0) → ((Says : A → List ℕ → Type 0) → Over Says → Under Says) → (given : Cause) (before after : Option (List ℕ)) (old now : ℕ) →
+    StepsWithin All AtFault Over given before after old now → StepsWithin All AtFault Under given before after old now
+steps_map All AtFault Over Under less cause.Fine before after old now h = less _ h
+steps_map All AtFault Over Under less (cause.Event line fault) before after old now h = less _ h
+steps_map All AtFault Over Under less (cause.InputTooLong taken) before after old now h = less _ h
+steps_map All AtFault Over Under less (cause.ReadFault file.Events to) before after old now h = less _ h
+steps_map All AtFault Over Under less (cause.WriteFault from to) before after old now h = less _ h
+steps_map All AtFault Over Under less cause.Memory before after old now (inl none) = inl none
+steps_map All AtFault Over Under less cause.Memory before after old now (inr some) = inr (less _ some)
+steps_map All AtFault Over Under less (cause.ReadFault file.Queries to) before after old now h = h
+steps_map All AtFault Over Under less cause.Usage before after old now h = h
+steps_map All AtFault Over Under less (cause.Queries fault place) before after old now h = h
+steps_map All AtFault Over Under less (cause.ClockKind name) before after old now h = h
+steps_map All AtFault Over Under less (cause.OpenFault opened from to) before after old now h = h
 
 -- the event file was not opened
-pub opening_steps : (every : Option ℕ) → (Over : (Asked → List ℕ → Type 0) → Type 0) (given : Cause) (before after : Option (List ℕ)) (now : ℕ) → IsOpening given → StepsBy every Over given before after now now
-opening_steps every Over (cause.OpenFault opened from to) before after now opening = refl
-opening_steps every Over cause.Memory before after now opening = inl refl
-opening_steps every Over cause.Fine before after now opening = absurd opening
-opening_steps every Over cause.Usage before after now opening = absurd opening
-opening_steps every Over (cause.Queries fault place) before after now opening = absurd opening
-opening_steps every Over (cause.Event line fault) before after now opening = absurd opening
-opening_steps every Over (cause.InputTooLong taken) before after now opening = absurd opening
-opening_steps every Over (cause.ReadFault read to) before after now opening = absurd opening
-opening_steps every Over (cause.WriteFault from to) before after now opening = absurd opening
+pub opening_steps : {A : Type 0} (All : Bounds A) (AtFault : FaultBounds A) (Over : (A → List ℕ → Type 0) → Type 0) (given : Cause) (before after : Option (List ℕ)) (now : ℕ) → IsOpening given → StepsWithin All AtFault Over given before after now now
+opening_steps All AtFault Over (cause.OpenFault opened from to) before after now opening = refl
+opening_steps All AtFault Over cause.Memory before after now opening = inl refl
+opening_steps All AtFault Over cause.Fine before after now opening = absurd opening
+opening_steps All AtFault Over cause.Usage before after now opening = absurd opening
+opening_steps All AtFault Over (cause.Queries fault place) before after now opening = absurd opening
+opening_steps All AtFault Over (cause.ClockKind name) before after now opening = absurd opening
+opening_steps All AtFault Over (cause.Event line fault) before after now opening = absurd opening
+opening_steps All AtFault Over (cause.InputTooLong taken) before after now opening = absurd opening
+opening_steps All AtFault Over (cause.ReadFault read to) before after now opening = absurd opening
+opening_steps All AtFault Over (cause.WriteFault from to) before after now opening = absurd opening
+
+-- the clock did not fit
+pub unfit_steps : {A : Type 0} (All : Bounds A) (AtFault : FaultBounds A) (Over : (A → List ℕ → Type 0) → Type 0) (given : Cause) (clock : List ℕ) (before after : Option (List ℕ)) (now : ℕ) → IsUnfit given clock → StepsWithin All AtFault Over given before after now now
+unfit_steps All AtFault Over (cause.ClockKind name) clock before after now unfit = refl
+unfit_steps All AtFault Over cause.Memory clock before after now unfit = inl refl
+unfit_steps All AtFault Over cause.Fine clock before after now unfit = absurd unfit
+unfit_steps All AtFault Over cause.Usage clock before after now unfit = absurd unfit
+unfit_steps All AtFault Over (cause.Queries fault place) clock before after now unfit = absurd unfit
+unfit_steps All AtFault Over (cause.OpenFault opened from to) clock before after now unfit = absurd unfit
+unfit_steps All AtFault Over (cause.Event line fault) clock before after now unfit = absurd unfit
+unfit_steps All AtFault Over (cause.InputTooLong taken) clock before after now unfit = absurd unfit
+unfit_steps All AtFault Over (cause.ReadFault read to) clock before after now unfit = absurd unfit
+unfit_steps All AtFault Over (cause.WriteFault from to) clock before after now unfit = absurd unfit
 
 -- there was no engine
-pub queries_steps : (every : Option ℕ) → {S : Type 0} (Over : (Asked → List ℕ → Type 0) → Type 0) (sources : Sources S) (whole : Content) (from to : ℕ) (given : Cause) (failed : Option S) (before after : Option (List ℕ)) (now : ℕ) → QueriesStop sources whole from to given failed → StepsBy every Over given before after now now
-queries_steps every Over sources whole from to (cause.OpenFault opened x y) failed before after now stops = refl
-queries_steps every Over sources whole from to cause.Memory failed before after now stops = inl refl
-queries_steps every Over sources whole from to (cause.Queries fault place) failed before after now stops = refl
-queries_steps every Over sources whole from to (cause.ReadFault file.Queries y) failed before after now stops = refl
-queries_steps every Over sources whole from to (cause.ReadFault file.Events y) failed before after now stops = absurd (let wrong = stops.0 in cc)
-queries_steps every Over sources whole from to cause.Fine failed before after now stops = absurd stops
-queries_steps every Over sources whole from to cause.Usage failed before after now stops = absurd stops
-queries_steps every Over sources whole from to (cause.Event line fault) failed before after now stops = absurd stops
-queries_steps every Over sources whole from to (cause.InputTooLong taken) failed before after now stops = absurd stops
-queries_steps every Over sources whole from to (cause.WriteFault x y) failed before after now stops = absurd stops
+pub queries_steps : {A S : Type 0} (All : Bounds A) (AtFault : FaultBounds A) (Over : (A → List ℕ → Type 0) → Type 0) (sources : Sources S) (whole : Content) (from to : ℕ) (given : Cause) (failed : Option S) (before after : Option (List ℕ)) (now : ℕ) →
+    QueriesStop sources whole from to given failed → StepsWithin All AtFault Over given before after now now
+queries_steps All AtFault Over sources whole from to (cause.OpenFault opened x y) failed before after now stops = refl
+queries_steps All AtFault Over sources whole from to cause.Memory failed before after now stops = inl refl
+queries_steps All AtFault Over sources whole from to (cause.Queries fault place) failed before after now stops = refl
+queries_steps All AtFault Over sources whole from to (cause.ReadFault file.Queries y) failed before after now stops = refl
+queries_steps All AtFault Over sources whole from to (cause.ReadFault file.Events y) failed before after now stops = absurd (let wrong = stops.0 in cc)
+queries_steps All AtFault Over sources whole from to (cause.ClockKind name) failed before after now stops = absurd stops
+queries_steps All AtFault Over sources whole from to cause.Fine failed before after now stops = absurd stops
+queries_steps All AtFault Over sources whole from to cause.Usage failed before after now stops = absurd stops
+queries_steps All AtFault Over sources whole from to (cause.Event line fault) failed before after now stops = absurd stops
+queries_steps All AtFault Over sources whole from to (cause.InputTooLong taken) failed before after now stops = absurd stops
+queries_steps All AtFault Over sources whole from to (cause.WriteFault x y) failed before after now stops = absurd stops
 
 -- over a source that was opened, and so over the file
-pub steps_of_source : (every : Option ℕ) → (content : Content) (source : Option (List ℕ)) (a : Asked) (given : Cause) (before after : Option (List ℕ)) (old now : ℕ) → HasOpened content source →
-    StepsBy every (λ Says. (bytes : List ℕ) → source ≡ Some bytes → Says a bytes) given before after old now → StepsBy every (λ Says. (bytes : List ℕ) → content ≡ Holds bytes → Says a bytes) given before after old now
-steps_of_source every content source a given before after old now opened h =
-    steps_map every (λ Says. (bytes : List ℕ) → source ≡ Some bytes → Says a bytes) (λ Says. (bytes : List ℕ) → content ≡ Holds bytes → Says a bytes)
+pub steps_of_source : {A : Type 0} (All : Bounds A) (AtFault : FaultBounds A) (content : Content) (source : Option (List ℕ)) (a : A) (given : Cause) (before after : Option (List ℕ)) (old now : ℕ) → HasOpened content source →
+    StepsWithin All AtFault (λ Says. (bytes : List ℕ) → source ≡ Some bytes → Says a bytes) given before after old now → StepsWithin All AtFault (λ Says. (bytes : List ℕ) → content ≡ Holds bytes → Says a bytes) given before after old now
+steps_of_source All AtFault content source a given before after old now opened h =
+    steps_map All AtFault (λ Says. (bytes : List ℕ) → source ≡ Some bytes → Says a bytes) (λ Says. (bytes : List ℕ) → content ≡ Holds bytes → Says a bytes)
     (λ Says over bytes told. over bytes (source_told content source bytes opened told)) given before after old now h
 
 -- over the file, and so over both
@@ -68,8 +87,15 @@ pub steps_of_file : (content : List ℕ → Content) (lines_of : Content) (r : R
     OfOpened (content r.queries) (λ text. Accepts text schema queries) →
     StepsBy r.compact_every (λ Says. (bytes : List ℕ) → lines_of ≡ Holds bytes → Says (asked_of r schema queries) bytes) given before after old now → RunSteps given content r before after old now
 steps_of_file content lines_of r schema queries given before after old now same accepted h =
-    steps_map r.compact_every (λ Says. (bytes : List ℕ) → lines_of ≡ Holds bytes → Says (asked_of r schema queries) bytes) (OverFiles content r)
+    steps_map (run_bounds r.compact_every) (run_fault_bounds r.compact_every) (λ Says. (bytes : List ℕ) → lines_of ≡ Holds bytes → Says (asked_of r schema queries) bytes) (OverFiles content r)
     (λ Says over text lines first second. (schema, queries, text_told (content r.queries) text (λ w. Accepts w schema queries) first accepted, over lines (same ∙ second))) given before after old now h
+
+pub late_steps_of_file : (content : List ℕ → Content) (lines_of : Content) (w : ReorderWords) (schema : Declared) (queries : List Query) (given : Cause) (before after : Option (List ℕ)) (old now : ℕ) → lines_of ≡ content w.events →
+    OfOpened (content w.queries) (λ text. Accepts text schema queries) →
+    LateStepsBy w.compact_every (λ Says. (bytes : List ℕ) → lines_of ≡ Holds bytes → Says (feed_of w schema queries) bytes) given before after old now → ReorderSteps given content w before after old now
+late_steps_of_file content lines_of w schema queries given before after old now same accepted h =
+    steps_map (late_bounds w.compact_every) (late_fault_bounds w.compact_every) (λ Says. (bytes : List ℕ) → lines_of ≡ Holds bytes → Says (feed_of w schema queries) bytes) (OverLateFiles content w)
+    (λ Says over text lines first second. (schema, queries, text_told (content w.queries) text (λ t. Accepts t schema queries) first accepted, over lines (same ∙ second))) given before after old now h
 
 -- nothing was asked, or memory ran out while the words were read
 abbrev pub IsEnd : Cause → Type 0
@@ -78,7 +104,7 @@ IsEnd cause.Memory = Unit {0}
 IsEnd _ = ⊥
 
 -- A note for which there was no memory: memory is the cause then.
-forget : (content : List ℕ → Content) (r : RunWords) (Stops : Stop → Type 0) (Took : List ℕ → Type 0) (old now : ℕ) → OverFiles content r (λ a lines. CountsAll r.compact_every a lines Stops Took old now) → OverFiles content r (λ a lines. Counts r.compact_every a lines old now)
+forget : (content : List ℕ → Content) (r : RunWords) (Stops : Stop → Type 0) (Took : List ℕ → Type 0) (old now : ℕ) → OverFiles content r (λ a lines. CountsAll r.compact_every a lines Stops Took old now) → OverFiles content r (λ a lines. CountsAll r.compact_every a lines (λ halt. Unit {0}) (λ bytes. Unit {0}) old now)
 forget content r Stops Took old now h = λ text lines first second.
     let w = h text lines first second in (
       w.0,
@@ -89,6 +115,7 @@ forget content r Stops Took old now h = λ text lines first second.
 
 for_memory : (content : List ℕ → Content) (r : RunWords) (told : Cause) (before after : Option (List ℕ)) (old now : ℕ) → NeedsMemory told → RunSteps told content r before after old now → RunSteps cause.Memory content r before after old now
 for_memory content r (cause.Queries fault place) before after old now needs h = inl h
+for_memory content r (cause.ClockKind name) before after old now needs h = inl h
 for_memory content r (cause.Event line fault) before after old now needs h = inr (forget content r _ _ old now h)
 for_memory content r (cause.InputTooLong taken) before after old now needs h = inr (forget content r _ _ old now h)
 for_memory content r cause.Fine before after old now needs h = absurd needs
@@ -98,8 +125,30 @@ for_memory content r (cause.ReadFault read to) before after old now needs h = ab
 for_memory content r (cause.WriteFault from to) before after old now needs h = absurd needs
 for_memory content r cause.Memory before after old now needs h = absurd needs
 
+late_forget : (content : List ℕ → Content) (w : ReorderWords) (Stops : Stop → Type 0) (Took : List ℕ → Type 0) (old now : ℕ) → OverLateFiles content w (λ a lines. LateCountsAll w.compact_every a lines Stops Took old now) → OverLateFiles content w (λ a lines. LateCountsAll w.compact_every a lines (λ halt. Unit {0}) (λ bytes. Unit {0}) old now)
+late_forget content w Stops Took old now h = λ text lines first second.
+    let u = h text lines first second in (
+      u.0,
+      u.1,
+      u.2,
+      record { events = u.3.events; stop = u.3.stop; runs = u.3.runs; stops = tt; rows = u.3.rows; are_rows = u.3.are_rows; took = tt; bounded = u.3.bounded },
+    )
+
+late_for_memory : (content : List ℕ → Content) (w : ReorderWords) (told : Cause) (before after : Option (List ℕ)) (old now : ℕ) → NeedsMemory told → ReorderSteps told content w before after old now → ReorderSteps cause.Memory content w before after old now
+late_for_memory content w (cause.Queries fault place) before after old now needs h = inl h
+late_for_memory content w (cause.ClockKind name) before after old now needs h = inl h
+late_for_memory content w (cause.Event line fault) before after old now needs h = inr (late_forget content w _ _ old now h)
+late_for_memory content w (cause.InputTooLong taken) before after old now needs h = inr (late_forget content w _ _ old now h)
+late_for_memory content w cause.Fine before after old now needs h = absurd needs
+late_for_memory content w cause.Usage before after old now needs h = absurd needs
+late_for_memory content w (cause.OpenFault opened from to) before after old now needs h = absurd needs
+late_for_memory content w (cause.ReadFault read to) before after old now needs h = absurd needs
+late_for_memory content w (cause.WriteFault from to) before after old now needs h = absurd needs
+late_for_memory content w cause.Memory before after old now needs h = absurd needs
+
 job_for_memory : (content : List ℕ → Content) (job : Job) (told : Cause) (before after : Option (List ℕ)) (old now : ℕ) → NeedsMemory told → StepsOf told content job before after old now → StepsOf cause.Memory content job before after old now
 job_for_memory content (running r) told before after old now needs h = for_memory content r told before after old now needs h
+job_for_memory content (reordering w) told before after old now needs h = late_for_memory content w told before after old now needs h
 job_for_memory content (explaining x) told before after old now needs h = h
 
 pub noted_steps : {S : Type 0} (content : List ℕ → Content) (job : Job) (told given last : Cause) (failed left : Option S) (before after : Option (List ℕ)) (old now : ℕ) → last ≡ given → IsNoted told failed given left → StepsOf told content job before after old now → StepsOf last content job before after old now
@@ -121,6 +170,17 @@ no_steps content (running r) (cause.InputTooLong taken) before after now ends = 
 no_steps content (running r) (cause.OpenFault opened from to) before after now ends = absurd ends
 no_steps content (running r) (cause.ReadFault read to) before after now ends = absurd ends
 no_steps content (running r) (cause.WriteFault from to) before after now ends = absurd ends
+no_steps content (running r) (cause.ClockKind name) before after now ends = absurd ends
+no_steps content (reordering w) cause.Memory before after now ends = inl refl
+no_steps content (reordering w) cause.Usage before after now ends = refl
+no_steps content (reordering w) cause.Fine before after now ends = absurd ends
+no_steps content (reordering w) (cause.Queries fault place) before after now ends = absurd ends
+no_steps content (reordering w) (cause.Event line fault) before after now ends = absurd ends
+no_steps content (reordering w) (cause.InputTooLong taken) before after now ends = absurd ends
+no_steps content (reordering w) (cause.OpenFault opened from to) before after now ends = absurd ends
+no_steps content (reordering w) (cause.ReadFault read to) before after now ends = absurd ends
+no_steps content (reordering w) (cause.WriteFault from to) before after now ends = absurd ends
+no_steps content (reordering w) (cause.ClockKind name) before after now ends = absurd ends
 no_steps content (explaining x) given before after now ends = refl
 
 -- the job that the words ask for

@@ -50,6 +50,7 @@ fine_or_memory cause.Fine ends opens reads writes = tt
 fine_or_memory cause.Memory ends opens reads writes = tt
 fine_or_memory cause.Usage ends opens reads writes = ends
 fine_or_memory (cause.Queries fault place) ends opens reads writes = ends
+fine_or_memory (cause.ClockKind name) ends opens reads writes = ends
 fine_or_memory (cause.Event line fault) ends opens reads writes = ends
 fine_or_memory (cause.InputTooLong taken) ends opens reads writes = ends
 fine_or_memory (cause.OpenFault opened before after) ends opens reads writes = opens opened before after refl

@@ -12,7 +12,7 @@ use Rattle.core_top.specs.declared.Cause.{Cause}
 use Rattle.core_top.specs.declared.Cause.TheVariants as cause
 use Rattle.command_words.specs.CommandLine.{AskNothing}
 use Rattle.core_top.specs.Command.{Job, queries_of, events_of, AsksJob, IsSample}
-use Rattle.core_top.specs.Accepted.{IsRefusedBy, StopsOver}
+use Rattle.core_top.specs.Accepted.{IsRefusedBy, LacksItsClock, StopsOver}
 use Rattle.core_top.specs.Causes.{Exactly, IsFromOutside, IsFineOrOutside, IsReading, HasOpenFault, HasReadFault, HasWriteFault, CountsOpens, CountsWrites, EndsWithout, name_of}
 use Rattle.core_top.specs.Opening.{OpensInTurn}
 use Rattle.core_top.specs.Output.{WroteBy, WroteSample}
@@ -21,7 +21,7 @@ use Rattle.core_top.specs.Notes.{IsNoted}
 use Rattle.core_top.proofs.Noted.{noted_finished}
 use Rattle.core_top.proofs.Words.{one_job, one_sample, no_job_and_sample, asks_something}
 use Rattle.core_top.proofs.Jobs.{told, wrote_nothing}
-use Rattle.core_top.proofs.Clauses.{at_cause, cause_of, queries_whenever, stop_whenever, stops_of_cause, fine_or_outside, no_source, failed_reading, ends_without}
+use Rattle.core_top.proofs.Clauses.{at_cause, cause_of, queries_whenever, clock_whenever, stop_whenever, stops_of_cause, fine_or_outside, no_source, failed_reading, ends_without}
 
 -- How a job ended that the words ask for.
 pub record EndedWell {S H : Type 0} (sources : Sources S) (call : H → List ℕ → H → Type 0) (o : Outside) (job : Job) (first last : H) (given : Cause) (failed : Option S) : Type 0 where
@@ -68,6 +68,20 @@ queries_clause sources call words o first last given failed finished job text fa
       | inr none ↦ record {
         only = λ same. let wrong : cause.Memory ≡ cause.Queries fault place = sym none.0 ∙ same in absurd cc;
         whenever = λ refused. inr (at_cause IsFromOutside cause.Memory given (sym none.0) tt);
+      }
+    ]
+
+pub clock_clause : {S H : Type 0} (sources : Sources S) (call : H → List ℕ → H → Type 0) (words : List (List ℕ)) (o : Outside) (first last : H) (given : Cause) (failed : Option S) → Finished sources call words o first last given failed →
+    (job : Job) (text name : List ℕ) → AsksJob words job → o.content (queries_of job) ≡ Holds text → Exactly given (cause.ClockKind name) (LacksItsClock job text name)
+clock_clause sources call words o first last given failed finished job text name is first_told =
+    elim (ended_well sources call words o first last given failed finished job is).way [
+      | inl ended ↦ record {
+        only = λ same. told _ text (λ w. LacksItsClock job w name) first_told (at_cause (λ k. CauseHolds sources o job k failed) given (cause.ClockKind name) same ended.holds).2;
+        whenever = λ lacks. clock_whenever sources o job given failed text name first_told ended.holds lacks;
+      }
+      | inr none ↦ record {
+        only = λ same. let wrong : cause.Memory ≡ cause.ClockKind name = sym none.0 ∙ same in absurd cc;
+        whenever = λ lacks. inr (at_cause IsFromOutside cause.Memory given (sym none.0) tt);
       }
     ]
 
@@ -199,6 +213,7 @@ reads_no_sample (cause.ReadFault read to) seed count before after wrote reading 
 reads_no_sample cause.Fine seed count before after wrote reading = reading
 reads_no_sample cause.Usage seed count before after wrote reading = reading
 reads_no_sample (cause.Queries fault place) seed count before after wrote reading = reading
+reads_no_sample (cause.ClockKind name) seed count before after wrote reading = reading
 reads_no_sample (cause.Event line fault) seed count before after wrote reading = reading
 reads_no_sample (cause.OpenFault opened from to) seed count before after wrote reading = reading
 reads_no_sample (cause.WriteFault from to) seed count before after wrote reading = reading

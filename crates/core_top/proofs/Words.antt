@@ -3,43 +3,38 @@ use Rattle.std.proofs.Common.{◌≡◌, ℕ, Option, None, List, [], refl, ◌�
 use Rattle.answer_text.specs.declared.Order.{Order}
 use Rattle.answer_text.specs.declared.Order.TheVariants.{Sorted}
 use Rattle.command_words.specs.declared.Command.{Command}
-use Rattle.command_words.specs.declared.Command.TheVariants.{Run, Sample, Explain}
+use Rattle.command_words.specs.declared.Command.TheVariants.{Run, Sample, Reorder, Explain}
 use Rattle.command_words.specs.CommandLine.{AsksFor, AskNothing}
 use Rattle.command_words.proofs.ForCallers.{one_command}
 use Rattle.answer_explain.specs.declared.Question.{Question}
-use Rattle.core_top.specs.Command.{RunWords, ExplainWords, Job, running, explaining, AsksJob, IsRun, IsExplain, IsSample}
+use Rattle.core_top.specs.Command.{Job, running, reordering, explaining, AsksJob, IsRun, IsReorder, IsExplain, IsSample}
 
 -- the job that a command is, or any other
 abbrev job_of : Command → Job
 job_of (Run queries events order compact_every most_bytes) = running (record { queries = queries; events = events; order = order; compact_every = compact_every; most_bytes = most_bytes })
 job_of (Sample seed count) = running (record { queries = []; events = []; order = Sorted; compact_every = None; most_bytes = 0 })
+job_of (Reorder queries events clock late order compact_every most_bytes) =
+    reordering (record { queries = queries; events = events; clock = clock; late = late; order = order; compact_every = compact_every; most_bytes = most_bytes })
 job_of (Explain queries events query start end positions) =
     explaining (record { queries = queries; events = events; question = record { query = query; start = start; end = end; positions = positions } })
 
 -- the command that a job is
 abbrev command_of_job : Job → Command
 command_of_job (running r) = Run r.queries r.events r.order r.compact_every r.most_bytes
+command_of_job (reordering w) = Reorder w.queries w.events w.clock w.late w.order w.compact_every w.most_bytes
 command_of_job (explaining x) = Explain x.queries x.events x.question.query x.question.start x.question.end x.question.positions
 
 asks_command : (words : List (List ℕ)) (job : Job) → AsksJob words job → AsksFor words (command_of_job job)
 asks_command words (running r) asked = asked
+asks_command words (reordering w) asked = asked
 asks_command words (explaining x) asked = asked
 
 job_again : (job : Job) → job_of (command_of_job job) ≡ job
 job_again (running r) = refl
+job_again (reordering w) = refl
 job_again (explaining x) = refl
 
--- the run that a command is, or any other
-abbrev run_of : Command → RunWords
-run_of (Run queries events order compact_every most_bytes) = record { queries = queries; events = events; order = order; compact_every = compact_every; most_bytes = most_bytes }
-run_of (Sample seed count) = record { queries = []; events = []; order = Sorted; compact_every = None; most_bytes = 0 }
-run_of (Explain queries events query start end positions) = record { queries = []; events = []; order = Sorted; compact_every = None; most_bytes = 0 }
-
-pub one_run : (words : List (List ℕ)) (r s : RunWords) → IsRun words r → IsRun words s → r ≡ s
-one_run words r s one other =
-    let same = one_command words (Run r.queries r.events r.order r.compact_every r.most_bytes) (Run s.queries s.events s.order s.compact_every s.most_bytes) one other in
-    ap run_of same
-
+-- a sample is one thing
 pub one_sample : (words : List (List ℕ)) (s c t d : ℕ) → IsSample words s c → IsSample words t d → (s ≡ t) × (c ≡ d)
 one_sample words s c t d one other =
     let same = one_command words (Sample s c) (Sample t d) one other in
@@ -52,17 +47,13 @@ one_job words job other one two =
 
 no_sample : (job : Job) (seed count : ℕ) → command_of_job job ≡ Sample seed count → ⊥
 no_sample (running r) seed count same = let wrong : Run r.queries r.events r.order r.compact_every r.most_bytes ≡ Sample seed count = same in cc
+no_sample (reordering w) seed count same = let wrong : Reorder w.queries w.events w.clock w.late w.order w.compact_every w.most_bytes ≡ Sample seed count = same in cc
 no_sample (explaining x) seed count same =
     let wrong : Explain x.queries x.events x.question.query x.question.start x.question.end x.question.positions ≡ Sample seed count = same in cc
 
 pub no_job_and_sample : (words : List (List ℕ)) (job : Job) (seed count : ℕ) → AsksJob words job → IsSample words seed count → ⊥
 no_job_and_sample words job seed count one other =
     no_sample job seed count (one_command words (command_of_job job) (Sample seed count) (asks_command words job one) other)
-
-pub no_run_and_explanation : (words : List (List ℕ)) (r : RunWords) (x : ExplainWords) → IsRun words r → IsExplain words x → ⊥
-no_run_and_explanation words r x one other =
-    let same = one_command words (Run r.queries r.events r.order r.compact_every r.most_bytes) (Explain x.queries x.events x.question.query x.question.start x.question.end x.question.positions) one other in
-    cc
 
 -- words that ask for a job ask for something
 pub asks_something : (words : List (List ℕ)) (job : Job) → AskNothing words → AsksJob words job → ⊥
@@ -75,6 +66,15 @@ run_asked words q e x y order compact_every most_bytes first second asked =
     let P : List ℕ → Type 0 = λ w. AsksFor words (Run w y order compact_every most_bytes) in
     let Q : List ℕ → Type 0 = λ w. AsksFor words (Run q w order compact_every most_bytes) in
     subst P (sym first) (subst Q (sym second) asked)
+
+-- the same over late events
+pub reorder_asked : (words : List (List ℕ)) (q e k x y z : List ℕ) (late : ℕ) (order : Order) (compact_every : Option ℕ) (most_bytes : ℕ) → x ≡ q → y ≡ e → z ≡ k → AsksFor words (Reorder q e k late order compact_every most_bytes) →
+    IsReorder words (record { queries = x; events = y; clock = z; late = late; order = order; compact_every = compact_every; most_bytes = most_bytes })
+reorder_asked words q e k x y z late order compact_every most_bytes first second third asked =
+    let P : List ℕ → Type 0 = λ w. AsksFor words (Reorder w y z late order compact_every most_bytes) in
+    let Q : List ℕ → Type 0 = λ w. AsksFor words (Reorder q w z late order compact_every most_bytes) in
+    let R : List ℕ → Type 0 = λ w. AsksFor words (Reorder q e w late order compact_every most_bytes) in
+    subst P (sym first) (subst Q (sym second) (subst R (sym third) asked))
 
 -- the question that was read, where its names are lent
 pub explanation_asked : (words : List (List ℕ)) (q e x y : List ℕ) (a : Question) → x ≡ q → y ≡ e → AsksFor words (Explain q e a.query a.start a.end a.positions) →

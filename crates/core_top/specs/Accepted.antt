@@ -1,5 +1,5 @@
 -- What the program makes of a query text and an event file.
-use Rattle.std.specs.Prelude.{◌≡◌, ℕ, List, map, Ok, Err}
+use Rattle.std.specs.Prelude.{◌≡◌, ℕ, true, false, List, map, Ok, Err}
 use Rattle.cer_base.specs.declared.Place.{Place}
 use Rattle.stream_schema.specs.Types.{Declared}
 use Rattle.stream_schema.specs.declared.Event.{Event}
@@ -15,7 +15,10 @@ use Rattle.answer_explain.specs.declared.Question.{Question}
 use Rattle.answer_explain.specs.declared.written.TheConstants.{MOST_BYTES}
 use Rattle.answer_explain.specs.Explanations.{IsExplanation}
 use Rattle.event_run.specs.Runs as stop
-use Rattle.core_top.specs.Command.{Job, running, explaining}
+use Rattle.reorder_gate.specs.Clocks.{clock_fits}
+use Rattle.late_answers.specs.Late.{Feed, RunsLate}
+use Rattle.late_answers.specs.Written.{AreReleasedBefore}
+use Rattle.core_top.specs.Command.{ReorderWords, Job, running, reordering, explaining}
 
 -- the text declares the schema and asks the queries
 abbrev pub Accepts : List ℕ → Declared → List Query → Type 0
@@ -36,19 +39,49 @@ pub record StopsAt (text lines : List ℕ) (most_bytes : ℕ) (stop : Stop) : Ty
   pub accepted : Accepts text schema queries
   pub runs : RunsTo schema queries most_bytes lines events stop
 
+-- what is asked of the events of a run over late events
+abbrev pub feed_of : ReorderWords → Declared → List Query → Feed
+feed_of w schema queries = record { order = w.order; schema = schema; queries = queries; clock = w.clock; late = w.late; most_bytes = w.most_bytes }
+
+-- the text is accepted, and each type that it declares has the clock as a whole number
+abbrev pub HasClock : List ℕ → List ℕ → Type 0
+HasClock clock text = (schema : Declared) × (queries : List Query) × Accepts text schema queries × (clock_fits schema clock ≡ true)
+
+-- the text is accepted, and some type that it declares has not
+abbrev pub LacksClock : List ℕ → List ℕ → Type 0
+LacksClock clock text = (schema : Declared) × (queries : List Query) × Accepts text schema queries × (clock_fits schema clock ≡ false)
+
+-- The same, and its queries take these events of the file by their clocks, and stop so.
+pub record StopsLate (w : ReorderWords) (text lines : List ℕ) (stop : Stop) : Type 0 where
+  pub schema : Declared
+  pub queries : List Query
+  pub events : List Event
+  pub accepted : Accepts text schema queries
+  pub has_clock : clock_fits schema w.clock ≡ true
+  pub runs : RunsLate (feed_of w schema queries) lines events stop
+
 -- the job goes on to its event file after this query text
 abbrev pub Takes : Job → List ℕ → Type 0
 Takes (running r) = IsAcceptedText
+Takes (reordering w) = HasClock w.clock
 Takes (explaining x) = IsAcceptedText
 
 -- this is why the job takes the query text not, and where
 abbrev pub IsRefusedBy : Job → List ℕ → QueryFault → Place → Type 0
 IsRefusedBy (running r) text fault place = IsRefusedText text fault place
+IsRefusedBy (reordering w) text fault place = IsRefusedText text fault place
 IsRefusedBy (explaining x) text fault place = IsRefusedText text fault place
+
+-- this is the clock of the job, which takes the query text but for it
+abbrev pub LacksItsClock : Job → List ℕ → List ℕ → Type 0
+LacksItsClock (running r) text name = ⊥
+LacksItsClock (reordering w) text name = (name ≡ w.clock) × LacksClock w.clock text
+LacksItsClock (explaining x) text name = ⊥
 
 -- the events that the job reads stop so
 abbrev pub StopsOver : Job → List ℕ → List ℕ → Stop → Type 0
 StopsOver (running r) text lines stop = StopsAt text lines r.most_bytes stop
+StopsOver (reordering w) text lines stop = StopsLate w text lines stop
 StopsOver (explaining x) text lines stop = StopsAt text lines MOST_BYTES stop
 
 -- The bytes are the answers of the text's queries over the events that they take of the file, where they stop so.
@@ -68,6 +101,26 @@ pub record AreAnswersSoFar (order : Order) (text lines : List ℕ) (bytes : List
   pub accepted : Accepts text schema queries
   pub good : AreEventsOf schema queries (whole_lines lines) events
   pub output : IsOutput order schema queries events bytes
+
+-- The bytes are the answers of the text's queries over the events that they take of the file by their clocks, where they stop so.
+pub record AreLateAnswers (w : ReorderWords) (text lines : List ℕ) (stop : Stop) (bytes : List ℕ) : Type 0 where
+  pub schema : Declared
+  pub queries : List Query
+  pub events : List Event
+  pub accepted : Accepts text schema queries
+  pub has_clock : clock_fits schema w.clock ≡ true
+  pub runs : RunsLate (feed_of w schema queries) lines events stop
+  pub output : IsOutput w.order schema queries events bytes
+
+-- The bytes are the answers over the events that need not wait, of the lines that end before these bytes are left, each of them good.
+pub record AreLateAnswersSoFar (w : ReorderWords) (text lines rest : List ℕ) (bytes : List ℕ) : Type 0 where
+  pub schema : Declared
+  pub queries : List Query
+  pub events : List Event
+  pub accepted : Accepts text schema queries
+  pub has_clock : clock_fits schema w.clock ≡ true
+  pub released : AreReleasedBefore (feed_of w schema queries) lines rest events
+  pub output : IsOutput w.order schema queries events bytes
 
 -- The bytes are the explanation that is asked for, over all events of the file.
 pub record IsExplained (text lines : List ℕ) (question : Question) (bytes : List ℕ) : Type 0 where

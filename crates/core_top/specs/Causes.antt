@@ -15,6 +15,7 @@ abbrev pub status_of : Cause → ℕ
 status_of cause.Fine = 0
 status_of cause.Usage = 2
 status_of (cause.Queries fault place) = 3
+status_of (cause.ClockKind name) = 3
 status_of (cause.Event line fault) = 4
 status_of (cause.OpenFault opened before after) = 5
 status_of (cause.ReadFault read after) = 5
@@ -106,5 +107,6 @@ abbrev pub EndsWithout : File → Cause → Type 0
 EndsWithout missing (cause.OpenFault opened before after) = (opened ≡ missing) ⊎ ComesBefore opened missing
 EndsWithout missing (cause.ReadFault read after) = ComesBefore read missing
 EndsWithout missing (cause.Queries fault place) = ComesBefore file.Queries missing
+EndsWithout missing (cause.ClockKind name) = ComesBefore file.Queries missing
 EndsWithout missing cause.Memory = Unit {0}
 EndsWithout missing _ = ⊥

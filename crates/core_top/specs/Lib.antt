@@ -7,5 +7,6 @@ pub mod Notes
 pub mod SourceBytes
 pub mod Run
 pub mod Explaining
+pub mod Reordering
 pub mod Steps
 pub mod Left

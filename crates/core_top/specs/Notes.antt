@@ -2,7 +2,7 @@
 use Rattle.std.specs.Prelude.{◌≡◌, ◌⊎◌, ℕ, List, [], Option, None}
 use Rattle.cer_outside.specs.Causes.{Rose}
 use Rattle.cer_outside.specs.Bytes.{TookAll, TookPart}
-use Rattle.fault_notes.specs.Notes.{query_note, event_note, too_long_note, open_note, read_note, write_note, memory_note, usage_note}
+use Rattle.fault_notes.specs.Notes.{query_note, clock_note, event_note, too_long_note, open_note, read_note, write_note, memory_note, usage_note}
 use Rattle.core_top.specs.declared.Cause.{Cause}
 use Rattle.core_top.specs.declared.Cause.TheVariants as cause
 
@@ -11,6 +11,7 @@ abbrev pub note_of : Cause → List ℕ
 note_of cause.Fine = []
 note_of cause.Usage = usage_note
 note_of (cause.Queries fault place) = query_note fault place
+note_of (cause.ClockKind name) = clock_note name
 note_of (cause.Event line fault) = event_note line fault
 note_of (cause.OpenFault opened before after) = open_note opened
 note_of (cause.ReadFault read after) = read_note read
@@ -26,6 +27,7 @@ TookNote before after old new note =
 -- the note tells a text, a line or a number, so it takes memory
 abbrev pub NeedsMemory : Cause → Type 0
 NeedsMemory (cause.Queries fault place) = Unit {0}
+NeedsMemory (cause.ClockKind name) = Unit {0}
 NeedsMemory (cause.Event line fault) = Unit {0}
 NeedsMemory (cause.InputTooLong taken) = Unit {0}
 NeedsMemory _ = ⊥

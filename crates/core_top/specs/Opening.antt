@@ -23,6 +23,7 @@ abbrev pub AreOpened : Cause → List File → Type 0
 AreOpened cause.Fine files = files ≡ files_to file.Events
 AreOpened cause.Usage files = files ≡ []
 AreOpened (cause.Queries fault place) files = files ≡ files_to file.Queries
+AreOpened (cause.ClockKind name) files = files ≡ files_to file.Queries
 AreOpened (cause.Event line fault) files = files ≡ files_to file.Events
 AreOpened (cause.InputTooLong taken) files = files ≡ files_to file.Events
 AreOpened (cause.OpenFault opened before after) files = files ≡ files_to opened

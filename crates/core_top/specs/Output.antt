@@ -7,8 +7,8 @@ use Rattle.event_run.specs.Runs.{Stop, End, Event, InputTooLong}
 use Rattle.fault_notes.specs.declared.File.TheVariants as file
 use Rattle.core_top.specs.declared.Cause.{Cause}
 use Rattle.core_top.specs.declared.Cause.TheVariants as cause
-use Rattle.core_top.specs.Command.{RunWords, ExplainWords, Job, running, explaining}
-use Rattle.core_top.specs.Accepted.{AreAnswers, AreAnswersSoFar, IsExplained}
+use Rattle.core_top.specs.Command.{RunWords, ReorderWords, ExplainWords, Job, running, reordering, explaining}
+use Rattle.core_top.specs.Accepted.{AreAnswers, AreAnswersSoFar, AreLateAnswers, AreLateAnswersSoFar, IsExplained}
 use Rattle.core_sample.specs.Summary.{IsSummary}
 
 -- The host lacks neither file, and where it tells their bytes, these are the answers to them, with a stop that passes.
@@ -45,7 +45,45 @@ Wrote cause.Memory content r left before after =
 Wrote (cause.ReadFault file.Queries to) content r left before after = after ≡ before
 Wrote cause.Usage content r left before after = after ≡ before
 Wrote (cause.Queries fault place) content r left before after = after ≡ before
+Wrote (cause.ClockKind name) content r left before after = ⊥
 Wrote (cause.OpenFault opened from to) content r left before after = after ≡ before
+
+-- The host lacks neither file, and where it tells their bytes, these are the answers to their late events, with a stop that passes.
+pub record AreLateFileAnswers (content : List ℕ → Content) (w : ReorderWords) (Passes : Stop → Type 0) (bytes : List ℕ) : Type 0 where
+  pub has_queries : content w.queries ≢ Missing
+  pub has_events : content w.events ≢ Missing
+  pub answers : (text lines : List ℕ) → content w.queries ≡ Holds text → content w.events ≡ Holds lines
+      → (stop : Stop) × Passes stop × AreLateAnswers w text lines stop bytes
+
+-- The same over what is released of the lines that end among the bytes that a source, which failed, no longer has left.
+pub record AreLateReadAnswers (content : List ℕ → Content) (w : ReorderWords) (left : Option (List ℕ)) (bytes : List ℕ) : Type 0 where
+  pub has_queries : content w.queries ≢ Missing
+  pub has_events : content w.events ≢ Missing
+  pub answers : (text lines rest : List ℕ) → content w.queries ≡ Holds text → content w.events ≡ Holds lines → left ≡ Some rest
+      → AreLateAnswersSoFar w text lines rest bytes
+
+-- The output took all answers of such a run.
+pub record WroteLateAll (content : List ℕ → Content) (w : ReorderWords) (stop : Stop) (before after : Option (List ℕ)) : Type 0 where
+  pub bytes : List ℕ
+  pub are : AreLateFileAnswers content w (λ s. s ≡ stop) bytes
+  pub took : TookAll before after bytes
+
+-- What the output has taken after a run over late events, by its cause. What waits when a line is refused or the file is too long is not answered.
+abbrev pub WroteReordered : Cause → (List ℕ → Content) → ReorderWords → Option (List ℕ) → Option (List ℕ) → Option (List ℕ) → Type 0
+WroteReordered cause.Fine content w left before after = WroteLateAll content w End before after
+WroteReordered (cause.Event line fault) content w left before after = WroteLateAll content w (Event line fault) before after
+WroteReordered (cause.InputTooLong taken) content w left before after = WroteLateAll content w (InputTooLong taken) before after
+WroteReordered (cause.ReadFault file.Events to) content w left before after =
+    (bytes : List ℕ) × AreLateReadAnswers content w left bytes × TookAll before after bytes
+WroteReordered (cause.WriteFault from to) content w left before after =
+    (bytes : List ℕ) × AreLateFileAnswers content w (λ s. Unit {0}) bytes × TookPart before after bytes
+WroteReordered cause.Memory content w left before after =
+    (after ≡ before) ⊎ ((bytes : List ℕ) × AreLateFileAnswers content w (λ s. Unit {0}) bytes × TookPrefix before after bytes)
+WroteReordered (cause.ReadFault file.Queries to) content w left before after = after ≡ before
+WroteReordered cause.Usage content w left before after = after ≡ before
+WroteReordered (cause.Queries fault place) content w left before after = after ≡ before
+WroteReordered (cause.ClockKind name) content w left before after = after ≡ before
+WroteReordered (cause.OpenFault opened from to) content w left before after = after ≡ before
 
 -- The host lacks neither file, and where it tells their bytes, these are the explanation over them.
 pub record AreFileExplanation (content : List ℕ → Content) (x : ExplainWords) (bytes : List ℕ) : Type 0 where
@@ -62,6 +100,7 @@ WroteExplanation _ content x before after = after ≡ before
 -- the same after any job
 abbrev pub WroteBy : Cause → (List ℕ → Content) → Job → Option (List ℕ) → Option (List ℕ) → Option (List ℕ) → Type 0
 WroteBy given content (running r) left before after = Wrote given content r left before after
+WroteBy given content (reordering w) left before after = WroteReordered given content w left before after
 WroteBy given content (explaining x) left before after = WroteExplanation given content x before after
 
 -- What the output has taken after a sample, which ends by no other cause: its summary, a proper first part, or a first part.

@@ -14,7 +14,7 @@ use Rattle.core_top.specs.declared.Cause.{Cause}
 use Rattle.core_top.specs.declared.Cause.TheVariants as cause
 use Rattle.command_words.specs.CommandLine.{AskNothing}
 use Rattle.core_top.specs.Command.{Job, queries_of, events_of, AsksJob, IsSample}
-use Rattle.core_top.specs.Accepted.{IsRefusedText, Takes, IsRefusedBy, StopsOver}
+use Rattle.core_top.specs.Accepted.{IsRefusedText, Takes, IsRefusedBy, LacksItsClock, StopsOver}
 use Rattle.core_top.specs.Causes.{ComesInTurn, name_of, CountsOpens, CountsWrites}
 use Rattle.core_top.specs.Output.{WroteBy, WroteSample}
 use Rattle.core_top.specs.SourceBytes.{IsRestOf}
@@ -110,6 +110,7 @@ abbrev pub CauseHolds : {S : Type 0} → Sources S → Outside → Job → Cause
 CauseHolds sources o job cause.Fine failed = HasStopped o job stop.End failed
 CauseHolds sources o job cause.Usage failed = ⊥
 CauseHolds sources o job (cause.Queries fault place) failed = (failed ≡ None) × (o.after ≡ o.before) × OfOpened (o.content (queries_of job)) (λ text. IsRefusedBy job text fault place)
+CauseHolds sources o job (cause.ClockKind name) failed = (failed ≡ None) × (o.after ≡ o.before) × OfOpened (o.content (queries_of job)) (λ text. LacksItsClock job text name)
 CauseHolds sources o job (cause.Event line fault) failed = HasStopped o job (stop.Event line fault) failed
 CauseHolds sources o job (cause.InputTooLong taken) failed = HasStopped o job (stop.InputTooLong taken) failed
 CauseHolds sources o job (cause.OpenFault opened from to) failed = (failed ≡ None) × (o.after ≡ o.before) × ComesInTurn job opened (o.content (queries_of job)) × (from ≡ o.old (name_of opened job)) × (to ≡ o.new (name_of opened job)) × Rose from to

@@ -1,15 +1,16 @@
 //! The program, from the words of its command line to the bytes that it writes.
 //!
 //! Promised: with status 0 the output of a run is exactly the answers of the query file over the
-//! event file, each once, and that of `explain` is why one of them is an answer; any other status
-//! names its one cause. These are clauses of `core_main`.
-//! It stands on `command_words` for its words, `ceql_parser` for query texts, `stream_answers` for
-//! the answers over an event file, `answer_explain` for what explains one, `core_sample` for samples,
-//! and `fault_notes` for its notes.
+//! event file, each once, that of `reorder` the answers over its events in the order of their clocks,
+//! and that of `explain` is why one of them is an answer; any other status names its one cause. These
+//! are clauses of `core_main`.
+//! It stands on `command_words` for its words, `ceql_parser` for query texts, `stream_answers` and
+//! `late_answers` for the answers over an event file, `answer_explain` for what explains one,
+//! `core_sample` for samples, and `fault_notes` for its notes.
 #![tactic(auto)]
 
 use ceql_parser::QueryFault;
-use cer_base::Place;
+use cer_base::{Place, Text};
 use event_reader::EventFault;
 pub use fault_notes::File;
 use query_engine::Engine;
@@ -20,6 +21,7 @@ mod files;
 mod notes;
 mod opening;
 mod queries;
+mod reorder;
 mod run;
 mod sample;
 pub mod sure;
@@ -34,6 +36,9 @@ pub enum Cause {
     Usage,
     /// The query text was refused, at this place: status 3.
     Queries { fault: QueryFault, place: Place },
+    /// The clock of a run over late events is not a whole number in each declared type of the query
+    /// text, which was accepted: status 3.
+    ClockKind { name: Text },
     /// The event file was refused, at this line, from 1: status 4.
     Event { line: u64, fault: EventFault },
     /// The file could not be opened. The host's count of faults for its name rose in the call,
@@ -58,6 +63,6 @@ pub struct Done<S> {
     pub cause: Cause,
     /// The source that failed, where the cause is a `ReadFault`.
     pub failed: Option<S>,
-    /// The engine of a run whose status is 0.
+    /// The engine of a run whose status is 0, over late events or not.
     pub left: Option<Engine>,
 }

@@ -9,8 +9,8 @@ use cer_base::Memory;
 use cer_outside::Sink;
 use cer_outside::writing::put_all;
 use fault_notes::{
-    event_note, memory_note, open_note, query_note, read_note, too_long_note, usage_note,
-    write_note,
+    clock_note, event_note, memory_note, open_note, query_note, read_note, too_long_note,
+    usage_note, write_note,
 };
 use std::alloc::Global;
 
@@ -35,6 +35,10 @@ fn write_note_of<N: Sink>(alloc: Global, notes: &mut N, cause: &Cause) -> Result
         Cause::Usage => put(notes, usage_note()),
         Cause::Queries { fault, place } => {
             let note = query_note(alloc, fault, *place)?;
+            put(notes, note.as_slice());
+        }
+        Cause::ClockKind { name } => {
+            let note = clock_note(alloc, name.as_str())?;
             put(notes, note.as_slice());
         }
         Cause::Event { line, fault } => {

@@ -3,7 +3,7 @@
 ghost use Rattle.std.specs.Prelude.{◌≡◌, ◌↔◌, ℕ, true, List, [], Some, IfOk, IfErr};
 ghost use Rattle.cer_outside.specs.Causes.{AllStay};
 ghost use Rattle.cer_outside.specs.Content.{Holds, OfOpened};
-ghost use Rattle.query_engine.specs.Engine.{StandsFor, SameQueries, count_of};
+ghost use Rattle.query_engine.specs.Engine.{StandsFor, SameQueries, count_of, peak_of};
 ghost use Rattle.stream_answers.specs.Streams.{StandsForAll};
 ghost use Rattle.core_top.specs.Command.{running};
 ghost use Rattle.core_top.specs.Left.{IsLeft};
@@ -89,7 +89,7 @@ pub fn run_files<H: Host, K: Sink, L: Ledger>(
 }
 
 /// With the engine, where all was well.
-fn leaving<S>(stop: Stop<S>, engine: Engine) -> Stop<S>
+pub fn leaving<S>(stop: Stop<S>, engine: Engine) -> Stop<S>
     ensures cause { result.cause ≡ stop.cause }
     ensures failed { result.failed ≡ stop.failed }
     ensures fine { result.cause ≡ Cause.Fine → result.left ≡ Some engine }
@@ -113,11 +113,16 @@ fn is_fine(cause: &Cause) -> bool
 }
 
 /// An engine for the queries of the host's file.
-fn read_engine<H: Host>(alloc: Global, host: &mut H, queries: &str) -> Result<Engine, Stop<H::Src>>
+pub fn read_engine<H: Host>(
+    alloc: Global,
+    host: &mut H,
+    queries: &str,
+) -> Result<Engine, Stop<H::Src>>
     ensures accepted { IfOk result (λ e.
         OfOpened (H.content host.old queries.now) (λ text. Accepts text e.schema e.queries)) }
     ensures stands { IfOk result (λ e. StandsFor e []) }
     ensures count { IfOk result (λ e. count_of e ≡ 0) }
+    ensures peaks { IfOk result (λ e. (query : ℕ) → peak_of e query ≡ 0) }
     ensures none_left { IfErr result (λ stop. stop.left ≡ None) }
     ensures stop { IfErr result (λ stop.
         QueriesStop (record { faults = H.Src.faults; left = H.Src.left })
@@ -173,7 +178,7 @@ fn answer_file<H: Host, K: Sink, L: Ledger>(
         }) bytes)
         result.cause (K.taken out.old) (K.taken out.new) steps.old steps.new }
     ensures left { result.cause ≡ Cause.Fine → (bytes : List ℕ)
-        → H.content host.old events.now ≡ Holds bytes → StandsForAll (record {
+        → H.content host.old events.now ≡ Holds bytes → StandsForAll compact_every (peak_of engine.old) (record {
           order = order;
           schema = engine.old.schema;
           queries = engine.old.queries;
@@ -234,7 +239,7 @@ fn answer_source<S: Source + Drop, K: Sink, L: Ledger>(
         }) bytes)
         result.cause (K.taken out.old) (K.taken out.new) steps.old steps.new }
     ensures left { result.cause ≡ Cause.Fine → (bytes : List ℕ) → S.left source ≡ Some bytes
-        → StandsForAll (record {
+        → StandsForAll compact_every (peak_of engine.old) (record {
           order = order;
           schema = engine.old.schema;
           queries = engine.old.queries;

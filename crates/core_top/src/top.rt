@@ -8,12 +8,12 @@ ghost use Rattle.cer_outside.specs.Content.{Missing, Holds};
 ghost use Rattle.event_run.specs.Runs as stop;
 ghost use Rattle.fault_notes.specs.declared.File.{File};
 ghost use Rattle.command_words.specs.CommandLine.{AskNothing};
-ghost use Rattle.core_top.specs.Command.{RunWords, Job, queries_of, events_of, AsksJob, IsRun, IsSample};
-ghost use Rattle.core_top.specs.Accepted.{IsRefusedBy, StopsOver};
+ghost use Rattle.core_top.specs.Command.{Job, queries_of, events_of, AsksJob, IsSample};
+ghost use Rattle.core_top.specs.Accepted.{IsRefusedBy, LacksItsClock, StopsOver};
 ghost use Rattle.core_top.specs.Causes.{status_of, name_of, Exactly, IsFineOrOutside, IsReading, HasOpenFault, HasReadFault, HasWriteFault, CountsOpens, CountsWrites, EndsWithout};
 ghost use Rattle.core_top.specs.Opening.{OpensInTurn};
 ghost use Rattle.core_top.specs.Output.{WroteBy, WroteSample};
-ghost use Rattle.core_top.specs.Left.{IsLeft};
+ghost use Rattle.core_top.specs.Left.{IsLeftBy};
 ghost use Rattle.core_top.specs.Steps.{StepsOf};
 ghost use Rattle.core_top.specs.Notes.{note_of, TookNote};
 ghost use Rattle.core_top.specs.Run.{Finished, left_of};
@@ -21,6 +21,7 @@ ghost use Rattle.core_top.specs.Run.{Finished, left_of};
 use super::explain::explain_files;
 use super::notes::noted;
 use super::opening::Stop;
+use super::reorder::reorder_files;
 use super::run::run_files;
 use super::sample::run_sample;
 use super::{Cause, Done};
@@ -35,10 +36,11 @@ use std::sync::ledger::Ledger;
 /// Does what the words after the program's name ask for.
 ///
 /// `run QUERIES EVENTS` reads the query text and the event file of the host and writes the answers
-/// to `out`; `explain QUERIES EVENTS QUERY START END [POSITION]...` writes why one of them is an
-/// answer; `sample SEED COUNT` writes a summary of two fixed queries. The note of the cause goes
-/// to `notes`; a fault there changes neither status nor cause, but that where there is no memory
-/// for a note, memory is the cause.
+/// to `out`; `reorder QUERIES EVENTS CLOCK LATE` does so for events that come late, by LATE at the
+/// most, in the order of their attribute CLOCK; `explain QUERIES EVENTS QUERY START END
+/// [POSITION]...` writes why one of them is an answer; `sample SEED COUNT` writes a summary of two
+/// fixed queries. The note of the cause goes to `notes`; a fault there changes neither status nor
+/// cause, but that where there is no memory for a note, memory is the cause.
 pub fn core_main<H: Host, K: Sink, N: Sink, L: Ledger>(
     alloc: Global,
     words: Vec<String>,
@@ -49,7 +51,8 @@ pub fn core_main<H: Host, K: Sink, N: Sink, L: Ledger>(
 ) -> Done<H::Src>
     // The headline: what the output has taken after each cause. With status 0 a run has written
     // exactly the answers of the query text over the event file, position by position and query by
-    // query, each once, and an explanation that of the complex event that is asked for.
+    // query, each once, one over late events those over the file's events in the order of their
+    // clocks, and an explanation that of the complex event that is asked for.
     ensures wrote { (job : Job) → AsksJob (map string_bytes words.items) job
         → WroteBy result.cause (H.content host.old) job
         (left_of (record { faults = H.Src.faults; left = H.Src.left }) result.failed)
@@ -66,6 +69,9 @@ pub fn core_main<H: Host, K: Sink, N: Sink, L: Ledger>(
         → AsksJob (map string_bytes words.items) job
         → H.content host.old (queries_of job) ≡ Holds text
         → Exactly result.cause (Cause.Queries fault place) (IsRefusedBy job text fault place) }
+    ensures clock { (job : Job) (text name : List ℕ) → AsksJob (map string_bytes words.items) job
+        → H.content host.old (queries_of job) ≡ Holds text
+        → Exactly result.cause (Cause.ClockKind name) (LacksItsClock job text name) }
     ensures event { (job : Job) (text lines : List ℕ) (line : ℕ) (fault : EventFault)
         → AsksJob (map string_bytes words.items) job
         → H.content host.old (queries_of job) ≡ Holds text
@@ -119,11 +125,11 @@ pub fn core_main<H: Host, K: Sink, N: Sink, L: Ledger>(
         → StepsOf result.cause (H.content host.old) job (K.taken out.old) (K.taken out.new)
         steps.old steps.new }
 
-    // The engine of a run is left with status 0, and with no other; it stands for exactly the events
-    // of the event file. No other call leaves one.
-    ensures left { (r : RunWords) → IsRun (map string_bytes words.items) r
-        → IsLeft result.cause (H.content host.old) r result.left }
-    ensures none_left { ((r : RunWords) → IsRun (map string_bytes words.items) r → ⊥)
+    // The engine of a run, over late events or not, is left with status 0, and with no other; it
+    // stands for exactly the events of the event file. No other call leaves one.
+    ensures left { (job : Job) → AsksJob (map string_bytes words.items) job
+        → IsLeftBy result.cause (H.content host.old) job result.left }
+    ensures none_left { ((job : Job) → AsksJob (map string_bytes words.items) job → ⊥)
         → result.left ≡ None }
 
     ensures note { TookNote (N.taken notes.old) (N.taken notes.new)
@@ -172,9 +178,9 @@ fn run<H: Host, K: Sink, L: Ledger>(
     ensures steps { (job : Job) → AsksJob (map string_bytes words.now) job
         → StepsOf result.cause (H.content host.old) job (K.taken out.old) (K.taken out.new)
         steps.old steps.new }
-    ensures left { (r : RunWords) → IsRun (map string_bytes words.now) r
-        → IsLeft result.cause (H.content host.old) r result.left }
-    ensures none_left { ((r : RunWords) → IsRun (map string_bytes words.now) r → ⊥)
+    ensures left { (job : Job) → AsksJob (map string_bytes words.now) job
+        → IsLeftBy result.cause (H.content host.old) job result.left }
+    ensures none_left { ((job : Job) → AsksJob (map string_bytes words.now) job → ⊥)
         → result.left ≡ None }
     ensures kept { (name : List ℕ) → H.content host.new name ≡ H.content host.old name }
 {
@@ -191,6 +197,29 @@ fn run<H: Host, K: Sink, L: Ledger>(
             alloc,
             queries.as_str(),
             events.as_str(),
+            order,
+            compact_every,
+            most_bytes,
+            host,
+            out,
+            steps,
+        ),
+        Ok(
+            Command::Reorder {
+                queries,
+                events,
+                clock,
+                late,
+                order,
+                compact_every,
+                most_bytes,
+            },
+        ) => reorder_files(
+            alloc,
+            queries.as_str(),
+            events.as_str(),
+            clock.as_str(),
+            late,
             order,
             compact_every,
             most_bytes,
@@ -236,7 +265,7 @@ fn status(cause: &Cause) -> u8
     match cause {
         Cause::Fine => 0,
         Cause::Usage => 2,
-        Cause::Queries { .. } => 3,
+        Cause::Queries { .. } | Cause::ClockKind { .. } => 3,
         Cause::Event { .. } => 4,
         Cause::OpenFault { .. } | Cause::ReadFault { .. } => 5,
         Cause::WriteFault { .. } => 6,

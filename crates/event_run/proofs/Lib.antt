@@ -1,6 +1,6 @@
 -- In reading order.
--- whether a clock falls depends on what queries say
-mod Alike
+-- whether a clock falls depends on what queries say; for callers
+pub mod Alike
 -- the first clock to fall is one, and computed; for callers
 pub mod FirstFalls
 -- a run is one, every file has one, and what was taken is where it begins; for callers

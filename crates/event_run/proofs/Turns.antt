@@ -45,15 +45,15 @@ begins_before schema queries old new bytes before left events same had =
     subst P (sym same) (begins schema queries old bytes before events had)
 
 -- there is no further line
-pub no_line : (schema : Declared) (queries : List Query) (old new : LineReader) (engine : State) (before left : Option (List ℕ)) (Had : List ℕ → Type 0) (events : List Event) (fault : LineFault) →
+pub no_line : (schema : Declared) (queries : List Query) (old new : LineReader) (first engine : State) (before left : Option (List ℕ)) (Had : List ℕ → Type 0) (events : List Event) (fault : LineFault) →
     ((bytes : List ℕ) (texts : List (List ℕ)) → HasGiven old bytes before texts → Follows new bytes left texts (Err fault)) →
     ((bytes : List ℕ) → Had bytes → HasTaken schema queries old bytes before events) →
-    StandsFor engine events → AfterCall schema queries new engine Had left events (Err (Fault (run_fault fault)))
-no_line schema queries old new engine before left Had events line.ReadFault follows had stands =
+    StandsFor engine events → AfterCall schema queries new first engine Had left events (Err (Fault (run_fault fault)))
+no_line schema queries old new first engine before left Had events line.ReadFault follows had stands =
     (stands, λ bytes h. let t = had bytes h in at_read_fault schema queries new.budget bytes left t.texts events (follows bytes t.texts t.given) t.good)
-no_line schema queries old new engine before left Had events (line.LineTooLong number) follows had stands =
+no_line schema queries old new first engine before left Had events (line.LineTooLong number) follows had stands =
     (stands, λ bytes h. let t = had bytes h in at_end schema queries new.budget bytes t.texts (Some (line.LineTooLong number)) events (follows bytes t.texts t.given) t.good)
-no_line schema queries old new engine before left Had events (line.InputTooLong most) follows had stands =
+no_line schema queries old new first engine before left Had events (line.InputTooLong most) follows had stands =
     (stands, λ bytes h. let t = had bytes h in at_end schema queries new.budget bytes t.texts (Some (line.InputTooLong most)) events (follows bytes t.texts t.given) t.good)
 
 -- the same where the engine's schema and queries have another name

@@ -14,6 +14,7 @@ use Rattle.event_reader.specs.Events.{event_of_line}
 use Rattle.event_reader.specs.Reading.{LineReader, HasGiven, whole_lines}
 use Rattle.query_engine.specs.Clocks.{NoneFallsBack}
 use Rattle.query_engine.specs.Engine.{State, StandsFor}
+use Rattle.query_engine.specs.Windows.{HasAdded}
 use Rattle.event_run.specs.declared.Taken.{Taken}
 use Rattle.event_run.specs.declared.Taken.TheVariants as taken
 use Rattle.event_run.specs.declared.RunFault.{RunFault}
@@ -44,20 +45,20 @@ abbrev pub AreEventsRead : Declared → List Query → List ℕ → Option (List
 AreEventsRead schema queries bytes None events = ⊥
 AreEventsRead schema queries bytes (Some rest) events = AreEventsBefore schema queries bytes rest events
 
--- What one call has made of an engine that stood for these events: it stands for one more, or for the same.
+-- What one call has made of an engine that stood for these events: it stands for one more, which added what an event adds, or for the same.
 -- Given `Had`, what the reader had taken before of a file of these bytes, this is what is known of the file.
-abbrev pub AfterCall : Declared → List Query → LineReader → State → (List ℕ → Type 0) → Option (List ℕ) → List Event → Result Taken (OrMemory RunFault) → Type 0
-AfterCall schema queries reader engine Had left events (Ok taken.Event) =
-    (next : Event) × StandsFor engine (events ++ next ∷ []) × ((bytes : List ℕ) → Had bytes → HasTaken schema queries reader bytes left (events ++ next ∷ []))
-AfterCall schema queries reader engine Had left events (Ok taken.End) =
+abbrev pub AfterCall : Declared → List Query → LineReader → State → State → (List ℕ → Type 0) → Option (List ℕ) → List Event → Result Taken (OrMemory RunFault) → Type 0
+AfterCall schema queries reader old engine Had left events (Ok taken.Event) =
+    (next : Event) × StandsFor engine (events ++ next ∷ []) × ((bytes : List ℕ) → Had bytes → HasTaken schema queries reader bytes left (events ++ next ∷ [])) × HasAdded old engine next
+AfterCall schema queries reader old engine Had left events (Ok taken.End) =
     StandsFor engine events × ((bytes : List ℕ) → Had bytes → RunsTo schema queries reader.budget bytes events stop.End)
-AfterCall schema queries reader engine Had left events (Err (Fault (fault.Event line refusal))) =
+AfterCall schema queries reader old engine Had left events (Err (Fault (fault.Event line refusal))) =
     StandsFor engine events × ((bytes : List ℕ) → Had bytes → RunsTo schema queries reader.budget bytes events (stop.Event line refusal))
-AfterCall schema queries reader engine Had left events (Err (Fault (fault.InputTooLong most))) =
+AfterCall schema queries reader old engine Had left events (Err (Fault (fault.InputTooLong most))) =
     StandsFor engine events × ((bytes : List ℕ) → Had bytes → RunsTo schema queries reader.budget bytes events (stop.InputTooLong most))
-AfterCall schema queries reader engine Had left events (Err (Fault fault.ReadFault)) =
+AfterCall schema queries reader old engine Had left events (Err (Fault fault.ReadFault)) =
     StandsFor engine events × ((bytes : List ℕ) → Had bytes → AreEventsRead schema queries bytes left events)
-AfterCall schema queries reader engine Had left events (Err Memory) =
+AfterCall schema queries reader old engine Had left events (Err Memory) =
     StandsFor engine events × ((bytes : List ℕ) → Had bytes → BeginsRun schema queries reader.budget bytes events)
 
 -- the source's count of faults rose where it failed, and else stays
@@ -91,13 +92,13 @@ AfterEvent schema queries number engine next events (Err (Fault refusal)) =
 AfterEvent schema queries number engine next events (Err Memory) = StandsFor engine events
 
 -- What became of one line: an event that was taken, none, or a stop. Private clauses alone cite it.
-abbrev pub AfterText : Declared → List Query → ℕ → State → List ℕ → List Event → Result Bool (OrMemory EventFault) → Type 0
-AfterText schema queries number engine text events (Ok true) =
-    (next : Event) × (event_of_line schema text ≡ Ok (Some next)) × StandsFor engine (events ++ next ∷ []) × NoneFallsBack schema queries events next
-AfterText schema queries number engine text events (Ok false) = (event_of_line schema text ≡ Ok None) × StandsFor engine events
-AfterText schema queries number engine text events (Err (Fault refusal)) =
+abbrev pub AfterText : Declared → List Query → ℕ → State → State → List ℕ → List Event → Result Bool (OrMemory EventFault) → Type 0
+AfterText schema queries number old engine text events (Ok true) =
+    (next : Event) × (event_of_line schema text ≡ Ok (Some next)) × StandsFor engine (events ++ next ∷ []) × NoneFallsBack schema queries events next × HasAdded old engine next
+AfterText schema queries number old engine text events (Ok false) = (event_of_line schema text ≡ Ok None) × StandsFor engine events
+AfterText schema queries number old engine text events (Err (Fault refusal)) =
     StandsFor engine events × StopsHere schema queries text number events refusal
-AfterText schema queries number engine text events (Err Memory) = StandsFor engine events
+AfterText schema queries number old engine text events (Err Memory) = StandsFor engine events
 
 -- why there is no further line, as a run's fault
 abbrev pub run_fault : LineFault → RunFault

@@ -5,6 +5,7 @@ ghost use Rattle.stream_schema.specs.declared.Event.{Event};
 ghost use Rattle.stream_schema.specs.Events.{IsOfSchema};
 ghost use Rattle.query_engine.specs.Bounds.{update_bound};
 ghost use Rattle.query_engine.specs.Engine.{StandsFor, count_of, found_of, len_of, SameQueries, update_bounds};
+ghost use Rattle.query_engine.specs.Windows.{HasAdded};
 ghost use Rattle.cer_base.specs.Answers.{OnFault};
 ghost use Rattle.event_reader.specs.Events.{event_of_line};
 ghost use Rattle.query_engine.specs.Clocks.{NoneFallsBack};
@@ -38,11 +39,12 @@ pub fn take_event<Q: Source, L: Ledger>(
     requires open { lines.old.closed ≡ false }
     requires counted { count_of engine.old ≤ lines.old.number }
     ensures took { (events : List Event) → StandsFor engine.old events
-        → AfterCall engine.old.schema engine.old.queries lines.new engine.new
+        → AfterCall engine.old.schema engine.old.queries lines.new engine.old engine.new
         (λ bytes. HasTaken engine.old.schema engine.old.queries lines.old bytes
         (Q.left source.old) events) (Q.left source.new) events result }
     ensures counted { count_of engine.new ≤ lines.new.number }
     ensures some { result ≡ Ok Taken.Event → 0 < count_of engine.new }
+    ensures ended { result ≡ Ok Taken.End → engine.new ≡ engine.old }
     ensures same { SameQueries engine.old engine.new }
     ensures budget { lines.new.budget ≡ lines.old.budget }
     ensures cause { HasSourceCause (Q.faults source.old) (Q.faults source.new) result }
@@ -98,7 +100,7 @@ fn give_line<L: Ledger>(
 ) -> Result<bool, OrMemory<EventFault>>
     requires counted { count_of engine.old + 1 ≤ lines.now.number }
     ensures took { (events : List Event) → StandsFor engine.old events
-        → AfterText engine.old.schema engine.old.queries lines.now.number engine.new
+        → AfterText engine.old.schema engine.old.queries lines.now.number engine.old engine.new
         lines.now.text events result }
     ensures counted { count_of engine.new ≤ lines.now.number }
     ensures some { result ≡ Ok true → 0 < count_of engine.new }
@@ -143,6 +145,7 @@ pub fn give_event<L: Ledger>(
     ensures counted { OnOk result (count_of engine.new ≡ count_of engine.old + 1) }
     ensures growth { OnOk result ((query : ℕ) → len_of engine.new query
         ≤ len_of engine.old query + update_bound (found_of engine.new query)) }
+    ensures added { OnOk result (HasAdded engine.old engine.new event.now) }
     ensures unchanged { OnErr result (engine.new ≡ engine.old) }
     ensures same { SameQueries engine.old engine.new }
     ensures steps { OnOk result (steps.new ≤ steps.old + update_bounds engine.new) }

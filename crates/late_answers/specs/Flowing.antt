@@ -1,5 +1,5 @@
 -- How a late feed stands between its lines. Private clauses alone cite this file.
-use Rattle.std.specs.Prelude.{◌≡◌, ℕ, ◌+◌, ◌<◌, ◌≤◌, Bool, true, false, List, [], ◌∷◌, ◌++◌, length, Option, Some, None, Result, Ok, Err}
+use Rattle.std.specs.Prelude.{◌≡◌, ℕ, ◌+◌, ◌<◌, ◌≤◌, Bool, true, false, List, [], ◌∷◌, ◌++◌, length, Option, Some, None, Result, Ok, Err, OnOk}
 use Rattle.std.specs.List.{AllByRecursion}
 use Rattle.cer_base.specs.declared.OrMemory.{OrMemory}
 use Rattle.cer_base.specs.declared.OrMemory.TheVariants.{Fault, Memory}
@@ -7,11 +7,14 @@ use Rattle.cer_outside.specs.Bytes.{TookAll, TookPart}
 use Rattle.stream_schema.specs.Types.{Declared}
 use Rattle.stream_schema.specs.Events.{IsOfSchema}
 use Rattle.stream_schema.specs.declared.Event.{Event as StreamEvent}
+use Rattle.answer_text.specs.declared.Order.TheVariants.{Walk}
 use Rattle.answer_text.specs.Output.{IsOutput}
+use Rattle.answer_text.specs.Rows.{Row, lines_of, AreOutputRows}
 use Rattle.event_reader.specs.declared.EventFault.{EventFault}
 use Rattle.event_reader.specs.declared.LineFault.{LineFault}
 use Rattle.event_reader.specs.Reading.{LineReader, HasGiven, whole_lines}
 use Rattle.query_engine.specs.Engine.{State, StandsFor}
+use Rattle.query_engine.specs.Counts.{MeetMost, HasFewNodes}
 use Rattle.event_run.specs.Runs.{Stop}
 use Rattle.event_run.specs.Runs as stop
 use Rattle.reorder_gate.specs.Gates as gates
@@ -20,8 +23,10 @@ use Rattle.reorder_gate.specs.Releasing.{released, BeginsWith}
 use Rattle.stream_answers.specs.declared.StreamFault.{StreamFault}
 use Rattle.stream_answers.specs.declared.StreamFault.TheVariants as fault
 use Rattle.stream_answers.specs.Gathering.{Gathered}
+use Rattle.stream_answers.specs.Steps.{AreBounded}
 use Rattle.late_answers.specs.Late.{Numbered, Feed, when, fed_from, fed, let_go, TakesOn, RunsLate, AreFed}
-use Rattle.late_answers.specs.Written.{AreReleasedRead, WroteLatePart}
+use Rattle.late_answers.specs.Written.{StandsForLate, AreReleasedRead, WroteLatePart, WroteLate}
+use Rattle.late_answers.specs.Steps.{LateCountsAtFault, LateStepsOver}
 
 -- The gate has the feed's clock and bound.
 pub record Sits (a : Feed) (g : Held) : Type 0 where
@@ -86,8 +91,16 @@ pub record GoFirst (a : Feed) (source : Option (List ℕ)) (put : List Numbered)
   pub first : (bytes : List ℕ) → source ≡ Some bytes → (g : Held) (gone : List Numbered) → Sits a g → g.is_finished ≡ finished → gates.StandsFor g put gone →
       BeginsWith gone (let_go a (fed a bytes).put (fed a bytes).stop)
 
+-- The bytes are the lines of the output's rows over these events; the steps are bounded by both, and the nodes of the engine by the events.
+pub record Counting (every : Option ℕ) (a : Feed) (events : List StreamEvent) (bytes : List ℕ) (engine : State) (first now : ℕ) : Type 0 where
+  pub rows : List Row
+  pub are_rows : AreOutputRows a.order a.schema a.queries events rows
+  pub lines : bytes ≡ lines_of rows
+  pub bounded : AreBounded every a.schema a.queries events rows first now
+  pub few : (most : ℕ → ℕ) → MeetMost a.schema a.queries events most → HasFewNodes engine (length events) most
+
 -- The queries took the events that have gone, with none of which a clock falls; their answers are written or held.
-pub record Flowing (a : Feed) (source : Option (List ℕ)) (put : List Numbered) (g : Held) (o : Gathered) (engine : State) (before after : Option (List ℕ)) : Type 0 where
+pub record Flowing (every : Option ℕ) (a : Feed) (source : Option (List ℕ)) (put : List Numbered) (g : Held) (o : Gathered) (engine : State) (before after : Option (List ℕ)) (first now : ℕ) : Type 0 where
   pub order : o.order ≡ a.order
   pub schema : engine.schema ≡ a.schema
   pub queries : engine.queries ≡ a.queries
@@ -101,9 +114,11 @@ pub record Flowing (a : Feed) (source : Option (List ℕ)) (put : List Numbered)
   pub written : List ℕ
   pub took : TookAll before after written
   pub output : IsOutput a.order a.schema a.queries events (written ++ o.held)
+  pub counting : Counting every a events (written ++ o.held) engine first now
+  pub none_waits : a.order ≡ Walk → o.held ≡ []
 
 -- The same, where the event has gone that the engine is to take next.
-pub record Owing (a : Feed) (source : Option (List ℕ)) (put : List Numbered) (g : Held) (e : Numbered) (o : Gathered) (engine : State) (before after : Option (List ℕ)) : Type 0 where
+pub record Owing (every : Option ℕ) (a : Feed) (source : Option (List ℕ)) (put : List Numbered) (g : Held) (e : Numbered) (o : Gathered) (engine : State) (before after : Option (List ℕ)) (first now : ℕ) : Type 0 where
   pub order : o.order ≡ a.order
   pub schema : engine.schema ≡ a.schema
   pub queries : engine.queries ≡ a.queries
@@ -117,6 +132,8 @@ pub record Owing (a : Feed) (source : Option (List ℕ)) (put : List Numbered) (
   pub written : List ℕ
   pub took : TookAll before after written
   pub output : IsOutput a.order a.schema a.queries events (written ++ o.held)
+  pub counting : Counting every a events (written ++ o.held) engine first now
+  pub none_waits : a.order ≡ Walk → o.held ≡ []
 
 -- The run over the file begins with these events.
 pub record BeginsLate (a : Feed) (bytes : List ℕ) (events : List StreamEvent) : Type 0 where
@@ -125,18 +142,23 @@ pub record BeginsLate (a : Feed) (bytes : List ℕ) (events : List StreamEvent) 
   pub runs : RunsLate a bytes (events ++ more) halt
 
 -- Of the answers over some events the first were written, what is held follows, and then the rest; what the source was tells of these events.
-pub record Unwritten (a : Feed) (source before after : Option (List ℕ)) (held rest : List ℕ) (Are : List ℕ → List StreamEvent → Type 0) : Type 0 where
+pub record Unwritten (every : Option ℕ) (a : Feed) (source before after : Option (List ℕ)) (held rest : List ℕ) (first now : ℕ) (Are : List ℕ → List StreamEvent → Type 0) : Type 0 where
   pub events : List StreamEvent
   pub written : List ℕ
   pub took : TookAll before after written
   pub output : IsOutput a.order a.schema a.queries events (written ++ (held ++ rest))
   pub begins : (bytes : List ℕ) → source ≡ Some bytes → BeginsLate a bytes events
   pub are : (bytes : List ℕ) → source ≡ Some bytes → Are bytes events
+  pub rows : List Row
+  pub are_rows : AreOutputRows a.order a.schema a.queries events rows
+  pub lines : written ++ (held ++ rest) ≡ lines_of rows
+  pub bounded : AreBounded every a.schema a.queries events rows first now
+  pub none_waits : a.order ≡ Walk → held ≡ []
 
 -- The lines so far are put, and all that may go has gone.
-pub record Running (a : Feed) (source : Option (List ℕ)) (reader : LineReader) (left : Option (List ℕ)) (g : Held) (o : Gathered) (engine : State) (before after : Option (List ℕ)) : Type 0 where
+pub record Running (every : Option ℕ) (a : Feed) (source : Option (List ℕ)) (reader : LineReader) (left : Option (List ℕ)) (g : Held) (o : Gathered) (engine : State) (before after : Option (List ℕ)) (first now : ℕ) : Type 0 where
   pub put : List Numbered
-  pub flowing : Flowing a source put g o engine before after
+  pub flowing : Flowing every a source put g o engine before after first now
   pub due : flowing.gone ≡ released (when a) a.late put
   pub fed : HasFedOf a source reader left put
   pub most_bytes : reader.budget ≡ a.most_bytes
@@ -156,15 +178,23 @@ pub record IsFresh (a : Feed) (reader : LineReader) (g : Held) (o : Gathered) (e
   pub given : (bytes : List ℕ) → HasGiven reader bytes (Some bytes) []
 
 -- how a feed ends, before what is held is written
-abbrev pub Ended : Feed → Option (List ℕ) → Option (List ℕ) → Option (List ℕ) → Option (List ℕ) → List ℕ → {T : Type 0} → Result T (OrMemory StreamFault) → Type 0
-Ended a source left before after held (Ok done) = Unwritten a source before after held [] (λ bytes events. RunsLate a bytes events stop.End)
-Ended a source left before after held (Err (Fault (fault.Event line refusal))) =
-    Unwritten a source before after held [] (λ bytes events. RunsLate a bytes events (stop.Event line refusal))
-Ended a source left before after held (Err (Fault (fault.InputTooLong taken))) =
-    Unwritten a source before after held [] (λ bytes events. RunsLate a bytes events (stop.InputTooLong taken))
-Ended a source left before after held (Err (Fault fault.ReadFault)) = Unwritten a source before after held [] (AreReleasedRead a left)
-Ended a source left before after held (Err (Fault fault.WriteFault)) = WroteLatePart a source (TookPart before after)
-Ended a source left before after held (Err Memory) = (rest : List ℕ) × Unwritten a source before after held rest (λ bytes events. Unit {0})
+abbrev pub Ended : Option ℕ → Feed → Option (List ℕ) → Option (List ℕ) → Option (List ℕ) → Option (List ℕ) → List ℕ → State → ℕ → ℕ → {T : Type 0} → Result T (OrMemory StreamFault) → Type 0
+Ended every a source left before after held engine first now (Ok done) =
+    Unwritten every a source before after held [] first now (λ bytes events. RunsLate a bytes events stop.End) × ((bytes : List ℕ) → source ≡ Some bytes → StandsForLate a bytes engine)
+Ended every a source left before after held engine first now (Err (Fault (fault.Event line refusal))) =
+    Unwritten every a source before after held [] first now (λ bytes events. RunsLate a bytes events (stop.Event line refusal))
+Ended every a source left before after held engine first now (Err (Fault (fault.InputTooLong taken))) =
+    Unwritten every a source before after held [] first now (λ bytes events. RunsLate a bytes events (stop.InputTooLong taken))
+Ended every a source left before after held engine first now (Err (Fault fault.ReadFault)) = Unwritten every a source before after held [] first now (AreReleasedRead a left)
+Ended every a source left before after held engine first now (Err (Fault fault.WriteFault)) =
+    WroteLatePart a source (TookPart before after) × ((bytes : List ℕ) → source ≡ Some bytes → LateCountsAtFault every a.order a bytes before after first now)
+Ended every a source left before after held engine first now (Err Memory) = (rest : List ℕ) × Unwritten every a source before after held rest first now (λ bytes events. Unit {0})
+
+-- How a feed ended: what was written, how many steps there are, and what the engine stands for where it ended well.
+pub record Closed (every : Option ℕ) (a : Feed) (source left before after : Option (List ℕ)) (engine : State) (first now : ℕ) {T : Type 0} (result : Result T (OrMemory StreamFault)) : Type 0 where
+  pub wrote : WroteLate a source left before after result
+  pub steps : (bytes : List ℕ) → source ≡ Some bytes → LateStepsOver every a bytes before after first now result
+  pub stands : OnOk result ((bytes : List ℕ) → source ≡ Some bytes → StandsForLate a bytes engine)
 
 -- a write failed
 abbrev pub is_write_fault : {T : Type 0} → Result T (OrMemory StreamFault) → Bool
@@ -176,11 +206,11 @@ is_write_fault (Err Memory) = false
 is_write_fault (Ok done) = false
 
 -- what became of the event that was next: the engine took it, or the feed ends
-abbrev pub AfterAnswer : Feed → Option (List ℕ) → List Numbered → Held → Gathered → State → Option (List ℕ) → Option (List ℕ) → {T : Type 0} → Result T (OrMemory StreamFault) → Type 0
-AfterAnswer a source put g o engine before after (Ok done) = Flowing a source put g o engine before after
-AfterAnswer a source put g o engine before after (Err why) = (left : Option (List ℕ)) → Ended a source left before after o.held {T = Unit {0}} (Err why)
+abbrev pub AfterAnswer : Option ℕ → Feed → Option (List ℕ) → List Numbered → Held → Gathered → State → Option (List ℕ) → Option (List ℕ) → ℕ → ℕ → {T : Type 0} → Result T (OrMemory StreamFault) → Type 0
+AfterAnswer every a source put g o engine before after first now (Ok done) = Flowing every a source put g o engine before after first now
+AfterAnswer every a source put g o engine before after first now (Err why) = (left : Option (List ℕ)) → Ended every a source left before after o.held engine first now {T = Unit {0}} (Err why)
 
 -- what became of the events that the gate could let go: all have gone, or the feed ends
-abbrev pub AfterRelease : Feed → Option (List ℕ) → List Numbered → Held → Gathered → State → Option (List ℕ) → Option (List ℕ) → {T : Type 0} → Result T (OrMemory StreamFault) → Type 0
-AfterRelease a source put g o engine before after (Ok done) = (f : Flowing a source put g o engine before after) × (f.gone ≡ all_due g put)
-AfterRelease a source put g o engine before after (Err why) = (left : Option (List ℕ)) → Ended a source left before after o.held {T = Unit {0}} (Err why)
+abbrev pub AfterRelease : Option ℕ → Feed → Option (List ℕ) → List Numbered → Held → Gathered → State → Option (List ℕ) → Option (List ℕ) → ℕ → ℕ → {T : Type 0} → Result T (OrMemory StreamFault) → Type 0
+AfterRelease every a source put g o engine before after first now (Ok done) = (f : Flowing every a source put g o engine before after first now) × (f.gone ≡ all_due g put)
+AfterRelease every a source put g o engine before after first now (Err why) = (left : Option (List ℕ)) → Ended every a source left before after o.held engine first now {T = Unit {0}} (Err why)

@@ -1,4 +1,5 @@
 pub mod Late
 pub mod Written
+pub mod Steps
 pub mod Laws
 pub mod Flowing

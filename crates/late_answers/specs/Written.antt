@@ -7,6 +7,7 @@ use Rattle.stream_schema.specs.declared.Event.{Event as StreamEvent}
 use Rattle.answer_text.specs.Output.{IsOutput}
 use Rattle.answer_blocks.specs.Taken.{TookPrefix}
 use Rattle.event_reader.specs.Reading.{whole_lines}
+use Rattle.query_engine.specs.Engine.{State, StandsFor}
 use Rattle.event_run.specs.Runs.{Stop}
 use Rattle.event_run.specs.Runs as stop
 use Rattle.reorder_gate.specs.Releasing.{released}
@@ -25,6 +26,12 @@ pub record AreLateAnswers (a : Feed) (lines bytes : List ℕ) : Type 0 where
   pub halt : Stop
   pub runs : RunsLate a lines events halt
   pub output : IsOutput a.order a.schema a.queries events bytes
+
+-- The engine stands for exactly the events that the queries take of a file of these bytes, which is read to its end.
+pub record StandsForLate (a : Feed) (lines : List ℕ) (engine : State) : Type 0 where
+  pub events : List StreamEvent
+  pub runs : RunsLate a lines events stop.End
+  pub stands : StandsFor engine events
 
 -- All lines that end among the bytes that are no longer left are good; these are the events of them before which none can come that is not too late, in their order, and with none of them a clock falls.
 pub record AreReleasedBefore (a : Feed) (bytes rest : List ℕ) (events : List StreamEvent) : Type 0 where

@@ -1,14 +1,15 @@
 //! The loop over the lines of a source whose events come late.
 
-ghost use Rattle.std.specs.Prelude.{◌≡◌, ◌+◌, ◌≤◌, ℕ, List, Option, [], false, true, length};
+ghost use Rattle.std.specs.Prelude.{◌≡◌, ◌+◌, ◌≤◌, ℕ, List, Option, Some, [], false, true, length, OnOk};
 ghost use Rattle.stream_schema.specs.declared.Event.{Event};
-ghost use Rattle.query_engine.specs.Engine.{StandsFor, count_of};
+ghost use Rattle.query_engine.specs.Engine.{State, StandsFor, SameQueries, count_of};
 ghost use Rattle.event_run.specs.Runs.{End};
 ghost use Rattle.reorder_gate.specs.Clocks.{clock_fits};
 ghost use Rattle.stream_answers.specs.Streams.{HasReadCause, HasWriteCause};
 ghost use Rattle.late_answers.specs.Late.{Feed};
-ghost use Rattle.late_answers.specs.Written.{WroteLate};
-ghost use Rattle.late_answers.specs.Flowing.{AreOfSchema, Ended, Feeds, Flowing, IsFresh, is_write_fault};
+ghost use Rattle.late_answers.specs.Written.{StandsForLate, WroteLate};
+ghost use Rattle.late_answers.specs.Steps.{LateStepsOver};
+ghost use Rattle.late_answers.specs.Flowing.{AreOfSchema, Closed, Ended, Feeds, Flowing, IsFresh, is_write_fault};
 
 use crate::feeding::put_line;
 use crate::releasing::release;
@@ -37,12 +38,18 @@ use stream_answers::{Output, StreamFault, finish};
 ///   query falls, and then the line is the event's own.
 /// - `InputTooLong`, `ReadFault`.
 /// - Memory ran out.
+///
+/// With `compact_every` the engine is compacted after every so many events, their answers being
+/// written or held. Without it, or with 0, it never is. However it ends, its steps are bounded as
+/// those of a run over the events in this order. Where it ends well, the engine stands for exactly
+/// these.
 pub fn write_late<Q: Source, K: Sink, L: Ledger>(
     alloc: Global,
     order: Order,
     clock: &str,
     late: u64,
     most_bytes: u64,
+    compact_every: Option<u64>,
     engine: &mut Engine,
     source: &mut Q,
     out: &mut K,
@@ -60,6 +67,25 @@ pub fn write_late<Q: Source, K: Sink, L: Ledger>(
       most_bytes = most_bytes;
     })
         (Q.left source.old) (Q.left source.new) (K.taken out.old) (K.taken out.new) result }
+    ensures steps { (bytes : List ℕ) → Q.left source.old ≡ Some bytes
+        → LateStepsOver compact_every (record {
+          order = order;
+          schema = engine.old.schema;
+          queries = engine.old.queries;
+          clock = clock.now;
+          late = late;
+          most_bytes = most_bytes;
+        }) bytes (K.taken out.old) (K.taken out.new) steps.old steps.new result }
+    ensures stands { OnOk result ((bytes : List ℕ) → Q.left source.old ≡ Some bytes
+        → StandsForLate (record {
+          order = order;
+          schema = engine.old.schema;
+          queries = engine.old.queries;
+          clock = clock.now;
+          late = late;
+          most_bytes = most_bytes;
+        }) bytes engine.new) }
+    ensures same { SameQueries engine.old engine.new }
     ensures read_cause { HasReadCause (Q.faults source.old) (Q.faults source.new) result }
     ensures write_cause { HasWriteCause (K.faults out.old) (K.faults out.new) result }
 {
@@ -77,6 +103,7 @@ pub fn write_late<Q: Source, K: Sink, L: Ledger>(
         &mut lines,
         &mut gate,
         &mut output,
+        compact_every,
         engine,
         source,
         out,
@@ -90,6 +117,7 @@ fn answer_lines<Q: Source, K: Sink, L: Ledger>(
     lines: &mut Lines,
     gate: &mut Gate,
     output: &mut Output,
+    compact_every: Option<u64>,
     engine: &mut Engine,
     source: &mut Q,
     out: &mut K,
@@ -99,19 +127,38 @@ fn answer_lines<Q: Source, K: Sink, L: Ledger>(
     requires going { gate.old.is_finished ≡ false }
     requires held { gate.old.events ≡ [] }
     requires none { count_of engine.old ≡ 0 }
-    ensures wrote { (a : Feed) → IsFresh a lines.old gate.old output.old engine.old
-        → WroteLate a (Q.left source.old) (Q.left source.new) (K.taken out.old) (K.taken out.new)
-        result }
+    ensures closed { (a : Feed) → IsFresh a lines.old gate.old output.old engine.old
+        → Closed compact_every a (Q.left source.old) (Q.left source.new) (K.taken out.old)
+        (K.taken out.new) engine.new steps.old steps.new result }
+    ensures same { SameQueries engine.old engine.new }
     ensures read_cause { HasReadCause (Q.faults source.old) (Q.faults source.new) result }
     ensures write_cause { HasWriteCause (K.faults out.old) (K.faults out.new) result }
 {
     loop {
         match put_line(alloc, lines, gate, engine.schema(), source) {
             Ok(true) => {}
-            Ok(false) => return answer_rest(lines.number(), gate, output, engine, out, steps),
+            Ok(false) => {
+                return answer_rest(
+                    lines.number(),
+                    compact_every,
+                    gate,
+                    output,
+                    engine,
+                    out,
+                    steps,
+                );
+            }
             Err(stop) => return close(output, out, Err(stop)),
         }
-        match release(lines.number(), gate, output, engine, out, steps) {
+        match release(
+            lines.number(),
+            compact_every,
+            gate,
+            output,
+            engine,
+            out,
+            steps,
+        ) {
             Ok(()) => {}
             Err(fault) => return close(output, out, Err(fault)),
         }
@@ -125,6 +172,7 @@ fn answer_lines<Q: Source, K: Sink, L: Ledger>(
 /// Gives the engine all events that are held, at the end of the source.
 fn answer_rest<K: Sink, L: Ledger>(
     read: u64,
+    compact_every: Option<u64>,
     gate: &mut Gate,
     output: &mut Output,
     engine: &mut Engine,
@@ -133,14 +181,17 @@ fn answer_rest<K: Sink, L: Ledger>(
 ) -> Result<(), OrMemory<StreamFault>>
     requires counted { count_of engine.old + length gate.old.events ≤ read }
     requires of_schema { AreOfSchema engine.old.schema gate.old }
-    ensures wrote { (a : Feed) (told left before : Option (List ℕ)) (put : List (ℕ × Event))
-        → Flowing a told put gate.old output.old engine.old before (K.taken out.old)
-        → Feeds a told put End → WroteLate a told left before (K.taken out.new) result }
+    ensures closed { (a : Feed) (told left before : Option (List ℕ)) (put : List (ℕ × Event))
+        (first : ℕ) → Flowing compact_every a told put gate.old output.old engine.old before
+        (K.taken out.old) first steps.old → Feeds a told put End
+        → Closed compact_every a told left before (K.taken out.new) engine.new first steps.new
+        result }
+    ensures same { SameQueries engine.old engine.new }
     ensures read_cause { (now : ℕ) → HasReadCause now now result }
     ensures write_cause { HasWriteCause (K.faults out.old) (K.faults out.new) result }
 {
     gate.finish();
-    let end = release(read, gate, output, engine, out, steps);
+    let end = release(read, compact_every, gate, output, engine, out, steps);
     close(output, out, end)
 }
 
@@ -150,9 +201,10 @@ fn close<K: Sink>(
     out: &mut K,
     end: Result<(), OrMemory<StreamFault>>,
 ) -> Result<(), OrMemory<StreamFault>>
-    ensures closed { (a : Feed) (source left before : Option (List ℕ))
-        → Ended a source left before (K.taken out.old) output.old.held end
-        → WroteLate a source left before (K.taken out.new) result }
+    ensures closed { (every : Option ℕ) (a : Feed) (source left before : Option (List ℕ))
+        (engine : State) (first now : ℕ)
+        → Ended every a source left before (K.taken out.old) output.old.held engine first now end
+        → Closed every a source left before (K.taken out.new) engine first now result }
     ensures read_cause { (before now : ℕ) → HasReadCause before now end
         → HasReadCause before now result }
     ensures write_cause { (before : ℕ) → HasWriteCause before (K.faults out.old) end

@@ -9,23 +9,25 @@ ghost use Rattle.stream_answers.specs.Streams.{HasReadCause, HasWriteCause};
 ghost use Rattle.late_answers.specs.Late.{Feed};
 ghost use Rattle.late_answers.specs.Flowing.{AfterAnswer, AfterRelease, AreOfSchema, Flowing, Owing};
 
-use cer_base::OrMemory;
 use cer_base::steps::Steps;
+use cer_base::{Memory, OrMemory};
 use cer_outside::{Sink, WriteFault};
 use event_run::give_event;
 use query_engine::Engine;
 use reorder_gate::Gate;
 use std::sync::ledger::Ledger;
-use stream_answers::{Output, StreamFault};
+use stream_answers::{Output, StreamFault, compact_if_due};
 use stream_schema::Event;
 
-/// Gives the engine all events that the gate can let go, and puts the answers at each. At most
-/// `read` events were put, of which some may have gone.
+/// Gives the engine all events that the gate can let go, and puts the answers at each. With
+/// `compact_every` the engine is compacted after every so many events. At most `read` events were
+/// put, of which some may have gone.
 ///
 /// - `Event`: with an event the clock of a query falls; the line is the event's own.
 /// - `WriteFault`, or memory ran out.
 pub fn release<K: Sink, L: Ledger>(
     read: u64,
+    compact_every: Option<u64>,
     gate: &mut Gate,
     output: &mut Output,
     engine: &mut Engine,
@@ -35,9 +37,11 @@ pub fn release<K: Sink, L: Ledger>(
     requires counted { count_of engine.old + length gate.old.events ≤ read }
     requires of_schema { AreOfSchema engine.old.schema gate.old }
     ensures released { (a : Feed) (source : Option (List ℕ)) (put : List (ℕ × Event))
-        (before : Option (List ℕ))
-        → Flowing a source put gate.old output.old engine.old before (K.taken out.old)
-        → AfterRelease a source put gate.new output.new engine.new before (K.taken out.new) result }
+        (before : Option (List ℕ)) (first : ℕ)
+        → Flowing compact_every a source put gate.old output.old engine.old before
+        (K.taken out.old) first steps.old
+        → AfterRelease compact_every a source put gate.new output.new engine.new before
+        (K.taken out.new) first steps.new result }
     ensures counted { count_of engine.new + length gate.new.events ≤ read }
     ensures of_schema { AreOfSchema engine.new.schema gate.new }
     ensures same { SameQueries engine.old engine.new }
@@ -48,7 +52,7 @@ pub fn release<K: Sink, L: Ledger>(
     loop {
         match gate.take() {
             Some((line, event)) => {
-                match answer_event(line, &event, output, engine, out, steps) {
+                match answer_event(line, &event, compact_every, output, engine, out, steps) {
                     Ok(()) => {}
                     Err(stop) => return Err(stop),
                 }
@@ -58,10 +62,12 @@ pub fn release<K: Sink, L: Ledger>(
     }
 }
 
-/// Gives the engine the event of the line of this number, and puts the answers there.
+/// Gives the engine the event of the line of this number, puts the answers there, and compacts the
+/// engine where that is due.
 fn answer_event<K: Sink, L: Ledger>(
     line: u64,
     event: &Event,
+    compact_every: Option<u64>,
     output: &mut Output,
     engine: &mut Engine,
     out: &mut K,
@@ -70,9 +76,11 @@ fn answer_event<K: Sink, L: Ledger>(
     requires of_schema { IsOfSchema engine.old.schema event.now }
     requires room { count_of engine.old + 1 < 2 ^ 64 }
     ensures answered { (a : Feed) (source : Option (List ℕ)) (put : List (ℕ × Event)) (g : Held)
-        (before : Option (List ℕ))
-        → Owing a source put g (line, event.now) output.old engine.old before (K.taken out.old)
-        → AfterAnswer a source put g output.new engine.new before (K.taken out.new) result }
+        (before : Option (List ℕ)) (first : ℕ)
+        → Owing compact_every a source put g (line, event.now) output.old engine.old before
+        (K.taken out.old) first steps.old
+        → AfterAnswer compact_every a source put g output.new engine.new before
+        (K.taken out.new) first steps.new result }
     ensures counted { count_of engine.new ≤ count_of engine.old + 1 }
     ensures same { SameQueries engine.old engine.new }
     ensures read_cause { (now : ℕ) → HasReadCause now now result }
@@ -86,8 +94,12 @@ fn answer_event<K: Sink, L: Ledger>(
         }
     }
     match output.add(engine, out, steps) {
+        Ok(()) => {}
+        Err(OrMemory::Memory) => return Err(OrMemory::Memory),
+        Err(OrMemory::Fault(WriteFault)) => return Err(OrMemory::Fault(StreamFault::WriteFault)),
+    }
+    match compact_if_due(compact_every, engine, steps) {
         Ok(()) => Ok(()),
-        Err(OrMemory::Memory) => Err(OrMemory::Memory),
-        Err(OrMemory::Fault(WriteFault)) => Err(OrMemory::Fault(StreamFault::WriteFault)),
+        Err(Memory) => Err(OrMemory::Memory),
     }
 }

@@ -93,7 +93,7 @@ fn run_over<L: Ledger>(
     }
     let mut steps: Steps<L> = Steps::start(blank);
     write_late(
-        alloc, order, "t", late, most_bytes, engine, source, out, &mut steps,
+        alloc, order, "t", late, most_bytes, None, engine, source, out, &mut steps,
     )
 }
 

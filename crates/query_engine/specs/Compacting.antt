@@ -11,6 +11,7 @@ use Rattle.tecs_enumerate.specs.Rest as walks
 use Rattle.query_standing.specs.Kept.{Part, low_at}
 use Rattle.all_or_none.specs.Phases.{Phase, IsIdle, StandsAt}
 use Rattle.arena_compact.specs.Marks.{Reaches}
+use Rattle.arena_compact.specs.Moves.{later}
 use Rattle.arena_compact.specs.Roots.{places}
 use Rattle.arena_compact.specs.Compacted.{least_of, roots_of}
 use Rattle.query_part.specs.Parts.{HasEvents}
@@ -35,7 +36,7 @@ pub record CanCompact (room : ℕ) (p : Phase) : Type 0 where
   pub events : HasEvents p
   pub enough : length p.kept.nodes ≤ room
 
--- The part of the same query is idle and stands for the same events, with the same states and no more nodes.
+-- The part of the same query is idle and stands for the same events, with the same states and no more nodes, also of those that start at a position or later.
 pub record IsCompacted (old new : Phase) : Type 0 where
   pub schema : new.schema ≡ old.schema
   pub query : new.query ≡ old.query
@@ -44,6 +45,7 @@ pub record IsCompacted (old new : Phase) : Type 0 where
   pub stands : (events : List Event) → StandsAt events old → StandsAt events new
   pub table : new.kept.table ≡ old.kept.table
   pub fewer : length new.kept.nodes ≤ length old.kept.nodes
+  pub fewer_later : (position : ℕ) → later position new.kept.nodes ≤ later position old.kept.nodes
 
 -- the nodes of the part of this number, from 1
 abbrev pub nodes_of : List Phase → ℕ → List Node

@@ -1,5 +1,5 @@
 -- How a run ends.
-use Rattle.std.proofs.Common.{◌≡◌, ℕ, ◌⊎◌, List, [], ◌∷◌, ◌++◌, Option, Some, None, Result, Ok, Err, inl, inr, refl, sym, ◌∙◌, ap, subst, append_assoc}
+use Rattle.std.proofs.Common.{◌≡◌, ℕ, ◌⊎◌, List, [], ◌∷◌, ◌++◌, length, Option, Some, None, Result, Ok, Err, inl, inr, refl, sym, ◌∙◌, ap, subst, append_assoc}
 use Rattle.std.specs.Prelude.{OnOk}
 use Rattle.std.proofs.lemmas.List.{append-nil}
 use Rattle.cer_base.specs.declared.OrMemory.{OrMemory}
@@ -20,6 +20,7 @@ use Rattle.event_run.specs.Runs as stop
 use Rattle.event_run.specs.Taking.{HasTaken, BeginsRun, AfterCall, HasSourceCause}
 use Rattle.stream_answers.specs.declared.StreamFault.{StreamFault}
 use Rattle.stream_answers.specs.declared.StreamFault.TheVariants as fault
+use Rattle.stream_answers.specs.Windows.{last_due, FollowsWindows}
 use Rattle.stream_answers.specs.Gathering.{PassesOn, Running, Finished, stream_fault}
 use Rattle.stream_answers.specs.Streams.{Asked, StandsForAll, WroteOver, WroteAll, WrotePartOf, WroteStream, HasReadCause}
 use Rattle.stream_answers.proofs.Portions.{took_both, took_then_part, part_of_more, prefix_of_more, prefix_of_all}
@@ -55,7 +56,7 @@ at_most a most source Had events halt same had runs lines told = subst (λ n. Ru
 
 pub ends_at_end : {T : Type 0} (a : Asked) (source : Option (List ℕ)) (old_reader reader : LineReader) (had left before middle after : Option (List ℕ)) (held : List ℕ) (old new : ℕ) (engine now : State) (done : T) (result : Result T (OrMemory StreamFault)) →
     reader.budget ≡ a.most_bytes → (r : Running a source old_reader had before middle held engine) →
-    AfterCall a.schema a.queries reader now (λ bytes. HasTaken a.schema a.queries old_reader bytes had r.events) left r.events (Ok taken.End) →
+    AfterCall a.schema a.queries reader engine now (λ bytes. HasTaken a.schema a.queries old_reader bytes had r.events) left r.events (Ok taken.End) →
     Finished middle after old new held (Ok done) result → WroteStream a source left before after result
 ends_at_end a source old_reader reader had left before middle after held old new engine now done result budget r took finished =
     stops a source left before middle after held r.written old new r.events stop.End (Ok done) result r.took r.output
@@ -63,7 +64,7 @@ ends_at_end a source old_reader reader had left before middle after held old new
 
 pub ends_by : {T : Type 0} (a : Asked) (source : Option (List ℕ)) (old_reader reader : LineReader) (had left before middle after : Option (List ℕ)) (held : List ℕ) (old new : ℕ) (engine now : State) (why : OrMemory RunFault) (result : Result T (OrMemory StreamFault)) →
     reader.budget ≡ a.most_bytes → old_reader.budget ≡ a.most_bytes → (r : Running a source old_reader had before middle held engine) →
-    AfterCall a.schema a.queries reader now (λ bytes. HasTaken a.schema a.queries old_reader bytes had r.events) left r.events (Err why) →
+    AfterCall a.schema a.queries reader engine now (λ bytes. HasTaken a.schema a.queries old_reader bytes had r.events) left r.events (Err why) →
     Finished middle after old new held (Err (stream_fault why)) result → WroteStream a source left before after result
 ends_by a source old_reader reader had left before middle after held old new engine now Memory result budget same r took finished =
     let begun = begins_so a source old_reader had r.events same r.taken in
@@ -117,13 +118,14 @@ ends_for_fault a source reader left before middle after held blocks engine budge
     (begins_so a source reader left (o.events ++ o.next ∷ []) budget o.taken) (λ rest p. part_of_more before after (o.written ++ (held ++ blocks)) rest p) (took_then_part before middle after o.written (held ++ blocks) o.took part)
 
 -- the engine, where the source has ended
-pub stands_at_end : (a : Asked) (source : Option (List ℕ)) (old_reader reader : LineReader) (had left before middle : Option (List ℕ)) (held : List ℕ) (engine now : State) →
-    reader.budget ≡ a.most_bytes → (r : Running a source old_reader had before middle held engine) →
-    AfterCall a.schema a.queries reader now (λ bytes. HasTaken a.schema a.queries old_reader bytes had r.events) left r.events (Ok taken.End) → (bytes : List ℕ) → source ≡ Some bytes → StandsForAll a bytes now
-stands_at_end a source old_reader reader had left before middle held engine now budget r took bytes told = record {
+pub stands_at_end : (every : Option ℕ) (peaks : ℕ → ℕ) (a : Asked) (source : Option (List ℕ)) (old_reader reader : LineReader) (had left before middle : Option (List ℕ)) (held : List ℕ) (engine now : State) →
+    reader.budget ≡ a.most_bytes → (r : Running a source old_reader had before middle held engine) → FollowsWindows every peaks (last_due every (length r.events)) r.events engine → now ≡ engine →
+    AfterCall a.schema a.queries reader engine now (λ bytes. HasTaken a.schema a.queries old_reader bytes had r.events) left r.events (Ok taken.End) → (bytes : List ℕ) → source ≡ Some bytes → StandsForAll every peaks a bytes now
+stands_at_end every peaks a source old_reader reader had left before middle held engine now budget r windows kept took bytes told = record {
   events = r.events;
   runs = subst (λ n. RunsTo a.schema a.queries n bytes r.events stop.End) budget (took.1 bytes (r.taken bytes told));
   stands = took.0;
+  windows = subst (FollowsWindows every peaks (last_due every (length r.events)) r.events) (sym kept) windows;
 }
 
 -- a fact, where all was well

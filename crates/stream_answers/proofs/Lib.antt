@@ -7,9 +7,11 @@ mod Putting
 mod Wholes
 -- a run from event to event; for callers
 pub mod Running
--- the compaction after an event
-mod Compacted
+-- the compaction after an event; for callers
+pub mod Compacted
+-- the nodes that follow the windows, from event to event; for callers
+pub mod Windows
 -- how a run ends
 mod Ends
--- the steps, from event to event and at the end
-mod Totals
+-- the steps, from event to event and at the end; for callers
+pub mod Totals

@@ -34,11 +34,11 @@ starts a source before reader held engine stands given empty = record {
 
 -- what one call made of the events, where the engine's schema and queries have another name
 pub as_asked : (s t : Declared) (qs rs : List Query) (old new : LineReader) (before after : State) (had left : Option (List ℕ)) (result : Result Taken (OrMemory RunFault)) → s ≡ t → qs ≡ rs →
-    ((events : List Event) → StandsFor before events → AfterCall s qs new after (λ bytes. HasTaken s qs old bytes had events) left events result) →
-    (events : List Event) → StandsFor before events → AfterCall t rs new after (λ bytes. HasTaken t rs old bytes had events) left events result
+    ((events : List Event) → StandsFor before events → AfterCall s qs new before after (λ bytes. HasTaken s qs old bytes had events) left events result) →
+    (events : List Event) → StandsFor before events → AfterCall t rs new before after (λ bytes. HasTaken t rs old bytes had events) left events result
 as_asked s t qs rs old new before after had left result same alike took =
-    let S : Declared → Type 0 = λ d. (events : List Event) → StandsFor before events → AfterCall d qs new after (λ bytes. HasTaken d qs old bytes had events) left events result in
-    let Q : List Query → Type 0 = λ l. (events : List Event) → StandsFor before events → AfterCall t l new after (λ bytes. HasTaken t l old bytes had events) left events result in
+    let S : Declared → Type 0 = λ d. (events : List Event) → StandsFor before events → AfterCall d qs new before after (λ bytes. HasTaken d qs old bytes had events) left events result in
+    let Q : List Query → Type 0 = λ l. (events : List Event) → StandsFor before events → AfterCall t l new before after (λ bytes. HasTaken t l old bytes had events) left events result in
     subst Q alike (subst S same took)
 
 -- The engine took one event more, whose answers are not put yet.
@@ -52,7 +52,7 @@ pub record Owing (a : Asked) (source : Option (List ℕ)) (reader : LineReader) 
   pub taken : (lines : List ℕ) → source ≡ Some lines → HasTaken a.schema a.queries reader lines left (events ++ next ∷ [])
 
 abbrev pub owes : (a : Asked) (source : Option (List ℕ)) (old new : LineReader) (had left before after : Option (List ℕ)) (held : List ℕ) (engine now : State) → (r : Running a source old had before after held engine) →
-    AfterCall a.schema a.queries new now (λ bytes. HasTaken a.schema a.queries old bytes had r.events) left r.events (Ok taken.Event) → Owing a source new left before after held now
+    AfterCall a.schema a.queries new engine now (λ bytes. HasTaken a.schema a.queries old bytes had r.events) left r.events (Ok taken.Event) → Owing a source new left before after held now
 owes a source old new had left before after held engine now r took = record {
   events = r.events;
   next = took.0;

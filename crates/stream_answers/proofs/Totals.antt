@@ -96,7 +96,7 @@ module _ (every : Option ℕ) where
   -- FROM EVENT TO EVENT
 
   -- one event more, with the rows at it, and the compaction after it
-  bounded_on : (a : Asked) (engine : State) (events : List StreamEvent) (next : StreamEvent) (rows more : List Row) (first old seen paused now : ℕ) → engine.schema ≡ a.schema → engine.queries ≡ a.queries →
+  pub bounded_on : (a : Asked) (engine : State) (events : List StreamEvent) (next : StreamEvent) (rows more : List Row) (first old seen paused now : ℕ) → engine.schema ≡ a.schema → engine.queries ≡ a.queries →
       StandsFor engine (events ++ next ∷ []) → AreBounded every a.schema a.queries events rows first old → seen ≤ old + update_bounds engine → paused ≤ seen + cursor_bounds engine + row_delays more →
       ((most : ℕ → ℕ) → MeetMost a.schema a.queries (events ++ next ∷ []) most → now ≤ paused + compaction_at every (length a.queries) most (length (events ++ next ∷ []))) →
       AreBounded every a.schema a.queries (events ++ next ∷ []) (rows ++ more) first now
@@ -118,7 +118,7 @@ module _ (every : Option ℕ) where
       omega (arith, before, here, costs, product, both, took, put, last, sums)
 
   -- one event more, with the rows at it
-  bounded_more : (a : Asked) (engine : State) (events : List StreamEvent) (next : StreamEvent) (rows more : List Row) (first old seen now : ℕ) → engine.schema ≡ a.schema → engine.queries ≡ a.queries →
+  pub bounded_more : (a : Asked) (engine : State) (events : List StreamEvent) (next : StreamEvent) (rows more : List Row) (first old seen now : ℕ) → engine.schema ≡ a.schema → engine.queries ≡ a.queries →
       StandsFor engine (events ++ next ∷ []) → AreBounded every a.schema a.queries events rows first old → seen ≤ old + update_bounds engine → now ≤ seen + cursor_bounds engine + row_delays more →
       AreBounded every a.schema a.queries (events ++ next ∷ []) (rows ++ more) first now
   bounded_more a engine events next rows more first old seen now same alike stands bounded took put =
@@ -134,7 +134,7 @@ module _ (every : Option ℕ) where
       subst Q q (subst S s (subst O o are))
 
   -- at the beginning
-  pub counts_start : (a : Asked) (source before : Option (List ℕ)) (reader : LineReader) (held : List ℕ) (engine : State) (first : ℕ) →
+  abbrev pub counts_start : (a : Asked) (source before : Option (List ℕ)) (reader : LineReader) (held : List ℕ) (engine : State) (first : ℕ) →
       StandsFor engine [] → ((bytes : List ℕ) → HasGiven reader bytes (Some bytes) []) → held ≡ [] → Counted every a source reader source before before held engine first first
   counts_start a source before reader held engine first stands given empty = record {
     running = starts a source before reader held engine stands given empty;
@@ -145,8 +145,14 @@ module _ (every : Option ℕ) where
     few = λ most meet. first_has_no_node engine most stands;
   }
 
+  -- lines that were written or held, with those that came
+  pub lines_more : (rows : List Row) (written held came put now : List ℕ) → held ++ came ≡ put ++ (now ++ []) → written ++ held ≡ lines_of rows → (written ++ put) ++ now ≡ lines_of rows ++ came
+  lines_more rows written held came put now whole so_far =
+      append_assoc written put now ∙ (ap (λ (l : List ℕ). written ++ (put ++ l)) (sym (append-nil now)) ∙ (ap (λ (l : List ℕ). written ++ l) (sym whole)
+      ∙ (sym (append_assoc written held came) ∙ ap (λ (l : List ℕ). l ++ came) so_far)))
+
   -- the answers were put, and the engine is compacted where that is due
-  pub counts_on : (a : Asked) (source : Option (List ℕ)) (reader : LineReader) (left before middle after : Option (List ℕ)) (held now_held : List ℕ) (engine compacted : State) → (o : Owing a source reader left before middle held engine) →
+  abbrev pub counts_on : (a : Asked) (source : Option (List ℕ)) (reader : LineReader) (left before middle after : Option (List ℕ)) (held now_held : List ℕ) (engine compacted : State) → (o : Owing a source reader left before middle held engine) →
       (rows more : List Row) (first old seen paused now : ℕ) → engine.schema ≡ a.schema → engine.queries ≡ a.queries → AreRowsAt a.order a.schema 1 a.queries (o.events ++ o.next ∷ []) (length (o.events ++ o.next ∷ []) - 1) more →
       PassesOn middle after held (lines_of more) now_held [] → AreOutputRows a.order a.schema a.queries o.events rows → o.written ++ held ≡ lines_of rows →
       AreBounded every a.schema a.queries o.events rows first old → seen ≤ old + update_bounds engine → paused ≤ seen + cursor_bounds engine + row_delays more →
@@ -157,19 +163,29 @@ module _ (every : Option ℕ) where
         running = runs_on a source reader left before middle after held (lines_of more) now_held compacted (owes_still a source reader left before middle held engine compacted o c.stands) came passed;
         rows = rows ++ more;
         are_rows = rows_grow_at_last a.order a.schema a.queries o.events o.next rows more are_rows are_more;
-        lines = lines_more o.written held (lines_of more) passed.written now_held passed.whole lines ∙ sym (lines_both rows more);
+        lines = lines_more rows o.written held (lines_of more) passed.written now_held passed.whole lines ∙ sym (lines_both rows more);
         bounded = bounded_on a engine o.events o.next rows more first old seen paused now same alike o.stands bounded took put c.steps;
         few = c.few;
       }
-    where
-      lines_more : (written held came put now : List ℕ) → held ++ came ≡ put ++ (now ++ []) → written ++ held ≡ lines_of rows → (written ++ put) ++ now ≡ lines_of rows ++ came
-      lines_more written held came put now whole so_far =
-          append_assoc written put now ∙ (ap (λ (l : List ℕ). written ++ (put ++ l)) (sym (append-nil now)) ∙ (ap (λ (l : List ℕ). written ++ l) (sym whole)
-          ∙ (sym (append_assoc written held came) ∙ ap (λ (l : List ℕ). l ++ came) so_far)))
 
   -- OVER A WHOLE FILE
 
-  -- What bounds the steps by the first events bounds them by all.
+  -- What bounds the steps by the first events and their rows bounds them by all.
+  pub bounded_all : (a : Asked) (events later : List StreamEvent) (rows more : List Row) (before now : ℕ) → AreBounded every a.schema a.queries events rows before now →
+      AreBounded every a.schema a.queries (events ++ later) (rows ++ more) before now
+  bounded_all a events later rows more before now bounded = λ most meet.
+      let all = events ++ later in
+      let few = bounded most (first_meet_fewer a.schema a.queries events later most meet) in
+      let e = event_bound (length a.queries) most in
+      let count : length all ≡ length events + length later = length-append events later in
+      let product : length all * e ≡ length events * e + length later * e = ap (λ (n : ℕ). n * e) count ∙ omega arith in
+      let both = delays_both rows more in
+      let f = compaction_at every (length a.queries) most in
+      let grown : compactions every (length a.queries) most (length events) ≤ compactions every (length a.queries) most (length all) =
+      subst (λ (n : ℕ). compactions every (length a.queries) most (length events) ≤ compactions every (length a.queries) most n) (sym count) (fewer_queries (length events) (length later) f) in
+      omega (arith, few, product, both, grown)
+
+  -- the same over a whole file
   pub counts_whole : (a : Asked) (lines : List ℕ) (events : List StreamEvent) (rows : List Row) (before now : ℕ) → BeginsRun a.schema a.queries a.most_bytes lines events → AreOutputRows a.order a.schema a.queries events rows →
       AreBounded every a.schema a.queries events rows before now → Counts every a lines before now
   counts_whole a lines events rows before now begun are_rows bounded =
@@ -182,16 +198,7 @@ module _ (every : Option ℕ) where
         rows = rows ++ grown.0;
         are_rows = grown.1;
         took = tt;
-        bounded = λ most meet.
-            let few = bounded most (first_meet_fewer a.schema a.queries events begun.more most meet) in
-            let e = event_bound (length a.queries) most in
-            let count : length all ≡ length events + length begun.more = length-append events begun.more in
-            let product : length all * e ≡ length events * e + length begun.more * e = ap (λ (n : ℕ). n * e) count ∙ omega arith in
-            let both = delays_both rows grown.0 in
-            let f = compaction_at every (length a.queries) most in
-            let more : compactions every (length a.queries) most (length events) ≤ compactions every (length a.queries) most (length all) =
-            subst (λ (n : ℕ). compactions every (length a.queries) most (length events) ≤ compactions every (length a.queries) most n) (sym count) (fewer_queries (length events) (length begun.more) f) in
-            omega (arith, few, product, both, more);
+        bounded = bounded_all a events begun.more rows grown.0 before now bounded;
       }
 
   -- no step was taken
@@ -199,6 +206,22 @@ module _ (every : Option ℕ) where
   counts_none a lines now = counts_whole a lines [] [] now now (begins_empty a lines) refl (λ most meet. omega arith)
 
   -- memory ran out while an event was taken
+  pub bounded_wanting : (a : Asked) (events : List StreamEvent) (next : StreamEvent) (rows more : List Row) (first old seen : ℕ) → AreBounded every a.schema a.queries events rows first old →
+      AreWantingSteps a.schema a.queries (events ++ next ∷ []) old seen → AreBounded every a.schema a.queries (events ++ next ∷ []) (rows ++ more) first seen
+  bounded_wanting a events next rows more first old seen bounded wants = λ most meet.
+      let all = events ++ next ∷ [] in
+      let before = bounded most (first_meet_fewer a.schema a.queries events (next ∷ []) most meet) in
+      let here = wants most meet in
+      let within = refused_is_bounded (length a.queries) most in
+      let e = event_bound (length a.queries) most in
+      let count : length all ≡ length events + 1 = length-append events (next ∷ []) in
+      let product : length all * e ≡ length events * e + e = ap (λ (n : ℕ). n * e) count ∙ omega arith in
+      let both = delays_both rows more in
+      let f = compaction_at every (length a.queries) most in
+      let later : compactions every (length a.queries) most (length events) ≤ compactions every (length a.queries) most (length all) =
+      subst (λ (n : ℕ). compactions every (length a.queries) most (length events) ≤ compactions every (length a.queries) most n) (sym count) (fewer_queries (length events) 1 f) in
+      omega (arith, before, here, within, product, both, later)
+
   counts_wanting : (a : Asked) (lines : List ℕ) (events : List StreamEvent) (next : StreamEvent) (rows : List Row) (first old seen : ℕ) → BeginsRun a.schema a.queries a.most_bytes lines (events ++ next ∷ []) →
       AreOutputRows a.order a.schema a.queries events rows → AreBounded every a.schema a.queries events rows first old → AreWantingSteps a.schema a.queries (events ++ next ∷ []) old seen → Counts every a lines first seen
   counts_wanting a lines events next rows first old seen begun are_rows bounded wants =
@@ -206,23 +229,12 @@ module _ (every : Option ℕ) where
       let blocks = some_blocks_are a.order a.schema 1 a.queries all (length all - 1) in
       let more = rows_of_blocks a.order a.schema 1 a.queries all (length all - 1) blocks.0 blocks.1 in
       counts_whole a lines all (rows ++ more.0) first seen begun (rows_grow_at_last a.order a.schema a.queries events next rows more.0 are_rows more.1)
-      (λ most meet.
-      let before = bounded most (first_meet_fewer a.schema a.queries events (next ∷ []) most meet) in
-      let here = wants most meet in
-      let within = refused_is_bounded (length a.queries) most in
-      let e = event_bound (length a.queries) most in
-      let count : length all ≡ length events + 1 = length-append events (next ∷ []) in
-      let product : length all * e ≡ length events * e + e = ap (λ (n : ℕ). n * e) count ∙ omega arith in
-      let both = delays_both rows more.0 in
-      let f = compaction_at every (length a.queries) most in
-      let later : compactions every (length a.queries) most (length events) ≤ compactions every (length a.queries) most (length all) =
-      subst (λ (n : ℕ). compactions every (length a.queries) most (length events) ≤ compactions every (length a.queries) most n) (sym count) (fewer_queries (length events) 1 f) in
-      omega (arith, before, here, within, product, both, later))
+      (bounded_wanting a events next rows more.0 first old seen bounded wants)
 
   -- HOW A RUN ENDS
 
   -- nothing was to be written, and so it was
-  none_taken : (middle after : Option (List ℕ)) (held : List ℕ) → held ≡ [] → TookPart middle after held → TookAll middle after held
+  pub none_taken : (middle after : Option (List ℕ)) (held : List ℕ) → held ≡ [] → TookPart middle after held → TookAll middle after held
   none_taken None after held none part = part
   none_taken (Some m) None held none part = absurd part
   none_taken (Some m) (Some n) held none part = absurd (let within = part.within in let l = ap length none in omega arith)
@@ -230,7 +242,7 @@ module _ (every : Option ℕ) where
   at_fault : (a : Asked) (lines : List ℕ) (before after : Option (List ℕ)) (first now : ℕ) (o : Order) → o ≡ Sorted → Counts every a lines first now → CountsAtFault every o a lines before after first now
   at_fault a lines before after first now o sorted counts = subst (λ (x : Order). CountsAtFault every x a lines before after first now) (sym sorted) counts
 
-  walk_or_sorted : (o : Order) → (o ≡ Walk) ⊎ (o ≡ Sorted)
+  pub walk_or_sorted : (o : Order) → (o ≡ Walk) ⊎ (o ≡ Sorted)
   walk_or_sorted Walk = inl refl
   walk_or_sorted Sorted = inr refl
 
@@ -281,7 +293,7 @@ module _ (every : Option ℕ) where
 
   pub steps_at_end : {T : Type 0} (a : Asked) (source : Option (List ℕ)) (lines : List ℕ) (old_reader reader : LineReader) (had left before middle after : Option (List ℕ)) (held : List ℕ) (old new : ℕ) (engine now_engine : State) (done : T) (result : Result T (OrMemory StreamFault)) (first before_steps now : ℕ) →
       source ≡ Some lines → reader.budget ≡ a.most_bytes → (c : Counted every a source old_reader had before middle held engine first before_steps) →
-      AfterCall a.schema a.queries reader now_engine (λ bytes. HasTaken a.schema a.queries old_reader bytes had c.running.events) left c.running.events (Ok taken.End) → now ≡ before_steps →
+      AfterCall a.schema a.queries reader engine now_engine (λ bytes. HasTaken a.schema a.queries old_reader bytes had c.running.events) left c.running.events (Ok taken.End) → now ≡ before_steps →
       Finished middle after old new held (Ok done) result → (a.order ≡ Walk → (held ≡ []) × (result ≡ Ok done)) → StepsOver every a lines before after first now result
   steps_at_end a source lines old_reader reader had left before middle after held old new engine now_engine done result first before_steps now told budget c took same finished walk =
       let runs = runs_as a reader.budget lines c.running.events stop.End budget (took.1 lines (c.running.taken lines told)) in
@@ -290,7 +302,7 @@ module _ (every : Option ℕ) where
 
   pub steps_by : {T : Type 0} (a : Asked) (source : Option (List ℕ)) (lines : List ℕ) (old_reader reader : LineReader) (had left before middle after : Option (List ℕ)) (held : List ℕ) (old new : ℕ) (engine now_engine : State) (why : OrMemory RunFault) (result : Result T (OrMemory StreamFault)) (first before_steps now : ℕ) →
       source ≡ Some lines → reader.budget ≡ a.most_bytes → old_reader.budget ≡ a.most_bytes → engine.schema ≡ a.schema → engine.queries ≡ a.queries → (c : Counted every a source old_reader had before middle held engine first before_steps) →
-      AfterCall a.schema a.queries reader now_engine (λ bytes. HasTaken a.schema a.queries old_reader bytes had c.running.events) left c.running.events (Err why) → TakesSteps (update_bounds now_engine) before_steps now (Err why) →
+      AfterCall a.schema a.queries reader engine now_engine (λ bytes. HasTaken a.schema a.queries old_reader bytes had c.running.events) left c.running.events (Err why) → TakesSteps (update_bounds now_engine) before_steps now (Err why) →
       OnMemory {T = Taken} (Err why) (WantsSteps engine.schema engine.queries c.running.events (λ next. (bytes : List ℕ) → HasTaken engine.schema engine.queries old_reader bytes had c.running.events → BeginsRun engine.schema engine.queries reader.budget bytes (c.running.events ++ next ∷ [])) before_steps now) →
       Finished middle after old new held (Err (stream_fault why)) result → (a.order ≡ Walk → (held ≡ []) × (result ≡ Err (stream_fault why))) → StepsOver every a lines before after first now result
   steps_by a source lines old_reader reader had left before middle after held old new engine now_engine Memory result first before_steps now told budget same_budget same alike c took steps wants finished walk =
@@ -339,7 +351,7 @@ module _ (every : Option ℕ) where
       steps_end a lines before middle after held old new (Err Memory) result first now finished walk counts (λ taken. counts)
 
   -- the answer whose line was not written is one of its position
-  one_ends : (a : Asked) (events : List StreamEvent) (whole later : List Row) (one : Row) (rows : List Row) → rows ≡ whole ++ one ∷ later → AreRowsAt a.order a.schema 1 a.queries events (length events - 1) rows → one.end ≡ length events - 1
+  pub one_ends : (a : Asked) (events : List StreamEvent) (whole later : List Row) (one : Row) (rows : List Row) → rows ≡ whole ++ one ∷ later → AreRowsAt a.order a.schema 1 a.queries events (length events - 1) rows → one.end ≡ length events - 1
   one_ends a events whole later one rows is are =
       let has : Contains (whole ++ one ∷ later) one = Contains-append_right whole (one ∷ later) one (0, omega arith, refl) in
       ends_at a.order a.schema 1 a.queries events (length events - 1) rows are one (subst (λ (l : List Row). Contains l one) (sym is) has)

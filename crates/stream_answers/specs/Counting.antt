@@ -11,6 +11,7 @@ use Rattle.stream_schema.specs.declared.Event.{Event}
 use Rattle.query_engine.specs.Engine.{State, StandsFor}
 use Rattle.query_engine.specs.Counts.{MeetMost, HasFewNodes}
 use Rattle.stream_answers.specs.Gathering.{Running}
+use Rattle.stream_answers.specs.Windows.{last_due, FollowsWindows}
 use Rattle.stream_answers.specs.Steps.{AreBounded, compaction_at}
 use Rattle.stream_answers.specs.Streams.{Asked}
 
@@ -22,6 +23,11 @@ pub record Counted (every : Option ℕ) (a : Asked) (source : Option (List ℕ))
   pub lines : running.written ++ held ≡ lines_of rows
   pub bounded : AreBounded every a.schema a.queries running.events rows first now
   pub few : (most : ℕ → ℕ) → MeetMost a.schema a.queries running.events most → HasFewNodes engine (length running.events) most
+
+-- The same, and the nodes follow the windows of the queries; these were the peaks before any event.
+pub record Following (every : Option ℕ) (a : Asked) (source : Option (List ℕ)) (reader : LineReader) (left before after : Option (List ℕ)) (held : List ℕ) (engine : State) (first now : ℕ) (peaks : ℕ → ℕ) : Type 0 where
+  pub counting : Counted every a source reader left before after held engine first now
+  pub windows : FollowsWindows every peaks (last_due every (length counting.running.events)) counting.running.events engine
 
 -- After these events the engine was compacted, or that was not due: it stands for them, with few nodes, and took so many steps.
 pub record IsCompacted (every : Option ℕ) (a : Asked) (events : List Event) (engine : State) (before now : ℕ) : Type 0 where

@@ -1,3 +1,4 @@
+pub mod Windows
 pub mod Streams
 pub mod Steps
 pub mod Gathering

@@ -1,5 +1,5 @@
 -- How many steps a run takes: of each event and query twice the bound of an update and one, of each answer its delay, and of each compaction and query nine times the bound of an update for each event so far.
-use Rattle.std.specs.Prelude.{◌≡◌, ℕ, ◌+◌, ◌*◌, ◌%◌, ◌≤◌, Bool, false, ◌&&◌, ◌==◌, nat_lt, cond, List, [], ◌∷◌, ◌++◌, length, map, sum, Option, Some, None, Result, Ok, Err}
+use Rattle.std.specs.Prelude.{◌≡◌, ℕ, ◌+◌, ◌*◌, ◌≤◌, cond, List, [], ◌∷◌, ◌++◌, length, map, sum, Option, Some, None, Result, Ok, Err}
 use Rattle.std.specs.List.{range_with_len}
 use Rattle.cer_base.specs.declared.OrMemory.{OrMemory}
 use Rattle.cer_base.specs.declared.OrMemory.TheVariants.{Fault, Memory}
@@ -17,11 +17,7 @@ use Rattle.event_run.specs.Runs as stop
 use Rattle.stream_answers.specs.declared.StreamFault.{StreamFault}
 use Rattle.stream_answers.specs.declared.StreamFault.TheVariants as fault
 use Rattle.stream_answers.specs.Streams.{Asked}
-
--- a compaction is made after so many events, which is after every N-th one, where such an N is given
-abbrev pub is_due : Option ℕ → ℕ → Bool
-is_due None events = false
-is_due (Some n) events = nat_lt 0 n && (events % n == 0)
+pub use Rattle.stream_answers.specs.Windows.{is_due}
 
 -- the steps of the compaction after so many events, none where none is due
 abbrev pub compaction_at : Option ℕ → ℕ → (ℕ → ℕ) → ℕ → ℕ

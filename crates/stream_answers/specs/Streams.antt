@@ -1,5 +1,5 @@
 -- What has been written of the answers over the events of a source, by how it ended.
-use Rattle.std.specs.Prelude.{◌≡◌, ℕ, ◌⊎◌, List, Option, Some, Result, Ok, Err}
+use Rattle.std.specs.Prelude.{◌≡◌, ℕ, ◌⊎◌, List, length, Option, Some, Result, Ok, Err}
 use Rattle.cer_base.specs.declared.OrMemory.{OrMemory}
 use Rattle.cer_base.specs.declared.OrMemory.TheVariants.{Fault, Memory}
 use Rattle.cer_outside.specs.Causes.{Rose}
@@ -14,6 +14,7 @@ use Rattle.query_engine.specs.Engine.{State, StandsFor}
 use Rattle.event_run.specs.Runs.{Stop, RunsTo}
 use Rattle.event_run.specs.Runs as stop
 use Rattle.event_run.specs.Taking.{AreEventsRead}
+use Rattle.stream_answers.specs.Windows.{last_due, FollowsWindows}
 use Rattle.stream_answers.specs.declared.StreamFault.{StreamFault}
 use Rattle.stream_answers.specs.declared.StreamFault.TheVariants as fault
 
@@ -39,11 +40,12 @@ pub record WroteOver (a : Asked) (source : Option (List ℕ)) (Are : List ℕ �
   pub took : TookAll before after bytes
   pub are : (lines : List ℕ) → source ≡ Some lines → Are lines events
 
--- The engine stands for exactly the events that the queries take of a file of these bytes, which is read to its end.
-pub record StandsForAll (a : Asked) (lines : List ℕ) (engine : State) : Type 0 where
+-- The engine stands for exactly the events that the queries take of a file of these bytes, which is read to its end. It was compacted after every so many of them, and its nodes follow the windows; these were its peaks before.
+pub record StandsForAll (every : Option ℕ) (peaks : ℕ → ℕ) (a : Asked) (lines : List ℕ) (engine : State) : Type 0 where
   pub events : List StreamEvent
   pub runs : RunsTo a.schema a.queries a.most_bytes lines events stop.End
   pub stands : StandsFor engine events
+  pub windows : FollowsWindows every peaks (last_due every (length events)) events engine
 
 -- it took those over all events that the queries take, which stop so
 abbrev pub WroteAll : Asked → Option (List ℕ) → Stop → Option (List ℕ) → Option (List ℕ) → Type 0

@@ -16,7 +16,7 @@ mod tests;
 
 use event_reader::EventFault;
 pub use output::Output;
-pub use stream::{finish, stream_fault, write_answers};
+pub use stream::{compact_if_due, finish, stream_fault, write_answers};
 
 /// Why the answers ended before the end of the source.
 #[derive(Drop, Debug, Clone, Copy, PartialEq, Eq)]

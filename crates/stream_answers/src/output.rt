@@ -138,6 +138,12 @@ impl Output {
             × AreBlocks self.old.order engine.now.schema 1 engine.now.queries events
             (length events - 1) bytes
             × Passed (K.taken out.old) (K.taken out.new) self.old.held bytes self.new.held result }
+        ensures rows { HasRowsAt self.old.order engine.now engine.now.queries (λ rows.
+            Passed (K.taken out.old) (K.taken out.new) self.old.held (lines_of rows)
+            self.new.held result
+            × StepsPut self.old.order (K.taken out.old) (K.taken out.new) rows
+            (steps.old + cursor_bounds engine.now) steps.new result) }
+        ensures walk { self.old.order ≡ Walk → self.new.held ≡ [] }
         ensures cause { HasCauseOrMemory (K.faults out.old) (K.faults out.new) result }
     {
         match self.order {
@@ -169,6 +175,7 @@ impl Output {
         ensures order { self.new.order ≡ self.old.order }
         ensures kept { OnOk result (PassesOn (K.taken out.old) (K.taken out.new) self.old.held [] self.new.held []) }
         ensures part { OnErr result (TookPart (K.taken out.old) (K.taken out.new) self.old.held) }
+        ensures none { self.old.held ≡ [] → IsOk result }
         ensures cause { HasCause (K.faults out.old) (K.faults out.new) result }
     {
         if self.may_wait(lines) {

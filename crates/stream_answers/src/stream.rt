@@ -1,12 +1,13 @@
 //! The loop over the events of a source.
 
-ghost use Rattle.std.specs.Prelude.{◌≡◌, ◌+◌, ◌≤◌, ℕ, List, [], length, false, Some, OnOk};
+ghost use Rattle.std.specs.Prelude.{◌≡◌, ◌+◌, ◌-◌, ◌≤◌, ℕ, List, [], length, false, Some, OnOk};
 ghost use Rattle.stream_schema.specs.declared.Event.{Event};
 ghost use Rattle.event_reader.specs.Reading.{HasGiven};
-ghost use Rattle.query_engine.specs.Engine.{StandsFor, SameQueries, count_of, len_of};
+ghost use Rattle.query_engine.specs.Engine.{StandsFor, SameQueries, count_of, len_of, peak_of};
 ghost use Rattle.query_engine.specs.Counts.{MeetMost, HasFewNodes};
 ghost use Rattle.stream_answers.specs.Gathering.{Finished, stream_fault};
-ghost use Rattle.stream_answers.specs.Steps.{StepsOver, is_due, compaction_at};
+ghost use Rattle.stream_answers.specs.Steps.{StepsOver, compaction_at};
+ghost use Rattle.stream_answers.specs.Windows.{is_due, last_due, FollowsWindows};
 ghost use Rattle.stream_answers.specs.Streams.{WroteStream, StandsForAll, HasReadCause, HasWriteCause};
 
 use crate::StreamFault;
@@ -34,7 +35,9 @@ use std::sync::ledger::Ledger;
 ///
 /// However it ends, its steps are bounded by the events of the source, by their answers and by the
 /// compactions; where writing fails in walk order, by those up to the answer whose line was not
-/// written. Where it ends well, the engine stands for exactly the events of the source.
+/// written. Where it ends well, the engine stands for exactly the events of the source, and its nodes
+/// follow the windows of its queries: they are bounded by the events since the last compaction and
+/// those in the windows that it left, and its peaks likewise.
 pub fn write_answers<Q: Source, K: Sink, L: Ledger>(
     alloc: Global,
     order: Order,
@@ -61,7 +64,7 @@ pub fn write_answers<Q: Source, K: Sink, L: Ledger>(
       most_bytes = most_bytes;
     }) bytes (K.taken out.old) (K.taken out.new) steps.old steps.new result }
     ensures stands { OnOk result ((bytes : List ℕ) → Q.left source.old ≡ Some bytes
-        → StandsForAll (record {
+        → StandsForAll compact_every (peak_of engine.old) (record {
           order = order;
           schema = engine.old.schema;
           queries = engine.old.queries;
@@ -121,7 +124,7 @@ fn answer_events<Q: Source, K: Sink, L: Ledger>(
       most_bytes = lines.old.budget;
     }) bytes (K.taken out.old) (K.taken out.new) steps.old steps.new result }
     ensures stands { OnOk result ((bytes : List ℕ) → Q.left source.old ≡ Some bytes
-        → StandsForAll (record {
+        → StandsForAll compact_every (peak_of engine.old) (record {
           order = output.old.order;
           schema = engine.old.schema;
           queries = engine.old.queries;
@@ -163,7 +166,7 @@ fn is_due(every: Option<u64>, events: u64) -> bool
 
 /// Compacts the engine where it has taken so many events that it is due. After `Memory` it is as it
 /// was.
-fn compact_if_due<L: Ledger>(
+pub fn compact_if_due<L: Ledger>(
     every: Option<u64>,
     engine: &mut Engine,
     steps: &mut Steps<L>,
@@ -173,6 +176,9 @@ fn compact_if_due<L: Ledger>(
     ensures same { SameQueries engine.old engine.new }
     ensures count { count_of engine.new ≡ count_of engine.old }
     ensures fewer { (query : ℕ) → len_of engine.new query ≤ len_of engine.old query }
+    ensures windows { OnOk result ((before : ℕ → ℕ) (events : List Event) → StandsFor engine.old
+        events → FollowsWindows every before (last_due every (length events - 1)) events engine.old
+        → FollowsWindows every before (last_due every (length events)) events engine.new) }
     ensures steps { (events : List Event) (most : ℕ → ℕ) → StandsFor engine.old events
         → MeetMost engine.old.schema engine.old.queries events most
         → HasFewNodes engine.old (length events) most → steps.new ≤ steps.old

@@ -103,6 +103,12 @@ fn nodes_go(rt: HostRuntime) -> Result<(), Fail> {
     };
     assert!(rt; left <= 2 * 256);
     assert!(rt; most <= 12 * 256);
+    let Some((left, most)) = left_by(alloc, "reorder q e v 0 --compact-every 10", events)? else {
+        return Err(Fail::new("no engine is left"));
+    };
+    assert!(rt; left <= 2 * 256);
+    assert!(rt; most <= 12 * 256);
+    assert!(rt; left_by(alloc, "reorder q e w 0", events)?.is_none());
     assert!(rt; left_by(alloc, "run q f", events)?.is_none());
     assert!(rt; left_by(alloc, "sample 0 3", events)?.is_none());
     Ok(())

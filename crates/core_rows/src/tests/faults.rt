@@ -73,10 +73,23 @@ fn answers_among(alloc: Global, bytes: usize) -> Result<String, AllocError> {
     Ok(answers)
 }
 
-/// The call answers the status, the output and the note.
+/// A run answers the status, the output and the note.
 fn holds(
     rt: &impl Abort,
     alloc: Global,
+    failing: Failing,
+    status: u8,
+    output: &str,
+    note: &str,
+) -> Result<(), Fail> {
+    words_hold(rt, alloc, "run q e", failing, status, output, note)
+}
+
+/// The call of these words does.
+fn words_hold(
+    rt: &impl Abort,
+    alloc: Global,
+    words: &str,
     failing: Failing,
     status: u8,
     output: &str,
@@ -97,9 +110,9 @@ fn holds(
         write: failing.write,
         note: failing.note,
     };
-    let found = over_faulty(alloc, words_of(alloc, "run q e")?, &mut host, sinks)?;
+    let found = over_faulty(alloc, words_of(alloc, words)?, &mut host, sinks)?;
     let wanted = format!(in alloc; "{status}|{output}|{note}")?;
-    assert_eq!(rt; found.as_str(), wanted.as_str(), "{failing:?}");
+    assert_eq!(rt; found.as_str(), wanted.as_str(), "{words}: {failing:?}");
     Ok(())
 }
 
@@ -179,6 +192,54 @@ fn each_write_fails(rt: HostRuntime) -> Result<(), Fail> {
     }
     let write = write.saturating_add(1);
     holds(&rt, alloc, Failing { write, ..NONE }, 0, OUTPUT, "")
+}
+
+/// Late events are answered as they go, or at the end; an explanation is written at its end.
+#[test]
+fn a_write_fails_in_each_command(rt: HostRuntime) -> Result<(), Fail> {
+    let alloc = rt.alloc();
+    for (words, write, output) in [
+        ("reorder q e v 0", 4, "1 [0,0] {0}\n"),
+        ("reorder q e v 9", 2, "1 [0,"),
+        ("reorder --order walk q e v 9", 4, "1 [0,0] {0}\n"),
+        ("explain q e 1 0 1 0 1", 1, ""),
+        ("explain q e 1 0 1 0 1", 5, "1 [0,1] {0,1}\nA {0,1"),
+    ] {
+        let failing = Failing { write, ..NONE };
+        words_hold(
+            &rt,
+            alloc,
+            words,
+            failing,
+            6,
+            output,
+            "core: cannot write\n",
+        )?;
+    }
+    Ok(())
+}
+
+/// Each read gives one event. With a bound of 1 the event before the last one may go.
+#[test]
+fn a_read_of_late_events_fails(rt: HostRuntime) -> Result<(), Fail> {
+    let alloc = rt.alloc();
+    for (words, event_read, output) in [
+        ("reorder q e v 0", 2, "1 [0,0] {0}\n"),
+        ("reorder q e v 1", 2, ""),
+        ("reorder q e v 1", 3, "1 [0,0] {0}\n"),
+    ] {
+        let failing = Failing { event_read, ..NONE };
+        words_hold(
+            &rt,
+            alloc,
+            words,
+            failing,
+            5,
+            output,
+            "core: cannot read events\n",
+        )?;
+    }
+    Ok(())
 }
 
 /// A sink with room for 20 bytes keeps as many.

@@ -16,6 +16,8 @@ run --order=walk q e --max-bytes 9 | A,1 / A,2 | 0 | 1 [0,0] {0} / 1 [1,1] {1}
 run q e --compact-every 1 | A,1 / A,2 | 0 | 1 [0,0] {0} / 1 [1,1] {1}
 run --compact-every=4294967295 --order walk q e | A,1 / A,2 | 0 | 1 [0,0] {0} / 1 [1,1] {1}
 run -- q e | A,1 / A,2 | 0 | 1 [0,0] {0} / 1 [1,1] {1}
+reorder q e v 0 | A,1 / A,2 | 0 | 1 [0,0] {0} / 1 [1,1] {1}
+reorder --order=walk q e --compact-every 1 v +05 --max-bytes=99 | A,1 / A,2 | 0 | 1 [0,0] {0} / 1 [1,1] {1}
 run q e --max-bytes 4611686018427387904 | A,1 / A,2 | 0 | 1 [0,0] {0} / 1 [1,1] {1}
 run q e --max-bytes 8 | A,1 / A,2 | 8 | 1 [0,0] {0} / 1 [1,1] {1} | events longer than 8 bytes
 run q --max-bytes=+04 e | A,1 / A,2 | 8 | 1 [0,0] {0} | events longer than 4 bytes
@@ -54,6 +56,12 @@ sample -1 3 | 2 |  | usage
 sample 18446744073709551616 3 | 2 |  | usage
 sample 0 10000001 | 2 |  | usage
 sample 0 3 --order walk | 2 |  | usage
+reorder q e v | 2 |  | usage
+reorder q e v 9223372036854775808 | 2 |  | usage
+reorder q e v -1 | 2 |  | usage
+reorder q e v x | 2 |  | usage
+reorder q e v 5 5 | 2 |  | usage
+reorder q e v 5 --order up | 2 |  | usage
 explain q e 1 0 | 2 |  | usage
 explain q e 1 0 0 0 x | 2 |  | usage
 explain q e 1 0 0 -1 | 2 |  | usage

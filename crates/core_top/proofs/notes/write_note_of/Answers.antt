@@ -1,10 +1,15 @@
-use Rattle.std.proofs.Common.{◌∙◌}
+use Rattle.std.proofs.Common.{◌∙◌, ap}
+use Rattle.fault_notes.specs.Notes.{clock_note}
 use Rattle.core_top.proofs.Noted.{note_as}
 use Rattle.core_top.proofs.notes.write_note_of.Goals as goal
 
 pub returns-in_ok-note-in-Queries-clause-took : goal.returns-in_ok-note-in-Queries-clause-took
 returns-in_ok-note-in-Queries-clause-took g c =
     rw c.in-Queries.is (note_as _ _ _ _ _ _ (c.as_slice.ensures.value ∙ c.in_ok-note-in-Queries.ensures) c.put-in-Queries.ensures)
+
+pub returns-in_ok-note-in-ClockKind-clause-took : goal.returns-in_ok-note-in-ClockKind-clause-took
+returns-in_ok-note-in-ClockKind-clause-took g c =
+    rw c.in-ClockKind.is (note_as _ _ _ _ _ _ (c.as_slice-in-ClockKind.ensures.value ∙ c.in_ok-note-in-ClockKind.ensures ∙ ap clock_note c.as_str.ensures) c.put-in-ClockKind.ensures)
 
 pub returns-in_ok-note-in-Event-clause-took : goal.returns-in_ok-note-in-Event-clause-took
 returns-in_ok-note-in-Event-clause-took g c =

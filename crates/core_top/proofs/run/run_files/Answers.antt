@@ -2,7 +2,7 @@ use Rattle.std.proofs.Common.{refl}
 use Rattle.core_top.proofs.Ends.{queries_ended}
 use Rattle.core_top.proofs.RunEnds.{events_ended}
 use Rattle.core_top.specs.Command.{RunWords, running}
-use Rattle.core_top.specs.Steps.{OverFiles}
+use Rattle.core_top.specs.Steps.{run_bounds, run_fault_bounds, OverFiles}
 use Rattle.core_top.proofs.StepClauses.{queries_steps, steps_of_file}
 use Rattle.core_top.proofs.Leaving.{left_by, none_by, not_fine}
 use Rattle.core_top.proofs.run.run_files.Goals as goal
@@ -19,7 +19,7 @@ returns-clause-ends g c =
 pub returns-in-Err-clause-steps : goal.returns-in-Err-clause-steps
 returns-in-Err-clause-steps g c =
     let r : RunWords = record { queries = c.args.queries.now; events = c.args.events.now; order = c.args.order; compact_every = c.args.compact_every; most_bytes = c.args.most_bytes } in
-    queries_steps c.args.compact_every (OverFiles (g.H.Host.content c.args.host.now) r) _ _ _ _ c.in-Err.stop.cause c.in-Err.stop.failed (g.K.Sink.taken c.args.out.now) (g.K.Sink.taken c.args.out.now) c.args.steps.now c.in-Err.ensures.stop
+    queries_steps (run_bounds c.args.compact_every) (run_fault_bounds c.args.compact_every) (OverFiles (g.H.Host.content c.args.host.now) r) _ _ _ _ c.in-Err.stop.cause c.in-Err.stop.failed (g.K.Sink.taken c.args.out.now) (g.K.Sink.taken c.args.out.now) c.args.steps.now c.in-Err.ensures.stop
 
 pub returns-clause-steps : goal.returns-clause-steps
 returns-clause-steps g c = rw c.leaving.ensures.cause (steps_of_file (g.H.Host.content c.args.host.now) _ (record { queries = c.args.queries.now; events = c.args.events.now; order = c.args.order; compact_every = c.args.compact_every; most_bytes = c.args.most_bytes }) _ _ c.answer_file-stop.result.cause (g.K.Sink.taken c.args.out.now) (g.K.Sink.taken c.answer_file-stop.new.out) c.args.steps.now c.answer_file-stop.new.steps (c.read_engine.ensures.kept _) c.in-Ok.ensures.accepted c.answer_file-stop.ensures.steps)
@@ -33,4 +33,4 @@ pub returns-clause-left : goal.returns-clause-left
 returns-clause-left g c =
     let r : RunWords = record { queries = c.args.queries.now; events = c.args.events.now; order = c.args.order; compact_every = c.args.compact_every; most_bytes = c.args.most_bytes } in
     left_by (g.H.Host.content c.args.host.now) _ r c.in-Ok.engine c.answer_file-stop.new.engine c.leaving.result.cause c.answer_file-stop.result.cause c.leaving.result.left c.answer_file-stop.result.left c.leaving.ensures.cause (c.read_engine.ensures.kept _) c.in-Ok.ensures.accepted
-    c.answer_file-stop.ensures.same c.answer_file-stop.ensures.left c.answer_file-stop.ensures.none_left c.leaving.ensures.fine c.leaving.ensures.other
+    c.answer_file-stop.ensures.same c.in-Ok.ensures.peaks c.answer_file-stop.ensures.left c.answer_file-stop.ensures.none_left c.leaving.ensures.fine c.leaving.ensures.other

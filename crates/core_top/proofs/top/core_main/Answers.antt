@@ -1,7 +1,6 @@
 -- Each clause follows from how the call ended.
 use Rattle.std.proofs.Common.{ap, sym, map, string_bytes}
-use Rattle.core_top.proofs.TopClauses.{finished_as, silent_clause, counts_opens_clause, usage_clause, queries_clause, event_clause, too_long_clause, open_clause, read_clause, write_clause, wrote_clause, sampled_clause, failed_clause, missing_clause, complete_clause, opens_clause, unopened_clause, counts_writes_clause}
-use Rattle.core_top.specs.Command.{running}
+use Rattle.core_top.proofs.TopClauses.{finished_as, silent_clause, counts_opens_clause, usage_clause, queries_clause, clock_clause, event_clause, too_long_clause, open_clause, read_clause, write_clause, wrote_clause, sampled_clause, failed_clause, missing_clause, complete_clause, opens_clause, unopened_clause, counts_writes_clause}
 use Rattle.core_top.proofs.StepClauses.{noted_steps, job_as}
 use Rattle.core_top.proofs.Leaving.{left_noted, none_noted}
 use Rattle.core_top.proofs.top.core_main.Goals as goal
@@ -11,6 +10,9 @@ returns-clause-usage g c = usage_clause _ _ _ _ _ _ _ _ (finished_as _ _ _ _ _ _
 
 pub returns-clause-queries : goal.returns-clause-queries
 returns-clause-queries g c = queries_clause _ _ _ _ _ _ _ _ (finished_as _ _ _ _ _ _ _ _ _ _ _ _ _ (ap (map string_bytes) c.as_slice.ensures.value) c.done.ensures.cause c.done.ensures.failed c.noted.ensures.stop c.run-stop.ensures.finished)
+
+pub returns-clause-clock : goal.returns-clause-clock
+returns-clause-clock g c = clock_clause _ _ _ _ _ _ _ _ (finished_as _ _ _ _ _ _ _ _ _ _ _ _ _ (ap (map string_bytes) c.as_slice.ensures.value) c.done.ensures.cause c.done.ensures.failed c.noted.ensures.stop c.run-stop.ensures.finished)
 
 pub returns-clause-event : goal.returns-clause-event
 returns-clause-event g c = event_clause _ _ _ _ _ _ _ _ (finished_as _ _ _ _ _ _ _ _ _ _ _ _ _ (ap (map string_bytes) c.as_slice.ensures.value) c.done.ensures.cause c.done.ensures.failed c.noted.ensures.stop c.run-stop.ensures.finished)
@@ -66,11 +68,11 @@ returns-clause-steps g c = λ job asked.
     c.done.ensures.cause c.noted.ensures.stop (c.run-stop.ensures.steps job (job_as _ _ job (ap (map string_bytes) c.as_slice.ensures.value) asked))
 
 pub returns-clause-left : goal.returns-clause-left
-returns-clause-left g c = λ r asked.
-    left_noted (g.H.Host.content c.args.host.now) r c.run-stop.result.cause c.noted.result.cause c.done.result.cause c.run-stop.result.left c.noted.result.left c.done.result.left c.done.ensures.cause c.done.ensures.left c.noted.ensures.left
-    (c.run-stop.ensures.left r (job_as _ _ (running r) (ap (map string_bytes) c.as_slice.ensures.value) asked))
+returns-clause-left g c = λ job asked.
+    left_noted (g.H.Host.content c.args.host.now) job c.run-stop.result.cause c.noted.result.cause c.done.result.cause c.run-stop.result.left c.noted.result.left c.done.result.left c.done.ensures.cause c.done.ensures.left c.noted.ensures.left
+    (c.run-stop.ensures.left job (job_as _ _ job (ap (map string_bytes) c.as_slice.ensures.value) asked))
 
 pub returns-clause-none_left : goal.returns-clause-none_left
 returns-clause-none_left g c = λ none.
     none_noted c.run-stop.result.left c.noted.result.left c.done.result.left c.noted.result.cause c.run-stop.result.cause c.done.ensures.left c.noted.ensures.left
-    (c.run-stop.ensures.none_left (λ r asked. none r (job_as _ _ (running r) (sym (ap (map string_bytes) c.as_slice.ensures.value)) asked)))
+    (c.run-stop.ensures.none_left (λ job asked. none job (job_as _ _ job (sym (ap (map string_bytes) c.as_slice.ensures.value)) asked)))

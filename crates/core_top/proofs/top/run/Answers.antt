@@ -1,15 +1,19 @@
-use Rattle.std.proofs.Common.{refl, inl, map, string_bytes}
+use Rattle.std.proofs.Common.{refl, inl, inr, map, string_bytes}
 use Rattle.core_top.specs.declared.Cause.TheVariants as cause
-use Rattle.core_top.specs.Command.{running, explaining}
+use Rattle.core_top.specs.Command.{running, reordering, explaining}
 use Rattle.core_top.specs.Run.{ran, sampled, refused, unread}
-use Rattle.core_top.proofs.Words.{run_asked, explanation_asked, no_job_and_sample, no_run_and_explanation}
+use Rattle.core_top.proofs.Words.{run_asked, reorder_asked, explanation_asked, no_job_and_sample}
 use Rattle.core_top.proofs.StepClauses.{job_steps, no_steps}
-use Rattle.core_top.proofs.Leaving.{left_asked}
+use Rattle.core_top.proofs.Leaving.{left_asked, early_left}
 use Rattle.core_top.proofs.top.run.Goals as goal
 
 pub returns-in-Ok-Run-clause-finished : goal.returns-in-Ok-Run-clause-finished
 returns-in-Ok-Run-clause-finished g c =
     ran (running _) (run_asked _ _ _ _ _ _ _ _ c.as_str.ensures c.as_str-in-Ok-Run.ensures (rw c.in-Ok-Run.field-0-is at c.in-Ok-Run.ensures.asks)) c.run_files.ensures.ends
+
+pub returns-in-Ok-Reorder-clause-finished : goal.returns-in-Ok-Reorder-clause-finished
+returns-in-Ok-Reorder-clause-finished g c =
+    ran (reordering _) (reorder_asked _ _ _ _ _ _ _ _ _ _ _ c.as_str-in-Ok-Reorder.ensures c.as_str-in-Ok-Reorder-2.ensures c.as_str-in-Ok-Reorder-3.ensures (rw c.in-Ok-Reorder.field-0-is at c.in-Ok-Reorder.ensures.asks)) c.reorder_files.ensures.ends
 
 pub returns-in-Ok-Explain-clause-finished : goal.returns-in-Ok-Explain-clause-finished
 returns-in-Ok-Explain-clause-finished g c =
@@ -34,6 +38,11 @@ pub returns-in-Ok-Run-clause-steps : goal.returns-in-Ok-Run-clause-steps
 returns-in-Ok-Run-clause-steps g c = λ job asked.
     job_steps (map string_bytes c.args.words.now) (g.H.Host.content c.args.host.now) (running _) job c.run_files.result.cause (g.K.Sink.taken c.args.out.now) (g.K.Sink.taken c.run_files.new.out) c.args.steps.now c.run_files.new.steps (run_asked _ _ _ _ _ _ _ _ c.as_str.ensures c.as_str-in-Ok-Run.ensures (rw c.in-Ok-Run.field-0-is at c.in-Ok-Run.ensures.asks)) asked c.run_files.ensures.steps
 
+pub returns-in-Ok-Reorder-clause-steps : goal.returns-in-Ok-Reorder-clause-steps
+returns-in-Ok-Reorder-clause-steps g c = λ job asked.
+    job_steps (map string_bytes c.args.words.now) (g.H.Host.content c.args.host.now) (reordering _) job c.reorder_files.result.cause (g.K.Sink.taken c.args.out.now) (g.K.Sink.taken c.reorder_files.new.out) c.args.steps.now c.reorder_files.new.steps
+    (reorder_asked _ _ _ _ _ _ _ _ _ _ _ c.as_str-in-Ok-Reorder.ensures c.as_str-in-Ok-Reorder-2.ensures c.as_str-in-Ok-Reorder-3.ensures (rw c.in-Ok-Reorder.field-0-is at c.in-Ok-Reorder.ensures.asks)) asked c.reorder_files.ensures.steps
+
 pub returns-in-Ok-Explain-clause-steps : goal.returns-in-Ok-Explain-clause-steps
 returns-in-Ok-Explain-clause-steps g c = λ job asked.
     job_steps (map string_bytes c.args.words.now) (g.H.Host.content c.args.host.now) (explaining _) job c.explain_files.result.cause (g.K.Sink.taken c.args.out.now) (g.K.Sink.taken c.explain_files.new.out) c.args.steps.now c.args.steps.now
@@ -49,21 +58,31 @@ pub returns-in-Err-Fault-clause-steps : goal.returns-in-Err-Fault-clause-steps
 returns-in-Err-Fault-clause-steps g c = λ job asked. rw c.of-in-Err-Fault.ensures.cause (no_steps (g.H.Host.content c.args.host.now) job cause.Usage (g.K.Sink.taken c.args.out.now) (g.K.Sink.taken c.args.out.now) c.args.steps.now tt)
 
 pub returns-in-Ok-Run-clause-left : goal.returns-in-Ok-Run-clause-left
-returns-in-Ok-Run-clause-left g c = λ r asked.
-    left_asked (map string_bytes c.args.words.now) (g.H.Host.content c.args.host.now) _ r c.run_files.result.cause c.run_files.result.left (run_asked _ _ _ _ _ _ _ _ c.as_str.ensures c.as_str-in-Ok-Run.ensures (rw c.in-Ok-Run.field-0-is at c.in-Ok-Run.ensures.asks)) asked c.run_files.ensures.left
+returns-in-Ok-Run-clause-left g c = λ job asked.
+    left_asked (map string_bytes c.args.words.now) (g.H.Host.content c.args.host.now) (running _) job c.run_files.result.cause c.run_files.result.left (run_asked _ _ _ _ _ _ _ _ c.as_str.ensures c.as_str-in-Ok-Run.ensures (rw c.in-Ok-Run.field-0-is at c.in-Ok-Run.ensures.asks)) asked c.run_files.ensures.left
 
 pub returns-in-Ok-Run-clause-none_left : goal.returns-in-Ok-Run-clause-none_left
-returns-in-Ok-Run-clause-none_left g c = λ none. absurd (none _ (run_asked _ _ _ _ _ _ _ _ c.as_str.ensures c.as_str-in-Ok-Run.ensures (rw c.in-Ok-Run.field-0-is at c.in-Ok-Run.ensures.asks)))
+returns-in-Ok-Run-clause-none_left g c = λ none. absurd (none (running _) (run_asked _ _ _ _ _ _ _ _ c.as_str.ensures c.as_str-in-Ok-Run.ensures (rw c.in-Ok-Run.field-0-is at c.in-Ok-Run.ensures.asks)))
+
+pub returns-in-Ok-Reorder-clause-left : goal.returns-in-Ok-Reorder-clause-left
+returns-in-Ok-Reorder-clause-left g c = λ job asked.
+    left_asked (map string_bytes c.args.words.now) (g.H.Host.content c.args.host.now) (reordering _) job c.reorder_files.result.cause c.reorder_files.result.left
+    (reorder_asked _ _ _ _ _ _ _ _ _ _ _ c.as_str-in-Ok-Reorder.ensures c.as_str-in-Ok-Reorder-2.ensures c.as_str-in-Ok-Reorder-3.ensures (rw c.in-Ok-Reorder.field-0-is at c.in-Ok-Reorder.ensures.asks)) asked c.reorder_files.ensures.left
+
+pub returns-in-Ok-Reorder-clause-none_left : goal.returns-in-Ok-Reorder-clause-none_left
+returns-in-Ok-Reorder-clause-none_left g c = λ none.
+    absurd (none (reordering _) (reorder_asked _ _ _ _ _ _ _ _ _ _ _ c.as_str-in-Ok-Reorder.ensures c.as_str-in-Ok-Reorder-2.ensures c.as_str-in-Ok-Reorder-3.ensures (rw c.in-Ok-Reorder.field-0-is at c.in-Ok-Reorder.ensures.asks)))
 
 pub returns-in-Ok-Explain-clause-left : goal.returns-in-Ok-Explain-clause-left
-returns-in-Ok-Explain-clause-left g c = λ r asked.
-    absurd (no_run_and_explanation _ r _ asked (explanation_asked _ _ _ _ _ _ c.as_str-in-Ok-Explain.ensures c.as_str-in-Ok-Explain-2.ensures (rw c.in-Ok-Explain.field-0-is at c.in-Ok-Explain.ensures.asks)))
+returns-in-Ok-Explain-clause-left g c = λ job asked.
+    left_asked (map string_bytes c.args.words.now) (g.H.Host.content c.args.host.now) (explaining _) job c.explain_files.result.cause c.explain_files.result.left
+    (explanation_asked _ _ _ _ _ _ c.as_str-in-Ok-Explain.ensures c.as_str-in-Ok-Explain-2.ensures (rw c.in-Ok-Explain.field-0-is at c.in-Ok-Explain.ensures.asks)) asked c.explain_files.ensures.none_left
 
 pub returns-in-Ok-Sample-clause-left : goal.returns-in-Ok-Sample-clause-left
-returns-in-Ok-Sample-clause-left g c = λ r asked. absurd (no_job_and_sample _ (running r) _ _ asked (rw c.in-Ok-Sample.field-0-is at c.in-Ok-Sample.ensures.asks))
+returns-in-Ok-Sample-clause-left g c = λ job asked. absurd (no_job_and_sample _ job _ _ asked (rw c.in-Ok-Sample.field-0-is at c.in-Ok-Sample.ensures.asks))
 
 pub returns-in-Err-Memory-clause-left : goal.returns-in-Err-Memory-clause-left
-returns-in-Err-Memory-clause-left g c = λ r asked. rw c.of.ensures.cause c.of.ensures.left
+returns-in-Err-Memory-clause-left g c = λ job asked. early_left (g.H.Host.content c.args.host.now) job _ _ (inl c.of.ensures.cause) c.of.ensures.left
 
 pub returns-in-Err-Fault-clause-left : goal.returns-in-Err-Fault-clause-left
-returns-in-Err-Fault-clause-left g c = λ r asked. rw c.of-in-Err-Fault.ensures.cause c.of-in-Err-Fault.ensures.left
+returns-in-Err-Fault-clause-left g c = λ job asked. early_left (g.H.Host.content c.args.host.now) job _ _ (inr c.of-in-Err-Fault.ensures.cause) c.of-in-Err-Fault.ensures.left

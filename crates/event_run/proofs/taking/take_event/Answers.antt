@@ -1,6 +1,7 @@
 use Rattle.std.proofs.Common.{◌+◌, ◌≤◌, None, refl, subst, ◌∙◌, arith}
 use Rattle.query_engine.specs.Bounds.{update_bound}
 use Rattle.query_engine.specs.Engine.{State, found_of, len_of}
+use Rattle.query_engine.specs.Windows.{HasAdded}
 use Rattle.event_run.proofs.Given.{at_end, begins}
 use Rattle.event_run.proofs.Wants.{wants_as}
 use Rattle.event_run.proofs.Turns.{begins_before, no_line, taken_empty, taken_event, stopped_line}
@@ -16,7 +17,7 @@ returns-in-Ok-End-clause-took g c = λ events stands. (
 
 pub returns-in-Err-clause-took : goal.returns-in-Err-clause-took
 returns-in-Err-clause-took g c = λ events stands.
-    rw c.fault_of.ensures (no_line _ _ c.loop-fault.lines c.next.new.self c.loop-fault.engine (g.Q.Source.left c.loop-fault.source) (g.Q.Source.left c.next.new.source) _ events c.in-Err.fault
+    rw c.fault_of.ensures (no_line _ _ c.loop-fault.lines c.next.new.self c.args.engine.now c.loop-fault.engine (g.Q.Source.left c.loop-fault.source) (g.Q.Source.left c.next.new.source) _ events c.in-Err.fault
     c.in-Err.ensures.lines (c.loop-fault.invariant.taken events stands) (c.loop-fault.invariant.stands events stands))
 
 pub returns-in-Ok-true-clause-took : goal.returns-in-Ok-true-clause-took
@@ -28,6 +29,7 @@ returns-in-Ok-true-clause-took g c = λ events stands.
       λ bytes had.
           taken_event _ _ _ _ c.loop-fault.lines c.next.new.self bytes (g.Q.Source.left c.loop-fault.source) (g.Q.Source.left c.next.new.source) events took.0 inv.same.0 inv.same.1
           ((rw c.in-Ok-Line.field-0-is at c.in-Ok-Line.ensures.lines) bytes) took.1 took.3 (inv.taken events stands bytes had),
+      subst (λ (e : State). HasAdded e c.give_line.new.engine took.0) inv.kept took.4,
     )
 
 pub returns-in-Ok-true-clause-growth : goal.returns-in-Ok-true-clause-growth

@@ -21,9 +21,10 @@ loop-lines-init g c =
       going = c.requires.going;
       counted = omega (arith, held, none);
       of_schema = subst P (sym c.requires.held) tt;
+      same = (refl, refl);
       read_faults = refl;
       write_faults = refl;
-      runs = λ a fresh. starts a (g.Q.Source.left c.args.source.now) (g.K.Sink.taken c.args.out.now) c.args.lines.now c.args.gate.now c.args.output.now c.args.engine.now fresh;
+      runs = λ a fresh. starts c.args.compact_every a (g.Q.Source.left c.args.source.now) (g.K.Sink.taken c.args.out.now) c.args.lines.now c.args.gate.now c.args.output.now c.args.engine.now c.args.steps.now fresh;
     }
 
 pub put_line-requires-clause-open : goal.put_line-requires-clause-open
@@ -43,13 +44,13 @@ answer_rest-requires-clause-counted g c =
     let room = rw c.in-Ok-false.field-0-test at c.in-Ok-false.ensures.room in
     rw (room.0, c.number.ensures, room.1) c.loop-lines.invariant.counted
 
-pub returns-in-Ok-false-clause-wrote : goal.returns-in-Ok-false-clause-wrote
-returns-in-Ok-false-clause-wrote g c = λ a fresh.
+pub returns-in-Ok-false-clause-closed : goal.returns-in-Ok-false-clause-closed
+returns-in-Ok-false-clause-closed g c = λ a fresh.
     let r = c.loop-lines.invariant.runs a fresh in
     let room = rw c.in-Ok-false.field-0-test at c.in-Ok-false.ensures.room in
     let feeds = (rw c.in-Ok-false.field-0-test at c.in-Ok-false.ensures.put) a (g.Q.Source.left c.args.source.now) r.put r.flowing.gone r.flowing.sits (sym r.flowing.schema ∙ sym c.schema.ensures) (sym r.most_bytes) r.flowing.gate_stands r.fed in
-    let P : Held → Type 0 = λ h. Flowing a (g.Q.Source.left c.args.source.now) r.put h c.loop-lines.output c.loop-lines.engine (g.K.Sink.taken c.args.out.now) (g.K.Sink.taken c.loop-lines.out) in
-    c.answer_rest.ensures.wrote a (g.Q.Source.left c.args.source.now) (g.Q.Source.left c.put_line.new.source) (g.K.Sink.taken c.args.out.now) r.put (subst P (sym room.0) r.flowing) feeds
+    let P : Held → Type 0 = λ h. Flowing c.args.compact_every a (g.Q.Source.left c.args.source.now) r.put h c.loop-lines.output c.loop-lines.engine (g.K.Sink.taken c.args.out.now) (g.K.Sink.taken c.loop-lines.out) c.args.steps.now c.loop-lines.steps in
+    c.answer_rest.ensures.closed a (g.Q.Source.left c.args.source.now) (g.Q.Source.left c.put_line.new.source) (g.K.Sink.taken c.args.out.now) r.put c.args.steps.now (subst P (sym room.0) r.flowing) feeds
 
 pub returns-in-Ok-false-clause-read_cause : goal.returns-in-Ok-false-clause-read_cause
 returns-in-Ok-false-clause-read_cause g c =
@@ -63,14 +64,14 @@ returns-in-Ok-false-clause-write_cause g c =
 
 -- A LINE THAT STOPS THE FEED
 
-pub returns-in-Err-clause-wrote : goal.returns-in-Err-clause-wrote
-returns-in-Err-clause-wrote g c = λ a fresh.
+pub returns-in-Err-clause-closed : goal.returns-in-Err-clause-closed
+returns-in-Err-clause-closed g c = λ a fresh.
     let r = c.loop-lines.invariant.runs a fresh in
     let told = g.Q.Source.left c.args.source.now in
     let put = c.in-Err.ensures.put a told r.put r.flowing.gone r.flowing.sits (sym r.flowing.schema ∙ sym c.schema.ensures) (sym r.most_bytes) r.flowing.gate_stands r.fed in
-    c.close.ensures.closed a told (g.Q.Source.left c.put_line.new.source) (g.K.Sink.taken c.args.out.now) (
-    ends_at_line a told c.loop-lines.lines c.put_line.new.lines (g.Q.Source.left c.loop-lines.source) (g.Q.Source.left c.put_line.new.source) c.loop-lines.gate c.put_line.new.gate c.loop-lines.output c.loop-lines.engine
-    (g.K.Sink.taken c.args.out.now) (g.K.Sink.taken c.loop-lines.out) c.in-Err.stop r put)
+    c.close.ensures.closed c.args.compact_every a told (g.Q.Source.left c.put_line.new.source) (g.K.Sink.taken c.args.out.now) c.loop-lines.engine c.args.steps.now c.loop-lines.steps (
+    ends_at_line c.args.compact_every a told c.loop-lines.lines c.put_line.new.lines (g.Q.Source.left c.loop-lines.source) (g.Q.Source.left c.put_line.new.source) c.loop-lines.gate c.put_line.new.gate c.loop-lines.output c.loop-lines.engine
+    (g.K.Sink.taken c.args.out.now) (g.K.Sink.taken c.loop-lines.out) c.args.steps.now c.loop-lines.steps c.in-Err.stop r put)
 
 pub returns-in-Err-clause-read_cause : goal.returns-in-Err-clause-read_cause
 returns-in-Err-clause-read_cause g c =
@@ -93,15 +94,15 @@ release-requires-clause-counted g c =
     let number = c.number-in-loop-lines.ensures in
     omega (arith, room.2, room.3, counted, number)
 
-pub returns-in-Err-release-clause-wrote : goal.returns-in-Err-release-clause-wrote
-returns-in-Err-release-clause-wrote g c = λ a fresh.
+pub returns-in-Err-release-clause-closed : goal.returns-in-Err-release-clause-closed
+returns-in-Err-release-clause-closed g c = λ a fresh.
     let r = c.loop-lines.invariant.runs a fresh in
     let told = g.Q.Source.left c.args.source.now in
     let put = (rw c.in-Ok-true.field-0-test at c.in-Ok-true.ensures.put) a told r.put r.flowing.gone r.flowing.sits (sym r.flowing.schema ∙ sym c.schema.ensures) (sym r.most_bytes) r.flowing.gate_stands r.fed in
-    let f = line_flows a told c.loop-lines.lines c.put_line.new.lines (g.Q.Source.left c.loop-lines.source) (g.Q.Source.left c.put_line.new.source) c.loop-lines.gate c.put_line.new.gate c.loop-lines.output c.loop-lines.engine
-    (g.K.Sink.taken c.args.out.now) (g.K.Sink.taken c.loop-lines.out) c.put_line.ensures.budget c.put_line.ensures.going (c.put_line.ensures.sits a r.flowing.sits) r put in
-    c.close-in-Err-release.ensures.closed a told (g.Q.Source.left c.put_line.new.source) (g.K.Sink.taken c.args.out.now)
-    (c.in-Err-release.ensures.released a told put.0 (g.K.Sink.taken c.args.out.now) f (g.Q.Source.left c.put_line.new.source))
+    let f = line_flows c.args.compact_every a told c.loop-lines.lines c.put_line.new.lines (g.Q.Source.left c.loop-lines.source) (g.Q.Source.left c.put_line.new.source) c.loop-lines.gate c.put_line.new.gate c.loop-lines.output c.loop-lines.engine
+    (g.K.Sink.taken c.args.out.now) (g.K.Sink.taken c.loop-lines.out) c.args.steps.now c.loop-lines.steps c.put_line.ensures.budget c.put_line.ensures.going (c.put_line.ensures.sits a r.flowing.sits) r put in
+    c.close-in-Err-release.ensures.closed c.args.compact_every a told (g.Q.Source.left c.put_line.new.source) (g.K.Sink.taken c.args.out.now) c.release.new.engine c.args.steps.now c.release.new.steps
+    (c.in-Err-release.ensures.released a told put.0 (g.K.Sink.taken c.args.out.now) c.args.steps.now f (g.Q.Source.left c.put_line.new.source))
 
 pub returns-in-Err-release-clause-read_cause : goal.returns-in-Err-release-clause-read_cause
 returns-in-Err-release-clause-read_cause g c =
@@ -130,18 +131,19 @@ loop-lines-preserved g c =
       going = c.release.ensures.finished ∙ c.put_line.ensures.going;
       counted = subst N c.number-in-loop-lines.ensures c.release.ensures.counted;
       of_schema = c.release.ensures.of_schema;
+      same = (c.release.ensures.same.0 ∙ inv.same.0, c.release.ensures.same.1 ∙ inv.same.1);
       read_faults = c.in-Ok-true.ensures.cause ∙ inv.read_faults;
       write_faults = c.in-Ok-settle.ensures.cause.well ∙ c.in-Ok.ensures.write_cause ∙ inv.write_faults;
       runs = λ a fresh.
           let r = inv.runs a fresh in
           let told = g.Q.Source.left c.args.source.now in
           let put = (rw c.in-Ok-true.field-0-test at c.in-Ok-true.ensures.put) a told r.put r.flowing.gone r.flowing.sits (sym r.flowing.schema ∙ sym c.schema.ensures) (sym r.most_bytes) r.flowing.gate_stands r.fed in
-          let f = line_flows a told c.loop-lines.lines c.put_line.new.lines (g.Q.Source.left c.loop-lines.source) (g.Q.Source.left c.put_line.new.source) c.loop-lines.gate c.put_line.new.gate c.loop-lines.output c.loop-lines.engine
-          (g.K.Sink.taken c.args.out.now) (g.K.Sink.taken c.loop-lines.out) c.put_line.ensures.budget c.put_line.ensures.going (c.put_line.ensures.sits a r.flowing.sits) r put in
-          let through = c.in-Ok.ensures.released a told put.0 (g.K.Sink.taken c.args.out.now) f in
+          let f = line_flows c.args.compact_every a told c.loop-lines.lines c.put_line.new.lines (g.Q.Source.left c.loop-lines.source) (g.Q.Source.left c.put_line.new.source) c.loop-lines.gate c.put_line.new.gate c.loop-lines.output c.loop-lines.engine
+          (g.K.Sink.taken c.args.out.now) (g.K.Sink.taken c.loop-lines.out) c.args.steps.now c.loop-lines.steps c.put_line.ensures.budget c.put_line.ensures.going (c.put_line.ensures.sits a r.flowing.sits) r put in
+          let through = c.in-Ok.ensures.released a told put.0 (g.K.Sink.taken c.args.out.now) c.args.steps.now f in
           record {
             put = put.0;
-            flowing = settles a told put.0 c.release.new.gate c.release.new.output c.settle.new.self c.release.new.engine (g.K.Sink.taken c.args.out.now) (g.K.Sink.taken c.release.new.out) (g.K.Sink.taken c.settle.new.out)
+            flowing = settles c.args.compact_every a told put.0 c.release.new.gate c.release.new.output c.settle.new.self c.release.new.engine (g.K.Sink.taken c.args.out.now) (g.K.Sink.taken c.release.new.out) (g.K.Sink.taken c.settle.new.out) c.args.steps.now c.release.new.steps
                 c.settle.ensures.order through.0 c.in-Ok-settle.ensures.kept;
             due = due_open a c.release.new.gate put.0 through.0.gone through.0.sits (c.release.ensures.finished ∙ c.put_line.ensures.going) through.1;
             fed = put.2;
@@ -151,15 +153,16 @@ loop-lines-preserved g c =
 
 -- A WRITE THAT FAILS
 
-pub returns-in-Err-settle-clause-wrote : goal.returns-in-Err-settle-clause-wrote
-returns-in-Err-settle-clause-wrote g c = λ a fresh.
+pub returns-in-Err-settle-clause-closed : goal.returns-in-Err-settle-clause-closed
+returns-in-Err-settle-clause-closed g c = λ a fresh.
     let r = c.loop-lines.invariant.runs a fresh in
     let told = g.Q.Source.left c.args.source.now in
     let put = (rw c.in-Ok-true.field-0-test at c.in-Ok-true.ensures.put) a told r.put r.flowing.gone r.flowing.sits (sym r.flowing.schema ∙ sym c.schema.ensures) (sym r.most_bytes) r.flowing.gate_stands r.fed in
-    let f = line_flows a told c.loop-lines.lines c.put_line.new.lines (g.Q.Source.left c.loop-lines.source) (g.Q.Source.left c.put_line.new.source) c.loop-lines.gate c.put_line.new.gate c.loop-lines.output c.loop-lines.engine
-    (g.K.Sink.taken c.args.out.now) (g.K.Sink.taken c.loop-lines.out) c.put_line.ensures.budget c.put_line.ensures.going (c.put_line.ensures.sits a r.flowing.sits) r put in
-    let through = c.in-Ok.ensures.released a told put.0 (g.K.Sink.taken c.args.out.now) f in
-    settles_failing a told put.0 c.release.new.gate c.release.new.output c.release.new.engine (g.K.Sink.taken c.args.out.now) (g.K.Sink.taken c.release.new.out) (g.K.Sink.taken c.settle.new.out) through.0 c.in-Err-settle.ensures.part
+    let f = line_flows c.args.compact_every a told c.loop-lines.lines c.put_line.new.lines (g.Q.Source.left c.loop-lines.source) (g.Q.Source.left c.put_line.new.source) c.loop-lines.gate c.put_line.new.gate c.loop-lines.output c.loop-lines.engine
+    (g.K.Sink.taken c.args.out.now) (g.K.Sink.taken c.loop-lines.out) c.args.steps.now c.loop-lines.steps c.put_line.ensures.budget c.put_line.ensures.going (c.put_line.ensures.sits a r.flowing.sits) r put in
+    let through = c.in-Ok.ensures.released a told put.0 (g.K.Sink.taken c.args.out.now) c.args.steps.now f in
+    settles_failing c.args.compact_every a told put.0 c.release.new.gate c.release.new.output c.release.new.engine c.release.new.engine (g.Q.Source.left c.put_line.new.source) (g.K.Sink.taken c.args.out.now) (g.K.Sink.taken c.release.new.out) (g.K.Sink.taken c.settle.new.out) c.args.steps.now c.release.new.steps through.0
+    c.in-Err-settle.ensures.part (λ none. let ok = c.in-Err-settle.ensures.none none in cc)
 
 pub returns-in-Err-settle-clause-read_cause : goal.returns-in-Err-settle-clause-read_cause
 returns-in-Err-settle-clause-read_cause g c = inl (c.in-Ok-true.ensures.cause ∙ c.loop-lines.invariant.read_faults)
@@ -168,3 +171,17 @@ pub returns-in-Err-settle-clause-write_cause : goal.returns-in-Err-settle-clause
 returns-in-Err-settle-clause-write_cause g c =
     let N : ℕ → Type 0 = λ n. Rose n (g.K.Sink.faults c.settle.new.out) in
     subst N (c.in-Ok.ensures.write_cause ∙ c.loop-lines.invariant.write_faults) c.in-Err-settle.ensures.cause.failed
+
+-- THE QUERIES STAY
+
+pub returns-in-Ok-false-clause-same : goal.returns-in-Ok-false-clause-same
+returns-in-Ok-false-clause-same g c = (c.answer_rest.ensures.same.0 ∙ c.loop-lines.invariant.same.0, c.answer_rest.ensures.same.1 ∙ c.loop-lines.invariant.same.1)
+
+pub returns-in-Err-clause-same : goal.returns-in-Err-clause-same
+returns-in-Err-clause-same g c = c.loop-lines.invariant.same
+
+pub returns-in-Err-release-clause-same : goal.returns-in-Err-release-clause-same
+returns-in-Err-release-clause-same g c = (c.release.ensures.same.0 ∙ c.loop-lines.invariant.same.0, c.release.ensures.same.1 ∙ c.loop-lines.invariant.same.1)
+
+pub returns-in-Err-settle-clause-same : goal.returns-in-Err-settle-clause-same
+returns-in-Err-settle-clause-same g c = (c.release.ensures.same.0 ∙ c.loop-lines.invariant.same.0, c.release.ensures.same.1 ∙ c.loop-lines.invariant.same.1)

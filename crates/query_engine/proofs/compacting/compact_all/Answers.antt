@@ -62,6 +62,7 @@ loop-k-preserved g c =
       stands = c.compact.ensures.stands;
       table = of.table;
       fewer = c.compact.ensures.fewer;
+      fewer_later = of.nodes.fewer_later;
     } in
     let more = cost_more c.loop-k.parts c.args.parts.now c.loop-k.k c.index-parts-k.result inside same left in
     let paid = c.loop-k.invariant.paid in

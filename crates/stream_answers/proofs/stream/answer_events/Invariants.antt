@@ -1,14 +1,14 @@
 use Rattle.std.proofs.Common.{◌≡◌, ◌≤◌, [], false}
 use Rattle.answer_text.specs.declared.Order.TheVariants.{Walk}
-use Rattle.query_engine.specs.Engine.{count_of, SameQueries}
-use Rattle.stream_answers.specs.Counting.{Counted}
+use Rattle.query_engine.specs.Engine.{count_of, peak_of, SameQueries}
+use Rattle.stream_answers.specs.Counting.{Following}
 use Rattle.stream_answers.proofs.stream.answer_events.Given as goal
 
 -- the answers over the events so far are written or held
 abbrev pub invariant-loop-output : goal.invariant-loop-output
 invariant-loop-output g l = record {
-  counting : Counted l.fn.compact_every (record { order = l.fn.output.order; schema = l.fn.engine.schema; queries = l.fn.engine.queries; most_bytes = l.fn.lines.budget })
-      (g.Q.Source.left l.fn.source) l.lines (g.Q.Source.left l.source) (g.K.Sink.taken l.fn.out) (g.K.Sink.taken l.out) l.output.held l.engine l.fn.steps l.steps;
+  following : Following l.fn.compact_every (record { order = l.fn.output.order; schema = l.fn.engine.schema; queries = l.fn.engine.queries; most_bytes = l.fn.lines.budget })
+      (g.Q.Source.left l.fn.source) l.lines (g.Q.Source.left l.source) (g.K.Sink.taken l.fn.out) (g.K.Sink.taken l.out) l.output.held l.engine l.fn.steps l.steps (peak_of l.fn.engine);
   none_waits : l.fn.output.order ≡ Walk → l.output.held ≡ [];
   open_is : l.lines.closed ≡ false;
   counted : count_of l.engine ≤ l.lines.number;

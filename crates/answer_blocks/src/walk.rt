@@ -23,7 +23,7 @@ use query_engine::Engine;
 use std::sync::ledger::Ledger;
 
 /// Writes the line of a complex event. The buffer's bytes go.
-fn write_line<K: Sink>(
+pub fn write_line<K: Sink>(
     out: &mut K,
     buffer: &mut Vec<u8>,
     query: u64,

@@ -1,3 +1,6 @@
 mod Words
 mod Digits
 mod Spelled
+mod Seen
+mod Pulled
+mod Stepping

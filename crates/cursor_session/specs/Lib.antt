@@ -1,3 +1,5 @@
 pub mod Numbers
 pub mod Commands
 pub mod Spelling
+pub mod Machine
+pub mod Sessions

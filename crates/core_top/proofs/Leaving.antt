@@ -1,8 +1,7 @@
 -- The engine that a run leaves, over late events or not.
-use Rattle.std.proofs.Common.{◌≡◌, ◌⊎◌, ℕ, List, length, Option, Some, None, refl, sym, ◌∙◌, ap, subst, inl, inr, IsSomeAnd, arith}
+use Rattle.std.proofs.Common.{◌≡◌, ◌⊎◌, ℕ, List, length, Option, Some, None, refl, sym, ◌∙◌, subst, inl, inr, IsSomeAnd, arith}
 use Rattle.stream_schema.specs.Types.{Declared}
 use Rattle.cel_terms.specs.declared.Query.{Query}
-use Rattle.answer_text.specs.declared.Order.{Order}
 use Rattle.cer_outside.specs.Content.{Content, Holds, HasOpened, OfOpened}
 use Rattle.query_engine.specs.Engine.{State, SameQueries, peak_of}
 use Rattle.stream_answers.specs.Streams.{Asked, StandsForAll}
@@ -83,39 +82,48 @@ not_fine {S} sources whole from to given failed stops fine = let P : Cause → T
 -- OVER LATE EVENTS
 
 -- over a source that was opened, and so over the file
-pub late_left_of_source : (content : Content) (source : Option (List ℕ)) (a : Feed) (engine : State) → HasOpened content source →
-    ((bytes : List ℕ) → source ≡ Some bytes → StandsForLate a bytes engine) → (bytes : List ℕ) → content ≡ Holds bytes → StandsForLate a bytes engine
-late_left_of_source content source a engine opened stands bytes told = stands bytes (source_told content source bytes opened told)
+pub late_left_of_source : (every : Option ℕ) (peaks : ℕ → ℕ) (content : Content) (source : Option (List ℕ)) (a : Feed) (engine : State) → HasOpened content source →
+    ((bytes : List ℕ) → source ≡ Some bytes → StandsForLate every peaks a bytes engine) → (bytes : List ℕ) → content ≡ Holds bytes → StandsForLate every peaks a bytes engine
+late_left_of_source every peaks content source a engine opened stands bytes told = stands bytes (source_told content source bytes opened told)
+
+-- an engine that is new had no peak
+late_from_none : (every : Option ℕ) (peaks : ℕ → ℕ) (a : Feed) (lines : List ℕ) (engine : State) → ((query : ℕ) → peaks query ≡ 0) → StandsForLate every peaks a lines engine → StandsForLate every (λ query. 0) a lines engine
+late_from_none every peaks a lines engine none s = record {
+  events = s.events;
+  runs = s.runs;
+  stands = s.stands;
+  windows = windows_before every peaks (λ query. 0) (last_due every (length s.events)) s.events engine (λ query. (let is = none query in omega arith)) s.windows;
+}
 
 -- over both files
-stands_for_late_file : (content : List ℕ → Content) (lines_of : Content) (w : ReorderWords) (old engine : State) → lines_of ≡ content w.events → OfOpened (content w.queries) (λ text. Accepts text old.schema old.queries) → SameQueries old engine →
-    ((bytes : List ℕ) → lines_of ≡ Holds bytes → StandsForLate (feed_of w old.schema old.queries) bytes engine) → StandsForLateFile content w engine
-stands_for_late_file content lines_of w old engine same accepted kept stands = record {
+stands_for_late_file : (content : List ℕ → Content) (lines_of : Content) (w : ReorderWords) (old engine : State) → lines_of ≡ content w.events → OfOpened (content w.queries) (λ text. Accepts text old.schema old.queries) → SameQueries old engine → ((query : ℕ) → peak_of old query ≡ 0) →
+    ((bytes : List ℕ) → lines_of ≡ Holds bytes → StandsForLate w.compact_every (peak_of old) (feed_of w old.schema old.queries) bytes engine) → StandsForLateFile content w engine
+stands_for_late_file content lines_of w old engine same accepted kept new stands = record {
   told = λ text lines first second. (
-      let here = stands lines (same ∙ second) in
+      let here = late_from_none w.compact_every (peak_of old) (feed_of w old.schema old.queries) lines engine new (stands lines (same ∙ second)) in
       let accepts = text_told (content w.queries) text (λ t. Accepts t old.schema old.queries) first accepted in
-      let P : Declared → Type 0 = λ s. Accepts text s old.queries × StandsForLate (feed_of w s old.queries) lines engine in
-      let Q : List Query → Type 0 = λ qs. Accepts text engine.schema qs × StandsForLate (feed_of w engine.schema qs) lines engine in
+      let P : Declared → Type 0 = λ s. Accepts text s old.queries × StandsForLate w.compact_every (λ query. 0) (feed_of w s old.queries) lines engine in
+      let Q : List Query → Type 0 = λ qs. Accepts text engine.schema qs × StandsForLate w.compact_every (λ query. 0) (feed_of w engine.schema qs) lines engine in
       subst Q (sym kept.1) (subst P (sym kept.0) (accepts, here))
       );
 }
 
 -- the engine by how the answers over the file ended
 pub late_left_by : (content : List ℕ → Content) (lines_of : Content) (w : ReorderWords) (old engine : State) (given told : Cause) (left before : Option State) → given ≡ told → lines_of ≡ content w.events → OfOpened (content w.queries) (λ text. Accepts text old.schema old.queries) →
-    SameQueries old engine → (told ≡ cause.Fine → (bytes : List ℕ) → lines_of ≡ Holds bytes → StandsForLate (feed_of w old.schema old.queries) bytes engine) → before ≡ None →
+    SameQueries old engine → ((query : ℕ) → peak_of old query ≡ 0) → (told ≡ cause.Fine → (bytes : List ℕ) → lines_of ≡ Holds bytes → StandsForLate w.compact_every (peak_of old) (feed_of w old.schema old.queries) bytes engine) → before ≡ None →
     (given ≡ cause.Fine → left ≡ Some engine) → ((given ≡ cause.Fine → ⊥) → before ≡ None → left ≡ None) → IsLeftLate given content w left
-late_left_by content lines_of w old engine cause.Fine told left before is same accepted kept stands none fine other =
+late_left_by content lines_of w old engine cause.Fine told left before is same accepted kept new stands none fine other =
     let P : Option State → Type 0 = λ o. IsSomeAnd o (StandsForLateFile content w) in
-    subst P (sym (fine refl)) (stands_for_late_file content lines_of w old engine same accepted kept (stands (sym is)))
-late_left_by content lines_of w old engine cause.Usage told left before is same accepted kept stands none fine other = other (λ e. cc) none
-late_left_by content lines_of w old engine (cause.Queries fault place) told left before is same accepted kept stands none fine other = other (λ e. cc) none
-late_left_by content lines_of w old engine (cause.ClockKind name) told left before is same accepted kept stands none fine other = other (λ e. cc) none
-late_left_by content lines_of w old engine (cause.Event line fault) told left before is same accepted kept stands none fine other = other (λ e. cc) none
-late_left_by content lines_of w old engine (cause.InputTooLong taken) told left before is same accepted kept stands none fine other = other (λ e. cc) none
-late_left_by content lines_of w old engine (cause.OpenFault opened from to) told left before is same accepted kept stands none fine other = other (λ e. cc) none
-late_left_by content lines_of w old engine (cause.ReadFault read to) told left before is same accepted kept stands none fine other = other (λ e. cc) none
-late_left_by content lines_of w old engine (cause.WriteFault from to) told left before is same accepted kept stands none fine other = other (λ e. cc) none
-late_left_by content lines_of w old engine cause.Memory told left before is same accepted kept stands none fine other = other (λ e. cc) none
+    subst P (sym (fine refl)) (stands_for_late_file content lines_of w old engine same accepted kept new (stands (sym is)))
+late_left_by content lines_of w old engine cause.Usage told left before is same accepted kept new stands none fine other = other (λ e. cc) none
+late_left_by content lines_of w old engine (cause.Queries fault place) told left before is same accepted kept new stands none fine other = other (λ e. cc) none
+late_left_by content lines_of w old engine (cause.ClockKind name) told left before is same accepted kept new stands none fine other = other (λ e. cc) none
+late_left_by content lines_of w old engine (cause.Event line fault) told left before is same accepted kept new stands none fine other = other (λ e. cc) none
+late_left_by content lines_of w old engine (cause.InputTooLong taken) told left before is same accepted kept new stands none fine other = other (λ e. cc) none
+late_left_by content lines_of w old engine (cause.OpenFault opened from to) told left before is same accepted kept new stands none fine other = other (λ e. cc) none
+late_left_by content lines_of w old engine (cause.ReadFault read to) told left before is same accepted kept new stands none fine other = other (λ e. cc) none
+late_left_by content lines_of w old engine (cause.WriteFault from to) told left before is same accepted kept new stands none fine other = other (λ e. cc) none
+late_left_by content lines_of w old engine cause.Memory told left before is same accepted kept new stands none fine other = other (λ e. cc) none
 
 -- no engine was left by a call that was not well
 pub late_none_by : (content : List ℕ → Content) (w : ReorderWords) (given : Cause) (left : Option State) → left ≡ None → (given ≡ cause.Fine → ⊥) → IsLeftLate given content w left

@@ -19,10 +19,10 @@ abbrev pub IsLeft : Cause → (List ℕ → Content) → RunWords → Option Sta
 IsLeft cause.Fine content r left = IsSomeAnd left (StandsForFile content r)
 IsLeft _ content r left = left ≡ None
 
--- The same over late events: it stands for exactly those of the event file, in the order of their clocks.
+-- The same over late events: it stands for exactly those of the event file, in the order of their clocks, and was compacted after every so many in this order.
 pub record StandsForLateFile (content : List ℕ → Content) (w : ReorderWords) (engine : State) : Type 0 where
   pub told : (text lines : List ℕ) → content w.queries ≡ Holds text → content w.events ≡ Holds lines →
-      Accepts text engine.schema engine.queries × StandsForLate (feed_of w engine.schema engine.queries) lines engine
+      Accepts text engine.schema engine.queries × StandsForLate w.compact_every (λ query. 0) (feed_of w engine.schema engine.queries) lines engine
 
 abbrev pub IsLeftLate : Cause → (List ℕ → Content) → ReorderWords → Option State → Type 0
 IsLeftLate cause.Fine content w left = IsSomeAnd left (StandsForLateFile content w)

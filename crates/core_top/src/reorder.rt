@@ -3,7 +3,7 @@
 
 ghost use Rattle.std.specs.Prelude.{◌≡◌, ℕ, true, List, [], Some, None};
 ghost use Rattle.cer_outside.specs.Content.{Holds};
-ghost use Rattle.query_engine.specs.Engine.{StandsFor, SameQueries, count_of};
+ghost use Rattle.query_engine.specs.Engine.{StandsFor, SameQueries, count_of, peak_of};
 ghost use Rattle.reorder_gate.specs.Clocks.{clock_fits};
 ghost use Rattle.late_answers.specs.Written.{StandsForLate};
 ghost use Rattle.core_top.specs.Command.{reordering};
@@ -142,7 +142,8 @@ fn reorder_clocked<H: Host, K: Sink, L: Ledger>(
         }) bytes)
         result.cause (K.taken out.old) (K.taken out.new) steps.old steps.new }
     ensures left { result.cause ≡ Cause.Fine → (bytes : List ℕ)
-        → H.content host.old events.now ≡ Holds bytes → StandsForLate (record {
+        → H.content host.old events.now ≡ Holds bytes
+        → StandsForLate compact_every (peak_of engine.old) (record {
           order = order;
           schema = engine.old.schema;
           queries = engine.old.queries;
@@ -227,7 +228,8 @@ fn reorder_file<H: Host, K: Sink, L: Ledger>(
         }) bytes)
         result.cause (K.taken out.old) (K.taken out.new) steps.old steps.new }
     ensures left { result.cause ≡ Cause.Fine → (bytes : List ℕ)
-        → H.content host.old events.now ≡ Holds bytes → StandsForLate (record {
+        → H.content host.old events.now ≡ Holds bytes
+        → StandsForLate compact_every (peak_of engine.old) (record {
           order = order;
           schema = engine.old.schema;
           queries = engine.old.queries;
@@ -299,7 +301,7 @@ fn reorder_source<S: Source + Drop, K: Sink, L: Ledger>(
         }) bytes)
         result.cause (K.taken out.old) (K.taken out.new) steps.old steps.new }
     ensures left { result.cause ≡ Cause.Fine → (bytes : List ℕ) → S.left source ≡ Some bytes
-        → StandsForLate (record {
+        → StandsForLate compact_every (peak_of engine.old) (record {
           order = order;
           schema = engine.old.schema;
           queries = engine.old.queries;

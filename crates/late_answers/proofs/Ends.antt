@@ -1,15 +1,14 @@
 -- How a late feed ends.
-use Rattle.std.proofs.Common.{◌≡◌, ℕ, ◌+◌, true, false, cond, ◌⊎◌, inl, inr, List, [], ◌∷◌, ◌++◌, Option, Some, None, Result, Ok, Err, OnOk, refl, sym, ◌∙◌, ap, subst, append_assoc, append-nil, arith}
+use Rattle.std.proofs.Common.{◌≡◌, ℕ, true, false, cond, ◌⊎◌, inl, inr, List, [], ◌∷◌, ◌++◌, Option, Some, None, Result, Ok, Err, OnOk, refl, sym, ◌∙◌, ap, subst, append_assoc, append-nil, arith}
 use Rattle.cer_base.specs.declared.OrMemory.{OrMemory}
 use Rattle.cer_base.specs.declared.OrMemory.TheVariants.{Fault, Memory}
 use Rattle.cer_outside.specs.Causes.{Rose}
 use Rattle.cer_outside.specs.Bytes.{TookAll, TookPart}
 use Rattle.stream_schema.specs.declared.Event.{Event as StreamEvent}
-use Rattle.answer_text.specs.declared.Order.TheVariants.{Walk}
 use Rattle.answer_text.specs.Output.{IsOutput}
 use Rattle.answer_blocks.specs.Taken.{TookPrefix}
 use Rattle.event_reader.specs.Reading.{LineReader, HasGiven}
-use Rattle.query_engine.specs.Engine.{State}
+use Rattle.query_engine.specs.Engine.{State, peak_of}
 use Rattle.query_engine.proofs.FewNodes.{first_has_no_node}
 use Rattle.event_reader.specs.declared.LineFault.{LineFault}
 use Rattle.event_reader.specs.declared.LineFault.TheVariants as line
@@ -25,9 +24,10 @@ use Rattle.stream_answers.specs.declared.StreamFault.TheVariants as fault
 use Rattle.stream_answers.specs.Gathering.{Gathered, PassesOn, Finished, stream_fault}
 use Rattle.stream_answers.specs.Streams.{WroteOver, HasReadCause, HasWriteCause}
 use Rattle.stream_answers.proofs.Totals.{none_taken, walk_or_sorted}
+use Rattle.stream_answers.proofs.Windows.{windows_at_first}
 use Rattle.stream_answers.proofs.Portions.{took_none, took_both, took_then_part, part_of_more, prefix_of_more, prefix_of_all}
 use Rattle.late_answers.specs.Late.{Numbered, Feed, Fed, when, fed, let_go, TakesOn, RunsLate}
-use Rattle.late_answers.specs.Written.{asked, StandsForLate, AreReleasedRead, WroteLatePart, WroteLate}
+use Rattle.late_answers.specs.Written.{asked, StandsForLate, AreReleasedRead, WroteLate}
 use Rattle.late_answers.specs.Steps.{LateCountsAll, LateCounts, LateStepsOver}
 use Rattle.late_answers.specs.Flowing.{Sits, HasFedOf, AreFedRead, Feeds, AfterPut, GoFirst, Counting, Flowing, Unwritten, Ended, Closed, is_write_fault, AfterRelease, Running, IsFresh}
 use Rattle.late_answers.proofs.FedLines.{first_open, first_closed}
@@ -118,7 +118,37 @@ still_none before after held now passed none =
     let all : passed.written ++ (now ++ []) ≡ [] = sym passed.whole ∙ (append-nil held ∙ none) in
     sym (append-nil now) ∙ last_empty passed.written (now ++ []) all
 
-module _ (every : Option ℕ) where
+-- AT THE BEGINNING
+
+pub starts : (every : Option ℕ) (a : Feed) (source before : Option (List ℕ)) (reader : LineReader) (g : Held) (o : Gathered) (engine : State) (first : ℕ) → IsFresh a reader g o engine → Running every (peak_of engine) a source reader source g o engine before before first first
+starts every a source before reader g o engine first fresh =
+    let had : HasFedOf a source reader source [] = λ bytes told. record { texts = []; given = subst (λ l. HasGiven reader bytes l []) (sym told) (fresh.given bytes); good = refl } in
+    record {
+      put = [];
+      flowing = record {
+        order = fresh.order;
+        schema = fresh.schema;
+        queries = fresh.queries;
+        sits = fresh.sits;
+        go_first = subst (λ b. GoFirst a source [] b) (sym fresh.going) (first_open a source reader source [] fresh.most_bytes had);
+        gone = [];
+        gate_stands = fresh.gate_stands;
+        events = [];
+        taken = (refl, refl);
+        stands = fresh.stands;
+        written = [];
+        took = took_none before;
+        output = fresh.none_waits;
+        counting = record { rows = []; are_rows = refl; lines = fresh.none_waits; bounded = λ most meet. omega arith; few = λ most meet. first_has_no_node engine most fresh.stands };
+        windows = windows_at_first every engine fresh.stands;
+        none_waits = λ walk. fresh.none_waits;
+      };
+      due = refl;
+      fed = had;
+      most_bytes = fresh.most_bytes;
+    }
+
+module _ (every : Option ℕ) (peaks : ℕ → ℕ) where
   -- WHAT IS HELD IS WRITTEN
 
   -- What was held is written, or a write failed: then a part of the answers over the whole file was.
@@ -179,44 +209,44 @@ module _ (every : Option ℕ) where
       elim finished.way [ inl fine ↦ subst P (sym fine.0) stands | inr failed ↦ subst P (sym failed.0) tt ]
 
   pub closes : {T : Type 0} (a : Feed) (source left before middle after : Option (List ℕ)) (held : List ℕ) (engine : State) (old new first now : ℕ) (end result : Result T (OrMemory StreamFault)) → is_write_fault end ≡ false →
-      Ended every a source left before middle held engine first now end → Finished middle after old new held end result → (held ≡ [] → result ≡ end) → Closed every a source left before after engine first now result
+      Ended every peaks a source left before middle held engine first now end → Finished middle after old new held end result → (held ≡ [] → result ≡ end) → Closed every peaks a source left before after engine first now result
   closes a source left before middle after held engine old new first now (Ok done) result no_fault ended finished none = record {
     wrote = closing a source left before middle after held old new first now (λ bytes events. RunsLate a bytes events stop.End) (Ok done) result ended.0 finished (λ all. all);
     steps = λ bytes told.
         closing_steps a source before middle after held [] old new first now (λ lines events. RunsLate a lines events stop.End) (Ok done) result bytes told ended.0 finished none (λ counts all. stopped a source before middle after held first now stop.End bytes told ended.0 all);
-    stands = closing_stands middle after held old new ((bytes : List ℕ) → source ≡ Some bytes → StandsForLate a bytes engine) (Ok done) result ended.1 finished;
+    stands = closing_stands middle after held old new ((bytes : List ℕ) → source ≡ Some bytes → StandsForLate every peaks a bytes engine) (Ok done) result ended.1 finished;
   }
   closes a source left before middle after held engine old new first now (Err (Fault (fault.Event line refusal))) result no_fault ended finished none = record {
     wrote = closing a source left before middle after held old new first now (λ bytes events. RunsLate a bytes events (stop.Event line refusal)) (Err (Fault (fault.Event line refusal))) result ended finished (λ all. all);
     steps = λ bytes told.
         closing_steps a source before middle after held [] old new first now (λ lines events. RunsLate a lines events (stop.Event line refusal)) (Err (Fault (fault.Event line refusal))) result bytes told ended finished none
         (λ counts all. stopped a source before middle after held first now (stop.Event line refusal) bytes told ended all);
-    stands = closing_stands middle after held old new ((bytes : List ℕ) → source ≡ Some bytes → StandsForLate a bytes engine) (Err (Fault (fault.Event line refusal))) result tt finished;
+    stands = closing_stands middle after held old new ((bytes : List ℕ) → source ≡ Some bytes → StandsForLate every peaks a bytes engine) (Err (Fault (fault.Event line refusal))) result tt finished;
   }
   closes a source left before middle after held engine old new first now (Err (Fault (fault.InputTooLong taken))) result no_fault ended finished none = record {
     wrote = closing a source left before middle after held old new first now (λ bytes events. RunsLate a bytes events (stop.InputTooLong taken)) (Err (Fault (fault.InputTooLong taken))) result ended finished (λ all. all);
     steps = λ bytes told.
         closing_steps a source before middle after held [] old new first now (λ lines events. RunsLate a lines events (stop.InputTooLong taken)) (Err (Fault (fault.InputTooLong taken))) result bytes told ended finished none
         (λ counts all. stopped a source before middle after held first now (stop.InputTooLong taken) bytes told ended all);
-    stands = closing_stands middle after held old new ((bytes : List ℕ) → source ≡ Some bytes → StandsForLate a bytes engine) (Err (Fault (fault.InputTooLong taken))) result tt finished;
+    stands = closing_stands middle after held old new ((bytes : List ℕ) → source ≡ Some bytes → StandsForLate every peaks a bytes engine) (Err (Fault (fault.InputTooLong taken))) result tt finished;
   }
   closes a source left before middle after held engine old new first now (Err (Fault fault.ReadFault)) result no_fault ended finished none = record {
     wrote = closing a source left before middle after held old new first now (AreReleasedRead a left) (Err (Fault fault.ReadFault)) result ended finished (λ all. all);
     steps = λ bytes told.
         closing_steps a source before middle after held [] old new first now (AreReleasedRead a left) (Err (Fault fault.ReadFault)) result bytes told ended finished none (λ counts all. counts);
-    stands = closing_stands middle after held old new ((bytes : List ℕ) → source ≡ Some bytes → StandsForLate a bytes engine) (Err (Fault fault.ReadFault)) result tt finished;
+    stands = closing_stands middle after held old new ((bytes : List ℕ) → source ≡ Some bytes → StandsForLate every peaks a bytes engine) (Err (Fault fault.ReadFault)) result tt finished;
   }
   closes a source left before middle after held engine old new first now (Err (Fault fault.WriteFault)) result no_fault ended finished none = absurd cc
   closes a source left before middle after held engine old new first now (Err Memory) result no_fault ended finished none = record {
     wrote = closing_short a source left before middle after held ended.0 old new first now (λ bytes events. Unit {0}) result ended.1 finished;
     steps = λ bytes told.
         closing_steps a source before middle after held ended.0 old new first now (λ lines events. Unit {0}) (Err Memory) result bytes told ended.1 finished none (λ counts all. counts);
-    stands = closing_stands middle after held old new ((bytes : List ℕ) → source ≡ Some bytes → StandsForLate a bytes engine) (Err Memory) result tt finished;
+    stands = closing_stands middle after held old new ((bytes : List ℕ) → source ≡ Some bytes → StandsForLate every peaks a bytes engine) (Err Memory) result tt finished;
   }
 
   -- a write failed before
-  pub closed_before : {T : Type 0} (a : Feed) (source left before after : Option (List ℕ)) (held : List ℕ) (engine : State) (first now : ℕ) (end : Result T (OrMemory StreamFault)) → is_write_fault end ≡ true → Ended every a source left before after held engine first now end →
-      Closed every a source left before after engine first now end
+  pub closed_before : {T : Type 0} (a : Feed) (source left before after : Option (List ℕ)) (held : List ℕ) (engine : State) (first now : ℕ) (end : Result T (OrMemory StreamFault)) → is_write_fault end ≡ true → Ended every peaks a source left before after held engine first now end →
+      Closed every peaks a source left before after engine first now end
   closed_before a source left before after held engine first now (Err (Fault fault.WriteFault)) failed ended = record { wrote = ended.0; steps = ended.1; stands = tt }
   closed_before a source left before after held engine first now (Ok done) failed ended = absurd cc
   closed_before a source left before after held engine first now (Err (Fault (fault.Event line refusal))) failed ended = absurd cc
@@ -226,37 +256,9 @@ module _ (every : Option ℕ) where
 
   -- BETWEEN LINES
 
-  -- at the beginning
-  pub starts : (a : Feed) (source before : Option (List ℕ)) (reader : LineReader) (g : Held) (o : Gathered) (engine : State) (first : ℕ) → IsFresh a reader g o engine → Running every a source reader source g o engine before before first first
-  starts a source before reader g o engine first fresh =
-      let had : HasFedOf a source reader source [] = λ bytes told. record { texts = []; given = subst (λ l. HasGiven reader bytes l []) (sym told) (fresh.given bytes); good = refl } in
-      record {
-        put = [];
-        flowing = record {
-          order = fresh.order;
-          schema = fresh.schema;
-          queries = fresh.queries;
-          sits = fresh.sits;
-          go_first = subst (λ b. GoFirst a source [] b) (sym fresh.going) (first_open a source reader source [] fresh.most_bytes had);
-          gone = [];
-          gate_stands = fresh.gate_stands;
-          events = [];
-          taken = (refl, refl);
-          stands = fresh.stands;
-          written = [];
-          took = took_none before;
-          output = fresh.none_waits;
-          counting = record { rows = []; are_rows = refl; lines = fresh.none_waits; bounded = λ most meet. omega arith; few = λ most meet. first_has_no_node engine most fresh.stands };
-          none_waits = λ walk. fresh.none_waits;
-        };
-        due = refl;
-        fed = had;
-        most_bytes = fresh.most_bytes;
-      }
-
   -- a line was put
   pub line_flows : (a : Feed) (source : Option (List ℕ)) (old new : LineReader) (had left : Option (List ℕ)) (g now : Held) (o : Gathered) (engine : State) (before after : Option (List ℕ)) (first steps : ℕ) → new.budget ≡ old.budget → now.is_finished ≡ false → Sits a now →
-      (r : Running every a source old had g o engine before after first steps) → (put : AfterPut a source new left now r.put r.flowing.gone (Ok true)) → Flowing every a source put.0 now o engine before after first steps
+      (r : Running every peaks a source old had g o engine before after first steps) → (put : AfterPut a source new left now r.put r.flowing.gone (Ok true)) → Flowing every peaks a source put.0 now o engine before after first steps
   line_flows a source old new had left g now o engine before after first steps budget going sits r put = record {
     order = r.flowing.order;
     schema = r.flowing.schema;
@@ -272,12 +274,13 @@ module _ (every : Option ℕ) where
     took = r.flowing.took;
     output = r.flowing.output;
     counting = r.flowing.counting;
+    windows = r.flowing.windows;
     none_waits = r.flowing.none_waits;
   }
 
   -- what is held was written, or waits on
   abbrev pub settles : (a : Feed) (source : Option (List ℕ)) (put : List Numbered) (g : Held) (o now : Gathered) (engine : State) (before middle after : Option (List ℕ)) (first steps : ℕ) → now.order ≡ o.order →
-      (f : Flowing every a source put g o engine before middle first steps) → PassesOn middle after o.held [] now.held [] → Flowing every a source put g now engine before after first steps
+      (f : Flowing every peaks a source put g o engine before middle first steps) → PassesOn middle after o.held [] now.held [] → Flowing every peaks a source put g now engine before after first steps
   settles a source put g o now engine before middle after first steps order f passed =
       let O : List ℕ → Type 0 = λ h. IsOutput a.order a.schema a.queries f.events (f.written ++ h) in
       let is : o.held ≡ passed.written ++ now.held = sym (append-nil o.held) ∙ passed.whole ∙ ap (λ h. passed.written ++ h) (append-nil now.held) in
@@ -298,14 +301,15 @@ module _ (every : Option ℕ) where
         took = took_both before middle after f.written passed.written f.took passed.took;
         output = subst W (sym (append_assoc f.written passed.written now.held)) (subst O is f.output);
         counting = subst (λ (l : List ℕ). Counting every a f.events l engine first steps) bytes f.counting;
+        windows = f.windows;
         none_waits = λ walk. still_none middle after o.held now.held passed (f.none_waits walk);
       }
 
   -- a write failed meanwhile, which in walk order none does
   pub settles_failing : (a : Feed) (source : Option (List ℕ)) (put : List Numbered) (g : Held) (o : Gathered) (engine last : State) (left before middle after : Option (List ℕ)) (first steps : ℕ) →
-      Flowing every a source put g o engine before middle first steps → TookPart middle after o.held → (o.held ≡ [] → ⊥) → Closed every a source left before after last first steps {T = Unit {0}} (Err (Fault fault.WriteFault))
+      Flowing every peaks a source put g o engine before middle first steps → TookPart middle after o.held → (o.held ≡ [] → ⊥) → Closed every peaks a source left before after last first steps {T = Unit {0}} (Err (Fault fault.WriteFault))
   settles_failing a source put g o engine last left before middle after first steps f part some =
-      let begins = flow_begins every a source put g o engine before middle first steps f in
+      let begins = flow_begins every peaks a source put g o engine before middle first steps f in
       record {
         wrote = part_of_late a source f.events (f.written ++ o.held) (TookPart before after) f.output begins (λ rest p. part_of_more before after (f.written ++ o.held) rest p) (took_then_part before middle after f.written o.held f.took part);
         steps = λ bytes told.
@@ -320,11 +324,11 @@ module _ (every : Option ℕ) where
   -- THE LAST LINE
 
   -- the feed stops before its end, where all that may go has gone
-  stops : (a : Feed) (source : Option (List ℕ)) (reader : LineReader) (left : Option (List ℕ)) (g : Held) (o : Gathered) (engine : State) (before after : Option (List ℕ)) (first steps : ℕ) (halt : Stop) → (r : Running every a source reader left g o engine before after first steps) →
+  stops : (a : Feed) (source : Option (List ℕ)) (reader : LineReader) (left : Option (List ℕ)) (g : Held) (o : Gathered) (engine : State) (before after : Option (List ℕ)) (first steps : ℕ) (halt : Stop) → (r : Running every peaks a source reader left g o engine before after first steps) →
       let_go a r.put halt ≡ released (when a) a.late r.put → Feeds a source r.put halt → Unwritten every a source before after o.held [] first steps (λ bytes events. RunsLate a bytes events halt)
   stops a source reader left g o engine before after first steps halt r not_all feeds =
       let f = r.flowing in
-      whole every a source before after o.held (λ bytes events. RunsLate a bytes events halt) f.events f.written engine first steps f.took f.output (flow_begins every a source r.put g o engine before after first steps f)
+      whole every peaks a source before after o.held (λ bytes events. RunsLate a bytes events halt) f.events f.written engine first steps f.took f.output (flow_begins every peaks a source r.put g o engine before after first steps f)
       (λ bytes told.
       let F : Fed → Type 0 = λ x. TakesOn a.schema a.queries [] (let_go a x.put x.stop) x.stop f.events halt in
       let L : List Numbered → Type 0 = λ l. TakesOn a.schema a.queries [] l halt f.events halt in
@@ -333,23 +337,23 @@ module _ (every : Option ℕ) where
 
   -- a line stopped the feed, or the source did
   pub ends_at_line : (a : Feed) (source : Option (List ℕ)) (reader now : LineReader) (had left : Option (List ℕ)) (g new : Held) (o : Gathered) (engine : State) (before after : Option (List ℕ)) (first steps : ℕ) (why : OrMemory StreamFault) →
-      (r : Running every a source reader had g o engine before after first steps) → AfterPut a source now left new r.put r.flowing.gone (Err why) → Ended every a source left before after o.held engine first steps {T = Unit {0}} (Err why)
+      (r : Running every peaks a source reader had g o engine before after first steps) → AfterPut a source now left new r.put r.flowing.gone (Err why) → Ended every peaks a source left before after o.held engine first steps {T = Unit {0}} (Err why)
   ends_at_line a source reader now had left g new o engine before after first steps (Fault (fault.Event line refusal)) r put = stops a source reader had g o engine before after first steps (stop.Event line refusal) r refl put
   ends_at_line a source reader now had left g new o engine before after first steps (Fault (fault.InputTooLong taken)) r put = stops a source reader had g o engine before after first steps (stop.InputTooLong taken) r refl put
   ends_at_line a source reader now had left g new o engine before after first steps (Fault fault.ReadFault) r put =
       let f = r.flowing in
-      whole every a source before after o.held (AreReleasedRead a left) f.events f.written engine first steps f.took f.output (flow_begins every a source r.put g o engine before after first steps f)
+      whole every peaks a source before after o.held (AreReleasedRead a left) f.events f.written engine first steps f.took f.output (flow_begins every peaks a source r.put g o engine before after first steps f)
       (λ bytes told. released_read a left bytes r.put f.gone f.events r.due f.taken (put bytes told)) f.counting f.none_waits
   ends_at_line a source reader now had left g new o engine before after first steps (Fault fault.WriteFault) r put = absurd put
   ends_at_line a source reader now had left g new o engine before after first steps Memory r put =
       let f = r.flowing in
-      ([], whole every a source before after o.held (λ bytes events. Unit {0}) f.events f.written engine first steps f.took f.output (flow_begins every a source r.put g o engine before after first steps f) (λ bytes told. tt) f.counting f.none_waits)
+      ([], whole every peaks a source before after o.held (λ bytes events. Unit {0}) f.events f.written engine first steps f.took f.output (flow_begins every peaks a source r.put g o engine before after first steps f) (λ bytes told. tt) f.counting f.none_waits)
 
   -- THE END OF THE FILE
 
   -- the gate is finished
   pub finishes : (a : Feed) (source : Option (List ℕ)) (put : List Numbered) (g now : Held) (o : Gathered) (engine : State) (before after : Option (List ℕ)) (first steps : ℕ) → now ≡ record g { is_finished = true } →
-      (f : Flowing every a source put g o engine before after first steps) → Feeds a source put stop.End → gates.StandsFor now put f.gone → Flowing every a source put now o engine before after first steps
+      (f : Flowing every peaks a source put g o engine before after first steps) → Feeds a source put stop.End → gates.StandsFor now put f.gone → Flowing every peaks a source put now o engine before after first steps
   finishes a source put g now o engine before after first steps is f feeds stands =
       let places : now.places ≡ g.places = ap (λ (h : Held). h.places) is in
       let late : now.late ≡ g.late = ap (λ (h : Held). h.late) is in
@@ -369,12 +373,13 @@ module _ (every : Option ℕ) where
         took = f.took;
         output = f.output;
         counting = f.counting;
+        windows = f.windows;
         none_waits = f.none_waits;
       }
 
   -- all has gone then, or a clock fell, a write failed or memory ran out
   pub ends_at_end : (a : Feed) (source left : Option (List ℕ)) (put : List Numbered) (g : Held) (o : Gathered) (engine : State) (before after : Option (List ℕ)) (first steps : ℕ) (end : Result (Unit {0}) (OrMemory StreamFault)) → g.is_finished ≡ true → Feeds a source put stop.End →
-      AfterRelease every a source put g o engine before after first steps end → Ended every a source left before after o.held engine first steps end
+      AfterRelease every peaks a source put g o engine before after first steps end → Ended every peaks a source left before after o.held engine first steps end
   ends_at_end a source left put g o engine before after first steps (Ok done) finished feeds through =
       let f = through.0 in
       let runs : (bytes : List ℕ) → source ≡ Some bytes → RunsLate a bytes f.events stop.End = λ bytes told. (
@@ -382,14 +387,14 @@ module _ (every : Option ℕ) where
       let L : List Numbered → Type 0 = λ l. TakesOn a.schema a.queries [] l stop.End f.events stop.End in
       subst F (sym (feeds bytes told)) (subst L (due_closed a g put f.gone f.sits finished through.1) f.taken)
       ) in (
-        whole every a source before after o.held (λ bytes events. RunsLate a bytes events stop.End) f.events f.written engine first steps f.took f.output (flow_begins every a source put g o engine before after first steps f) runs f.counting f.none_waits,
-        λ bytes told. record { events = f.events; runs = runs bytes told; stands = f.stands },
+        whole every peaks a source before after o.held (λ bytes events. RunsLate a bytes events stop.End) f.events f.written engine first steps f.took f.output (flow_begins every peaks a source put g o engine before after first steps f) runs f.counting f.none_waits,
+        λ bytes told. record { events = f.events; runs = runs bytes told; stands = f.stands; windows = f.windows },
       )
   ends_at_end a source left put g o engine before after first steps (Err why) finished feeds through = through left
 
   -- NOTHING IS WRITTEN
 
-  pub closed_none : (a : Feed) (source left before : Option (List ℕ)) (engine : State) (now : ℕ) → Closed every a source left before before engine now now {T = Unit {0}} (Err Memory)
+  pub closed_none : (a : Feed) (source left before : Option (List ℕ)) (engine : State) (now : ℕ) → Closed every peaks a source left before before engine now now {T = Unit {0}} (Err Memory)
   closed_none a source left before engine now =
       let none : (bytes : List ℕ) → TookPrefix before before bytes = λ bytes. prefix_of_more before before [] bytes (prefix_of_all before before [] (took_none before)) in
       let begins = λ (bytes : List ℕ). begins_at a bytes [] (let_go a (fed a bytes).put (fed a bytes).stop) [] refl (refl, refl) in

@@ -24,6 +24,7 @@ use Rattle.stream_answers.specs.declared.StreamFault.{StreamFault}
 use Rattle.stream_answers.specs.declared.StreamFault.TheVariants as fault
 use Rattle.stream_answers.specs.Gathering.{Gathered}
 use Rattle.stream_answers.specs.Steps.{AreBounded}
+use Rattle.stream_answers.specs.Windows.{last_due, FollowsWindows}
 use Rattle.late_answers.specs.Late.{Numbered, Feed, when, fed_from, fed, let_go, TakesOn, RunsLate, AreFed}
 use Rattle.late_answers.specs.Written.{StandsForLate, AreReleasedRead, WroteLatePart, WroteLate}
 use Rattle.late_answers.specs.Steps.{LateCountsAtFault, LateStepsOver}
@@ -99,8 +100,8 @@ pub record Counting (every : Option ℕ) (a : Feed) (events : List StreamEvent) 
   pub bounded : AreBounded every a.schema a.queries events rows first now
   pub few : (most : ℕ → ℕ) → MeetMost a.schema a.queries events most → HasFewNodes engine (length events) most
 
--- The queries took the events that have gone, with none of which a clock falls; their answers are written or held.
-pub record Flowing (every : Option ℕ) (a : Feed) (source : Option (List ℕ)) (put : List Numbered) (g : Held) (o : Gathered) (engine : State) (before after : Option (List ℕ)) (first now : ℕ) : Type 0 where
+-- The queries took the events that have gone, with none of which a clock falls; their answers are written or held, and the nodes follow the windows. These were the peaks before any event.
+pub record Flowing (every : Option ℕ) (peaks : ℕ → ℕ) (a : Feed) (source : Option (List ℕ)) (put : List Numbered) (g : Held) (o : Gathered) (engine : State) (before after : Option (List ℕ)) (first now : ℕ) : Type 0 where
   pub order : o.order ≡ a.order
   pub schema : engine.schema ≡ a.schema
   pub queries : engine.queries ≡ a.queries
@@ -115,10 +116,11 @@ pub record Flowing (every : Option ℕ) (a : Feed) (source : Option (List ℕ)) 
   pub took : TookAll before after written
   pub output : IsOutput a.order a.schema a.queries events (written ++ o.held)
   pub counting : Counting every a events (written ++ o.held) engine first now
+  pub windows : FollowsWindows every peaks (last_due every (length events)) events engine
   pub none_waits : a.order ≡ Walk → o.held ≡ []
 
 -- The same, where the event has gone that the engine is to take next.
-pub record Owing (every : Option ℕ) (a : Feed) (source : Option (List ℕ)) (put : List Numbered) (g : Held) (e : Numbered) (o : Gathered) (engine : State) (before after : Option (List ℕ)) (first now : ℕ) : Type 0 where
+pub record Owing (every : Option ℕ) (peaks : ℕ → ℕ) (a : Feed) (source : Option (List ℕ)) (put : List Numbered) (g : Held) (e : Numbered) (o : Gathered) (engine : State) (before after : Option (List ℕ)) (first now : ℕ) : Type 0 where
   pub order : o.order ≡ a.order
   pub schema : engine.schema ≡ a.schema
   pub queries : engine.queries ≡ a.queries
@@ -133,6 +135,7 @@ pub record Owing (every : Option ℕ) (a : Feed) (source : Option (List ℕ)) (p
   pub took : TookAll before after written
   pub output : IsOutput a.order a.schema a.queries events (written ++ o.held)
   pub counting : Counting every a events (written ++ o.held) engine first now
+  pub windows : FollowsWindows every peaks (last_due every (length events)) events engine
   pub none_waits : a.order ≡ Walk → o.held ≡ []
 
 -- The run over the file begins with these events.
@@ -156,9 +159,9 @@ pub record Unwritten (every : Option ℕ) (a : Feed) (source before after : Opti
   pub none_waits : a.order ≡ Walk → held ≡ []
 
 -- The lines so far are put, and all that may go has gone.
-pub record Running (every : Option ℕ) (a : Feed) (source : Option (List ℕ)) (reader : LineReader) (left : Option (List ℕ)) (g : Held) (o : Gathered) (engine : State) (before after : Option (List ℕ)) (first now : ℕ) : Type 0 where
+pub record Running (every : Option ℕ) (peaks : ℕ → ℕ) (a : Feed) (source : Option (List ℕ)) (reader : LineReader) (left : Option (List ℕ)) (g : Held) (o : Gathered) (engine : State) (before after : Option (List ℕ)) (first now : ℕ) : Type 0 where
   pub put : List Numbered
-  pub flowing : Flowing every a source put g o engine before after first now
+  pub flowing : Flowing every peaks a source put g o engine before after first now
   pub due : flowing.gone ≡ released (when a) a.late put
   pub fed : HasFedOf a source reader left put
   pub most_bytes : reader.budget ≡ a.most_bytes
@@ -178,23 +181,23 @@ pub record IsFresh (a : Feed) (reader : LineReader) (g : Held) (o : Gathered) (e
   pub given : (bytes : List ℕ) → HasGiven reader bytes (Some bytes) []
 
 -- how a feed ends, before what is held is written
-abbrev pub Ended : Option ℕ → Feed → Option (List ℕ) → Option (List ℕ) → Option (List ℕ) → Option (List ℕ) → List ℕ → State → ℕ → ℕ → {T : Type 0} → Result T (OrMemory StreamFault) → Type 0
-Ended every a source left before after held engine first now (Ok done) =
-    Unwritten every a source before after held [] first now (λ bytes events. RunsLate a bytes events stop.End) × ((bytes : List ℕ) → source ≡ Some bytes → StandsForLate a bytes engine)
-Ended every a source left before after held engine first now (Err (Fault (fault.Event line refusal))) =
+abbrev pub Ended : Option ℕ → (ℕ → ℕ) → Feed → Option (List ℕ) → Option (List ℕ) → Option (List ℕ) → Option (List ℕ) → List ℕ → State → ℕ → ℕ → {T : Type 0} → Result T (OrMemory StreamFault) → Type 0
+Ended every peaks a source left before after held engine first now (Ok done) =
+    Unwritten every a source before after held [] first now (λ bytes events. RunsLate a bytes events stop.End) × ((bytes : List ℕ) → source ≡ Some bytes → StandsForLate every peaks a bytes engine)
+Ended every peaks a source left before after held engine first now (Err (Fault (fault.Event line refusal))) =
     Unwritten every a source before after held [] first now (λ bytes events. RunsLate a bytes events (stop.Event line refusal))
-Ended every a source left before after held engine first now (Err (Fault (fault.InputTooLong taken))) =
+Ended every peaks a source left before after held engine first now (Err (Fault (fault.InputTooLong taken))) =
     Unwritten every a source before after held [] first now (λ bytes events. RunsLate a bytes events (stop.InputTooLong taken))
-Ended every a source left before after held engine first now (Err (Fault fault.ReadFault)) = Unwritten every a source before after held [] first now (AreReleasedRead a left)
-Ended every a source left before after held engine first now (Err (Fault fault.WriteFault)) =
+Ended every peaks a source left before after held engine first now (Err (Fault fault.ReadFault)) = Unwritten every a source before after held [] first now (AreReleasedRead a left)
+Ended every peaks a source left before after held engine first now (Err (Fault fault.WriteFault)) =
     WroteLatePart a source (TookPart before after) × ((bytes : List ℕ) → source ≡ Some bytes → LateCountsAtFault every a.order a bytes before after first now)
-Ended every a source left before after held engine first now (Err Memory) = (rest : List ℕ) × Unwritten every a source before after held rest first now (λ bytes events. Unit {0})
+Ended every peaks a source left before after held engine first now (Err Memory) = (rest : List ℕ) × Unwritten every a source before after held rest first now (λ bytes events. Unit {0})
 
 -- How a feed ended: what was written, how many steps there are, and what the engine stands for where it ended well.
-pub record Closed (every : Option ℕ) (a : Feed) (source left before after : Option (List ℕ)) (engine : State) (first now : ℕ) {T : Type 0} (result : Result T (OrMemory StreamFault)) : Type 0 where
+pub record Closed (every : Option ℕ) (peaks : ℕ → ℕ) (a : Feed) (source left before after : Option (List ℕ)) (engine : State) (first now : ℕ) {T : Type 0} (result : Result T (OrMemory StreamFault)) : Type 0 where
   pub wrote : WroteLate a source left before after result
   pub steps : (bytes : List ℕ) → source ≡ Some bytes → LateStepsOver every a bytes before after first now result
-  pub stands : OnOk result ((bytes : List ℕ) → source ≡ Some bytes → StandsForLate a bytes engine)
+  pub stands : OnOk result ((bytes : List ℕ) → source ≡ Some bytes → StandsForLate every peaks a bytes engine)
 
 -- a write failed
 abbrev pub is_write_fault : {T : Type 0} → Result T (OrMemory StreamFault) → Bool
@@ -206,11 +209,11 @@ is_write_fault (Err Memory) = false
 is_write_fault (Ok done) = false
 
 -- what became of the event that was next: the engine took it, or the feed ends
-abbrev pub AfterAnswer : Option ℕ → Feed → Option (List ℕ) → List Numbered → Held → Gathered → State → Option (List ℕ) → Option (List ℕ) → ℕ → ℕ → {T : Type 0} → Result T (OrMemory StreamFault) → Type 0
-AfterAnswer every a source put g o engine before after first now (Ok done) = Flowing every a source put g o engine before after first now
-AfterAnswer every a source put g o engine before after first now (Err why) = (left : Option (List ℕ)) → Ended every a source left before after o.held engine first now {T = Unit {0}} (Err why)
+abbrev pub AfterAnswer : Option ℕ → (ℕ → ℕ) → Feed → Option (List ℕ) → List Numbered → Held → Gathered → State → Option (List ℕ) → Option (List ℕ) → ℕ → ℕ → {T : Type 0} → Result T (OrMemory StreamFault) → Type 0
+AfterAnswer every peaks a source put g o engine before after first now (Ok done) = Flowing every peaks a source put g o engine before after first now
+AfterAnswer every peaks a source put g o engine before after first now (Err why) = (left : Option (List ℕ)) → Ended every peaks a source left before after o.held engine first now {T = Unit {0}} (Err why)
 
 -- what became of the events that the gate could let go: all have gone, or the feed ends
-abbrev pub AfterRelease : Option ℕ → Feed → Option (List ℕ) → List Numbered → Held → Gathered → State → Option (List ℕ) → Option (List ℕ) → ℕ → ℕ → {T : Type 0} → Result T (OrMemory StreamFault) → Type 0
-AfterRelease every a source put g o engine before after first now (Ok done) = (f : Flowing every a source put g o engine before after first now) × (f.gone ≡ all_due g put)
-AfterRelease every a source put g o engine before after first now (Err why) = (left : Option (List ℕ)) → Ended every a source left before after o.held engine first now {T = Unit {0}} (Err why)
+abbrev pub AfterRelease : Option ℕ → (ℕ → ℕ) → Feed → Option (List ℕ) → List Numbered → Held → Gathered → State → Option (List ℕ) → Option (List ℕ) → ℕ → ℕ → {T : Type 0} → Result T (OrMemory StreamFault) → Type 0
+AfterRelease every peaks a source put g o engine before after first now (Ok done) = (f : Flowing every peaks a source put g o engine before after first now) × (f.gone ≡ all_due g put)
+AfterRelease every peaks a source put g o engine before after first now (Err why) = (left : Option (List ℕ)) → Ended every peaks a source left before after o.held engine first now {T = Unit {0}} (Err why)

@@ -1,5 +1,5 @@
 -- What has been written of the answers over late events, by how it ended.
-use Rattle.std.specs.Prelude.{◌≡◌, ℕ, List, [], ◌++◌, Option, Some, None, Result, Ok, Err}
+use Rattle.std.specs.Prelude.{◌≡◌, ℕ, List, [], ◌++◌, length, Option, Some, None, Result, Ok, Err}
 use Rattle.cer_base.specs.declared.OrMemory.{OrMemory}
 use Rattle.cer_base.specs.declared.OrMemory.TheVariants.{Fault, Memory}
 use Rattle.cer_outside.specs.Bytes.{TookPart}
@@ -14,6 +14,7 @@ use Rattle.reorder_gate.specs.Releasing.{released}
 use Rattle.stream_answers.specs.declared.StreamFault.{StreamFault}
 use Rattle.stream_answers.specs.declared.StreamFault.TheVariants as fault
 use Rattle.stream_answers.specs.Streams.{Asked, WroteOver}
+use Rattle.stream_answers.specs.Windows.{last_due, FollowsWindows}
 use Rattle.late_answers.specs.Late.{Numbered, Feed, when, TakesOn, RunsLate, AreFed}
 
 -- what is asked of the answers, but for the clock
@@ -27,11 +28,12 @@ pub record AreLateAnswers (a : Feed) (lines bytes : List ℕ) : Type 0 where
   pub runs : RunsLate a lines events halt
   pub output : IsOutput a.order a.schema a.queries events bytes
 
--- The engine stands for exactly the events that the queries take of a file of these bytes, which is read to its end.
-pub record StandsForLate (a : Feed) (lines : List ℕ) (engine : State) : Type 0 where
+-- The engine stands for exactly the events that the queries take of a file of these bytes, which is read to its end. It was compacted after every so many of them, in their order, and its nodes follow the windows; these were its peaks before.
+pub record StandsForLate (every : Option ℕ) (peaks : ℕ → ℕ) (a : Feed) (lines : List ℕ) (engine : State) : Type 0 where
   pub events : List StreamEvent
   pub runs : RunsLate a lines events stop.End
   pub stands : StandsFor engine events
+  pub windows : FollowsWindows every peaks (last_due every (length events)) events engine
 
 -- All lines that end among the bytes that are no longer left are good; these are the events of them before which none can come that is not too late, in their order, and with none of them a clock falls.
 pub record AreReleasedBefore (a : Feed) (bytes rest : List ℕ) (events : List StreamEvent) : Type 0 where

@@ -2,7 +2,7 @@
 
 ghost use Rattle.std.specs.Prelude.{◌≡◌, ◌+◌, ◌≤◌, ℕ, List, Option, Some, [], false, true, length, OnOk};
 ghost use Rattle.stream_schema.specs.declared.Event.{Event};
-ghost use Rattle.query_engine.specs.Engine.{State, StandsFor, SameQueries, count_of};
+ghost use Rattle.query_engine.specs.Engine.{State, StandsFor, SameQueries, count_of, peak_of};
 ghost use Rattle.event_run.specs.Runs.{End};
 ghost use Rattle.reorder_gate.specs.Clocks.{clock_fits};
 ghost use Rattle.stream_answers.specs.Streams.{HasReadCause, HasWriteCause};
@@ -42,7 +42,8 @@ use stream_answers::{Output, StreamFault, finish};
 /// With `compact_every` the engine is compacted after every so many events, their answers being
 /// written or held. Without it, or with 0, it never is. However it ends, its steps are bounded as
 /// those of a run over the events in this order. Where it ends well, the engine stands for exactly
-/// these.
+/// these, and its nodes follow the windows of its queries: they are bounded by the events since the
+/// last compaction and those in the windows that it left, and its peaks likewise.
 pub fn write_late<Q: Source, K: Sink, L: Ledger>(
     alloc: Global,
     order: Order,
@@ -77,7 +78,7 @@ pub fn write_late<Q: Source, K: Sink, L: Ledger>(
           most_bytes = most_bytes;
         }) bytes (K.taken out.old) (K.taken out.new) steps.old steps.new result }
     ensures stands { OnOk result ((bytes : List ℕ) → Q.left source.old ≡ Some bytes
-        → StandsForLate (record {
+        → StandsForLate compact_every (peak_of engine.old) (record {
           order = order;
           schema = engine.old.schema;
           queries = engine.old.queries;
@@ -128,8 +129,8 @@ fn answer_lines<Q: Source, K: Sink, L: Ledger>(
     requires held { gate.old.events ≡ [] }
     requires none { count_of engine.old ≡ 0 }
     ensures closed { (a : Feed) → IsFresh a lines.old gate.old output.old engine.old
-        → Closed compact_every a (Q.left source.old) (Q.left source.new) (K.taken out.old)
-        (K.taken out.new) engine.new steps.old steps.new result }
+        → Closed compact_every (peak_of engine.old) a (Q.left source.old) (Q.left source.new)
+        (K.taken out.old) (K.taken out.new) engine.new steps.old steps.new result }
     ensures same { SameQueries engine.old engine.new }
     ensures read_cause { HasReadCause (Q.faults source.old) (Q.faults source.new) result }
     ensures write_cause { HasWriteCause (K.faults out.old) (K.faults out.new) result }
@@ -181,11 +182,12 @@ fn answer_rest<K: Sink, L: Ledger>(
 ) -> Result<(), OrMemory<StreamFault>>
     requires counted { count_of engine.old + length gate.old.events ≤ read }
     requires of_schema { AreOfSchema engine.old.schema gate.old }
-    ensures closed { (a : Feed) (told left before : Option (List ℕ)) (put : List (ℕ × Event))
-        (first : ℕ) → Flowing compact_every a told put gate.old output.old engine.old before
+    ensures closed { (peaks : ℕ → ℕ) (a : Feed) (told left before : Option (List ℕ))
+        (put : List (ℕ × Event)) (first : ℕ)
+        → Flowing compact_every peaks a told put gate.old output.old engine.old before
         (K.taken out.old) first steps.old → Feeds a told put End
-        → Closed compact_every a told left before (K.taken out.new) engine.new first steps.new
-        result }
+        → Closed compact_every peaks a told left before (K.taken out.new) engine.new first
+        steps.new result }
     ensures same { SameQueries engine.old engine.new }
     ensures read_cause { (now : ℕ) → HasReadCause now now result }
     ensures write_cause { HasWriteCause (K.faults out.old) (K.faults out.new) result }
@@ -201,10 +203,11 @@ fn close<K: Sink>(
     out: &mut K,
     end: Result<(), OrMemory<StreamFault>>,
 ) -> Result<(), OrMemory<StreamFault>>
-    ensures closed { (every : Option ℕ) (a : Feed) (source left before : Option (List ℕ))
-        (engine : State) (first now : ℕ)
-        → Ended every a source left before (K.taken out.old) output.old.held engine first now end
-        → Closed every a source left before (K.taken out.new) engine first now result }
+    ensures closed { (every : Option ℕ) (peaks : ℕ → ℕ) (a : Feed)
+        (source left before : Option (List ℕ)) (engine : State) (first now : ℕ)
+        → Ended every peaks a source left before (K.taken out.old) output.old.held engine first
+        now end
+        → Closed every peaks a source left before (K.taken out.new) engine first now result }
     ensures read_cause { (before now : ℕ) → HasReadCause before now end
         → HasReadCause before now result }
     ensures write_cause { (before : ℕ) → HasWriteCause before (K.faults out.old) end

@@ -36,11 +36,11 @@ pub fn release<K: Sink, L: Ledger>(
 ) -> Result<(), OrMemory<StreamFault>>
     requires counted { count_of engine.old + length gate.old.events ≤ read }
     requires of_schema { AreOfSchema engine.old.schema gate.old }
-    ensures released { (a : Feed) (source : Option (List ℕ)) (put : List (ℕ × Event))
-        (before : Option (List ℕ)) (first : ℕ)
-        → Flowing compact_every a source put gate.old output.old engine.old before
+    ensures released { (peaks : ℕ → ℕ) (a : Feed) (source : Option (List ℕ))
+        (put : List (ℕ × Event)) (before : Option (List ℕ)) (first : ℕ)
+        → Flowing compact_every peaks a source put gate.old output.old engine.old before
         (K.taken out.old) first steps.old
-        → AfterRelease compact_every a source put gate.new output.new engine.new before
+        → AfterRelease compact_every peaks a source put gate.new output.new engine.new before
         (K.taken out.new) first steps.new result }
     ensures counted { count_of engine.new + length gate.new.events ≤ read }
     ensures of_schema { AreOfSchema engine.new.schema gate.new }
@@ -75,11 +75,11 @@ fn answer_event<K: Sink, L: Ledger>(
 ) -> Result<(), OrMemory<StreamFault>>
     requires of_schema { IsOfSchema engine.old.schema event.now }
     requires room { count_of engine.old + 1 < 2 ^ 64 }
-    ensures answered { (a : Feed) (source : Option (List ℕ)) (put : List (ℕ × Event)) (g : Held)
-        (before : Option (List ℕ)) (first : ℕ)
-        → Owing compact_every a source put g (line, event.now) output.old engine.old before
+    ensures answered { (peaks : ℕ → ℕ) (a : Feed) (source : Option (List ℕ))
+        (put : List (ℕ × Event)) (g : Held) (before : Option (List ℕ)) (first : ℕ)
+        → Owing compact_every peaks a source put g (line, event.now) output.old engine.old before
         (K.taken out.old) first steps.old
-        → AfterAnswer compact_every a source put g output.new engine.new before
+        → AfterAnswer compact_every peaks a source put g output.new engine.new before
         (K.taken out.new) first steps.new result }
     ensures counted { count_of engine.new ≤ count_of engine.old + 1 }
     ensures same { SameQueries engine.old engine.new }

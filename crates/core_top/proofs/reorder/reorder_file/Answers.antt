@@ -20,4 +20,4 @@ returns-in-Ok-clause-steps g c =
 pub returns-in-Ok-clause-left : goal.returns-in-Ok-clause-left
 returns-in-Ok-clause-left g c = λ fine.
     let a : Feed = record { order = c.args.order; schema = c.args.engine.now.schema; queries = c.args.engine.now.queries; clock = c.args.clock.now; late = c.args.late; most_bytes = c.args.most_bytes } in
-    late_left_of_source (g.H.Host.content c.args.host.now c.args.events.now) _ a c.reorder_source.new.engine c.in-Ok.ensures.bytes (c.reorder_source.ensures.left fine)
+    late_left_of_source c.args.compact_every _ (g.H.Host.content c.args.host.now c.args.events.now) _ a c.reorder_source.new.engine c.in-Ok.ensures.bytes (c.reorder_source.ensures.left fine)

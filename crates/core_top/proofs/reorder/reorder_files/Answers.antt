@@ -37,4 +37,4 @@ pub returns-clause-left : goal.returns-clause-left
 returns-clause-left g c =
     let w : ReorderWords = record { queries = c.args.queries.now; events = c.args.events.now; clock = c.args.clock.now; late = c.args.late; order = c.args.order; compact_every = c.args.compact_every; most_bytes = c.args.most_bytes } in
     late_left_by (g.H.Host.content c.args.host.now) _ w c.in-Ok.engine c.reorder_clocked-stop.new.engine c.leaving.result.cause c.reorder_clocked-stop.result.cause c.leaving.result.left c.reorder_clocked-stop.result.left c.leaving.ensures.cause (c.read_engine.ensures.kept _) c.in-Ok.ensures.accepted
-    c.reorder_clocked-stop.ensures.same c.reorder_clocked-stop.ensures.left c.reorder_clocked-stop.ensures.none_left c.leaving.ensures.fine c.leaving.ensures.other
+    c.reorder_clocked-stop.ensures.same c.in-Ok.ensures.peaks c.reorder_clocked-stop.ensures.left c.reorder_clocked-stop.ensures.none_left c.leaving.ensures.fine c.leaving.ensures.other

@@ -1,5 +1,5 @@
 use Rattle.std.proofs.Common.{◌≡◌, ◌+◌, ◌≤◌, false, length}
-use Rattle.query_engine.specs.Engine.{SameQueries, count_of}
+use Rattle.query_engine.specs.Engine.{SameQueries, count_of, peak_of}
 use Rattle.late_answers.specs.Late.{Feed}
 use Rattle.late_answers.specs.Flowing.{AreOfSchema, Running, IsFresh}
 use Rattle.late_answers.proofs.late.answer_lines.Given as goal
@@ -15,7 +15,7 @@ invariant-loop-lines g l = record {
   read_faults : g.Q.Source.faults l.source ≡ g.Q.Source.faults l.fn.source;
   write_faults : g.K.Sink.faults l.out ≡ g.K.Sink.faults l.fn.out;
   runs : (a : Feed) → IsFresh a l.fn.lines l.fn.gate l.fn.output l.fn.engine
-      → Running l.fn.compact_every a (g.Q.Source.left l.fn.source) l.lines (g.Q.Source.left l.source) l.gate l.output l.engine (g.K.Sink.taken l.fn.out) (g.K.Sink.taken l.out) l.fn.steps l.steps;
+      → Running l.fn.compact_every (peak_of l.fn.engine) a (g.Q.Source.left l.fn.source) l.lines (g.Q.Source.left l.source) l.gate l.output l.engine (g.K.Sink.taken l.fn.out) (g.K.Sink.taken l.out) l.fn.steps l.steps;
 }
 
 abbrev pub decreases-loop-lines : goal.decreases-loop-lines

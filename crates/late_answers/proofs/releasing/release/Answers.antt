@@ -13,7 +13,7 @@ loop-line-init g c = record {
   same = (refl, refl);
   finished = refl;
   faults = refl;
-  flows = λ a source put before first f. f;
+  flows = λ peaks a source put before first f. f;
 }
 
 pub answer_event-requires-clause-of_schema : goal.answer_event-requires-clause-of_schema
@@ -28,10 +28,10 @@ answer_event-requires-clause-room g c =
     omega (arith, more, counted, range)
 
 pub returns-in-Err-clause-released : goal.returns-in-Err-clause-released
-returns-in-Err-clause-released g c = λ a source put before first f.
-    let now = c.loop-line.invariant.flows a source put before first f in
-    c.in-Err.ensures.answered a source put c.take.new.self before first (
-    owes c.args.compact_every a source put c.loop-line.gate c.take.new.self _ c.loop-line.output c.loop-line.engine before (g.K.Sink.taken c.loop-line.out) first c.loop-line.steps c.in-Some.ensures.taken now
+returns-in-Err-clause-released g c = λ peaks a source put before first f.
+    let now = c.loop-line.invariant.flows peaks a source put before first f in
+    c.in-Err.ensures.answered peaks a source put c.take.new.self before first (
+    owes c.args.compact_every peaks a source put c.loop-line.gate c.take.new.self _ c.loop-line.output c.loop-line.engine before (g.K.Sink.taken c.loop-line.out) first c.loop-line.steps c.in-Some.ensures.taken now
     (c.in-Some.ensures.history put now.gone now.gate_stands))
 
 pub returns-in-Err-clause-counted : goal.returns-in-Err-clause-counted
@@ -77,17 +77,17 @@ loop-line-preserved g c =
       same = (c.answer_event.ensures.same.0 ∙ inv.same.0, c.answer_event.ensures.same.1 ∙ inv.same.1);
       finished = sym (ap (λ (h : Held). h.is_finished) c.in-Some.ensures.taken) ∙ inv.finished;
       faults = c.in-Ok.ensures.write_cause ∙ inv.faults;
-      flows = λ a source put before first f.
-          let now = inv.flows a source put before first f in
-          c.in-Ok.ensures.answered a source put c.take.new.self before first (
-          owes c.args.compact_every a source put c.loop-line.gate c.take.new.self _ c.loop-line.output c.loop-line.engine before (g.K.Sink.taken c.loop-line.out) first c.loop-line.steps c.in-Some.ensures.taken now
+      flows = λ peaks a source put before first f.
+          let now = inv.flows peaks a source put before first f in
+          c.in-Ok.ensures.answered peaks a source put c.take.new.self before first (
+          owes c.args.compact_every peaks a source put c.loop-line.gate c.take.new.self _ c.loop-line.output c.loop-line.engine before (g.K.Sink.taken c.loop-line.out) first c.loop-line.steps c.in-Some.ensures.taken now
           (c.in-Some.ensures.history put now.gone now.gate_stands));
     }
 
 pub returns-in-None-clause-released : goal.returns-in-None-clause-released
-returns-in-None-clause-released g c = λ a source put before first f.
-    let now = c.loop-line.invariant.flows a source put before first f in
-    let P : Held → Type 0 = λ h. (x : Flowing c.args.compact_every a source put h c.loop-line.output c.loop-line.engine before (g.K.Sink.taken c.loop-line.out) first c.loop-line.steps) × (x.gone ≡ all_due h put) in
+returns-in-None-clause-released g c = λ peaks a source put before first f.
+    let now = c.loop-line.invariant.flows peaks a source put before first f in
+    let P : Held → Type 0 = λ h. (x : Flowing c.args.compact_every peaks a source put h c.loop-line.output c.loop-line.engine before (g.K.Sink.taken c.loop-line.out) first c.loop-line.steps) × (x.gone ≡ all_due h put) in
     subst P (sym c.in-None.ensures.unchanged) (now, c.in-None.ensures.all put now.gone now.gate_stands)
 
 pub returns-in-None-clause-counted : goal.returns-in-None-clause-counted

@@ -13,8 +13,8 @@ invariant-loop-line g l = record {
   same : SameQueries l.fn.engine l.engine;
   finished : l.gate.is_finished ≡ l.fn.gate.is_finished;
   faults : g.K.Sink.faults l.out ≡ g.K.Sink.faults l.fn.out;
-  flows : (a : Feed) (source : Option (List ℕ)) (put : List (ℕ × Event)) (before : Option (List ℕ)) (first : ℕ) → Flowing l.fn.compact_every a source put l.fn.gate l.fn.output l.fn.engine before (g.K.Sink.taken l.fn.out) first l.fn.steps
-      → Flowing l.fn.compact_every a source put l.gate l.output l.engine before (g.K.Sink.taken l.out) first l.steps;
+  flows : (peaks : ℕ → ℕ) (a : Feed) (source : Option (List ℕ)) (put : List (ℕ × Event)) (before : Option (List ℕ)) (first : ℕ) → Flowing l.fn.compact_every peaks a source put l.fn.gate l.fn.output l.fn.engine before (g.K.Sink.taken l.fn.out) first l.fn.steps
+      → Flowing l.fn.compact_every peaks a source put l.gate l.output l.engine before (g.K.Sink.taken l.out) first l.steps;
 }
 
 abbrev pub decreases-loop-line : goal.decreases-loop-line

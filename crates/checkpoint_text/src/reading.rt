@@ -27,7 +27,7 @@ pub const MOST_BYTES: u64 = 1099511627776;
 /// - `ReadFault`: the source failed; no line before is refused.
 /// - Memory ran out.
 ///
-/// The events are of the schema, and no query's clock falls along them.
+/// No query's clock falls along the events.
 pub fn read_checkpoint<Q: Source>(
     alloc: Global,
     schema: &Schema,

@@ -161,7 +161,8 @@ pub fn see<P: Keeps, L: Ledger>(
         → All (λ p. StandsAt events (P.phase position p)) parts.old
         → All (λ p. StandsAt (events ++ event.now ∷ []) (P.phase (position + 1) p)) parts.new) }
     ensures idle { OnOk result (All (λ p. IsIdle (P.phase (position + 1) p)) parts.new) }
-    ensures quiet { OnOk result (All (λ p. IsQuiet (position + 1) (P.phase (position + 1) p)) parts.new) }
+    ensures quiet { OnOk result (All (λ p.
+        IsQuiet (position + 1) (P.phase (position + 1) p)) parts.new) }
     ensures grown { OnOk result (AllZip (HasGrown event.now) (map (P.phase position) parts.old)
         (map (P.phase (position + 1)) parts.new)) }
     ensures answering { OnOk result (MayAnswer touched.new.items

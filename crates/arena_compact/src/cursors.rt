@@ -83,7 +83,8 @@ fn keep_if(cursor: &Cursor, query: u64, table: &mut [Option<Id>])
         → length nodes ≤ length table.old → (cursor.now.query ≡ query
         → (low ≤ℤ cursor.now.low) × Fits cursor.now nodes)
         → AreMarks low nodes roots (length nodes) table.old
-        → AreMarks low nodes (roots ++ cursor_roots query (cursor.now ∷ [])) (length nodes) table.new }
+        → AreMarks low nodes (roots ++ cursor_roots query (cursor.now ∷ []))
+            (length nodes) table.new }
     ensures long { length table.new ≡ length table.old }
 {
     if cursor.query() == query {

@@ -169,7 +169,8 @@ fn compact_in<S: NodeStore, K: HasLists, C: HasCursor, L: Ledger>(
     requires well_formed { WellFormed (S.nodes store.old) }
     requires lists { All (λ rows. All (λ r. IsUnionList (S.nodes store.old) r.1) rows)
         (map K.rows keys.old) }
-    requires cursors { All (λ w. w.query ≡ query → Fits w (S.nodes store.old)) (map C.walk cursors.old) }
+    requires cursors { All (λ w. w.query ≡ query
+        → Fits w (S.nodes store.old)) (map C.walk cursors.old) }
     requires room { length (S.nodes store.old) ≤ length table.old }
     ensures nodes { Compacted (least_of query low (map C.walk cursors.old)) (S.nodes store.old)
         (S.nodes store.new) (roots_of query (map K.rows keys.new) (map C.walk cursors.new)) }
@@ -210,7 +211,8 @@ pub fn compact<S: NodeStore, K: HasLists, C: HasCursor, L: Ledger>(
     requires well_formed { WellFormed (S.nodes store.old) }
     requires lists { All (λ rows. All (λ r. IsUnionList (S.nodes store.old) r.1) rows)
         (map K.rows keys.old) }
-    requires cursors { All (λ w. w.query ≡ query → Fits w (S.nodes store.old)) (map C.walk cursors.old) }
+    requires cursors { All (λ w. w.query ≡ query
+        → Fits w (S.nodes store.old)) (map C.walk cursors.old) }
     requires room { length (S.nodes store.old) ≤ room.old }
     ensures nodes { Compacted (least_of query low (map C.walk cursors.old)) (S.nodes store.old)
         (S.nodes store.new) (roots_of query (map K.rows keys.new) (map C.walk cursors.new)) }

@@ -54,9 +54,19 @@ impl Model for Det {
 
     ghost Value = { Table };
 
-    ghost view = { λ d. record { cea = d.cea; states = d.states.keys; classes = d.classes.keys; transitions = d.transitions.entries } };
+    ghost view = { λ d. record {
+      cea = d.cea;
+      states = d.states.keys;
+      classes = d.classes.keys;
+      transitions = d.transitions.entries;
+    } };
 
-    ghost invariant = { λ d. IsSound (record { cea = d.cea; states = d.states.keys; classes = d.classes.keys; transitions = d.transitions.entries })
+    ghost invariant = { λ d. IsSound (record {
+      cea = d.cea;
+      states = d.states.keys;
+      classes = d.classes.keys;
+      transitions = d.transitions.entries;
+    })
         × All (IsListed d.transitions.entries) d.rows };
 }
 

@@ -3,64 +3,29 @@ use Rattle.std.proofs.Common.{◌≡◌, refl, sym, ap, ap₂, subst, ◌∙◌,
 use Rattle.std.specs.Prelude.{◌==◌, slice_get, Contains, option_map, option_and_then}
 use Rattle.std.specs.List.{list_all}
 use Rattle.std.specs.Option.{option_map_or}
-use Rattle.std.proofs.lemmas.Bool.Decides.{Decides-eqb, Decides-int_eq}
-use Rattle.std.proofs.lemmas.Slice.Eq.{bytes_eq-Decides}
+use Rattle.std.proofs.lemmas.Bool.Decides.{Decides-eqb}
 use Rattle.std.proofs.lemmas.Option.{slice_get_within}
 use Rattle.stream_schema.specs.Types.{Declared}
 use Rattle.stream_schema.specs.declared.Event.{Event}
 use Rattle.stream_schema.specs.declared.Value.{Value}
-use Rattle.stream_schema.specs.declared.Value.TheVariants as value
+use Rattle.stream_schema.specs.Equality.{Decides-value}
 use Rattle.cel_terms.specs.declared.Name.{Name}
 use Rattle.cel_terms.specs.declared.Query.{Query}
 use Rattle.cel_terms.specs.Predicate.{attr_value}
 use Rattle.cel_terms.specs.Answers.{query_types, values_at, IsOfSubstream}
-use Rattle.cel_plain.specs.Below.{below, same_flag, same_value, both_same, same_attr, query_reads, shares, shares_at, substream_positions}
+use Rattle.cel_plain.specs.Below.{below, both_same, same_attr, query_reads, shares, shares_at, substream_positions}
 use Rattle.cel_plain.proofs.Members.{Among, contains_from, among_from, any_among, among_any}
 use Rattle.cel_plain.proofs.Sequences.{and_from, and_to}
 use Rattle.cel_plain.proofs.Places.{below_to, below_from}
-
-flag_from : (a b : Bool) → same_flag a b ≡ true → a ≡ b
-flag_from true true e = refl
-flag_from true false e = absurd cc
-flag_from false true e = absurd cc
-flag_from false false e = refl
-
-flag_to : (a : Bool) → same_flag a a ≡ true
-flag_to true = refl
-flag_to false = refl
-
-value_from : (a b : Value) → same_value a b ≡ true → a ≡ b
-value_from (value.Int a) (value.Int b) e = ap value.Int ((Decides-int_eq a b).0 e)
-value_from (value.Int a) (value.Text b) e = absurd cc
-value_from (value.Int a) (value.Flag b) e = absurd cc
-value_from (value.Int a) (value.Dec b q) e = absurd cc
-value_from (value.Text a) (value.Int b) e = absurd cc
-value_from (value.Text a) (value.Text b) e = ap value.Text ((bytes_eq-Decides a b).0 e)
-value_from (value.Text a) (value.Flag b) e = absurd cc
-value_from (value.Text a) (value.Dec b q) e = absurd cc
-value_from (value.Flag a) (value.Int b) e = absurd cc
-value_from (value.Flag a) (value.Text b) e = absurd cc
-value_from (value.Flag a) (value.Flag b) e = ap value.Flag (flag_from a b e)
-value_from (value.Flag a) (value.Dec b q) e = absurd cc
-value_from (value.Dec a p) (value.Int b) e = absurd cc
-value_from (value.Dec a p) (value.Text b) e = absurd cc
-value_from (value.Dec a p) (value.Flag b) e = absurd cc
-value_from (value.Dec a p) (value.Dec b q) e = let s = and_from _ (p == q) e in ap₂ value.Dec ((Decides-int_eq a b).0 s.0) ((Decides-eqb p q).0 s.1)
-
-value_to : (a : Value) → same_value a a ≡ true
-value_to (value.Int a) = (Decides-int_eq a a).1 refl
-value_to (value.Text a) = (bytes_eq-Decides a a).1 refl
-value_to (value.Flag a) = flag_to a
-value_to (value.Dec a p) = and_to _ (p == p) ((Decides-int_eq a a).1 refl) ((Decides-eqb p p).1 refl)
 
 both_from : (o p : Option Value) → both_same o p ≡ true → (v : Value) × (o ≡ Some v) × (p ≡ Some v)
 both_from None None e = absurd cc
 both_from None (Some w) e = absurd cc
 both_from (Some v) None e = absurd cc
-both_from (Some v) (Some w) e = (v, refl, ap Some (sym (value_from v w e)))
+both_from (Some v) (Some w) e = (v, refl, ap Some (sym ((Decides-value v w).0 e)))
 
 both_to : (o p : Option Value) (v : Value) → o ≡ Some v → p ≡ Some v → both_same o p ≡ true
-both_to o p v x y = ap₂ both_same x y ∙ value_to v
+both_to o p v x y = ap₂ both_same x y ∙ (Decides-value v v).1 refl
 
 -- the values of one attribute more
 abbrev with_value : Option Value → Option (List Value) → Option (List Value)

@@ -1,14 +1,14 @@
 -- The positions of a substream, the marks of a valuation and the answers at a position: what each step computes.
 -- Nobody needs to believe these; the public contracts speak of the definitions alone.
-use Rattle.std.specs.Prelude.{ℕ, zero, suc, ◌+◌, ℤ, ◌+ℤ◌, Bool, true, false, not, ◌&&◌, ◌||◌, ◌==◌, if◌then◌else◌, nat_lt, nat_le, List, [], ◌∷◌, ◌++◌, map, length, Option, Some, None, slice_get, bytes_eq, fold}
+use Rattle.std.specs.Prelude.{ℕ, zero, suc, ◌+◌, ℤ, ◌+ℤ◌, Bool, true, false, not, ◌&&◌, ◌||◌, ◌==◌, if◌then◌else◌, nat_lt, nat_le, List, [], ◌∷◌, ◌++◌, map, length, Option, Some, None, slice_get, fold}
 use Rattle.std.specs.List.{list_any, list_all}
 use Rattle.std.specs.Option.{option_map_or}
-use Rattle.std.specs.Ordering.{int_eq}
 use Rattle.std.specs.Int.Signed.{lt_z as int_lt}
 use Rattle.std.specs.Cmp.Lexicographic.{pointwise}
 use Rattle.stream_schema.specs.Types.{Declared}
 use Rattle.stream_schema.specs.declared.Event.{Event}
 use Rattle.stream_schema.specs.declared.Value.{Value}
+use Rattle.stream_schema.specs.Equality.{same_value}
 use Rattle.stream_schema.specs.declared.Value.TheVariants as value
 use Rattle.cel_terms.specs.declared.Name.{Name}
 use Rattle.cel_terms.specs.declared.Query.{Query}
@@ -23,17 +23,6 @@ use Rattle.cel_plain.specs.declared.found.Match.{Match}
 abbrev pub below : (ℕ → Bool) → ℕ → List ℕ
 below passes zero = []
 below passes (suc n) = below passes n ++ (if passes n then n ∷ [] else [])
-
-abbrev pub same_flag : Bool → Bool → Bool
-same_flag true b = b
-same_flag false b = not b
-
-abbrev pub same_value : Value → Value → Bool
-same_value (value.Int a) (value.Int b) = int_eq a b
-same_value (value.Text a) (value.Text b) = bytes_eq a b
-same_value (value.Flag a) (value.Flag b) = same_flag a b
-same_value (value.Dec a p) (value.Dec b q) = int_eq a b && (p == q)
-same_value _ _ = false
 
 -- both are there, and equal
 abbrev pub both_same : Option Value → Option Value → Bool

@@ -88,7 +88,8 @@ fn answer_of(
     end: Pos,
     found: &Match,
 ) -> Result<Option<ComplexEvent>, Memory>
-    ensures { IfOk result (λ answer. answer ≡ answer_of schema.now query.now events.now positions.now end found.now) }
+    ensures { IfOk result (λ answer. answer
+        ≡ answer_of schema.now query.now events.now positions.now end found.now) }
 {
     let marks = marks(alloc, &query.select, events, found.bounds.as_slice())?;
     if found.end == end
@@ -126,7 +127,8 @@ fn answers_from(
     end: Pos,
     found: &[Match],
 ) -> Result<Vec<ComplexEvent>, Memory>
-    ensures { IfOk result (λ answers. answers.items ≡ answers_from schema.now query.now events.now positions.now end found.now) }
+    ensures { IfOk result (λ answers. answers.items
+        ≡ answers_from schema.now query.now events.now positions.now end found.now) }
 {
     let mut answers = Vec::new(alloc);
     for one in found {
@@ -145,7 +147,8 @@ pub fn answers(
     events: &[Event],
     end: Pos,
 ) -> Result<Vec<ComplexEvent>, Memory>
-    ensures { IfOk result (λ answers. AreAnswersAt schema.now query.now events.now end answers.items) }
+    ensures { IfOk result (λ answers.
+        AreAnswersAt schema.now query.now events.now end answers.items) }
 {
     let positions = positions(alloc, schema, query, events, end)?;
     let found = matches(alloc, schema, events, positions.as_slice(), &query.formula)?;

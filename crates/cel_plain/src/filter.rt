@@ -22,7 +22,8 @@ fn has_name(names: &[Text], name: &str) -> bool
 
 /// Whether the predicate holds of the event at the position.
 fn holds_at(schema: &Schema, events: &[Event], pred: &Pred, position: Pos) -> bool
-    ensures { result ≡ option_map_or (holds schema.now pred.now) (slice_get events.now position) true }
+    ensures { result ≡ option_map_or (holds schema.now pred.now)
+        (slice_get events.now position) true }
 {
     match events.get(position as usize) {
         Some(event) => holds(schema, pred, event),
@@ -93,7 +94,8 @@ fn filtered(
     part: Vec<Match>,
     filter: &Filter,
 ) -> Result<Vec<Match>, Memory>
-    ensures { IfOk result (λ after. after.items ≡ filtered schema.now events.now part.items filter.now) }
+    ensures { IfOk result (λ after. after.items
+        ≡ filtered schema.now events.now part.items filter.now) }
 {
     let mut after = Vec::new(alloc);
     for found in part.as_slice() {
@@ -112,7 +114,8 @@ pub fn all_filtered(
     part: Vec<Match>,
     filters: &[Filter],
 ) -> Result<Vec<Match>, Memory>
-    ensures { IfOk result (λ after. after.items ≡ fold (filtered schema.now events.now) part.items filters.now) }
+    ensures { IfOk result (λ after. after.items
+        ≡ fold (filtered schema.now events.now) part.items filters.now) }
 {
     let mut after = part;
     for filter in filters {

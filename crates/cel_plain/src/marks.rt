@@ -86,7 +86,8 @@ fn has_mark(marks: &[Pos], position: Pos) -> bool
 }
 
 fn is_covered(marks: &[Pos], position: Pos) -> bool
-    ensures { result ≡ (not (is_inside marks.now position) || list_any (λ m. m == position) marks.now) }
+    ensures { result ≡ (not (is_inside marks.now position) || list_any
+        (λ m. m == position) marks.now) }
 {
     !is_inside(marks, position) || has_mark(marks, position)
 }

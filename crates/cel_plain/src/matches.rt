@@ -25,7 +25,8 @@ fn chain(
     positions: &[Pos],
     parts: &[Formula],
 ) -> Result<Vec<Match>, Memory>
-    ensures { IfOk result (λ found. found.items ≡ listed_chain schema.now events.now positions.now parts.now) }
+    ensures { IfOk result (λ found. found.items
+        ≡ listed_chain schema.now events.now positions.now parts.now) }
 {
     let mut found = Vec::new(alloc);
     for (i, part) in parts.iter().enumerate() {
@@ -49,7 +50,8 @@ fn linked(
     before: Vec<Match>,
     links: &[Link],
 ) -> Result<Vec<Match>, Memory>
-    ensures { IfOk result (λ found. found.items ≡ listed_links schema.now events.now positions.now before.items links.now) }
+    ensures { IfOk result (λ found. found.items
+        ≡ listed_links schema.now events.now positions.now before.items links.now) }
 {
     let mut found = before;
     for link in links {
@@ -74,7 +76,8 @@ fn either(
     positions: &[Pos],
     choices: &[Formula],
 ) -> Result<Vec<Match>, Memory>
-    ensures { IfOk result (λ found. found.items ≡ listed_choices schema.now events.now positions.now choices.now) }
+    ensures { IfOk result (λ found. found.items
+        ≡ listed_choices schema.now events.now positions.now choices.now) }
 {
     let mut found = Vec::new(alloc);
     for choice in choices {
@@ -93,7 +96,8 @@ pub(crate) fn matches(
     positions: &[Pos],
     formula: &Formula,
 ) -> Result<Vec<Match>, Memory>
-    ensures { IfOk result (λ found. found.items ≡ matches_of schema.now events.now positions.now formula.now) }
+    ensures { IfOk result (λ found. found.items
+        ≡ matches_of schema.now events.now positions.now formula.now) }
 {
     match formula {
         Formula::Of(name) => singles(alloc, schema, events, positions, name.text.as_str()),
@@ -123,7 +127,8 @@ pub fn valuations(
     positions: &[Pos],
     formula: &Formula,
 ) -> Result<Vec<Match>, Memory>
-    ensures { IfOk result (λ found. AreMatchesOf (meaning (stream_of schema.now events.now positions.now) formula.now) found.items) }
+    ensures { IfOk result (λ found. AreMatchesOf
+        (meaning (stream_of schema.now events.now positions.now) formula.now) found.items) }
 {
     matches(alloc, schema, events, positions, formula)
 }

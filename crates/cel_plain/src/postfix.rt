@@ -118,7 +118,8 @@ fn after_postfix(
     part: &[Match],
     postfix: &Postfix,
 ) -> Result<Vec<Match>, Memory>
-    ensures { IfOk result (λ after. after.items ≡ after_postfix events.now positions.now part.now postfix.now) }
+    ensures { IfOk result (λ after. after.items
+        ≡ after_postfix events.now positions.now part.now postfix.now) }
 {
     match postfix {
         Postfix::Plus => repetitions(alloc, positions, false, part, events.len()),
@@ -136,7 +137,8 @@ pub fn after_postfixes(
     part: Vec<Match>,
     postfixes: &[Postfix],
 ) -> Result<Vec<Match>, Memory>
-    ensures { IfOk result (λ after. after.items ≡ fold (after_postfix events.now positions.now) part.items postfixes.now) }
+    ensures { IfOk result (λ after. after.items
+        ≡ fold (after_postfix events.now positions.now) part.items postfixes.now) }
 {
     let mut after = part;
     for postfix in postfixes {

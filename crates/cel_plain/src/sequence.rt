@@ -32,7 +32,8 @@ fn add_joined(
     second: &[Match],
     into: &mut Vec<Match>,
 ) -> Result<(), Memory>
-    ensures { OnOk result (into.new.items ≡ into.old.items ++ filter_map (join_if positions.now tight first.now) second.now) }
+    ensures { OnOk result (into.new.items
+        ≡ into.old.items ++ filter_map (join_if positions.now tight first.now) second.now) }
 {
     for next in second {
         if may_follow(positions, tight, first.end, next.start) {
@@ -50,7 +51,8 @@ pub fn in_sequence(
     first: &[Match],
     second: &[Match],
 ) -> Result<Vec<Match>, Memory>
-    ensures { IfOk result (λ found. found.items ≡ in_sequence positions.now tight first.now second.now) }
+    ensures { IfOk result (λ found. found.items
+        ≡ in_sequence positions.now tight first.now second.now) }
 {
     let mut found = Vec::new(alloc);
     for one in first {

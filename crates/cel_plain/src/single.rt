@@ -22,7 +22,8 @@ fn is_of_type(schema: &Schema, name: &str, event: &Event) -> bool
 
 /// Whether there is an event of the type at the position.
 fn is_of_type_at(schema: &Schema, events: &[Event], name: &str, position: Pos) -> bool
-    ensures { result ≡ option_map_or (is_of_type schema.now name.now) (slice_get events.now position) false }
+    ensures { result ≡ option_map_or (is_of_type schema.now name.now)
+        (slice_get events.now position) false }
 {
     match events.get(position as usize) {
         Some(event) => is_of_type(schema, name, event),
@@ -53,7 +54,8 @@ pub fn singles(
     positions: &[Pos],
     name: &str,
 ) -> Result<Vec<Match>, Memory>
-    ensures { IfOk result (λ found. found.items ≡ singles schema.now events.now positions.now name.now) }
+    ensures { IfOk result (λ found. found.items
+        ≡ singles schema.now events.now positions.now name.now) }
 {
     let mut found = Vec::new(alloc);
     for position in positions {

@@ -5,32 +5,13 @@ ghost use Rattle.std.specs.List.{list_any, list_all};
 ghost use Rattle.std.specs.Option.{option_map_or};
 ghost use Rattle.std.specs.Prelude.{slice_get};
 ghost use Rattle.cel_terms.specs.Answers.{types_of_stream};
-ghost use Rattle.cel_plain.specs.Below.{below, same_value, same_attr, query_reads, shares, shares_at, substream_positions};
+ghost use Rattle.cel_plain.specs.Below.{below, same_attr, query_reads, shares, shares_at, substream_positions};
 
 use crate::predicate::value_of;
 use cel_terms::{Name, Query};
 use cer_base::{Memory, Pos};
 use std::alloc::Global;
-use stream_schema::{Event, Schema, TypeId, Value};
-
-/// Whether the two values are equal, of one kind.
-fn same_value(a: &Value, b: &Value) -> bool
-    ensures { result ≡ same_value a.now b.now }
-{
-    match (a, b) {
-        (Value::Int(a), Value::Int(b)) => *a == *b,
-        (Value::Text(a), Value::Text(b)) => a.as_str() == b.as_str(),
-        (Value::Flag(a), Value::Flag(b)) => *a == *b,
-        (
-            Value::Dec { scaled, places },
-            Value::Dec {
-                scaled: other,
-                places: others,
-            },
-        ) => *scaled == *other && *places == *others,
-        _ => false,
-    }
-}
+use stream_schema::{Event, Schema, TypeId, same_value};
 
 /// Whether both events have the attribute, with equal values.
 fn same_attr(schema: &Schema, a: &Event, b: &Event, name: &Name) -> bool
@@ -75,7 +56,8 @@ fn stream_has(schema: &Schema, name: &Name, ty: TypeId) -> bool
 
 /// Whether some of the streams has the type.
 fn some_stream_has(schema: &Schema, names: &[Name], ty: TypeId) -> bool
-    ensures { result ≡ list_any (λ n. list_any (λ t. t == ty) (types_of_stream schema.now.streams n.text)) names.now }
+    ensures { result ≡ list_any (λ n.
+        list_any (λ t. t == ty) (types_of_stream schema.now.streams n.text)) names.now }
 {
     names.iter().any(|name| stream_has(schema, name, ty))
 }
@@ -118,7 +100,8 @@ fn positions_with(
     events: &[Event],
     there: &Event,
 ) -> Result<Vec<Pos>, Memory>
-    ensures { IfOk result (λ found. found.items ≡ below (shares_at schema.now query.now events.now there.now) (length events.now)) }
+    ensures { IfOk result (λ found. found.items
+        ≡ below (shares_at schema.now query.now events.now there.now) (length events.now)) }
 {
     let mut found = Vec::new(alloc);
     for position in 0..events.len() {
@@ -138,7 +121,8 @@ pub fn positions(
     events: &[Event],
     end: Pos,
 ) -> Result<Vec<Pos>, Memory>
-    ensures { IfOk result (λ found. found.items ≡ substream_positions schema.now query.now events.now end) }
+    ensures { IfOk result (λ found. found.items
+        ≡ substream_positions schema.now query.now events.now end) }
 {
     match events.get(end as usize) {
         Some(there) => positions_with(alloc, schema, query, events, there),

@@ -22,7 +22,8 @@ fn are_close(n: i128, earlier: &Value, later: &Value) -> bool
 
 /// Whether both events have the attribute, the later at most `n` more than the earlier.
 fn have_close(schema: &Schema, name: &str, n: i128, first: &Event, last: &Event) -> bool
-    ensures { result ≡ are_close n (attr_value schema.now first.now name.now) (attr_value schema.now last.now name.now) }
+    ensures { result ≡ are_close n (attr_value schema.now first.now name.now)
+        (attr_value schema.now last.now name.now) }
 {
     match value_of(schema, first, name) {
         Some(earlier) => match value_of(schema, last, name) {

@@ -76,7 +76,8 @@ fn unit<'a>(alloc: Global, tokens: &'a [Token]) -> Read<'a, Filter>
 /// The units after those that were read, an AND before each.
 #[cycle(filter)]
 fn more_units<'a>(alloc: Global, members: Vec<Filter>, tokens: &'a [Token]) -> Read<'a, Vec<Filter>>
-    ensures value { ReadsAs (λ v. map filter_tree v.items) result (with_front (map filter_tree members.items) (more_filter_units filter tokens.now)) }
+    ensures value { ReadsAs (λ v. map filter_tree v.items) result
+        (with_front (map filter_tree members.items) (more_filter_units filter tokens.now)) }
     ensures no_longer { IfOk result (λ p. length p.1.now ≤ length tokens.now) }
     ensures more { IfOk result (λ p. length members.items ≤ length p.0.items) }
 {
@@ -111,7 +112,8 @@ fn more_conjunctions<'a>(
     members: Vec<Filter>,
     tokens: &'a [Token],
 ) -> Read<'a, Vec<Filter>>
-    ensures value { ReadsAs (λ v. map filter_tree v.items) result (with_front (map filter_tree members.items) (more_filter_conjunctions filter tokens.now)) }
+    ensures value { ReadsAs (λ v. map filter_tree v.items) result
+        (with_front (map filter_tree members.items) (more_filter_conjunctions filter tokens.now)) }
     ensures no_longer { IfOk result (λ p. length p.1.now ≤ length tokens.now) }
     ensures more { IfOk result (λ p. length members.items ≤ length p.0.items) }
 {

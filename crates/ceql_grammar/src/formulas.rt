@@ -93,7 +93,8 @@ fn post_of(alloc: Global, base: Formula, postfixes: Vec<Postfix>) -> Result<Form
 
 /// The formula under its filters, or the formula alone where it has none.
 fn under_of(alloc: Global, base: Formula, filters: Vec<Filter>) -> Result<Formula, Memory>
-    ensures { IfOk result (λ f. formula_tree f ≡ under_of (formula_tree base) (map filter_tree filters.items)) }
+    ensures { IfOk result (λ f. formula_tree f
+        ≡ under_of (formula_tree base) (map filter_tree filters.items)) }
 {
     if filters.is_empty() {
         Ok(base)
@@ -139,7 +140,8 @@ fn has_tight(links: &[Link]) -> bool
 /// The formula and those that follow it: linked where one follows tightly, else a chain; the formula
 /// alone where none follows.
 fn chain_tree(alloc: Global, first: Formula, links: Vec<Link>) -> Result<Formula, Memory>
-    ensures { IfOk result (λ f. formula_tree f ≡ chain_tree (formula_tree first) (map link_view links.items)) }
+    ensures { IfOk result (λ f. formula_tree f
+        ≡ chain_tree (formula_tree first) (map link_view links.items)) }
 {
     if links.is_empty() {
         Ok(first)
@@ -231,7 +233,8 @@ fn more_chains<'a>(
     members: Vec<Formula>,
     tokens: &'a [Token],
 ) -> Read<'a, Vec<Formula>>
-    ensures value { ReadsAs (λ v. map formula_tree v.items) result (with_front (map formula_tree members.items) (more_chains formula tokens.now)) }
+    ensures value { ReadsAs (λ v. map formula_tree v.items) result
+        (with_front (map formula_tree members.items) (more_chains formula tokens.now)) }
     ensures no_longer { IfOk result (λ p. length p.1.now ≤ length tokens.now) }
     ensures more { IfOk result (λ p. length members.items ≤ length p.0.items) }
 {

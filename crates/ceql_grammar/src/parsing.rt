@@ -69,10 +69,12 @@ pub fn parse(alloc: Global, tokens: &Tokens) -> Result<Script, OrMemory<QueryErr
     // What is answered is the answer of these tokens, unless memory ran out.
     ensures found { WhereAnswered script_view result (λ answer. IsParseOf tokens.now answer) }
     // These tokens have no other answer.
-    ensures only { (answer : ParseAnswer) → IsParseOf tokens.now answer → WhereAnswered script_view result (λ given. given ≡ answer) }
+    ensures only { (answer : ParseAnswer) → IsParseOf tokens.now answer
+        → WhereAnswered script_view result (λ given. given ≡ answer) }
     // No list of a statement is empty that has to have members, decimal numbers have at most nine places,
     // and windows are in range.
-    ensures lawful { IfOk result (λ script. All IsLawfulStatement (map statement_tree script.statements)) }
+    ensures lawful { IfOk result (λ script.
+        All IsLawfulStatement (map statement_tree script.statements)) }
 {
     match tokens.as_slice().split_last() {
         Some((end, body)) => {

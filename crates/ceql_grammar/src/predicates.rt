@@ -91,7 +91,8 @@ fn unit<'a>(alloc: Global, tokens: &'a [Token]) -> Read<'a, Pred>
 /// The units after those that were read, an AND before each.
 #[cycle(predicate)]
 fn more_units<'a>(alloc: Global, members: Vec<Pred>, tokens: &'a [Token]) -> Read<'a, Vec<Pred>>
-    ensures value { ReadsAs (λ v. map pred_tree v.items) result (with_front (map pred_tree members.items) (more_units pred tokens.now)) }
+    ensures value { ReadsAs (λ v. map pred_tree v.items) result
+        (with_front (map pred_tree members.items) (more_units pred tokens.now)) }
     ensures no_longer { IfOk result (λ p. length p.1.now ≤ length tokens.now) }
     ensures more { IfOk result (λ p. length members.items ≤ length p.0.items) }
 {
@@ -126,7 +127,8 @@ fn more_conjunctions<'a>(
     members: Vec<Pred>,
     tokens: &'a [Token],
 ) -> Read<'a, Vec<Pred>>
-    ensures value { ReadsAs (λ v. map pred_tree v.items) result (with_front (map pred_tree members.items) (more_conjunctions pred tokens.now)) }
+    ensures value { ReadsAs (λ v. map pred_tree v.items) result
+        (with_front (map pred_tree members.items) (more_conjunctions pred tokens.now)) }
     ensures no_longer { IfOk result (λ p. length p.1.now ≤ length tokens.now) }
     ensures more { IfOk result (λ p. length members.items ≤ length p.0.items) }
 {

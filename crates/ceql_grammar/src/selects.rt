@@ -169,7 +169,8 @@ fn scope<'a>(
     streams: Names,
     tokens: &'a [Token],
 ) -> Read<'a, Statement>
-    ensures value { ReadsAs statement_tree result (scope place strict number select streams tokens.now) }
+    ensures value { ReadsAs statement_tree result
+        (scope place strict number select streams tokens.now) }
     ensures shorter { IfOk result (λ p. length p.1.now < length tokens.now) }
 {
     let (formula, rest) = condition(alloc, tokens)?;

@@ -22,7 +22,8 @@ use stream_schema::Value;
 
 /// The number that the digits of the text write, where that is at most the limit.
 fn unsigned_number(limit: u64, text: &[u8]) -> Option<u64>
-    ensures { MatchOption result (limit < unsigned_number text.now) (λ x. (x ≡ unsigned_number text.now) × (x ≤ limit)) }
+    ensures { MatchOption result (limit < unsigned_number text.now)
+        (λ x. (x ≡ unsigned_number text.now) × (x ≤ limit)) }
 {
     let mut value = 0;
     for byte in text {
@@ -48,7 +49,8 @@ fn has_minus(text: &[u8]) -> bool
 
 /// The number that the text writes, its point left out, where it is in signed 64 bits.
 fn signed_number(text: &[u8]) -> Option<i64>
-    ensures { MatchOption result (is_in_range text.now ≡ false) (λ n. (n ≡ signed_number text.now) × (is_in_range text.now ≡ true)) }
+    ensures { MatchOption result (is_in_range text.now ≡ false)
+        (λ n. (n ≡ signed_number text.now) × (is_in_range text.now ≡ true)) }
 {
     let negative = has_minus(text);
     let magnitude = unsigned_number(farthest(negative), text)?;
@@ -130,7 +132,8 @@ fn unquoted(alloc: Global, text: &[u8]) -> Result<Vec<u8>, Memory>
 
 /// The text of a string.
 fn string(alloc: Global, text: &[u8]) -> Result<Option<Text>, Memory>
-    ensures { IfOk result (λ found. MatchOption found (is_utf8 (unquoted text.now) ≡ false) (λ t. (t ≡ unquoted text.now) × (is_utf8 (unquoted text.now) ≡ true))) }
+    ensures { IfOk result (λ found. MatchOption found (is_utf8 (unquoted text.now) ≡ false)
+        (λ t. (t ≡ unquoted text.now) × (is_utf8 (unquoted text.now) ≡ true))) }
 {
     let bytes = unquoted(alloc, text)?;
     match String::from_utf8(bytes) {
@@ -141,7 +144,8 @@ fn string(alloc: Global, text: &[u8]) -> Result<Option<Text>, Memory>
 
 /// The value of the token, where it is a literal.
 fn literal_of(alloc: Global, token: &Token) -> Result<Option<Value>, Memory>
-    ensures { IfOk result (λ found. MatchOption found (is_literal token.now ≡ false) (λ v. (v ≡ literal_of token.now) × (is_literal token.now ≡ true))) }
+    ensures { IfOk result (λ found. MatchOption found (is_literal token.now ≡ false)
+        (λ v. (v ≡ literal_of token.now) × (is_literal token.now ≡ true))) }
 {
     let text = token.text.as_str().as_bytes();
     match token.kind {
@@ -188,7 +192,8 @@ pub fn literal<'a>(alloc: Global, tokens: &'a [Token]) -> Read<'a, Value>
 
 /// The comparison that the sign stands for.
 fn op_of(token: &Token) -> Option<Op>
-    ensures { MatchOption result (is_op token.now ≡ false) (λ op. (op ≡ op_of token.now) × (is_op token.now ≡ true)) }
+    ensures { MatchOption result (is_op token.now ≡ false)
+        (λ op. (op ≡ op_of token.now) × (is_op token.now ≡ true)) }
 {
     if is(token, b"=") || is(token, b"==") {
         Some(Op::Eq)

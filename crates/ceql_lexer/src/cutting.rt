@@ -49,7 +49,8 @@ fn place_after(place: Place, bytes: &[u8]) -> Place
 /// The token of the kind that these bytes are, at the place.
 fn token_of(alloc: Global, kind: TokenKind, bytes: &[u8], place: Place) -> Result<Token, Memory>
     requires { IsUtf8 bytes.now }
-    ensures { IfOk result (λ token. token ≡ record { kind = kind; text = bytes.now; place = place }) }
+    ensures { IfOk result (λ token. token
+        ≡ record { kind = kind; text = bytes.now; place = place }) }
 {
     match std::str::from_utf8(bytes) {
         Ok(text) => {
@@ -69,7 +70,9 @@ fn push_piece(
     place: Place,
 ) -> Result<(), Memory>
     requires { IsTokenText kind bytes.now }
-    ensures { OnOk result (tokens.new.items ≡ tokens.old.items ++ token_of (record { kind = kind; text = bytes.now; place = place }) kind) }
+    ensures { OnOk result (tokens.new.items
+        ≡ tokens.old.items
+        ++ token_of (record { kind = kind; text = bytes.now; place = place }) kind) }
 {
     if let Some(kind) = kind {
         let token = token_of(alloc, kind, bytes, place)?;

@@ -33,7 +33,8 @@ fn decimals_at(text: &[u8]) -> &[u8]
 
 /// Whether the number that the digits write is in signed 64 bits, after so many bytes of sign.
 fn is_in_range(sign: usize, whole: &[u8], decimals: &[u8]) -> bool
-    ensures { result ≡ nat_le (read_on (read_on 0 whole.now) decimals.now) (farthest (nat_lt 0 sign)) }
+    ensures { result ≡ nat_le (read_on (read_on 0 whole.now) decimals.now)
+        (farthest (nat_lt 0 sign)) }
 {
     let limit = farthest(sign > 0);
     match with_digits(limit, 0, whole) {
@@ -62,7 +63,8 @@ pub fn number_at(sign: usize, text: &[u8]) -> Result<Piece, LexFault>
     requires digit { 0 < prefix_len is_ascii_digit text.now }
     requires room { sign + length text.now < 2 ^ 64 }
     ensures value { result ≡ number_at sign text.now }
-    ensures within { IfOk result (λ piece. (0 < piece.size) × (piece.size ≤ sign + length text.now)) }
+    ensures within { IfOk result (λ piece. (0 < piece.size)
+        × (piece.size ≤ sign + length text.now)) }
 {
     let (whole, behind) = text.split_at(digits_len(text));
     let decimals = decimals_at(behind);

@@ -105,7 +105,8 @@ pub fn in_capitals_is(word: &[u8], keyword: &[u8]) -> bool
 
 /// Whether the word in capitals is among the keywords.
 fn in_capitals_is_among(word: &[u8], keywords: &[&[u8]]) -> bool
-    ensures { result ≡ list_any (λ keyword. bytes_eq (str_to_ascii_uppercase word.now) keyword.now) keywords.now }
+    ensures { result ≡ list_any (λ keyword.
+        bytes_eq (str_to_ascii_uppercase word.now) keyword.now) keywords.now }
 {
     keywords.iter().any(|keyword| in_capitals_is(word, keyword))
 }

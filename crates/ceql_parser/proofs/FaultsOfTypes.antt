@@ -22,7 +22,8 @@ use Rattle.cel_terms.specs.Checked.{names_of, names_after, leaf_count}
 use Rattle.ceql_grammar.specs.declared.faults.QueryFault.TheVariants.{NameTaken, UnknownType, UnknownAttribute, NeverKind, NoOrder, TooManyLeaves, WindowKind}
 use Rattle.ceql_grammar.specs.declared.faults.QueryError.{QueryError}
 use Rattle.ceql_parser.specs.FirstFaults.{first_in, unless, unless_named}
-use Rattle.ceql_parser.specs.TypesAsked.{is_type_name, has_attr, some_has_attr, any_kind, are_alike, kind_of, is_whole, is_order, is_flag}
+use Rattle.stream_schema.specs.Comparing.{are_alike, kind_of}
+use Rattle.ceql_parser.specs.TypesAsked.{is_type_name, has_attr, some_has_attr, any_kind, is_whole, is_order, is_flag}
 use Rattle.ceql_parser.specs.FormulaFaults.{comparison_fault, pred_fault, preds_fault, name_fault, filter_fault, filters_fault, postfix_fault, postfixes_fault, formula_fault, formulas_fault, links_fault}
 use Rattle.ceql_parser.specs.StatementFaults.{list_fault, window_fault, query_fault}
 use Rattle.ceql_parser.specs.QueryTypes.{HaveSameTypes}

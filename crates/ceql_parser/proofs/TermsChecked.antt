@@ -22,9 +22,9 @@ use Rattle.cel_terms.specs.Meaning.{lists_name}
 use Rattle.cel_terms.specs.Checked.{IsTypeName, IsAttr, SomeHasAttr, EachHasAttr, IsCheckedComparison, IsCheckedPred, AreCheckedPreds, MorePredsChecked, IsCheckedFilter, AreCheckedFilters, MoreFiltersChecked, names_of, AreNamesOf, ArePostfixesChecked, IsCheckedFormula, AreCheckedFormulas, MoreFormulasChecked, AreCheckedLinks, MoreLinksChecked}
 use Rattle.ceql_grammar.specs.declared.faults.QueryFault.TheVariants.{NameTaken, UnknownType, UnknownName, NeverKind, NoOrder}
 use Rattle.ceql_grammar.specs.declared.faults.QueryError.{QueryError}
-use Rattle.stream_schema.specs.Comparing.{AreComparable, TakesLiteral, HasFewPlaces}
+use Rattle.stream_schema.specs.Comparing.{kind_of, are_alike, AreComparable, TakesLiteral, HasFewPlaces}
 use Rattle.ceql_parser.specs.FirstFaults.{first_in, unless_named}
-use Rattle.ceql_parser.specs.TypesAsked.{is_type_name, has_attr, some_has_attr, each_has_attr, kind_of, are_alike, is_flag, is_order}
+use Rattle.ceql_parser.specs.TypesAsked.{is_type_name, has_attr, some_has_attr, each_has_attr, is_flag, is_order}
 use Rattle.ceql_parser.specs.FormulaFaults.{comparison_fault, pred_fault, preds_fault, name_fault, filter_fault, filters_fault, postfixes_fault, formula_fault, formulas_fault, links_fault}
 use Rattle.ceql_grammar.specs.Trees.{pred_tree, pred_trees, filters, filter_tree, filter_trees, formula_tree, formula_trees, link_trees}
 use Rattle.ceql_grammar.specs.LawfulTexts.{IsLawfulPred, AreLawfulPreds, MorePredsLawful, IsLawfulFilter, AreLawfulFilters, MoreFiltersLawful, KeepsSome, IsLawfulFormula, AreLawfulFormulas, MoreFormulasLawful, AreLawfulLinks, MoreLinksLawful}
@@ -103,24 +103,6 @@ listed_from (n ∷ ns) name e = here_or n ns name (bytes_eq n name) refl e (λ f
 pub name_from : (names : List (List ℕ)) (n : Name) → name_fault names n ≡ None → Contains names n.text
 name_from names n e = listed_from names n.text (passed (lists_name names n.text) (UnknownName n.text) n.place e)
 
-alike : (literal : Value) (k : Kind) → are_alike (kind_of literal) k ≡ true → AreComparable literal k
-alike (value.Int n) kind.Int e = tt
-alike (value.Int n) (kind.Dec p) e = tt
-alike (value.Int n) kind.Text e = absurd cc
-alike (value.Int n) kind.Flag e = absurd cc
-alike (value.Dec n q) kind.Int e = tt
-alike (value.Dec n q) (kind.Dec p) e = tt
-alike (value.Dec n q) kind.Text e = absurd cc
-alike (value.Dec n q) kind.Flag e = absurd cc
-alike (value.Text t) kind.Text e = tt
-alike (value.Text t) kind.Int e = absurd cc
-alike (value.Text t) kind.Flag e = absurd cc
-alike (value.Text t) (kind.Dec p) e = absurd cc
-alike (value.Flag b) kind.Flag e = tt
-alike (value.Flag b) kind.Int e = absurd cc
-alike (value.Flag b) kind.Text e = absurd cc
-alike (value.Flag b) (kind.Dec p) e = absurd cc
-
 takes : (op : Op) (literal : Value) → not (is_order op && is_flag literal) ≡ true → TakesLiteral op literal
 takes Eq v e = tt
 takes Ne v e = tt
@@ -146,7 +128,7 @@ comparison_checked types name op literal few e =
     let e1 = rest_none _ _ e in
     let e2 = rest_none _ _ e1 in
     record {
-      comparable = some_from types name.text (are_alike (kind_of literal)) (AreComparable literal) (alike literal) (passed _ (NeverKind name.text (kind_of literal)) name.place (head_none _ _ e1));
+      comparable = some_from types name.text (are_alike (kind_of literal)) (AreComparable literal) (λ k e. e) (passed _ (NeverKind name.text (kind_of literal)) name.place (head_none _ _ e1));
       operator = takes op literal (passed _ NoOrder name.place (head_none _ _ e2));
       places = few;
     }

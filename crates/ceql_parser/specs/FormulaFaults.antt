@@ -16,7 +16,8 @@ use Rattle.cel_terms.specs.Checked.{names_of, names_after}
 use Rattle.ceql_grammar.specs.declared.faults.QueryFault.TheVariants.{NameTaken, UnknownType, UnknownName, UnknownAttribute, NeverKind, NoOrder}
 use Rattle.ceql_grammar.specs.declared.faults.QueryError.{QueryError}
 use Rattle.ceql_parser.specs.FirstFaults.{first_in, first_fault, unless, unless_named}
-use Rattle.ceql_parser.specs.TypesAsked.{is_type_name, some_has_attr, any_kind, are_alike, kind_of, is_order, is_flag}
+use Rattle.stream_schema.specs.Comparing.{are_alike, kind_of}
+use Rattle.ceql_parser.specs.TypesAsked.{is_type_name, some_has_attr, any_kind, is_order, is_flag}
 
 -- the attribute is unknown, or never of a kind like the literal's, or has no order
 abbrev pub comparison_fault : List DeclaredType → Name → Op → Value → Option QueryError

@@ -38,23 +38,6 @@ is_whole kind.Text = false
 is_whole kind.Flag = false
 is_whole (kind.Dec places) = false
 
--- the kind of a literal
-abbrev pub kind_of : Value → Kind
-kind_of (value.Int n) = kind.Int
-kind_of (value.Text t) = kind.Text
-kind_of (value.Flag b) = kind.Flag
-kind_of (value.Dec n places) = kind.Dec places
-
--- values of the two kinds may be compared: the kinds are one, or both are numbers
-abbrev pub are_alike : Kind → Kind → Bool
-are_alike kind.Int kind.Int = true
-are_alike kind.Int (kind.Dec places) = true
-are_alike (kind.Dec places) kind.Int = true
-are_alike (kind.Dec places) (kind.Dec others) = true
-are_alike kind.Text kind.Text = true
-are_alike kind.Flag kind.Flag = true
-are_alike _ _ = false
-
 abbrev pub is_flag : Value → Bool
 is_flag (value.Flag b) = true
 is_flag (value.Int n) = false

@@ -3,7 +3,8 @@ use Rattle.std.specs.Prelude.{Bool}
 use Rattle.stream_schema.specs.declared.Kind.{Kind}
 use Rattle.ceql_parser.specs.declared.schema_lookups.Wanted.{Wanted}
 use Rattle.ceql_parser.specs.declared.schema_lookups.Wanted.TheVariants as wanted
-use Rattle.ceql_parser.specs.TypesAsked.{any_kind, is_whole, are_alike}
+use Rattle.stream_schema.specs.Comparing.{are_alike}
+use Rattle.ceql_parser.specs.TypesAsked.{any_kind, is_whole}
 
 abbrev pub serves : Wanted → Kind → Bool
 serves wanted.Any = any_kind

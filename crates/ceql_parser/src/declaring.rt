@@ -34,7 +34,8 @@ fn scale_of(value: i64) -> Option<u8>
 
 /// Answers the fault of a name that a type or a stream has.
 fn check_new(alloc: Global, schema: &Schema, name: &Name) -> Checked
-    ensures { FindsFault result (unless_named (not (is_taken schema.now name.now.text)) NameTaken name.now) }
+    ensures { FindsFault result (unless_named
+        (not (is_taken schema.now name.now.text)) NameTaken name.now) }
 {
     let taken = is_taken(schema, name.text.as_str());
     unless_named(alloc, !taken, Wrong::NameTaken, name)
@@ -42,7 +43,8 @@ fn check_new(alloc: Global, schema: &Schema, name: &Name) -> Checked
 
 /// Adds the attribute's name to those of the earlier ones, or answers its fault where it is one of them.
 fn add_earlier(alloc: Global, earlier: &mut NameSet, name: &Name) -> Checked
-    ensures told { FindsFault result (unless_named (not (lists_name earlier.old name.now.text)) NameTaken name.now) }
+    ensures told { FindsFault result (unless_named
+        (not (lists_name earlier.old name.now.text)) NameTaken name.now) }
     ensures names { OnOk result (HaveSameNames earlier.new (earlier.old ++ name.now.text ∷ [])) }
 {
     let taken = earlier.has(name.text.as_str());
@@ -113,14 +115,16 @@ fn check_event(alloc: Global, schema: &Schema, name: &Name, attrs: &[AttrDecl]) 
 
 /// Answers the fault of a name that is no type's.
 fn check_type(alloc: Global, schema: &Schema, name: &Name) -> Checked
-    ensures { FindsFault result (unless_named (is_type_name schema.now.types name.now.text) UnknownType name.now) }
+    ensures { FindsFault result (unless_named
+        (is_type_name schema.now.types name.now.text) UnknownType name.now) }
 {
     let known = is_type(schema, name.text.as_str());
     unless_named(alloc, known, Wrong::UnknownType, name)
 }
 
 fn check_types(alloc: Global, schema: &Schema, types: &[Name]) -> Checked
-    ensures { FindsFault result (first_in (λ t. unless_named (is_type_name schema.now.types t.text) UnknownType t) types.now) }
+    ensures { FindsFault result (first_in (λ t.
+        unless_named (is_type_name schema.now.types t.text) UnknownType t) types.now) }
 {
     for name in types {
         match check_type(alloc, schema, name) {
@@ -184,7 +188,8 @@ fn texts_of(alloc: Global, names: &[Name]) -> Result<Texts, Memory>
 /// changed.
 pub fn declare_event(alloc: Global, schema: &mut Schema, name: &Name, attrs: &AttrDecls) -> Checked
     ensures told { FindsFault result (event_fault schema.old name.now attrs.now) }
-    ensures declared { OnOk result (schema.new ≡ declaring schema.old (said.Event name.now attrs.now)) }
+    ensures declared { OnOk result (schema.new
+        ≡ declaring schema.old (said.Event name.now attrs.now)) }
     ensures unchanged { OnErr result (schema.new ≡ schema.old) }
 {
     match check_event(alloc, schema, name, attrs.as_slice()) {
@@ -206,7 +211,8 @@ pub fn declare_event(alloc: Global, schema: &mut Schema, name: &Name, attrs: &At
 /// changed.
 pub fn declare_stream(alloc: Global, schema: &mut Schema, name: &Name, types: &Names) -> Checked
     ensures told { FindsFault result (stream_fault schema.old name.now types.now) }
-    ensures declared { OnOk result (schema.new ≡ declaring schema.old (said.Stream name.now types.now)) }
+    ensures declared { OnOk result (schema.new
+        ≡ declaring schema.old (said.Stream name.now types.now)) }
     ensures unchanged { OnErr result (schema.new ≡ schema.old) }
 {
     match check_stream(alloc, schema, name, types.as_slice()) {

@@ -14,7 +14,8 @@ use cel_terms::{Filter, Name, Pred};
 use std::alloc::Global;
 
 fn named(alloc: Global, types: &QueryTypes, names: &NameSet, name: &Name, pred: &Pred) -> Checked
-    ensures { FindsFault result (option_or (name_fault names.now name.now) (pred_fault types.now pred.now)) }
+    ensures { FindsFault result (option_or (name_fault names.now name.now)
+        (pred_fault types.now pred.now)) }
 {
     match name_known(alloc, names, name) {
         Ok(()) => check_pred(alloc, types, pred),

@@ -25,7 +25,8 @@ pub type NamesOrFault = Result<NameSet, OrMemory<QueryError>>;
 
 /// Answers the fault of a name after AS.
 fn check_new(alloc: Global, types: &QueryTypes, name: &Name) -> Checked
-    ensures { FindsFault result (unless_named (not (is_type_name types.now name.now.text)) NameTaken name.now) }
+    ensures { FindsFault result (unless_named
+        (not (is_type_name types.now name.now.text)) NameTaken name.now) }
 {
     let taken = types.is_type_name(name.text.as_str());
     unless_named(alloc, !taken, Wrong::NameTaken, name)
@@ -33,14 +34,16 @@ fn check_new(alloc: Global, types: &QueryTypes, name: &Name) -> Checked
 
 /// Answers the fault of a type's name.
 fn check_type(alloc: Global, types: &QueryTypes, name: &Name) -> Checked
-    ensures { FindsFault result (unless_named (is_type_name types.now name.now.text) UnknownType name.now) }
+    ensures { FindsFault result (unless_named
+        (is_type_name types.now name.now.text) UnknownType name.now) }
 {
     let known = types.is_type_name(name.text.as_str());
     unless_named(alloc, known, Wrong::UnknownType, name)
 }
 
 fn check_named_type(alloc: Global, types: &QueryTypes, name: &Name) -> NamesOrFault
-    ensures told { FindsFault result (unless_named (is_type_name types.now name.now.text) UnknownType name.now) }
+    ensures told { FindsFault result (unless_named
+        (is_type_name types.now name.now.text) UnknownType name.now) }
     ensures names { IfOk result (λ names. HaveSameNames names (name.now.text ∷ [])) }
 {
     match check_type(alloc, types, name) {
@@ -56,7 +59,8 @@ fn check_named_type(alloc: Global, types: &QueryTypes, name: &Name) -> NamesOrFa
 
 /// Adds the name after AS to the names, or answers its fault.
 fn add_variable(alloc: Global, types: &QueryTypes, names: &mut NameSet, name: &Name) -> Checked
-    ensures told { FindsFault result (unless_named (not (is_type_name types.now name.now.text)) NameTaken name.now) }
+    ensures told { FindsFault result (unless_named
+        (not (is_type_name types.now name.now.text)) NameTaken name.now) }
     ensures names { OnOk result (HaveSameNames names.new (names.old ++ name.now.text ∷ [])) }
 {
     match check_new(alloc, types, name) {
@@ -95,7 +99,8 @@ fn check_postfix(
     postfix: &Postfix,
 ) -> Checked
     ensures told { FindsFault result (postfix_fault types.now names.old postfix.now) }
-    ensures names { OnOk result (HaveSameNames names.new (names_after names.old (postfix.now ∷ []))) }
+    ensures names { OnOk result (HaveSameNames names.new
+        (names_after names.old (postfix.now ∷ []))) }
 {
     match postfix {
         Postfix::Plus => Ok(()),
@@ -175,7 +180,8 @@ fn check_formulas(alloc: Global, types: &QueryTypes, formulas: &[Formula]) -> Na
 #[cycle(formulas)]
 fn check_links(alloc: Global, types: &QueryTypes, before: NameSet, links: &[Link]) -> NamesOrFault
     ensures told { FindsFault result (first_in (link_fault types.now) links.now) }
-    ensures names { IfOk result (λ names. HaveSameNames names (before ++ flat_map names_of_link links.now)) }
+    ensures names { IfOk result (λ names.
+        HaveSameNames names (before ++ flat_map names_of_link links.now)) }
 {
     let mut names = before;
     for link in links {

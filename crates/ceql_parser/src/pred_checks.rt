@@ -3,16 +3,17 @@
 ghost use Rattle.std.specs.Prelude.{◌≡◌, ℕ, List, not, ◌&&◌};
 ghost use Rattle.ceql_grammar.specs.declared.faults.QueryFault.TheVariants.{UnknownAttribute, NeverKind, NoOrder};
 ghost use Rattle.ceql_parser.specs.FirstFaults.{first_in, unless, unless_named, FindsFault};
-ghost use Rattle.ceql_parser.specs.TypesAsked.{is_flag, is_order, some_has_attr, any_kind, are_alike, kind_of};
+ghost use Rattle.ceql_parser.specs.TypesAsked.{is_flag, is_order, some_has_attr, any_kind};
+ghost use Rattle.stream_schema.specs.Comparing.{are_alike, kind_of};
 ghost use Rattle.ceql_parser.specs.FormulaFaults.{comparison_fault, pred_fault};
 
 use crate::query_types::QueryTypes;
 use crate::refusals::{Checked, Wrong, unless, unless_named};
-use crate::schema_lookups::{Wanted, kind_of};
+use crate::schema_lookups::Wanted;
 use cel_terms::{Name, Op, Pred};
 use ceql_grammar::QueryFault;
 use std::alloc::Global;
-use stream_schema::Value;
+use stream_schema::{Value, kind_of};
 
 fn is_flag(literal: &Value) -> bool
     ensures { result ≡ is_flag literal.now }
@@ -35,7 +36,8 @@ fn is_order(op: Op) -> bool
 
 /// Answers the fault of an attribute that none of the types has.
 pub fn check_known(alloc: Global, types: &QueryTypes, name: &Name) -> Checked
-    ensures { FindsFault result (unless_named (some_has_attr types.now name.now.text any_kind) UnknownAttribute name.now) }
+    ensures { FindsFault result (unless_named
+        (some_has_attr types.now name.now.text any_kind) UnknownAttribute name.now) }
 {
     let known = types.some_has_attr(name.text.as_str(), Wanted::Any);
     unless_named(alloc, known, Wrong::UnknownAttribute, name)
@@ -43,7 +45,9 @@ pub fn check_known(alloc: Global, types: &QueryTypes, name: &Name) -> Checked
 
 /// Answers the fault of an attribute that compares with the literal in none of the types.
 fn check_alike(alloc: Global, types: &QueryTypes, name: &Name, literal: &Value) -> Checked
-    ensures { FindsFault result (unless_named (some_has_attr types.now name.now.text (are_alike (kind_of literal.now))) (λ text. NeverKind text (kind_of literal.now)) name.now) }
+    ensures { FindsFault result (unless_named
+        (some_has_attr types.now name.now.text (are_alike (kind_of literal.now)))
+        (λ text. NeverKind text (kind_of literal.now)) name.now) }
 {
     let kind = kind_of(literal);
     let alike = types.some_has_attr(name.text.as_str(), Wanted::Like(kind));
@@ -52,7 +56,8 @@ fn check_alike(alloc: Global, types: &QueryTypes, name: &Name, literal: &Value) 
 
 /// Answers the fault of an order between truth values.
 fn check_order(name: &Name, op: Op, literal: &Value) -> Checked
-    ensures { FindsFault result (unless (not (is_order op && is_flag literal.now)) NoOrder name.now.place) }
+    ensures { FindsFault result (unless
+        (not (is_order op && is_flag literal.now)) NoOrder name.now.place) }
 {
     let ordered = !(is_order(op) && is_flag(literal));
     unless(ordered, QueryFault::NoOrder, name.place)

@@ -22,7 +22,11 @@ pub fn lawful_queries_are_checked()
 /// What is told of statements depends on what they say alone, not on where they lie in memory: their
 /// first fault, what they declare, and what their queries say.
 pub fn trees_tell_all()
-    ensures fault { (ss ts : List Statement) (end : Place) → map statement_tree ss ≡ map statement_tree ts → script_fault ss end ≡ script_fault ts end }
-    ensures schema { (ss ts : List Statement) → map statement_tree ss ≡ map statement_tree ts → declared_schema ss ≡ declared_schema ts }
-    ensures queries { (ss ts : List Statement) → map statement_tree ss ≡ map statement_tree ts → map query_tree (queries_of ss) ≡ map query_tree (queries_of ts) }
+    ensures fault { (ss ts : List Statement) (end : Place)
+        → map statement_tree ss ≡ map statement_tree ts
+        → script_fault ss end ≡ script_fault ts end }
+    ensures schema { (ss ts : List Statement) → map statement_tree ss ≡ map statement_tree ts
+        → declared_schema ss ≡ declared_schema ts }
+    ensures queries { (ss ts : List Statement) → map statement_tree ss ≡ map statement_tree ts
+        → map query_tree (queries_of ss) ≡ map query_tree (queries_of ts) }
 {}

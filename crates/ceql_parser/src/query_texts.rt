@@ -24,7 +24,8 @@ pub fn read_queries(alloc: Global, text: &[u8]) -> Result<Accepted, OrMemory<Que
     // What is answered is the answer of this text, unless memory ran out.
     ensures found { WhereAnswered accepted_view result (λ answer. IsAnswerOfText text.now answer) }
     // This text has no other answer.
-    ensures only { (answer : TextAnswer) → IsAnswerOfText text.now answer → WhereAnswered accepted_view result (λ given. given ≡ answer) }
+    ensures only { (answer : TextAnswer) → IsAnswerOfText text.now answer
+        → WhereAnswered accepted_view result (λ given. given ≡ answer) }
     ensures checked { IfOk result (λ accepted. All (IsChecked accepted.schema) accepted.queries) }
 {
     if text.len() > LONGEST_TEXT {

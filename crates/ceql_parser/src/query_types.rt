@@ -36,7 +36,8 @@ impl<'s> Model for QueryTypes<'s> {
 impl<'s> QueryTypes<'s> {
     /// The types of these streams.
     pub fn of(alloc: Global, schema: &'s Schema, streams: &[Name]) -> Result<QueryTypes<'s>, Memory>
-        ensures { IfOk result (λ types. HaveSameTypes types (types_at schema.now (query_types schema.now streams.now))) }
+        ensures { IfOk result (λ types.
+            HaveSameTypes types (types_at schema.now (query_types schema.now streams.now))) }
     {
         let numbers = numbers_in(alloc, schema, streams)?;
         Ok(QueryTypes { schema, numbers })
@@ -85,7 +86,8 @@ fn add_stream(
     name: &Name,
 ) -> Result<(), Memory>
     ensures names { OnOk result (HaveSameNames seen.new (seen.old ++ name.now.text ∷ [])) }
-    ensures numbers { OnOk result (AddsStream schema.now seen.old numbers.old.keys numbers.new.keys name.now.text) }
+    ensures numbers { OnOk result (AddsStream schema.now seen.old
+        numbers.old.keys numbers.new.keys name.now.text) }
 {
     if !seen.has(name.text.as_str()) {
         add_numbers(numbers, types_in(schema, name.text.as_str()))?;
@@ -95,7 +97,8 @@ fn add_stream(
 
 /// The numbers of the types of these streams, each once.
 fn numbers_in(alloc: Global, schema: &Schema, streams: &[Name]) -> Result<IndexSet<TypeId>, Memory>
-    ensures { IfOk result (λ numbers. HaveSameNumbers numbers.keys (query_types schema.now streams.now)) }
+    ensures { IfOk result (λ numbers.
+        HaveSameNumbers numbers.keys (query_types schema.now streams.now)) }
 {
     let mut seen = NameSet::new(alloc);
     let mut numbers = IndexSet::new(alloc);

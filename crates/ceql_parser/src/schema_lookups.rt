@@ -5,10 +5,10 @@ ghost use Rattle.std.specs.List.{list_any, list_all, filter_map};
 ghost use Rattle.std.specs.Option.{option_map_or};
 ghost use Rattle.cel_terms.specs.Answers.{types_of_stream};
 ghost use Rattle.stream_schema.specs.Names.{is_taken};
-ghost use Rattle.ceql_parser.specs.TypesAsked.{types_at, is_type_name, has_attr, some_has_attr, each_has_attr, is_whole, kind_of, are_alike};
+ghost use Rattle.ceql_parser.specs.TypesAsked.{types_at, is_type_name, has_attr, some_has_attr, each_has_attr, is_whole};
 ghost use Rattle.ceql_parser.specs.WantedKinds.{serves};
 
-use stream_schema::{Attr, Kind, Schema, TypeId, Value};
+use stream_schema::{Attr, Kind, Schema, TypeId, are_alike};
 
 /// Which kinds of an attribute serve.
 #[derive(Debug, Clone, Copy, PartialEq, Eq)]
@@ -17,32 +17,6 @@ pub enum Wanted {
     /// Those that compare with this one.
     Like(Kind),
     Whole,
-}
-
-/// The kind of a literal.
-pub fn kind_of(literal: &Value) -> Kind
-    ensures { result ≡ kind_of literal.now }
-{
-    match literal {
-        Value::Int(_) => Kind::Int,
-        Value::Text(_) => Kind::Text,
-        Value::Flag(_) => Kind::Flag,
-        Value::Dec { scaled: _, places } => Kind::Dec(*places),
-    }
-}
-
-fn are_alike(a: Kind, b: Kind) -> bool
-    ensures { result ≡ are_alike a b }
-{
-    match (a, b) {
-        (Kind::Int, Kind::Int) => true,
-        (Kind::Int, Kind::Dec(_)) => true,
-        (Kind::Dec(_), Kind::Int) => true,
-        (Kind::Dec(_), Kind::Dec(_)) => true,
-        (Kind::Text, Kind::Text) => true,
-        (Kind::Flag, Kind::Flag) => true,
-        _ => false,
-    }
 }
 
 fn serves(wanted: Wanted, kind: Kind) -> bool
@@ -72,7 +46,8 @@ fn attrs_have(attrs: &[Attr], name: &str, wanted: Wanted) -> bool
 
 /// Whether the type has the attribute; `otherwise` where there is no such type.
 fn type_has(schema: &Schema, number: TypeId, name: &str, wanted: Wanted, otherwise: bool) -> bool
-    ensures { result ≡ option_map_or (has_attr name.now (serves wanted)) (slice_get schema.now.types number) otherwise }
+    ensures { result ≡ option_map_or (has_attr name.now (serves wanted))
+        (slice_get schema.now.types number) otherwise }
 {
     match schema.attrs(number) {
         Some(attrs) => attrs_have(attrs, name, wanted),
@@ -81,7 +56,8 @@ fn type_has(schema: &Schema, number: TypeId, name: &str, wanted: Wanted, otherwi
 }
 
 fn some_have(schema: &Schema, numbers: &[TypeId], name: &str, wanted: Wanted) -> bool
-    ensures { result ≡ list_any (λ n. option_map_or (has_attr name.now (serves wanted)) (slice_get schema.now.types n) false) numbers.now }
+    ensures { result ≡ list_any (λ n. option_map_or (has_attr name.now (serves wanted))
+        (slice_get schema.now.types n) false) numbers.now }
 {
     for number in numbers {
         if type_has(schema, *number, name, wanted, false) {
@@ -92,7 +68,8 @@ fn some_have(schema: &Schema, numbers: &[TypeId], name: &str, wanted: Wanted) ->
 }
 
 fn all_have(schema: &Schema, numbers: &[TypeId], name: &str, wanted: Wanted) -> bool
-    ensures { result ≡ list_all (λ n. option_map_or (has_attr name.now (serves wanted)) (slice_get schema.now.types n) true) numbers.now }
+    ensures { result ≡ list_all (λ n. option_map_or (has_attr name.now (serves wanted))
+        (slice_get schema.now.types n) true) numbers.now }
 {
     for number in numbers {
         if !type_has(schema, *number, name, wanted, true) {

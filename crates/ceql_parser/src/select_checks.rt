@@ -49,14 +49,16 @@ fn check_any(any: Option<NumberAt>) -> Checked
 
 /// Answers the fault of a name that is no stream's.
 fn check_from(alloc: Global, schema: &Schema, name: &Name) -> Checked
-    ensures { FindsFault result (unless_named (is_stream schema.now name.now.text) UnknownStream name.now) }
+    ensures { FindsFault result (unless_named
+        (is_stream schema.now name.now.text) UnknownStream name.now) }
 {
     let known = is_stream(schema, name.text.as_str());
     unless_named(alloc, known, Wrong::UnknownStream, name)
 }
 
 fn check_streams(alloc: Global, schema: &Schema, streams: &[Name]) -> Checked
-    ensures { FindsFault result (first_in (λ n. unless_named (is_stream schema.now n.text) UnknownStream n) streams.now) }
+    ensures { FindsFault result (first_in (λ n.
+        unless_named (is_stream schema.now n.text) UnknownStream n) streams.now) }
 {
     for name in streams {
         match check_from(alloc, schema, name) {
@@ -77,7 +79,8 @@ fn check_list(alloc: Global, known: &NameSet, select: &Option<Names>) -> Checked
 }
 
 fn check_partition(alloc: Global, types: &QueryTypes, partition: &[Name]) -> Checked
-    ensures { FindsFault result (first_in (λ n. unless_named (some_has_attr types.now n.text any_kind) UnknownAttribute n) partition.now) }
+    ensures { FindsFault result (first_in (λ n.
+        unless_named (some_has_attr types.now n.text any_kind) UnknownAttribute n) partition.now) }
 {
     for name in partition {
         match check_known(alloc, types, name) {
@@ -102,7 +105,8 @@ fn check_window(alloc: Global, types: &QueryTypes, window: &Window) -> Checked
 }
 
 fn check_leaves(query: &Query) -> Checked
-    ensures { FindsFault result (unless (nat_le (leaf_count query.now.formula) MOST_LEAVES) fault.TooManyLeaves query.now.place) }
+    ensures { FindsFault result (unless
+        (nat_le (leaf_count query.now.formula) MOST_LEAVES) fault.TooManyLeaves query.now.place) }
 {
     let few = leaf_count(&query.formula) <= MOST_LEAVES;
     unless(few, QueryFault::TooManyLeaves, query.place)

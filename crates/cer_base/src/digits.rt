@@ -6,7 +6,8 @@ ghost use Rattle.std.specs.Prelude.{◌≡◌, ◌+◌, ◌-◌, ◌*◌, ◌<�
 /// The value with these digits put after its own, where that is at most the limit.
 pub fn with_digits(limit: u64, start: u64, digits: &[u8]) -> Option<u64>
     requires { start ≤ limit }
-    ensures { MatchOption result (limit < read_on start digits.now) (λ x. (x ≡ read_on start digits.now) × (x ≤ limit)) }
+    ensures { MatchOption result (limit < read_on start digits.now)
+        (λ x. (x ≡ read_on start digits.now) × (x ≤ limit)) }
 {
     let mut value = start;
     for digit in digits {
@@ -20,7 +21,8 @@ pub fn with_digits(limit: u64, start: u64, digits: &[u8]) -> Option<u64>
 
 /// The value with the digit put after its own, where that is at most the limit.
 pub fn with_digit(limit: u64, value: u64, digit: u8) -> Option<u64>
-    ensures { MatchOption result (limit < value * 10 + (digit - 48)) (λ x. (x ≡ value * 10 + (digit - 48)) × (x ≤ limit)) }
+    ensures { MatchOption result (limit < value * 10 + (digit - 48))
+        (λ x. (x ≡ value * 10 + (digit - 48)) × (x ≤ limit)) }
 {
     let value = value
         .checked_mul(10)?

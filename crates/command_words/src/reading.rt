@@ -123,7 +123,8 @@ fn number_in(matches: &ArgMatches<'_>, id: &str, default: u64) -> u64
 }
 
 fn numbers_in(alloc: Global, matches: &ArgMatches<'_>, id: &str) -> Result<Listed<u64>, Memory>
-    ensures { IfOk result (λ numbers. numbers ≡ numbers_in id.now (rows_of (found_of matches.now))) }
+    ensures { IfOk result (λ numbers. numbers
+        ≡ numbers_in id.now (rows_of (found_of matches.now))) }
 {
     match matches.get_strs(id) {
         Some(texts) => Ok(Listed::of(numbers_of(alloc, texts)?)),

@@ -154,7 +154,7 @@ abbrev small : List ℕ → ℕ → Filter
 small name col = On (name_at name 4 col) (Cmp (name_at (codes "v") 4 (col + 2)) Lt (Int (pos 64)))
 
 v_attr : SomeHasAttr types (codes "v") (AreComparable (Int (pos 64)))
-v_attr = (0, record { name = codes "A"; attrs = sample_attrs }, omega arith, refl, (0, record { name = codes "v"; kind = kind.Int }, omega arith, refl, (refl, tt)))
+v_attr = (0, record { name = codes "A"; attrs = sample_attrs }, omega arith, refl, (0, record { name = codes "v"; kind = kind.Int }, omega arith, refl, (refl, refl)))
 
 small_checked : (name : List ℕ) (col : ℕ) (f : Filter) → f ≡ small name col → Contains known name → IsCheckedFilter types known f × (weight f ≡ 1)
 small_checked name col f e has = subst (λ (d : Filter). IsCheckedFilter types known d × (weight d ≡ 1)) (sym e)

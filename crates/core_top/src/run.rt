@@ -178,7 +178,8 @@ fn answer_file<H: Host, K: Sink, L: Ledger>(
         }) bytes)
         result.cause (K.taken out.old) (K.taken out.new) steps.old steps.new }
     ensures left { result.cause ≡ Cause.Fine → (bytes : List ℕ)
-        → H.content host.old events.now ≡ Holds bytes → StandsForAll compact_every (peak_of engine.old) (record {
+        → H.content host.old events.now ≡ Holds bytes
+        → StandsForAll compact_every (peak_of engine.old) (record {
           order = order;
           schema = engine.old.schema;
           queries = engine.old.queries;

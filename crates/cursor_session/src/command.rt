@@ -97,7 +97,8 @@ fn event_command(
     line: &[u8],
 ) -> Result<Command, OrMemory<CommandFault>>
     requires { has_line_feed line.now ≡ false }
-    ensures command { Gives (λ command. command) result (event_command (event_of_line schema.now line.now)) }
+    ensures command { Gives (λ command. command) result
+        (event_command (event_of_line schema.now line.now)) }
     ensures of_schema { IfOk result (HasEventOf schema.now) }
 {
     match read_event(alloc, schema, line) {

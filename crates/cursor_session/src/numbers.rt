@@ -42,7 +42,8 @@ pub fn one_of(most: u64, digits: &[u8]) -> Option<u64>
 /// The number that the digits write, where they are digits and it is below 2 to the 64.
 #[tactic(auto, using(event_reader::proofs::Digits::value_step, event_reader::proofs::Digits::value_bound, event_reader::proofs::Digits::digits_step, event_reader::proofs::Digits::value_end, event_reader::proofs::Digits::digits_end))]
 fn value_of(digits: &[u8]) -> Option<u64>
-    ensures { SomeIff result ((all_ascii_digits digits.now ≡ true) × (digits_value 10 digits.now < 2 ^ 64)) (digits_value 10 digits.now) }
+    ensures { SomeIff result ((all_ascii_digits digits.now ≡ true)
+        × (digits_value 10 digits.now < 2 ^ 64)) (digits_value 10 digits.now) }
 {
     let mut sum: u64 = 0;
     for digit in digits {

@@ -11,7 +11,8 @@ use std::alloc::{AllocError, Global};
 
 /// The parts of the line between its commas.
 pub fn plain_cells(alloc: Global, line: &[u8]) -> Result<Vec<&[u8]>, AllocError>
-    ensures { IfOk result (λ cells. map (λ cell. cell.now) cells.items ≡ slice_split (λ b. b == COMMA) line.now) }
+    ensures { IfOk result (λ cells. map (λ cell. cell.now) cells.items
+        ≡ slice_split (λ b. b == COMMA) line.now) }
 {
     line.split(|byte| *byte == COMMA).collect(alloc)
 }

@@ -30,7 +30,8 @@ pub fn read_common(
     values: &mut Vec<Value>,
 ) -> Option<TypeId>
     requires line_feed { has_line_feed line.now ≡ false }
-    ensures { IfSome result (λ ty. event_of_text schema.now line.now ≡ Ok (Some (record { ty = ty; values = values.new.items }))) }
+    ensures { IfSome result (λ ty. event_of_text schema.now line.now
+        ≡ Ok (Some (record { ty = ty; values = values.new.items }))) }
 {
     if !has_no_mark(line) {
         return None;
@@ -82,7 +83,8 @@ fn read_typed(
 ) -> Option<TypeId>
     ensures begins { IfSome result (λ ty. BeginsNext fields.now) }
     ensures plain { IfSome result (λ ty. list_any is_odd fields.now ≡ false) }
-    ensures event { IfSome result (λ ty. event_of schema.now (name.now ∷ following fields.now) ≡ Ok (record { ty = ty; values = values.new.items })) }
+    ensures event { IfSome result (λ ty. event_of schema.now (name.now ∷ following fields.now)
+        ≡ Ok (record { ty = ty; values = values.new.items })) }
 {
     let Some(ty) = guesses.type_of(schema, name) else {
         return None;

@@ -103,7 +103,8 @@ fn read_quoted(alloc: Global, schema: &Schema, line: &[u8]) -> Result<Event, OrM
     requires some { 0 < length line.now }
     requires fine { is_bad line.now ≡ false }
     requires line_feed { has_line_feed line.now ≡ false }
-    ensures { Gives (λ event. event) result (event_of_record schema.now (ends_open line.now) (fields line.now)) }
+    ensures { Gives (λ event. event) result
+        (event_of_record schema.now (ends_open line.now) (fields line.now)) }
 {
     if ends_open(line) {
         return Err(OrMemory::Fault(EventFault::OpenQuote));
@@ -119,7 +120,8 @@ fn read_cells(
     schema: &Schema,
     cells: &[&[u8]],
 ) -> Result<Event, OrMemory<EventFault>>
-    ensures { Gives (λ event. event) result (event_of schema.now (map (λ cell. cell.now) cells.now)) }
+    ensures { Gives (λ event. event) result
+        (event_of schema.now (map (λ cell. cell.now) cells.now)) }
 {
     let Some((name, fields)) = cells.split_first() else {
         return Err(OrMemory::Fault(EventFault::UnknownType));
@@ -148,7 +150,8 @@ fn read_values(
     fields: &[&[u8]],
 ) -> Result<Vec<Value>, OrMemory<EventFault>>
     requires { length fields.now ≡ length kinds.now }
-    ensures { Gives (λ values. values.items) result (values_from 1 [] kinds.now (map (λ field. field.now) fields.now)) }
+    ensures { Gives (λ values. values.items) result
+        (values_from 1 [] kinds.now (map (λ field. field.now) fields.now)) }
 {
     let mut values = Vec::with_capacity(alloc, kinds.len())?;
     for (i, kind) in kinds.iter().enumerate() {

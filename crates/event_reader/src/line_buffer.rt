@@ -47,9 +47,13 @@ impl Model for LineBuffer {
 
     ghost Value = { Held };
 
-    ghost view = { λ w. record { pending = bytes_between w.buffer.items w.from w.to; text = bytes_between w.buffer.items w.text_from w.text_to } };
+    ghost view = { λ w. record {
+      pending = bytes_between w.buffer.items w.from w.to;
+      text = bytes_between w.buffer.items w.text_from w.text_to;
+    } };
 
-    ghost invariant = { λ w. IsLineBuffer w.buffer.items w.from w.searched w.to w.text_from w.text_to };
+    ghost invariant = { λ w. IsLineBuffer w.buffer.items
+        w.from w.searched w.to w.text_from w.text_to };
 }
 
 impl LineBuffer {
@@ -100,7 +104,10 @@ impl LineBuffer {
         requires end { end ≤ length self.old.pending }
         requires short { len ≤ LONGEST_LINE }
         requires plain { has_line_feed (take len self.old.pending) ≡ false }
-        ensures { self.new ≡ record { pending = drop end self.old.pending; text = drop start (take len self.old.pending) } }
+        ensures { self.new ≡ record {
+          pending = drop end self.old.pending;
+          text = drop start (take len self.old.pending);
+        } }
     {
         self.text_from = self.from + start;
         self.text_to = self.from + len;
@@ -111,7 +118,8 @@ impl LineBuffer {
     /// The place of the first line feed. No byte is looked at twice.
     fn find(&mut self) -> Option<usize>
         ensures kept { self.new ≡ self.old }
-        ensures found { MatchOption result (has_line_feed self.old.pending ≡ false) (λ place. IsFirstLineFeed place self.old.pending) }
+        ensures found { MatchOption result (has_line_feed self.old.pending ≡ false)
+            (λ place. IsFirstLineFeed place self.old.pending) }
     {
         match memchr(LINE_FEED, &self.buffer.as_slice()[self.searched..self.to]) {
             Some(place) => {
@@ -151,7 +159,8 @@ impl LineBuffer {
     fn fill<Q: Source>(&mut self, source: &mut Q, room: u64) -> Result<usize, Failed>
         requires short { length self.old.pending ≤ LONGEST_LINE }
         requires room { length self.old.pending < room }
-        ensures bytes { ReadsOn (Q.left source.old) (Q.left source.new) self.old.pending self.new.pending }
+        ensures bytes { ReadsOn (Q.left source.old)
+            (Q.left source.new) self.old.pending self.new.pending }
         ensures kept { take (length self.old.pending) self.new.pending ≡ self.old.pending }
         ensures room { length self.new.pending ≤ room }
         ensures count { IfOk result (λ n. length self.new.pending ≡ length self.old.pending + n) }
@@ -176,7 +185,8 @@ impl LineBuffer {
     /// line yet.
     pub fn seek<Q: Source>(&mut self, source: &mut Q, room: u64) -> Result<Stop, Failed>
         requires { length self.old.pending ≤ room }
-        ensures bytes { ReadsOn (Q.left source.old) (Q.left source.new) self.old.pending self.new.pending }
+        ensures bytes { ReadsOn (Q.left source.old)
+            (Q.left source.new) self.old.pending self.new.pending }
         ensures room { length self.new.pending ≤ room }
         ensures stop { IsStop room self.new.pending (Q.left source.new) result }
         ensures cause { HasCause (Q.faults source.old) (Q.faults source.new) result }
@@ -236,9 +246,11 @@ fn read_after<Q: Source>(
     ensures len { length buffer.new.items ≡ length buffer.old.items }
     ensures count { IfOk result (λ n. n ≤ most) }
     ensures before { take len buffer.new.items ≡ take len buffer.old.items }
-    ensures bytes { IfOk result (λ n. ReadsOn (Q.left source.old) (Q.left source.new) (take len buffer.old.items) (take (len + n) buffer.new.items)) }
+    ensures bytes { IfOk result (λ n. ReadsOn (Q.left source.old) (Q.left source.new)
+        (take len buffer.old.items) (take (len + n) buffer.new.items)) }
     ensures end { IfOk result (λ n. n ≡ 0 → IsAtEnd (Q.left source.new)) }
-    ensures failed { OnErr result (ReadsOn (Q.left source.old) (Q.left source.new) (take len buffer.old.items) (take len buffer.old.items)) }
+    ensures failed { OnErr result (ReadsOn (Q.left source.old) (Q.left source.new)
+        (take len buffer.old.items) (take len buffer.old.items)) }
     ensures cause { HasCause (Q.faults source.old) (Q.faults source.new) result }
 {
     match source.read(&mut buffer.as_mut_slice()[len..len + most]) {

@@ -18,7 +18,9 @@ struct Told {
 
 // Reads all lines, as any caller does: what it saw is what the definition says.
 fn read_lines<Q: Source>(alloc: Global, budget: u64, source: &mut Q) -> Result<Told, Memory>
-    ensures { IfOk result (λ told. (bytes : List ℕ) → Q.left source.old ≡ Some bytes → HasTold budget bytes (Q.left source.new) (map (λ text. text.items) told.texts.items) told.fault) }
+    ensures { IfOk result (λ told. (bytes : List ℕ) → Q.left source.old ≡ Some bytes
+        → HasTold budget bytes (Q.left source.new)
+        (map (λ text. text.items) told.texts.items) told.fault) }
 {
     let mut lines = Lines::new(alloc, budget)?;
     let mut texts = Vec::new(alloc);

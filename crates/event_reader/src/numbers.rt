@@ -41,7 +41,9 @@ pub fn without_sign(field: &[u8]) -> &[u8]
 #[tactic(auto, using(crate::proofs::Decimals::shape_refused, crate::proofs::Decimals::digits_wanted, crate::proofs::Decimals::whole_least, crate::proofs::Decimals::fraction_least, crate::proofs::Decimals::decimal_shape, crate::proofs::Decimals::all_parts))]
 fn magnitude(places: usize, point: bool, whole: &[u8], fraction: &[u8]) -> Option<u64>
     requires { point ≡ false → length fraction.now ≡ 0 }
-    ensures { SomeIff result ((is_decimal places point whole.now fraction.now ≡ true) × (digits_value 10 (digits_of places whole.now fraction.now) < 2 ^ 64)) (digits_value 10 (digits_of places whole.now fraction.now)) }
+    ensures { SomeIff result ((is_decimal places point whole.now fraction.now ≡ true)
+        × (digits_value 10 (digits_of places whole.now fraction.now) < 2 ^ 64))
+        (digits_value 10 (digits_of places whole.now fraction.now)) }
 {
     if whole.is_empty() || (point && fraction.is_empty()) || fraction.len() > places {
         return None;
@@ -72,7 +74,9 @@ fn point_at(text: &[u8]) -> usize
 /// 64.
 #[tactic(auto, using(crate::proofs::Digits::value_step, crate::proofs::Digits::value_bound, crate::proofs::Digits::digits_step, crate::proofs::Digits::value_end, crate::proofs::Digits::digits_end))]
 fn with_digits(size: u64, digits: &[u8]) -> Option<u64>
-    ensures { SomeIff result ((all_ascii_digits digits.now ≡ true) × (digits_value_after 10 size digits.now < 2 ^ 64)) (digits_value_after 10 size digits.now) }
+    ensures { SomeIff result ((all_ascii_digits digits.now ≡ true)
+        × (digits_value_after 10 size digits.now < 2 ^ 64))
+        (digits_value_after 10 size digits.now) }
 {
     let mut sum = size;
     for digit in digits {
@@ -93,7 +97,8 @@ fn with_digits(size: u64, digits: &[u8]) -> Option<u64>
 /// The number with so many zeros put behind it, where it is below 2 to the 64.
 #[tactic(auto, using(crate::proofs::Digits::zeros_step, crate::proofs::Digits::zeros_bound))]
 fn with_zeros(size: u64, count: usize) -> Option<u64>
-    ensures { SomeIff result (digits_value_after 10 size (replicate count 48) < 2 ^ 64) (digits_value_after 10 size (replicate count 48)) }
+    ensures { SomeIff result (digits_value_after 10 size (replicate count 48) < 2 ^ 64)
+        (digits_value_after 10 size (replicate count 48)) }
 {
     let mut sum = size;
     for _ in 0..count {

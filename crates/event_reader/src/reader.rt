@@ -40,7 +40,15 @@ impl Model for Lines {
 
     ghost Value = { LineReader };
 
-    ghost view = { λ l. record { budget = l.budget; number = l.number; text = l.buffer.text; pending = l.buffer.pending; room = l.room; ended = l.ended; closed = l.closed } };
+    ghost view = { λ l. record {
+      budget = l.budget;
+      number = l.number;
+      text = l.buffer.text;
+      pending = l.buffer.pending;
+      room = l.room;
+      ended = l.ended;
+      closed = l.closed;
+    } };
 
     ghost invariant = { λ l. (length l.buffer.pending ≤ l.room) × (l.number + l.room ≤ l.budget) };
 }
@@ -48,7 +56,8 @@ impl Model for Lines {
 impl Lines {
     /// A reader that takes at most `budget` bytes of its source, at its beginning.
     pub fn new(alloc: Global, budget: u64) -> Result<Lines, Memory>
-        ensures given { IfOk result (λ lines. (bytes : List ℕ) → HasGiven lines bytes (Some bytes) []) }
+        ensures given { IfOk result (λ lines. (bytes : List ℕ)
+            → HasGiven lines bytes (Some bytes) []) }
         ensures budget { IfOk result (λ lines. lines.budget ≡ budget) }
         ensures number { IfOk result (λ lines. lines.number ≡ 0) }
         ensures open { IfOk result (λ lines. lines.closed ≡ false) }
@@ -116,8 +125,12 @@ impl Lines {
     #[inline(always)]
     pub fn next<Q: Source>(&mut self, source: &mut Q) -> Result<Next, LineFault>
         requires { self.old.closed ≡ false }
-        ensures lines { (bytes : List ℕ) (texts : List (List ℕ)) → HasGiven self.old bytes (Q.left source.old) texts → Follows self.new bytes (Q.left source.new) texts result }
-        ensures took { (bytes : List ℕ) (texts : List (List ℕ)) → HasGiven self.old bytes (Q.left source.old) texts → HasTakenFor self.old.budget bytes (Q.left source.new) result }
+        ensures lines { (bytes : List ℕ) (texts : List (List ℕ))
+            → HasGiven self.old bytes (Q.left source.old) texts
+            → Follows self.new bytes (Q.left source.new) texts result }
+        ensures took { (bytes : List ℕ) (texts : List (List ℕ))
+            → HasGiven self.old bytes (Q.left source.old) texts
+            → HasTakenFor self.old.budget bytes (Q.left source.new) result }
         ensures moves { MovesOn self.old self.new result }
         ensures cause { HasReadCause (Q.faults source.old) (Q.faults source.new) result }
         ensures rest { OnReadFault result (IsShort self.new.pending) }
@@ -149,7 +162,12 @@ impl Lines {
         requires end { end ≤ length self.old.pending }
         requires short { len ≤ LONGEST_LINE }
         requires plain { has_line_feed (take len self.old.pending) ≡ false }
-        ensures { self.new ≡ record self.old { number = self.old.number + 1; text = line_text self.old.number (take len self.old.pending); pending = drop end self.old.pending; room = self.old.room - end } }
+        ensures { self.new ≡ record self.old {
+          number = self.old.number + 1;
+          text = line_text self.old.number (take len self.old.pending);
+          pending = drop end self.old.pending;
+          room = self.old.room - end;
+        } }
     {
         let start = self.start_of(len);
         self.buffer.give(start, len, end);
@@ -160,7 +178,8 @@ impl Lines {
     /// Where the text of a line of the first `len` bytes at hand begins.
     fn start_of(&self, len: usize) -> usize
         requires { len ≤ length self.now.pending }
-        ensures text { drop result (take len self.now.pending) ≡ line_text self.now.number (take len self.now.pending) }
+        ensures text { drop result (take len self.now.pending)
+            ≡ line_text self.now.number (take len self.now.pending) }
         ensures within { result ≤ len }
     {
         if self.number == 0 {
@@ -173,8 +192,17 @@ impl Lines {
     /// Gives what is left of a file that has ended.
     fn last(&mut self) -> Next
         requires { IsShort self.old.pending }
-        ensures none { length self.old.pending ≡ 0 → (result ≡ next.End) × (self.new ≡ record self.old { closed = true }) }
-        ensures some { 0 < length self.old.pending → (result ≡ next.Line) × (self.new ≡ record self.old { number = self.old.number + 1; text = line_text self.old.number self.old.pending; pending = []; room = self.old.room - length self.old.pending; ended = true }) }
+        ensures none { length self.old.pending ≡ 0
+            → (result ≡ next.End) × (self.new ≡ record self.old { closed = true }) }
+        ensures some { 0 < length self.old.pending
+            → (result ≡ next.Line)
+            × (self.new ≡ record self.old {
+              number = self.old.number + 1;
+              text = line_text self.old.number self.old.pending;
+              pending = [];
+              room = self.old.room - length self.old.pending;
+              ended = true;
+            }) }
     {
         let len = self.buffer.len();
         if len == 0 {

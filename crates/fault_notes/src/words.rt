@@ -42,7 +42,8 @@ pub fn push_hex(text: &mut Vec<u8>, byte: u8) -> Result<(), Memory>
 
 /// The words with the name between them.
 pub fn push_named(text: &mut Vec<u8>, before: &[u8], name: &str, after: &[u8]) -> Result<(), Memory>
-    ensures { OnOk result (text.new.items ≡ text.old.items ++ (before.now ++ name.now ++ after.now)) }
+    ensures { OnOk result (text.new.items
+        ≡ text.old.items ++ (before.now ++ name.now ++ after.now)) }
 {
     text.extend_from_slice(before)?;
     text.extend_from_slice(name.as_bytes())?;

@@ -86,7 +86,8 @@ fn positions_of(
     steps: &[Step],
     name: &str,
 ) -> Result<Vec<Pos>, Memory>
-    ensures { IfOk result (λ positions. positions.items ≡ positions_of leaves.now steps.now name.now) }
+    ensures { IfOk result (λ positions. positions.items
+        ≡ positions_of leaves.now steps.now name.now) }
 {
     let mut positions = Vec::new(alloc);
     for step in steps {

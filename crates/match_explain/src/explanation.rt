@@ -27,7 +27,8 @@ use stream_schema::{Event, Schema};
 /// Whether the ends and the marks are of the span.
 fn lies_within(span: &[Pos], start: Pos, end: Pos, marks: &[Pos]) -> bool
     requires { IsAscending span.now }
-    ensures { result ≡ (is_listed span.now start && (is_listed span.now end && list_all (is_listed span.now) marks.now)) }
+    ensures { result ≡ (is_listed span.now start
+        && (is_listed span.now end && list_all (is_listed span.now) marks.now)) }
 {
     lists(span, start) && lists(span, end) && lists_all(span, marks)
 }
@@ -43,8 +44,10 @@ fn may_be(
     marks: &[Pos],
 ) -> bool
     requires { IsAscending span.now }
-    ensures yes { result ≡ true → MayBe schema.now query.now events.now start end span.now marks.now }
-    ensures no { MayBe schema.now query.now events.now start end span.now marks.now → result ≡ true }
+    ensures yes { result ≡ true
+        → MayBe schema.now query.now events.now start end span.now marks.now }
+    ensures no { MayBe schema.now query.now events.now start end span.now marks.now
+        → result ≡ true }
 {
     ascends(marks)
         && is_in_window(schema, &query.window, events, start, end)
@@ -64,8 +67,10 @@ fn run(
 ) -> Result<Option<Vec<Step>>, Memory>
     requires there { All (λ p. p < length events.now) span.now }
     requires ascending { IsAscending marks.now }
-    ensures found { IfOk result (λ r. IfSome r (λ steps. IsRun schema.now query.now events.now span.now marks.now steps.items)) }
-    ensures none { IfOk result (λ r. IfNone r (HasNoRun schema.now query.now events.now span.now marks.now)) }
+    ensures found { IfOk result (λ r.
+        IfSome r (λ steps. IsRun schema.now query.now events.now span.now marks.now steps.items)) }
+    ensures none { IfOk result (λ r.
+        IfNone r (HasNoRun schema.now query.now events.now span.now marks.now)) }
 {
     let leaves = leaves_of(alloc, schema, query)?;
     let cea = compile(alloc, &leaves)?;
@@ -94,8 +99,13 @@ pub fn explain(
     end: Pos,
     marks: &[Pos],
 ) -> Result<Option<Valuation>, Memory>
-    ensures explains { IfOk result (λ r. IfSome r (Explains schema.now query.now events.now start end marks.now)) }
-    ensures exactly { IfOk result (λ r. IsTrue (is_some r) ↔ IsAnswer schema.now query.now events.now end (record { start = start; marks = marks.now })) }
+    ensures explains { IfOk result (λ r.
+        IfSome r (Explains schema.now query.now events.now start end marks.now)) }
+    ensures exactly { IfOk result (λ r. IsTrue (is_some r)
+        ↔ IsAnswer schema.now query.now events.now end (record {
+          start = start;
+          marks = marks.now;
+        })) }
 {
     let substream = positions(alloc, schema, query, events, end)?;
     let span = from_to(alloc, start, end, substream.as_slice())?;

@@ -38,7 +38,8 @@ fn finishers_of(alloc: Global, cea: &Cea, turn: &Turn, ahead: &Ahead) -> Result<
     requires readers { IsSet cea.now.size turn.now.readers }
     requires ahead { IsSet cea.now.size ahead.now.just }
     ensures set { IfOk result (IsSet cea.now.size) }
-    ensures members { IfOk result (λ b. (k : ℕ) → has b k ≡ (has turn.now.readers k && has ahead.now.just k)) }
+    ensures members { IfOk result (λ b. (k : ℕ)
+        → has b k ≡ (has turn.now.readers k && has ahead.now.just k)) }
 {
     let mut finishers = turn.readers.copy(alloc)?;
     finishers.intersect(&ahead.just);
@@ -75,7 +76,8 @@ fn before(
 pub fn finishers(alloc: Global, cea: &Cea, turns: &[Turn]) -> Result<Vec<Bits>, Memory>
     requires formed { IsWellFormed cea.now }
     requires readers { All (λ t. IsSet cea.now.size t.readers) turns.now }
-    ensures { IfOk result (λ sets. AreFinishers (automaton_of_cea cea.now) turns.now (reverse sets.items)) }
+    ensures { IfOk result (λ sets.
+        AreFinishers (automaton_of_cea cea.now) turns.now (reverse sets.items)) }
 {
     let mut ahead = at_end(alloc, cea)?;
     let mut sets = Vec::new(alloc);

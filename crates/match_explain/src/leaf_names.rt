@@ -104,7 +104,8 @@ fn after_postfixes(
 /// The leaves under one filter after another.
 #[cycle(copies)]
 fn copies_of_all(alloc: Global, filters: &[Filter], leaves: &[Texts]) -> Result<Vec<Texts>, Memory>
-    ensures { IfOk result (λ after. after.items ≡ fold (λ ls c. copies c ls) leaves.now filters.now) }
+    ensures { IfOk result (λ after. after.items
+        ≡ fold (λ ls c. copies c ls) leaves.now filters.now) }
 {
     let mut after = Vec::new(alloc);
     add_copies(alloc, &mut after, leaves)?;
@@ -145,7 +146,8 @@ fn copies(alloc: Global, filter: &Filter, leaves: &[Texts]) -> Result<Vec<Texts>
 
 /// The leaves under each of the filters.
 fn under_all(alloc: Global, leaves: Vec<Texts>, filters: &[Filter]) -> Result<Vec<Texts>, Memory>
-    ensures { IfOk result (λ after. after.items ≡ fold (λ ls c. copies c ls) leaves.items filters.now) }
+    ensures { IfOk result (λ after. after.items
+        ≡ fold (λ ls c. copies c ls) leaves.items filters.now) }
 {
     let mut after = leaves;
     for filter in filters {

@@ -64,8 +64,10 @@ fn may_read(cea: &Cea, last: Last, leaf: usize) -> bool
 pub fn next_leaf(cea: &Cea, last: Last, set: &Bits) -> Option<usize>
     requires formed { IsWellFormed cea.now }
     requires below { IsLeafBelow cea.now.size last }
-    ensures found { IfSome result (λ j. (j < cea.now.size) × (may_read (automaton_of_cea cea.now) last j ≡ true) × (has set.now j ≡ true)) }
-    ensures none { IfNone result (some_below cea.now.size (λ j. may_read (automaton_of_cea cea.now) last j && has set.now j) ≡ false) }
+    ensures found { IfSome result (λ j. (j < cea.now.size)
+        × (may_read (automaton_of_cea cea.now) last j ≡ true) × (has set.now j ≡ true)) }
+    ensures none { IfNone result (some_below cea.now.size
+        (λ j. may_read (automaton_of_cea cea.now) last j && has set.now j) ≡ false) }
 {
     for leaf in 0..cea.size {
         if set.contains(leaf) && may_read(cea, last, leaf) {
@@ -100,7 +102,8 @@ fn meets_either(size: usize, near: &[Bits], far: &[Bits], leaf: usize, set: &Bit
     requires far { AreRows size far.now }
     requires below { leaf < size }
     requires set { IsSet size set.now }
-    ensures { result ≡ some_below size (λ j. (row near.now leaf j || row far.now leaf j) && has set.now j) }
+    ensures { result ≡ some_below size (λ j. (row near.now leaf j || row far.now leaf j)
+        && has set.now j) }
 {
     let follows_next = meets_row(size, near, leaf, set);
     let follows_later = meets_row(size, far, leaf, set);
@@ -112,7 +115,8 @@ pub fn leads(cea: &Cea, last: Last, set: &Bits) -> bool
     requires formed { IsWellFormed cea.now }
     requires below { IsLeafBelow cea.now.size last }
     requires set { IsSet cea.now.size set.now }
-    ensures { result ≡ some_below cea.now.size (λ j. may_read (automaton_of_cea cea.now) last j && has set.now j) }
+    ensures { result ≡ some_below cea.now.size (λ j. may_read (automaton_of_cea cea.now) last j
+        && has set.now j) }
 {
     let far = cea.far.as_slice();
     match last {

@@ -70,7 +70,8 @@ fn lies_between(marks: &[Pos], position: Pos) -> bool
 /// Whether each position of the span between two marks, which ascend, is marked.
 fn is_contiguous(span: &[Pos], marks: &[Pos]) -> bool
     requires { IsAscending marks.now }
-    ensures { result ≡ list_all (λ p. not (lies_between marks.now p) || is_listed marks.now p) span.now }
+    ensures { result ≡ list_all (λ p. not (lies_between marks.now p)
+        || is_listed marks.now p) span.now }
 {
     for position in span {
         if lies_between(marks, *position) && !lists(marks, *position) {

@@ -35,7 +35,9 @@ fn readers(
 ) -> Result<Bits, Memory>
     requires { IsSet (length conditions.now) marked_leaves.now }
     ensures set { IfOk result (IsSet (length conditions.now)) }
-    ensures members { IfOk result (λ b. (k : ℕ) → has b k ≡ (leaf_conditions conditions.now event.now k && agrees marked (has marked_leaves.now k))) }
+    ensures members { IfOk result (λ b. (k : ℕ)
+        → has b k
+        ≡ (leaf_conditions conditions.now event.now k && agrees marked (has marked_leaves.now k))) }
 {
     let mut readers = conditions.blank(alloc)?;
     conditions.fill(event, &mut readers);
@@ -59,7 +61,8 @@ fn turn_at(
     requires marked { IsSet (length conditions.now) marked_leaves.now }
     requires there { position < length events.now }
     requires ascending { IsAscending marks.now }
-    ensures { IfOk result (IsTurnAt conditions.now (has marked_leaves.now) (length conditions.now) events.now marks.now position) }
+    ensures { IfOk result (IsTurnAt conditions.now (has marked_leaves.now)
+        (length conditions.now) events.now marks.now position) }
 {
     let marked = lists(marks, position);
     let event = &events[position as usize];
@@ -83,7 +86,9 @@ pub fn turns_of(
     requires marked { IsSet (length conditions.now) marked_leaves.now }
     requires there { All (λ p. p < length events.now) span.now }
     requires ascending { IsAscending marks.now }
-    ensures { IfOk result (λ turns. AllZip (IsTurnAt conditions.now (has marked_leaves.now) (length conditions.now) events.now marks.now) span.now turns.items) }
+    ensures { IfOk result (λ turns. AllZip (IsTurnAt conditions.now
+        (has marked_leaves.now) (length conditions.now) events.now marks.now)
+        span.now turns.items) }
 {
     let mut turns = Vec::new(alloc);
     for position in span {

@@ -59,8 +59,12 @@ fn next_at(cea: &Cea, last: Last, finishers: &[Bits], turn: usize) -> Option<usi
     requires formed { IsWellFormed cea.now }
     requires below { IsLeafBelow cea.now.size last }
     requires there { turn < length finishers.now }
-    ensures found { IfSome result (λ j. (j < cea.now.size) × (may_read (automaton_of_cea cea.now) last j ≡ true) × (has (slice_index_or (reverse finishers.now) turn []) j ≡ true)) }
-    ensures none { IfNone result (some_below cea.now.size (λ j. may_read (automaton_of_cea cea.now) last j && has (slice_index_or (reverse finishers.now) turn []) j) ≡ false) }
+    ensures found { IfSome result (λ j. (j < cea.now.size)
+        × (may_read (automaton_of_cea cea.now) last j ≡ true)
+        × (has (slice_index_or (reverse finishers.now) turn []) j ≡ true)) }
+    ensures none { IfNone result (some_below cea.now.size
+        (λ j. may_read (automaton_of_cea cea.now) last j
+        && has (slice_index_or (reverse finishers.now) turn []) j) ≡ false) }
 {
     next_leaf(cea, last, &finishers[finishers.len() - 1 - turn])
 }
@@ -103,8 +107,10 @@ fn walk(alloc: Global, cea: &Cea, turns: &[Turn], finishers: &[Bits]) -> Result<
 pub fn run_over(alloc: Global, cea: &Cea, turns: &[Turn]) -> Result<Option<Vec<Step>>, Memory>
     requires formed { IsWellFormed cea.now }
     requires readers { All (λ t. IsSet cea.now.size t.readers) turns.now }
-    ensures found { IfOk result (λ r. IfSome r (λ steps. Goes (automaton_of_cea cea.now) Start turns.now steps.items)) }
-    ensures none { IfOk result (λ r. IfNone r (can_finish (automaton_of_cea cea.now) Start turns.now ≡ false)) }
+    ensures found { IfOk result (λ r.
+        IfSome r (λ steps. Goes (automaton_of_cea cea.now) Start turns.now steps.items)) }
+    ensures none { IfOk result (λ r.
+        IfNone r (can_finish (automaton_of_cea cea.now) Start turns.now ≡ false)) }
 {
     let finishers = finishers(alloc, cea, turns)?;
     if !can_begin(cea, turns, finishers.as_slice()) {

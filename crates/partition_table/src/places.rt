@@ -3,8 +3,7 @@
 ghost use Rattle.std.specs.Prelude.{◌≡◌, slice_get};
 ghost use Rattle.partition_table.specs.Keys.{is_at, are_at};
 
-use crate::same_value;
-use stream_schema::Value;
+use stream_schema::{Value, same_value};
 
 /// Whether the value at the place is the same.
 fn is_at(value: &Value, place: u64, values: &[Value]) -> bool

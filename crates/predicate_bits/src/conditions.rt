@@ -126,7 +126,8 @@ fn group_of(groups: &[Vec<usize>], ty: TypeId) -> Option<&Vec<usize>>
 fn holds_at(list: &[Leaf], ranges: &[Range], number: usize, event: &Event) -> bool
     requires inside { number < length list.now }
     requires ranges { AreRangesOf list.now ranges.now }
-    ensures { (l : Leaf) → slice_get list.now number ≡ Some l → result ≡ tests_hold l.tests.items event.now }
+    ensures { (l : Leaf) → slice_get list.now number ≡ Some l
+        → result ≡ tests_hold l.tests.items event.now }
 {
     if !may_hold(&ranges[number], event) {
         return false;

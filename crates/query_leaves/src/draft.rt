@@ -33,7 +33,8 @@ pub fn sequence<'q>(
     first: Draft<'q>,
     second: Draft<'q>,
 ) -> Result<Draft<'q>, Memory>
-    ensures { IfOk result (λ both. tree_of_draft both ≡ sequence tight (tree_of_draft first.entry) (tree_of_draft second.entry)) }
+    ensures { IfOk result (λ both. tree_of_draft both
+        ≡ sequence tight (tree_of_draft first.entry) (tree_of_draft second.entry)) }
 {
     Ok(Draft::Sequence {
         tight,
@@ -43,7 +44,8 @@ pub fn sequence<'q>(
 }
 
 pub fn either<'q>(alloc: Global, first: Draft<'q>, second: Draft<'q>) -> Result<Draft<'q>, Memory>
-    ensures { IfOk result (λ both. tree_of_draft both ≡ either (tree_of_draft first.entry) (tree_of_draft second.entry)) }
+    ensures { IfOk result (λ both. tree_of_draft both
+        ≡ either (tree_of_draft first.entry) (tree_of_draft second.entry)) }
 {
     Ok(Draft::Either(Box::new(alloc, first)?, Box::new(alloc, second)?))
 }
@@ -59,7 +61,8 @@ pub fn plus<'q>(alloc: Global, tight: bool, part: Draft<'q>) -> Result<Draft<'q>
 
 /// One or more of the tree. One that repeats already repeats no further, and is tight where both are.
 pub fn one_or_more<'q>(alloc: Global, tight: bool, part: Draft<'q>) -> Result<Draft<'q>, Memory>
-    ensures { IfOk result (λ some. tree_of_draft some ≡ one_or_more tight (tree_of_draft part.entry)) }
+    ensures { IfOk result (λ some. tree_of_draft some
+        ≡ one_or_more tight (tree_of_draft part.entry)) }
 {
     match part {
         Draft::Plus { tight: inner, part } => Ok(Draft::Plus {
@@ -76,7 +79,8 @@ pub fn changed<'q>(
     draft: Draft<'q>,
     change: &Change<'q>,
 ) -> Result<Draft<'q>, Memory>
-    ensures { IfOk result (λ after. tree_of_draft after ≡ at_leaves (change_leaf change.now) (tree_of_draft draft.entry)) }
+    ensures { IfOk result (λ after. tree_of_draft after
+        ≡ at_leaves (change_leaf change.now) (tree_of_draft draft.entry)) }
 {
     match draft {
         Draft::Never => Ok(Draft::Never),

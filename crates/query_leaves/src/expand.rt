@@ -17,7 +17,8 @@ fn filtered_by_all<'q>(
     filters: &'q [Filter],
     draft: Draft<'q>,
 ) -> Result<Draft<'q>, Memory>
-    ensures { IfOk result (λ after. tree_of_draft after ≡ fold (λ t c. filtered c t) (tree_of_draft draft.entry) filters.now) }
+    ensures { IfOk result (λ after. tree_of_draft after
+        ≡ fold (λ t c. filtered c t) (tree_of_draft draft.entry) filters.now) }
 {
     let mut after = draft;
     for part in filters {
@@ -33,7 +34,8 @@ fn filtered_by_any<'q>(
     filters: &'q [Filter],
     draft: &Draft<'q>,
 ) -> Result<Draft<'q>, Memory>
-    ensures { IfOk result (λ after. tree_of_draft after ≡ tree_of_alternatives filters.now (tree_of_draft draft.now)) }
+    ensures { IfOk result (λ after. tree_of_draft after
+        ≡ tree_of_alternatives filters.now (tree_of_draft draft.now)) }
 {
     let mut after = Draft::Never;
     for k in (0..filters.len()).rev() {
@@ -46,7 +48,8 @@ fn filtered_by_any<'q>(
 /// The tree under the filter.
 #[cycle(filtered)]
 fn filtered<'q>(alloc: Global, filter: &'q Filter, draft: Draft<'q>) -> Result<Draft<'q>, Memory>
-    ensures { IfOk result (λ after. tree_of_draft after ≡ filtered filter.now (tree_of_draft draft.entry)) }
+    ensures { IfOk result (λ after. tree_of_draft after
+        ≡ filtered filter.now (tree_of_draft draft.entry)) }
 {
     match filter {
         Filter::On(name, pred) => changed(alloc, draft, &Change::Test(name, pred)),
@@ -61,7 +64,8 @@ fn under_all<'q>(
     filters: &'q [Filter],
     draft: Draft<'q>,
 ) -> Result<Draft<'q>, Memory>
-    ensures { IfOk result (λ after. tree_of_draft after ≡ fold (λ t c. filtered c t) (tree_of_draft draft.entry) filters.now) }
+    ensures { IfOk result (λ after. tree_of_draft after
+        ≡ fold (λ t c. filtered c t) (tree_of_draft draft.entry) filters.now) }
 {
     let mut after = draft;
     for filter in filters {
@@ -71,7 +75,8 @@ fn under_all<'q>(
 }
 
 fn postfixed<'q>(alloc: Global, postfix: &'q Postfix, draft: Draft<'q>) -> Result<Draft<'q>, Memory>
-    ensures { IfOk result (λ after. tree_of_draft after ≡ postfixed postfix.now (tree_of_draft draft.entry)) }
+    ensures { IfOk result (λ after. tree_of_draft after
+        ≡ postfixed postfix.now (tree_of_draft draft.entry)) }
 {
     match postfix {
         Postfix::Plus => one_or_more(alloc, false, draft),
@@ -87,7 +92,8 @@ fn postfixed_by_all<'q>(
     postfixes: &'q [Postfix],
     draft: Draft<'q>,
 ) -> Result<Draft<'q>, Memory>
-    ensures { IfOk result (λ after. tree_of_draft after ≡ fold (λ t p. postfixed p t) (tree_of_draft draft.entry) postfixes.now) }
+    ensures { IfOk result (λ after. tree_of_draft after
+        ≡ fold (λ t p. postfixed p t) (tree_of_draft draft.entry) postfixes.now) }
 {
     let mut after = draft;
     for postfix in postfixes {
@@ -116,7 +122,8 @@ fn chain<'q>(alloc: Global, parts: &'q [Formula]) -> Result<Draft<'q>, Memory>
 /// The links one after another, after what stands before them.
 #[cycle(expand)]
 fn linked<'q>(alloc: Global, links: &'q [Link], first: Draft<'q>) -> Result<Draft<'q>, Memory>
-    ensures { IfOk result (λ draft. tree_of_draft draft ≡ tree_of_links (tree_of_draft first.entry) links.now) }
+    ensures { IfOk result (λ draft. tree_of_draft draft
+        ≡ tree_of_links (tree_of_draft first.entry) links.now) }
 {
     let mut before = first;
     for link in links {

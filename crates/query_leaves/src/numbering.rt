@@ -22,9 +22,12 @@ pub fn numbered(
     draft: &Draft,
     list: &mut Vec<Leaf>,
 ) -> Result<Shape, Memory>
-    ensures shape { IfOk result (λ s. tree_of_shape s ≡ numbered (length list.old.items) (tree_of_draft draft.now)) }
-    ensures count { OnOk result (length list.new.items ≡ length list.old.items + length (occurrences (tree_of_draft draft.now))) }
-    ensures list { OnOk result ((before : List Occurs) → AreMadeOf schema.now before list.old.items → AreMadeOf schema.now (before ++ occurrences (tree_of_draft draft.now)) list.new.items) }
+    ensures shape { IfOk result (λ s. tree_of_shape s
+        ≡ numbered (length list.old.items) (tree_of_draft draft.now)) }
+    ensures count { OnOk result (length list.new.items
+        ≡ length list.old.items + length (occurrences (tree_of_draft draft.now))) }
+    ensures list { OnOk result ((before : List Occurs) → AreMadeOf schema.now before list.old.items
+        → AreMadeOf schema.now (before ++ occurrences (tree_of_draft draft.now)) list.new.items) }
 {
     match draft {
         Draft::Never => Ok(Shape::Never),

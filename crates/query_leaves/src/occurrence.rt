@@ -170,7 +170,8 @@ fn some_has_text(listed: &[Name], name: &str) -> bool
 
 /// Those of the names that are listed.
 fn only_names<'q>(alloc: Global, listed: &[Name], names: &[&'q str]) -> Result<Vec<&'q str>, Memory>
-    ensures { IfOk result (λ after. map (λ n. n.now) after.items ≡ only_names listed.now (map (λ n. n.now) names.now)) }
+    ensures { IfOk result (λ after. map (λ n. n.now) after.items
+        ≡ only_names listed.now (map (λ n. n.now) names.now)) }
 {
     let mut after = Vec::new(alloc);
     for name in names {

@@ -20,7 +20,8 @@ use stream_schema::Schema;
 /// schema are lawful. The only error is that memory ran out.
 pub fn leaves_of(alloc: Global, schema: &Schema, query: &Query) -> Result<Leaves, Memory>
     ensures shape { IfOk result (λ l. tree_of_shape l.shape ≡ numbered 0 (tree_of query.now)) }
-    ensures list { IfOk result (λ l. AreLeavesOf schema.now (occurrences (tree_of query.now)) l.list) }
+    ensures list { IfOk result (λ l.
+        AreLeavesOf schema.now (occurrences (tree_of query.now)) l.list) }
     ensures strict { IfOk result (λ l. l.strict ≡ query.now.strict) }
     ensures numbered { IfOk result AreNumbered }
     ensures lawful { IsChecked schema.now query.now → IfOk result IsLawful }

@@ -71,7 +71,8 @@ pub fn tests_of_all(
     ty: TypeId,
     preds: &[&Pred],
 ) -> Result<Vec<Test>, Memory>
-    ensures { IfOk result (λ tests. AreTestsOf schema.now ty (map (λ p. p.now) (reverse preds.now)) tests.items) }
+    ensures { IfOk result (λ tests.
+        AreTestsOf schema.now ty (map (λ p. p.now) (reverse preds.now)) tests.items) }
 {
     let mut tests = Vec::new(alloc);
     for k in (0..preds.len()).rev() {

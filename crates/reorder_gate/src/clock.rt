@@ -50,7 +50,8 @@ fn place_among(attrs: &[Attr], name: &str) -> Option<usize>
 
 /// Where it stands among those of the type.
 fn place_in(schema: &Schema, ty: TypeId, name: &str) -> Option<u64>
-    ensures { result ≡ option_and_then (λ t. attr_index name.now t.attrs) (slice_get schema.now.types ty) }
+    ensures { result ≡ option_and_then (λ t. attr_index name.now t.attrs)
+        (slice_get schema.now.types ty) }
 {
     match schema.attrs(ty) {
         Some(attrs) => match place_among(attrs, name) {

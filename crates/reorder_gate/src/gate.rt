@@ -53,7 +53,13 @@ impl Model for Gate {
 
     ghost Value = { Held };
 
-    ghost view = { λ g. record { places = g.places.items; late = g.late; high = g.high; is_finished = g.is_finished; events = map (λ e. e.1) g.waiting.entries } };
+    ghost view = { λ g. record {
+      places = g.places.items;
+      late = g.late;
+      high = g.high;
+      is_finished = g.is_finished;
+      events = map (λ e. e.1) g.waiting.entries;
+    } };
 
     ghost invariant = { λ g. IsKept g.places.items g.arrivals g.waiting.entries };
 }
@@ -105,7 +111,8 @@ impl Gate {
     pub fn new(alloc: Global, schema: &Schema, clock: &str, late: u64) -> Result<Gate, Memory>
         requires { clock_fits schema.now clock.now ≡ true }
         ensures clock { IfOk result (λ g. IsClock schema.now clock.now g.places) }
-        ensures blank { IfOk result (λ g. (g.late ≡ late) × (g.high ≡ None) × (g.is_finished ≡ false) × (g.events ≡ [])) }
+        ensures blank { IfOk result (λ g. (g.late ≡ late) × (g.high ≡ None)
+            × (g.is_finished ≡ false) × (g.events ≡ [])) }
         ensures history { IfOk result (λ g. StandsFor g [] []) }
     {
         Ok(Gate {
@@ -126,11 +133,15 @@ impl Gate {
     /// - Memory ran out, or 2^64 - 1 events were put.
     pub fn put(&mut self, line: u64, event: Event) -> Result<(), OrMemory<TooLate>>
         requires { self.old.is_finished ≡ false }
-        ensures late { IfSome (lateness self.old.high self.old.late (clock_at self.old.places (line, event))) (λ late. result ≡ Err (answer.Fault late)) }
-        ensures refused { OnFault result (λ late. lateness self.old.high self.old.late (clock_at self.old.places (line, event)) ≡ Some late) }
+        ensures late { IfSome (lateness self.old.high self.old.late
+            (clock_at self.old.places (line, event))) (λ late. result ≡ Err (answer.Fault late)) }
+        ensures refused { OnFault result (λ late.
+            lateness self.old.high self.old.late (clock_at self.old.places (line, event))
+            ≡ Some late) }
         ensures put { OnOk result (self.new ≡ with_event self.old (line, event)) }
         ensures unchanged { OnErr result (self.new ≡ self.old) }
-        ensures history { (put gone : List (ℕ × Event)) → StandsFor self.old put gone → OnOk result (StandsFor self.new (put ++ (line, event) ∷ []) gone) }
+        ensures history { (put gone : List (ℕ × Event)) → StandsFor self.old put gone
+            → OnOk result (StandsFor self.new (put ++ (line, event) ∷ []) gone) }
     {
         let now = clock_in(self.places.as_slice(), &event);
         if let Some(late) = lateness(self.high, self.late, now) {
@@ -154,7 +165,8 @@ impl Gate {
     /// No further event is put. All that are held may go.
     pub fn finish(&mut self)
         ensures finished { self.new ≡ record self.old { is_finished = true } }
-        ensures history { (put gone : List (ℕ × Event)) → StandsFor self.old put gone → StandsFor self.new put gone }
+        ensures history { (put gone : List (ℕ × Event)) → StandsFor self.old put gone
+            → StandsFor self.new put gone }
     {
         self.is_finished = true;
     }
@@ -170,13 +182,18 @@ impl Gate {
     /// may go: at the end always, before it where its clock is at most the greatest one less the
     /// bound. Answers `None` exactly where no held event may go, and changes nothing then.
     pub fn take(&mut self) -> Option<(u64, Event)>
-        ensures taken { IfSome result (λ e. self.old ≡ record self.new { events = e ∷ self.new.events }) }
-        ensures least { IfSome result (λ e. Ascends (clock_at self.old.places) (e ∷ self.new.events)) }
+        ensures taken { IfSome result (λ e. self.old
+            ≡ record self.new { events = e ∷ self.new.events }) }
+        ensures least { IfSome result (λ e.
+            Ascends (clock_at self.old.places) (e ∷ self.new.events)) }
         ensures may_go { IfSome result (λ e. may_go self.old e ≡ true) }
-        ensures none { IfNone result (AllByRecursion (λ e. may_go self.old e ≡ false) self.old.events) }
+        ensures none { IfNone result
+            (AllByRecursion (λ e. may_go self.old e ≡ false) self.old.events) }
         ensures unchanged { IfNone result (self.new ≡ self.old) }
-        ensures history { (put gone : List (ℕ × Event)) → StandsFor self.old put gone → IfSome result (λ e. StandsFor self.new put (gone ++ e ∷ [])) }
-        ensures all { (put gone : List (ℕ × Event)) → StandsFor self.old put gone → IfNone result (gone ≡ all_due self.old put) }
+        ensures history { (put gone : List (ℕ × Event)) → StandsFor self.old put gone
+            → IfSome result (λ e. StandsFor self.new put (gone ++ e ∷ [])) }
+        ensures all { (put gone : List (ℕ × Event)) → StandsFor self.old put gone
+            → IfNone result (gone ≡ all_due self.old put) }
     {
         if !self.has_due() {
             return None;

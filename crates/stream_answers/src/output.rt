@@ -76,7 +76,8 @@ impl Output {
     ) -> Result<(), OrMemory<WriteFault>>
         requires seen { 0 < count_of engine.now }
         ensures lines { lines.new ≡ lines.old }
-        ensures waits { OnOk result ((self.new.held ≡ []) ⊎ (has_line_feed lines.old.pending ≡ true)) }
+        ensures waits { OnOk result ((self.new.held ≡ [])
+            ⊎ (has_line_feed lines.old.pending ≡ true)) }
         ensures order { self.new.order ≡ self.old.order }
         ensures passed { (events : List Event) → StandsFor engine.now events → (bytes : List ℕ)
             × AreBlocks self.old.order engine.now.schema 1 engine.now.queries events
@@ -112,7 +113,8 @@ impl Output {
     /// line, which is not empty, is at hand.
     fn may_wait(&self, lines: &mut Lines) -> bool
         ensures lines { lines.new ≡ lines.old }
-        ensures waits { result ≡ true → (self.now.held ≡ []) ⊎ (has_line_feed lines.old.pending ≡ true) }
+        ensures waits { result ≡ true
+            → (self.now.held ≡ []) ⊎ (has_line_feed lines.old.pending ≡ true) }
     {
         if self.held.is_empty() {
             return true;
@@ -171,9 +173,11 @@ impl Output {
     /// waits while the source is asked.
     pub fn settle<K: Sink>(&mut self, lines: &mut Lines, out: &mut K) -> Result<(), WriteFault>
         ensures lines { lines.new ≡ lines.old }
-        ensures waits { OnOk result ((self.new.held ≡ []) ⊎ (has_line_feed lines.old.pending ≡ true)) }
+        ensures waits { OnOk result ((self.new.held ≡ [])
+            ⊎ (has_line_feed lines.old.pending ≡ true)) }
         ensures order { self.new.order ≡ self.old.order }
-        ensures kept { OnOk result (PassesOn (K.taken out.old) (K.taken out.new) self.old.held [] self.new.held []) }
+        ensures kept { OnOk result (PassesOn (K.taken out.old)
+            (K.taken out.new) self.old.held [] self.new.held []) }
         ensures part { OnErr result (TookPart (K.taken out.old) (K.taken out.new) self.old.held) }
         ensures none { self.old.held ≡ [] → IsOk result }
         ensures cause { HasCause (K.faults out.old) (K.faults out.new) result }

@@ -57,12 +57,13 @@ pub fn write_answers<Q: Source, K: Sink, L: Ledger>(
       most_bytes = most_bytes;
     })
         (Q.left source.old) (Q.left source.new) (K.taken out.old) (K.taken out.new) result }
-    ensures steps { (bytes : List ℕ) → Q.left source.old ≡ Some bytes → StepsOver compact_every (record {
-      order = order;
-      schema = engine.old.schema;
-      queries = engine.old.queries;
-      most_bytes = most_bytes;
-    }) bytes (K.taken out.old) (K.taken out.new) steps.old steps.new result }
+    ensures steps { (bytes : List ℕ) → Q.left source.old ≡ Some bytes
+        → StepsOver compact_every (record {
+          order = order;
+          schema = engine.old.schema;
+          queries = engine.old.queries;
+          most_bytes = most_bytes;
+        }) bytes (K.taken out.old) (K.taken out.new) steps.old steps.new result }
     ensures stands { OnOk result ((bytes : List ℕ) → Q.left source.old ≡ Some bytes
         → StandsForAll compact_every (peak_of engine.old) (record {
           order = order;
@@ -117,12 +118,13 @@ fn answer_events<Q: Source, K: Sink, L: Ledger>(
       most_bytes = lines.old.budget;
     })
         (Q.left source.old) (Q.left source.new) (K.taken out.old) (K.taken out.new) result }
-    ensures steps { (bytes : List ℕ) → Q.left source.old ≡ Some bytes → StepsOver compact_every (record {
-      order = output.old.order;
-      schema = engine.old.schema;
-      queries = engine.old.queries;
-      most_bytes = lines.old.budget;
-    }) bytes (K.taken out.old) (K.taken out.new) steps.old steps.new result }
+    ensures steps { (bytes : List ℕ) → Q.left source.old ≡ Some bytes
+        → StepsOver compact_every (record {
+          order = output.old.order;
+          schema = engine.old.schema;
+          queries = engine.old.queries;
+          most_bytes = lines.old.budget;
+        }) bytes (K.taken out.old) (K.taken out.new) steps.old steps.new result }
     ensures stands { OnOk result ((bytes : List ℕ) → Q.left source.old ≡ Some bytes
         → StandsForAll compact_every (peak_of engine.old) (record {
           order = output.old.order;

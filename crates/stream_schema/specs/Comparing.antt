@@ -1,5 +1,5 @@
 -- How a value compares with a literal, and which literals compare with which kinds.
-use Rattle.std.specs.Prelude.{ℕ, ◌^◌, ◌≤◌, Bool, true, false, not, ℤ, pos, ◌*ℤ◌, ⊤}
+use Rattle.std.specs.Prelude.{◌≡◌, ℕ, ◌^◌, ◌≤◌, Bool, true, false, not, ℤ, pos, ◌*ℤ◌, ⊤}
 use Rattle.std.specs.declared.cmp.Ordering.{Ordering}
 use Rattle.std.specs.Ordering.{nat_cmp, int_cmp, is_lt, is_gt, is_eq}
 use Rattle.std.specs.Cmp.Lexicographic.{slice_cmp}
@@ -41,15 +41,26 @@ value_meets op (value.Text a) (value.Text b) = meets op (slice_cmp nat_cmp a b)
 value_meets op (value.Flag a) (value.Flag b) = flag_meets op a b
 value_meets op _ _ = false
 
--- a literal and a kind that may be compared: of one kind, or both numbers
+-- the kind of a literal
+abbrev pub kind_of : Value → Kind
+kind_of (value.Int n) = kind.Int
+kind_of (value.Text t) = kind.Text
+kind_of (value.Flag b) = kind.Flag
+kind_of (value.Dec n places) = kind.Dec places
+
+-- values of the two kinds may be compared: the kinds are one, or both are numbers
+abbrev pub are_alike : Kind → Kind → Bool
+are_alike kind.Int kind.Int = true
+are_alike kind.Int (kind.Dec places) = true
+are_alike (kind.Dec places) kind.Int = true
+are_alike (kind.Dec places) (kind.Dec others) = true
+are_alike kind.Text kind.Text = true
+are_alike kind.Flag kind.Flag = true
+are_alike _ _ = false
+
+-- a literal and a kind that may be compared
 abbrev pub AreComparable : Value → Kind → Type 0
-AreComparable (value.Int n) kind.Int = ⊤
-AreComparable (value.Int n) (kind.Dec k) = ⊤
-AreComparable (value.Dec n p) kind.Int = ⊤
-AreComparable (value.Dec n p) (kind.Dec k) = ⊤
-AreComparable (value.Text t) kind.Text = ⊤
-AreComparable (value.Flag b) kind.Flag = ⊤
-AreComparable _ _ = ⊥
+AreComparable literal k = are_alike (kind_of literal) k ≡ true
 
 -- truth values have no order
 abbrev pub TakesLiteral : Op → Value → Type 0

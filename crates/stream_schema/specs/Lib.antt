@@ -4,3 +4,4 @@ pub mod Declaring
 pub mod Indexes
 pub mod Events
 pub mod Comparing
+pub mod Equality

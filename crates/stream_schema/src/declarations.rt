@@ -29,15 +29,18 @@ impl Model for TypeDecl {
 
     ghost view = { λ t. record { name = t.name; attrs = t.attrs } };
 
-    ghost invariant = { λ t. (t.kinds ≡ map (λ a. a.kind) t.attrs) × (t.names ≡ map (λ a. a.name) t.attrs) };
+    ghost invariant = { λ t. (t.kinds ≡ map (λ a. a.kind) t.attrs)
+        × (t.names ≡ map (λ a. a.name) t.attrs) };
 }
 
 impl TypeDecl {
     /// A type of its own with this name and these attributes, or `None` where two of them have one
     /// name.
     pub fn of(alloc: Global, name: &str, attrs: &[Attr]) -> Result<Option<TypeDecl>, Memory>
-        ensures value { IfOk result (λ made. IfSome made (λ t. t ≡ record { name = name.now; attrs = attrs.now })) }
-        ensures distinct { IfOk result (λ made. IfSome made (λ t. HasNoRepeats (map (λ a. a.name) t.attrs))) }
+        ensures value { IfOk result (λ made. IfSome made
+            (λ t. t ≡ record { name = name.now; attrs = attrs.now })) }
+        ensures distinct { IfOk result (λ made. IfSome made
+            (λ t. HasNoRepeats (map (λ a. a.name) t.attrs))) }
         ensures none { IfOk result (λ made. is_none made ≡ repeats_name attrs.now) }
     {
         let names = match index_of(alloc, attrs)? {

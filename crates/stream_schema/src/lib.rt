@@ -19,7 +19,7 @@ mod registry;
 #[cfg(test)]
 mod tests;
 
-pub use compare::is_met_by;
+pub use compare::{are_alike, is_met_by, kind_of, same_value};
 pub use copies::{copy_event, copy_value, copy_values};
 pub use registry::Schema;
 

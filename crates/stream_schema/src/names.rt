@@ -88,13 +88,15 @@ impl NameIndex {
 }
 
 fn copied(set: &IndexSet<Vec<u8>>) -> Result<IndexSet<Vec<u8>>, Memory>
-    ensures { IfOk result (λ copy. map (λ name. name.items) copy.keys ≡ map (λ name. name.items) set.now.keys) }
+    ensures { IfOk result (λ copy. map (λ name. name.items) copy.keys ≡ map
+        (λ name. name.items) set.now.keys) }
 {
     Ok(set.clone()?)
 }
 
 fn place_in(set: &IndexSet<Vec<u8>>, name: &[u8]) -> Option<usize>
-    ensures place { result ≡ position_from (λ n. bytes_eq n name.now) 0 (map (λ n. n.items) set.now.keys) }
+    ensures place { result
+        ≡ position_from (λ n. bytes_eq n name.now) 0 (map (λ n. n.items) set.now.keys) }
     ensures bound { IfSome result (λ i. i < length (map (λ n. n.items) set.now.keys)) }
 {
     set.get_index_of(name)
@@ -118,7 +120,8 @@ fn set_of(alloc: Global, name: &[u8]) -> Result<IndexSet<Vec<u8>>, Memory>
 /// Adds the name, which is not in the set, at the end.
 fn add(alloc: Global, set: &mut IndexSet<Vec<u8>>, name: &[u8]) -> Result<(), Memory>
     requires { list_any (λ n. bytes_eq n name.now) (map (λ n. n.items) set.old.keys) ≡ false }
-    ensures added { OnOk result (map (λ n. n.items) set.new.keys ≡ map (λ n. n.items) set.old.keys ++ name.now ∷ []) }
+    ensures added { OnOk result (map (λ n. n.items) set.new.keys ≡ map
+        (λ n. n.items) set.old.keys ++ name.now ∷ []) }
     ensures unchanged { OnErr result (set.new.keys ≡ set.old.keys) }
 {
     set.insert(Vec::from_slice(alloc, name)?)?;

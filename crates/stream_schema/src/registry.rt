@@ -35,7 +35,10 @@ impl Model for Schema {
 
     ghost view = { λ s. record { types = s.types.items; streams = s.streams.items } };
 
-    ghost invariant = { λ s. IsIndexed (record { types = s.types.items; streams = s.streams.items }) s.type_names s.stream_names };
+    ghost invariant = { λ s. IsIndexed (record {
+      types = s.types.items;
+      streams = s.streams.items;
+    }) s.type_names s.stream_names };
 }
 
 impl Schema {
@@ -79,7 +82,8 @@ impl Schema {
         ensures accepted { OnOk result (event_refusal self.old name.now attrs.now ≡ None) }
         ensures declared { OnOk result (self.new ≡ with_type self.old name.now attrs.now) }
         ensures number { IfOk result (λ ty. ty ≡ length self.old.types) }
-        ensures refused { OnFault result (λ fault. event_refusal self.old name.now attrs.now ≡ Some fault) }
+        ensures refused { OnFault result (λ fault. event_refusal self.old name.now attrs.now
+            ≡ Some fault) }
         ensures unchanged { OnErr result (self.new ≡ self.old) }
     {
         if self.is_taken(name) {
@@ -104,8 +108,10 @@ impl Schema {
     /// - Memory ran out.
     pub fn declare_stream(&mut self, name: &str, types: &Texts) -> Result<(), OrMemory<SchemaFault>>
         ensures accepted { OnOk result (stream_refusal self.old name.now types.now ≡ None) }
-        ensures declared { OnOk result (IfSome (numbers_from [] self.old.types types.now) (λ numbers. self.new ≡ with_stream self.old name.now numbers)) }
-        ensures refused { OnFault result (λ fault. stream_refusal self.old name.now types.now ≡ Some fault) }
+        ensures declared { OnOk result (IfSome (numbers_from [] self.old.types types.now)
+            (λ numbers. self.new ≡ with_stream self.old name.now numbers)) }
+        ensures refused { OnFault result (λ fault. stream_refusal self.old name.now types.now
+            ≡ Some fault) }
         ensures unchanged { OnErr result (self.new ≡ self.old) }
     {
         if self.is_taken(name) {
@@ -126,7 +132,8 @@ impl Schema {
     pub fn type_of(&self, name: &str) -> Option<TypeId>
         ensures place { result ≡ type_number self.now.types name.now }
         ensures bound { IfSome result (λ ty. ty < length self.now.types) }
-        ensures only { (ty : ℕ) → name_of_type self.now.types ty ≡ Some name.now → result ≡ Some ty }
+        ensures only { (ty : ℕ) → name_of_type self.now.types ty ≡ Some name.now
+            → result ≡ Some ty }
     {
         self.type_of_bytes(name.as_bytes())
     }
@@ -136,7 +143,8 @@ impl Schema {
     pub fn type_of_bytes(&self, name: &[u8]) -> Option<TypeId>
         ensures place { result ≡ type_number self.now.types name.now }
         ensures bound { IfSome result (λ ty. ty < length self.now.types) }
-        ensures only { (ty : ℕ) → name_of_type self.now.types ty ≡ Some name.now → result ≡ Some ty }
+        ensures only { (ty : ℕ) → name_of_type self.now.types ty ≡ Some name.now
+            → result ≡ Some ty }
     {
         match self.type_names.place(name) {
             Some(place) => Some(place as u64),
@@ -148,7 +156,8 @@ impl Schema {
     /// or it has no such attribute. No other attribute of the type has the name.
     pub fn attr(&self, ty: TypeId, name: &str) -> Option<AttrAt>
         ensures place { result ≡ attr_at self.now ty name.now }
-        ensures only { (i : ℕ) (a : Attr) → attr_of self.now.types ty i ≡ Some a → a.name ≡ name.now → result ≡ Some (record { index = i; kind = a.kind }) }
+        ensures only { (i : ℕ) (a : Attr) → attr_of self.now.types ty i ≡ Some a → a.name ≡ name.now
+            → result ≡ Some (record { index = i; kind = a.kind }) }
     {
         match type_at(self.types.as_slice(), ty) {
             Some(declared) => declared.attr(name),
@@ -218,8 +227,10 @@ impl Schema {
     /// The numbers of the types of these names, each once, or `None` where one of them is no
     /// type's.
     fn numbers_of(&self, names: &[Text]) -> Result<Option<IndexSet<TypeId>>, Memory>
-        ensures found { IfOk result (λ numbers. option_map (λ v. v.keys) numbers ≡ numbers_from [] self.now.types names.now) }
-        ensures declared { IfOk result (λ numbers. IfSome numbers (λ v. All (λ ty. ty < length self.now.types) v.keys)) }
+        ensures found { IfOk result (λ numbers. option_map
+            (λ v. v.keys) numbers ≡ numbers_from [] self.now.types names.now) }
+        ensures declared { IfOk result (λ numbers. IfSome numbers
+            (λ v. All (λ ty. ty < length self.now.types) v.keys)) }
     {
         let mut numbers = IndexSet::new(self.alloc);
         for name in names {

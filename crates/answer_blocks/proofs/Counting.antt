@@ -353,7 +353,7 @@ pulled_within number end given answers first mid now found moved opened pulled =
     let two = delays_mapped number end answers in
     omega arith
 
--- the text behind another one, a block more
+-- the text after another one, a block more
 pub text_more : (start text now : List ℕ) (front back : List Row) (first mid last k : ℕ) (cost : ℕ → ℕ) →
     (text ≡ start ++ lines_of front) × (mid ≤ first + for_each_query k cost + row_delays front) → (now ≡ text ++ lines_of back) × (last ≤ mid + cost (k + 1) + row_delays back) →
     (now ≡ start ++ lines_of (front ++ back)) × (last ≤ first + for_each_query (k + 1) cost + row_delays (front ++ back))

@@ -28,7 +28,7 @@ abbrev pub in_order : List Answer → List Answer
 in_order [] = []
 in_order (x ∷ xs) = put x (in_order xs)
 
--- each comes before all behind it
+-- each comes before all after it
 abbrev pub Rise : List Answer → Type 0
 Rise [] = Unit {0}
 Rise (x ∷ xs) = ((y : Answer) → Contains xs y → ComesBefore x y) × Rise xs
@@ -48,7 +48,7 @@ in_order_moves [] = IsPermutation-refl []
 in_order_moves (x ∷ xs) =
     IsPermutation-trans (x ∷ xs) (x ∷ in_order xs) (put x (in_order xs)) (IsPermutation-cons x xs (in_order xs) (in_order_moves xs)) (put_moves x (in_order xs))
 
--- what is in a list is its first or behind it
+-- what is in a list is its first or after it
 first_or_behind : (x y : Answer) (xs : List Answer) → Contains (x ∷ xs) y → (x ≡ y) ⊎ Contains xs y
 first_or_behind x y xs (zero, within, at) = inl at
 first_or_behind x y xs (suc k, within, at) = inr (k, omega arith, at)

@@ -106,7 +106,7 @@ fn push_each<L: Ledger>(
     Ok(())
 }
 
-/// Puts the blocks of all queries at the last position behind the text, each in order. An event was
+/// Puts the blocks of all queries at the last position after the text, each in order. An event was
 /// taken. Where memory runs out the text is as it was.
 ///
 /// Whatever the answer, it takes the steps of a cursor for each query, and a delay for each answer.

@@ -40,7 +40,7 @@ impl Answer {
         })
     }
 
-    /// Puts the line of the complex event behind the text, with its line feed. Where memory runs
+    /// Puts the line of the complex event after the text, with its line feed. Where memory runs
     /// out the text is as it was.
     pub fn push_line(&self, text: &mut Vec<u8>, query: u64, end: Pos) -> Result<(), Memory>
         ensures line { OnOk result (text.new.items ≡ text.old.items ++ line query end self.now) }

@@ -8,7 +8,7 @@ use crate::writing::push_positions;
 use cer_base::{Memory, Pos};
 use std::alloc::Global;
 
-/// Puts the line of a name and its positions, which ascend, behind the text.
+/// Puts the line of a name and its positions, which ascend, after the text.
 ///
 /// `A {1,2}`
 pub fn push_binding(

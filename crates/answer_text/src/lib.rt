@@ -1,7 +1,7 @@
 //! What the program writes: the line of a complex event, the order of those of one position, and
 //! the lines that explain one.
 //!
-//! Promised: `push_line` puts exactly the bytes behind a text that `specs/Output` defines, or memory
+//! Promised: `push_line` puts exactly the bytes after a text that `specs/Output` defines, or memory
 //! ran out and the text is as it was; `order` tells which of two comes before the other, and takes
 //! no memory. It stands on `itoa` for the digits.
 #![tactic(auto)]

@@ -1,4 +1,4 @@
-//! The line of a complex event, put behind a text.
+//! The line of a complex event, put after a text.
 
 ghost use Rattle.std.specs.Prelude.{◌≡◌, ◌++◌, ◌∷◌, true, false, reverse, decimal, codes, OnOk, OnErr};
 ghost use Rattle.cer_base.specs.declared.bytes.TheConstants as bytes;
@@ -74,7 +74,7 @@ fn push_parts(
     Ok(())
 }
 
-/// Puts the line of a complex event behind the text, with its line feed: the query's number, the
+/// Puts the line of a complex event after the text, with its line feed: the query's number, the
 /// start and the end, and the marked positions, which are given greatest first, in ascending order.
 /// Where memory runs out the text is as it was.
 ///

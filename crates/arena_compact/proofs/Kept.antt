@@ -43,7 +43,7 @@ some_alone n (e ∷ es) lt = refl
 take_next : (rows : List (ℕ × List Root)) (k : ℕ) (r : ℕ × List Root) → slice_get rows k ≡ Some r → take (k + 1) rows ≡ take k rows ++ r ∷ []
 take_next rows k r h = take_more rows k r (slice_get_within rows k r h) ∙ ap (λ s. take k rows ++ s ∷ []) (get_or_from_slice_get rows k r r h)
 
--- after the swap the row stands behind those that stay
+-- after the swap the row stands after those that stay
 front_swapped : (cur : List (ℕ × List Root)) (kept k : ℕ) (fs : ℕ × List Root) → kept ≤ k → k < length cur → (take (kept + 1) (swap (set cur k fs) kept k) ≡ take kept cur ++ fs ∷ []) × (drop (k + 1) (swap (set cur k fs) kept k) ≡ drop (k + 1) cur)
 front_swapped cur kept k fs le lt =
     let xs = set cur k fs in let long = length-set cur k fs in

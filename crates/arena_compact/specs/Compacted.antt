@@ -1,4 +1,4 @@
--- What a compaction leaves. This project's own.
+-- What a compaction leaves.
 use Rattle.std.specs.Prelude.{◌≡◌, ℕ, ◌<◌, ◌≤◌, ◌==◌, ℤ, ◌≤ℤ◌, int_le, cond, List, [], ◌∷◌, ◌++◌, length, map, Contains}
 use Rattle.std.specs.List.{flat_map}
 use Rattle.cer_base.specs.declared.node.Stamp.{Stamp}

@@ -1,4 +1,4 @@
--- What becomes of one node. This project's own.
+-- What becomes of one node.
 use Rattle.std.specs.Prelude.{◌≡◌, ℕ, ◌+◌, ◌<◌, ℤ, int_le, true, false, max, List, length, get_or, Option, Some, None, slice_get}
 use Rattle.cer_base.specs.declared.node.Stamp.{Stamp}
 use Rattle.cer_base.specs.declared.node.Node.{Node}

@@ -1,4 +1,4 @@
--- Which nodes a compaction keeps, and which nodes can be reached. This project's own.
+-- Which nodes a compaction keeps, and which nodes can be reached.
 use Rattle.std.specs.Prelude.{◌≡◌, ℕ, ◌<◌, ◌≤◌, ℤ, ◌≤ℤ◌, int_le, true, List, length, get_or, Option, Some, None, slice_get, Contains, All}
 use Rattle.cer_base.specs.declared.node.Stamp.{Stamp}
 use Rattle.cer_base.specs.declared.node.Node.{Node}

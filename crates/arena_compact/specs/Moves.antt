@@ -1,4 +1,4 @@
--- The nodes as they are moved, oldest first. This project's own.
+-- The nodes as they are moved, oldest first.
 use Rattle.std.specs.Prelude.{◌≡◌, ℕ, ◌<◌, ◌≤◌, ℤ, nat_le, int_le, true, false, List, length, take, get_or, Option, Some, None, slice_get, Contains, count_by}
 use Rattle.cer_base.specs.declared.node.Stamp.{Stamp}
 use Rattle.cer_base.specs.declared.node.Node.{Node}

@@ -1,4 +1,4 @@
--- What a compaction keeps of a tree. This project's own.
+-- What a compaction keeps of a tree.
 use Rattle.std.specs.Prelude.{ℤ, cond, int_le}
 use Rattle.cer_base.specs.Members.{SetTree, Start, Extended, United, newest}
 

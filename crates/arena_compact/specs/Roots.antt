@@ -1,5 +1,5 @@
 -- Where a compaction begins: the recent entries of lists and what cursors still have. And where these are
--- after it. This project's own.
+-- after it.
 use Rattle.std.specs.Prelude.{◌≡◌, ℕ, ◌<◌, ◌==◌, ℤ, ◌≤ℤ◌, All, int_le, cond, List, [], ◌∷◌, length, map, filter, sum_by, Option, Some, slice_get, ◌+◌, swap}
 use Rattle.std.specs.Prelude.{slice_set as set}
 use Rattle.std.specs.List.{flat_map}
@@ -48,7 +48,7 @@ EntriesMoved nodes table [] (f ∷ fs) = ⊥
 EntriesMoved nodes table (e ∷ es) [] = ⊥
 EntriesMoved nodes table (e ∷ es) (f ∷ fs) = EntryMoved nodes table e f × EntriesMoved nodes table es fs
 
--- clocks do not rise from an entry to the ones behind it
+-- clocks do not rise from an entry to the ones after it
 abbrev pub AreOlder : List Root → Type 0
 AreOlder [] = Unit {0}
 AreOlder (e ∷ es) = All (λ f. f.max.clock ≤ℤ e.max.clock) es × AreOlder es
@@ -94,7 +94,7 @@ pub record CursorMoved (query : ℕ) (table : List (Option ℕ)) (w v : CursorSt
   pub same : v ≡ record w { stack = v.stack }
   pub other : (w.query ≡ query → ⊥) → v ≡ w
 
--- Row k is moved: it stays behind the rows that stay already, or it goes.
+-- Row k is moved: it stays after the rows that stay already, or it goes.
 pub data MovedAt (low : ℤ) (nodes : List Node) (table : List (Option ℕ)) (old : List (ℕ × List Root)) (kept k : ℕ) : ℕ → List (ℕ × List Root) → Type 0 where
   Stays : (r : ℕ × List Root) (fs : List Root) → slice_get old k ≡ Some r → 0 < length (recent_entries low r.1) → EntriesMoved nodes table (recent_entries low r.1) fs → MovedAt low nodes table old kept k (kept + 1) (swap (set old k (r.0, fs)) kept k)
   Goes : (r : ℕ × List Root) (fs : List Root) → slice_get old k ≡ Some r → recent_entries low r.1 ≡ [] → MovedAt low nodes table old kept k kept (set old k (r.0, fs))

@@ -84,7 +84,7 @@ fn keep_if(cursor: &Cursor, query: u64, table: &mut [Option<Id>])
         → (low ≤ℤ cursor.now.low) × Fits cursor.now nodes)
         → AreMarks low nodes roots (length nodes) table.old
         → AreMarks low nodes (roots ++ cursor_roots query (cursor.now ∷ []))
-            (length nodes) table.new }
+        (length nodes) table.new }
     ensures long { length table.new ≡ length table.old }
 {
     if cursor.query() == query {

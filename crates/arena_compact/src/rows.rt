@@ -38,7 +38,7 @@ pub fn keep_rows<L: Ledger>(
 }
 
 /// Moves the recent entries of row k, and gives how many rows stay: those before `kept`, and row k
-/// behind them where it has one. At most three steps for each entry.
+/// after them where it has one. At most three steps for each entry.
 fn move_row<S: NodeStore, L: Ledger>(
     store: &S,
     low: i128,

@@ -3,12 +3,12 @@ use Rattle.std.proofs.Common.{◌≡◌, refl, sym, ◌∙◌, ap, subst, ℕ, z
 use Rattle.std.specs.Prelude.{codes, if◌then◌else◌}
 use Rattle.ceql_lexer.specs.declared.Token.{Token}
 use Rattle.ceql_grammar.specs.WordsAndSigns.{Is, is, among}
-use Rattle.ceql_grammar.specs.Texts.{open_behind, open_after, IsTooDeepAt, IsShallow, IsTooDeep}
+use Rattle.ceql_grammar.specs.Texts.{open_after_one, open_after, IsTooDeepAt, IsShallow, IsTooDeep}
 use Rattle.cer_base.specs.declared.limits.TheConstants.{DEEPEST_NESTING}
 
-open_more : (n : ℕ) (xs : List Token) (t : Token) → open_after n (xs ++ t ∷ []) ≡ open_behind (open_after n xs) t
+open_more : (n : ℕ) (xs : List Token) (t : Token) → open_after n (xs ++ t ∷ []) ≡ open_after_one (open_after n xs) t
 open_more n [] t = refl
-open_more n (x ∷ xs) t = open_more (open_behind n x) xs t
+open_more n (x ∷ xs) t = open_more (open_after_one n x) xs t
 
 split_at : (ts : List Token) (i : ℕ) (t : Token) → i < length ts → t ≡ get_or ts i t → ts ≡ take i ts ++ t ∷ drop (suc i) ts
 split_at [] i t l e = absurd (omega arith)
@@ -26,10 +26,10 @@ take_next (x ∷ ts) zero t l e = ap (λ x. x ∷ []) (sym e)
 take_next (x ∷ ts) (suc i) t l e = ap (λ us. x ∷ us) (take_next ts i t (omega arith) e)
 
 -- one more token
-pub open_next : (ts : List Token) (i : ℕ) (t : Token) (n m : ℕ) → i < length ts → t ≡ get_or ts i t → n ≡ open_after 0 (take i ts) → m ≡ open_behind n t → m ≡ open_after 0 (take (i + 1) ts)
+pub open_next : (ts : List Token) (i : ℕ) (t : Token) (n m : ℕ) → i < length ts → t ≡ get_or ts i t → n ≡ open_after 0 (take i ts) → m ≡ open_after_one n t → m ≡ open_after 0 (take (i + 1) ts)
 open_next ts i t n m l e k h =
     let f : take (i + 1) ts ≡ take i ts ++ t ∷ [] = rw add-one (take_next ts i t l e) in
-    h ∙ ap (λ n. open_behind n t) k ∙ sym (open_more 0 (take i ts) t) ∙ ap (open_after 0) (sym f)
+    h ∙ ap (λ n. open_after_one n t) k ∙ sym (open_more 0 (take i ts) t) ∙ ap (open_after 0) (sym f)
 
 below : (a b : ℕ) → a ≤ b → (a ≡ b → ⊥) → a + 1 ≤ b
 below zero zero l n = absurd (n refl)
@@ -44,7 +44,7 @@ within_at n false false true l k = omega arith
 within_at n false false false l k = l
 
 -- no more are open than may be
-pub within : (n m : ℕ) (t : Token) → n ≤ DEEPEST_NESTING → (DEEPEST_NESTING ≤ n → Is (codes "(") t → ⊥) → m ≡ open_behind n t → m ≤ DEEPEST_NESTING
+pub within : (n m : ℕ) (t : Token) → n ≤ DEEPEST_NESTING → (DEEPEST_NESTING ≤ n → Is (codes "(") t → ⊥) → m ≡ open_after_one n t → m ≤ DEEPEST_NESTING
 within n m t l k e = let h = within_at n (among (codes "DECLARE" ∷ codes "SELECT" ∷ []) t) (is (codes "(") t) (is (codes ")") t) l k in omega (arith, e, h)
 
 -- lists cut at the same place

@@ -15,8 +15,8 @@ use Rattle.cer_base.specs.declared.OrMemory.TheVariants as wanted
 
 -- how many parentheses are open after a token, so many being open before it: DECLARE and SELECT begin
 -- anew, and a `)` closes one where one is open
-abbrev pub open_behind : ℕ → Token → ℕ
-open_behind n t =
+abbrev pub open_after_one : ℕ → Token → ℕ
+open_after_one n t =
     if among (codes "DECLARE" ∷ codes "SELECT" ∷ []) t then 0
     else (if is (codes "(") t then n + 1
     else (if is (codes ")") t then n - 1 else n))
@@ -24,9 +24,9 @@ open_behind n t =
 -- how many are open after these tokens
 abbrev pub open_after : ℕ → List Token → ℕ
 open_after n [] = n
-open_after n (t ∷ ts) = open_after (open_behind n t) ts
+open_after n (t ∷ ts) = open_after (open_after_one n t) ts
 
--- Behind these tokens stands a `(` where as many are open as may be.
+-- After these tokens stands a `(` where as many are open as may be.
 pub record IsTooDeepAt (tokens before : List Token) (t : Token) : Type 0 where
   pub after : List Token
   pub split : tokens ≡ before ++ t ∷ after

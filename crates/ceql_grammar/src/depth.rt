@@ -1,7 +1,7 @@
 //! How deeply parentheses nest.
 
 ghost use Rattle.ceql_grammar.specs.WordsAndSigns.{is};
-ghost use Rattle.ceql_grammar.specs.Texts.{IsShallow, IsTooDeep, open_behind};
+ghost use Rattle.ceql_grammar.specs.Texts.{IsShallow, IsTooDeep, open_after_one};
 ghost use Rattle.std.specs.Prelude.{◌≡◌, ◌≤◌, MatchOption};
 
 use crate::tokens::is;
@@ -10,9 +10,9 @@ use cer_base::Place;
 use cer_base::limits::DEEPEST_NESTING;
 
 /// How many parentheses are open after the token.
-fn open_behind(depth: usize, token: &Token) -> usize
+fn open_after_one(depth: usize, token: &Token) -> usize
     requires { depth ≤ DEEPEST_NESTING }
-    ensures { result ≡ open_behind depth token.now }
+    ensures { result ≡ open_after_one depth token.now }
 {
     if is(token, b"DECLARE") || is(token, b"SELECT") {
         0
@@ -34,7 +34,7 @@ pub fn too_deep(tokens: &[Token]) -> Option<Place>
         if depth >= DEEPEST_NESTING && is(token, b"(") {
             return Some(token.place);
         }
-        depth = open_behind(depth, token);
+        depth = open_after_one(depth, token);
     }
     None
 }

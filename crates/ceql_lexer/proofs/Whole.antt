@@ -10,7 +10,7 @@ use Rattle.std.specs.Prelude.{IfOk}
 use Rattle.ceql_lexer.specs.declared.LexError.{LexError}
 use Rattle.ceql_lexer.specs.Fronts.{piece_at}
 use Rattle.cer_base.specs.Answers.{Gives}
-use Rattle.ceql_lexer.specs.Tokens.{Part, with_end, with_part, behind_mark, first_place, parts_after, next_place, parts_from, parts_of, place_after}
+use Rattle.ceql_lexer.specs.Tokens.{Part, with_end, with_part, after_mark, first_place, parts_after, next_place, parts_from, parts_of, place_after}
 use Rattle.ceql_lexer.specs.Whole.{AreAtPlaces, AreLongest, AreWhole, IsCut, EndsBefore, text_of_parts}
 use Rattle.ceql_lexer.proofs.Longest.{ends_of, piece_ends}
 
@@ -51,10 +51,10 @@ kept zero place (byte ∷ bytes) parts e =
     let last = with_part_takes (record { kind = piece.kind; text = byte ∷ take (piece.size - 1) bytes; place = place }) (parts_from (piece.size - 1) (next_place place byte) bytes) parts taken.2 in
     subst (Kept 0 place (byte ∷ bytes)) last.2 (kept_more place byte bytes piece last.0 taken.1 (kept (piece.size - 1) (next_place place byte) bytes last.0 last.1))
 
-pub parts_whole : (text : List ℕ) (parts : List Part) → parts_of text ≡ Ok parts → AreWhole (behind_mark text) parts
+pub parts_whole : (text : List ℕ) (parts : List Part) → parts_of text ≡ Ok parts → AreWhole (after_mark text) parts
 unfolding parts_of
 parts_whole text parts e =
-    let k = kept 0 first_place (behind_mark text) parts e in
+    let k = kept 0 first_place (after_mark text) parts e in
     record { nothing_lost = k.nothing_lost; placed = k.placed; longest = k.longest }
 
 cut_case : (text : List ℕ) (read : Result (List Part) LexError) (tokens : List Token) → ((parts : List Part) → read ≡ Ok parts → AreWhole text parts) → with_end text read ≡ Ok tokens → IsCut text tokens

@@ -50,8 +50,8 @@ parts_from zero place (byte ∷ bytes) =
     (parts_from (piece.size - 1) (next_place place byte) bytes))
 
 -- what stands after a byte order mark at the very beginning
-abbrev pub behind_mark : List ℕ → List ℕ
-behind_mark text = if bytes_eq (take 3 text) (239 ∷ 187 ∷ 191 ∷ []) then drop 3 text else text
+abbrev pub after_mark : List ℕ → List ℕ
+after_mark text = if bytes_eq (take 3 text) (239 ∷ 187 ∷ 191 ∷ []) then drop 3 text else text
 
 -- the token that a part of this kind is, if it is one
 abbrev pub token_of : Part → Option TokenKind → List Token
@@ -74,8 +74,8 @@ with_end text (Err error) = Err error
 
 -- the parts of a text
 unfoldable pub parts_of : List ℕ → Result (List Part) LexError
-parts_of text = parts_from 0 first_place (behind_mark text)
+parts_of text = parts_from 0 first_place (after_mark text)
 
 -- the tokens of a text, or its first fault
 unfoldable pub tokens_of : List ℕ → Result (List Token) LexError
-tokens_of text = with_end (behind_mark text) (parts_of text)
+tokens_of text = with_end (after_mark text) (parts_of text)

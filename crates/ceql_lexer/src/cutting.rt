@@ -2,7 +2,7 @@
 
 ghost use Rattle.ceql_lexer.specs.Fronts.{IsTokenText};
 ghost use Rattle.cer_base.specs.Answers.{Gives};
-ghost use Rattle.ceql_lexer.specs.Tokens.{behind_mark, first_place, parts_from, place_after, token_of, tokens_of, with_end};
+ghost use Rattle.ceql_lexer.specs.Tokens.{after_mark, first_place, parts_from, place_after, token_of, tokens_of, with_end};
 ghost use Rattle.ceql_lexer.specs.Whole.{IsCut};
 ghost use Rattle.std.specs.Str.{IsUtf8};
 ghost use Rattle.std.specs.Prelude.{◌≡◌, ◌+◌, ◌++◌, ◌<◌, ◌≤◌, ◌^◌, IfOk, OnOk, length};
@@ -16,8 +16,8 @@ use std::alloc::Global;
 const FIRST: Place = Place { line: 1, col: 1 };
 
 /// What stands after a byte order mark at the very beginning, else the whole text.
-fn behind_mark(text: &[u8]) -> &[u8]
-    ensures value { result.now ≡ behind_mark text.now }
+fn after_mark(text: &[u8]) -> &[u8]
+    ensures value { result.now ≡ after_mark text.now }
     ensures within { length result.now ≤ length text.now }
 {
     match text {
@@ -118,9 +118,9 @@ pub fn lex(alloc: Global, text: &[u8]) -> Result<Tokens, OrMemory<LexError>>
     // Exactly the tokens of the text, or exactly its first fault.
     ensures exact { Gives (λ x. x) result (tokens_of text.now) }
     // The tokens are the whole text, each at its place and as long as it may be.
-    ensures cut { IfOk result (λ tokens. IsCut (behind_mark text.now) tokens) }
+    ensures cut { IfOk result (λ tokens. IsCut (after_mark text.now) tokens) }
 {
-    let behind = behind_mark(text);
+    let behind = after_mark(text);
     if behind.len() >= usize::MAX - 1 {
         return Err(OrMemory::Memory);
     }

@@ -1,6 +1,6 @@
 //! What holds of the tokens of every text.
 
-ghost use Rattle.ceql_lexer.specs.Tokens.{Part, behind_mark, parts_of};
+ghost use Rattle.ceql_lexer.specs.Tokens.{Part, after_mark, parts_of};
 ghost use Rattle.ceql_lexer.specs.Whole.{AreWhole};
 ghost use Rattle.std.specs.Prelude.{◌≡◌, ℕ, List};
 
@@ -8,5 +8,5 @@ ghost use Rattle.std.specs.Prelude.{◌≡◌, ℕ, List};
 /// or made, and no name, number or comment is followed by a byte that would go on with it.
 pub fn parts_are_the_text()
     ensures { (text : List ℕ) (parts : List Part) → parts_of text ≡ Ok parts
-        → AreWhole (behind_mark text) parts }
+        → AreWhole (after_mark text) parts }
 {}

@@ -32,11 +32,11 @@ first_more find xs i d h = rw add-one (more_first find xs i d h)
 found_at : {X Y : Type 0} (find : X → Option Y) (xs : List X) (i : ℕ) (d : X) (y : Y) → i < length xs → first_in find (take i xs) ≡ None → find (get_or xs i d) ≡ Some y → first_in find xs ≡ Some y
 found_at find [] i d y h none here = absurd (omega (arith, h))
 found_at find (x ∷ xs) zero d y h none here = ap (λ o. option_or o (first_in find xs)) here
-found_at find (x ∷ xs) (suc i) d y h none here = later (find x) (first_in find (take i xs)) (first_in find xs) y none (found_at find xs i d y (omega arith) (behind (find x) (first_in find (take i xs)) none) here)
+found_at find (x ∷ xs) (suc i) d y h none here = later (find x) (first_in find (take i xs)) (first_in find xs) y none (found_at find xs i d y (omega arith) (after (find x) (first_in find (take i xs)) none) here)
   where
-    behind : {Y : Type 0} (o p : Option Y) → option_or o p ≡ None → p ≡ None
-    behind None p e = e
-    behind (Some y) p e = absurd cc
+    after : {Y : Type 0} (o p : Option Y) → option_or o p ≡ None → p ≡ None
+    after None p e = e
+    after (Some y) p e = absurd cc
 
     later : {Y : Type 0} (o p q : Option Y) (y : Y) → option_or o p ≡ None → q ≡ Some y → option_or o q ≡ Some y
     later None p q y e f = f

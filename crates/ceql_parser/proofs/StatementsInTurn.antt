@@ -68,11 +68,11 @@ faults_at schema before count (s ∷ ss) zero d e h n none here =
     ap (λ o. option_or o (statements_fault (declaring schema s) (before + length (queries_of (s ∷ []))) ss)) (ap (λ k. statement_fault schema k s) same ∙ here)
 faults_at schema before count (s ∷ ss) (suc i) d e h n none here =
     later (statement_fault schema before s) _ _ e none
-    (faults_at (declaring schema s) (before + length (queries_of (s ∷ []))) count ss i d e (omega arith) (counts before count s (take i ss) n) (behind (statement_fault schema before s) _ none) here)
+    (faults_at (declaring schema s) (before + length (queries_of (s ∷ []))) count ss i d e (omega arith) (counts before count s (take i ss) n) (after (statement_fault schema before s) _ none) here)
   where
-    behind : {Y : Type 0} (o p : Option Y) → option_or o p ≡ None → p ≡ None
-    behind None p e = e
-    behind (Some y) p e = absurd cc
+    after : {Y : Type 0} (o p : Option Y) → option_or o p ≡ None → p ≡ None
+    after None p e = e
+    after (Some y) p e = absurd cc
 
     later : {Y : Type 0} (o p q : Option Y) (y : Y) → option_or o p ≡ None → q ≡ Some y → option_or o q ≡ Some y
     later None p q y e f = f

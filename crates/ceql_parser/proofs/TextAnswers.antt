@@ -29,13 +29,13 @@ same_checked ss ts end e =
 one_checked : (trees : List StatementTree) (end : Place) (a b : TextAnswer) → IsAnswerOfStatements trees end a → IsAnswerOfStatements trees end b → a ≡ b
 one_checked trees end a b h k = h.is ∙ same_checked h.statements k.statements end (h.say ∙ sym k.say) ∙ sym k.is
 
-one_behind : (parsed : ParseAnswer) (a b : TextAnswer) → IsAnswerAfter parsed a → IsAnswerAfter parsed b → a ≡ b
-one_behind (Ok script) a b h k = one_checked script.0 script.1 a b h k
-one_behind (Err error) a b h k = h ∙ sym k
+one_after : (parsed : ParseAnswer) (a b : TextAnswer) → IsAnswerAfter parsed a → IsAnswerAfter parsed b → a ≡ b
+one_after (Ok script) a b h k = one_checked script.0 script.1 a b h k
+one_after (Err error) a b h k = h ∙ sym k
 
 one_of_tokens : (tokens : List Token) (a b : TextAnswer) → IsAnswerOfTokens tokens a → IsAnswerOfTokens tokens b → a ≡ b
 one_of_tokens tokens a b h k =
-    one_behind k.parsed a b (subst (λ parsed. IsAnswerAfter parsed a) (one_answer tokens h.parsed k.parsed h.read k.read) h.behind) k.behind
+    one_after k.parsed a b (subst (λ parsed. IsAnswerAfter parsed a) (one_answer tokens h.parsed k.parsed h.read k.read) h.after) k.after
 
 one_of_lexed : (lexed : Result (List Token) LexError) (a b : TextAnswer) → IsAnswerOfLexed lexed a → IsAnswerOfLexed lexed b → a ≡ b
 one_of_lexed (Ok tokens) a b h k = one_of_tokens tokens a b h k
@@ -79,7 +79,7 @@ where_read P Q (Err wanted.Memory) f h = tt
 
 -- the fault in the nesting or grammar of tokens
 pub found_unparsed : (text : List ℕ) (tokens : List Token) (error : QueryError) → length text ≤ LONGEST_TEXT → tokens_of text ≡ Ok tokens → IsParseOf tokens (Err error) → IsAnswerOfText text (Err error)
-found_unparsed text tokens error l e h = found_lexed text tokens (Err error) l e record { parsed = Err error; read = h; behind = refl }
+found_unparsed text tokens error l e h = found_lexed text tokens (Err error) l e record { parsed = Err error; read = h; after = refl }
 
 -- what follows from a fault of the grammar follows where a fault was told
 pub where_refused : (P : ParseAnswer → Type 0) (Q : TextAnswer → Type 0) (stop : OrMemory QueryError) → ((error : QueryError) → P (Err error) → Q (Err error)) → WhereRefused stop P → WhereRefused stop Q

@@ -45,7 +45,7 @@ IsAnswerAfter (Err error) answer = answer ≡ Err error
 pub record IsAnswerOfTokens (tokens : List Token) (answer : TextAnswer) : Type 0 where
   pub parsed : ParseAnswer
   pub read : IsParseOf tokens parsed
-  pub behind : IsAnswerAfter parsed answer
+  pub after : IsAnswerAfter parsed answer
 
 -- the answer of tokens, or of the fault of a text that has none
 abbrev pub IsAnswerOfLexed : Result (List Token) LexError → TextAnswer → Type 0

@@ -37,12 +37,12 @@ pub number_found : (text : Option Text) (one : Option ℕ) → (text ≡ None �
 number_found None one none some = none refl
 number_found (Some t) one none some = some t refl
 
--- the numbers of the texts behind references
+-- the numbers of the texts after references
 pub read_of_each : (texts : List (Bor Text)) → filter_map number_of (map (λ text. text.now) texts) ≡ filter_map (λ text. number_of text.now) texts
 read_of_each [] = refl
 read_of_each (text ∷ texts) = ap (cons_option (number_of text.now)) (read_of_each texts)
 
--- a name and what was found behind it, together
+-- a name and what was found after it, together
 pub names_fused : {X A B : Type 0} (g : X → A × B) (o : Option X) → option_map (λ x. (g x).0) o ≡ option_map (λ p. p.0) (option_map g o)
 names_fused g None = refl
 names_fused g (Some x) = refl

@@ -35,7 +35,7 @@ level_has s names words has below asks e =
     let after_settles = last_none settles (or_else defaults checks) after_below in
     has_one s (finished s.rules end) has asks (last_none defaults checks after_settles)
 
--- what was found is behind one of four names
+-- what was found is after one of four names
 abbrev IsFound : Text → Option (Text × List Row) → Type 0
 IsFound name found = (rows : List Row) × (found ≡ Some (name, rows))
 
@@ -56,7 +56,7 @@ one_of_four false false true fourth a b c d words some = inr (inr (inl (_, refl)
 one_of_four false false false true a b c d words some = inr (inr (inr (_, refl)))
 one_of_four false false false false a b c d words some = absurd (true≢false (sym some))
 
--- behind the name of one of the commands
+-- after the name of one of the commands
 abbrev pub IsOfCommand : Option (Text × List Row) → Type 0
 IsOfCommand found = IsFound (codes "run") found ⊎ (IsFound (codes "sample") found
     ⊎ (IsFound (codes "reorder") found ⊎ IsFound (codes "explain") found))

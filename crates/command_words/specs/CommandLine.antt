@@ -17,7 +17,7 @@ use Rattle.command_words.specs.Program.{program}
 abbrev pub text_in : Text → List Row → Text
 text_in id rows = unwrap_or (first_of id rows) []
 
--- the whole number below 2 ^ 64 that the text has in decimal digits, behind a plus or not
+-- the whole number below 2 ^ 64 that the text has in decimal digits, after a plus or not
 abbrev pub number_of : Text → Option ℕ
 number_of text = if is_unsigned_in 0 18446744073709551615 text
     then Some (digits_value 10 (without_leading_plus text)) else None
@@ -46,11 +46,11 @@ abbrev pub run_with : List Row → Order → Command
 run_with rows order = Run (text_in (codes "queries") rows) (text_in (codes "events") rows) order
     (number_at (codes "compact-every") rows) (number_in 1099511627776 (codes "max-bytes") rows)
 
--- what was found behind `run`, as a run; none where the order is of neither name
+-- what was found after `run`, as a run; none where the order is of neither name
 abbrev pub run_in : List Row → Option Command
 run_in rows = option_map (run_with rows) (order_in rows)
 
--- what was found behind `sample`, as a sample
+-- what was found after `sample`, as a sample
 abbrev pub sample_in : List Row → Command
 sample_in rows = Sample (number_in 0 (codes "seed") rows) (number_in 0 (codes "count") rows)
 
@@ -59,11 +59,11 @@ reorder_with rows order = Reorder (text_in (codes "queries") rows) (text_in (cod
     (text_in (codes "clock") rows) (number_in 0 (codes "late") rows) order
     (number_at (codes "compact-every") rows) (number_in 1099511627776 (codes "max-bytes") rows)
 
--- what was found behind `reorder`; none where the order is of neither name
+-- what was found after `reorder`; none where the order is of neither name
 abbrev pub reorder_in : List Row → Option Command
 reorder_in rows = option_map (reorder_with rows) (order_in rows)
 
--- what was found behind `explain`, as a question
+-- what was found after `explain`, as a question
 abbrev pub explain_in : List Row → Command
 explain_in rows = Explain (text_in (codes "queries") rows) (text_in (codes "events") rows)
     (number_in 0 (codes "query") rows) (number_in 0 (codes "start") rows)
@@ -75,7 +75,7 @@ command_named name rows = if bytes_eq name (codes "run") then run_in rows
     else (if bytes_eq name (codes "reorder") then reorder_in rows
     else (if bytes_eq name (codes "explain") then Some (explain_in rows) else None)))
 
--- the command of a subcommand and what was found behind it
+-- the command of a subcommand and what was found after it
 abbrev pub command_at : Option (Text × List Row) → Option Command
 command_at = option_and_then (λ found. command_named found.0 found.1)
 

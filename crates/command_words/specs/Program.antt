@@ -36,7 +36,7 @@ most_bytes = numbered 1 4611686018427387904 (option (codes "max-bytes"))
 abbrev pub late : Rule
 late = numbered 0 9223372036854775807 (name (codes "late"))
 
--- the name of a command, behind which stand those of a query file and an event file
+-- the name of a command, after which stand those of a query file and an event file
 abbrev pub over_files : Text → App
 over_files id = with_rule (with_rule (new_app id) (name (codes "queries"))) (name (codes "events"))
 

@@ -100,7 +100,7 @@ fn late<'a>(alloc: Global) -> Arg<'a>
     name(alloc, "late").value_parser(value_parser!(u64).range(..=9223372036854775807))
 }
 
-/// A command of this name, behind which stand the names of a query file and an event file.
+/// A command of this name, after which stand the names of a query file and an event file.
 fn over_files<'a>(alloc: Global, id: &'a str) -> Result<clap::Command<'a>, AllocError>
     ensures { IfOk result (λ c. app_of c ≡ over_files id.entry.now) }
 {

@@ -40,7 +40,7 @@ pub(crate) fn command_in(
     Err(OrMemory::Fault(Usage))
 }
 
-/// What was found behind `run`.
+/// What was found after `run`.
 fn run_in(alloc: Global, matches: &ArgMatches<'_>) -> Result<Command, OrMemory<Usage>>
     ensures read { IfOk result (λ c. run_in (rows_of (found_of matches.now)) ≡ Some c) }
     ensures none { OnFault result (λ u. run_in (rows_of (found_of matches.now)) ≡ None) }
@@ -61,7 +61,7 @@ fn run_in(alloc: Global, matches: &ArgMatches<'_>) -> Result<Command, OrMemory<U
     })
 }
 
-/// What was found behind `sample`.
+/// What was found after `sample`.
 fn sample_in(matches: &ArgMatches<'_>) -> Command
     ensures { result ≡ sample_in (rows_of (found_of matches.now)) }
 {
@@ -70,7 +70,7 @@ fn sample_in(matches: &ArgMatches<'_>) -> Command
     Command::Sample { seed, count }
 }
 
-/// What was found behind `reorder`.
+/// What was found after `reorder`.
 fn reorder_in(alloc: Global, matches: &ArgMatches<'_>) -> Result<Command, OrMemory<Usage>>
     ensures read { IfOk result (λ c. reorder_in (rows_of (found_of matches.now)) ≡ Some c) }
     ensures none { OnFault result (λ u. reorder_in (rows_of (found_of matches.now)) ≡ None) }
@@ -89,7 +89,7 @@ fn reorder_in(alloc: Global, matches: &ArgMatches<'_>) -> Result<Command, OrMemo
     })
 }
 
-/// What was found behind `explain`.
+/// What was found after `explain`.
 fn explain_in(alloc: Global, matches: &ArgMatches<'_>) -> Result<Command, OrMemory<Usage>>
     ensures read { IfOk result (λ c. c ≡ explain_in (rows_of (found_of matches.now))) }
     ensures none { OnFault result (λ u. ⊥) }

@@ -71,7 +71,7 @@ const RUNS: [(&str, &str); 59] = [
     ("run - e", "run - e Sorted 1099511627776"),
     ("run - -", "run - - Sorted 1099511627776"),
     ("run  e", "run  e Sorted 1099511627776"),
-    // behind two dashes all words are names
+    // after two dashes all words are names
     (
         "run -- --order walk",
         "run --order walk Sorted 1099511627776",

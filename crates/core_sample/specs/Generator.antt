@@ -7,7 +7,7 @@ use Rattle.stream_schema.specs.declared.Value.TheVariants.{Int}
 abbrev pub next_value : ℕ → ℕ
 next_value x = (x * 6364136223846793005 + 1442695040888963407) % 2 ^ 64
 
--- the event that a value makes: type 0 or 1 by the first of its 64 bits, and a number of the seven bits behind it
+-- the event that a value makes: type 0 or 1 by the first of its 64 bits, and a number of the seven bits after it
 abbrev pub event_of : ℕ → Event
 event_of x = record { ty = x / 2 ^ 63; values = Int (pos (x / 2 ^ 56 % 128)) ∷ [] }
 

@@ -47,7 +47,7 @@ abbrev pub IsChainOf : List (Formula → Type 0) → Formula → Type 0
 IsChainOf parts (Chain' s row) = AreFormulas parts row
 IsChainOf parts _ = ⊥
 
--- the formula with the postfixes behind it
+-- the formula with the postfixes after it
 abbrev pub IsPostOf : Formula → List Postfix → Formula → Type 0
 IsPostOf base postfixes (Post' p f ps) = (f ≡ base) × (ps.items ≡ postfixes)
 IsPostOf base postfixes _ = ⊥

@@ -58,7 +58,7 @@ fn name_at(alloc: Global, text: &str, line: u64, col: u64) -> Result<Name, Memor
     })
 }
 
-/// The type with one postfix behind it.
+/// The type with one postfix after it.
 fn post(alloc: Global, ty: Name, postfix: Postfix) -> Result<Formula, Memory>
     ensures { IfOk result (IsPostOf (Of ty) (postfix ∷ [])) }
 {

@@ -139,7 +139,7 @@ pub fn states_found(alloc: Global, engine: &Engine) -> Result<String, RowFault> 
     Ok(text)
 }
 
-/// The answers after each event of the lines, which a semicolon parts, with a stroke behind those of
+/// The answers after each event of the lines, which a semicolon parts, with a stroke after those of
 /// one event.
 pub fn answers_after_each<L: Ledger>(
     alloc: Global,

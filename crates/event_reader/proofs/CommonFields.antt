@@ -24,29 +24,29 @@ use Rattle.event_reader.proofs.Cuts.{IsPlain, plain_fields, plain_closed}
 use Rattle.event_reader.proofs.LineBytes.{neither, plain_bytes}
 
 -- the first cell is all before what follows
-pub first_cell : (cell behind : List ℕ) → list_any is_comma cell ≡ false → BeginsNext behind → slice_split is_comma (cell ++ behind) ≡ cell ∷ following behind
+pub first_cell : (cell after : List ℕ) → list_any is_comma cell ≡ false → BeginsNext after → slice_split is_comma (cell ++ after) ≡ cell ∷ following after
 first_cell [] [] c b = refl
-first_cell [] (x ∷ behind) c b = slice_split-cons_yes is_comma x behind (rw b refl)
-first_cell (y ∷ cell) behind c b =
+first_cell [] (x ∷ after) c b = slice_split-cons_yes is_comma x after (rw b refl)
+first_cell (y ∷ cell) after c b =
     let parts = neither (is_comma y) (list_any is_comma cell) c in
-    slice_split-cons_no is_comma y (cell ++ behind) parts.0 ∙ ap (onto_first y) (first_cell cell behind parts.1 b)
+    slice_split-cons_no is_comma y (cell ++ after) parts.0 ∙ ap (onto_first y) (first_cell cell after parts.1 b)
 
-plain_cell : (cell behind : List ℕ) → list_any is_odd cell ≡ false → list_any is_odd (cell ++ behind) ≡ list_any is_odd behind
-plain_cell cell behind e = list_any-append is_odd cell behind ∙ rw e refl
+plain_cell : (cell after : List ℕ) → list_any is_odd cell ≡ false → list_any is_odd (cell ++ after) ≡ list_any is_odd after
+plain_cell cell after e = list_any-append is_odd cell after ∙ rw e refl
 
 -- what one more field makes of the fields that are still to come
-pub record Steps (kind : Kind) (kinds : List Kind) (number : ℕ) (old new : List Value) (text behind : List ℕ) : Type 0 where
-  pub values : values_from number old (kind ∷ kinds) (slice_split is_comma text) ≡ values_from (number + 1) new kinds (following behind)
-  pub counted : length (slice_split is_comma text) ≡ length (following behind) + 1
-  pub plain : list_any is_odd text ≡ list_any is_odd behind
+pub record Steps (kind : Kind) (kinds : List Kind) (number : ℕ) (old new : List Value) (text after : List ℕ) : Type 0 where
+  pub values : values_from number old (kind ∷ kinds) (slice_split is_comma text) ≡ values_from (number + 1) new kinds (following after)
+  pub counted : length (slice_split is_comma text) ≡ length (following after) + 1
+  pub plain : list_any is_odd text ≡ list_any is_odd after
 
-pub steps : (kind : Kind) (kinds : List Kind) (number : ℕ) (old new : List Value) (value : Value) (text behind : List ℕ) → HasField kind text value behind → new ≡ old ++ value ∷ [] → BeginsNext behind → Steps kind kinds number old new text behind
-steps kind kinds number old new value text behind f put b =
-    let cut : slice_split is_comma text ≡ f.cell ∷ following behind = ap (slice_split is_comma) f.cut ∙ first_cell f.cell behind f.is_cell.whole b in
+pub steps : (kind : Kind) (kinds : List Kind) (number : ℕ) (old new : List Value) (value : Value) (text after : List ℕ) → HasField kind text value after → new ≡ old ++ value ∷ [] → BeginsNext after → Steps kind kinds number old new text after
+steps kind kinds number old new value text after f put b =
+    let cut : slice_split is_comma text ≡ f.cell ∷ following after = ap (slice_split is_comma) f.cut ∙ first_cell f.cell after f.is_cell.whole b in
     record {
       values = rw (cut, f.value_is, put) refl;
-      counted = ap length cut ∙ (let n : length (f.cell ∷ following behind) ≡ length (following behind) + 1 = omega arith in n);
-      plain = ap (list_any is_odd) f.cut ∙ plain_cell f.cell behind f.is_cell.plain;
+      counted = ap length cut ∙ (let n : length (f.cell ∷ following after) ≡ length (following after) + 1 = omega arith in n);
+      plain = ap (list_any is_odd) f.cut ∙ plain_cell f.cell after f.is_cell.plain;
     }
 
 -- Where so many fields were read, what is known of the whole from what is left: this text, of which another field begins.
@@ -59,14 +59,14 @@ pub record Reached (kinds : List Kind) (fields : List ℕ) (count : ℕ) (values
 pub at_first : (kinds : List Kind) (fields : List ℕ) → BeginsNext fields → Reached kinds fields 0 [] fields
 at_first kinds fields b = record { begins = b; values_are = refl; counted = omega arith; plain = refl }
 
-pub one_more : (kinds : List Kind) (fields : List ℕ) (count : ℕ) (kind : Kind) (old new : List Value) (value : Value) (rest text behind : List ℕ) → HasField kind text value behind → new ≡ old ++ value ∷ [] → (BeginsNext rest → Reached kinds fields count old rest) → drop count kinds ≡ kind ∷ drop (count + 1) kinds → rest ≡ COMMA ∷ text → BeginsNext behind → Reached kinds fields (count + 1) new behind
-one_more kinds fields count kind old new value rest text behind f put before here is b =
+pub one_more : (kinds : List Kind) (fields : List ℕ) (count : ℕ) (kind : Kind) (old new : List Value) (value : Value) (rest text after : List ℕ) → HasField kind text value after → new ≡ old ++ value ∷ [] → (BeginsNext rest → Reached kinds fields count old rest) → drop count kinds ≡ kind ∷ drop (count + 1) kinds → rest ≡ COMMA ∷ text → BeginsNext after → Reached kinds fields (count + 1) new after
+one_more kinds fields count kind old new value rest text after f put before here is b =
     let r = before (rw is refl) in
-    let s = steps kind (drop (count + 1) kinds) (count + 1) old new value text behind f put b in
+    let s = steps kind (drop (count + 1) kinds) (count + 1) old new value text after f put b in
     record {
       begins = r.begins;
       values_are = r.values_are ∙ ap (λ ks. values_from (count + 1) old ks (following rest)) here ∙ ap (λ t. values_from (count + 1) old (kind ∷ drop (count + 1) kinds) (following t)) is ∙ s.values;
-      counted = r.counted ∙ ap (λ t. count + length (following t)) is ∙ (let n : count + length (slice_split is_comma text) ≡ count + 1 + length (following behind) = omega (arith, s.counted) in n);
+      counted = r.counted ∙ ap (λ t. count + length (following t)) is ∙ (let n : count + length (slice_split is_comma text) ≡ count + 1 + length (following after) = omega (arith, s.counted) in n);
       plain = r.plain ∙ ap (list_any is_odd) is ∙ s.plain;
     }
 

@@ -84,9 +84,9 @@ scaled_is minus ds a some =
     (ap (λ k. take k ds) n ∙ take_all (length ds) ds (omega arith)) (drop_all (position_or_len is_point ds + 1) ds (omega (arith, n)))
     (ap (λ k. nat_lt k (length ds)) n ∙ no_fewer (length ds)) a some
 
--- a number behind a sign
-behind_sign : (c : ℕ) (minus : Bool) (rest digits behind : List ℕ) (n : ℤ) → is_odd c ≡ false → is_comma c ≡ false → rest ≡ digits ++ behind → all_ascii_digits digits ≡ true → scaled 0 (c ∷ digits) ≡ Some n → HasField kind.Int (c ∷ rest) (value.Int n) behind
-behind_sign c minus rest digits behind n odd comma e a is =
+-- a number after a sign
+after_sign : (c : ℕ) (minus : Bool) (rest digits after : List ℕ) (n : ℤ) → is_odd c ≡ false → is_comma c ≡ false → rest ≡ digits ++ after → all_ascii_digits digits ≡ true → scaled 0 (c ∷ digits) ≡ Some n → HasField kind.Int (c ∷ rest) (value.Int n) after
+after_sign c minus rest digits after n odd comma e a is =
     record {
       cell = c ∷ digits;
       cut = ap (λ t. c ∷ t) e;
@@ -95,15 +95,15 @@ behind_sign c minus rest digits behind n odd comma e a is =
     }
 
 -- a number of any sign, or none
-by_sign : (c : ℕ) (rest digits behind : List ℕ) (n : ℤ) (minus plus : Bool) → (c == 45) ≡ minus → (c == 43) ≡ plus → cond minus rest (drop (cond plus 1 0) (c ∷ rest)) ≡ digits ++ behind → all_ascii_digits digits ≡ true → 0 < length digits → signed minus (digits_value 10 digits) ≡ Some n → HasField kind.Int (c ∷ rest) (value.Int n) behind
-by_sign c rest digits behind n true plus m p e a some s =
+by_sign : (c : ℕ) (rest digits after : List ℕ) (n : ℤ) (minus plus : Bool) → (c == 45) ≡ minus → (c == 43) ≡ plus → cond minus rest (drop (cond plus 1 0) (c ∷ rest)) ≡ digits ++ after → all_ascii_digits digits ≡ true → 0 < length digits → signed minus (digits_value 10 digits) ≡ Some n → HasField kind.Int (c ∷ rest) (value.Int n) after
+by_sign c rest digits after n true plus m p e a some s =
     let is : scaled 0 (c ∷ digits) ≡ Some n = rw m (scaled_is true digits a some ∙ s) in
-    behind_sign c true rest digits behind n (grind (arith, nat_tests, m)) (grind (arith, nat_tests, m)) e a is
-by_sign c rest digits behind n false true m p e a some s =
+    after_sign c true rest digits after n (grind (arith, nat_tests, m)) (grind (arith, nat_tests, m)) e a is
+by_sign c rest digits after n false true m p e a some s =
     let is : scaled 0 (c ∷ digits) ≡ Some n = rw (m, p) (scaled_is false digits a some ∙ s) in
-    behind_sign c false rest digits behind n (grind (arith, nat_tests, p)) (grind (arith, nat_tests, p)) e a is
-by_sign c rest [] behind n false false m p e a some s = absurd (omega arith)
-by_sign c rest (d ∷ ds) behind n false false m p e a some s =
+    after_sign c false rest digits after n (grind (arith, nat_tests, p)) (grind (arith, nat_tests, p)) e a is
+by_sign c rest [] after n false false m p e a some s = absurd (omega arith)
+by_sign c rest (d ∷ ds) after n false false m p e a some s =
     let same : c ≡ d = cc in
     let no_minus : (d == 45) ≡ false = rw (sym same) m in
     let no_plus : (d == 43) ≡ false = rw (sym same) p in
@@ -114,11 +114,11 @@ by_sign c rest (d ∷ ds) behind n false false m p e a some s =
       value_is = ap (option_map (λ n. value.Int n)) (let is : scaled 0 (d ∷ ds) ≡ Some n = rw (no_minus, no_plus) (scaled_is false (d ∷ ds) a some ∙ s) in is);
     }
 
-some_digits : (text digits behind : List ℕ) → text ≡ digits ++ behind → length behind < length text → 0 < length digits
-some_digits text digits behind e h = omega (arith, ap length e, length-append digits behind)
+some_digits : (text digits after : List ℕ) → text ≡ digits ++ after → length after < length text → 0 < length digits
+some_digits text digits after e h = omega (arith, ap length e, length-append digits after)
 
-pub int_field : (text : List ℕ) (size : ℕ) (behind : List ℕ) (n : ℤ) → IsNumeral (without_leading_sign text) size behind → length behind < length (without_leading_sign text) → signed (starts_with_minus text) size ≡ Some n → HasField kind.Int text (value.Int n) behind
-int_field [] size behind n i h s = absurd (omega arith)
-int_field (c ∷ rest) size behind n i h s =
-    by_sign c rest i.digits behind n (c == 45) (c == 43) refl refl i.cut i.are_digits (some_digits (without_leading_sign (c ∷ rest)) i.digits behind i.cut h)
+pub int_field : (text : List ℕ) (size : ℕ) (after : List ℕ) (n : ℤ) → IsNumeral (without_leading_sign text) size after → length after < length (without_leading_sign text) → signed (starts_with_minus text) size ≡ Some n → HasField kind.Int text (value.Int n) after
+int_field [] size after n i h s = absurd (omega arith)
+int_field (c ∷ rest) size after n i h s =
+    by_sign c rest i.digits after n (c == 45) (c == 43) refl refl i.cut i.are_digits (some_digits (without_leading_sign (c ∷ rest)) i.digits after i.cut h)
     (ap (signed (c == 45)) (sym i.spells) ∙ s)

@@ -16,7 +16,7 @@ same_answer : (r : Option ℕ) (d : Bool) (n m : ℕ) → d ≡ true → n ≡ m
 same_answer None d n m e q h = λ y. h (omega (arith, y.1))
 same_answer (Some x) d n m e q h = ((e, omega (arith, h.0)), h.1 ∙ sym q)
 
--- a decimal has a whole part, and a fraction behind its point that is no longer than its places
+-- a decimal has a whole part, and a fraction after its point that is no longer than its places
 pub shape_refused : (places : ℕ) (point : Bool) (w f : List ℕ) → is_decimal places point w f ≡ true → (point ≡ false → length f ≡ 0) → (0 < length w) × (length f ≤ places) × (point ≡ true → 0 < length f)
 shape_refused places true w f e n = grind (arith, nat_tests)
 shape_refused places false w f e n = grind (arith, nat_tests)

@@ -58,7 +58,7 @@ over_plain budget number xs ys room plain within =
 short_test : (line : List ℕ) → length line ≤ LONGEST_LINE → nat_le (length line) LONGEST_LINE ≡ true
 short_test line short = grind (arith, nat_tests)
 
--- a line that ends in a line feed, and the lines behind it
+-- a line that ends in a line feed, and the lines after it
 pub first_line : (budget number : ℕ) (line ys : List ℕ) (room : ℕ) → has_line_feed line ≡ false → length line ≤ LONGEST_LINE → length line < room → lines_from budget number [] (line ++ 10 ∷ ys) room ≡ record { texts = line ∷ (lines_from budget (number + 1) [] ys (room - (length line + 1))).texts; fault = (lines_from budget (number + 1) [] ys (room - (length line + 1))).fault }
 first_line budget number line ys room plain short within =
     let some : (room - length line == 0) ≡ false = grind (arith, nat_tests) in

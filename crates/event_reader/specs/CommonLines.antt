@@ -30,16 +30,16 @@ pub record IsCell (cell : List ℕ) : Type 0 where
   pub whole : list_any is_comma cell ≡ false
 
 -- The text begins with digits that spell this number, and then these bytes follow.
-pub record IsNumeral (text : List ℕ) (size : ℕ) (behind : List ℕ) : Type 0 where
+pub record IsNumeral (text : List ℕ) (size : ℕ) (after : List ℕ) : Type 0 where
   pub digits : List ℕ
-  pub cut : text ≡ digits ++ behind
+  pub cut : text ≡ digits ++ after
   pub are_digits : all_ascii_digits digits ≡ true
   pub spells : size ≡ digits_value 10 digits
 
 -- The text begins with a field of the kind and of this value, and then these bytes follow.
-pub record HasField (kind : Kind) (text : List ℕ) (value : Value) (behind : List ℕ) : Type 0 where
+pub record HasField (kind : Kind) (text : List ℕ) (value : Value) (after : List ℕ) : Type 0 where
   pub cell : List ℕ
-  pub cut : text ≡ cell ++ behind
+  pub cut : text ≡ cell ++ after
   pub is_cell : IsCell cell
   pub value_is : value_of kind cell ≡ Some value
 

@@ -141,11 +141,11 @@ fn read_fields(alloc: Global, kinds: &[Kind], fields: &[u8], values: &mut Vec<Va
         if *first != COMMA {
             return false;
         }
-        let Some((value, behind)) = read_field(alloc, *kind, text) else {
+        let Some((value, after)) = read_field(alloc, *kind, text) else {
             return false;
         };
         values[i] = value;
-        rest = behind;
+        rest = after;
     }
     rest.is_empty()
 }
@@ -169,11 +169,11 @@ fn read_number(text: &[u8]) -> Option<(Value, &[u8])>
     ensures { IfSome result (λ found. HasField kind.Int text.now found.0 found.1.now) }
 {
     let minus = matches!(text.first(), Some(b'-'));
-    let Some((size, behind)) = read_digits(without_sign(text)) else {
+    let Some((size, after)) = read_digits(without_sign(text)) else {
         return None;
     };
     match signed(minus, size) {
-        Some(number) => Some((Value::Int(number), behind)),
+        Some(number) => Some((Value::Int(number), after)),
         None => None,
     }
 }

@@ -41,7 +41,7 @@ fn read_lines<Q: Source>(alloc: Global, budget: u64, source: &mut Q) -> Result<T
     }
 }
 
-// The texts of all lines, a bar behind each, and how the file ends.
+// The texts of all lines, a bar after each, and how the file ends.
 fn words_of(alloc: Global, told: &Told) -> Result<String, AllocError> {
     let mut words = String::new(alloc);
     for text in &told.texts {
@@ -168,7 +168,7 @@ fn longest_line_has_65536_bytes(rt: HostRuntime) -> Result<(), Fail> {
             bytes.extend_from_slice(end.as_bytes())?;
             let words = lines_of(alloc, bytes.as_slice(), piece, 0, 1 << 40)?;
             let last = words.as_str().rsplit('|').next();
-            assert_eq!(rt; last, Some(fault), "at {count} behind {front} before {end}");
+            assert_eq!(rt; last, Some(fault), "at {count} after {front} before {end}");
         }
     }
     Ok(())

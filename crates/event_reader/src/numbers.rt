@@ -36,8 +36,8 @@ pub fn without_sign(field: &[u8]) -> &[u8]
     }
 }
 
-/// The number that the digits before and behind a point spell, times ten to the power of `places`,
-/// where it is below 2 to the 64. Without a point nothing is behind it.
+/// The number that the digits before and after a point spell, times ten to the power of `places`,
+/// where it is below 2 to the 64. Without a point nothing is after it.
 #[tactic(auto, using(crate::proofs::Decimals::shape_refused, crate::proofs::Decimals::digits_wanted, crate::proofs::Decimals::whole_least, crate::proofs::Decimals::fraction_least, crate::proofs::Decimals::decimal_shape, crate::proofs::Decimals::all_parts))]
 fn magnitude(places: usize, point: bool, whole: &[u8], fraction: &[u8]) -> Option<u64>
     requires { point ≡ false → length fraction.now ≡ 0 }
@@ -70,7 +70,7 @@ fn point_at(text: &[u8]) -> usize
     text.len()
 }
 
-/// The number with these digits put behind its own, where they are digits and it is below 2 to the
+/// The number with these digits put after its own, where they are digits and it is below 2 to the
 /// 64.
 #[tactic(auto, using(crate::proofs::Digits::value_step, crate::proofs::Digits::value_bound, crate::proofs::Digits::digits_step, crate::proofs::Digits::value_end, crate::proofs::Digits::digits_end))]
 fn with_digits(size: u64, digits: &[u8]) -> Option<u64>
@@ -94,7 +94,7 @@ fn with_digits(size: u64, digits: &[u8]) -> Option<u64>
     Some(sum)
 }
 
-/// The number with so many zeros put behind it, where it is below 2 to the 64.
+/// The number with so many zeros put after it, where it is below 2 to the 64.
 #[tactic(auto, using(crate::proofs::Digits::zeros_step, crate::proofs::Digits::zeros_bound))]
 fn with_zeros(size: u64, count: usize) -> Option<u64>
     ensures { SomeIff result (digits_value_after 10 size (replicate count 48) < 2 ^ 64)

@@ -106,7 +106,7 @@ impl Lines {
     }
 
     /// Whether the bytes that were taken and are in no line yet begin with a line feed or a carriage
-    /// return. Behind line 1 a line is empty, or a carriage return alone, only where they do.
+    /// return. After line 1 a line is empty, or a carriage return alone, only where they do.
     pub fn begins_with_end(&self) -> bool
         ensures { result ≡ begins_with_end self.now.pending }
     {

@@ -56,7 +56,7 @@ fn event_words(alloc: Global, row: &Row) -> Result<String, AllocError> {
     format!(in alloc; "{}{}", row.event().ty, value_words(alloc, row)?.as_str())
 }
 
-// The values, each behind a blank.
+// The values, each after a blank.
 fn value_words(alloc: Global, row: &Row) -> Result<String, AllocError> {
     let mut words = String::new(alloc);
     for value in row.event().values.as_slice() {
@@ -71,7 +71,7 @@ fn value_words(alloc: Global, row: &Row) -> Result<String, AllocError> {
     Ok(words)
 }
 
-// The first line of the table of which something else is read than what stands behind it. One row
+// The first line of the table of which something else is read than what stands after it. One row
 // reads all of them.
 fn first_wrong(
     alloc: Global,

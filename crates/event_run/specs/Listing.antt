@@ -26,11 +26,11 @@ StopsBy schema queries most_bytes bytes left (fault.InputTooLong taken) =
 StopsBy schema queries most_bytes bytes left fault.ReadFault =
     (events : List Event) × AreEventsRead schema queries bytes left events
 
--- the event came behind the others, and no clock falls with it
+-- the event came after the others, and no clock falls with it
 abbrev pub AddsThis : Declared → List Query → Event → List Event → List Event → Type 0
 AddsThis schema queries next before after = NoneFallsBack schema queries before next × (after ≡ before ++ next ∷ [])
 
--- the line is no event, or its event came behind the others
+-- the line is no event, or its event came after the others
 abbrev pub Adds : Declared → List Query → List ℕ → List Event → List Event → Type 0
 Adds schema queries text before after =
     ((event_of_line schema text ≡ Ok None) × (after ≡ before))

@@ -1,4 +1,4 @@
-//! The parts of notes, each put behind a text.
+//! The parts of notes, each put after a text.
 
 ghost use Rattle.std.specs.Prelude.{◌≡◌, ◌∷◌, ◌++◌, ◌<◌, [], OnOk, decimal};
 ghost use Rattle.fault_notes.specs.Notes.{hex, hex_digit};

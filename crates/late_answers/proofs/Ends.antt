@@ -107,7 +107,7 @@ no_write T now line.ReadFault = refl
 no_write T now (line.LineTooLong number) = refl
 no_write T now (line.InputTooLong taken) = refl
 
--- what comes behind something is nothing, where both are
+-- what comes after something is nothing, where both are
 last_empty : (xs ys : List ℕ) → xs ++ ys ≡ [] → ys ≡ []
 last_empty [] ys none = none
 last_empty (x ∷ xs) ys none = absurd cc

@@ -70,11 +70,11 @@ begins_at a bytes gone rest events is taken =
       runs = subst P (sym is) (takes_then a.schema a.queries [] gone rest (fed a bytes).stop events (events ++ some.more) some.halt taken some.takes);
     }
 
--- what was written and what is held, behind one another
+-- what was written and what is held, after one another
 in_turn : (written held blocks more now rest : List ℕ) → held ++ blocks ≡ more ++ (now ++ rest) → written ++ (held ++ blocks) ≡ (written ++ more) ++ (now ++ rest)
 in_turn written held blocks more now rest is = ap (λ w. written ++ w) is ∙ sym (append_assoc written more (now ++ rest))
 
--- lines that came behind those of some rows are those of the rows behind them
+-- lines that came after those of some rows are those of the rows after them
 lines_with : (written held : List ℕ) (rows more : List Row) → written ++ held ≡ lines_of rows → written ++ (held ++ lines_of more) ≡ lines_of (rows ++ more)
 lines_with written held rows more so_far = sym (append_assoc written held (lines_of more)) ∙ (ap (λ (l : List ℕ). l ++ lines_of more) so_far ∙ sym (lines_both rows more))
 
@@ -114,7 +114,7 @@ module _ (every : Option ℕ) (peaks : ℕ → ℕ) where
       let goes = f.go_first.first bytes told g f.gone f.sits refl f.gate_stands in
       begins_at a bytes f.gone goes.0 f.events goes.1 f.taken
 
-  -- the event that is next goes behind those that have gone
+  -- the event that is next goes after those that have gone
   owe_first : (a : Feed) (source : Option (List ℕ)) (put : List Numbered) (g : Held) (e : Numbered) (o : Gathered) (engine : State) (before after : Option (List ℕ)) (first now : ℕ) → (w : Owing every peaks a source put g e o engine before after first now) →
       (bytes : List ℕ) → source ≡ Some bytes → (rest : List Numbered) × (let_go a (fed a bytes).put (fed a bytes).stop ≡ w.gone ++ e ∷ rest)
   owe_first a source put g e o engine before after first now w bytes told =

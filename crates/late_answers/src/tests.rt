@@ -136,7 +136,7 @@ fn feed_words(
 fn events_are_answered_by_their_clocks(rt: HostRuntime) -> Result<(), Fail> {
     let alloc = rt.alloc();
     for (queries, late, bytes, wanted) in [
-        // The A of clock 9 comes behind the B of clock 14.
+        // The A of clock 9 comes after the B of clock 14.
         (
             PAIRS,
             5,

@@ -33,7 +33,7 @@ changed_numbers g (sequence u a b) base = ap₂ (λ x y. sequence u x y) (change
 changed_numbers g (either a b) base = ap₂ (λ x y. either x y) (changed_numbers g a base) (changed_numbers g b (base + length (occurrences (at_leaves g a))) ∙ ap (λ n. numbered (base + n) b) (as_many g a))
 changed_numbers g (plus u a) base = ap (λ x. plus u x) (changed_numbers g a base)
 
--- what stands behind a changed leaf
+-- what stands after a changed leaf
 mapped_from : (g : Occurrence → Occurrence) (ls : List Occurrence) (k : ℕ) (l : Occurrence) → slice_get (map g ls) k ≡ Some l → (o : Occurrence) × (slice_get ls k ≡ Some o) × (l ≡ g o)
 mapped_from g [] k l e = absurd cc
 mapped_from g (o ∷ os) zero l e = (o, refl, cc)

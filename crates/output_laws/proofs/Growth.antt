@@ -79,7 +79,7 @@ output_unchanged n order schema queries events more bytes within = (
   output_stands n order schema queries (events ++ more) events bytes (λ p less. sym (same_before events more p (omega arith))),
 )
 
--- One more event puts its blocks behind the output.
+-- One more event puts its blocks after the output.
 pub output_grows_by_blocks : (order : Order) (schema : Declared) (queries : List Query) (events : List Event) (event : Event) (bytes blocks : List ℕ) → IsOutput order schema queries events bytes → AreBlocks order schema 1 queries (events ++ event ∷ []) (length events) blocks → IsOutput order schema queries (events ++ event ∷ []) (bytes ++ blocks)
 output_grows_by_blocks order schema queries events event bytes blocks h b =
     let before = (output_unchanged (length events) order schema queries events (event ∷ []) bytes (omega arith)).0 h in

@@ -67,7 +67,7 @@ abbrev pub AllFit : List ℕ → Type 0
 AllFit [] = Unit {0}
 AllFit (p ∷ ps) = (p < 2 ^ 64) × AllFit ps
 
--- The positions are told by their text and the brace behind it.
+-- The positions are told by their text and the brace after it.
 positions_end : (ps qs r t : List ℕ) → AllFit ps → AllFit qs → positions_text ps ++ 125 ∷ r ≡ positions_text qs ++ 125 ∷ t → ps ≡ qs
 positions_end [] [] r t h k same = refl
 positions_end [] (q ∷ []) r t h k same = absurd (no_number q 125 125 r t k.0 brace brace same)

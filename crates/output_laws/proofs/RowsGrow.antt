@@ -58,7 +58,7 @@ later_rows : (order : Order) (schema : Declared) (queries : List Query) (events 
 later_rows order schema queries events more rows h =
     first_rows_stand (length events) order schema queries events (events ++ more) rows (λ p less. same_up_to events more p less p (omega arith)) h
 
--- One more event puts its rows behind.
+-- One more event puts its rows after.
 pub rows_grow_at_last : (order : Order) (schema : Declared) (queries : List Query) (events : List Event) (event : Event) (rows more : List Row) → AreOutputRows order schema queries events rows → AreRowsAt order schema 1 queries (events ++ event ∷ []) (length (events ++ event ∷ []) - 1) more → AreOutputRows order schema queries (events ++ event ∷ []) (rows ++ more)
 rows_grow_at_last order schema queries events event rows more h b =
     let last : length (events ++ event ∷ []) - 1 ≡ length events = omega (arith, length-append events (event ∷ [])) in

@@ -60,7 +60,7 @@ pub record AreRows (Complete : Type 0) (Is : Row → Type 0) (bytes : List ℕ) 
   pub all : Complete → (row : Row) → Is row → Contains rows row
   pub written : bytes ≡ flat_map row_line rows
 
--- some rows with no common one, behind one another
+-- some rows with no common one, after one another
 rows_joined : (A B C : Type 0) (P Q R : Row → Type 0) (front rest bytes : List ℕ) (xs ys : List Row) →
     (C → A) → (C → B) → ((row : Row) → P row → Q row → ⊥) →
     ((row : Row) → P row → R row) → ((row : Row) → Q row → R row) → ((row : Row) → R row → P row ⊎ Q row) →

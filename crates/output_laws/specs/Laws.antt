@@ -50,14 +50,14 @@ OutputStartsEmpty = (order : Order) (schema : Declared) (queries : List Query) (
 abbrev pub HasBlocks : Order → Declared → List Query → List Event → ℕ → Type 0
 HasBlocks order schema queries events end = (bytes : List ℕ) × AreBlocks order schema 1 queries events end bytes
 
--- One more event puts its blocks behind the output.
+-- One more event puts its blocks after the output.
 abbrev pub OneMoreEventAddsItsBlocks : Type 0
 OneMoreEventAddsItsBlocks = (order : Order) (schema : Declared) (queries : List Query) (events : List Event) (event : Event) (bytes blocks : List ℕ) →
     IsOutput order schema queries events bytes →
     AreBlocks order schema 1 queries (events ++ event ∷ []) (length events) blocks →
     IsOutput order schema queries (events ++ event ∷ []) (bytes ++ blocks)
 
--- More events put more behind the output, where each position has its blocks.
+-- More events put more after the output, where each position has its blocks.
 abbrev pub OutputGrowsAtItsEnd : Type 0
 OutputGrowsAtItsEnd = (order : Order) (schema : Declared) (queries : List Query) (events more : List Event) (bytes : List ℕ) →
     ((end : ℕ) → HasBlocks order schema queries (events ++ more) end) →

@@ -58,7 +58,7 @@ pub record RowsAreTheOutput : Type 0 where
   pub rows : (order : Order) (schema : Declared) (queries : List Query) (events : List Event) (bytes : List ℕ) →
       IsOutput order schema queries events bytes → (rows : List Row) × AreOutputRows order schema queries events rows × (bytes ≡ lines_of rows)
 
--- More events put more rows behind, where each position has its blocks.
+-- More events put more rows after, where each position has its blocks.
 abbrev pub RowsGrowAtTheirEnd : Type 0
 RowsGrowAtTheirEnd = (order : Order) (schema : Declared) (queries : List Query) (events more : List Event) (rows : List Row) →
     ((end : ℕ) → HasBlocks order schema queries (events ++ more) end) →

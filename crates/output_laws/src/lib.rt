@@ -1,7 +1,7 @@
 //! Laws of the answers and of the output. Each function does nothing; its contract is the law.
 //!
 //! They tell a reader of the output what to expect of the definitions in `cel_terms` and
-//! `answer_text`. The lemmas behind them, in `proofs`, are for callers too.
+//! `answer_text`. The lemmas after them, in `proofs`, are for callers too.
 #![tactic(auto)]
 
 ghost use Rattle.output_laws.specs.Laws.{AnswersLookBack, LaterEventsChangeNoAnswer, LaterEventsChangeNoBlock, LaterEventsChangeNoBlocks, LaterEventsChangeNoOutput, OneMoreEventAddsItsBlocks, OutputBeginsWithThatOfTheFirst, OutputGrowsAtItsEnd, OutputStartsEmpty, SortedOutputIsUnique, TreesTellTheAnswers, TreesTellTheOutput};
@@ -38,12 +38,12 @@ pub fn output_starts_empty()
     ensures { OutputStartsEmpty }
 {}
 
-/// One more event puts its blocks behind the output.
+/// One more event puts its blocks after the output.
 pub fn one_more_event_adds_its_blocks()
     ensures { OneMoreEventAddsItsBlocks }
 {}
 
-/// The output of more events is that of the first with more behind it.
+/// The output of more events is that of the first with more after it.
 pub fn output_grows_at_its_end()
     ensures { OutputGrowsAtItsEnd }
 {}
@@ -98,7 +98,7 @@ pub fn rows_are_the_output()
     ensures { RowsAreTheOutput }
 {}
 
-/// The rows of more events are those of the first with more behind them.
+/// The rows of more events are those of the first with more after them.
 pub fn rows_grow_at_their_end()
     ensures { RowsGrowAtTheirEnd }
 {}

@@ -34,7 +34,7 @@ match_both : {X : Type 0} (t : Bool) (x y z : X) → match_ordering (cond t Less
 match_both true x y z = refl
 match_both false x y z = refl
 
--- behind all of its clock that came before it
+-- after all of its clock that came before it
 inserted_is : (entries : List (Turn × (ℕ × Event))) (turn : Turn) (e : ℕ × Event) → AllByRecursion (λ x. x.0.arrival < turn.arrival) entries
     → insert_entry turn_cmp entries turn e ≡ placed (λ x. x.0.clock) (turn, e) entries
 inserted_is [] turn e all = refl

@@ -4,7 +4,7 @@ use Rattle.std.specs.List.{AllByRecursion, filter, fold}
 use Rattle.std.specs.Ordering.{int_eq}
 
 module _ {A : Type 0} (clock : A → ℤ) where
-  -- the item in a list: behind those whose clock is no greater, before the others
+  -- the item in a list: after those whose clock is no greater, before the others
   abbrev pub placed : A → List A → List A
   placed x [] = x ∷ []
   placed x (y ∷ ys) = if int_lt (clock x) (clock y) then x ∷ y ∷ ys else y ∷ placed x ys

@@ -97,7 +97,7 @@ fn step_words(alloc: Global, gate: &mut Gate, line: u64, word: &str) -> Result<S
     }
 }
 
-// The answers of the steps, each behind a blank. The n-th step is line n.
+// The answers of the steps, each after a blank. The n-th step is line n.
 fn answers(alloc: Global, gate: &mut Gate, script: &str) -> Result<String, AllocError> {
     let mut words = String::new(alloc);
     let mut line: u64 = 0;

@@ -1,7 +1,7 @@
 -- In reading order.
 -- bytes that a sink took in turn; for callers
 pub mod Portions
--- the blocks of one position, put behind what is held
+-- the blocks of one position, put after what is held
 mod Putting
 -- a part of the answers over a whole file
 mod Wholes

@@ -19,7 +19,7 @@ took_both (Some b) (Some m) after x y first second =
     let is : m ≡ b ++ x = cc in
     second ∙ ap Some (ap (λ w. w ++ y) is ∙ append_assoc b x y)
 
--- a first part of bytes behind others
+-- a first part of bytes after others
 part_of_two : (n : ℕ) (x y : List ℕ) → x ++ take n y ≡ take (length x + n) (x ++ y)
 part_of_two n [] y = ap (λ k. take k y) (sym (zero-add n))
 part_of_two n (b ∷ x) y =

@@ -1,4 +1,4 @@
--- The blocks of one position, put behind what is held.
+-- The blocks of one position, put after what is held.
 use Rattle.std.proofs.Common.{◌≡◌, ℕ, List, [], ◌++◌, take, drop, Option, Some, None, Result, Ok, Err, refl, sym, ◌∙◌, ap, subst, append_assoc}
 use Rattle.std.proofs.lemmas.List.{append-nil, take-append-drop}
 use Rattle.cer_base.specs.declared.OrMemory.{OrMemory}

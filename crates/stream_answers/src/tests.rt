@@ -132,7 +132,7 @@ fn lines_wait_only_while_the_next_line_is_at_hand(rt: HostRuntime) -> Result<(),
         // A part of the next line is at hand.
         ("A,1\nA,2\n", 6, 2, 1, "cannot write, 0", ""),
         ("A,1\nA,2", 99, 2, 1, "cannot write, 0", ""),
-        // An empty line is at hand, behind which the source would be asked.
+        // An empty line is at hand, after which the source would be asked.
         ("A,1\n\nA,2\n", 5, 2, 1, "cannot write, 0", ""),
         ("A,1\n\r\nA,2\n", 6, 2, 1, "cannot write, 0", ""),
     ] {

@@ -83,7 +83,7 @@ module _ {X : Type 0} where
   chunks-set n zero (suc m) cs (Some ds ∷ table) h lt long = (long, h.1)
   chunks-set n (suc k) (suc m) cs (Some ds ∷ table) h lt long = (h.0, chunks-set (n + n) k m cs table h.1 (omega arith) long)
 
-  -- a further chunk goes behind all places
+  -- a further chunk goes after all places
   pub row_grow : (n m : ℕ) (cs : List (Option X)) (table : List (Option (List (Option X)))) → AreChunks n m table → m < length table → row (set table m (Some cs)) ≡ row table ++ cs
   row_grow n zero cs [] h lt = absurd (omega arith)
   row_grow n zero cs (None ∷ table) h lt = rw h (append-nil cs)

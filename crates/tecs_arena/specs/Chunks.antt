@@ -1,4 +1,4 @@
--- Blocks of places that double in size, and the row of all their places. This project's own.
+-- Blocks of places that double in size, and the row of all their places.
 use Rattle.std.specs.Prelude.{◌≡◌, ℕ, zero, suc, ◌+◌, ◌-◌, ◌*◌, ◌^◌, List, [], ◌∷◌, length, Option, Some, None, get_or}
 use Rattle.std.specs.List.{flat_map}
 

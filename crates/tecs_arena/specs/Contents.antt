@@ -1,4 +1,4 @@
--- What an arena holds. This project's own.
+-- What an arena holds.
 use Rattle.std.specs.Prelude.{ℕ, List}
 use Rattle.cer_base.specs.declared.node.Node.{Node}
 

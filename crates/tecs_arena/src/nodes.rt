@@ -1,6 +1,6 @@
 //! Nodes in chunks, and how many they are.
 //!
-//! The first places hold the nodes, oldest first. What the places behind them hold is of no
+//! The first places hold the nodes, oldest first. What the places after them hold is of no
 //! concern, also where it was a node before a cut.
 ghost use Rattle.std.specs.Prelude.{◌≡◌, ◌+◌, ◌^◌, ◌<◌, ◌≤◌, [], ◌∷◌, ◌++◌, length, take, cond, nat_lt, slice_get, slice_set, Some, IfOk, OnOk, OnErr};
 ghost use Rattle.tecs_arena.specs.Chunks.{places_of};

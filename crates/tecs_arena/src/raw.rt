@@ -1,4 +1,4 @@
-//! A block of places behind a raw pointer, each place empty or holding a value.
+//! A block of places after a raw pointer, each place empty or holding a value.
 //!
 //! `make`, `Places::read`, `Places::write` and `free` are the only functions of the crate that
 //! follow a raw pointer. Their contracts name what each place holds, so that no place is read

@@ -28,7 +28,7 @@ fn holds(
     Ok(())
 }
 
-/// The part so often, with what stands before and behind it.
+/// The part so often, with what stands before and after it.
 fn repeated(
     alloc: Global,
     front: &str,
@@ -66,7 +66,7 @@ fn first_parts_of_a_quoted_line(rt: HostRuntime) -> Result<(), Fail> {
     Ok(())
 }
 
-/// A chain of so many parts behind the first, and what stands behind it.
+/// A chain of so many parts after the first, and what stands after it.
 #[test]
 fn formulas_at_their_limits(rt: HostRuntime) -> Result<(), Fail> {
     let alloc = rt.alloc();

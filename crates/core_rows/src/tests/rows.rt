@@ -15,7 +15,7 @@ const RUN: &str = "run q e";
 const USAGE: &str =
     "usage: core_cli run QUERIES EVENTS [--order walk|sorted] [--compact-every N] [--max-bytes N], core_cli sample SEED COUNT, core_cli reorder QUERIES EVENTS CLOCK LATE [--order walk|sorted] [--compact-every N] [--max-bytes N], core_cli explain QUERIES EVENTS QUERY START END [POSITION]...";
 
-/// What a row says: the words, the lines behind the query text's first ones, the formula of a query
+/// What a row says: the words, the lines after the query text's first ones, the formula of a query
 /// that marks all, the lines of the event file, the status, the lines of the output, and the note.
 #[derive(Clone, Copy)]
 struct Row<'a> {

@@ -48,7 +48,7 @@ fn write_defined(
     Ok(())
 }
 
-/// The answers after each event of the lines by the definition, with a stroke behind those of one
+/// The answers after each event of the lines by the definition, with a stroke after those of one
 /// event.
 fn defined_after_each(alloc: Global, text: &str, lines: &[u8]) -> Result<String, RowFault> {
     let Ok(Accepted { schema, queries }) = read_queries(alloc, text.as_bytes()) else {

@@ -132,7 +132,7 @@ fn repeated(alloc: Global, part: Part, sign: &str) -> Result<Part, AllocError> {
     })
 }
 
-/// The part, or the part with a postfix or a filter behind it.
+/// The part, or the part with a postfix or a filter after it.
 fn changed(alloc: Global, random: &mut Pcg32, part: Part) -> Result<Part, AllocError> {
     match below(random, 12) {
         0 | 1 | 2 => repeated(alloc, part, "+"),

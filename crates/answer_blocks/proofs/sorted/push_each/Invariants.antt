@@ -1,4 +1,4 @@
--- The blocks of the queries so far stand behind the text.
+-- The blocks of the queries so far stand after the text.
 use Rattle.std.proofs.Common.{◌≡◌, ◌+◌, ◌≤◌, ◌++◌, take}
 use Rattle.answer_text.specs.declared.Order.TheVariants.{Sorted}
 use Rattle.answer_text.specs.Rows.{lines_of}

@@ -12,9 +12,9 @@ loop-token-preserved c =
       | else-depth-ge-DEEPEST_NESTING-via-then-depth-ge-DEEPEST_NESTING+else-is w ↦ λ l o. let k : false ≡ true = sym w.if-is.false ∙ w.is.ensures ∙ o in cc
       | else-depth-ge-DEEPEST_NESTING-via-else-depth-ge-DEEPEST_NESTING w ↦ λ l o. let m = w.if-depth-ge-DEEPEST_NESTING.false in omega (arith, l, m)
     ] in (
-      open_next c.args.tokens.now c.loop-token.token-index c.token-item.result c.loop-token.depth c.open_behind-depth.result c.loop-token-test.true c.token-item.is c.loop-token.invariant.0 c.open_behind-depth.ensures,
+      open_next c.args.tokens.now c.loop-token.token-index c.token-item.result c.loop-token.depth c.open_after_one-depth.result c.loop-token-test.true c.token-item.is c.loop-token.invariant.0 c.open_after_one-depth.ensures,
       (
-        within c.loop-token.depth c.open_behind-depth.result c.token-item.result c.loop-token.invariant.1.0 no c.open_behind-depth.ensures,
+        within c.loop-token.depth c.open_after_one-depth.result c.token-item.result c.loop-token.invariant.1.0 no c.open_after_one-depth.ensures,
         not_here c.args.tokens.now c.loop-token.token-index c.token-item.result c.loop-token.depth c.loop-token-test.true c.token-item.is c.loop-token.invariant.0 no c.loop-token.invariant.1.1,
       ),
     )

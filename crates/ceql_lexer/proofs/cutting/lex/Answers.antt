@@ -6,5 +6,5 @@ use Rattle.ceql_lexer.proofs.cutting.lex.Goals as goal
 
 pub returns-clause-cut : goal.returns-clause-cut
 returns-clause-cut c =
-    subst (λ (text : List ℕ). IfOk c.cut.result (λ tokens. IsCut text tokens)) c.behind_mark-behind.ensures.value
-    (cut_is c.behind_mark-behind.result.now c.cut.result c.cut.ensures)
+    subst (λ (text : List ℕ). IfOk c.cut.result (λ tokens. IsCut text tokens)) c.after_mark-behind.ensures.value
+    (cut_is c.after_mark-behind.result.now c.cut.result c.cut.ensures)

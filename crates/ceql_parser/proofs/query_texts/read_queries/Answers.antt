@@ -16,14 +16,14 @@ pub returns-in-Ok-parse-clause-found : goal.returns-in-Ok-parse-clause-found
 returns-in-Ok-parse-clause-found c =
     let text = c.args.text.now in
     where_read (λ answer. IsAnswerAfter (Ok (script_view c.in-Ok-parse.script)) answer) (λ answer. IsAnswerOfText text answer) c.check.result
-    (λ answer h. found_lexed text c.in-Ok.tokens answer (omega (arith, c.if-text-gt-LONGEST_TEXT.false)) c.in-Ok.ensures.exact record { parsed = Ok (script_view c.in-Ok-parse.script); read = c.in-Ok-parse.ensures.found; behind = h })
+    (λ answer h. found_lexed text c.in-Ok.tokens answer (omega (arith, c.if-text-gt-LONGEST_TEXT.false)) c.in-Ok.ensures.exact record { parsed = Ok (script_view c.in-Ok-parse.script); read = c.in-Ok-parse.ensures.found; after = h })
     (found_script c.in-Ok-parse.script c.check.result c.check.ensures.told c.check.ensures.schema c.check.ensures.queries)
 
 pub returns-in-Ok-parse-clause-only : goal.returns-in-Ok-parse-clause-only
 returns-in-Ok-parse-clause-only c = λ answer k.
     let text = c.args.text.now in
     where_read (λ answer. IsAnswerAfter (Ok (script_view c.in-Ok-parse.script)) answer) (λ given. given ≡ answer) c.check.result
-    (λ given h. one_text_answer text given answer (found_lexed text c.in-Ok.tokens given (omega (arith, c.if-text-gt-LONGEST_TEXT.false)) c.in-Ok.ensures.exact record { parsed = Ok (script_view c.in-Ok-parse.script); read = c.in-Ok-parse.ensures.found; behind = h }) k)
+    (λ given h. one_text_answer text given answer (found_lexed text c.in-Ok.tokens given (omega (arith, c.if-text-gt-LONGEST_TEXT.false)) c.in-Ok.ensures.exact record { parsed = Ok (script_view c.in-Ok-parse.script); read = c.in-Ok-parse.ensures.found; after = h }) k)
     (found_script c.in-Ok-parse.script c.check.result c.check.ensures.told c.check.ensures.schema c.check.ensures.queries)
 
 pub returns-clause-found : goal.returns-clause-found

@@ -6,7 +6,7 @@ use Rattle.cer_base.specs.Bits.{has, room_for}
 use Rattle.cea_determinise.specs.Runs.{LeafSet, Automaton, State, start, some_below, patient, pair, candidates}
 use Rattle.cea_determinise.specs.Cea.{IsSet, AreRows, IsWellFormed, row, automaton_of_cea}
 use Rattle.cea_determinise.specs.declared.cea.Cea.{Cea}
-use Rattle.cea_determinise.proofs.Some.{none_below, found_below, some_either}
+use Rattle.cea_determinise.proofs.SomeLeaf.{none_below, found_below, some_either}
 
 -- the test whether a set is empty tells whether some leaf is in it
 pub empty_tells : (size : ℕ) (set : List Bool) (r : Bool) → IsSet size set → (r ≡ true → (k : ℕ) → has set k ≡ false) → (r ≡ false → (k : ℕ) × (has set k ≡ true)) → not r ≡ some_below size (has set)

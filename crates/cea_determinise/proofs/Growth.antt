@@ -13,7 +13,7 @@ use Rattle.cea_determinise.specs.declared.table.Both.{Both}
 use Rattle.cea_determinise.specs.declared.table.Successors.{Successors}
 use Rattle.cea_determinise.specs.Runs.{some_below}
 use Rattle.cea_determinise.specs.Strict.{next_standing}
-use Rattle.cea_determinise.proofs.Some.{none_below, found_below}
+use Rattle.cea_determinise.proofs.SomeLeaf.{none_below, found_below}
 use Rattle.cea_determinise.specs.Cea.{automaton_of_cea, standing, standing_of, HasLeavesBelow, IsSet}
 use Rattle.cea_determinise.specs.Keys.{are_same_sets, is_same_key, Decides-sets, Decides-key}
 use Rattle.cea_determinise.specs.Det.{Table, class_at, sets_at, standing_at, standing_after, Leads, AreSuccessors, IsSound, Reached, StaysWithin, IsNext, AreBoth, IsNumber, Adds}

@@ -1,14 +1,27 @@
+-- the number that digits write
 pub mod Digits
+-- the parts of a decimal number and the number that they spell
 pub mod Decimals
+-- the state in which a line ends, and that `csv` reads a line without a byte order mark as it stands
 pub mod Records
+-- the fields of a line with no quote byte are the parts between its commas
 pub mod Cuts
+-- what tests on the bytes of a line say of each byte
 pub mod LineBytes
+-- texts and tests on them
 pub mod Texts
 mod LineRows
+-- how the lines of a file are read on
 pub mod LineWalks
+-- what a reader has given, from answer to answer
 pub mod GivenLines
+-- the parts of a window's buffer
 pub mod LineBufferParts
+-- what each answer of a reader says, where the source tells its bytes
 pub mod NextLines
+-- an event that is read is of its schema
 pub mod OfSchema
+-- the whole numbers that a line read in one pass spells
 pub mod CommonNumbers
+-- the fields of a line that is read in one pass
 pub mod CommonFields

@@ -20,7 +20,7 @@ use Rattle.event_run.specs.Runs as stop
 use Rattle.event_run.specs.Taking.{HasTaken, StopsHere, run_fault}
 use Rattle.event_run.specs.Listing.{StopsBy, Adds}
 use Rattle.event_run.proofs.Given.{at_end, at_read_fault, at_line}
-use Rattle.event_run.proofs.Turns.{empty_line, event_line}
+use Rattle.event_run.proofs.LineTaken.{empty_line, event_line}
 
 -- what the first queries were passed over for
 abbrev pub ArePassed : Declared → List Query → List Event → Event → ℕ → Type 0

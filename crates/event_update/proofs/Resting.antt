@@ -23,7 +23,7 @@ use Rattle.cea_determinise.specs.Strict.{Standing, begin, next_standing, phase_a
 use Rattle.cea_determinise.specs.Cea.{automaton_of_cea, standing}
 use Rattle.cea_determinise.specs.Det.{Table, class_at, standing_at, AreSuccessors, IsSound}
 use Rattle.cea_determinise.proofs.Growth.{sets_at-later, if_found_right}
-use Rattle.cea_determinise.proofs.Some.{none_below}
+use Rattle.cea_determinise.proofs.SomeLeaf.{none_below}
 use Rattle.union_lists.specs.Lists.{IsUnionList, IsList, trees, members_of}
 use Rattle.event_update.specs.Advance.{step, steps, advance, place_if, on_members}
 use Rattle.event_update.specs.Reach.{Seen, Has, all_of}

@@ -12,9 +12,9 @@ use Rattle.match_explain.specs.declared.moves.Last.{Last}
 use Rattle.match_explain.specs.declared.moves.Last.TheVariants.{Start, Leaf as At}
 use Rattle.match_explain.specs.declared.moves.Age.{Age}
 use Rattle.match_explain.specs.declared.moves.Age.TheVariants.{Just, Earlier}
-use Rattle.match_explain.specs.Turns.{may_read, passed, has_begun, can_finish, Goes, finished, reading, passing, AreFinishers, IsAhead, IsLeafBelow}
+use Rattle.match_explain.specs.Searching.{may_read, passed, has_begun, can_finish, Goes, finished, reading, passing, AreFinishers, IsAhead, IsLeafBelow}
 use Rattle.match_explain.proofs.Following.{same_below}
-use Rattle.match_explain.proofs.Begun.{reads_on, passes_on}
+use Rattle.match_explain.proofs.Beginning.{reads_on, passes_on}
 
 -- the set has the readers of the turn that can finish after it
 abbrev pub IsFinisherSet : Automaton → Turn → List Turn → List Bool → Type 0

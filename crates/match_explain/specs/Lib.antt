@@ -1,5 +1,5 @@
 pub mod Explains
-pub mod Turns
+pub mod Searching
 pub mod LeafNames
 pub mod Bindings
 pub mod Spans

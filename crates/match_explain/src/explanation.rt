@@ -6,7 +6,7 @@ ghost use Rattle.cea_compile.specs.Covers.{is_listed};
 ghost use Rattle.cel_terms.specs.Answers.{IsAnswer, IsAscending};
 ghost use Rattle.match_explain.specs.Explains.{Explains};
 ghost use Rattle.match_explain.specs.Spans.{MayBe};
-ghost use Rattle.match_explain.specs.Turns.{IsRun, HasNoRun};
+ghost use Rattle.match_explain.specs.Searching.{IsRun, HasNoRun};
 
 use crate::Valuation;
 use crate::bindings::bindings_of;

@@ -5,7 +5,7 @@ ghost use Rattle.cer_base.specs.Bits.{has};
 ghost use Rattle.cea_determinise.specs.Runs.{some_below};
 ghost use Rattle.cea_determinise.specs.Cea.{automaton_of_cea, IsWellFormed, IsSet};
 ghost use Rattle.match_explain.specs.declared.moves.Last.TheVariants.{Leaf as At};
-ghost use Rattle.match_explain.specs.Turns.{may_read, can_finish, IsAhead, AreFinishers};
+ghost use Rattle.match_explain.specs.Searching.{may_read, can_finish, IsAhead, AreFinishers};
 
 use crate::moves::{Age, Last, leads};
 use crate::turns::Turn;

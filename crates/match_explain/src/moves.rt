@@ -4,7 +4,7 @@ ghost use Rattle.std.specs.Prelude.{◌≡◌, ℕ, ◌<◌, ◌&&◌, ◌||◌,
 ghost use Rattle.cer_base.specs.Bits.{has};
 ghost use Rattle.cea_determinise.specs.Runs.{some_below};
 ghost use Rattle.cea_determinise.specs.Cea.{automaton_of_cea, IsWellFormed, IsSet, AreRows, row};
-ghost use Rattle.match_explain.specs.Turns.{may_read, passed, has_begun, IsLeafBelow};
+ghost use Rattle.match_explain.specs.Searching.{may_read, passed, has_begun, IsLeafBelow};
 
 use cea_determinise::cea::Cea;
 use cer_base::bits::Bits;

@@ -7,7 +7,7 @@ ghost use Rattle.cer_base.specs.Bits.{has};
 ghost use Rattle.cea_determinise.specs.Runs.{agrees};
 ghost use Rattle.cea_determinise.specs.Cea.{IsSet};
 ghost use Rattle.query_leaves.specs.Conditions.{leaf_conditions};
-ghost use Rattle.match_explain.specs.Turns.{IsTurnAt};
+ghost use Rattle.match_explain.specs.Searching.{IsTurnAt};
 
 use crate::spans::lists;
 use cer_base::bits::Bits;

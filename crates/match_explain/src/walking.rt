@@ -5,7 +5,7 @@ ghost use Rattle.cer_base.specs.Bits.{has};
 ghost use Rattle.cea_determinise.specs.Runs.{some_below};
 ghost use Rattle.cea_determinise.specs.Cea.{automaton_of_cea, IsWellFormed, IsSet};
 ghost use Rattle.match_explain.specs.declared.moves.Last.TheVariants.{Start};
-ghost use Rattle.match_explain.specs.Turns.{may_read, can_finish, AreFinishers, Goes, IsLeafBelow};
+ghost use Rattle.match_explain.specs.Searching.{may_read, can_finish, AreFinishers, Goes, IsLeafBelow};
 
 use crate::finishing::finishers;
 use crate::moves::{Age, Last, next_leaf};

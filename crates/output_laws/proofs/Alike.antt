@@ -10,7 +10,7 @@ use Rattle.cel_terms.proofs.Marked.{marks_within}
 use Rattle.answer_text.specs.declared.Order.{Order}
 use Rattle.answer_text.specs.Output.{AreEnough, IsBlock}
 use Rattle.output_laws.proofs.Agreeing.{Agree, selected_carries}
-use Rattle.output_laws.proofs.Past.{strict_too, contiguous_too}
+use Rattle.output_laws.proofs.EarlierAnswers.{strict_too, contiguous_too}
 use Rattle.output_laws.proofs.Growth.{enough_too}
 
 -- The two read the same types, and part the events alike.

@@ -9,7 +9,7 @@ use Rattle.cel_terms.specs.Answers.{Answer, IsAnswer}
 use Rattle.answer_text.specs.declared.Order.{Order}
 use Rattle.answer_text.specs.Output.{AreEnough, IsBlock, AreBlocks, IsOutputOf, IsOutput}
 use Rattle.output_laws.specs.Laws.{AreSameUpTo, HasBlocks}
-use Rattle.output_laws.proofs.Past.{turned, look_back, same_up_to}
+use Rattle.output_laws.proofs.EarlierAnswers.{turned, look_back, same_up_to}
 
 -- what is enough of one kind is enough of the other, where both have the same answers
 pub enough_too : (any : Option ℕ) (P Q : Answer → Type 0) → ((a : Answer) → P a ↔ Q a) → (answers : List Answer) → AreEnough any P answers → AreEnough any Q answers

@@ -1,7 +1,7 @@
 -- streams that agree at their first positions
 pub mod Agreeing
 -- answers at the same events
-pub mod Past
+pub mod EarlierAnswers
 -- blocks and outputs where more events come
 pub mod Growth
 -- one output at most

@@ -14,7 +14,7 @@ use Rattle.cel_terms.specs.declared.Query.{Query}
 use Rattle.cel_terms.specs.Answers.{Answer}
 use Rattle.cel_terms.proofs.Marked.{marks_within}
 use Rattle.output_laws.specs.Rows.{Row, IsRow, row_line}
-use Rattle.output_laws.proofs.Past.{starts_before}
+use Rattle.output_laws.proofs.EarlierAnswers.{starts_before}
 use Rattle.answer_text.specs.Output.{line, positions_text}
 
 -- no decimal digit

@@ -10,7 +10,7 @@ use Rattle.answer_text.specs.Rows.{Row, AreRowsOf, AreRowsAt, AreFirstRows, AreO
 use Rattle.answer_text.proofs.RowLists.{output_of_rows, rows_of_output, rows_of_blocks}
 use Rattle.output_laws.specs.Laws.{AreSameUpTo, HasBlocks}
 use Rattle.output_laws.specs.Rows.{RowsAreTheOutput}
-use Rattle.output_laws.proofs.Past.{turned, look_back, same_up_to}
+use Rattle.output_laws.proofs.EarlierAnswers.{turned, look_back, same_up_to}
 use Rattle.output_laws.proofs.Growth.{enough_too}
 
 pub rows_are_output : RowsAreTheOutput

@@ -6,7 +6,7 @@ use Rattle.std.proofs.lemmas.List.Elements.{All-nil, All-cons, All-head, All-tai
 use Rattle.stream_schema.specs.Types.{Declared}
 use Rattle.stream_schema.specs.declared.Event.{Event}
 use Rattle.all_or_none.specs.Phases.{Phase, IsIdle, IsQuiet, StandsAt}
-use Rattle.all_or_none.proofs.Turns.{all_mapped}
+use Rattle.all_or_none.proofs.LoopTurn.{all_mapped}
 use Rattle.query_part.specs.Parts.{seen, woken, HasEvents}
 use Rattle.query_part.specs.Compacting.{HasStatesOnce}
 use Rattle.query_part.proofs.Fresh.{fresh_seen}

@@ -15,7 +15,7 @@ use Rattle.all_or_none.specs.Phases.{Phase, IsIdle, IsQuiet, StandsAt, InTime, C
 use Rattle.query_engine.specs.declared.falls.FallOf.{FallOf}
 use Rattle.query_engine.specs.Engine.{State, StandsFor, kept_of, found_of, len_of, peak_of, Fits, rest, update_bounds, SameQueries, KeepsCursors}
 use Rattle.query_part.specs.Parts.{seen}
-use Rattle.all_or_none.proofs.Turns.{all_mapped}
+use Rattle.all_or_none.proofs.LoopTurn.{all_mapped}
 use Rattle.std.proofs.lemmas.List.Sums.{sum_by-cons}
 use Rattle.query_engine.specs.Running.{IsRunning, IsKeeping, IsFirst, IsFirstPart}
 use Rattle.query_engine.proofs.Keeping.{running, seen_schemas, first_seen, first_quiet}

@@ -5,13 +5,13 @@ pub mod Changes
 -- what the expansion of a formula computes
 pub mod Expanded
 -- the first place at which a test passes
-pub mod Found
+pub mod FirstPlace
 -- lists whose elements are related one by one
 pub mod Pairs
 -- what the test of a predicate says
 pub mod Tested
 -- which events a leaf reads
-pub mod Read
+pub mod EventsRead
 -- no literal of a checked query's leaves has too many decimal places
 pub mod Places
 -- how many leaves a formula has

@@ -12,7 +12,7 @@ use Rattle.stream_schema.specs.declared.Value.{Value}
 use Rattle.cel_terms.specs.declared.Pred.{Pred, All, Any, All', Any', Row_of-Pred, end_of-Pred, more_of-Pred, items-the_row-Pred, items_hidden-the_row-Pred-0}
 use Rattle.query_leaves.specs.declared.Test.{Test, Row_of-Test, end_of-Test, more_of-Test, items-the_row-Test, items_hidden-the_row-Test-0}
 use Rattle.query_leaves.specs.declared.Test as test
-use Rattle.query_leaves.proofs.Found.{found}
+use Rattle.query_leaves.proofs.FirstPlace.{found}
 use Rattle.cel_terms.specs.Predicate.{attr_value, holds, all_hold, any_holds}
 use Rattle.query_leaves.specs.Shapes.{test_holds, all_tests_hold, any_test_holds}
 use Rattle.query_leaves.specs.Lawful.{TestHasFewPlaces, TestsHaveFewPlaces}

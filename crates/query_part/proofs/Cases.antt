@@ -22,7 +22,7 @@ use Rattle.event_update.specs.declared.Staged.{Staged}
 use Rattle.event_update.specs.declared.Staged.TheVariants.{Unchanged}
 use Rattle.event_update.specs.Still.{IsQuiet}
 use Rattle.event_update.proofs.GivenBack.{discovers_none}
-use Rattle.event_update.proofs.Turns.{grows_by_none}
+use Rattle.event_update.proofs.RowPlaced.{grows_by_none}
 use Rattle.event_update.proofs.Resting.{resting_stand}
 use Rattle.query_standing.proofs.Lists.{got}
 use Rattle.event_update.specs.Reach.{Seen}

@@ -13,7 +13,7 @@ use Rattle.stream_schema.specs.Names.{attr_at, attr_among, attr_index}
 use Rattle.stream_schema.specs.declared.Attr.{Attr}
 use Rattle.stream_schema.specs.declared.AttrAt.{AttrAt}
 use Rattle.cel_terms.specs.declared.Name.{Name}
-use Rattle.query_leaves.proofs.Found.{found}
+use Rattle.query_leaves.proofs.FirstPlace.{found}
 use Rattle.query_part.specs.KeyPlaces.{places_in, values_there, key_there, AreKeyPlaces}
 use Rattle.stream_schema.specs.Events.{IsOfSchema}
 use Rattle.stream_schema.specs.declared.Event.{Event}

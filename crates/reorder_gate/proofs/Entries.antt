@@ -12,7 +12,7 @@ use Rattle.reorder_gate.specs.declared.gate.Turn.{Turn}
 use Rattle.reorder_gate.specs.Sorting.{placed, Ascends}
 use Rattle.reorder_gate.specs.Releasing.{is_due}
 use Rattle.reorder_gate.specs.Gates.{Held, clock_at}
-use Rattle.reorder_gate.specs.Turns.{any_due, IsKept}
+use Rattle.reorder_gate.specs.Holding.{any_due, IsKept}
 use Rattle.reorder_gate.proofs.Placing.{all_by, all_placed, ascends_placed}
 use Rattle.reorder_gate.proofs.Parts.{placed_parts}
 

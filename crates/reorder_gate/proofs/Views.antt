@@ -6,7 +6,7 @@ use Rattle.stream_schema.specs.declared.Event.{Event}
 use Rattle.reorder_gate.specs.declared.gate.Turn.{Turn}
 use Rattle.reorder_gate.specs.Releasing.{raised, is_due}
 use Rattle.reorder_gate.specs.Gates.{Held, clock_at, lateness, with_event, may_go, StandsFor}
-use Rattle.reorder_gate.specs.Turns.{any_due, IsKept}
+use Rattle.reorder_gate.specs.Holding.{any_due, IsKept}
 use Rattle.reorder_gate.proofs.Entries.{turn_cmp, events_with, first_is_due}
 use Rattle.reorder_gate.proofs.Standing.{put_stands, take_stands, none_goes}
 

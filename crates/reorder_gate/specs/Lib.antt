@@ -2,5 +2,5 @@ pub mod Sorting
 pub mod Releasing
 pub mod Clocks
 pub mod Gates
-pub mod Turns
+pub mod Holding
 pub mod Laws

@@ -49,7 +49,7 @@ pub struct Gate {
 impl Model for Gate {
     ghost use Rattle.std.specs.Prelude.{map};
     ghost use Rattle.reorder_gate.specs.Gates.{Held};
-    ghost use Rattle.reorder_gate.specs.Turns.{IsKept};
+    ghost use Rattle.reorder_gate.specs.Holding.{IsKept};
 
     ghost Value = { Held };
 
@@ -104,7 +104,7 @@ impl Gate {
     ghost use Rattle.reorder_gate.specs.Clocks.{clock_fits, IsClock};
     ghost use Rattle.reorder_gate.specs.Sorting.{Ascends};
     ghost use Rattle.reorder_gate.specs.Gates.{clock_at, with_event, may_go, StandsFor, all_due};
-    ghost use Rattle.reorder_gate.specs.Turns.{any_due};
+    ghost use Rattle.reorder_gate.specs.Holding.{any_due};
 
     /// A gate with nothing put. Its clock is the attribute of this name, which fits the schema, and
     /// an event may come late by `late`.

@@ -3,7 +3,7 @@ use Rattle.query_standing.specs.Bounds.{update_bound}
 use Rattle.all_or_none.specs.Phases.{back, IsIdle, AreSet, CanPrepare, InTime, StandsAt, MeetsAtMost, ready_bound}
 use Rattle.std.proofs.lemmas.List.Sums.{sum_by-take-le}
 use Rattle.all_or_none.proofs.Numbers.{set_none, set_next}
-use Rattle.all_or_none.proofs.Turns.{all_here, same_next, left_next, same_whole, sum_next, pair_at, all_mapped}
+use Rattle.all_or_none.proofs.LoopTurn.{all_here, same_next, left_next, same_whole, sum_next, pair_at, all_mapped}
 use Rattle.all_or_none.proofs.prepare_all.Goals as goal
 
 pub prepare_one-requires-clause-can : goal.prepare_one-requires-clause-can

@@ -1,6 +1,6 @@
 use Rattle.std.proofs.Common.{◌+◌, length, map, subst, sym, arith}
 use Rattle.all_or_none.specs.Phases.{AreSet, MayAnswer}
-use Rattle.all_or_none.proofs.Both.{stands_after, idle_after, quiet_after, as_before, grown_after, bounds_after}
+use Rattle.all_or_none.proofs.BothPhases.{stands_after, idle_after, quiet_after, as_before, grown_after, bounds_after}
 use Rattle.all_or_none.proofs.see.Goals as goal
 
 pub returns-in-Ok-clause-stands : goal.returns-in-Ok-clause-stands

@@ -1,6 +1,6 @@
 use Rattle.std.proofs.Common.{◌≡◌, ◌<◌, length, arith}
 use Rattle.all_or_none.specs.Phases.{back}
-use Rattle.all_or_none.proofs.Turns.{same_next, left_next}
+use Rattle.all_or_none.proofs.LoopTurn.{same_next, left_next}
 use Rattle.all_or_none.proofs.take_back_all.Goals as goal
 
 pub loop-k-preserved : goal.loop-k-preserved

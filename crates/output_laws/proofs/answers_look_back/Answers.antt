@@ -1,4 +1,4 @@
-use Rattle.output_laws.proofs.Past.{look_back}
+use Rattle.output_laws.proofs.EarlierAnswers.{look_back}
 use Rattle.output_laws.proofs.answers_look_back.Goals as goal
 
 pub returns : goal.returns

@@ -1,4 +1,4 @@
-use Rattle.output_laws.proofs.Past.{no_change}
+use Rattle.output_laws.proofs.EarlierAnswers.{no_change}
 use Rattle.output_laws.proofs.later_events_change_no_answer.Goals as goal
 
 pub returns : goal.returns

@@ -4,7 +4,7 @@ use Rattle.std.specs.Str.Parse.{ExplainsUnsignedError, HasUnsignedDigitsIfOk, Pa
 use Rattle.clap.specs.Words.{found_of, one_text}
 use Rattle.clap.proofs.WalkLemmas.{one_text-rows}
 use Rattle.command_words.specs.CommandLine.{number_of}
-use Rattle.command_words.proofs.Found.{number_found, number_read}
+use Rattle.command_words.proofs.MatchesRead.{number_found, number_read}
 use Rattle.command_words.proofs.reading.number_at.Goals as goal
 
 pub returns : goal.returns

@@ -4,7 +4,7 @@ use Rattle.std.specs.List.{filter_map}
 use Rattle.clap.specs.Words.{found_of}
 use Rattle.clap.proofs.WalkLemmas.{raw_values-rows}
 use Rattle.command_words.specs.CommandLine.{number_of}
-use Rattle.command_words.proofs.Found.{read_of_each}
+use Rattle.command_words.proofs.MatchesRead.{read_of_each}
 use Rattle.command_words.proofs.reading.numbers_in.Goals as goal
 
 pub returns-in_ok-numbers_of-in-Some : goal.returns-in_ok-numbers_of-in-Some

@@ -3,7 +3,7 @@ use Rattle.std.specs.Prelude.{unwrap_or}
 use Rattle.std.proofs.lemmas.Result.{IfOk-weaker}
 use Rattle.clap.specs.Words.{found_of}
 use Rattle.clap.proofs.WalkLemmas.{first_value-rows}
-use Rattle.command_words.proofs.Found.{text_or}
+use Rattle.command_words.proofs.MatchesRead.{text_or}
 use Rattle.command_words.proofs.reading.text_in.Goals as goal
 
 pub returns : goal.returns

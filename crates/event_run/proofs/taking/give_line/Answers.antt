@@ -1,7 +1,7 @@
 use Rattle.std.proofs.Common.{◌≡◌, Bool, Some, Ok}
 use Rattle.std.proofs.lemmas.Result.{err_from_is_err_and}
 use Rattle.event_reader.specs.Events.{event_of_line}
-use Rattle.event_run.proofs.Wants.{wants_this, wants_none}
+use Rattle.event_run.proofs.RanOut.{wants_this, wants_none}
 use Rattle.event_run.proofs.taking.give_line.Goals as goal
 
 pub returns-in_err-give_event-in-Ok-true-clause-wanting_steps : goal.returns-in_err-give_event-in-Ok-true-clause-wanting_steps

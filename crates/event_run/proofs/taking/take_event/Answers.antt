@@ -3,8 +3,8 @@ use Rattle.query_engine.specs.Bounds.{update_bound}
 use Rattle.query_engine.specs.Engine.{State, found_of, len_of}
 use Rattle.query_engine.specs.Windows.{HasAdded}
 use Rattle.event_run.proofs.Given.{at_end, begins}
-use Rattle.event_run.proofs.Wants.{wants_as}
-use Rattle.event_run.proofs.Turns.{begins_before, no_line, taken_empty, taken_event, stopped_line}
+use Rattle.event_run.proofs.RanOut.{wants_as}
+use Rattle.event_run.proofs.LineTaken.{begins_before, no_line, taken_empty, taken_event, stopped_line}
 use Rattle.event_run.proofs.taking.take_event.Goals as goal
 
 pub returns-in-Ok-End-clause-took : goal.returns-in-Ok-End-clause-took

@@ -5,7 +5,7 @@ use Rattle.cea_compile.specs.DeterminisedRuns.{from_to}
 use Rattle.match_explain.specs.Bindings.{bindings_of}
 use Rattle.match_explain.specs.LeafNames.{leaf_names}
 use Rattle.match_explain.specs.Spans.{MayBe}
-use Rattle.match_explain.specs.Turns.{IsRun, HasNoRun}
+use Rattle.match_explain.specs.Searching.{IsRun, HasNoRun}
 use Rattle.match_explain.specs.Explains.{Explains}
 use Rattle.match_explain.proofs.Explained.{explained, no_answer, is_answer}
 use Rattle.match_explain.proofs.Spanned.{span_of, span_ascends, span_there, may_be_answer}

@@ -4,8 +4,8 @@ use Rattle.cer_base.specs.Bits.{has}
 use Rattle.cea_determinise.specs.Cea.{IsSet, automaton_of_cea}
 use Rattle.match_explain.specs.declared.turns.Turn.{Turn}
 use Rattle.match_explain.specs.declared.moves.Last.TheVariants.{Start}
-use Rattle.match_explain.specs.Turns.{IsTurnAt, IsRun, HasNoRun, Goes, can_finish}
-use Rattle.match_explain.proofs.Told.{IsMadeOf, sets_at, size_is, run_is, no_run_is, if_some, if_none}
+use Rattle.match_explain.specs.Searching.{IsTurnAt, IsRun, HasNoRun, Goes, can_finish}
+use Rattle.match_explain.proofs.TurnsMade.{IsMadeOf, sets_at, size_is, run_is, no_run_is, if_some, if_none}
 use Rattle.match_explain.proofs.explanation.run.Goals as goal
 
 pub run_over-requires-clause-readers : goal.run_over-requires-clause-readers

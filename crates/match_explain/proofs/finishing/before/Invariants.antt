@@ -3,7 +3,7 @@ use Rattle.cer_base.specs.Bits.{has}
 use Rattle.cea_determinise.specs.Runs.{some_below}
 use Rattle.cea_determinise.specs.Cea.{automaton_of_cea, IsSet}
 use Rattle.match_explain.specs.declared.moves.Last.TheVariants.{Leaf as At}
-use Rattle.match_explain.specs.Turns.{may_read}
+use Rattle.match_explain.specs.Searching.{may_read}
 use Rattle.match_explain.proofs.finishing.before.Given as goal
 
 abbrev pub invariant-loop-leaf : goal.invariant-loop-leaf

@@ -1,6 +1,6 @@
 use Rattle.std.proofs.Common.{drop, reverse}
 use Rattle.cea_determinise.specs.Cea.{automaton_of_cea}
-use Rattle.match_explain.specs.Turns.{IsAhead, AreFinishers}
+use Rattle.match_explain.specs.Searching.{IsAhead, AreFinishers}
 use Rattle.match_explain.proofs.finishing.finishers.Given as goal
 
 abbrev pub invariant-loop-i : goal.invariant-loop-i

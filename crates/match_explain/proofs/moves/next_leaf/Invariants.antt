@@ -2,7 +2,7 @@ use Rattle.std.proofs.Common.{◌≡◌, ◌&&◌, false}
 use Rattle.cer_base.specs.Bits.{has}
 use Rattle.cea_determinise.specs.Runs.{some_below}
 use Rattle.cea_determinise.specs.Cea.{automaton_of_cea}
-use Rattle.match_explain.specs.Turns.{may_read}
+use Rattle.match_explain.specs.Searching.{may_read}
 use Rattle.match_explain.proofs.moves.next_leaf.Given as goal
 
 abbrev pub invariant-loop-leaf : goal.invariant-loop-leaf

@@ -2,7 +2,7 @@ use Rattle.std.proofs.Common.{length, sym, subst, List, take, ◌+◌}
 use Rattle.cer_base.specs.Bits.{has}
 use Rattle.std.specs.List.{AllZip}
 use Rattle.match_explain.specs.declared.turns.Turn.{Turn}
-use Rattle.match_explain.specs.Turns.{IsTurnAt}
+use Rattle.match_explain.specs.Searching.{IsTurnAt}
 use Rattle.match_explain.proofs.Ascending.{zip_more}
 use Rattle.match_explain.proofs.turns.turns_of.Goals as goal
 

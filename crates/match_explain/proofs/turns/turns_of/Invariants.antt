@@ -1,7 +1,7 @@
 use Rattle.std.proofs.Common.{length, take}
 use Rattle.std.specs.List.{AllZip}
 use Rattle.cer_base.specs.Bits.{has}
-use Rattle.match_explain.specs.Turns.{IsTurnAt}
+use Rattle.match_explain.specs.Searching.{IsTurnAt}
 use Rattle.match_explain.proofs.turns.turns_of.Given as goal
 
 abbrev pub invariant-loop-position : goal.invariant-loop-position

@@ -3,7 +3,7 @@ use Rattle.std.proofs.lemmas.Grind.{common_steps}
 use Rattle.cer_base.specs.Bits.{has}
 use Rattle.cea_determinise.specs.Cea.{automaton_of_cea}
 use Rattle.match_explain.specs.declared.moves.Last.TheVariants.{Start}
-use Rattle.match_explain.specs.Turns.{may_read}
+use Rattle.match_explain.specs.Searching.{may_read}
 use Rattle.match_explain.proofs.Following.{found_is}
 use Rattle.match_explain.proofs.Walked.{as_many_sets, begin_is, no_turns}
 use Rattle.match_explain.proofs.walking.can_begin.Goals as goal

@@ -2,7 +2,7 @@ use Rattle.std.proofs.Common.{◌≡◌, ◌<◌, ◌∙◌, List, map, length, 
 use Rattle.std.specs.List.{AllZip}
 use Rattle.std.proofs.lemmas.List.{map-id, take_all}
 use Rattle.all_or_none.specs.Phases.{Phase}
-use Rattle.all_or_none.proofs.Turns.{all_here, left_next, zip_next}
+use Rattle.all_or_none.proofs.LoopTurn.{all_here, left_next, zip_next}
 use Rattle.query_engine.specs.Compacting.{CanCompact, IsCompacted, AreTrimmed, AreCarried}
 use Rattle.query_engine.proofs.Carried.{part_here, all_fit, all_carried, none_carried, cost_more}
 use Rattle.query_engine.proofs.Trimmed.{all_trimmed}

@@ -1,7 +1,7 @@
 use Rattle.std.proofs.Common.{◌≡◌, ◌<◌, ◌∙◌, map, sym, length, arith}
 use Rattle.std.proofs.lemmas.List.{map-id, take_all}
 use Rattle.all_or_none.specs.Phases.{IsIdle}
-use Rattle.all_or_none.proofs.Turns.{all_here, same_next, left_next}
+use Rattle.all_or_none.proofs.LoopTurn.{all_here, same_next, left_next}
 use Rattle.query_part.specs.Parts.{woken}
 use Rattle.query_engine.proofs.compacting.settle_all.Goals as goal
 

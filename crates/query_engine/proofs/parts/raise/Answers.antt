@@ -1,7 +1,7 @@
 use Rattle.std.proofs.Common.{◌≡◌, ◌<◌, ◌∙◌, length, arith, sym, ap, slice_index_or}
 use Rattle.std.specs.Prelude.{max}
 use Rattle.query_engine.proofs.Growth.{raise_next, all_raised, nodes_are, nodes_there}
-use Rattle.all_or_none.proofs.Turns.{left_next}
+use Rattle.all_or_none.proofs.LoopTurn.{left_next}
 use Rattle.query_engine.proofs.parts.raise.Goals as goal
 
 pub loop-k-preserved : goal.loop-k-preserved

@@ -1,7 +1,7 @@
 use Rattle.std.proofs.Common.{ap, sym, subst, ◌∙◌, Some}
 use Rattle.stream_schema.specs.Names.{type_number}
 use Rattle.query_leaves.specs.Tests.{AreTestsOf}
-use Rattle.query_leaves.proofs.Read.{leaf_made, nothing_made}
+use Rattle.query_leaves.proofs.EventsRead.{leaf_made, nothing_made}
 use Rattle.query_leaves.proofs.leaf_of.leaf_of.Goals as goal
 
 pub returns-in_ok-tests-in-Some : goal.returns-in_ok-tests-in-Some

@@ -15,7 +15,7 @@ use Rattle.query_leaves.specs.Expand.{Occurrence}
 use Rattle.query_leaves.specs.Leaves.{is_typed, all_hold}
 use Rattle.query_leaves.specs.Shapes.{each_holds}
 use Rattle.query_leaves.specs.Tests.{AreTestsOf, IsMadeOf, HoldNever}
-use Rattle.query_leaves.proofs.Found.{found}
+use Rattle.query_leaves.proofs.FirstPlace.{found}
 use Rattle.query_leaves.proofs.Tested.{few_places}
 
 both_true : (a b : Bool) → (a ≡ true → b ≡ true) → (b ≡ true → a ≡ true) → a ≡ b

@@ -13,7 +13,7 @@ use Rattle.match_explain.specs.declared.turns.Turn.{Turn}
 use Rattle.match_explain.specs.declared.moves.Last.{Last}
 use Rattle.match_explain.specs.declared.moves.Last.TheVariants.{Start, Leaf as At}
 use Rattle.match_explain.specs.declared.moves.Age.TheVariants.{Just, Earlier}
-use Rattle.match_explain.specs.Turns.{may_read, passed, has_ended, Goes, finished, reading, passing, IsTurnOf, AreTurnsOf}
+use Rattle.match_explain.specs.Searching.{may_read, passed, has_ended, Goes, finished, reading, passing, IsTurnOf, AreTurnsOf}
 
 -- where what read last has read, as the entries after p come next
 abbrev HasReadBefore : Reading → Last → ℕ → ℕ → Type 0

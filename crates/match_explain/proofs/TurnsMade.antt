@@ -24,7 +24,7 @@ use Rattle.cea_compile.proofs.LeafAutomaton.{leaves_tell}
 use Rattle.cea_compile.specs.Paths.{Step}
 use Rattle.match_explain.specs.declared.turns.Turn.{Turn}
 use Rattle.match_explain.specs.declared.moves.Last.TheVariants.{Start}
-use Rattle.match_explain.specs.Turns.{IsTurnAt, IsTurnOf, AreTurnsOf, Goes, can_finish, IsRun, HasNoRun}
+use Rattle.match_explain.specs.Searching.{IsTurnAt, IsTurnOf, AreTurnsOf, Goes, can_finish, IsRun, HasNoRun}
 
 pub sets_at : (leaves : List Leaf) (marked : LeafSet) (size : ℕ) (events : List Event) (marks span : List ℕ) (turns : List Turn) → AllZip (IsTurnAt leaves marked size events marks) span turns → (k : ℕ) (d : Turn) → k < length turns → IsSet size (get_or turns k d).readers
 sets_at leaves marked size events marks [] [] h k d less = absurd (omega arith)

@@ -7,7 +7,7 @@ use Rattle.stream_schema.specs.declared.Event.{Event}
 use Rattle.query_standing.specs.Kept.{Part, PartStands}
 use Rattle.std.proofs.lemmas.List.Sums.{sum_by-cons}
 use Rattle.all_or_none.specs.Phases.{Phase, Grows, IsStep, IsIdle, IsQuiet, back, IsTaken, StandsAt, InTime, HasGrown, bound_of, ready_bound, kept_bound}
-use Rattle.all_or_none.proofs.Turns.{all_mapped}
+use Rattle.all_or_none.proofs.LoopTurn.{all_mapped}
 
 step_of : (o : Option Part) (p : Part) (S : Part → Type 0) → o ≡ Some p → IsSomeAnd o S → S p
 step_of (Some x) p S e h = let same : x ≡ p = cc in subst S same h

@@ -11,7 +11,7 @@ use Rattle.match_explain.specs.declared.turns.Turn.{Turn}
 use Rattle.match_explain.specs.declared.moves.Last.{Last}
 use Rattle.match_explain.specs.declared.moves.Last.TheVariants.{Start, Leaf as At}
 use Rattle.match_explain.specs.declared.moves.Age.TheVariants.{Just, Earlier}
-use Rattle.match_explain.specs.Turns.{may_read, passed, has_begun, can_finish, IsTurnOf, AreTurnsOf}
+use Rattle.match_explain.specs.Searching.{may_read, passed, has_begun, can_finish, IsTurnOf, AreTurnsOf}
 use Rattle.match_explain.proofs.Following.{some_below_is}
 
 -- the leaf that has read the event just before, or an earlier one

@@ -1,9 +1,10 @@
 -- Events whose type number is not declared.
 use Rattle.std.proofs.Common.{◌≡◌, ap, ◌∙◌, subst, sym, ℕ, ◌<◌, ◌≤◌, ◌++◌, Bool, true, false, List, [], ◌∷◌, length, Some, None, All, Contains, slice_get, option_and_then, bytes_eq, if◌then◌else◌, inl, inr, arith}
+use Rattle.std.specs.Option.{option_map_or}
 use Rattle.std.proofs.lemmas.List.Elements.{All-head, All-tail, All-contains, Contains-append_cases}
 use Rattle.std.proofs.lemmas.Option.{slice_get_past}
 use Rattle.stream_schema.specs.Types.{Declared, DeclaredType, DeclaredStream, IsWellDeclared}
-use Rattle.stream_schema.specs.Names.{attr_index}
+use Rattle.stream_schema.specs.Names.{attr_index, stream_types}
 use Rattle.stream_schema.specs.declared.Event.{Event}
 use Rattle.cel_terms.specs.declared.Name.{Name}
 use Rattle.cel_terms.specs.declared.Query.{Query}
@@ -18,7 +19,7 @@ stream_declared : (n : ℕ) (streams : List DeclaredStream) (name : List ℕ) (t
 stream_declared n [] name ty h c = absurd (nothing_in ty c)
 stream_declared n (s ∷ ss) name ty h c = pick (bytes_eq s.name name) (λ d. stream_declared n ss name ty (All-tail (λ (u : DeclaredStream). All (λ t. t < n) u.types) s ss h) d) c
   where
-    pick : (b : Bool) → (Contains (types_of_stream ss name) ty → ty < n) → Contains (if b then s.types else types_of_stream ss name) ty → ty < n
+    pick : (b : Bool) → (Contains (types_of_stream ss name) ty → ty < n) → Contains (option_map_or (λ types. types) (if b then Some s.types else stream_types ss name) []) ty → ty < n
     pick true later d = All-contains (λ t. t < n) s.types ty (All-head (λ (u : DeclaredStream). All (λ t. t < n) u.types) s ss h) d
     pick false later d = later d
 

@@ -1,6 +1,8 @@
--- The complex events that a query has at a position: answers after "A Formal Framework for Complex Event Recognition" (ACM TODS 2021), partitions and windows of this project's profile.
-use Rattle.std.specs.Prelude.{◌≡◌, ℕ, ◌<◌, ◌↔◌, ℤ, pos, ◌+ℤ◌, ◌≤ℤ◌, Bool, true, false, List, [], ◌∷◌, ◌++◌, Any, Contains, Option, Some, None, slice_get, option_map, option_and_then, bytes_eq, if◌then◌else◌}
+-- The complex events that a query has at a position: those of its valuations, within its partition and window.
+use Rattle.std.specs.Prelude.{◌≡◌, ℕ, ◌<◌, ◌↔◌, ℤ, pos, ◌+ℤ◌, ◌≤ℤ◌, Bool, true, false, List, [], ◌∷◌, ◌++◌, Any, Contains, Option, Some, None, slice_get, option_map, option_and_then}
+use Rattle.std.specs.Option.{option_map_or}
 use Rattle.stream_schema.specs.Types.{Declared, DeclaredStream}
+use Rattle.stream_schema.specs.Names.{stream_types}
 use Rattle.stream_schema.specs.declared.Event.{Event}
 use Rattle.stream_schema.specs.declared.Value.{Value}
 use Rattle.stream_schema.specs.declared.Value.TheVariants.{Int}
@@ -11,10 +13,9 @@ use Rattle.cel_terms.specs.declared.Window.TheVariants.{Free, Events, Clock}
 use Rattle.cel_terms.specs.Predicate.{attr_value}
 use Rattle.cel_terms.specs.Meaning.{Stream, Valuation, Meaning, Kept, meaning}
 
--- the types of the streams that the query reads
+-- the types of the stream that the query reads, none where no stream has the name
 abbrev pub types_of_stream : List DeclaredStream → List ℕ → List ℕ
-types_of_stream [] name = []
-types_of_stream (s ∷ ss) name = if bytes_eq s.name name then s.types else types_of_stream ss name
+types_of_stream streams name = option_map_or (λ types. types) (stream_types streams name) []
 
 -- the same of all its streams
 abbrev pub query_types : Declared → List Name → List ℕ

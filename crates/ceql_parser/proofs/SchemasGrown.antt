@@ -1,8 +1,10 @@
 -- A schema that grows keeps what a query reads.
-use Rattle.std.proofs.Common.{◌≡◌, refl, sym, ap, ap₂, subst, ◌∙◌, append_assoc, ℕ, zero, suc, ◌<◌, ◌≤◌, Bool, true, false, cond, ◌||◌, List, [], ◌∷◌, ◌++◌, length, arith}
+use Rattle.std.proofs.Common.{◌≡◌, refl, sym, ap, ap₂, subst, ◌∙◌, append_assoc, ℕ, zero, suc, ◌<◌, ◌≤◌, Bool, true, false, cond, ◌||◌, List, [], ◌∷◌, ◌++◌, length, Option, Some, arith}
 use Rattle.std.specs.Prelude.{slice_get, bytes_eq, ⊤}
 use Rattle.std.specs.List.{list_any, filter_map, cons_option}
+use Rattle.std.specs.Option.{option_map_or}
 use Rattle.stream_schema.specs.Types.{Declared, DeclaredType, DeclaredStream}
+use Rattle.stream_schema.specs.Names.{stream_types}
 use Rattle.cel_terms.specs.declared.Name.{Name}
 use Rattle.cel_terms.specs.Answers.{types_of_stream, query_types}
 
@@ -34,11 +36,11 @@ streams_append n (x ∷ xs) ys a b = (a.0, streams_append n xs ys a.1 b)
 
 stream_below : (n : ℕ) (ss : List DeclaredStream) (name : List ℕ) → HaveTypesBelow n ss → AreBelow n (types_of_stream ss name)
 stream_below n [] name a = tt
-stream_below n (s ∷ ss) name a = pick n (bytes_eq s.name name) s.types (types_of_stream ss name) a.0 (stream_below n ss name a.1)
+stream_below n (s ∷ ss) name a = pick n (bytes_eq s.name name) s.types (stream_types ss name) a.0 (stream_below n ss name a.1)
   where
-    pick : (n : ℕ) (b : Bool) (xs ys : List ℕ) → AreBelow n xs → AreBelow n ys → AreBelow n (cond b xs ys)
-    pick n true xs ys h k = h
-    pick n false xs ys h k = k
+    pick : (n : ℕ) (b : Bool) (xs : List ℕ) (o : Option (List ℕ)) → AreBelow n xs → AreBelow n (option_map_or (λ types. types) o []) → AreBelow n (option_map_or (λ types. types) (cond b (Some xs) o) [])
+    pick n true xs o h k = h
+    pick n false xs o h k = k
 
 get_kept : (xs ys : List DeclaredType) (k : ℕ) → k < length xs → slice_get (xs ++ ys) k ≡ slice_get xs k
 get_kept [] ys k h = absurd (omega (arith, h))
@@ -51,11 +53,14 @@ types_kept types more (n ∷ ns) h = ap₂ cons_option (get_kept types more n h.
 
 stream_kept : (ss more : List DeclaredStream) (name : List ℕ) → list_any (λ s. bytes_eq s.name name) ss ≡ true → types_of_stream (ss ++ more) name ≡ types_of_stream ss name
 stream_kept [] more name e = absurd cc
-stream_kept (s ∷ ss) more name e = step (bytes_eq s.name name) s.types (list_any (λ s. bytes_eq s.name name) ss) (types_of_stream (ss ++ more) name) (types_of_stream ss name) (stream_kept ss more name) e
+stream_kept (s ∷ ss) more name e = step (bytes_eq s.name name) s.types (list_any (λ s. bytes_eq s.name name) ss) (stream_types (ss ++ more) name) (stream_types ss name) (stream_kept ss more name) e
   where
-    step : (b : Bool) (xs : List ℕ) (found : Bool) (ys zs : List ℕ) → (found ≡ true → ys ≡ zs) → (b || found) ≡ true → cond b xs ys ≡ cond b xs zs
-    step true xs found ys zs f e = refl
-    step false xs found ys zs f e = f e
+    or_none : Option (List ℕ) → List ℕ
+    or_none o = option_map_or (λ types. types) o []
+
+    step : (b : Bool) (xs : List ℕ) (found : Bool) (o p : Option (List ℕ)) → (found ≡ true → or_none o ≡ or_none p) → (b || found) ≡ true → or_none (cond b (Some xs) o) ≡ or_none (cond b (Some xs) p)
+    step true xs found o p f e = refl
+    step false xs found o p f e = f e
 
 -- each of the names is a stream's
 abbrev pub AreStreams : List DeclaredStream → List Name → Type 0

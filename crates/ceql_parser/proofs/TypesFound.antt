@@ -36,46 +36,14 @@ position_found passes i (x ∷ xs) = step (passes x) i (position_from passes (i 
 pub type_found : (types : List DeclaredType) (name : List ℕ) → is_some (type_number types name) ≡ list_any (λ t. bytes_eq t.name name) types
 type_found types name = position_found (λ t. bytes_eq t.name name) 0 types
 
-shifted : (t : DeclaredStream → Bool) (i : ℕ) (ss : List DeclaredStream) → position_from t (i + 1) ss ≡ option_map (λ k. k + 1) (position_from t i ss)
-shifted t i [] = refl
-shifted t i (s ∷ ss) = ap (cond (t s) (Some (i + 1))) (shifted t (i + 1) ss) ∙ under (t s) i (position_from t (i + 1) ss)
-  where
-    under : (b : Bool) (i : ℕ) (o : Option ℕ) → cond b (Some (i + 1)) (option_map (λ k. k + 1) o) ≡ option_map (λ k. k + 1) (cond b (Some i) o)
-    under true i o = refl
-    under false i o = refl
-
-later_types : (s : DeclaredStream) (ss : List DeclaredStream) (o : Option ℕ) → option_and_then (λ i. option_map (λ s. s.types) (slice_get (s ∷ ss) i)) (option_map (λ k. k + 1) o) ≡ option_and_then (λ i. option_map (λ s. s.types) (slice_get ss i)) o
-later_types s ss None = refl
-later_types s ss (Some i) = rw add-one refl
-
-apart : (b : Bool) (g : ℕ → Option (List ℕ)) (o : Option ℕ) → option_and_then g (cond b (Some 0) o) ≡ cond b (g 0) (option_and_then g o)
-apart true g o = refl
-apart false g o = refl
-
-found_step : (s : DeclaredStream) (ss : List DeclaredStream) (name : List ℕ) → stream_types (s ∷ ss) name ≡ cond (bytes_eq s.name name) (Some s.types) (stream_types ss name)
-found_step s ss name =
-    let t : DeclaredStream → Bool = λ x. bytes_eq x.name name in
-    apart (bytes_eq s.name name) (λ i. option_map (λ s. s.types) (slice_get (s ∷ ss) i)) (position_from t 1 ss)
-    ∙ ap (cond (bytes_eq s.name name) (Some s.types))
-    (ap (option_and_then (λ i. option_map (λ s. s.types) (slice_get (s ∷ ss) i))) (shifted t 0 ss) ∙ later_types s ss (position_from t 0 ss))
-
 -- a stream has the name where the look-up finds its types
 pub stream_found : (streams : List DeclaredStream) (name : List ℕ) → is_some (stream_types streams name) ≡ list_any (λ s. bytes_eq s.name name) streams
 stream_found [] name = refl
-stream_found (s ∷ ss) name = ap is_some (found_step s ss name) ∙ step (bytes_eq s.name name) s.types (stream_types ss name) ∙ ap (λ b. bytes_eq s.name name || b) (stream_found ss name)
+stream_found (s ∷ ss) name = step (bytes_eq s.name name) s.types (stream_types ss name) ∙ ap (λ b. bytes_eq s.name name || b) (stream_found ss name)
   where
     step : (b : Bool) (types : List ℕ) (o : Option (List ℕ)) → is_some (cond b (Some types) o) ≡ (b || is_some o)
     step true types o = refl
     step false types o = refl
-
--- the types that the look-up finds are those of the stream
-pub types_found : (streams : List DeclaredStream) (name : List ℕ) → types_of_stream streams name ≡ option_map_or (λ types. types) (stream_types streams name) []
-types_found [] name = refl
-types_found (s ∷ ss) name = step (bytes_eq s.name name) s.types (types_of_stream ss name) (stream_types ss name) (types_found ss name) ∙ sym (ap (λ o. option_map_or (λ types. types) o []) (found_step s ss name))
-  where
-    step : (b : Bool) (types rest : List ℕ) (o : Option (List ℕ)) → rest ≡ option_map_or (λ types. types) o [] → cond b types rest ≡ option_map_or (λ types. types) (cond b (Some types) o) []
-    step true types rest o e = refl
-    step false types rest o e = e
 
 append_none : (xs : List ℕ) → xs ++ [] ≡ xs
 append_none [] = refl

@@ -1,5 +1,5 @@
 -- Why a complex event is one: by which events, under which names, it came about.
--- After "A Formal Framework for Complex Event Recognition" (ACM TODS 2021): a complex event is what a valuation of the formula leaves.
+-- A complex event is what a valuation of the formula leaves.
 use Rattle.std.specs.Prelude.{◌≡◌, ◌≢◌, ℕ, ◌↔◌, List, [], map, Any, All, Contains, Option, Some, None, ⊤}
 use Rattle.std.specs.List.Sorted.{IsStrictlySortedBy}
 use Rattle.std.specs.Ordering.{nat_cmp}

@@ -2,6 +2,8 @@
 pub mod Indexed
 -- names that stand once in a list
 pub mod Distinct
+-- the types of a stream are those at its name's place
+pub mod StreamPlaces
 -- what follows from what each schema keeps
 pub mod WellDeclared
 -- decimal numbers compared by value

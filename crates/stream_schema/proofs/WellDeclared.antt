@@ -10,6 +10,7 @@ use Rattle.stream_schema.specs.Types.{Declared, DeclaredType, DeclaredStream, Is
 use Rattle.stream_schema.specs.Names.{type_number, attr_of, attr_at, attr_among, attr_index, stream_types, is_taken}
 use Rattle.stream_schema.specs.Declaring.{added}
 use Rattle.stream_schema.specs.Indexes.{IsIndexed}
+use Rattle.stream_schema.proofs.StreamPlaces.{types_at_place}
 use Rattle.stream_schema.proofs.Distinct.{stands_in, position-map, any-map, one_found, repeats_not}
 
 -- the place of a name among what is indexed
@@ -58,10 +59,12 @@ stream_found streams names is name i s at within there =
     let found = sym (found_in (λ (u : DeclaredStream). u.name) streams names is name) ∙ sym at in
     ap (λ u. Some u.types) there
     ∙ sym (ap (option_and_then (λ j. option_map (λ (u : DeclaredStream). u.types) (slice_get streams j))) found ∙ ap (option_map (λ (u : DeclaredStream). u.types)) (slice_get-get_or streams i s bound))
+    ∙ types_at_place streams name
 
 pub no_stream_found : (streams : List DeclaredStream) (names : List (List ℕ)) → names ≡ map (λ s. s.name) streams → (name : List ℕ) → None ≡ position_from (λ n. bytes_eq n name) 0 names → None ≡ stream_types streams name
 no_stream_found streams names is name none =
     ap (option_and_then (λ j. option_map (λ (u : DeclaredStream). u.types) (slice_get streams j))) (none ∙ found_in (λ (u : DeclaredStream). u.name) streams names is name)
+    ∙ types_at_place streams name
 
 named : (o : Option DeclaredType) (name : List ℕ) → option_map (λ t. t.name) o ≡ Some name → (t : DeclaredType) × (o ≡ Some t) × (t.name ≡ name)
 named None name e = absurd cc

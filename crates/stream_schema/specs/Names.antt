@@ -1,5 +1,5 @@
 -- What a name means in a schema.
-use Rattle.std.specs.Prelude.{ℕ, Bool, ◌||◌, List, Option, slice_get, bytes_eq, option_and_then, option_map}
+use Rattle.std.specs.Prelude.{ℕ, Bool, ◌||◌, if◌then◌else◌, List, [], ◌∷◌, Option, Some, None, slice_get, bytes_eq, option_and_then, option_map}
 use Rattle.std.specs.List.{position_from, list_any}
 use Rattle.stream_schema.specs.Types.{Declared, DeclaredType, DeclaredStream}
 use Rattle.stream_schema.specs.declared.Attr.{Attr}
@@ -26,10 +26,10 @@ attr_among attrs name =
 abbrev pub attr_at : Declared → ℕ → List ℕ → Option AttrAt
 attr_at schema ty name = option_and_then (λ t. attr_among t.attrs name) (slice_get schema.types ty)
 
--- the types of the stream of this name
+-- the types of the stream of this name, where there is one
 abbrev pub stream_types : List DeclaredStream → List ℕ → Option (List ℕ)
-stream_types streams name =
-    option_and_then (λ i. option_map (λ s. s.types) (slice_get streams i)) (position_from (λ s. bytes_eq s.name name) 0 streams)
+stream_types [] name = None
+stream_types (s ∷ ss) name = if bytes_eq s.name name then Some s.types else stream_types ss name
 
 -- a type or a stream has the name
 abbrev pub is_taken : Declared → List ℕ → Bool

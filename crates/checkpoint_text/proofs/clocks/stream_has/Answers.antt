@@ -2,15 +2,16 @@ use Rattle.std.proofs.Common.{ap, sym, ◌∙◌, ℕ, false, Option, List}
 use Rattle.std.specs.Prelude.{◌==◌}
 use Rattle.std.specs.List.{list_any}
 use Rattle.std.specs.Option.{option_map_or}
-use Rattle.cel_plain.proofs.Reading.{found_types, types_are}
+use Rattle.stream_schema.specs.Names.{stream_types}
+use Rattle.cel_plain.proofs.Reading.{types_are}
 use Rattle.checkpoint_text.proofs.clocks.stream_has.Goals as goal
 
 pub returns-in-Some : goal.returns-in-Some
 returns-in-Some c =
     c.has_number.ensures ∙ ap (list_any (λ t. t == c.args.ty)) c.as_slice.ensures ∙ (ap (λ (o : Option (List ℕ)). option_map_or (list_any (λ t. t == c.args.ty)) o false) c.in-Some.ensures
-    ∙ (ap (λ name. option_map_or (list_any (λ t. t == c.args.ty)) (found_types c.args.schema.now.streams name) false) c.as_str.ensures ∙ sym (types_are c.args.schema.now.streams c.args.name.now.text c.args.ty)))
+    ∙ (ap (λ name. option_map_or (list_any (λ t. t == c.args.ty)) (stream_types c.args.schema.now.streams name) false) c.as_str.ensures ∙ sym (types_are c.args.schema.now.streams c.args.name.now.text c.args.ty)))
 
 pub returns-in-None : goal.returns-in-None
 returns-in-None c =
     ap (λ (o : Option (List ℕ)). option_map_or (list_any (λ t. t == c.args.ty)) o false) c.in-None.ensures
-    ∙ (ap (λ name. option_map_or (list_any (λ t. t == c.args.ty)) (found_types c.args.schema.now.streams name) false) c.as_str.ensures ∙ sym (types_are c.args.schema.now.streams c.args.name.now.text c.args.ty))
+    ∙ (ap (λ name. option_map_or (list_any (λ t. t == c.args.ty)) (stream_types c.args.schema.now.streams name) false) c.as_str.ensures ∙ sym (types_are c.args.schema.now.streams c.args.name.now.text c.args.ty))

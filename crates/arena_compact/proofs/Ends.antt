@@ -18,8 +18,8 @@ use Rattle.tecs_enumerate.specs.declared.descent.Pending.{Pending}
 use Rattle.tecs_enumerate.specs.Rest.{CursorState, id_of, Fits}
 use Rattle.union_lists.specs.Lists.{trees, IsHeaded, IsList, IsUnionList}
 use Rattle.arena_compact.specs.Pruned.{pruned}
-use Rattle.arena_compact.specs.Marks.{Reaches, IsKept, AreMarks}
-use Rattle.arena_compact.specs.Moves.{Gives, Moved}
+use Rattle.arena_compact.specs.Marks.{Reaches, IsKept, AreNodeMarks}
+use Rattle.arena_compact.specs.Moves.{MovesTo, Moved}
 use Rattle.arena_compact.specs.Roots.{recent_entries, ids_of, row_roots, key_roots, cursor_roots, kept_rows, with_row, AreOlder, IsPlaced, EntryMoved, EntriesMoved, RowsMoved, KeysMoved, AreMoved, CursorMoved}
 use Rattle.arena_compact.specs.Compacted.{least_of, roots_of, Compacted, ListCompacted, RowsCompacted, KeysCompacted, CursorCompacted}
 use Rattle.arena_compact.proofs.Pruned.{newest-pruned, members-pruned}
@@ -150,7 +150,7 @@ abbrev GivesAll : List (Option ℕ) → List ℕ → List ℕ → Type 0
 GivesAll table [] [] = Unit {0}
 GivesAll table [] (y ∷ ys) = ⊥
 GivesAll table (x ∷ xs) [] = ⊥
-GivesAll table (x ∷ xs) (y ∷ ys) = Gives table x y × GivesAll table xs ys
+GivesAll table (x ∷ xs) (y ∷ ys) = MovesTo table x y × GivesAll table xs ys
 
 gives_append : (table : List (Option ℕ)) (xs ys us vs : List ℕ) → GivesAll table xs ys → GivesAll table us vs → GivesAll table (xs ++ us) (ys ++ vs)
 gives_append table [] [] us vs a b = b
@@ -158,7 +158,7 @@ gives_append table [] (y ∷ ys) us vs a b = absurd a
 gives_append table (x ∷ xs) [] us vs a b = absurd a
 gives_append table (x ∷ xs) (y ∷ ys) us vs a b = (a.0, gives_append table xs ys us vs a.1 b)
 
-gives_at : (table : List (Option ℕ)) (xs ys : List ℕ) (k d : ℕ) → GivesAll table xs ys → k < length xs → (y : ℕ) × Gives table (get_or xs k d) y × (k < length ys) × (get_or ys k y ≡ y)
+gives_at : (table : List (Option ℕ)) (xs ys : List ℕ) (k d : ℕ) → GivesAll table xs ys → k < length xs → (y : ℕ) × MovesTo table (get_or xs k d) y × (k < length ys) × (get_or ys k y ≡ y)
 gives_at table [] ys k d g lt = absurd (omega arith)
 gives_at table (x ∷ xs) [] k d g lt = absurd g
 gives_at table (x ∷ xs) (y ∷ ys) zero d g lt = (y, g.0, omega arith, refl)
@@ -209,7 +209,7 @@ cursors_give query table (w ∷ ws) [] l m = absurd (omega arith)
 cursors_give query table (w ∷ ws) (v ∷ vs) l m = gives_append table (cond (w.query == query) (map id_of w.stack) []) (cond (v.query == query) (map id_of v.stack) []) (cursor_roots query ws) (cursor_roots query vs) (cursor_gives query table w v (m 0 w (omega arith))) (cursors_give query table ws vs (omega arith) (λ k d lt. m (suc k) d (omega arith)))
 
 -- so what is left is what a compaction promises
-pub compacted : (low : ℤ) (query : ℕ) (old new : List Node) (marks table : List (Option ℕ)) (keys moved : List (List (ℕ × List Root))) (ws vs : List CursorState) → WellFormed old → AreMarks low old (key_roots low keys ++ cursor_roots query ws) 0 marks → Moved low old marks (length old) new table → KeysMoved low new table keys moved → length vs ≡ length ws → ((k : ℕ) (d : CursorState) → k < length ws → CursorMoved query table (get_or ws k d) (get_or vs k d)) → Compacted low old new (roots_of query moved vs)
+pub compacted : (low : ℤ) (query : ℕ) (old new : List Node) (marks table : List (Option ℕ)) (keys moved : List (List (ℕ × List Root))) (ws vs : List CursorState) → WellFormed old → AreNodeMarks low old (key_roots low keys ++ cursor_roots query ws) 0 marks → Moved low old marks (length old) new table → KeysMoved low new table keys moved → length vs ≡ length ws → ((k : ℕ) (d : CursorState) → k < length ws → CursorMoved query table (get_or ws k d) (get_or vs k d)) → Compacted low old new (roots_of query moved vs)
 compacted low query old new marks table keys moved ws vs w marked h m l c =
     let gives = gives_append table (key_roots low keys) (flat_map row_ids moved) (cursor_roots query ws) (cursor_roots query vs) (keys_give low new table keys moved m) (cursors_give query table ws vs l c) in
     let roots = key_roots low keys ++ cursor_roots query ws in
@@ -219,7 +219,7 @@ compacted low query old new marks table keys moved ws vs w marked h m l c =
       fewer_later = λ p. let few = h.fewer_later p in let all : take (length old) old ≡ old = take_all (length old) old (omega arith) in rw all at few;
       reached = all_reached low old new marks table roots (roots_of query moved vs) w marked h (λ id has.
           let at = gives_at table roots (roots_of query moved vs) has.0 id gives has.1 in
-          record { place = at.0; gives = subst (λ (x : ℕ). Gives table x at.0) has.2 at.1; reached = Reaches.Root at.0 (has.0, at.2, at.3) });
+          record { place = at.0; gives = subst (λ (x : ℕ). MovesTo table x at.0) has.2 at.1; reached = Reaches.Root at.0 (has.0, at.2, at.3) });
     }
 
 lower_is : (query : ℕ) (low : ℤ) (w : CursorState) → (cond (w.query == query) (cond (int_le low w.low) low w.low) low ≤ℤ low) × (w.query ≡ query → cond (w.query == query) (cond (int_le low w.low) low w.low) low ≤ℤ w.low)
@@ -281,10 +281,10 @@ pub entries_kept : (P : ℕ → Type 0) (low : ℤ) (query : ℕ) (keys : List (
 entries_kept P low query keys ws h = λ k d lt. rows_recent P low (get_or keys k d) (all_part P (row_roots low) keys k d lt (all_left P (key_roots low keys) (cursor_roots query ws) h))
 
 -- a kept node has its place after the moves
-pub moved_kept : (low : ℤ) (old new : List Node) (roots : List ℕ) (marks table : List (Option ℕ)) (id : ℕ) → AreMarks low old roots 0 marks → Moved low old marks (length old) new table → IsKept marks id → IsKept table id
+pub moved_kept : (low : ℤ) (old new : List Node) (roots : List ℕ) (marks table : List (Option ℕ)) (id : ℕ) → AreNodeMarks low old roots 0 marks → Moved low old marks (length old) new table → IsKept marks id → IsKept table id
 moved_kept low old new roots marks table id marked h k = h.kept id (marked.inside id k) k
 
-pub moved_placed : (low : ℤ) (old new : List Node) (roots : List ℕ) (marks table : List (Option ℕ)) (id : ℕ) → AreMarks low old roots 0 marks → Moved low old marks (length old) new table → IsKept marks id → IsPlaced new table id
+pub moved_placed : (low : ℤ) (old new : List Node) (roots : List ℕ) (marks table : List (Option ℕ)) (id : ℕ) → AreNodeMarks low old roots 0 marks → Moved low old marks (length old) new table → IsKept marks id → IsPlaced new table id
 moved_placed low old new roots marks table id marked h k =
-    let there = h.kept id (marked.inside id k) k in let gives : Gives table id there.place = record { gives = there.here } in
+    let there = h.kept id (marked.inside id k) k in let gives : MovesTo table id there.place = record { gives = there.here } in
     record { place = there.place; gives = gives; inside = h.inside id there.place (marked.inside id k) gives }

@@ -12,7 +12,7 @@ use Rattle.cer_base.specs.Members.{SetTree, Extended, United, newest, IsWellForm
 use Rattle.cer_base.specs.Nodes.{tree, WellFormed}
 use Rattle.cer_base.proofs.Trees.{tree-at, newest-left}
 use Rattle.cer_base.proofs.Walks.{test_tells}
-use Rattle.arena_compact.specs.Marks.{Needs, IsKept, KeepsChildren, AreMarks}
+use Rattle.arena_compact.specs.Marks.{Needs, IsKept, KeepsChildren, AreNodeMarks}
 
 kept_cases : (table : List (Option ℕ)) (c id v : ℕ) → IsKept (set table c (Some v)) id → IsKept table id ⊎ (id ≡ c)
 kept_cases table c id v k = elim (cases_eq id c) [
@@ -43,7 +43,7 @@ needs_more low nodes roots more _ (Needs.Right id l r k m q n test h) = Needs.Ri
 
 module _ (low : ℤ) (nodes : List Node) where
   -- nothing is marked
-  pub marks_none : (table : List (Option ℕ)) → ((id : ℕ) → get_or table id None ≡ None) → AreMarks low nodes [] (length nodes) table
+  pub marks_none : (table : List (Option ℕ)) → ((id : ℕ) → get_or table id None ≡ None) → AreNodeMarks low nodes [] (length nodes) table
   marks_none table none =
       let gone : (id : ℕ) → IsKept table id → ⊥ = λ id k. let e = sym (none id) ∙ k.here in cc in
       record {
@@ -55,7 +55,7 @@ module _ (low : ℤ) (nodes : List Node) where
       }
 
   -- a root is marked
-  pub marks_root : (roots : List ℕ) (table : List (Option ℕ)) (c v : ℕ) → AreMarks low nodes roots (length nodes) table → c < length table → c < length nodes → low ≤ℤ (newest (tree nodes c)).clock → AreMarks low nodes (roots ++ c ∷ []) (length nodes) (set table c (Some v))
+  pub marks_root : (roots : List ℕ) (table : List (Option ℕ)) (c v : ℕ) → AreNodeMarks low nodes roots (length nodes) table → c < length table → c < length nodes → low ≤ℤ (newest (tree nodes c)).clock → AreNodeMarks low nodes (roots ++ c ∷ []) (length nodes) (set table c (Some v))
   marks_root roots table c v h room inside recent = record {
     closed = λ id n le at k. absurd (let lt = slice_get_within nodes id n at in omega arith);
     inside = λ id k. elim (kept_cases table c id v k) [ inl was ↦ h.inside id was | inr same ↦ omega arith ];
@@ -65,7 +65,7 @@ module _ (low : ℤ) (nodes : List Node) where
   }
 
   -- a child of a marked node is marked
-  marks_child : (roots : List ℕ) (table : List (Option ℕ)) (from c v : ℕ) → AreMarks low nodes roots from table → c < from → c < length table → c < length nodes → low ≤ℤ (newest (tree nodes c)).clock → Needs low nodes roots c → AreMarks low nodes roots from (set table c (Some v))
+  marks_child : (roots : List ℕ) (table : List (Option ℕ)) (from c v : ℕ) → AreNodeMarks low nodes roots from table → c < from → c < length table → c < length nodes → low ≤ℤ (newest (tree nodes c)).clock → Needs low nodes roots c → AreNodeMarks low nodes roots from (set table c (Some v))
   marks_child roots table from c v h older room inside recent needs = record {
     closed = λ id n le at k. elim (kept_cases table c id v k) [ inl was ↦ children_set low table c v n room (h.closed id n le at was) | inr same ↦ absurd (omega arith) ];
     inside = λ id k. elim (kept_cases table c id v k) [ inl was ↦ h.inside id was | inr same ↦ omega arith ];
@@ -75,7 +75,7 @@ module _ (low : ℤ) (nodes : List Node) where
   }
 
   -- a node whose children are marked, if it is marked, is done
-  pub marks_down : (roots : List ℕ) (table : List (Option ℕ)) (i : ℕ) (n : Node) → AreMarks low nodes roots (i + 1) table → slice_get nodes i ≡ Some n → (IsKept table i → KeepsChildren low table n) → AreMarks low nodes roots i table
+  pub marks_down : (roots : List ℕ) (table : List (Option ℕ)) (i : ℕ) (n : Node) → AreNodeMarks low nodes roots (i + 1) table → slice_get nodes i ≡ Some n → (IsKept table i → KeepsChildren low table n) → AreNodeMarks low nodes roots i table
   marks_down roots table i n h at children = record {
     closed = λ id m le here k. elim (cases_eq id i) [
       | inl same ↦
@@ -90,7 +90,7 @@ module _ (low : ℤ) (nodes : List Node) where
   }
 
   -- the steps of the walk, by the kind of the node
-  pub marks_output : (roots : List ℕ) (table : List (Option ℕ)) (i p c k v : ℕ) (m : Stamp) → WellFormed nodes → length nodes ≤ length table → AreMarks low nodes roots (i + 1) table → slice_get nodes i ≡ Some (Output p c m k) → IsKept table i → AreMarks low nodes roots i (set table c (Some v))
+  pub marks_output : (roots : List ℕ) (table : List (Option ℕ)) (i p c k v : ℕ) (m : Stamp) → WellFormed nodes → length nodes ≤ length table → AreNodeMarks low nodes roots (i + 1) table → slice_get nodes i ≡ Some (Output p c m k) → IsKept table i → AreNodeMarks low nodes roots i (set table c (Some v))
   marks_output roots table i p c k v m w room h at marked =
       let true_fields = w.true_fields i (Output p c m k) at in let older = true_fields.0 in let within = slice_get_within nodes i (Output p c m k) at in
       let is : tree nodes i ≡ Extended p (tree nodes c) = tree-at nodes w i (Output p c m k) at in
@@ -105,13 +105,13 @@ module _ (low : ℤ) (nodes : List Node) where
       let whole : IsWellFormedTree (United (tree nodes l) (tree nodes r)) = subst IsWellFormedTree is (w.well_formed_tree i (slice_get_within nodes i (Union l r m q k) at)) in
       subst (λ (s : Stamp). low ≤ℤ s.clock) (ap newest is ∙ newest-left (tree nodes l) (tree nodes r) whole.2.ordered) recent
 
-  pub marks_left : (roots : List ℕ) (table : List (Option ℕ)) (i l r k v : ℕ) (m q : Stamp) → WellFormed nodes → length nodes ≤ length table → AreMarks low nodes roots (i + 1) table → slice_get nodes i ≡ Some (Union l r m q k) → IsKept table i → (int_le low q.clock ≡ true → ⊥) → AreMarks low nodes roots i (set table l (Some v))
+  pub marks_left : (roots : List ℕ) (table : List (Option ℕ)) (i l r k v : ℕ) (m q : Stamp) → WellFormed nodes → length nodes ≤ length table → AreNodeMarks low nodes roots (i + 1) table → slice_get nodes i ≡ Some (Union l r m q k) → IsKept table i → (int_le low q.clock ≡ true → ⊥) → AreNodeMarks low nodes roots i (set table l (Some v))
   marks_left roots table i l r k v m q w room h at marked old =
       let true_fields = w.true_fields i (Union l r m q k) at in let older = true_fields.0 in let within = slice_get_within nodes i (Union l r m q k) at in
       let more = marks_child roots table (i + 1) l v h (omega arith) (omega arith) (omega arith) (left_recent i l r k m q w at (h.recent i marked)) (Needs.Left i l r k m q at (h.needed i marked)) in
       marks_down roots (set table l (Some v)) i (Union l r m q k) more at (λ k'. (kept_here table l v (omega arith), λ test. absurd (old test)))
 
-  pub marks_both : (roots : List ℕ) (table : List (Option ℕ)) (i l r k u v : ℕ) (m q : Stamp) → WellFormed nodes → length nodes ≤ length table → AreMarks low nodes roots (i + 1) table → slice_get nodes i ≡ Some (Union l r m q k) → IsKept table i → int_le low q.clock ≡ true → AreMarks low nodes roots i (set (set table l (Some u)) r (Some v))
+  pub marks_both : (roots : List ℕ) (table : List (Option ℕ)) (i l r k u v : ℕ) (m q : Stamp) → WellFormed nodes → length nodes ≤ length table → AreNodeMarks low nodes roots (i + 1) table → slice_get nodes i ≡ Some (Union l r m q k) → IsKept table i → int_le low q.clock ≡ true → AreNodeMarks low nodes roots i (set (set table l (Some u)) r (Some v))
   marks_both roots table i l r k u v m q w room h at marked test =
       let true_fields = w.true_fields i (Union l r m q k) at in let older_l = true_fields.0 in let older_r = true_fields.1 in let within = slice_get_within nodes i (Union l r m q k) at in
       let long = length-set table l (Some u) in

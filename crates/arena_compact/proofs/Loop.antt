@@ -11,26 +11,26 @@ use Rattle.cer_base.specs.Nodes.{tree, WellFormed}
 use Rattle.cer_base.proofs.Trees.{need-tree}
 use Rattle.cer_base.proofs.Walks.{need-upto}
 use Rattle.arena_compact.specs.declared.fate.Fate.TheVariants.{Gone, Stands, Moves}
-use Rattle.arena_compact.specs.Marks.{IsKept, KeepsChildren, AreMarks}
-use Rattle.arena_compact.specs.Moves.{Gives, Moved}
+use Rattle.arena_compact.specs.Marks.{IsKept, KeepsChildren, AreNodeMarks}
+use Rattle.arena_compact.specs.Moves.{MovesTo, Moved}
 use Rattle.arena_compact.specs.Fates.{HasPlace, HavePlaces, NeedAt, IsFate, NotKept, KeptLeft, KeptBottom, KeptOutput, KeptUnion}
 use Rattle.arena_compact.proofs.Moving.{moved_over, moved_none}
 use Rattle.arena_compact.proofs.Steps.{moved_bottom, moved_output, moved_union, moved_first}
 
 -- the place that a child has, and its need
-gives_same : (table : List (Option ℕ)) (id f g : ℕ) → Gives table id f → Gives table id g → f ≡ g
+gives_same : (table : List (Option ℕ)) (id f g : ℕ) → MovesTo table id f → MovesTo table id g → f ≡ g
 gives_same table id f g a b = let e : Some f ≡ Some g = sym a.gives ∙ b.gives in cc
 
-pub place_within : (nodes : List Node) (table : List (Option ℕ)) (id g : ℕ) → HasPlace nodes table id → Gives table id g → g < length nodes
+pub place_within : (nodes : List Node) (table : List (Option ℕ)) (id g : ℕ) → HasPlace nodes table id → MovesTo table id g → g < length nodes
 place_within nodes table id g h gives = let e = gives_same table id h.place g h.gives gives in let lt = slice_get_within nodes h.place h.node h.there in omega arith
 
-pub need_small : (nodes : List Node) (table : List (Option ℕ)) (id g n : ℕ) → HasPlace nodes table id → Gives table id g → NeedAt nodes g n → n < length nodes
+pub need_small : (nodes : List Node) (table : List (Option ℕ)) (id g n : ℕ) → HasPlace nodes table id → MovesTo table id g → NeedAt nodes g n → n < length nodes
 need_small nodes table id g n h gives at =
     let e = gives_same table id h.place g h.gives gives in
     let same : at.node ≡ h.node = let x : Some at.node ≡ Some h.node = sym at.there ∙ ap (slice_get nodes) (sym e) ∙ h.there in cc in
     let small = h.small in let needs : n ≡ need_of h.node = at.is ∙ ap need_of same in omega arith
 
-kept_gives : (table : List (Option ℕ)) (id : ℕ) (k : IsKept table id) → Gives table id k.place
+kept_gives : (table : List (Option ℕ)) (id : ℕ) (k : IsKept table id) → MovesTo table id k.place
 kept_gives table id k = record { gives = k.here }
 
 -- The nodes before the one at hand are moved, and the others are as they were.
@@ -77,7 +77,7 @@ module _ (low : ℤ) (old : List Node) (marks : List (Option ℕ)) (i next : ℕ
       record { place = kept.place; gives = gives; node = d; there = front_at kept.place d at; small = omega arith }
 
   -- the children of the node at hand have their places
-  pub have_places : (roots : List ℕ) → WellFormed old → AreMarks low old roots 0 marks → Moving low old marks i next cur table → i < length old → (n : Node) → slice_get cur i ≡ Some n → IsKept table i → HavePlaces low cur table n
+  pub have_places : (roots : List ℕ) → WellFormed old → AreNodeMarks low old roots 0 marks → Moving low old marks i next cur table → i < length old → (n : Node) → slice_get cur i ≡ Some n → IsKept table i → HavePlaces low cur table n
   have_places roots w marked h lt n at k =
       let here = node_here h lt n at in
       let k' : IsKept marks i = record { place = k.place; here = sym (h.moved.ahead i (omega arith)) ∙ k.here } in
@@ -124,7 +124,7 @@ module _ (low : ℤ) (old : List Node) (marks : List (Option ℕ)) (i next : ℕ
 
   pub moving_moves : (n : Node) → WellFormed old → Moving low old marks i next cur table → i < length old → i < length table → IsFate low cur table i (Moves n) → Moving low old marks (i + 1) (next + 1) (set cur next n) (set table i (Some next))
   moving_moves n w h lt room fate = go n fate where
-    older_inside : (c g : ℕ) → c < i → Gives table c g → g < length (take next cur)
+    older_inside : (c g : ℕ) → c < i → MovesTo table c g → g < length (take next cur)
     older_inside c g older gives = h.moved.inside c g older gives
 
     go : (n : Node) → IsFate low cur table i (Moves n) → Moving low old marks (i + 1) (next + 1) (set cur next n) (set table i (Some next))

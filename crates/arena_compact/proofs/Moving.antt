@@ -13,16 +13,16 @@ use Rattle.cer_base.specs.Nodes.{tree, WellFormed}
 use Rattle.cer_base.proofs.Trees.{tree-append}
 use Rattle.arena_compact.specs.Pruned.{pruned}
 use Rattle.arena_compact.specs.Marks.{IsKept}
-use Rattle.arena_compact.specs.Moves.{later, Gives, Follows, AtBottom, AtOutput, AtUnion, AtLeft, Moved}
+use Rattle.arena_compact.specs.Moves.{later, MovesTo, Follows, AtBottom, AtOutput, AtUnion, AtLeft, Moved}
 
 -- one id below i + 1: below i, or i
 id_cases : (id i : ℕ) → id < i + 1 → (id < i) ⊎ (id ≡ i)
 id_cases id i lt = elim (cases_lt id i) [ inl less ↦ inl less | inr more ↦ inr (omega arith) ]
 
-gives_set_other : (table : List (Option ℕ)) (i id f : ℕ) (v : Option ℕ) → id ≢ i → Gives (set table i v) id f → Gives table id f
+gives_set_other : (table : List (Option ℕ)) (i id f : ℕ) (v : Option ℕ) → id ≢ i → MovesTo (set table i v) id f → MovesTo table id f
 gives_set_other table i id f v other g = record { gives = sym (get_or-set_other table i id v None other) ∙ g.gives }
 
-pub gives_kept_other : (table : List (Option ℕ)) (i id f : ℕ) (v : Option ℕ) → id ≢ i → Gives table id f → Gives (set table i v) id f
+pub gives_kept_other : (table : List (Option ℕ)) (i id f : ℕ) (v : Option ℕ) → id ≢ i → MovesTo table id f → MovesTo (set table i v) id f
 gives_kept_other table i id f v other g = record { gives = get_or-set_other table i id v None other ∙ g.gives }
 
 slice_get_front : (xs ys : List Node) (id : ℕ) (n : Node) → slice_get xs id ≡ Some n → slice_get (xs ++ ys) id ≡ Some n
@@ -72,7 +72,7 @@ moved_none low old marks = record {
 -- a node that is not kept
 pub moved_over : (low : ℤ) (old : List Node) (marks : List (Option ℕ)) (i : ℕ) (new : List Node) (table : List (Option ℕ)) (n : Node) → Moved low old marks i new table → slice_get old i ≡ Some n → get_or table i None ≡ None → Moved low old marks (i + 1) new table
 moved_over low old marks i new table n h at none =
-    let gone : (id f : ℕ) → id ≡ i → Gives table id f → ⊥ = λ id f same g. let e : get_or table i None ≡ Some f = ap (λ k. get_or table k None) (sym same) ∙ g.gives in cc in
+    let gone : (id f : ℕ) → id ≡ i → MovesTo table id f → ⊥ = λ id f same g. let e : get_or table i None ≡ Some f = ap (λ k. get_or table k None) (sym same) ∙ g.gives in cc in
     let unmarked : (id : ℕ) → id ≡ i → IsKept marks id → ⊥ = λ id same k. let e : get_or table i None ≡ Some k.place = h.ahead i (omega arith) ∙ ap (λ j. get_or marks j None) (sym same) ∙ k.here in cc in
     record {
       few = let few = h.few in omega arith;
@@ -102,8 +102,8 @@ pub record Adds (low : ℤ) (old : List Node) (i : ℕ) (new more : List Node) (
 -- a kept node
 pub moved_on : (low : ℤ) (old : List Node) (marks : List (Option ℕ)) (i : ℕ) (new more : List Node) (table : List (Option ℕ)) (n : Node) (f : ℕ) → WellFormed old → Moved low old marks i new table → slice_get old i ≡ Some n → IsKept marks i → i < length table → Adds low old i new more table n f → Moved low old marks (i + 1) (new ++ more) (set table i (Some f))
 moved_on low old marks i new more table n f w h at marked room a =
-    let is_f : (id g : ℕ) → id ≡ i → Gives (set table i (Some f)) id g → g ≡ f = λ id g same gives. let e : Some g ≡ Some f = sym gives.gives ∙ ap (λ k. get_or (set table i (Some f)) k None) same ∙ get_or-set_same table i (Some f) None room in cc in
-    let back : (id g : ℕ) → id < i → Gives (set table i (Some f)) id g → Gives table id g = λ id g less gives. gives_set_other table i id g (Some f) (omega arith) gives in
+    let is_f : (id g : ℕ) → id ≡ i → MovesTo (set table i (Some f)) id g → g ≡ f = λ id g same gives. let e : Some g ≡ Some f = sym gives.gives ∙ ap (λ k. get_or (set table i (Some f)) k None) same ∙ get_or-set_same table i (Some f) None room in cc in
+    let back : (id g : ℕ) → id < i → MovesTo (set table i (Some f)) id g → MovesTo table id g = λ id g less gives. gives_set_other table i id g (Some f) (omega arith) gives in
     record {
       few = let few = h.few in let one = a.few in omega (arith, length-append new more);
       long = length-set table i (Some f) ∙ h.long;

@@ -7,14 +7,14 @@ use Rattle.cer_base.specs.declared.node.Node.{Node}
 use Rattle.cer_base.specs.declared.node.Node.TheVariants.{Output, Union}
 use Rattle.cer_base.specs.Members.{newest}
 use Rattle.cer_base.specs.Nodes.{tree, WellFormed}
-use Rattle.arena_compact.specs.Marks.{Reaches, Needs, AreMarks}
-use Rattle.arena_compact.specs.Moves.{Gives, Follows, AtOutput, AtUnion, AtLeft, Moved}
+use Rattle.arena_compact.specs.Marks.{Reaches, Needs, AreNodeMarks}
+use Rattle.arena_compact.specs.Moves.{MovesTo, Follows, AtOutput, AtUnion, AtLeft, Moved}
 use Rattle.arena_compact.proofs.Pruned.{newest-pruned}
 
 -- The node has a place that can be reached.
 pub record IsReached (new : List Node) (table : List (Option ℕ)) (roots : List ℕ) (id : ℕ) : Type 0 where
   pub place : ℕ
-  pub gives : Gives table id place
+  pub gives : MovesTo table id place
   pub reached : Reaches new roots place
 
 reached_child : (low : ℤ) (new : List Node) (table : List (Option ℕ)) (roots : List ℕ) (f p c k : ℕ) (m : Stamp) → Follows low table new f (Output p c m k) → Reaches new roots f → IsReached new table roots c
@@ -37,7 +37,7 @@ module _ (low : ℤ) (old new : List Node) (marks table : List (Option ℕ)) (ro
   reached w h at _ (Needs.Right id l r k m q n test needs) = let was = reached w h at id needs in reached_right low new table new_roots was.place l r k m q (h.follows id was.place (Union l r m q k) (slice_get_within old id (Union l r m q k) n) n was.gives) test was.reached
 
   -- so every node that is left is reached, and recent
-  pub all_reached : WellFormed old → AreMarks low old roots 0 marks → Moved low old marks (length old) new table → ((id : ℕ) → Contains roots id → IsReached new table new_roots id) → (j : ℕ) → j < length new → Reaches new new_roots j × (low ≤ℤ (newest (tree new j)).clock)
+  pub all_reached : WellFormed old → AreNodeMarks low old roots 0 marks → Moved low old marks (length old) new table → ((id : ℕ) → Contains roots id → IsReached new table new_roots id) → (j : ℕ) → j < length new → Reaches new new_roots j × (low ≤ℤ (newest (tree new j)).clock)
   all_reached w marked h at j lt =
       let o = h.onto j lt in
       let is = reached w h at o.0 (marked.needed o.0 o.2) in

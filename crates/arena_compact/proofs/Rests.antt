@@ -12,9 +12,9 @@ use Rattle.cer_base.specs.Nodes.{tree, WellFormed}
 use Rattle.cer_base.proofs.Walks.{is_rooted}
 use Rattle.tecs_enumerate.specs.declared.descent.Pending.{Pending}
 use Rattle.tecs_enumerate.specs.Rest.{with_positions, answers, rest_of, Room, AllHaveRoom, id_of, prefix_of}
-use Rattle.arena_compact.specs.Moves.{Gives, Moved}
+use Rattle.arena_compact.specs.Moves.{MovesTo, Moved}
 use Rattle.arena_compact.specs.Roots.{AreMoved}
-use Rattle.arena_compact.specs.Marks.{AreMarks}
+use Rattle.arena_compact.specs.Marks.{AreNodeMarks}
 use Rattle.arena_compact.proofs.Keeping.{marks_root}
 use Rattle.arena_compact.proofs.Pruned.{recent-pruned, newest-pruned, need-pruned}
 
@@ -25,10 +25,10 @@ moved_length table (e ∷ es) [] h = absurd h
 moved_length table (e ∷ es) (f ∷ fs) h = ap suc (moved_length table es fs h.2)
 
 module _ (least : ℤ) (old new : List Node) (marks table : List (Option ℕ)) (w : WellFormed old) (h : Moved least old marks (length old) new table) where
-  same_newest : (id f : ℕ) → id < length old → Gives table id f → newest (tree new f) ≡ newest (tree old id)
+  same_newest : (id f : ℕ) → id < length old → MovesTo table id f → newest (tree new f) ≡ newest (tree old id)
   same_newest id f lt gives = ap newest (h.trees id f lt gives) ∙ newest-pruned least (tree old id) (w.well_formed_tree id lt)
 
-  same_answers : (low : ℤ) (front : List ℕ) (id f : ℕ) → least ≤ℤ low → id < length old → Gives table id f → answers low front (tree new f) ≡ answers low front (tree old id)
+  same_answers : (low : ℤ) (front : List ℕ) (id f : ℕ) → least ≤ℤ low → id < length old → MovesTo table id f → answers low front (tree new f) ≡ answers low front (tree old id)
   same_answers low front id f le lt gives =
       ap (λ t. answers low front t) (h.trees id f lt gives) ∙ ap (map (with_positions front)) (recent-pruned old w.in_step low least le (tree old id) (is_rooted old w id lt))
 
@@ -63,13 +63,13 @@ module _ (least : ℤ) (old new : List Node) (marks table : List (Option ℕ)) (
 -- The first k entries' nodes are moved.
 pub record Turned (table : List (Option ℕ)) (before now : List ℕ) (k : ℕ) : Type 0 where
   pub long : length now ≡ length before
-  pub moved : (j : ℕ) → j < k → j < length before → Gives table (get_or before j 0) (get_or now j 0)
+  pub moved : (j : ℕ) → j < k → j < length before → MovesTo table (get_or before j 0) (get_or now j 0)
   pub others : (j : ℕ) → k ≤ j → get_or now j 0 ≡ get_or before j 0
 
 pub turned_none : (table : List (Option ℕ)) (ids : List ℕ) → Turned table ids ids 0
 turned_none table ids = record { long = refl; moved = λ j lt within. absurd (omega arith); others = λ j le. refl }
 
-pub turned_more : (table : List (Option ℕ)) (before now : List ℕ) (k v : ℕ) → Turned table before now k → k < length before → Gives table (get_or now k 0) v → Turned table before (set now k v) (k + 1)
+pub turned_more : (table : List (Option ℕ)) (before now : List ℕ) (k v : ℕ) → Turned table before now k → k < length before → MovesTo table (get_or now k 0) v → Turned table before (set now k v) (k + 1)
 turned_more table before now k v h lt gives =
     let long = h.long in
     record {
@@ -78,8 +78,8 @@ turned_more table before now k v h lt gives =
         | inl same ↦
             let here : get_or (set now k v) j 0 ≡ v = ap (λ i. get_or (set now k v) i 0) same ∙ get_or-set_same now k v 0 (omega arith) in
             let was : get_or now k 0 ≡ get_or before j 0 = h.others k (omega arith) ∙ ap (λ i. get_or before i 0) (sym same) in
-            subst (λ (x : ℕ). Gives table x (get_or (set now k v) j 0)) was (subst (λ (x : ℕ). Gives table (get_or now k 0) x) (sym here) gives)
-        | inr other ↦ subst (λ (x : ℕ). Gives table (get_or before j 0) x) (sym (get_or-set_other now k j v 0 other)) (h.moved j (omega arith) within)
+            subst (λ (x : ℕ). MovesTo table x (get_or (set now k v) j 0)) was (subst (λ (x : ℕ). MovesTo table (get_or now k 0) x) (sym here) gives)
+        | inr other ↦ subst (λ (x : ℕ). MovesTo table (get_or before j 0) x) (sym (get_or-set_other now k j v 0 other)) (h.moved j (omega arith) within)
       ];
       others = λ j le. get_or-set_other now k j v 0 (omega arith) ∙ h.others j (omega arith);
     }
@@ -109,7 +109,7 @@ fits_at low nodes room (e ∷ es) zero id fits at = let same : e.id ≡ id = cc 
 fits_at low nodes room (e ∷ es) (suc k) id fits at = fits_at low nodes room es k id fits.1 at
 
 -- one more entry's node is kept
-pub keep_next : (low least : ℤ) (nodes : List Node) (room : Room) (roots : List ℕ) (es : List Pending) (table new : List (Option ℕ)) (k id : ℕ) → least ≤ℤ low → AllHaveRoom low nodes room es → AreMarks least nodes (roots ++ take k (map id_of es)) (length nodes) table → slice_get (map id_of es) k ≡ Some id → length nodes ≤ length table → new ≡ set table id (Some id) → AreMarks least nodes (roots ++ take (k + 1) (map id_of es)) (length nodes) new
+pub keep_next : (low least : ℤ) (nodes : List Node) (room : Room) (roots : List ℕ) (es : List Pending) (table new : List (Option ℕ)) (k id : ℕ) → least ≤ℤ low → AllHaveRoom low nodes room es → AreNodeMarks least nodes (roots ++ take k (map id_of es)) (length nodes) table → slice_get (map id_of es) k ≡ Some id → length nodes ≤ length table → new ≡ set table id (Some id) → AreNodeMarks least nodes (roots ++ take (k + 1) (map id_of es)) (length nodes) new
 keep_next low least nodes room roots es table new k id le fits h at wide is =
     let ids = map id_of es in
     let here = fits_at low nodes room es k id fits at in

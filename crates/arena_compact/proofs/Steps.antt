@@ -12,7 +12,7 @@ use Rattle.cer_base.specs.Nodes.{tree, WellFormed, AreInStep}
 use Rattle.cer_base.proofs.Trees.{newest-left, tree-push, tree-at, well_formed-push, output-grows, union-grows}
 use Rattle.arena_compact.specs.Pruned.{pruned}
 use Rattle.arena_compact.specs.Marks.{IsKept}
-use Rattle.arena_compact.specs.Moves.{later, Gives, AtBottom, AtOutput, AtUnion, AtLeft, Moved}
+use Rattle.arena_compact.specs.Moves.{later, MovesTo, AtBottom, AtOutput, AtUnion, AtLeft, Moved}
 use Rattle.arena_compact.proofs.Pruned.{newest-pruned, well_formed-pruned}
 use Rattle.arena_compact.proofs.Moving.{slice_get_last, later_push, later_same, gives_kept_other, moved_on}
 
@@ -24,7 +24,7 @@ last_place new n j le lt = omega (arith, length-append new (n ∷ []))
 
 -- what a moved node's tree is, as its child's is pruned
 module _ (low : ℤ) (old : List Node) (marks : List (Option ℕ)) (i : ℕ) (new : List Node) (table : List (Option ℕ)) where
-  child_newest : WellFormed old → Moved low old marks i new table → (c g : ℕ) → c < i → c < length old → Gives table c g → newest (tree new g) ≡ newest (tree old c)
+  child_newest : WellFormed old → Moved low old marks i new table → (c g : ℕ) → c < i → c < length old → MovesTo table c g → newest (tree new g) ≡ newest (tree old c)
   child_newest w h c g less inside gives = ap newest (h.trees c g less gives) ∙ newest-pruned low (tree old c) (w.well_formed_tree c inside)
 
   pub moved_bottom : (s : Stamp) → WellFormed old → Moved low old marks i new table → slice_get old i ≡ Some (Bottom s) → IsKept marks i → i < length table → Moved low old marks (i + 1) (new ++ Bottom s ∷ []) (set table i (Some (length new)))
@@ -43,7 +43,7 @@ module _ (low : ℤ) (old : List Node) (marks : List (Option ℕ)) (i : ℕ) (ne
         fewer_later = λ p. omega (arith, later_push p new (Bottom s));
       })
 
-  pub moved_output : (p c k g j : ℕ) (m : Stamp) → WellFormed old → Moved low old marks i new table → slice_get old i ≡ Some (Output p c m k) → IsKept marks i → i < length table → Gives table c g → j ≡ need (tree new g) + 1 → Moved low old marks (i + 1) (new ++ Output p g m j ∷ []) (set table i (Some (length new)))
+  pub moved_output : (p c k g j : ℕ) (m : Stamp) → WellFormed old → Moved low old marks i new table → slice_get old i ≡ Some (Output p c m k) → IsKept marks i → i < length table → MovesTo table c g → j ≡ need (tree new g) + 1 → Moved low old marks (i + 1) (new ++ Output p g m j ∷ []) (set table i (Some (length new)))
   moved_output p c k g j m w h at marked room gives is_need =
       let true_fields = w.true_fields i (Output p c m k) at in let older = true_fields.0 in let within = slice_get_within old i (Output p c m k) at in
       let is : tree old i ≡ Extended p (tree old c) = tree-at old w i (Output p c m k) at in
@@ -62,7 +62,7 @@ module _ (low : ℤ) (old : List Node) (marks : List (Option ℕ)) (i : ℕ) (ne
         fewer_later = λ q. omega (arith, later_push q new (Output p g m j), later_same q (Output p g m j) (Output p c m k) refl);
       })
 
-  pub moved_union : (l r k a b j : ℕ) (m q : Stamp) → WellFormed old → Moved low old marks i new table → slice_get old i ≡ Some (Union l r m q k) → IsKept marks i → i < length table → int_le low q.clock ≡ true → Gives table l a → Gives table r b → j ≡ max (need (tree new a) + 1) (need (tree new b)) → Moved low old marks (i + 1) (new ++ Union a b m q j ∷ []) (set table i (Some (length new)))
+  pub moved_union : (l r k a b j : ℕ) (m q : Stamp) → WellFormed old → Moved low old marks i new table → slice_get old i ≡ Some (Union l r m q k) → IsKept marks i → i < length table → int_le low q.clock ≡ true → MovesTo table l a → MovesTo table r b → j ≡ max (need (tree new a) + 1) (need (tree new b)) → Moved low old marks (i + 1) (new ++ Union a b m q j ∷ []) (set table i (Some (length new)))
   moved_union l r k a b j m q w h at marked room test gives_l gives_r is_need =
       let true_fields = w.true_fields i (Union l r m q k) at in let older_l = true_fields.0 in let older_r = true_fields.1 in let within = slice_get_within old i (Union l r m q k) at in
       let is : tree old i ≡ United (tree old l) (tree old r) = tree-at old w i (Union l r m q k) at in
@@ -83,7 +83,7 @@ module _ (low : ℤ) (old : List Node) (marks : List (Option ℕ)) (i : ℕ) (ne
         fewer_later = λ p. omega (arith, later_push p new (Union a b m q j), later_same p (Union a b m q j) (Union l r m q k) refl);
       })
 
-  pub moved_first : (l r k f : ℕ) (m q : Stamp) → WellFormed old → Moved low old marks i new table → slice_get old i ≡ Some (Union l r m q k) → IsKept marks i → i < length table → int_le low q.clock ≡ false → Gives table l f → Moved low old marks (i + 1) new (set table i (Some f))
+  pub moved_first : (l r k f : ℕ) (m q : Stamp) → WellFormed old → Moved low old marks i new table → slice_get old i ≡ Some (Union l r m q k) → IsKept marks i → i < length table → int_le low q.clock ≡ false → MovesTo table l f → Moved low old marks (i + 1) new (set table i (Some f))
   moved_first l r k f m q w h at marked room test gives =
       let true_fields = w.true_fields i (Union l r m q k) at in let older = true_fields.0 in
       let is : tree old i ≡ United (tree old l) (tree old r) = tree-at old w i (Union l r m q k) at in

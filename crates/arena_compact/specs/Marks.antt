@@ -32,7 +32,7 @@ KeepsChildren low table (Output p c m k) = IsKept table c
 KeepsChildren low table (Union l r m q k) = IsKept table l × (int_le low q.clock ≡ true → IsKept table r)
 
 -- From the id on, each kept node's children are kept; all roots are; each kept node is needed, and recent.
-pub record AreMarks (low : ℤ) (nodes : List Node) (roots : List ℕ) (from : ℕ) (table : List (Option ℕ)) : Type 0 where
+pub record AreNodeMarks (low : ℤ) (nodes : List Node) (roots : List ℕ) (from : ℕ) (table : List (Option ℕ)) : Type 0 where
   pub closed : (id : ℕ) (n : Node) → from ≤ id → slice_get nodes id ≡ Some n → IsKept table id → KeepsChildren low table n
   pub inside : (id : ℕ) → IsKept table id → id < length nodes
   pub recent : (id : ℕ) → IsKept table id → low ≤ℤ (newest (tree nodes id)).clock

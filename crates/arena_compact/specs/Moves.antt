@@ -13,15 +13,15 @@ abbrev pub later : ℕ → List Node → ℕ
 later p nodes = count_by (λ n. nat_le p (max_of n).pos) nodes
 
 -- The table gives the place of the node's child.
-pub record Gives (table : List (Option ℕ)) (id place : ℕ) : Type 0 where
+pub record MovesTo (table : List (Option ℕ)) (id place : ℕ) : Type 0 where
   pub gives : get_or table id None ≡ Some place
 
 -- What stands at the place that the table gives a node: the same kind of node, over its children's places. A union whose right child is too old has its left child's place.
 pub data Follows (low : ℤ) (table : List (Option ℕ)) (new : List Node) (f : ℕ) : Node → Type 0 where
   AtBottom : (s : Stamp) → slice_get new f ≡ Some (Bottom s) → Follows low table new f (Bottom s)
-  AtOutput : (p c k g j : ℕ) (m : Stamp) → Gives table c g → slice_get new f ≡ Some (Output p g m j) → Follows low table new f (Output p c m k)
-  AtUnion : (l r k a b j : ℕ) (m q : Stamp) → int_le low q.clock ≡ true → Gives table l a → Gives table r b → slice_get new f ≡ Some (Union a b m q j) → Follows low table new f (Union l r m q k)
-  AtLeft : (l r k : ℕ) (m q : Stamp) → int_le low q.clock ≡ false → Gives table l f → Follows low table new f (Union l r m q k)
+  AtOutput : (p c k g j : ℕ) (m : Stamp) → MovesTo table c g → slice_get new f ≡ Some (Output p g m j) → Follows low table new f (Output p c m k)
+  AtUnion : (l r k a b j : ℕ) (m q : Stamp) → int_le low q.clock ≡ true → MovesTo table l a → MovesTo table r b → slice_get new f ≡ Some (Union a b m q j) → Follows low table new f (Union l r m q k)
+  AtLeft : (l r k : ℕ) (m q : Stamp) → int_le low q.clock ≡ false → MovesTo table l f → Follows low table new f (Union l r m q k)
 
 -- The nodes with ids below i are moved: the kept ones are the new nodes, pruned, at the places that the table gives.
 pub record Moved (low : ℤ) (old : List Node) (marks : List (Option ℕ)) (i : ℕ) (new : List Node) (table : List (Option ℕ)) : Type 0 where
@@ -30,9 +30,9 @@ pub record Moved (low : ℤ) (old : List Node) (marks : List (Option ℕ)) (i : 
   pub well_formed : WellFormed new
   pub ahead : (id : ℕ) → i ≤ id → get_or table id None ≡ get_or marks id None
   pub kept : (id : ℕ) → id < i → IsKept marks id → IsKept table id
-  pub inside : (id f : ℕ) → id < i → Gives table id f → f < length new
-  pub trees : (id f : ℕ) → id < i → Gives table id f → tree new f ≡ pruned low (tree old id)
-  pub follows : (id f : ℕ) (n : Node) → id < i → slice_get old id ≡ Some n → Gives table id f → Follows low table new f n
-  pub onto : (j : ℕ) → j < length new → (id : ℕ) × (id < i) × IsKept marks id × Gives table id j
+  pub inside : (id f : ℕ) → id < i → MovesTo table id f → f < length new
+  pub trees : (id f : ℕ) → id < i → MovesTo table id f → tree new f ≡ pruned low (tree old id)
+  pub follows : (id f : ℕ) (n : Node) → id < i → slice_get old id ≡ Some n → MovesTo table id f → Follows low table new f n
+  pub onto : (j : ℕ) → j < length new → (id : ℕ) × (id < i) × IsKept marks id × MovesTo table id j
   pub no_new_start : (s : Stamp) → Contains new (Bottom s) → Contains old (Bottom s)
   pub fewer_later : (p : ℕ) → later p new ≤ later p (take i old)

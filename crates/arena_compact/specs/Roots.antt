@@ -8,7 +8,7 @@ use Rattle.cer_base.specs.declared.node.Node.{Node}
 use Rattle.tecs_enumerate.specs.declared.descent.Pending.{Pending}
 use Rattle.tecs_enumerate.specs.Rest.{CursorState, id_of}
 use Rattle.event_update.specs.Update.{entries_in}
-use Rattle.arena_compact.specs.Moves.{Gives}
+use Rattle.arena_compact.specs.Moves.{MovesTo}
 use Rattle.arena_compact.specs.Fates.{NeedAt}
 
 -- the entries whose greatest start is recent
@@ -33,12 +33,12 @@ cursor_roots query ws = flat_map (λ w. cond (w.query == query) (map id_of w.sta
 -- A node has a place, at which a node stands.
 pub record IsPlaced (nodes : List Node) (table : List (Option ℕ)) (id : ℕ) : Type 0 where
   pub place : ℕ
-  pub gives : Gives table id place
+  pub gives : MovesTo table id place
   pub inside : place < length nodes
 
 -- The entry is of the place of the node that it was of, with the same greatest start and the need of the node there.
 pub record EntryMoved (nodes : List Node) (table : List (Option ℕ)) (e f : Root) : Type 0 where
-  pub id : Gives table e.id f.id
+  pub id : MovesTo table e.id f.id
   pub same_max : f.max ≡ e.max
   pub need : NeedAt nodes f.id f.need
 
@@ -58,7 +58,7 @@ abbrev pub AreMoved : List (Option ℕ) → List Pending → List Pending → Ty
 AreMoved table [] [] = Unit {0}
 AreMoved table [] (f ∷ fs) = ⊥
 AreMoved table (e ∷ es) [] = ⊥
-AreMoved table (e ∷ es) (f ∷ fs) = (f.prefix ≡ e.prefix) × Gives table e.id f.id × AreMoved table es fs
+AreMoved table (e ∷ es) (f ∷ fs) = (f.prefix ≡ e.prefix) × MovesTo table e.id f.id × AreMoved table es fs
 
 -- how many entries the lists of all keys have
 abbrev pub places : List (List (ℕ × List Root)) → ℕ

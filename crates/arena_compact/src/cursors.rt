@@ -3,7 +3,7 @@ ghost use Rattle.std.specs.Prelude.{◌≡◌, ◌+◌, ◌*◌, ◌<◌, ◌≤
 ghost use Rattle.cer_base.specs.declared.node.Node.{Node};
 ghost use Rattle.tecs_enumerate.specs.Rest.{CursorState, Fits, id_of, prefix_of};
 ghost use Rattle.arena_compact.specs.Compacted.{least_of};
-ghost use Rattle.arena_compact.specs.Marks.{IsKept, AreMarks};
+ghost use Rattle.arena_compact.specs.Marks.{IsKept, AreNodeMarks};
 ghost use Rattle.arena_compact.specs.Roots.{cursor_roots, AreMoved, CursorMoved};
 
 use super::marks::keep;
@@ -53,8 +53,8 @@ pub fn keep_cursor(cursor: &Cursor, table: &mut [Option<Id>])
     requires inside { All (λ id. id < length table.old) (map id_of cursor.now.stack) }
     ensures marks { (low : ℤ) → (nodes : List Node) → (roots : List ℕ)
         → length nodes ≤ length table.old → low ≤ℤ cursor.now.low → Fits cursor.now nodes
-        → AreMarks low nodes roots (length nodes) table.old
-        → AreMarks low nodes (roots ++ map id_of cursor.now.stack) (length nodes) table.new }
+        → AreNodeMarks low nodes roots (length nodes) table.old
+        → AreNodeMarks low nodes (roots ++ map id_of cursor.now.stack) (length nodes) table.new }
     ensures long { length table.new ≡ length table.old }
 {
     for k in 0..cursor.depth() {
@@ -82,8 +82,8 @@ fn keep_if(cursor: &Cursor, query: u64, table: &mut [Option<Id>])
     ensures marks { (low : ℤ) → (nodes : List Node) → (roots : List ℕ)
         → length nodes ≤ length table.old → (cursor.now.query ≡ query
         → (low ≤ℤ cursor.now.low) × Fits cursor.now nodes)
-        → AreMarks low nodes roots (length nodes) table.old
-        → AreMarks low nodes (roots ++ cursor_roots query (cursor.now ∷ []))
+        → AreNodeMarks low nodes roots (length nodes) table.old
+        → AreNodeMarks low nodes (roots ++ cursor_roots query (cursor.now ∷ []))
         (length nodes) table.new }
     ensures long { length table.new ≡ length table.old }
 {
@@ -99,8 +99,9 @@ pub fn keep_cursors<C: HasCursor>(cursors: &[C], query: u64, table: &mut [Option
     ensures marks { (low : ℤ) → (nodes : List Node) → (roots : List ℕ)
         → length nodes ≤ length table.old → All (λ w. w.query ≡ query
         → (low ≤ℤ w.low) × Fits w nodes) (map C.walk cursors.now)
-        → AreMarks low nodes roots (length nodes) table.old
-        → AreMarks low nodes (roots ++ cursor_roots query (map C.walk cursors.now)) (length nodes)
+        → AreNodeMarks low nodes roots (length nodes) table.old
+        → AreNodeMarks low nodes (roots ++ cursor_roots query (map C.walk cursors.now))
+        (length nodes)
         table.new }
     ensures long { length table.new ≡ length table.old }
 {

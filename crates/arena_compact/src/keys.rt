@@ -4,7 +4,7 @@ ghost use Rattle.cer_base.specs.declared.node.Node.{Node};
 ghost use Rattle.cer_base.specs.declared.node.Root.{Root};
 ghost use Rattle.cer_base.specs.Nodes.{IsRoot};
 ghost use Rattle.event_update.specs.Update.{entries_in};
-ghost use Rattle.arena_compact.specs.Marks.{AreMarks};
+ghost use Rattle.arena_compact.specs.Marks.{AreNodeMarks};
 ghost use Rattle.arena_compact.specs.Roots.{key_roots, places, AreOlder, IsPlaced, kept_rows, RowsMoved, KeysMoved};
 
 use super::rows::{keep_rows, move_rows};
@@ -66,8 +66,8 @@ pub fn keep_keys<K: HasLists, L: Ledger>(
         (map K.rows keys.now) }
     ensures marks { (nodes : List Node) → (roots : List ℕ) → length nodes ≤ length table.old
         → All (λ rows. All (λ r. All (IsRoot nodes) r.1) rows) (map K.rows keys.now)
-        → AreMarks low nodes roots (length nodes) table.old
-        → AreMarks low nodes (roots ++ key_roots low (map K.rows keys.now)) (length nodes)
+        → AreNodeMarks low nodes roots (length nodes) table.old
+        → AreNodeMarks low nodes (roots ++ key_roots low (map K.rows keys.now)) (length nodes)
         table.new }
     ensures long { length table.new ≡ length table.old }
     ensures steps { steps.new ≡ steps.old + places (map K.rows keys.now) }

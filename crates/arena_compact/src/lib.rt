@@ -29,7 +29,7 @@ ghost use Rattle.cer_base.specs.declared.node.Root.{Root};
 ghost use Rattle.cer_base.specs.Nodes.{WellFormed};
 ghost use Rattle.tecs_enumerate.specs.Rest.{CursorState, Fits};
 ghost use Rattle.union_lists.specs.Lists.{IsUnionList};
-ghost use Rattle.arena_compact.specs.Marks.{AreMarks};
+ghost use Rattle.arena_compact.specs.Marks.{AreNodeMarks};
 ghost use Rattle.arena_compact.specs.Roots.{key_roots, cursor_roots, places};
 ghost use Rattle.arena_compact.specs.Compacted.{least_of, roots_of, Compacted, KeysCompacted, CursorCompacted};
 
@@ -99,7 +99,7 @@ fn keep_all<S: NodeStore, K: HasLists, C: HasCursor, L: Ledger>(
         × Fits w (S.nodes store.now)) (map C.walk cursors.now) }
     requires room { length (S.nodes store.now) ≤ length table.old }
     requires blank { (id : ℕ) → get_or table.old id None ≡ None }
-    ensures marks { AreMarks least (S.nodes store.now)
+    ensures marks { AreNodeMarks least (S.nodes store.now)
         (key_roots least (map K.rows keys.now) ++ cursor_roots query (map C.walk cursors.now)) 0 table.new }
     ensures long { length table.new ≡ length table.old }
     ensures steps { steps.new
@@ -127,7 +127,7 @@ fn move_all<S: NodeStore, K: HasLists, C: HasCursor, L: Ledger>(
     requires cursors { All (λ w. w.query ≡ query → (least ≤ℤ w.low)
         × Fits w (S.nodes store.old)) (map C.walk cursors.old) }
     requires room { length (S.nodes store.old) ≤ length table.old }
-    requires marks { AreMarks least (S.nodes store.old)
+    requires marks { AreNodeMarks least (S.nodes store.old)
         (key_roots least (map K.rows keys.old) ++ cursor_roots query (map C.walk cursors.old)) 0 table.old }
     ensures nodes { Compacted least (S.nodes store.old) (S.nodes store.new)
         (roots_of query (map K.rows keys.new) (map C.walk cursors.new)) }

@@ -3,7 +3,7 @@ ghost use Rattle.std.specs.Prelude.{◌≡◌, ◌+◌, ◌*◌, ◌<◌, ◌≤
 ghost use Rattle.cer_base.specs.declared.node.Node.{Node};
 ghost use Rattle.cer_base.specs.declared.node.Root.{Root};
 ghost use Rattle.cer_base.specs.Nodes.{IsRoot};
-ghost use Rattle.arena_compact.specs.Marks.{AreMarks};
+ghost use Rattle.arena_compact.specs.Marks.{AreNodeMarks};
 ghost use Rattle.arena_compact.specs.Roots.{recent_entries, ids_of, AreOlder, IsPlaced, EntryMoved, EntriesMoved};
 
 use super::marks::{is_recent, keep};
@@ -29,8 +29,8 @@ fn keep_entry(entry: Root, low: i128, table: &mut [Option<Id>])
 pub fn keep_list<L: Ledger>(list: &UList, low: i128, table: &mut [Option<Id>], steps: &mut Steps<L>)
     requires inside { All (λ e. e.id < length table.old) list.now }
     ensures marks { (nodes : List Node) → (roots : List ℕ) → length nodes ≤ length table.old
-        → All (IsRoot nodes) list.now → AreMarks low nodes roots (length nodes) table.old
-        → AreMarks low nodes (roots ++ ids_of (recent_entries low list.now)) (length nodes)
+        → All (IsRoot nodes) list.now → AreNodeMarks low nodes roots (length nodes) table.old
+        → AreNodeMarks low nodes (roots ++ ids_of (recent_entries low list.now)) (length nodes)
         table.new }
     ensures long { length table.new ≡ length table.old }
     ensures steps { steps.new ≡ steps.old + length list.now }

@@ -5,7 +5,7 @@ ghost use Rattle.cer_base.specs.declared.node.Node.{Node};
 ghost use Rattle.cer_base.specs.declared.node.Root.{Root};
 ghost use Rattle.cer_base.specs.Nodes.{IsRoot};
 ghost use Rattle.event_update.specs.Update.{entries_in};
-ghost use Rattle.arena_compact.specs.Marks.{AreMarks};
+ghost use Rattle.arena_compact.specs.Marks.{AreNodeMarks};
 ghost use Rattle.arena_compact.specs.Roots.{recent_entries, row_roots, AreOlder, IsPlaced, kept_rows, RowsMoved, MovedAt};
 
 use super::lists::{keep_list, move_list};
@@ -27,8 +27,9 @@ pub fn keep_rows<L: Ledger>(
     requires inside { All (λ r. All (λ e. e.id < length table.old) r.1) active.now.entries }
     ensures marks { (nodes : List Node) → (roots : List ℕ) → length nodes ≤ length table.old
         → All (λ r. All (IsRoot nodes) r.1) active.now.entries
-        → AreMarks low nodes roots (length nodes) table.old
-        → AreMarks low nodes (roots ++ row_roots low active.now.entries) (length nodes) table.new }
+        → AreNodeMarks low nodes roots (length nodes) table.old
+        → AreNodeMarks low nodes (roots ++ row_roots low active.now.entries)
+        (length nodes) table.new }
     ensures long { length table.new ≡ length table.old }
     ensures steps { steps.new ≡ steps.old + entries_in active.now.entries }
 {

@@ -2,13 +2,13 @@ use Rattle.std.proofs.Common.{◌≡◌, ◌+◌, ◌≤◌, ◌++◌, ℕ, ℤ,
 use Rattle.cer_base.specs.declared.node.Node.{Node}
 use Rattle.cer_base.specs.declared.node.Root.{Root}
 use Rattle.cer_base.specs.Nodes.{IsRoot}
-use Rattle.arena_compact.specs.Marks.{AreMarks}
+use Rattle.arena_compact.specs.Marks.{AreNodeMarks}
 use Rattle.arena_compact.specs.Roots.{key_roots, places}
 use Rattle.arena_compact.proofs.keys.keep_keys.Given as goal
 
 -- The nodes of the first k keys are kept.
 pub record Keeps (low : ℤ) (keys : List (List (ℕ × List Root))) (before now : List (Option ℕ)) (k old new : ℕ) : Type 0 where
-  pub marks : (nodes : List Node) (roots : List ℕ) → length nodes ≤ length before → All (λ (rows : List (ℕ × List Root)). All (λ (r : ℕ × List Root). All (IsRoot nodes) r.1) rows) keys → AreMarks low nodes roots (length nodes) before → AreMarks low nodes (roots ++ key_roots low (take k keys)) (length nodes) now
+  pub marks : (nodes : List Node) (roots : List ℕ) → length nodes ≤ length before → All (λ (rows : List (ℕ × List Root)). All (λ (r : ℕ × List Root). All (IsRoot nodes) r.1) rows) keys → AreNodeMarks low nodes roots (length nodes) before → AreNodeMarks low nodes (roots ++ key_roots low (take k keys)) (length nodes) now
   pub long : length now ≡ length before
   pub few : k ≤ length keys
   pub paid : new ≡ old + places (take k keys)

@@ -3,13 +3,13 @@ use Rattle.cer_base.specs.declared.node.Node.{Node}
 use Rattle.cer_base.specs.declared.node.Root.{Root}
 use Rattle.cer_base.specs.Nodes.{IsRoot}
 use Rattle.event_update.specs.Update.{entries_in}
-use Rattle.arena_compact.specs.Marks.{AreMarks}
+use Rattle.arena_compact.specs.Marks.{AreNodeMarks}
 use Rattle.arena_compact.specs.Roots.{row_roots}
 use Rattle.arena_compact.proofs.rows.keep_rows.Given as goal
 
 -- The nodes of the first k rows are kept.
 pub record Keeps (low : ℤ) (rows : List (ℕ × List Root)) (before now : List (Option ℕ)) (k old new : ℕ) : Type 0 where
-  pub marks : (nodes : List Node) (roots : List ℕ) → length nodes ≤ length before → All (λ (r : ℕ × List Root). All (IsRoot nodes) r.1) rows → AreMarks low nodes roots (length nodes) before → AreMarks low nodes (roots ++ row_roots low (take k rows)) (length nodes) now
+  pub marks : (nodes : List Node) (roots : List ℕ) → length nodes ≤ length before → All (λ (r : ℕ × List Root). All (IsRoot nodes) r.1) rows → AreNodeMarks low nodes roots (length nodes) before → AreNodeMarks low nodes (roots ++ row_roots low (take k rows)) (length nodes) now
   pub long : length now ≡ length before
   pub few : k ≤ length rows
   pub paid : new ≡ old + entries_in (take k rows)

@@ -34,8 +34,8 @@ pub use events::read_event;
 pub use reader::{Lines, Next};
 pub use row::Row;
 
-/// Why an event was refused. Where several hold of a line, the first of these
-/// is the answer.
+/// Why a line of an event file, or of a script of commands, was refused. Where several of an event's
+/// refusals hold of a line, the first of these is the answer.
 #[derive(Drop, Debug, Clone, Copy, PartialEq, Eq, Error)]
 pub enum EventFault {
     /// The line has more than 65,536 bytes.
@@ -63,6 +63,21 @@ pub enum EventFault {
     /// The event's clock is further below the greatest one that came than an event may be late.
     #[error("time {now} comes too late after {high}")]
     TooLate { high: i64, now: i64 },
+    /// The line of a script is no command.
+    #[error("unknown command")]
+    UnknownCommand,
+    /// A cursor is to be opened for the query of this number, from 1, and there is none.
+    #[error("no query {query}")]
+    NoQuery { query: u64 },
+    /// A cursor is to be opened, and the one of this number is open.
+    #[error("cursor {cursor} is open")]
+    CursorOpen { cursor: u64 },
+    /// A command asks for the cursor of this number, which is not open.
+    #[error("cursor {cursor} is not open")]
+    CursorNotOpen { cursor: u64 },
+    /// A cursor is to be opened before any event came.
+    #[error("no event yet")]
+    NoEventYet,
 }
 
 /// Why there is no further line.

@@ -75,6 +75,11 @@ event_words (event.BadValue field kind) = codes "field " ++ decimal field ++ cod
 event_words (event.TimeBack query before now) =
     codes "time falls from " ++ signed_decimal before ++ codes " to " ++ signed_decimal now ++ codes " in query " ++ decimal query
 event_words (event.TooLate high now) = codes "time " ++ signed_decimal now ++ codes " comes too late after " ++ signed_decimal high
+event_words event.UnknownCommand = codes "unknown command"
+event_words (event.NoQuery query) = codes "no query " ++ decimal query
+event_words (event.CursorOpen cursor) = codes "cursor " ++ decimal cursor ++ codes " is open"
+event_words (event.CursorNotOpen cursor) = codes "cursor " ++ decimal cursor ++ codes " is not open"
+event_words event.NoEventYet = codes "no event yet"
 
 -- core: queries 4:25: unexpected token
 abbrev pub query_note : QueryFault → Place → List ℕ

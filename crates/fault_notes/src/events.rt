@@ -76,6 +76,15 @@ fn push_words(text: &mut Vec<u8>, fault: &EventFault) -> Result<(), Memory>
             push_time_back(text, *query, *before, *now)
         }
         EventFault::TooLate { high, now } => push_too_late(text, *high, *now),
+        EventFault::UnknownCommand => push(text, b"unknown command"),
+        EventFault::NoQuery { query } => push_counted(text, b"no query ", *query, b""),
+        EventFault::CursorOpen { cursor } => {
+            push_counted(text, b"cursor ", *cursor, b" is open")
+        }
+        EventFault::CursorNotOpen { cursor } => {
+            push_counted(text, b"cursor ", *cursor, b" is not open")
+        }
+        EventFault::NoEventYet => push(text, b"no event yet"),
     }
 }
 

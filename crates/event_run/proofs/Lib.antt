@@ -8,8 +8,8 @@ pub mod ForCallers
 -- what a reader of lines has given, and the run; for callers
 pub mod Given
 -- one turn of reading
-mod Turns
+mod LineTaken
 -- steps where memory ran out
-mod Wants
+mod RanOut
 -- the events of a file as a list
 mod Listed

@@ -3,7 +3,7 @@ use Rattle.std.proofs.Common.{◌≡◌, [], ◌∷◌, Some, None, codes, refl}
 use Rattle.answer_text.specs.declared.Order.TheVariants.{Walk, Sorted}
 use Rattle.clap.proofs.OnLiterals.{clap_on_literals}
 use Rattle.command_words.specs.CommandLine.{AsksFor, command_of}
-use Rattle.command_words.specs.declared.Command.TheVariants.{Run, Sample, Reorder, Explain}
+use Rattle.command_words.specs.declared.Command.TheVariants.{Run, Sample, Session, Reorder, Explain}
 
 pub options_stand_between : AsksFor (codes "run" ∷ codes "--order=walk" ∷ codes "q" ∷ codes "--max-bytes" ∷ codes "+05" ∷ codes "-" ∷ [])
     (Run (codes "q") (codes "-") Walk None 5)
@@ -18,6 +18,10 @@ compactions_are_asked_for = refl
 pub numbers_have_zeros : AsksFor (codes "sample" ∷ codes "+7" ∷ codes "007" ∷ []) (Sample 7 7)
 unfolding clap_on_literals
 numbers_have_zeros = refl
+
+pub a_script_is_named : AsksFor (codes "session" ∷ codes "q" ∷ codes "s" ∷ []) (Session (codes "q") (codes "s"))
+unfolding clap_on_literals
+a_script_is_named = refl
 
 pub lateness_is_told : AsksFor (codes "reorder" ∷ codes "q" ∷ codes "e" ∷ codes "t" ∷ codes "--order=walk" ∷ codes "5" ∷ codes "--compact-every" ∷ codes "9" ∷ []) (Reorder (codes "q") (codes "e") (codes "t") 5 Walk (Some 9) 1099511627776)
 unfolding clap_on_literals

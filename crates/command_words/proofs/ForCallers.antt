@@ -3,7 +3,7 @@ use Rattle.std.proofs.Common.{◌≡◌, ◌∙◌, ◌⊎◌, ℕ, List, Option
 use Rattle.std.specs.Prelude.{unwrap_or}
 use Rattle.answer_text.specs.declared.Order.{Order}
 use Rattle.clap.specs.Words.{Row, Text, subcommand_of}
-use Rattle.command_words.specs.CommandLine.{AskNothing, AsksFor, command_at, command_of, is_taken, explain_in, order_in, reorder_with, run_with, sample_in}
+use Rattle.command_words.specs.CommandLine.{AskNothing, AsksFor, command_at, command_of, is_taken, explain_in, order_in, reorder_with, run_with, sample_in, session_in}
 use Rattle.command_words.specs.Program.{program}
 use Rattle.command_words.specs.declared.Command.{Command}
 use Rattle.command_words.proofs.Taken.{taken_is_found}
@@ -42,6 +42,7 @@ nothing_is_refused words nothing = go (is_taken words) refl
     go true taken = elim (taken_is_found words taken) [
       | inl run ↦ inr (inl (run_refused words run.0 (order_in run.0) nothing taken run.1 refl))
       | inr (inl sample) ↦ absurd (nothing (sample_in sample.0) (asked_is words taken ∙ rw sample.1 refl))
-      | inr (inr (inl late)) ↦ inr (inr (reorder_refused words late.0 (order_in late.0) nothing taken late.1 refl))
-      | inr (inr (inr question)) ↦ absurd (nothing (explain_in question.0) (asked_is words taken ∙ rw question.1 refl))
+      | inr (inr (inl script)) ↦ absurd (nothing (session_in script.0) (asked_is words taken ∙ rw script.1 refl))
+      | inr (inr (inr (inl late))) ↦ inr (inr (reorder_refused words late.0 (order_in late.0) nothing taken late.1 refl))
+      | inr (inr (inr (inr question))) ↦ absurd (nothing (explain_in question.0) (asked_is words taken ∙ rw question.1 refl))
     ]

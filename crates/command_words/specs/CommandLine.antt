@@ -10,7 +10,7 @@ use Rattle.clap.specs.Words.{Kinds, Row, Text, all_of, fault_of, first_of, one_o
 use Rattle.answer_text.specs.declared.Order.{Order}
 use Rattle.answer_text.specs.declared.Order.TheVariants.{Walk, Sorted}
 use Rattle.command_words.specs.declared.Command.{Command}
-use Rattle.command_words.specs.declared.Command.TheVariants.{Run, Sample, Reorder, Explain}
+use Rattle.command_words.specs.declared.Command.TheVariants.{Run, Sample, Session, Reorder, Explain}
 use Rattle.command_words.specs.Program.{program}
 
 -- the name under an id
@@ -54,6 +54,10 @@ run_in rows = option_map (run_with rows) (order_in rows)
 abbrev pub sample_in : List Row → Command
 sample_in rows = Sample (number_in 0 (codes "seed") rows) (number_in 0 (codes "count") rows)
 
+-- what was found behind `session`, as a session
+abbrev pub session_in : List Row → Command
+session_in rows = Session (text_in (codes "queries") rows) (text_in (codes "script") rows)
+
 abbrev pub reorder_with : List Row → Order → Command
 reorder_with rows order = Reorder (text_in (codes "queries") rows) (text_in (codes "events") rows)
     (text_in (codes "clock") rows) (number_in 0 (codes "late") rows) order
@@ -72,8 +76,9 @@ explain_in rows = Explain (text_in (codes "queries") rows) (text_in (codes "even
 abbrev pub command_named : Text → List Row → Option Command
 command_named name rows = if bytes_eq name (codes "run") then run_in rows
     else (if bytes_eq name (codes "sample") then Some (sample_in rows)
+    else (if bytes_eq name (codes "session") then Some (session_in rows)
     else (if bytes_eq name (codes "reorder") then reorder_in rows
-    else (if bytes_eq name (codes "explain") then Some (explain_in rows) else None)))
+    else (if bytes_eq name (codes "explain") then Some (explain_in rows) else None))))
 
 -- the command of a subcommand and what was found after it
 abbrev pub command_at : Option (Text × List Row) → Option Command

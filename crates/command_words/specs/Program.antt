@@ -60,6 +60,11 @@ sample = with_rule (with_rule (new_app (codes "sample"))
     (whole (name (codes "seed"))))
     (numbered 0 10000000 (name (codes "count")))
 
+-- session QUERIES SCRIPT
+abbrev pub session : App
+session = with_rule (with_rule (new_app (codes "session")) (name (codes "queries")))
+    (name (codes "script"))
+
 -- explain QUERIES EVENTS QUERY START END [POSITION]...
 abbrev pub explain : App
 explain = with_rule (with_rule (with_rule (with_rule (over_files (codes "explain"))
@@ -78,6 +83,6 @@ bare top = record top {
 }
 
 abbrev pub program : App
-program = with_subcommand (with_subcommand (with_subcommand (with_subcommand
+program = with_subcommand (with_subcommand (with_subcommand (with_subcommand (with_subcommand
     (record { top = bare (new_app (codes "core_cli")).top; subs = [] }) run.top) sample.top)
-    reorder.top) explain.top
+    session.top) reorder.top) explain.top

@@ -1,5 +1,5 @@
 //! What the words after the program's name ask for: a run over two files, the same over late events,
-//! a sample, or why a complex event is an answer.
+//! a session, a sample, or why a complex event is an answer.
 //!
 //! Promised: the answer is `clap`'s own reading of the program's command, which `specs/Program` and
 //! `specs/CommandLine` write out, and `Usage` where the words ask for nothing by it. By the laws in
@@ -38,6 +38,12 @@ pub enum Command {
     Sample {
         seed: u64,
         count: u64,
+    },
+    /// The commands of one file, among which events come and cursors are opened, on the queries of
+    /// another.
+    Session {
+        queries: Text,
+        script: Text,
     },
     /// The answers to the queries of one file over the events of another, which come late.
     Reorder {

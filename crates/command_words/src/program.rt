@@ -4,7 +4,7 @@ ghost use Rattle.clap.specs.Words.{app_of, kind_of, rule_of, subcommand_of, subc
 ghost use Rattle.cer_base.specs.Answers.{OnFault};
 ghost use Rattle.cer_base.specs.declared.OrMemory.TheVariants.{Memory};
 ghost use Rattle.command_words.specs.CommandLine.{is_taken};
-ghost use Rattle.command_words.specs.Program.{compact_every, explain, late, most_bytes, name, option, over_files, program, reorder, repeated, run, sample, whole, with_run_options};
+ghost use Rattle.command_words.specs.Program.{compact_every, explain, late, most_bytes, name, option, over_files, program, reorder, repeated, run, sample, session, whole, with_run_options};
 
 use crate::Usage;
 use cer_base::OrMemory;
@@ -149,6 +149,17 @@ fn sample<'a>(alloc: Global) -> Result<clap::Command<'a>, AllocError>
     clap::Command::new(alloc, "sample").arg(seed)?.arg(count)
 }
 
+/// `session QUERIES SCRIPT`
+fn session<'a>(alloc: Global) -> Result<clap::Command<'a>, AllocError>
+    ensures { IfOk result (λ c. app_of c ≡ session) }
+{
+    let queries = name(alloc, "queries");
+    let script = name(alloc, "script");
+    clap::Command::new(alloc, "session")
+        .arg(queries)?
+        .arg(script)
+}
+
 /// `explain QUERIES EVENTS QUERY START END [POSITION]...`
 fn explain<'a>(alloc: Global) -> Result<clap::Command<'a>, AllocError>
     ensures { IfOk result (λ c. app_of c ≡ explain) }
@@ -170,6 +181,7 @@ fn program<'a>(alloc: Global) -> Result<clap::Command<'a>, AllocError>
 {
     let run = run(alloc)?;
     let sample = sample(alloc)?;
+    let session = session(alloc)?;
     let reorder = reorder(alloc)?;
     let explain = explain(alloc)?;
     clap::Command::new(alloc, "core_cli")
@@ -180,6 +192,7 @@ fn program<'a>(alloc: Global) -> Result<clap::Command<'a>, AllocError>
         .subcommand_required(true)
         .subcommand(run)?
         .subcommand(sample)?
+        .subcommand(session)?
         .subcommand(reorder)?
         .subcommand(explain)
 }

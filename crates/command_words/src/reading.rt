@@ -4,7 +4,7 @@ ghost use Rattle.std.specs.List.{cons_option, filter_map};
 ghost use Rattle.clap.specs.Words.{found_of, rows_of, subcommand_rows_of};
 ghost use Rattle.cer_base.specs.Answers.{OnFault};
 ghost use Rattle.command_words.specs.CommandLine.{command_at, number_at, number_in, number_of, numbers_in};
-ghost use Rattle.command_words.specs.CommandLine.{explain_in, order_in, order_of, reorder_in, run_in, sample_in, text_in};
+ghost use Rattle.command_words.specs.CommandLine.{explain_in, order_in, order_of, reorder_in, run_in, sample_in, session_in, text_in};
 
 use crate::{Command, Usage};
 use answer_text::Order;
@@ -30,6 +30,9 @@ pub(crate) fn command_in(
     }
     if name == "sample" {
         return Ok(sample_in(found));
+    }
+    if name == "session" {
+        return session_in(alloc, found);
     }
     if name == "reorder" {
         return reorder_in(alloc, found);
@@ -68,6 +71,17 @@ fn sample_in(matches: &ArgMatches<'_>) -> Command
     let seed = number_in(matches, "seed", 0);
     let count = number_in(matches, "count", 0);
     Command::Sample { seed, count }
+}
+
+/// What was found after `session`.
+fn session_in(alloc: Global, matches: &ArgMatches<'_>) -> Result<Command, OrMemory<Usage>>
+    ensures read { IfOk result (λ c. c ≡ session_in (rows_of (found_of matches.now))) }
+    ensures none { OnFault result (λ u. ⊥) }
+{
+    Ok(Command::Session {
+        queries: text_in(alloc, matches, "queries")?,
+        script: text_in(alloc, matches, "script")?,
+    })
 }
 
 /// What was found after `reorder`.

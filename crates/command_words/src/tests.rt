@@ -96,7 +96,7 @@ const RUNS: [(&str, &str); 59] = [
 ];
 
 /// The same of other words: too few or too many, questions, and what the program does not have.
-const OTHERS: [(&str, &str); 38] = [
+const OTHERS: [(&str, &str); 46] = [
     // too few names, too many, and names of no command
     ("run", "usage"),
     ("run q", "usage"),
@@ -124,6 +124,15 @@ const OTHERS: [(&str, &str); 38] = [
     ("explain q e 1 1 3 3 x", "usage"),
     ("explain q e 1 1 3 -3", "usage"),
     ("explain q e 1 1 3 --order walk", "usage"),
+    // a session: two names, and no option
+    ("session q s", "session q s"),
+    ("session - -", "session - -"),
+    ("session -- -q -s", "session -q -s"),
+    ("session q", "usage"),
+    ("session q s x", "usage"),
+    ("session q s --order walk", "usage"),
+    ("session q s --max-bytes 5", "usage"),
+    ("session -q s", "usage"),
     // late events: a clock's name, a bound from 0 to 2^63 - 1, and the options of a run
     ("reorder q e t 5", "reorder q e t 5 Sorted 1099511627776"),
     (
@@ -204,6 +213,9 @@ fn shown(alloc: Global, asked: Result<Command, OrMemory<Usage>>) -> Result<Strin
             }
         }
         Ok(Command::Sample { seed, count }) => format!(in alloc; "sample {seed} {count}")?,
+        Ok(Command::Session { queries, script }) => {
+            format!(in alloc; "session {} {}", queries.as_str(), script.as_str())?
+        }
         Ok(
             Command::Explain {
                 queries,

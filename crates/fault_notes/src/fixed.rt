@@ -9,7 +9,7 @@ use crate::File;
 pub fn usage_note() -> &'static [u8]
     ensures { result.now ≡ usage_note }
 {
-    b"core: usage: core_cli run QUERIES EVENTS [--order walk|sorted] [--compact-every N] [--max-bytes N], core_cli sample SEED COUNT, core_cli reorder QUERIES EVENTS CLOCK LATE [--order walk|sorted] [--compact-every N] [--max-bytes N], core_cli explain QUERIES EVENTS QUERY START END [POSITION]...\n"
+    b"core: usage: core_cli run QUERIES EVENTS [--order walk|sorted] [--compact-every N] [--max-bytes N], core_cli sample SEED COUNT, core_cli session QUERIES SCRIPT, core_cli reorder QUERIES EVENTS CLOCK LATE [--order walk|sorted] [--compact-every N] [--max-bytes N], core_cli explain QUERIES EVENTS QUERY START END [POSITION]...\n"
 }
 
 /// The note on a file that could not be opened.

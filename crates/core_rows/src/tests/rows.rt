@@ -13,7 +13,7 @@ const RUN: &str = "run q e";
 
 /// The note `usage` of a table.
 const USAGE: &str =
-    "usage: core_cli run QUERIES EVENTS [--order walk|sorted] [--compact-every N] [--max-bytes N], core_cli sample SEED COUNT, core_cli reorder QUERIES EVENTS CLOCK LATE [--order walk|sorted] [--compact-every N] [--max-bytes N], core_cli explain QUERIES EVENTS QUERY START END [POSITION]...";
+    "usage: core_cli run QUERIES EVENTS [--order walk|sorted] [--compact-every N] [--max-bytes N], core_cli sample SEED COUNT, core_cli session QUERIES SCRIPT, core_cli reorder QUERIES EVENTS CLOCK LATE [--order walk|sorted] [--compact-every N] [--max-bytes N], core_cli explain QUERIES EVENTS QUERY START END [POSITION]...";
 
 /// What a row says: the words, the lines after the query text's first ones, the formula of a query
 /// that marks all, the lines of the event file, the status, the lines of the output, and the note.

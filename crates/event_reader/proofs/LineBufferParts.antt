@@ -1,5 +1,7 @@
 -- The parts of a window's buffer.
-use Rattle.std.proofs.Common.{◌≡◌, ℕ, ◌+◌, ◌-◌, ◌<◌, ◌≤◌, ◌==◌, List, [], ◌∷◌, ◌++◌, length, take, drop, get_or, Bool, true, false, Option, Some, None, Ok, refl, sym, ◌∙◌, ap, arith, append_assoc, suc, zero, eq-eqb}
+use Rattle.std.proofs.Common.{◌≡◌, ℕ, ◌+◌, ◌-◌, ◌<◌, ◌≤◌, ◌==◌, List, [], ◌∷◌, ◌++◌, length, take, drop, get_or, Bool, true, false, Option, Some, None, Ok, refl, sym, subst, ◌∙◌, ap, arith, inl, inr, append_assoc, suc, zero, eq-eqb}
+use Rattle.std.specs.Prelude.{nat_lt}
+use Rattle.std.proofs.lemmas.Bool.{cases_Bool, ltb-true, ltb-false}
 use Rattle.std.proofs.lemmas.Bool.Decides.{nat_tests}
 use Rattle.std.proofs.lemmas.List.{length-drop, length-take, take-take, drop-take, drop-drop, get_or-take, get_or-drop, take_all, take-append-le}
 use Rattle.std.proofs.Math.Seq.{take-add, take-append-add}
@@ -7,7 +9,7 @@ use Rattle.std.proofs.lemmas.List.Folds.{list_any-append, list_any_none, list_an
 use Rattle.std.specs.List.{list_any}
 use Rattle.cer_outside.specs.Bytes.{Reads, ReadsOn}
 use Rattle.std.proofs.lemmas.Grind.{get_or_default_zero}
-use Rattle.memchr.specs.Find.{NoneBefore, Nowhere, Passes, is_byte}
+use Rattle.memchr.specs.Find.{IsFirstByte, NoneBefore, Nowhere, Passes, is_byte}
 use Rattle.cer_outside.specs.Bytes.{ReadsOn}
 use Rattle.event_reader.specs.Lines.{has_line_feed}
 use Rattle.event_reader.specs.LineBuffers.{Held, bytes_between, IsLineBuffer, IsFirstLineFeed, IsShort}
@@ -186,3 +188,38 @@ new_front old part last more long len n a b h =
 -- a line feed that was found is there
 pub feed_there : (place : ℕ) (bytes : List ℕ) → IsFirstLineFeed place bytes → has_line_feed bytes ≡ true
 feed_there place bytes found = list_any_at (λ b. b == 10) bytes place 0 found.within (eq-eqb (get_or bytes place 0) 10 found.feed)
+
+further : (xs : List ℕ) (i k : ℕ) → get_or (drop i xs) k 0 ≡ get_or xs (i + k) 0
+further xs i k = get_or-drop i xs k 0
+
+-- none among the first and none of the rest up to a place is none up to there
+nowhere_further : (xs : List ℕ) (i place : ℕ) → Nowhere (Passes (is_byte 10) xs) 0 i → Nowhere (Passes (is_byte 10) (drop i xs)) 0 place → Nowhere (Passes (is_byte 10) xs) 0 (i + place)
+nowhere_further xs i place near far k low high p = elim (cases_Bool (nat_lt k i)) [
+  | inl less ↦ near k low (ltb-true k i less) p
+  | inr more ↦ let after : i ≤ k = ltb-false k i more in
+      far (k - i) (omega arith) (omega arith)
+      (ap (λ b. b == 10) (further xs i (k - i) ∙ ap (λ j. get_or xs j 0) (let e : i + (k - i) ≡ k = omega arith in e)) ∙ p)
+]
+
+rest_is : (xs : List ℕ) (i : ℕ) → take (length xs - i) (drop i xs) ≡ drop i xs
+rest_is xs i = take_all (length xs - i) (drop i xs) (let l = length-drop i xs in omega arith)
+
+-- one that is found in the rest is the first of all, where none is among those before
+pub found_further : (xs : List ℕ) (i place : ℕ) → i ≤ length xs → Nowhere (Passes (is_byte 10) xs) 0 i → IsFirstByte (is_byte 10) (take (length xs - i) (drop i xs)) (Some place) → IsFirstByte (is_byte 10) xs (Some (i + place))
+found_further xs i place within near found =
+    let far = subst (λ ys. IsFirstByte (is_byte 10) ys (Some place)) (rest_is xs i) found in
+    let l : length (drop i xs) ≡ length xs - i = length-drop i xs in (
+      record {
+        low = omega arith;
+        high = omega (arith, far.0.high);
+        before = nowhere_further xs i place near far.0.before;
+      },
+      ap (λ b. b == 10) (sym (further xs i place)) ∙ far.1,
+    )
+
+-- and none in the rest is none at all
+pub none_further : (xs : List ℕ) (i : ℕ) → i ≤ length xs → Nowhere (Passes (is_byte 10) xs) 0 i → IsFirstByte (is_byte 10) (take (length xs - i) (drop i xs)) None → IsFirstByte (is_byte 10) xs None
+none_further xs i within near none k low high p =
+    let far = subst (λ ys. IsFirstByte (is_byte 10) ys None) (rest_is xs i) none in
+    let l : length (drop i xs) ≡ length xs - i = length-drop i xs in
+    nowhere_further xs i (length (drop i xs)) near far k low (omega arith) p

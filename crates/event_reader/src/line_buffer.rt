@@ -3,6 +3,7 @@
 ghost use Rattle.std.specs.Prelude.{◌≡◌, ◌+◌, ◌-◌, ◌<◌, ◌≤◌, ℕ, List, [], true, false, length, take, drop, vec_len, IfOk, IfErr, OnErr, MatchOption};
 ghost use Rattle.cer_outside.specs.Bytes.{ReadsOn, IsAtEnd};
 ghost use Rattle.cer_outside.specs.Causes.{HasCause};
+ghost use Rattle.memchr.specs.Find.{IsFirstByte, is_byte};
 ghost use Rattle.event_reader.specs.Lines.{has_line_feed, begins_with_end};
 ghost use Rattle.event_reader.specs.LineBuffers.{bytes_between, IsFirstLineFeed, IsShort, IsStop};
 
@@ -16,6 +17,9 @@ use std::marker::Model;
 
 /// How many bytes the buffer has room for. A line that is too long is seen before it is full.
 const CAPACITY: usize = 131_072;
+
+/// How many bytes of a line are looked at one by one, before a search for long texts goes on.
+const NEAR: usize = 32;
 
 /// Why reading stopped.
 #[derive(Debug, Clone, Copy, PartialEq, Eq)]
@@ -121,7 +125,7 @@ impl LineBuffer {
         ensures found { MatchOption result (has_line_feed self.old.pending ≡ false)
             (λ place. IsFirstLineFeed place self.old.pending) }
     {
-        match memchr(LINE_FEED, &self.buffer.as_slice()[self.searched..self.to]) {
+        match line_feed_in(&self.buffer.as_slice()[self.searched..self.to]) {
             Some(place) => {
                 self.searched += place;
                 Some(self.searched - self.from)
@@ -213,6 +217,26 @@ impl LineBuffer {
             }
         }
     }
+}
+
+/// The place of the first line feed. Most lines are short, so the first bytes are looked at one by
+/// one.
+#[inline(always)]
+fn line_feed_in(bytes: &[u8]) -> Option<usize>
+    ensures { IsFirstByte (is_byte LINE_FEED) bytes.now result }
+{
+    for (i, byte) in bytes.iter().enumerate() {
+        if i == NEAR {
+            return match memchr(LINE_FEED, &bytes[i..]) {
+                Some(place) => Some(i + place),
+                None => None,
+            };
+        }
+        if *byte == LINE_FEED {
+            return Some(i);
+        }
+    }
+    None
 }
 
 /// A buffer of so many bytes.

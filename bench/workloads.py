@@ -42,23 +42,27 @@ SELECT B, C FROM S WHERE (A+ ; B) KEEP [B] ; C FILTER B[v < 40] AND C[v < 40] WI
     return DECLARED + queries, plain_events(dice, count)
 
 
-def queries(dice, count):
-    """Sixty-four queries of eight forms over eight types, none with many answers."""
-    types = "ABCDEFGH"
-    forms = [
-        "SELECT * FROM S WHERE {0} ; {1} FILTER {0}[v < {n}] AND {1}[v < {n}] WITHIN 100 EVENTS",
-        "SELECT * FROM S WHERE {0} : {1} FILTER {0}[v < {n}] AND {1}[v >= {n}] WITHIN 100 EVENTS",
-        "SELECT {1} FROM S WHERE {0}+ ; {1} FILTER {0}[v < {n}] AND {1}[v < {n}] WITHIN 40 EVENTS",
-        "SELECT * FROM S WHERE ({0} OR {1}) ; {2} FILTER {0}[v < {n}] AND {1}[v < {n}] AND {2}[v < {n}] WITHIN 60 EVENTS",
-        "SELECT * FROM S WHERE {0} ; {1} ; {2} FILTER {0}[v < {n}] AND {1}[v < {n}] AND {2}[v < {n}] WITHIN 200 EVENTS",
-        "SELECT STRICT * FROM S WHERE {0} ; {1} FILTER {0}[v < {n}] WITHIN 10 EVENTS",
-        "SELECT {0} FROM S WHERE {0} AS x ; {1} FILTER x[v = {n}] AND {1}[v != {n}] WITHIN 5 EVENTS",
-        "SELECT * FROM S WHERE {0} :+ : {1} FILTER {0}[v < {n}] AND {1}[v < {n}] WITHIN 20 EVENTS",
-    ]
-    text = "".join(f"DECLARE EVENT {it}(v INT)\n" for it in types) + f"DECLARE STREAM S({', '.join(types)})\n"
-    for k in range(64):
-        text += forms[k % 8].format(*dice.sample(types, 3), n=dice.randint(20, 60)) + "\n"
-    return text, plain_events(dice, count, types)
+def many(number):
+    """So many queries of eight forms over eight types, none with many answers."""
+
+    def made(dice, count):
+        types = "ABCDEFGH"
+        forms = [
+            "SELECT * FROM S WHERE {0} ; {1} FILTER {0}[v < {n}] AND {1}[v < {n}] WITHIN 100 EVENTS",
+            "SELECT * FROM S WHERE {0} : {1} FILTER {0}[v < {n}] AND {1}[v >= {n}] WITHIN 100 EVENTS",
+            "SELECT {1} FROM S WHERE {0}+ ; {1} FILTER {0}[v < {n}] AND {1}[v < {n}] WITHIN 40 EVENTS",
+            "SELECT * FROM S WHERE ({0} OR {1}) ; {2} FILTER {0}[v < {n}] AND {1}[v < {n}] AND {2}[v < {n}] WITHIN 60 EVENTS",
+            "SELECT * FROM S WHERE {0} ; {1} ; {2} FILTER {0}[v < {n}] AND {1}[v < {n}] AND {2}[v < {n}] WITHIN 200 EVENTS",
+            "SELECT STRICT * FROM S WHERE {0} ; {1} FILTER {0}[v < {n}] WITHIN 10 EVENTS",
+            "SELECT {0} FROM S WHERE {0} AS x ; {1} FILTER x[v = {n}] AND {1}[v != {n}] WITHIN 5 EVENTS",
+            "SELECT * FROM S WHERE {0} :+ : {1} FILTER {0}[v < {n}] AND {1}[v < {n}] WITHIN 20 EVENTS",
+        ]
+        text = "".join(f"DECLARE EVENT {it}(v INT)\n" for it in types) + f"DECLARE STREAM S({', '.join(types)})\n"
+        for k in range(number):
+            text += forms[k % 8].format(*dice.sample(types, 3), n=dice.randint(20, 60)) + "\n"
+        return text, plain_events(dice, count, types)
+
+    return made
 
 
 def answers(dice, count):
@@ -91,7 +95,7 @@ ALL = {
     "window-10000": window(10000),
     "window-100000": window(100000),
     "iteration": iteration,
-    "queries": queries,
+    "queries": many(64),
     "answers": answers,
     "partitions": partitions,
 }

@@ -32,7 +32,7 @@ use Rattle.match_explain.specs.Bindings.{bindings_of}
 use Rattle.match_explain.specs.Spans.{MayBe}
 use Rattle.match_explain.specs.Searching.{AreTurnsOf, IsRun, HasNoRun}
 use Rattle.match_explain.proofs.Beginning.{begins}
-use Rattle.match_explain.proofs.Finishing.{IsMarkedTurn, walk_of, marked_from, marked_to}
+use Rattle.match_explain.proofs.MarkedTurns.{IsMarkedTurn, walk_of, marked_from, marked_to}
 use Rattle.match_explain.proofs.Copied.{expand_names}
 use Rattle.match_explain.proofs.Unselected.{kept, names_kept, formula_means}
 use Rattle.match_explain.proofs.Bound.{some_from, some_to, bound_from, bound_to, names_are, bindings_are, walk_ascends}

@@ -3,7 +3,7 @@ pub mod Following
 -- where a query has an answer the search can begin
 pub mod Beginning
 -- the steps that finish a search are those of a walk through the automaton, with the marks of the turns
-pub mod Finishing
+pub mod MarkedTurns
 -- positions that ascend, and which they list
 pub mod Ascending
 -- a run explains the complex event, and where there is none the event is no answer

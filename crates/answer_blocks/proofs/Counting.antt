@@ -371,6 +371,10 @@ text_failed front back rest first mid last k n cost less p q =
     let d = delays_both back rest in
     omega arith
 
+-- likewise with a query that takes no step
+pub text_grows : (rows : List Row) (first last k : ℕ) (cost : ℕ → ℕ) → last ≤ first + for_each_query k cost + row_delays rows → last ≤ first + for_each_query (k + 1) cost + row_delays rows
+text_grows rows first last k cost p = let more = fewer_queries k 1 cost in omega arith
+
 -- all blocks are there
 pub text_done : (now start : List ℕ) (rows : List Row) (first last k n : ℕ) (cost : ℕ → ℕ) → k ≤ n → (now ≡ start ++ lines_of rows) × (last ≤ first + for_each_query k cost + row_delays rows) →
     (now ≡ start ++ lines_of rows) × (last ≤ first + for_each_query n cost + row_delays rows)

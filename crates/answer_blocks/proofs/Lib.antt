@@ -10,3 +10,5 @@ pub mod Writing
 pub mod Texts
 -- rows one after another, and what they cost; for callers
 pub mod Counting
+-- queries that have no answer
+mod Skipped

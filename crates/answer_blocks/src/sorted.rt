@@ -100,8 +100,9 @@ fn push_each<L: Ledger>(
         × (steps.new ≤ steps.old + cursor_bounds engine.now + row_delays rows)) }
     ensures kept { StartsWith text.old.items text.new.items }
 {
-    for k in 0..engine.queries() {
-        push_block(alloc, engine, k + 1, text, steps)?;
+    let numbers = engine.answering();
+    for number in numbers {
+        push_block(alloc, engine, *number, text, steps)?;
     }
     Ok(())
 }

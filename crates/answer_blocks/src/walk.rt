@@ -114,8 +114,9 @@ pub fn write_blocks<K: Sink, L: Ledger>(
         (steps.old + cursor_bounds engine.now) steps.new result) }
     ensures cause { HasCauseOrMemory (K.faults out.old) (K.faults out.new) result }
 {
-    for k in 0..engine.queries() {
-        write_block(engine, k + 1, out, buffer, steps)?;
+    let numbers = engine.answering();
+    for number in numbers {
+        write_block(engine, *number, out, buffer, steps)?;
     }
     Ok(())
 }

@@ -123,6 +123,7 @@ fn group_of(groups: &[Vec<usize>], ty: TypeId) -> Option<&Vec<usize>>
 }
 
 /// Whether the tests of the leaf of this number hold of the event.
+#[inline(always)]
 fn holds_at(list: &[Leaf], ranges: &[Range], number: usize, event: &Event) -> bool
     requires inside { number < length list.now }
     requires ranges { AreRangesOf list.now ranges.now }

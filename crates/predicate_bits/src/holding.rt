@@ -137,6 +137,7 @@ fn all_hold_joined(tests: &[Test], event: &Event) -> bool
 
 /// Whether each of the tests holds of the event. Most are comparisons, or join some: these are tested
 /// without a call of the recursion.
+#[inline(never)]
 pub fn each_holds(tests: &[Test], event: &Event) -> bool
     ensures { result ≡ each_holds tests.now event.now }
 {

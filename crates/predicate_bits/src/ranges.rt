@@ -167,6 +167,7 @@ pub fn ranges_of(alloc: Global, list: &[Leaf]) -> Result<Vec<Range>, Memory>
 
 /// Whether the event may have a number that is asked for: where it has a whole number there, whether
 /// that is in the range.
+#[inline(always)]
 pub fn may_hold(range: &Range, event: &Event) -> bool
     ensures { (holds : EventData → Bool) → AsksFor range.now holds → result ≡ false
         → holds event.now ≡ false }

@@ -73,7 +73,7 @@ woken_running schema count parts peaks k = record {
   peaks_are = k.peaks_are ∙ sym (length_map (woken count) parts);
 }
 
-woken_queries : (count : ℕ) (parts : List Phase) → map (λ (p : Phase). p.query) (map (woken count) parts) ≡ map (λ (p : Phase). p.query) (map (seen count) parts)
+pub woken_queries : (count : ℕ) (parts : List Phase) → map (λ (p : Phase). p.query) (map (woken count) parts) ≡ map (λ (p : Phase). p.query) (map (seen count) parts)
 woken_queries count [] = refl
 woken_queries count (p ∷ parts) = ap (λ qs. p.query ∷ qs) (woken_queries count parts)
 

@@ -5,7 +5,7 @@ ghost use Rattle.stream_schema.specs.Events.{IsOfSchema};
 ghost use Rattle.stream_schema.specs.declared.Event.{Event as EventData};
 ghost use Rattle.all_or_none.specs.Phases.{IsIdle, StandsAt, InTime};
 ghost use Rattle.query_part.specs.Parts.{seen};
-ghost use Rattle.query_engine.specs.Running.{IsFirstPart};
+ghost use Rattle.query_engine.specs.Running.{HasNoClock, AreNamed, IsFirstPart};
 
 use cer_base::Pos;
 use query_part::Part;
@@ -20,8 +20,10 @@ pub struct FallOf {
     pub now: i128,
 }
 
-/// The first of the parts whose clock would fall with the event as the next one.
-pub fn first_fall(parts: &[Part], event: &Event, position: Pos) -> Option<FallOf>
+/// The first of the parts whose clock would fall with the event as the next one. Only those of these
+/// numbers are looked at: the clock of any other is the position, which never falls.
+pub fn first_fall(parts: &[Part], timed: &[u64], event: &Event, position: Pos) -> Option<FallOf>
+    requires timed { AreNamed (λ p. HasNoClock p.query) (length parts.now) parts.now timed.now }
     requires of_schema { All (λ p. IsOfSchema p.schema event.now) parts.now }
     requires idle { All IsIdle parts.now }
     ensures falls { IfSome result (λ f. (events : List EventData) → length events ≡ position
@@ -31,10 +33,10 @@ pub fn first_fall(parts: &[Part], event: &Event, position: Pos) -> Option<FallOf
         → All (StandsAt events) (map (seen position) parts.now)
         → All (InTime events event.now) (map (seen position) parts.now)) }
 {
-    for k in 0..parts.len() {
-        if let Some(fall) = parts[k].test(event, position) {
+    for number in timed {
+        if let Some(fall) = parts[*number as usize - 1].test(event, position) {
             return Some(FallOf {
-                query: k as u64 + 1,
+                query: *number,
                 before: fall.before,
                 now: fall.now,
             });

@@ -1,29 +1,60 @@
-use Rattle.std.proofs.Common.{◌<◌, rules, All, map, length, subst, sym, arith}
+use Rattle.std.proofs.Common.{◌-◌, ◌<◌, rules, map, length, subst, sym, refl, false, slice_index_or}
 use Rattle.std.specs.Int.{w128}
 use mir.Val.{SFits}
+use Rattle.std.proofs.lemmas.Bool.{false≢true}
 use Rattle.std.proofs.lemmas.Int.{to_z-of_z}
-use Rattle.all_or_none.specs.Phases.{StandsAt, InTime}
+use Rattle.std.proofs.lemmas.List.{take_all}
+use Rattle.stream_schema.specs.Events.{IsOfSchema}
+use Rattle.all_or_none.specs.Phases.{Phase, IsIdle, StandsAt}
 use Rattle.query_part.specs.Parts.{seen}
-use Rattle.query_engine.proofs.Standing.{length_map}
-use Rattle.query_engine.proofs.Keeping.{seen_there}
-use Rattle.query_engine.proofs.FirstPart.{take_next, take_all, first_part}
+use Rattle.query_engine.proofs.Standing.{all_at}
+use Rattle.query_engine.proofs.Named.{number_from_one, number_in_parts, seen_at, in_time_next, falls_first_of, all_in_time}
 use Rattle.query_engine.proofs.falls.first_fall.Goals as goal
 
-pub loop-k-preserved : goal.loop-k-preserved
-loop-k-preserved c events count stands =
-    let at = seen_there c.args.position c.args.parts.now c.loop-k.k c.index-parts-k.result c.loop-k-test.true c.index-parts-k.is in
-    let inside : c.loop-k.k < length (map (seen c.args.position) c.args.parts.now) = (let l = length_map (seen c.args.position) c.args.parts.now in let t = c.loop-k-test.true in omega arith) in
-    let here : StandsAt events (seen c.args.position c.index-parts-k.result) = subst (StandsAt events) (sym at) (stands c.loop-k.k (seen c.args.position c.index-parts-k.result) inside) in
-    take_next (InTime events c.args.event.now) (map (seen c.args.position) c.args.parts.now) c.loop-k.k (seen c.args.position c.index-parts-k.result) inside (c.loop-k.invariant events count stands) (subst (InTime events c.args.event.now) at (c.in_default.ensures.in_time events count here))
+pub loop-number-init : goal.loop-number-init
+loop-number-init c events count stands k p at among = absurd (false≢true among)
+
+pub overflow_sub-number : goal.overflow_sub-number
+overflow_sub-number c = number_from_one c.args.position c.args.event.now c.args.parts.now c.args.timed.now c.requires.timed c.loop-number.number-index (slice_index_or c.args.timed.now c.loop-number.number-index 0) c.loop-number-test.true refl
+
+pub bounds-parts-number : goal.bounds-parts-number
+bounds-parts-number c = number_in_parts c.args.position c.args.event.now c.args.parts.now c.args.timed.now c.requires.timed c.loop-number.number-index (slice_index_or c.args.timed.now c.loop-number.number-index 0) c.loop-number-test.true refl
+
+pub offset_bounds-parts-number : goal.offset_bounds-parts-number
+offset_bounds-parts-number c =
+    let inside : slice_index_or c.args.timed.now c.loop-number.number-index 0 - 1 < length c.args.parts.now = number_in_parts c.args.position c.args.event.now c.args.parts.now c.args.timed.now c.requires.timed c.loop-number.number-index (slice_index_or c.args.timed.now c.loop-number.number-index 0) c.loop-number-test.true refl in
+    search rules
+
+pub test-requires-clause-of_schema : goal.test-requires-clause-of_schema
+test-requires-clause-of_schema c =
+    let n = slice_index_or c.args.timed.now c.loop-number.number-index 0 in
+    let p = c.index-parts-number.result in
+    subst (λ (x : Phase). IsOfSchema x.schema c.args.event.now) (sym c.index-parts-number.is) (c.requires.of_schema (n - 1) p (number_in_parts c.args.position c.args.event.now c.args.parts.now c.args.timed.now c.requires.timed c.loop-number.number-index n c.loop-number-test.true refl))
+
+pub test-requires-clause-idle : goal.test-requires-clause-idle
+test-requires-clause-idle c =
+    let n = slice_index_or c.args.timed.now c.loop-number.number-index 0 in
+    let p = c.index-parts-number.result in
+    subst IsIdle (sym c.index-parts-number.is) (c.requires.idle (n - 1) p (number_in_parts c.args.position c.args.event.now c.args.parts.now c.args.timed.now c.requires.timed c.loop-number.number-index n c.loop-number-test.true refl))
+
+pub loop-number-preserved : goal.loop-number-preserved
+loop-number-preserved c events count stands =
+    let n = slice_index_or c.args.timed.now c.loop-number.number-index 0 in
+    let p = c.index-parts-number.result in
+    let at = seen_at c.args.position c.args.event.now c.args.parts.now c.args.timed.now c.requires.timed c.loop-number.number-index n c.loop-number-test.true refl p c.index-parts-number.is in
+    let here : StandsAt events (seen c.args.position p) = all_at (StandsAt events) (map (seen c.args.position) c.args.parts.now) (n - 1) (seen c.args.position p) stands at in
+    in_time_next c.args.position c.args.event.now c.args.parts.now c.args.timed.now c.requires.timed c.loop-number.number-index n c.loop-number-test.true refl events p c.index-parts-number.is (c.loop-number.invariant events count stands) (c.in_default.ensures.in_time events count here)
 
 pub returns-in-Some-clause-falls : goal.returns-in-Some-clause-falls
 returns-in-Some-clause-falls c events count stands =
-    let at = seen_there c.args.position c.args.parts.now c.loop-k.k c.index-parts-k.result c.loop-k-test.true c.index-parts-k.is in
-    let inside : c.loop-k.k < length (map (seen c.args.position) c.args.parts.now) = (let l = length_map (seen c.args.position) c.args.parts.now in let t = c.loop-k-test.true in omega arith) in
-    let here : StandsAt events (seen c.args.position c.index-parts-k.result) = subst (StandsAt events) (sym at) (stands c.loop-k.k (seen c.args.position c.index-parts-k.result) inside) in
+    let n = slice_index_or c.args.timed.now c.loop-number.number-index 0 in
+    let p = c.index-parts-number.result in
+    let at = seen_at c.args.position c.args.event.now c.args.parts.now c.args.timed.now c.requires.timed c.loop-number.number-index n c.loop-number-test.true refl p c.index-parts-number.is in
+    let here : StandsAt events (seen c.args.position p) = all_at (StandsAt events) (map (seen c.args.position) c.args.parts.now) (n - 1) (seen c.args.position p) stands at in
     let before : SFits w128 c.in-Some.fall.before = search rules in
     let now : SFits w128 c.in-Some.fall.now = search rules in
-    simp to_z-of_z (first_part events c.args.event.now (map (seen c.args.position) c.args.parts.now) c.loop-k.k (seen c.args.position c.index-parts-k.result) c.in-Some.fall.before c.in-Some.fall.now inside at (c.loop-k.invariant events count stands) (c.in-Some.ensures.falls events count here))
+    simp to_z-of_z (falls_first_of c.args.position c.args.event.now c.args.parts.now c.args.timed.now c.requires.timed c.loop-number.number-index n c.loop-number-test.true refl events p c.in-Some.fall.before c.in-Some.fall.now c.index-parts-number.is (c.loop-number.invariant events count stands) (c.in-Some.ensures.falls events count here))
 
 pub returns-clause-in_time : goal.returns-clause-in_time
-returns-clause-in_time c events count stands = subst (All (InTime events c.args.event.now)) (take_all (map (seen c.args.position) c.args.parts.now) c.loop-k.k (let l = length_map (seen c.args.position) c.args.parts.now in let t = c.loop-k-test.false in omega arith)) (c.loop-k.invariant events count stands)
+returns-clause-in_time c events count stands =
+    all_in_time c.args.position c.args.event.now c.args.parts.now c.args.timed.now c.requires.timed events c.loop-number.number-index (take_all c.loop-number.number-index c.args.timed.now c.loop-number-test.false) (c.loop-number.invariant events count stands)

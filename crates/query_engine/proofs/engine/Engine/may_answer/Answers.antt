@@ -7,12 +7,12 @@ use Rattle.query_engine.proofs.engine.Engine.may_answer.Goals as goal
 pub may_answer-requires-clause-events : goal.may_answer-requires-clause-events
 may_answer-requires-clause-events c =
     let within : c.args.query - 1 < length c.self.inside.parts.items = number_within c.self.inside.schema c.self.inside.count c.self.inside.parts.items c.self.inside.peaks.items c.args.self.now c.args.query c.self.view_is c.requires.numbered in
-    part_events c.self.inside.schema c.self.inside.count c.self.inside.parts.items c.self.inside.peaks.items (c.args.query - 1) c.index.result.now c.self.invariant within c.index.ensures
+    part_events c.self.inside.schema c.self.inside.count c.self.inside.parts.items c.self.inside.peaks.items (c.args.query - 1) c.index.result.now c.self.invariant.0 within c.index.ensures
 
 pub may_answer-requires-clause-quiet : goal.may_answer-requires-clause-quiet
 may_answer-requires-clause-quiet c =
     let within : c.args.query - 1 < length c.self.inside.parts.items = number_within c.self.inside.schema c.self.inside.count c.self.inside.parts.items c.self.inside.peaks.items c.args.self.now c.args.query c.self.view_is c.requires.numbered in
-    part_quiet c.self.inside.schema c.self.inside.count c.self.inside.parts.items c.self.inside.peaks.items (c.args.query - 1) c.index.result.now c.self.invariant within c.index.ensures
+    part_quiet c.self.inside.schema c.self.inside.count c.self.inside.parts.items c.self.inside.peaks.items (c.args.query - 1) c.index.result.now c.self.invariant.0 within c.index.ensures
 
 pub returns : goal.returns
 returns c =

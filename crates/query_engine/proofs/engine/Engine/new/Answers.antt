@@ -1,6 +1,9 @@
-use Rattle.std.proofs.Common.{◌∙◌, length, refl, ap, subst, All}
+use Rattle.std.proofs.Common.{◌∙◌, List, map, length, refl, ap, subst, All}
 use Rattle.stream_schema.specs.Types.{Declared}
-use Rattle.query_engine.specs.Running.{IsFirst}
+use Rattle.all_or_none.specs.Phases.{Phase}
+use Rattle.query_part.specs.Parts.{seen}
+use Rattle.query_engine.specs.Running.{IsFirst, HasNoClock, AreNamed}
+use Rattle.query_engine.proofs.Named.{noted_first}
 use Rattle.query_engine.proofs.Keeping.{seen_queries}
 use Rattle.query_engine.proofs.Taking.{first_stands, first_keeps, first_peaks}
 use Rattle.query_engine.proofs.engine.Engine.new.Goals as goal
@@ -15,4 +18,11 @@ pub returns-clause-peaks : goal.returns-clause-peaks
 returns-clause-peaks c = first_peaks c.args.schema c.add_parts.new.parts.items c.in_ok-peaks.peaks.items (subst (λ (s : Declared). All (IsFirst s) c.add_parts.new.parts.items) c.in_ok-shared.ensures c.in_ok-add_parts.ensures.first) c.in_ok-peaks.ensures.zero
 
 pub invariant_of-result : goal.invariant_of-result
-invariant_of-result c = first_keeps c.args.schema c.add_parts.new.parts.items c.in_ok-peaks.peaks.items (subst (λ (s : Declared). All (IsFirst s) c.add_parts.new.parts.items) c.in_ok-shared.ensures c.in_ok-add_parts.ensures.first) (c.in_ok-peaks.ensures.count ∙ ap length c.as_slice.ensures.value)
+invariant_of-result c =
+    let first = subst (λ (s : Declared). All (IsFirst s) c.add_parts.new.parts.items) c.in_ok-shared.ensures c.in_ok-add_parts.ensures.first in
+    let parts = c.add_parts.new.parts.items in (
+      first_keeps c.args.schema parts c.in_ok-peaks.peaks.items first (c.in_ok-peaks.ensures.count ∙ ap length c.as_slice.ensures.value),
+      noted_first parts (map (seen 0) parts) (map (λ (p : Phase). p.query) (map (seen 0) parts)) c.in_ok-touched.touched.items c.in_ok-all.all.items c.in_ok-timed.timed.items (seen_queries 0 parts)
+          (subst (λ (ps : List Phase). AreNamed (λ (p : Phase). ⊥) (length ps) ps c.in_ok-all.all.items) c.as_slice-2.ensures.value c.in_ok-all.ensures)
+          (subst (λ (ps : List Phase). AreNamed (λ (p : Phase). HasNoClock p.query) (length ps) ps c.in_ok-timed.timed.items) c.as_slice-3.ensures.value c.in_ok-timed.ensures),
+    )

@@ -16,7 +16,7 @@ next-requires-clause-well_formed g c =
     let place = c.query.ensures ∙ ap (λ (w : CursorState). w.query) (sym c.cursor.view_is) in
     let index = subst (λ k. c.index.result.now ≡ slice_index_or c.self.inside.parts.items (k - 1) c.index.result.now) place c.index.ensures in
     let here = seen_there c.self.inside.count c.self.inside.parts.items (c.cursor.inside.walk.query - 1) c.index.result.now within index in
-    (part_events c.self.inside.schema c.self.inside.count c.self.inside.parts.items c.self.inside.peaks.items (c.cursor.inside.walk.query - 1) c.index.result.now c.self.invariant within index).stands.nodes
+    (part_events c.self.inside.schema c.self.inside.count c.self.inside.parts.items c.self.inside.peaks.items (c.cursor.inside.walk.query - 1) c.index.result.now c.self.invariant.0 within index).stands.nodes
 
 pub next-requires-clause-fits : goal.next-requires-clause-fits
 next-requires-clause-fits g c =

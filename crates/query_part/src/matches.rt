@@ -29,7 +29,7 @@ use cer_base::node::{Root, Stamp};
 use cer_base::steps::Steps;
 use cer_base::store::NodeStore;
 use event_update::still::some_accepts;
-use event_update::{Active, Staged, commit, prepare, roots};
+use event_update::{Active, Stage, Staged, commit, prepare, roots};
 use partition_table::{Key, Keys};
 use std::alloc::Global;
 use std::marker::Model;
@@ -71,6 +71,8 @@ pub struct Matches {
     keys: Keys,
     /// For each key, by its number.
     lists: Vec<Lists>,
+    /// Where the lists of an event are made.
+    stage: Stage,
 }
 
 impl Model for Matches {
@@ -104,12 +106,12 @@ impl Lists {
     }
 
     /// Puts them in place. Where they change they are not known to rest.
-    fn put(&mut self, staged: Staged)
+    fn put(&mut self, stage: &mut Stage, staged: Staged)
         ensures rows { self.new.active.entries ≡ rows_after self.old.active.entries staged }
         ensures rests { (t : Table) → MayRest t self.old → MayRest t self.new }
     {
         let stays = is_unchanged(&staged);
-        commit(&mut self.active, staged);
+        commit(&mut self.active, stage, staged);
         if !stays {
             self.rests = false;
         }
@@ -184,6 +186,7 @@ impl Matches {
             store: Arena::new(alloc),
             keys: Keys::new(alloc),
             lists: Vec::new(alloc),
+            stage: Stage::new(alloc),
         }
     }
 
@@ -275,7 +278,15 @@ impl Matches {
             steps.old steps.new }
     {
         let active = &self.lists[number as usize].active;
-        match prepare(active, &mut self.store, &mut self.det, bits, stamp, steps) {
+        match prepare(
+            active,
+            &mut self.stage,
+            &mut self.store,
+            &mut self.det,
+            bits,
+            stamp,
+            steps,
+        ) {
             Ok(staged) => {
                 let _mark = self.det.mark();
                 let _found = self.det.found();
@@ -355,7 +366,7 @@ impl Matches {
               (rows_after (slice_index_or self.old.rows number []) staged);
         } }
     {
-        self.lists[number as usize].put(staged);
+        self.lists[number as usize].put(&mut self.stage, staged);
     }
 
     /// Keeps of the nodes what the recent entries of the lists and the query's cursors need, and

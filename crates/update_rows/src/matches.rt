@@ -12,7 +12,7 @@ use cer_base::bits::Bits;
 use cer_base::node::Stamp;
 use cer_base::steps::Steps;
 use cer_base::{Memory, Pos};
-use event_update::{Active, commit, prepare};
+use event_update::{Active, Stage, commit, prepare};
 use std::alloc::Global;
 use std::marker::Model;
 use std::sync::ledger::Ledger;
@@ -27,6 +27,7 @@ pub struct OpenMatches {
     det: Det,
     store: Arena,
     active: Active,
+    stage: Stage,
     next: Pos,
 }
 
@@ -73,6 +74,7 @@ impl OpenMatches {
             det: Det::new(alloc, cea),
             store: Arena::new(alloc),
             active: Active::new(alloc),
+            stage: Stage::new(alloc),
             next: 0,
         }
     }
@@ -90,13 +92,14 @@ impl OpenMatches {
         let stamp = Stamp { pos, clock: 0 };
         let staged = prepare(
             &self.active,
+            &mut self.stage,
             &mut self.store,
             &mut self.det,
             bits,
             stamp,
             steps,
         )?;
-        commit(&mut self.active, staged);
+        commit(&mut self.active, &mut self.stage, staged);
         self.next = next;
         Ok(())
     }

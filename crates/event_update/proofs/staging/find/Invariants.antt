@@ -1,6 +1,6 @@
 use Rattle.std.proofs.Common.{◌≡◌, ℕ, List, All, take}
 use Rattle.cer_base.specs.declared.node.Root.{Root}
-use Rattle.event_update.proofs.rows.find.Given as goal
+use Rattle.event_update.proofs.staging.find.Given as goal
 
 -- the state stands nowhere among the first k
 abbrev pub invariant-loop-k : goal.invariant-loop-k

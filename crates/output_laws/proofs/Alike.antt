@@ -1,5 +1,5 @@
 -- Queries that read, mean and select alike have the same answers and the same output. For callers of the crate too.
-use Rattle.std.proofs.Common.{◌≡◌, refl, sym, subst, ◌∙◌, ℕ, suc, ◌<◌, List, Bool, Option, arith}
+use Rattle.std.proofs.Common.{◌≡◌, refl, sym, subst, ◌∙◌, ℕ, suc, ◌<◌, ◌≤◌, List, Bool, Option, arith}
 use Rattle.std.specs.Prelude.{ℤ, Contains}
 use Rattle.stream_schema.specs.Types.{Declared}
 use Rattle.stream_schema.specs.declared.Event.{Event}
@@ -41,12 +41,12 @@ of_substream schema q r a events end p h = record {
   there_has = (subst (λ (types : List ℕ). Contains types h.there.ty) a.types h.there_has.0, sym (a.keys h.there) ∙ h.there_has.1);
 }
 
-agree : (schema : Declared) (q r : Query) → ReadAlike schema q r → (events : List Event) (end : ℕ) → Agree (suc end) (substream schema q events end) (substream schema r events end)
+agree : (schema : Declared) (q r : Query) → ReadAlike schema q r → (events : List Event) (end : ℕ) → Agree 0 (suc end) (substream schema q events end) (substream schema r events end)
 agree schema q r a events end = record {
   schema = refl;
-  events = λ p less. refl;
-  there = λ p less. of_substream schema q r a events end p;
-  back = λ p less. of_substream schema r q (read_back schema q r a) events end p;
+  events = λ p low less has. refl;
+  there = λ p low less. of_substream schema q r a events end p;
+  back = λ p low less. of_substream schema r q (read_back schema q r a) events end p;
 }
 
 in_window : (schema : Declared) (q r : Query) → AreAlike schema q r → (events : List Event) (start end : ℕ) → IsInWindow schema q events start end → IsInWindow schema r events start end
@@ -66,7 +66,8 @@ pub answers_alike : (schema : Declared) (q r : Query) → AreAlike schema q r �
 answers_alike schema q r a events end answer h =
     let v = h.marks.valuation in
     let last : end < suc end = omega arith in
-    let carried = selected_carries (suc end) (substream schema q events end) (substream schema r events end) (agree schema q r a.read events end) q.select q.formula answer.start end v last h.marks.means in
+    let first : 0 ≤ answer.start = omega arith in
+    let carried = (selected_carries 0 (suc end) (substream schema q events end) (substream schema r events end) (agree schema q r a.read events end) q.select q.formula answer.start end v last h.marks.means).there first in
     record {
       marks = record {
         valuation = v;
@@ -75,9 +76,9 @@ answers_alike schema q r a events end answer h =
       };
       strict = subst (λ (strict : Bool). WhereStrict strict (AreContiguous (IsOfSubstream schema r events end) answer.marks)) a.strict
           (strict_too q.strict (AreContiguous (IsOfSubstream schema q events end) answer.marks) (AreContiguous (IsOfSubstream schema r events end) answer.marks)
-          (contiguous_too (IsOfSubstream schema q events end) (IsOfSubstream schema r events end) end answer.marks
-          (λ p upto. of_substream schema r q (read_back schema q r a.read) events end p)
-          (λ p has. (marks_within schema q events end answer h p has).to))
+          (contiguous_too (IsOfSubstream schema q events end) (IsOfSubstream schema r events end) answer.start end answer.marks
+          (λ p low upto. of_substream schema r q (read_back schema q r a.read) events end p)
+          (λ p has. (let w = marks_within schema q events end answer h p has in (w.from, w.to))))
           h.strict);
       window = in_window schema q r a events answer.start end h.window;
     }

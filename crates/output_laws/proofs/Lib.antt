@@ -1,4 +1,4 @@
--- streams that agree at their first positions
+-- streams that agree at the positions of an interval
 pub mod Agreeing
 -- answers at the same events
 pub mod EarlierAnswers

@@ -1,9 +1,9 @@
 -- Laws of the answers and of the output, which follow from their definitions.
-use Rattle.std.specs.Prelude.{◌≡◌, ℕ, ◌<◌, ◌≤◌, ◌↔◌, List, [], ◌∷◌, ◌++◌, length, map, All, None, slice_get}
+use Rattle.std.specs.Prelude.{◌≡◌, ℕ, ◌<◌, ◌≤◌, ◌↔◌, ◌⊎◌, List, [], ◌∷◌, ◌++◌, length, map, All, Contains, Option, Some, None, slice_get}
 use Rattle.stream_schema.specs.Types.{Declared}
 use Rattle.stream_schema.specs.declared.Event.{Event}
 use Rattle.cel_terms.specs.declared.Query.{Query}
-use Rattle.cel_terms.specs.Answers.{Answer, IsAnswer}
+use Rattle.cel_terms.specs.Answers.{Answer, IsAnswer, query_types}
 use Rattle.ceql_parser.specs.QueryTrees.{query_tree}
 use Rattle.answer_text.specs.declared.Order.{Order}
 use Rattle.answer_text.specs.declared.Order.TheVariants.{Sorted}
@@ -17,6 +17,23 @@ AreSameUpTo end events others = (p : ℕ) → p ≤ end → slice_get events p �
 abbrev pub AnswersLookBack : Type 0
 AnswersLookBack = (schema : Declared) (q : Query) (events others : List Event) (end : ℕ) (answer : Answer) →
     AreSameUpTo end events others → IsAnswer schema q events end answer → IsAnswer schema q others end answer
+
+-- the query reads no such event
+abbrev pub IsUnread : Declared → Query → Option Event → Type 0
+IsUnread schema q there = (event : Event) → there ≡ Some event → Contains (query_types schema q.streams) event.ty → ⊥
+
+-- the same event, or neither is read by the query
+abbrev pub IsSameFor : Declared → Query → Option Event → Option Event → Type 0
+IsSameFor schema q a b = (a ≡ b) ⊎ (IsUnread schema q a × IsUnread schema q b)
+
+-- From the start to the end the query sees the same events in both streams.
+abbrev pub AreSameWithin : Declared → Query → ℕ → ℕ → List Event → List Event → Type 0
+AreSameWithin schema q start end events others = (p : ℕ) → start ≤ p → p ≤ end → IsSameFor schema q (slice_get events p) (slice_get others p)
+
+-- An answer depends on the events alone that the query reads from its start to its end.
+abbrev pub AnswersLookWithin : Type 0
+AnswersLookWithin = (schema : Declared) (q : Query) (events others : List Event) (end : ℕ) (answer : Answer) →
+    AreSameWithin schema q answer.start end events others → IsAnswer schema q events end answer → IsAnswer schema q others end answer
 
 -- Events that come later change no answer.
 abbrev pub LaterEventsChangeNoAnswer : Type 0

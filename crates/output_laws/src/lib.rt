@@ -4,13 +4,18 @@
 //! `answer_text`. The lemmas after them, in `proofs`, are for callers too.
 #![tactic(auto)]
 
-ghost use Rattle.output_laws.specs.Laws.{AnswersLookBack, LaterEventsChangeNoAnswer, LaterEventsChangeNoBlock, LaterEventsChangeNoBlocks, LaterEventsChangeNoOutput, OneMoreEventAddsItsBlocks, OutputBeginsWithThatOfTheFirst, OutputGrowsAtItsEnd, OutputStartsEmpty, SortedOutputIsUnique, TreesTellTheAnswers, TreesTellTheOutput};
+ghost use Rattle.output_laws.specs.Laws.{AnswersLookBack, AnswersLookWithin, LaterEventsChangeNoAnswer, LaterEventsChangeNoBlock, LaterEventsChangeNoBlocks, LaterEventsChangeNoOutput, OneMoreEventAddsItsBlocks, OutputBeginsWithThatOfTheFirst, OutputGrowsAtItsEnd, OutputStartsEmpty, SortedOutputIsUnique, TreesTellTheAnswers, TreesTellTheOutput};
 ghost use Rattle.output_laws.specs.Rows.{LinesTellTheirRows, OrdersWriteTheSameLines, OutputIsRows, RowsAreTheOutput, RowsGrowAtTheirEnd};
 ghost use Rattle.output_laws.specs.Words.{WordsTellTheAnswers, WordsTellTheOutput};
 
 /// An answer depends on the events up to its end alone.
 pub fn answers_look_back()
     ensures { AnswersLookBack }
+{}
+
+/// An answer depends on the events alone that its query reads from its start to its end.
+pub fn answers_look_within()
+    ensures { AnswersLookWithin }
 {}
 
 /// Events that come later change no answer.

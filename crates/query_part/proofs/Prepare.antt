@@ -40,7 +40,8 @@ use Rattle.query_part.specs.declared.part.Step.{Step}
 use Rattle.query_part.specs.declared.part.Step.TheVariants.{Unread, NoKey, Resting, Keyed}
 use Rattle.query_part.specs.Matches.{Held, HasKeyThere, HasRest, IsReady}
 use Rattle.query_part.specs.Parts.{part_of, kept_of, ready_of, clock_at, here_at, settled, seen, IsAlone, AreTypesRead, IsMade}
-use Rattle.partition_table.specs.Keys.{is_at, are_at, Decides-value}
+use Rattle.stream_schema.specs.Equality.{Decides-value}
+use Rattle.partition_table.specs.Keys.{is_at, are_at}
 use Rattle.query_part.proofs.Cuts.{mid_table}
 
 idle_kept : (step : Option Step) (r : Option Ready) (h : Held) (c : Option ℤ) (n : Option ℕ) → ready_of step r h c n ≡ None → kept_of step r h c n ≡ part_of h c n

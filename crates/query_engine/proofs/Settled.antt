@@ -29,7 +29,7 @@ zip_count [] (n ∷ new) z = absurd z
 zip_count (o ∷ old) [] z = absurd z
 zip_count (o ∷ old) (n ∷ new) z = ap suc (zip_count old new z.1)
 
-zip_queries : (old new : List Phase) → AllZip IsCompacted old new → map (λ (p : Phase). p.query) new ≡ map (λ (p : Phase). p.query) old
+pub zip_queries : (old new : List Phase) → AllZip IsCompacted old new → map (λ (p : Phase). p.query) new ≡ map (λ (p : Phase). p.query) old
 zip_queries [] [] z = refl
 zip_queries [] (n ∷ new) z = absurd z
 zip_queries (o ∷ old) [] z = absurd z

@@ -1,6 +1,6 @@
 //! The parts of an engine, one for each query.
 
-ghost use Rattle.std.specs.Prelude.{◌≡◌, ℕ, [], ◌∷◌, ◌++◌, length, map, All, IfOk, OnOk, slice_index_or};
+ghost use Rattle.std.specs.Prelude.{◌≡◌, ℕ, false, [], ◌∷◌, ◌++◌, length, map, All, IfOk, OnOk, slice_index_or};
 ghost use Rattle.cel_terms.specs.Checked.{IsChecked};
 ghost use Rattle.all_or_none.specs.Phases.{IsIdle};
 ghost use Rattle.query_engine.specs.Running.{IsByPosition, HasNoClock, IsFirst, IsNamed, AreNamed, raised};

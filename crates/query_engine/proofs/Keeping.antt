@@ -20,7 +20,7 @@ pub seen_schemas : (schema : Declared) (f : Phase → Phase) (parts : List Phase
 seen_schemas schema f [] same h = All-nil (λ (p : Phase). p.schema ≡ schema)
 seen_schemas schema f (p ∷ parts) same h = All-cons (λ (x : Phase). x.schema ≡ schema) (f p) (map f parts) (same p ∙ All-head (λ (x : Phase). x.schema ≡ schema) p parts h) (seen_schemas schema f parts same (All-tail (λ (x : Phase). x.schema ≡ schema) p parts h))
 
-seen_idle : (f : Phase → Phase) (parts : List Phase) → ((p : Phase) → (f p).ready ≡ p.ready) → All IsIdle parts → All IsIdle (map f parts)
+pub seen_idle : (f : Phase → Phase) (parts : List Phase) → ((p : Phase) → (f p).ready ≡ p.ready) → All IsIdle parts → All IsIdle (map f parts)
 seen_idle f [] same h = All-nil IsIdle
 seen_idle f (p ∷ parts) same h = All-cons IsIdle (f p) (map f parts) (same p ∙ All-head IsIdle p parts h) (seen_idle f parts same (All-tail IsIdle p parts h))
 

@@ -17,7 +17,7 @@ use Rattle.query_engine.specs.Machine.{OpenCursor, Machine, Command, Take, Begin
 -- TWO LISTS SIDE BY SIDE
 
 module _ {A B : Type 0} (R : A → B → Type 0) where
-  zip_weaker : (S : A → B → Type 0) → ((x : A) (y : B) → R x y → S x y) → (xs : List A) (ys : List B) → AllZip R xs ys → AllZip S xs ys
+  pub zip_weaker : (S : A → B → Type 0) → ((x : A) (y : B) → R x y → S x y) → (xs : List A) (ys : List B) → AllZip R xs ys → AllZip S xs ys
   zip_weaker S f [] [] z = tt
   zip_weaker S f [] (y ∷ ys) z = absurd z
   zip_weaker S f (x ∷ xs) [] z = absurd z
@@ -69,7 +69,7 @@ module _ {A B : Type 0} (R : A → B → Type 0) where
 pub first_is_machine : (engine : State) → StandsFor engine [] → IsMachine engine [] (record { events = []; cursors = [] })
 first_is_machine engine stands = record { stands = stands; cursors = tt }
 
-cursor_on : (old new : State) → KeepsCursors old new → (c : Open) (d : OpenCursor) → IsCursor old c d → IsCursor new c d
+pub cursor_on : (old new : State) → KeepsCursors old new → (c : Open) (d : OpenCursor) → IsCursor old c d → IsCursor new c d
 cursor_on old new keeps c d i =
     let k = keeps c i.fits in
     record { fits = k.0; query = i.query; left = i.left ∙ ap (map answer_of) (sym k.1) }

@@ -51,7 +51,7 @@ pub fn states_once(parts: &[Part])
 }
 
 /// Settles each part after so many events.
-fn settle_all(parts: &mut [Part], count: Pos)
+pub fn settle_all(parts: &mut [Part], count: Pos)
     requires idle { All IsIdle parts.old }
     ensures { parts.new ≡ map (woken count) parts.old }
 {

@@ -1,6 +1,7 @@
 mod Cuts
 mod Cases
-mod Clocks
+-- the clocks of what a query reads; for callers too
+pub mod Clocks
 mod Discovered
 mod Giving
 mod AtFirst

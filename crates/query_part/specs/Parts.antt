@@ -85,6 +85,10 @@ seen count p = record p { kept = settled p.floats p.upto count p.kept }
 abbrev pub woken : ℕ → Phase → Phase
 woken count p = record p { kept = settled p.floats p.upto count p.kept; upto = count }
 
+-- the same, where the last of so many events are not read
+abbrev pub skipped : ℕ → Phase → Phase
+skipped count p = record p { kept = record p.kept { here = None }; upto = count }
+
 -- a clock in the window is the position
 abbrev pub IsByPosition : Window → Type 0
 IsByPosition window = (schema : Declared) (event : Event) (p : ℕ) → clock_of schema window event p ≡ Some (pos p)

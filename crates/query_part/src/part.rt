@@ -12,7 +12,7 @@ ghost use Rattle.all_or_none.specs.Phases.{IsPrepared, IsIdle, IsQuiet, back, Is
 ghost use Rattle.window_clock.specs.Places.{IsNear, IsOf, HasWidth, clock_in};
 ghost use Rattle.query_part.specs.KeyPlaces.{AreKeyPlaces};
 ghost use Rattle.query_part.specs.Matches.{HasKeyThere};
-ghost use Rattle.query_part.specs.Parts.{AreTypesRead, IsMachineOf, HaveClocks, MayFloat, HasEvents, seen, woken};
+ghost use Rattle.query_part.specs.Parts.{AreTypesRead, IsMachineOf, HaveClocks, MayFloat, HasEvents, seen, woken, skipped};
 ghost use Rattle.query_part.specs.Compacting.{HasStatesOnce, PartCompacted};
 ghost use Rattle.arena_compact.specs.Roots.{places};
 
@@ -291,6 +291,17 @@ impl Part {
         } else {
             self.here = None;
         }
+        self.upto = count;
+    }
+
+    /// Takes the last of so many events as ones that are not read: the clock stays, and the last has
+    /// no key. What it was before them was settled.
+    pub fn skip(&mut self, count: Pos)
+        requires idle { IsIdle self.old }
+        ensures { self.new ≡ skipped count self.old }
+    {
+        self.step = None;
+        self.here = None;
         self.upto = count;
     }
 

@@ -1,0 +1,250 @@
+-- What an engine is after blank positions. For callers of the crate too.
+use Rattle.std.proofs.Common.{◌≡◌, ℕ, zero, suc, ◌+◌, ◌-◌, ◌<◌, ◌≤◌, ◌⊎◌, inl, inr, ℤ, List, [], ◌∷◌, ◌++◌, map, take, length, refl, sym, ap, subst, ◌∙◌, All, Option, Some, None, slice_get, slice_index_or, arith, replicate, append_assoc, length-append}
+use Rattle.std.specs.Prelude.{max}
+use Rattle.std.specs.Option.{option_map_or}
+use Rattle.std.proofs.lemmas.List.{take-append-le, append-nil, length-replicate}
+use Rattle.std.proofs.lemmas.List.Elements.{All-nil, All-cons, All-head, All-tail, All-weaker}
+use Rattle.stream_schema.specs.Types.{Declared, IsWellDeclared}
+use Rattle.stream_schema.specs.declared.Event.{Event}
+use Rattle.cel_terms.specs.declared.Query.{Query}
+use Rattle.cel_terms.proofs.Undeclared.{left_out}
+use Rattle.tecs_enumerate.specs.Rest.{CursorState}
+use Rattle.tecs_enumerate.specs.Rest as walks
+use Rattle.arena_compact.specs.Moves.{later}
+use Rattle.query_standing.specs.Clocks.{Reads, HasClockAt, IsLastClock}
+use Rattle.query_standing.specs.Kept.{Part, PartStands, KeptStands}
+use Rattle.query_standing.proofs.Parts.{part_skips}
+use Rattle.all_or_none.specs.Phases.{Phase, IsIdle, IsQuiet, StandsAt}
+use Rattle.query_part.specs.Parts.{seen, woken, skipped}
+use Rattle.query_engine.specs.Engine.{State, Open, StandsFor, kept_of, count_of, found_of, len_of, peak_of, Fits, rest, SameQueries, KeepsCursors}
+use Rattle.query_engine.specs.Running.{HaveRun, IsRunning, IsKeeping}
+use Rattle.query_engine.specs.Windows.{later_of, IsBoundedBy, IsReadFrom, IsDense, IsRecentAt, FollowsWindowSince}
+use Rattle.query_engine.specs.Machine.{Machine, with_event, Taken, IsCursor, IsMachine}
+use Rattle.query_engine.specs.Skipping.{IsBlank, AreBlanks, KeepsAll, TakesAll}
+use Rattle.query_engine.proofs.Standing.{state, from_parts, to_parts, length_map, map_at, all_at, all_by, mapped}
+use Rattle.query_engine.proofs.Keeping.{fresh_all, fresh_quiet, keeping, seen_schemas}
+use Rattle.query_engine.proofs.Machine.{zip_weaker, cursor_on}
+use Rattle.query_engine.proofs.Windows.{bounded_on, recent_inside, clock_inside, still_clock}
+
+-- BLANK EVENTS
+
+-- no query reads one
+pub blank_unread : (schema : Declared) (q : Query) (event : Event) → IsWellDeclared schema → IsBlank schema event → Reads schema q event → ⊥
+blank_unread schema q event well blank reads =
+    left_out schema (record q { partition = [] }) (event ∷ []) 0 0 event well refl blank record {
+      here = event;
+      there = event;
+      key = [];
+      here_is = refl;
+      there_is = refl;
+      here_has = (reads, refl);
+      there_has = (reads, refl);
+    }
+
+abbrev pub blank_of : Declared → Event
+blank_of schema = record { ty = length schema.types; values = [] }
+
+all_blank : (schema : Declared) (n : ℕ) → All (IsBlank schema) (replicate n (blank_of schema))
+all_blank schema zero = All-nil (IsBlank schema)
+all_blank schema (suc n) = All-cons (IsBlank schema) (blank_of schema) (replicate n (blank_of schema)) (omega arith) (all_blank schema n)
+
+-- as many as are asked for
+abbrev pub blanks_between : Declared → ℕ → ℕ → List Event
+blanks_between schema before after = replicate (after - before) (blank_of schema)
+
+pub some_blanks : (schema : Declared) (before after : ℕ) → before ≤ after → AreBlanks schema before after (blanks_between schema before after)
+some_blanks schema before after upto = record { blank = all_blank schema (after - before); count = (let l = length-replicate (after - before) (blank_of schema) in omega (arith, upto, l)) }
+
+-- PARTS
+
+stands_on : (schema : Declared) (q : Query) (events blanks : List Event) (part : Part) → IsWellDeclared schema → All (IsBlank schema) blanks → 0 < length blanks → PartStands schema q events part → PartStands schema q (events ++ blanks) (record part { here = None })
+stands_on schema q events [] part well blank some stands = absurd (omega arith)
+stands_on schema q events (event ∷ later) part well blank some stands =
+    part_skips schema q events event later part stands (blank_unread schema q event well (All-head (IsBlank schema) event later blank))
+    (All-weaker (IsBlank schema) (λ e. Reads schema q e → ⊥) (λ e b. blank_unread schema q e well b) later (All-tail (IsBlank schema) event later blank))
+
+module _ (schema : Declared) (from to : ℕ) where
+  -- a part whose last events, from one number to the other, are not read
+  abbrev pub passed : List Phase → List Phase
+  passed parts = map (skipped to) (map (woken from) parts)
+
+  part_on : (events blanks : List Event) (p : Phase) → p.schema ≡ schema → IsWellDeclared schema → All (IsBlank schema) blanks → 0 < length blanks → StandsAt events (seen from p) → StandsAt (events ++ blanks) (skipped to (woken from p))
+  part_on events blanks p is well blank some stands =
+      stands_on p.schema p.query events blanks (seen from p).kept (subst IsWellDeclared (sym is) well) (subst (λ (s : Declared). All (IsBlank s) blanks) (sym is) blank) some stands
+
+  parts_on : (events blanks : List Event) (parts : List Phase) → All (λ (p : Phase). p.schema ≡ schema) parts → IsWellDeclared schema → All (IsBlank schema) blanks → 0 < length blanks → All (StandsAt events) (map (seen from) parts) → All (StandsAt (events ++ blanks)) (passed parts)
+  parts_on events blanks [] schemas well blank some all = All-nil (StandsAt (events ++ blanks))
+  parts_on events blanks (p ∷ parts) schemas well blank some all =
+      All-cons (StandsAt (events ++ blanks)) (skipped to (woken from p)) (passed parts)
+      (part_on events blanks p (All-head (λ (x : Phase). x.schema ≡ schema) p parts schemas) well blank some (All-head (StandsAt events) (seen from p) (map (seen from) parts) all))
+      (parts_on events blanks parts (All-tail (λ (x : Phase). x.schema ≡ schema) p parts schemas) well blank some (All-tail (StandsAt events) (seen from p) (map (seen from) parts) all))
+
+  passed_schemas : (parts : List Phase) → All (λ (p : Phase). p.schema ≡ schema) parts → All (λ (p : Phase). p.schema ≡ schema) (passed parts)
+  passed_schemas [] h = All-nil (λ (p : Phase). p.schema ≡ schema)
+  passed_schemas (p ∷ parts) h = All-cons (λ (x : Phase). x.schema ≡ schema) (skipped to (woken from p)) (passed parts) (All-head (λ (x : Phase). x.schema ≡ schema) p parts h) (passed_schemas parts (All-tail (λ (x : Phase). x.schema ≡ schema) p parts h))
+
+  passed_idle : (parts : List Phase) → All IsIdle parts → All IsIdle (passed parts)
+  passed_idle [] h = All-nil IsIdle
+  passed_idle (p ∷ parts) h = All-cons IsIdle (skipped to (woken from p)) (passed parts) (All-head IsIdle p parts h) (passed_idle parts (All-tail IsIdle p parts h))
+
+  passed_upto : (parts : List Phase) → All (λ (p : Phase). p.upto ≡ to) (passed parts)
+  passed_upto [] = All-nil (λ (p : Phase). p.upto ≡ to)
+  passed_upto (p ∷ parts) = All-cons (λ (x : Phase). x.upto ≡ to) (skipped to (woken from p)) (passed parts) refl (passed_upto parts)
+
+  passed_queries : (parts : List Phase) → map (λ (p : Phase). p.query) (passed parts) ≡ map (λ (p : Phase). p.query) (map (seen from) parts)
+  passed_queries [] = refl
+  passed_queries (p ∷ parts) = ap (λ qs. p.query ∷ qs) (passed_queries parts)
+
+  passed_count : (parts : List Phase) → length (passed parts) ≡ length parts
+  passed_count parts = length_map (skipped to) (map (woken from) parts) ∙ length_map (woken from) parts
+
+  -- of what is kept the number of the last key alone changes
+  passed_kept : {A : Type 0} (f : Part → A) (d : A) → ((p : Part) → f (record p { here = None }) ≡ f p) → (parts : List Phase) (k : ℕ) →
+      option_map_or f (slice_get (map (λ (p : Phase). p.kept) (passed parts)) k) d ≡ option_map_or f (slice_get (map (λ (p : Phase). p.kept) (map (seen from) parts)) k) d
+  passed_kept f d same [] k = refl
+  passed_kept f d same (p ∷ parts) zero = same (seen from p).kept
+  passed_kept f d same (p ∷ parts) (suc k) = passed_kept f d same parts k
+
+-- What the parts are that went on, as those of an engine.
+pub record Went (schema : Declared) (from to : ℕ) (parts raw : List Phase) (peaks : List ℕ) (s : State) : Type 0 where
+  pub well : IsWellDeclared schema
+  pub further : from < to
+  pub keeps : IsKeeping schema from parts peaks
+  pub is : state schema from (map (seen from) parts) peaks ≡ s
+  pub are : map (seen to) raw ≡ passed schema from to parts
+
+pub went : (schema : Declared) (from to : ℕ) (parts mut found raw : List Phase) (peaks : List ℕ) (s : State) → IsWellDeclared schema → from < to → IsKeeping schema from parts peaks → state schema from (map (seen from) parts) peaks ≡ s →
+    mut ≡ parts → found ≡ map (skipped to) (map (woken from) mut) → raw ≡ found → Went schema from to parts raw peaks s
+went schema from to parts mut found raw peaks s well further keeps is mut_is found_is raw_is =
+    let raws : raw ≡ passed schema from to parts = raw_is ∙ (found_is ∙ ap (passed schema from to) mut_is) in
+    record {
+      well = well;
+      further = further;
+      keeps = keeps;
+      is = is;
+      are = ap (map (seen to)) raws ∙ fresh_all to (passed schema from to parts) (passed_upto schema from to parts);
+    }
+
+module _ (schema : Declared) (from to : ℕ) (parts raw : List Phase) (peaks : List ℕ) (s : State) (w : Went schema from to parts raw peaks s) where
+  abbrev on : List Phase
+  on = passed schema from to parts
+
+  abbrev after : State
+  after = state schema to (map (seen to) raw) peaks
+
+  after_is : state schema to on peaks ≡ after
+  after_is = sym (ap (λ ps. state schema to ps peaks) w.are)
+
+  pub went_keeping : IsKeeping schema to raw peaks
+  went_keeping =
+      let run = w.keeps.run in
+      let less = w.further in
+      let n = length run.events in
+      let count = run.length_is in
+      let blanks = blanks_between schema n to in
+      let some = some_blanks schema n to (omega (arith, less, count)) in
+      let many = some.count in
+      let whole = length-append run.events blanks in
+      keeping schema to raw peaks (subst (λ ps. IsRunning schema to ps peaks) (sym w.are) record {
+        schemas = passed_schemas schema from to parts w.keeps.schemas;
+        idle = passed_idle schema from to parts w.keeps.idle;
+        run = record {
+          events = run.events ++ blanks;
+          length_is = whole ∙ many;
+          stands = parts_on schema from to run.events blanks parts w.keeps.schemas w.well some.blank (omega (arith, many, less, count)) run.stands;
+        };
+        quiet = fresh_quiet to on (passed_upto schema from to parts);
+        peaks_are = w.keeps.peaks_are ∙ sym (passed_count schema from to parts);
+      })
+
+  seen_schemas_are : All (λ (p : Phase). p.schema ≡ schema) (map (seen from) parts)
+  seen_schemas_are = seen_schemas schema (seen from) parts (λ p. refl) w.keeps.schemas
+
+  pub went_stands : (events blanks : List Event) → StandsFor s events → AreBlanks s.schema (length events) (count_of after) blanks → StandsFor after (events ++ blanks)
+  unfolding StandsFor count_of
+  went_stands = subst (λ (t : State). (events blanks : List Event) → KeptStands (kept_of t) events → AreBlanks t.schema (length events) to blanks → KeptStands (kept_of after) (events ++ blanks)) w.is (λ events blanks stands are.
+      let less = w.further in
+      let count = stands.count in
+      let many = are.count in
+      let all = to_parts schema from (map (seen from) parts) peaks events seen_schemas_are stands in
+      let whole : length (events ++ blanks) ≡ to = length-append events blanks ∙ many in
+      subst (λ (t : State). KeptStands (kept_of t) (events ++ blanks)) after_is
+      (from_parts schema to on peaks (events ++ blanks) (passed_schemas schema from to parts w.keeps.schemas) whole
+      (parts_on schema from to events blanks parts w.keeps.schemas w.well are.blank (omega (arith, less, count, many)) all)))
+
+  pub went_same : SameQueries s after
+  went_same = subst (λ (t : State). SameQueries t after) w.is (subst (λ (t : State). SameQueries (state schema from (map (seen from) parts) peaks) t) after_is (refl, passed_queries schema from to parts))
+
+  pub went_queries : map (λ (p : Phase). p.query) (map (seen to) raw) ≡ map (λ (p : Phase). p.query) (map (seen from) parts)
+  went_queries = ap (map (λ (p : Phase). p.query)) w.are ∙ passed_queries schema from to parts
+
+  pub went_cursors : KeepsCursors s after
+  unfolding Fits rest
+  went_cursors = subst (λ (t : State). KeepsCursors t after) w.is (subst (λ (t : State). KeepsCursors (state schema from (map (seen from) parts) peaks) t) after_is (λ c fits.
+      let nodes = passed_kept schema from to (λ (p : Part). p.nodes) [] (λ p. refl) parts (c.query - 1) in
+      let low = fits.0 in
+      let high = fits.1 in
+      let many = length_map (λ (p : Phase). p.kept) on in
+      let count = passed_count schema from to parts in
+      let were = length_map (λ (p : Phase). p.kept) (map (seen from) parts) in
+      let seen_count = length_map (seen from) parts in
+      ((low, omega (arith, high, many, count, were, seen_count), subst (walks.Fits c) (sym nodes) fits.2), ap (walks.rest c) nodes)))
+
+  pub went_kept : KeepsAll s after
+  unfolding found_of len_of peak_of later_of
+  went_kept = subst (λ (t : State). KeepsAll t after) w.is (subst (λ (t : State). KeepsAll (state schema from (map (seen from) parts) peaks) t) after_is record {
+    found = λ query. passed_kept schema from to (λ (p : Part). length p.table.states) 0 (λ p. refl) parts (query - 1);
+    nodes = λ query. passed_kept schema from to (λ (p : Part). length p.nodes) 0 (λ p. refl) parts (query - 1);
+    later = λ query position. passed_kept schema from to (λ (p : Part). later position p.nodes) 0 (λ p. refl) parts (query - 1);
+    peak = λ query. ap (λ n. max (slice_index_or peaks (query - 1) 0) n) (passed_kept schema from to (λ (p : Part). length p.nodes) 0 (λ p. refl) parts (query - 1));
+  })
+
+-- LAWS
+
+module _ (old new : State) (events more : List Event) (same : SameQueries old new) (keeps : KeepsAll old new) where
+  query_before : (k : ℕ) (q : Query) → slice_get new.queries k ≡ Some q → slice_get old.queries k ≡ Some q
+  query_before k q at = subst (λ (qs : List Query). slice_get qs k ≡ Some q) same.1 at
+
+  clock_on : (q : Query) (p : ℕ) (clock : ℤ) → HasClockAt old.schema q events p clock → HasClockAt new.schema q (events ++ more) p clock
+  clock_on q p clock h = subst (λ (s : Declared). HasClockAt s q (events ++ more) p clock) (sym same.0) (still_clock old.schema q events more p clock h)
+
+  pub skipping_keeps_dense : IsDense old events → IsDense new (events ++ more)
+  skipping_keeps_dense dense k q p at =
+      let found = keeps.found (k + 1) in
+      let count = keeps.later (k + 1) p in
+      bounded_on (IsReadFrom old.schema q events p) (IsReadFrom new.schema q (events ++ more) p) old new (k + 1) (later_of old (k + 1) p) (later_of new (k + 1) p) (length events)
+      (λ x r. record { clock = r.clock; has = clock_on q x r.clock r.has; from = r.from }) (λ x r. clock_inside old.schema q events x r.clock r.has) (omega (arith, found)) (inl (omega (arith, count)))
+      (dense k q p (query_before k q at))
+
+  recent_on : (q : Query) (first x : ℕ) → first ≤ length events → IsRecentAt old.schema q events first x → IsRecentAt new.schema q (events ++ more) first x
+  recent_on q first x inside r = record {
+    clock = r.clock;
+    has = clock_on q x r.clock r.has;
+    recent = elim r.recent [
+      | inl least ↦ inl least
+      | inr near ↦ inr (λ now last. near now (subst (λ (s : Declared). IsLastClock s q (take first events) now) same.0 (subst (λ (es : List Event). IsLastClock new.schema q es now) (take-append-le first events more inside) last)))
+    ];
+  }
+
+  pub skipping_keeps_window : (first : ℕ) → first ≤ length events → FollowsWindowSince first old events → FollowsWindowSince first new (events ++ more)
+  skipping_keeps_window first inside window k q at =
+      let found = keeps.found (k + 1) in
+      let count = keeps.nodes (k + 1) in
+      bounded_on (IsRecentAt old.schema q events first) (IsRecentAt new.schema q (events ++ more) first) old new (k + 1) (len_of old (k + 1)) (len_of new (k + 1)) (length events)
+      (λ x r. recent_on q first x inside r) (λ x r. clock_inside old.schema q events x r.clock r.has) (omega (arith, found)) (inl (omega (arith, count)))
+      (window k q (query_before k q at))
+
+-- a blank event for each position that is skipped
+takes_all : (schema : Declared) (queries : List Query) (m : Machine) (blanks : List Event) → IsWellDeclared schema → All (IsBlank schema) blanks → TakesAll schema queries m blanks (record m { events = m.events ++ blanks })
+takes_all schema queries m [] well blank = ap (λ es. record m { events = es }) (append-nil m.events)
+takes_all schema queries m (event ∷ later) well blank = (
+  Taken m event (λ k q before now at f. blank_unread schema q event well (All-head (IsBlank schema) event later blank) f.reads),
+  subst (λ es. TakesAll schema queries (with_event m event) later (record m { events = es })) (append_assoc m.events (event ∷ []) later) (takes_all schema queries (with_event m event) later well (All-tail (IsBlank schema) event later blank)),
+)
+
+pub skipping_is_steps : (old new : State) (held : List Open) (m : Machine) (blanks : List Event) → IsWellDeclared old.schema → IsMachine old held m → All (IsBlank old.schema) blanks → StandsFor new (m.events ++ blanks) → KeepsCursors old new →
+    TakesAll old.schema old.queries m blanks (record m { events = m.events ++ blanks }) × IsMachine new held (record m { events = m.events ++ blanks })
+skipping_is_steps old new held m blanks well is blank stands keeps = (
+  takes_all old.schema old.queries m blanks well blank,
+  record { stands = stands; cursors = zip_weaker (IsCursor old) (IsCursor new) (cursor_on old new keeps) held m.cursors is.cursors },
+)

@@ -1,0 +1,60 @@
+use Rattle.std.proofs.Common.{◌≡◌, ◌<◌, map, length, false, arith}
+use Rattle.std.specs.Vec.{with_items}
+use Rattle.std.proofs.lemmas.List.{with_items_is}
+use Rattle.std.proofs.lemmas.Bool.{false≢true}
+use Rattle.all_or_none.specs.Phases.{Phase}
+use Rattle.query_part.specs.Parts.{seen}
+use Rattle.query_engine.proofs.Named.{noted_same}
+use Rattle.query_engine.proofs.Skipped.{went, went_keeping, went_stands, went_same, went_queries, went_cursors, went_kept}
+use Rattle.query_engine.proofs.engine.Engine.skip_to.Goals as goal
+
+pub invariant_of-self : goal.invariant_of-self
+invariant_of-self c =
+    let long : length c.skip_parts.new.parts ≡ c.self.inside.parts.len = (let e = c.as_mut_slice-parts.ensures.len in let f = c.skip_parts.auto.parts in omega arith) in
+    let raw = (with_items c.self.inside.parts c.skip_parts.new.parts).items in
+    let raw_is = with_items_is c.self.inside.parts c.skip_parts.new.parts long in
+    let further : c.self.inside.count < c.args.position = (let f = c.if-position-self.false in omega arith) in
+    let w = went c.self.inside.schema c.self.inside.count c.args.position c.self.inside.parts.items c.as_mut_slice-parts.result.now c.skip_parts.new.parts raw c.self.inside.peaks.items c.args.self.now c.well_declared.ensures further c.self.invariant.0 c.self.view_is c.as_mut_slice-parts.ensures.value c.skip_parts.ensures raw_is in
+    let old = map (seen c.self.inside.count) c.self.inside.parts.items in
+    let after = map (seen c.args.position) raw in (
+      went_keeping c.self.inside.schema c.self.inside.count c.args.position c.self.inside.parts.items raw c.self.inside.peaks.items c.args.self.now w,
+      noted_same (map (λ (p : Phase). p.query) old) (map (λ (p : Phase). p.query) after) old after c.self.inside.told false c.self.inside.touched.items c.self.inside.touched.items c.self.inside.all.items c.self.inside.timed.items
+          (went_queries c.self.inside.schema c.self.inside.count c.args.position c.self.inside.parts.items raw c.self.inside.peaks.items c.args.self.now w) c.self.invariant.1
+          (λ told. absurd (false≢true told)),
+    )
+
+pub returns-clause-stands : goal.returns-clause-stands
+returns-clause-stands c =
+    let long : length c.skip_parts.new.parts ≡ c.self.inside.parts.len = (let e = c.as_mut_slice-parts.ensures.len in let f = c.skip_parts.auto.parts in omega arith) in
+    let raw = (with_items c.self.inside.parts c.skip_parts.new.parts).items in
+    let raw_is = with_items_is c.self.inside.parts c.skip_parts.new.parts long in
+    let further : c.self.inside.count < c.args.position = (let f = c.if-position-self.false in omega arith) in
+    let w = went c.self.inside.schema c.self.inside.count c.args.position c.self.inside.parts.items c.as_mut_slice-parts.result.now c.skip_parts.new.parts raw c.self.inside.peaks.items c.args.self.now c.well_declared.ensures further c.self.invariant.0 c.self.view_is c.as_mut_slice-parts.ensures.value c.skip_parts.ensures raw_is in
+    went_stands c.self.inside.schema c.self.inside.count c.args.position c.self.inside.parts.items raw c.self.inside.peaks.items c.args.self.now w
+
+pub returns-clause-cursors : goal.returns-clause-cursors
+returns-clause-cursors c =
+    let long : length c.skip_parts.new.parts ≡ c.self.inside.parts.len = (let e = c.as_mut_slice-parts.ensures.len in let f = c.skip_parts.auto.parts in omega arith) in
+    let raw = (with_items c.self.inside.parts c.skip_parts.new.parts).items in
+    let raw_is = with_items_is c.self.inside.parts c.skip_parts.new.parts long in
+    let further : c.self.inside.count < c.args.position = (let f = c.if-position-self.false in omega arith) in
+    let w = went c.self.inside.schema c.self.inside.count c.args.position c.self.inside.parts.items c.as_mut_slice-parts.result.now c.skip_parts.new.parts raw c.self.inside.peaks.items c.args.self.now c.well_declared.ensures further c.self.invariant.0 c.self.view_is c.as_mut_slice-parts.ensures.value c.skip_parts.ensures raw_is in
+    went_cursors c.self.inside.schema c.self.inside.count c.args.position c.self.inside.parts.items raw c.self.inside.peaks.items c.args.self.now w
+
+pub returns-clause-same : goal.returns-clause-same
+returns-clause-same c =
+    let long : length c.skip_parts.new.parts ≡ c.self.inside.parts.len = (let e = c.as_mut_slice-parts.ensures.len in let f = c.skip_parts.auto.parts in omega arith) in
+    let raw = (with_items c.self.inside.parts c.skip_parts.new.parts).items in
+    let raw_is = with_items_is c.self.inside.parts c.skip_parts.new.parts long in
+    let further : c.self.inside.count < c.args.position = (let f = c.if-position-self.false in omega arith) in
+    let w = went c.self.inside.schema c.self.inside.count c.args.position c.self.inside.parts.items c.as_mut_slice-parts.result.now c.skip_parts.new.parts raw c.self.inside.peaks.items c.args.self.now c.well_declared.ensures further c.self.invariant.0 c.self.view_is c.as_mut_slice-parts.ensures.value c.skip_parts.ensures raw_is in
+    went_same c.self.inside.schema c.self.inside.count c.args.position c.self.inside.parts.items raw c.self.inside.peaks.items c.args.self.now w
+
+pub returns-clause-kept : goal.returns-clause-kept
+returns-clause-kept c =
+    let long : length c.skip_parts.new.parts ≡ c.self.inside.parts.len = (let e = c.as_mut_slice-parts.ensures.len in let f = c.skip_parts.auto.parts in omega arith) in
+    let raw = (with_items c.self.inside.parts c.skip_parts.new.parts).items in
+    let raw_is = with_items_is c.self.inside.parts c.skip_parts.new.parts long in
+    let further : c.self.inside.count < c.args.position = (let f = c.if-position-self.false in omega arith) in
+    let w = went c.self.inside.schema c.self.inside.count c.args.position c.self.inside.parts.items c.as_mut_slice-parts.result.now c.skip_parts.new.parts raw c.self.inside.peaks.items c.args.self.now c.well_declared.ensures further c.self.invariant.0 c.self.view_is c.as_mut_slice-parts.ensures.value c.skip_parts.ensures raw_is in
+    went_kept c.self.inside.schema c.self.inside.count c.args.position c.self.inside.parts.items raw c.self.inside.peaks.items c.args.self.now w

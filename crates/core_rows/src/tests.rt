@@ -9,5 +9,6 @@ mod meaning;
 mod refusals;
 mod reordering;
 mod rows;
+mod sessions;
 mod texts;
 mod words;

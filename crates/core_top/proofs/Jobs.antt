@@ -7,6 +7,7 @@ use Rattle.ceql_grammar.specs.declared.faults.QueryFault.{QueryFault}
 use Rattle.ceql_grammar.specs.declared.faults.QueryError.{QueryError}
 use Rattle.ceql_parser.specs.QueryTrees.{QueryTree, query_tree}
 use Rattle.ceql_parser.proofs.TextAnswers.{one_text_answer}
+use Rattle.cer_outside.specs.Bytes.{TookAll}
 use Rattle.cer_outside.specs.Content.{Content, Holds, OfOpened}
 use Rattle.event_run.specs.Runs.{Stop, RunsTo}
 use Rattle.event_run.proofs.ForCallers.{one_run_of_trees}
@@ -16,12 +17,15 @@ use Rattle.late_answers.proofs.ForCallers.{one_late_run_of_trees}
 use Rattle.answer_blocks.specs.Taken.{TookPrefix}
 use Rattle.stream_answers.proofs.Portions.{prefix_of_all}
 use Rattle.answer_explain.specs.declared.written.TheConstants.{MOST_BYTES}
+use Rattle.session_script.specs.declared.script.TheConstants.{MOST_BYTES as MOST_SCRIPT}
+use Rattle.session_script.specs.Scripts.{PlaysTo}
+use Rattle.session_script.proofs.StopsOnce.{stops_once, whole_begins}
 use Rattle.fault_notes.specs.declared.File.TheVariants as file
 use Rattle.core_top.specs.declared.Cause.{Cause}
 use Rattle.core_top.specs.declared.Cause.TheVariants as cause
-use Rattle.core_top.specs.Command.{RunWords, ReorderWords, Job, running, reordering, explaining}
-use Rattle.core_top.specs.Accepted.{Accepts, IsAcceptedText, IsRefusedText, StopsAt, feed_of, HasClock, LacksClock, StopsLate, Takes, IsRefusedBy, LacksItsClock, StopsOver}
-use Rattle.core_top.specs.Output.{AreFileAnswers, WroteAll, AreLateFileAnswers, WroteLateAll, WroteBy}
+use Rattle.core_top.specs.Command.{RunWords, ReorderWords, SessionWords, Job, running, reordering, explaining, playing}
+use Rattle.core_top.specs.Accepted.{Accepts, IsAcceptedText, IsRefusedText, StopsAt, feed_of, HasClock, LacksClock, StopsLate, ScriptWrites, ScriptBegins, Takes, IsRefusedBy, LacksItsClock, StopsOver}
+use Rattle.core_top.specs.Output.{AreFileAnswers, WroteAll, AreLateFileAnswers, WroteLateAll, WroteSteps, WroteBy}
 use Rattle.core_top.specs.Notes.{NeedsMemory}
 
 -- a fact of the bytes that are told
@@ -85,6 +89,15 @@ late_stop content w stop before after text lines first second wrote =
     let P : Stop → Type 0 = StopsLate w text lines in
     subst P all.1 (record { schema = all.2.schema; queries = all.2.queries; events = all.2.events; accepted = all.2.accepted; has_clock = all.2.has_clock; runs = all.2.runs })
 
+-- a script stops in one way
+one_script_stop : (text script : List ℕ) (s t : Stop) → ((bytes : List ℕ) × ScriptWrites text script s bytes) → ((bytes : List ℕ) × ScriptWrites text script t bytes) → s ≡ t
+one_script_stop text script s t one other =
+    let a = one.1 in
+    let b = other.1 in
+    let P : Declared → Type 0 = λ d. PlaysTo d b.queries MOST_SCRIPT script other.0 t in
+    let plays = subst P (sym (accepted_schema text a.schema b.schema a.queries b.queries a.accepted b.accepted)) b.says in
+    stops_once a.schema a.queries b.queries MOST_SCRIPT script one.0 other.0 s t (accepted_trees text a.schema b.schema a.queries b.queries a.accepted b.accepted) a.says plays
+
 -- a text with the clock is accepted
 has_text : (clock text : List ℕ) → HasClock clock text → IsAcceptedText text
 has_text clock text has = (has.0, has.1, has.2)
@@ -103,48 +116,56 @@ pub takes_or_lacks : (job : Job) (text name : List ℕ) → Takes job text → L
 takes_or_lacks (running r) text name taken lacks = lacks
 takes_or_lacks (reordering w) text name taken lacks = has_or_lacks w.clock text taken lacks.1
 takes_or_lacks (explaining x) text name taken lacks = lacks
+takes_or_lacks (playing s) text name taken lacks = lacks
 
 -- nor refuses it as well;
 pub lacks_or_refuses : (job : Job) (text name : List ℕ) (fault : QueryFault) (place : Place) → LacksItsClock job text name → IsRefusedBy job text fault place → ⊥
 lacks_or_refuses (running r) text name fault place lacks refused = lacks
 lacks_or_refuses (reordering w) text name fault place lacks refused = not_both text fault place (lacks_text w.clock text lacks.1) refused
 lacks_or_refuses (explaining x) text name fault place lacks refused = lacks
+lacks_or_refuses (playing s) text name fault place lacks refused = lacks
 
 -- and the clock is one.
 pub one_clock : (job : Job) (text name other : List ℕ) → LacksItsClock job text name → LacksItsClock job text other → cause.ClockKind name ≡ cause.ClockKind other
 one_clock (running r) text name other lacks again = absurd lacks
 one_clock (reordering w) text name other lacks again = ap (λ (n : List ℕ). cause.ClockKind n) (lacks.0 ∙ sym again.0)
 one_clock (explaining x) text name other lacks again = absurd lacks
+one_clock (playing s) text name other lacks again = absurd lacks
 
 -- No job takes a text that it refuses.
 pub takes_or_refuses : (job : Job) (text : List ℕ) (fault : QueryFault) (place : Place) → Takes job text → IsRefusedBy job text fault place → ⊥
 takes_or_refuses (running r) text fault place taken refused = not_both text fault place taken refused
 takes_or_refuses (reordering w) text fault place taken refused = not_both text fault place (has_text w.clock text taken) refused
 takes_or_refuses (explaining x) text fault place taken refused = not_both text fault place taken refused
+takes_or_refuses (playing s) text fault place taken refused = not_both text fault place taken refused
 
 -- A text is refused for one reason, at one place.
 pub one_refusal : (job : Job) (text : List ℕ) (fault other : QueryFault) (place there : Place) → IsRefusedBy job text fault place → IsRefusedBy job text other there → cause.Queries fault place ≡ cause.Queries other there
 one_refusal (running r) text fault other place there refused again = one_fault text fault other place there refused again
 one_refusal (reordering w) text fault other place there refused again = one_fault text fault other place there refused again
 one_refusal (explaining x) text fault other place there refused again = one_fault text fault other place there refused again
+one_refusal (playing s) text fault other place there refused again = one_fault text fault other place there refused again
 
--- The events stop in one way,
+-- The events, or the commands, stop in one way,
 pub one_end : (job : Job) (text lines : List ℕ) (s t : Stop) → StopsOver job text lines s → StopsOver job text lines t → s ≡ t
 one_end (running r) text lines s t one other = one_stop text lines r.most_bytes s t one other
 one_end (reordering w) text lines s t one other = one_late_stop w text lines s t one other
 one_end (explaining x) text lines s t one other = one_stop text lines MOST_BYTES s t one other
+one_end (playing p) text lines s t one other = one_script_stop text lines s t one other
 
 -- and only after a text that is taken.
 pub taken_where_stopped : (job : Job) (text lines : List ℕ) (stop : Stop) → StopsOver job text lines stop → Takes job text
 taken_where_stopped (running r) text lines stop stops = (stops.schema, stops.queries, stops.accepted)
 taken_where_stopped (reordering w) text lines stop stops = (stops.schema, stops.queries, stops.accepted, stops.has_clock)
 taken_where_stopped (explaining x) text lines stop stops = (stops.schema, stops.queries, stops.accepted)
+taken_where_stopped (playing s) text lines stop stops = (stops.1.schema, stops.1.queries, stops.1.accepted)
 
 -- Each refusal of the language is one of the job.
 pub refused_by : (job : Job) (fault : QueryFault) (place : Place) (text : List ℕ) → IsRefusedText text fault place → IsRefusedBy job text fault place
 refused_by (running r) fault place text refused = refused
 refused_by (reordering w) fault place text refused = refused
 refused_by (explaining x) fault place text refused = refused
+refused_by (playing s) fault place text refused = refused
 
 -- the job ended before it had events
 abbrev pub IsEarly : Cause → Type 0
@@ -188,6 +209,17 @@ wrote_nothing (explaining x) cause.Usage content left before after early nothing
 wrote_nothing (explaining x) (cause.Event line fault) content left before after early nothing = nothing
 wrote_nothing (explaining x) (cause.InputTooLong taken) content left before after early nothing = nothing
 wrote_nothing (explaining x) (cause.WriteFault from to) content left before after early nothing = absurd early
+wrote_nothing (playing s) (cause.Queries fault place) content left before after early nothing = nothing
+wrote_nothing (playing s) (cause.OpenFault opened from to) content left before after early nothing = nothing
+wrote_nothing (playing s) (cause.ReadFault file.Queries to) content left before after early nothing = nothing
+wrote_nothing (playing s) (cause.ReadFault file.Events to) content left before after early nothing = absurd early
+wrote_nothing (playing s) cause.Memory content left before after early nothing = inl nothing
+wrote_nothing (playing s) cause.Fine content left before after early nothing = absurd early
+wrote_nothing (playing s) cause.Usage content left before after early nothing = absurd early
+wrote_nothing (playing s) (cause.Event line fault) content left before after early nothing = absurd early
+wrote_nothing (playing s) (cause.InputTooLong taken) content left before after early nothing = absurd early
+wrote_nothing (playing s) (cause.WriteFault from to) content left before after early nothing = absurd early
+wrote_nothing (playing s) (cause.ClockKind name) content left before after early nothing = absurd early
 
 -- all answers are a first part of them
 some_part : (content : List ℕ → Content) (r : RunWords) (stop : Stop) (before after : Option (List ℕ)) → WroteAll content r stop before after →
@@ -213,6 +245,22 @@ some_late_part content w stop before after wrote = (
   },
   prefix_of_all before after wrote.bytes wrote.took,
 )
+
+some_steps : (content : List ℕ → Content) (s : SessionWords) (stop : Stop) (before after : Option (List ℕ)) → WroteSteps content s (λ text script bytes. ScriptWrites text script stop bytes) (TookAll before after) →
+    WroteSteps content s ScriptBegins (TookPrefix before after)
+some_steps content s stop before after wrote = record {
+  has_queries = wrote.has_queries;
+  has_script = wrote.has_script;
+  bytes = wrote.bytes;
+  took = prefix_of_all before after wrote.bytes wrote.took;
+  are = λ text script first second.
+      let all = wrote.are text script first second in record {
+        schema = all.schema;
+        queries = all.queries;
+        accepted = all.accepted;
+        says = whole_begins all.schema all.queries MOST_SCRIPT script wrote.bytes stop all.says;
+      };
+}
 
 -- What was written before a note that was not made is what was written where memory ran out.
 pub wrote_for_memory : (job : Job) (told : Cause) (content : List ℕ → Content) (left other before after : Option (List ℕ)) → NeedsMemory told → WroteBy told content job left before after → WroteBy cause.Memory content job other before after
@@ -246,3 +294,13 @@ wrote_for_memory (explaining x) (cause.OpenFault opened from to) content left ot
 wrote_for_memory (explaining x) (cause.ReadFault read to) content left other before after needs wrote = absurd needs
 wrote_for_memory (explaining x) (cause.WriteFault from to) content left other before after needs wrote = absurd needs
 wrote_for_memory (explaining x) cause.Memory content left other before after needs wrote = absurd needs
+wrote_for_memory (playing s) (cause.Queries fault place) content left other before after needs wrote = inl wrote
+wrote_for_memory (playing s) (cause.Event line fault) content left other before after needs wrote = inr (some_steps content s _ before after wrote)
+wrote_for_memory (playing s) (cause.InputTooLong taken) content left other before after needs wrote = inr (some_steps content s _ before after wrote)
+wrote_for_memory (playing s) cause.Fine content left other before after needs wrote = absurd needs
+wrote_for_memory (playing s) cause.Usage content left other before after needs wrote = absurd needs
+wrote_for_memory (playing s) (cause.OpenFault opened from to) content left other before after needs wrote = absurd needs
+wrote_for_memory (playing s) (cause.ReadFault read to) content left other before after needs wrote = absurd needs
+wrote_for_memory (playing s) (cause.WriteFault from to) content left other before after needs wrote = absurd needs
+wrote_for_memory (playing s) cause.Memory content left other before after needs wrote = absurd needs
+wrote_for_memory (playing s) (cause.ClockKind name) content left other before after needs wrote = absurd wrote

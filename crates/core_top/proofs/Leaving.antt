@@ -11,7 +11,7 @@ use Rattle.late_answers.specs.Late.{Feed}
 use Rattle.late_answers.specs.Written.{StandsForLate}
 use Rattle.core_top.specs.declared.Cause.{Cause}
 use Rattle.core_top.specs.declared.Cause.TheVariants as cause
-use Rattle.core_top.specs.Command.{RunWords, ReorderWords, Job, running, reordering, explaining, AsksJob}
+use Rattle.core_top.specs.Command.{RunWords, ReorderWords, Job, running, reordering, explaining, playing, AsksJob}
 use Rattle.core_top.specs.Accepted.{Accepts, feed_of}
 use Rattle.core_top.specs.Left.{StandsForFile, IsLeft, StandsForLateFile, IsLeftLate, IsLeftBy}
 use Rattle.core_top.specs.Run.{Sources, QueriesStop}
@@ -145,12 +145,14 @@ memory_left : (content : List ℕ → Content) (job : Job) (left : Option State)
 memory_left content (running r) left none = none
 memory_left content (reordering w) left none = none
 memory_left content (explaining x) left none = none
+memory_left content (playing s) left none = none
 
 -- nor where nothing was asked
 usage_left : (content : List ℕ → Content) (job : Job) (left : Option State) → left ≡ None → IsLeftBy cause.Usage content job left
 usage_left content (running r) left none = none
 usage_left content (reordering w) left none = none
 usage_left content (explaining x) left none = none
+usage_left content (playing s) left none = none
 
 pub early_left : (content : List ℕ → Content) (job : Job) (given : Cause) (left : Option State) → (given ≡ cause.Memory) ⊎ (given ≡ cause.Usage) → left ≡ None → IsLeftBy given content job left
 early_left content job given left way none =

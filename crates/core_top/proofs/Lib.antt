@@ -17,6 +17,8 @@ mod RunEnds
 mod ReorderEnds
 -- the same of an explanation
 mod ExplainEnds
+-- the same of a session
+mod SessionEnds
 -- what the end of a job says of each answer
 mod Clauses
 -- a note for which there was no memory

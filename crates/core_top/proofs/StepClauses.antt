@@ -9,7 +9,7 @@ use Rattle.late_answers.specs.Steps.{LateCountsAll}
 use Rattle.fault_notes.specs.declared.File.TheVariants as file
 use Rattle.core_top.specs.declared.Cause.{Cause}
 use Rattle.core_top.specs.declared.Cause.TheVariants as cause
-use Rattle.core_top.specs.Command.{RunWords, ReorderWords, Job, running, reordering, explaining, AsksJob}
+use Rattle.core_top.specs.Command.{RunWords, ReorderWords, Job, running, reordering, explaining, playing, AsksJob}
 use Rattle.core_top.specs.Accepted.{Accepts, feed_of}
 use Rattle.core_top.specs.Notes.{NeedsMemory, IsNoted}
 use Rattle.core_top.specs.Run.{Sources, QueriesStop, IsOpening}
@@ -150,6 +150,7 @@ job_for_memory : (content : List ℕ → Content) (job : Job) (told : Cause) (be
 job_for_memory content (running r) told before after old now needs h = for_memory content r told before after old now needs h
 job_for_memory content (reordering w) told before after old now needs h = late_for_memory content w told before after old now needs h
 job_for_memory content (explaining x) told before after old now needs h = h
+job_for_memory content (playing s) told before after old now needs h = h
 
 pub noted_steps : {S : Type 0} (content : List ℕ → Content) (job : Job) (told given last : Cause) (failed left : Option S) (before after : Option (List ℕ)) (old now : ℕ) → last ≡ given → IsNoted told failed given left → StepsOf told content job before after old now → StepsOf last content job before after old now
 noted_steps content job told given last failed left before after old now same noted h =
@@ -182,6 +183,7 @@ no_steps content (reordering w) (cause.ReadFault read to) before after now ends 
 no_steps content (reordering w) (cause.WriteFault from to) before after now ends = absurd ends
 no_steps content (reordering w) (cause.ClockKind name) before after now ends = absurd ends
 no_steps content (explaining x) given before after now ends = refl
+no_steps content (playing s) given before after now ends = tt
 
 -- the job that the words ask for
 pub job_steps : (words : List (List ℕ)) (content : List ℕ → Content) (job other : Job) (given : Cause) (before after : Option (List ℕ)) (old now : ℕ) → AsksJob words job → AsksJob words other → StepsOf given content job before after old now → StepsOf given content other before after old now

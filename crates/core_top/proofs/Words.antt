@@ -3,16 +3,17 @@ use Rattle.std.proofs.Common.{◌≡◌, ℕ, Option, None, List, [], refl, ◌�
 use Rattle.answer_text.specs.declared.Order.{Order}
 use Rattle.answer_text.specs.declared.Order.TheVariants.{Sorted}
 use Rattle.command_words.specs.declared.Command.{Command}
-use Rattle.command_words.specs.declared.Command.TheVariants.{Run, Sample, Reorder, Explain}
+use Rattle.command_words.specs.declared.Command.TheVariants.{Run, Sample, Session, Reorder, Explain}
 use Rattle.command_words.specs.CommandLine.{AsksFor, AskNothing}
 use Rattle.command_words.proofs.ForCallers.{one_command}
 use Rattle.answer_explain.specs.declared.Question.{Question}
-use Rattle.core_top.specs.Command.{Job, running, reordering, explaining, AsksJob, IsRun, IsReorder, IsExplain, IsSample}
+use Rattle.core_top.specs.Command.{Job, running, reordering, explaining, playing, AsksJob, IsRun, IsReorder, IsExplain, IsSession, IsSample}
 
 -- the job that a command is, or any other
 abbrev job_of : Command → Job
 job_of (Run queries events order compact_every most_bytes) = running (record { queries = queries; events = events; order = order; compact_every = compact_every; most_bytes = most_bytes })
 job_of (Sample seed count) = running (record { queries = []; events = []; order = Sorted; compact_every = None; most_bytes = 0 })
+job_of (Session queries script) = playing (record { queries = queries; script = script })
 job_of (Reorder queries events clock late order compact_every most_bytes) =
     reordering (record { queries = queries; events = events; clock = clock; late = late; order = order; compact_every = compact_every; most_bytes = most_bytes })
 job_of (Explain queries events query start end positions) =
@@ -23,16 +24,19 @@ abbrev command_of_job : Job → Command
 command_of_job (running r) = Run r.queries r.events r.order r.compact_every r.most_bytes
 command_of_job (reordering w) = Reorder w.queries w.events w.clock w.late w.order w.compact_every w.most_bytes
 command_of_job (explaining x) = Explain x.queries x.events x.question.query x.question.start x.question.end x.question.positions
+command_of_job (playing s) = Session s.queries s.script
 
 asks_command : (words : List (List ℕ)) (job : Job) → AsksJob words job → AsksFor words (command_of_job job)
 asks_command words (running r) asked = asked
 asks_command words (reordering w) asked = asked
 asks_command words (explaining x) asked = asked
+asks_command words (playing s) asked = asked
 
 job_again : (job : Job) → job_of (command_of_job job) ≡ job
 job_again (running r) = refl
 job_again (reordering w) = refl
 job_again (explaining x) = refl
+job_again (playing s) = refl
 
 -- a sample is one thing
 pub one_sample : (words : List (List ℕ)) (s c t d : ℕ) → IsSample words s c → IsSample words t d → (s ≡ t) × (c ≡ d)
@@ -50,6 +54,7 @@ no_sample (running r) seed count same = let wrong : Run r.queries r.events r.ord
 no_sample (reordering w) seed count same = let wrong : Reorder w.queries w.events w.clock w.late w.order w.compact_every w.most_bytes ≡ Sample seed count = same in cc
 no_sample (explaining x) seed count same =
     let wrong : Explain x.queries x.events x.question.query x.question.start x.question.end x.question.positions ≡ Sample seed count = same in cc
+no_sample (playing s) seed count same = let wrong : Session s.queries s.script ≡ Sample seed count = same in cc
 
 pub no_job_and_sample : (words : List (List ℕ)) (job : Job) (seed count : ℕ) → AsksJob words job → IsSample words seed count → ⊥
 no_job_and_sample words job seed count one other =
@@ -82,4 +87,11 @@ pub explanation_asked : (words : List (List ℕ)) (q e x y : List ℕ) (a : Ques
 explanation_asked words q e x y a first second asked =
     let P : List ℕ → Type 0 = λ w. AsksFor words (Explain w y a.query a.start a.end a.positions) in
     let Q : List ℕ → Type 0 = λ w. AsksFor words (Explain q w a.query a.start a.end a.positions) in
+    subst P (sym first) (subst Q (sym second) asked)
+
+-- the session that was read, where its names are lent
+pub session_asked : (words : List (List ℕ)) (q e x y : List ℕ) → x ≡ q → y ≡ e → AsksFor words (Session q e) → IsSession words (record { queries = x; script = y })
+session_asked words q e x y first second asked =
+    let P : List ℕ → Type 0 = λ w. AsksFor words (Session w y) in
+    let Q : List ℕ → Type 0 = λ w. AsksFor words (Session q w) in
     subst P (sym first) (subst Q (sym second) asked)

@@ -6,7 +6,7 @@ use Rattle.stream_answers.specs.Streams.{StandsForAll}
 use Rattle.late_answers.specs.Written.{StandsForLate}
 use Rattle.core_top.specs.declared.Cause.{Cause}
 use Rattle.core_top.specs.declared.Cause.TheVariants as cause
-use Rattle.core_top.specs.Command.{RunWords, ReorderWords, Job, running, reordering, explaining}
+use Rattle.core_top.specs.Command.{RunWords, ReorderWords, Job, running, reordering, explaining, playing}
 use Rattle.core_top.specs.Accepted.{Accepts, feed_of}
 
 -- Where the host tells both files, the engine is of the schema and the queries of the query text, and stands for exactly the events of the event file, which is read to its end. It was compacted after every so many events, where that was asked for, and its nodes follow the windows; before any event it had none.
@@ -28,8 +28,9 @@ abbrev pub IsLeftLate : Cause → (List ℕ → Content) → ReorderWords → Op
 IsLeftLate cause.Fine content w left = IsSomeAnd left (StandsForLateFile content w)
 IsLeftLate _ content w left = left ≡ None
 
--- the same of any job; an explanation leaves none
+-- the same of any job; an explanation and a session leave none
 abbrev pub IsLeftBy : Cause → (List ℕ → Content) → Job → Option State → Type 0
 IsLeftBy given content (running r) left = IsLeft given content r left
 IsLeftBy given content (reordering w) left = IsLeftLate given content w left
 IsLeftBy given content (explaining x) left = left ≡ None
+IsLeftBy given content (playing s) left = left ≡ None

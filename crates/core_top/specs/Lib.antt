@@ -7,6 +7,7 @@ pub mod Notes
 pub mod SourceBytes
 pub mod Run
 pub mod Explaining
+pub mod Playing
 pub mod Reordering
 pub mod Steps
 pub mod Left

@@ -7,8 +7,8 @@ use Rattle.event_run.specs.Runs.{Stop, End, Event, InputTooLong}
 use Rattle.fault_notes.specs.declared.File.TheVariants as file
 use Rattle.core_top.specs.declared.Cause.{Cause}
 use Rattle.core_top.specs.declared.Cause.TheVariants as cause
-use Rattle.core_top.specs.Command.{RunWords, ReorderWords, ExplainWords, Job, running, reordering, explaining}
-use Rattle.core_top.specs.Accepted.{AreAnswers, AreAnswersSoFar, AreLateAnswers, AreLateAnswersSoFar, IsExplained}
+use Rattle.core_top.specs.Command.{RunWords, ReorderWords, ExplainWords, SessionWords, Job, running, reordering, explaining, playing}
+use Rattle.core_top.specs.Accepted.{AreAnswers, AreAnswersSoFar, AreLateAnswers, AreLateAnswersSoFar, IsExplained, ScriptWrites, ScriptBegins, ScriptWroteRead}
 use Rattle.core_sample.specs.Summary.{IsSummary}
 
 -- The host lacks neither file, and where it tells their bytes, these are the answers to them, with a stop that passes.
@@ -97,11 +97,37 @@ WroteExplanation cause.Fine content x before after = (bytes : List ℕ) × AreFi
 WroteExplanation (cause.WriteFault from to) content x before after = (bytes : List ℕ) × AreFileExplanation content x bytes × TookPart before after bytes
 WroteExplanation _ content x before after = after ≡ before
 
+-- The host lacks neither file, the output took bytes so, and where the host tells both files this is what they are.
+pub record WroteSteps (content : List ℕ → Content) (s : SessionWords) (Are : List ℕ → List ℕ → List ℕ → Type 0) (Took : List ℕ → Type 0) : Type 0 where
+  pub has_queries : content s.queries ≢ Missing
+  pub has_script : content s.script ≢ Missing
+  pub bytes : List ℕ
+  pub took : Took bytes
+  pub are : (text script : List ℕ) → content s.queries ≡ Holds text → content s.script ≡ Holds script → Are text script bytes
+
+-- What the output has taken after a session, by its cause: all of its steps up to the stop, those of the lines that were read, or a part of those of the first lines.
+abbrev pub WroteSession : Cause → (List ℕ → Content) → SessionWords → Option (List ℕ) → Option (List ℕ) → Option (List ℕ) → Type 0
+WroteSession cause.Fine content s left before after = WroteSteps content s (λ text script bytes. ScriptWrites text script End bytes) (TookAll before after)
+WroteSession (cause.Event line fault) content s left before after =
+    WroteSteps content s (λ text script bytes. ScriptWrites text script (Event line fault) bytes) (TookAll before after)
+WroteSession (cause.InputTooLong taken) content s left before after =
+    WroteSteps content s (λ text script bytes. ScriptWrites text script (InputTooLong taken) bytes) (TookAll before after)
+WroteSession (cause.ReadFault file.Events to) content s left before after =
+    WroteSteps content s (λ text script bytes. ScriptWroteRead text script left bytes) (TookAll before after)
+WroteSession (cause.WriteFault from to) content s left before after = WroteSteps content s ScriptBegins (TookPart before after)
+WroteSession cause.Memory content s left before after = (after ≡ before) ⊎ WroteSteps content s ScriptBegins (TookPrefix before after)
+WroteSession (cause.ReadFault file.Queries to) content s left before after = after ≡ before
+WroteSession cause.Usage content s left before after = after ≡ before
+WroteSession (cause.Queries fault place) content s left before after = after ≡ before
+WroteSession (cause.ClockKind name) content s left before after = ⊥
+WroteSession (cause.OpenFault opened from to) content s left before after = after ≡ before
+
 -- the same after any job
 abbrev pub WroteBy : Cause → (List ℕ → Content) → Job → Option (List ℕ) → Option (List ℕ) → Option (List ℕ) → Type 0
 WroteBy given content (running r) left before after = Wrote given content r left before after
 WroteBy given content (reordering w) left before after = WroteReordered given content w left before after
 WroteBy given content (explaining x) left before after = WroteExplanation given content x before after
+WroteBy given content (playing s) left before after = WroteSession given content s left before after
 
 -- What the output has taken after a sample, which ends by no other cause: its summary, a proper first part, or a first part.
 abbrev pub WroteSample : Cause → ℕ → ℕ → Option (List ℕ) → Option (List ℕ) → Type 0

@@ -12,7 +12,7 @@ use Rattle.late_answers.specs.Steps.{LateCountsAll, LateCountsAtFault}
 use Rattle.fault_notes.specs.declared.File.TheVariants as file
 use Rattle.core_top.specs.declared.Cause.{Cause}
 use Rattle.core_top.specs.declared.Cause.TheVariants as cause
-use Rattle.core_top.specs.Command.{RunWords, ReorderWords, Job, running, reordering, explaining}
+use Rattle.core_top.specs.Command.{RunWords, ReorderWords, Job, running, reordering, explaining, playing}
 use Rattle.core_top.specs.Accepted.{Accepts, feed_of}
 
 -- what is said of the schema and the queries of the query text and of the bytes of the event file, where the host tells both
@@ -75,8 +75,9 @@ OverLateFiles content w Says = (text lines : List ℕ) → content w.queries ≡
 abbrev pub ReorderSteps : Cause → (List ℕ → Content) → ReorderWords → Option (List ℕ) → Option (List ℕ) → ℕ → ℕ → Type 0
 ReorderSteps given content w before after old now = LateStepsBy w.compact_every (OverLateFiles content w) given before after old now
 
--- the same of any job; an explanation takes none
+-- the same of any job; an explanation takes none, and those of a session are bounded command by command
 abbrev pub StepsOf : Cause → (List ℕ → Content) → Job → Option (List ℕ) → Option (List ℕ) → ℕ → ℕ → Type 0
 StepsOf given content (running r) before after old now = RunSteps given content r before after old now
 StepsOf given content (reordering w) before after old now = ReorderSteps given content w before after old now
 StepsOf given content (explaining x) before after old now = now ≡ old
+StepsOf given content (playing s) before after old now = Unit {0}

@@ -2,11 +2,11 @@
 //!
 //! Promised: with status 0 the output of a run is exactly the answers of the query file over the
 //! event file, each once, that of `reorder` the answers over its events in the order of their clocks,
-//! and that of `explain` is why one of them is an answer; any other status names its one cause. These
-//! are clauses of `core_main`.
+//! that of `explain` is why one of them is an answer, and that of `session` the steps of a machine by
+//! the commands of its script; any other status names its one cause. These are clauses of `core_main`.
 //! It stands on `command_words` for its words, `ceql_parser` for query texts, `stream_answers` and
 //! `late_answers` for the answers over an event file, `answer_explain` for what explains one,
-//! `core_sample` for samples, and `fault_notes` for its notes.
+//! `session_script` for scripts, `core_sample` for samples, and `fault_notes` for its notes.
 #![tactic(auto)]
 
 use ceql_parser::QueryFault;
@@ -24,6 +24,7 @@ mod queries;
 mod reorder;
 mod run;
 mod sample;
+mod session;
 pub mod sure;
 mod top;
 
@@ -39,7 +40,7 @@ pub enum Cause {
     /// The clock of a run over late events is not a whole number in each declared type of the query
     /// text, which was accepted: status 3.
     ClockKind { name: Text },
-    /// The event file was refused, at this line, from 1: status 4.
+    /// The event file was refused, or the script, at this line, from 1: status 4.
     Event { line: u64, fault: EventFault },
     /// The file could not be opened. The host's count of faults for its name rose in the call,
     /// from `before` to `after`: status 5.
@@ -51,7 +52,8 @@ pub enum Cause {
     WriteFault { before: u64, after: u64 },
     /// Memory ran out: status 7.
     Memory,
-    /// The event file has this many bytes or more, which is what `--max-bytes` says: status 8.
+    /// The event file, or the script, has this many bytes or more, which is what `--max-bytes` says
+    /// or 2^40: status 8.
     InputTooLong { taken: u64 },
 }
 

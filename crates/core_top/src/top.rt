@@ -24,6 +24,7 @@ use super::opening::Stop;
 use super::reorder::reorder_files;
 use super::run::run_files;
 use super::sample::run_sample;
+use super::session::session_files;
 use super::{Cause, Done};
 use answer_explain::Question;
 use cer_base::OrMemory;
@@ -38,8 +39,9 @@ use std::sync::ledger::Ledger;
 /// `run QUERIES EVENTS` reads the query text and the event file of the host and writes the answers
 /// to `out`; `reorder QUERIES EVENTS CLOCK LATE` does so for events that come late, by LATE at the
 /// most, in the order of their attribute CLOCK; `explain QUERIES EVENTS QUERY START END
-/// [POSITION]...` writes why one of them is an answer; `sample SEED COUNT` writes a summary of two
-/// fixed queries. The note of the cause goes to `notes`; a fault there changes neither status nor
+/// [POSITION]...` writes why one of them is an answer; `session QUERIES SCRIPT` carries out the
+/// commands of a script, by which events come and cursors give their answers; `sample SEED COUNT`
+/// writes a summary of two fixed queries. The note of the cause goes to `notes`; a fault there changes neither status nor
 /// cause, but that where there is no memory for a note, memory is the cause.
 pub fn core_main<H: Host, K: Sink, N: Sink, L: Ledger>(
     alloc: Global,
@@ -52,7 +54,8 @@ pub fn core_main<H: Host, K: Sink, N: Sink, L: Ledger>(
     // The headline: what the output has taken after each cause. With status 0 a run has written
     // exactly the answers of the query text over the event file, position by position and query by
     // query, each once, one over late events those over the file's events in the order of their
-    // clocks, and an explanation that of the complex event that is asked for.
+    // clocks, an explanation that of the complex event that is asked for, and a session the bytes of
+    // the steps that a machine makes by the commands of the script, in their order.
     ensures wrote { (job : Job) → AsksJob (map string_bytes words.items) job
         → WroteBy result.cause (H.content host.old) job
         (left_of (record { faults = H.Src.faults; left = H.Src.left }) result.failed)
@@ -100,8 +103,8 @@ pub fn core_main<H: Host, K: Sink, N: Sink, L: Ledger>(
         → H.content host.old (name_of file job) ≡ Missing
         → EndsWithout file result.cause × (K.taken out.new ≡ K.taken out.old) }
 
-    // A text that the job takes and an event file that is read to its end are answered, but for
-    // memory and the outside.
+    // A text that the job takes and an event file that is read to its end, or a script without a
+    // refusal, are answered, but for memory and the outside.
     ensures complete { (job : Job) (text lines : List ℕ)
         → AsksJob (map string_bytes words.items) job
         → H.content host.old (queries_of job) ≡ Holds text
@@ -120,7 +123,7 @@ pub fn core_main<H: Host, K: Sink, N: Sink, L: Ledger>(
     ensures counts_writes { CountsWrites result.cause (K.faults out.old) (K.faults out.new) }
 
     // However a run ends, its steps are bounded by the events of the file and their answers; an
-    // explanation takes none.
+    // explanation takes none. Those of a session are bounded command by command, by `Session::run`.
     ensures steps { (job : Job) → AsksJob (map string_bytes words.items) job
         → StepsOf result.cause (H.content host.old) job (K.taken out.old) (K.taken out.new)
         steps.old steps.new }
@@ -252,6 +255,14 @@ fn run<H: Host, K: Sink, L: Ledger>(
                 out,
             )
         }
+        Ok(Command::Session { queries, script }) => session_files(
+            alloc,
+            queries.as_str(),
+            script.as_str(),
+            host,
+            out,
+            steps,
+        ),
         Ok(Command::Sample { seed, count }) => run_sample(alloc, seed, count, out, steps),
         Err(OrMemory::Memory) => Stop::of(Cause::Memory),
         Err(OrMemory::Fault(_)) => Stop::of(Cause::Usage),

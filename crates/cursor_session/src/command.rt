@@ -44,7 +44,8 @@ pub enum CommandFault {
 /// The text of a line: one carriage return at its end is dropped. A line whose text is empty is
 /// passed over.
 pub fn command_text(line: &[u8]) -> &[u8]
-    ensures { result.now ≡ strip_carriage_return line.now }
+    ensures text { result.now ≡ strip_carriage_return line.now }
+    ensures kept { has_line_feed line.now ≡ false → has_line_feed result.now ≡ false }
 {
     let len = line.len();
     if len > 0 && line[len - 1] == CARRIAGE_RETURN {

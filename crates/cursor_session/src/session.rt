@@ -119,6 +119,13 @@ impl Session {
         self.closed
     }
 
+    /// The schema of the events.
+    pub fn schema(&self) -> &Schema
+        ensures { result.now ≡ self.now.engine.schema }
+    {
+        self.engine.schema()
+    }
+
     /// The event comes, and its position is written.
     fn take_event<K: Sink, L: Ledger>(
         &mut self,

@@ -1,8 +1,8 @@
 use Rattle.std.proofs.Common.{refl, inl, inr, map, string_bytes}
 use Rattle.core_top.specs.declared.Cause.TheVariants as cause
-use Rattle.core_top.specs.Command.{running, reordering, explaining}
+use Rattle.core_top.specs.Command.{running, reordering, explaining, playing}
 use Rattle.core_top.specs.Run.{ran, sampled, refused, unread}
-use Rattle.core_top.proofs.Words.{run_asked, reorder_asked, explanation_asked, no_job_and_sample}
+use Rattle.core_top.proofs.Words.{run_asked, reorder_asked, explanation_asked, session_asked, no_job_and_sample}
 use Rattle.core_top.proofs.StepClauses.{job_steps, no_steps}
 use Rattle.core_top.proofs.Leaving.{left_asked, early_left}
 use Rattle.core_top.proofs.top.run.Goals as goal
@@ -18,6 +18,10 @@ returns-in-Ok-Reorder-clause-finished g c =
 pub returns-in-Ok-Explain-clause-finished : goal.returns-in-Ok-Explain-clause-finished
 returns-in-Ok-Explain-clause-finished g c =
     ran (explaining _) (explanation_asked _ _ _ _ _ _ c.as_str-in-Ok-Explain.ensures c.as_str-in-Ok-Explain-2.ensures (rw c.in-Ok-Explain.field-0-is at c.in-Ok-Explain.ensures.asks)) c.explain_files.ensures.ends
+
+pub returns-in-Ok-Session-clause-finished : goal.returns-in-Ok-Session-clause-finished
+returns-in-Ok-Session-clause-finished g c =
+    ran (playing _) (session_asked _ _ _ _ _ c.as_str-in-Ok-Session.ensures c.as_str-in-Ok-Session-2.ensures (rw c.in-Ok-Session.field-0-is at c.in-Ok-Session.ensures.asks)) c.session_files.ensures.ends
 
 pub returns-in-Ok-Sample-clause-finished : goal.returns-in-Ok-Sample-clause-finished
 returns-in-Ok-Sample-clause-finished g c =
@@ -48,6 +52,11 @@ returns-in-Ok-Explain-clause-steps g c = λ job asked.
     job_steps (map string_bytes c.args.words.now) (g.H.Host.content c.args.host.now) (explaining _) job c.explain_files.result.cause (g.K.Sink.taken c.args.out.now) (g.K.Sink.taken c.explain_files.new.out) c.args.steps.now c.args.steps.now
     (explanation_asked _ _ _ _ _ _ c.as_str-in-Ok-Explain.ensures c.as_str-in-Ok-Explain-2.ensures (rw c.in-Ok-Explain.field-0-is at c.in-Ok-Explain.ensures.asks)) asked refl
 
+pub returns-in-Ok-Session-clause-steps : goal.returns-in-Ok-Session-clause-steps
+returns-in-Ok-Session-clause-steps g c = λ job asked.
+    job_steps (map string_bytes c.args.words.now) (g.H.Host.content c.args.host.now) (playing _) job c.session_files.result.cause (g.K.Sink.taken c.args.out.now) (g.K.Sink.taken c.session_files.new.out) c.args.steps.now c.session_files.new.steps
+    (session_asked _ _ _ _ _ c.as_str-in-Ok-Session.ensures c.as_str-in-Ok-Session-2.ensures (rw c.in-Ok-Session.field-0-is at c.in-Ok-Session.ensures.asks)) asked tt
+
 pub returns-in-Ok-Sample-clause-steps : goal.returns-in-Ok-Sample-clause-steps
 returns-in-Ok-Sample-clause-steps g c = λ job asked. absurd (no_job_and_sample _ job _ _ asked (rw c.in-Ok-Sample.field-0-is at c.in-Ok-Sample.ensures.asks))
 
@@ -77,6 +86,11 @@ pub returns-in-Ok-Explain-clause-left : goal.returns-in-Ok-Explain-clause-left
 returns-in-Ok-Explain-clause-left g c = λ job asked.
     left_asked (map string_bytes c.args.words.now) (g.H.Host.content c.args.host.now) (explaining _) job c.explain_files.result.cause c.explain_files.result.left
     (explanation_asked _ _ _ _ _ _ c.as_str-in-Ok-Explain.ensures c.as_str-in-Ok-Explain-2.ensures (rw c.in-Ok-Explain.field-0-is at c.in-Ok-Explain.ensures.asks)) asked c.explain_files.ensures.none_left
+
+pub returns-in-Ok-Session-clause-left : goal.returns-in-Ok-Session-clause-left
+returns-in-Ok-Session-clause-left g c = λ job asked.
+    left_asked (map string_bytes c.args.words.now) (g.H.Host.content c.args.host.now) (playing _) job c.session_files.result.cause c.session_files.result.left
+    (session_asked _ _ _ _ _ c.as_str-in-Ok-Session.ensures c.as_str-in-Ok-Session-2.ensures (rw c.in-Ok-Session.field-0-is at c.in-Ok-Session.ensures.asks)) asked c.session_files.ensures.none_left
 
 pub returns-in-Ok-Sample-clause-left : goal.returns-in-Ok-Sample-clause-left
 returns-in-Ok-Sample-clause-left g c = λ job asked. absurd (no_job_and_sample _ job _ _ asked (rw c.in-Ok-Sample.field-0-is at c.in-Ok-Sample.ensures.asks))

@@ -5,7 +5,7 @@ use Rattle.stream_schema.specs.Types.{Declared}
 use Rattle.cel_terms.specs.declared.Query.{Query}
 use Rattle.checkpoint_text.specs.declared.history.EventAt.{EventAt}
 use Rattle.checkpoint_text.specs.Clocks.{clock_at, later, last_clock, is_back, falls_with, some_falls}
-use Rattle.checkpoint_text.specs.LastClocks.{last_clocks, any_back, next_clocks}
+use Rattle.checkpoint_text.specs.LastClocks.{last_clocks, any_back, fall_of, fall_or, first_back, next_clocks}
 
 pub lasts_long : (schema : Declared) (queries : List Query) (events : List EventAt) → length (last_clocks schema queries events) ≡ length queries
 lasts_long schema [] events = refl
@@ -39,6 +39,11 @@ pub back_step : (schema : Declared) (queries : List Query) (lasts : List (Option
     any_back schema (drop k queries) (drop k lasts) e ≡ (is_back last (clock_at schema q e) || any_back schema (drop (k + 1) queries) (drop (k + 1) lasts) e)
 back_step schema queries lasts e k q last at here =
     rw (add-one k) (ap (λ qs. any_back schema qs (drop k lasts) e) (from_place queries k q at) ∙ ap (λ ls. any_back schema (q ∷ drop (suc k) queries) ls e) (from_place lasts k last here))
+
+pub first_step : (schema : Declared) (queries : List Query) (lasts : List (Option ℤ)) (e : EventAt) (n k : ℕ) (q : Query) (last : Option ℤ) → slice_get queries k ≡ Some q → slice_get lasts k ≡ Some last →
+    first_back schema n (drop k queries) (drop k lasts) e ≡ fall_or (fall_of n last (clock_at schema q e)) (first_back schema (n + 1) (drop (k + 1) queries) (drop (k + 1) lasts) e)
+first_step schema queries lasts e n k q last at here =
+    rw (add-one k) (ap (λ qs. first_back schema n qs (drop k lasts) e) (from_place queries k q at) ∙ ap (λ ls. first_back schema n (q ∷ drop (suc k) queries) ls e) (from_place lasts k last here))
 
 pub next_step : (schema : Declared) (queries : List Query) (lasts : List (Option ℤ)) (e : EventAt) (k : ℕ) (q : Query) (last : Option ℤ) → slice_get queries k ≡ Some q → slice_get lasts k ≡ Some last →
     next_clocks schema (drop k queries) (drop k lasts) e ≡ later last (clock_at schema q e) ∷ next_clocks schema (drop (k + 1) queries) (drop (k + 1) lasts) e

@@ -16,7 +16,7 @@ use Rattle.checkpoint_text.proofs.Falling.{any_back_is, next_are}
 use Rattle.checkpoint_text.proofs.Needs.{needed_on, any_needs_is}
 
 -- the keeper once these lines have come
-abbrev kept_of : Declared → List Query → ℕ → List KeptLine → Keeper
+abbrev pub kept_of : Declared → List Query → ℕ → List KeptLine → Keeper
 kept_of schema queries n lines = record {
   schema = schema;
   queries = queries;
@@ -44,7 +44,7 @@ one_more schema queries n before line at level =
     (needed_on schema queries lasts e before (this ∷ []) (any_back_is schema queries (events_of before) e ∙ quiet) ∙ ap (λ (l : KeptLine). needed schema queries (next_clocks schema queries lasts e) (before ++ l ∷ [])) is)
     ∙ ap (with_lasts schema queries (n + 1) (before ++ line ∷ [])) next
 
-keep_on : (schema : Declared) (queries : List Query) (n : ℕ) (before : List KeptLine) (came : List (Event × List ℕ)) → NoneFallsBehind schema queries (events_of before) (events_of (lines_from n came)) →
+pub keep_on : (schema : Declared) (queries : List Query) (n : ℕ) (before : List KeptLine) (came : List (Event × List ℕ)) → NoneFallsBehind schema queries (events_of before) (events_of (lines_from n came)) →
     fold (λ keeper e. with_event keeper e.0 e.1) (kept_of schema queries n before) came ≡ kept_of schema queries (n + length came) (before ++ lines_from n came)
 keep_on schema queries n before [] level =
     let now : n ≡ n + 0 = omega arith in

@@ -21,3 +21,17 @@ mod Keepers
 mod Written
 -- what is kept is a stream, and read again
 mod KeptStreams
+-- the texts that are kept give the events
+mod KeptTexts
+-- events of the schema, of lines that spell a history; for callers
+pub mod Told
+-- the answers that follow need no more than the windows
+mod Restarting
+-- a run in two parts
+mod GoingOn
+-- a history as a stream, and the clocks along it
+mod Replayed
+-- the clocks along the events that came; for callers
+pub mod CameClocks
+-- a keeper with one line more; for callers
+pub mod CameKeepers

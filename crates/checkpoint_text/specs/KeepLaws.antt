@@ -1,6 +1,7 @@
 -- Laws of keepers, and of what they write.
 use Rattle.std.specs.Prelude.{◌≡◌, ℕ, ◌+◌, ◌<◌, ◌≤◌, List, [], ◌∷◌, map, filter, fold, length, Some, Ok}
 use Rattle.std.specs.List.{AllByRecursion}
+use Rattle.std.specs.Str.Lines.{strip_carriage_return}
 use Rattle.stream_schema.specs.Types.{Declared}
 use Rattle.stream_schema.specs.declared.Event.{Event}
 use Rattle.cel_terms.specs.declared.Query.{Query}
@@ -44,6 +45,10 @@ kept_lines schema queries lines = filter (λ line. is_needed schema queries (eve
 abbrev pub KeepersKeep : Type 0
 KeepersKeep = (schema : Declared) (queries : List Query) (came : List (Event × List ℕ)) → NoneFalls schema queries (events_of (lines_of came)) →
     ((keeping schema queries came).lines ≡ kept_lines schema queries (lines_of came)) × ((keeping schema queries came).positions ≡ length came)
+
+-- The text that is kept of a line gives the event that the line gave.
+abbrev pub KeptTextGives : Type 0
+KeptTextGives = (schema : Declared) (text : List ℕ) (event : Event) → event_of_line schema text ≡ Ok (Some event) → event_of_line schema (strip_carriage_return text) ≡ Ok (Some event)
 
 -- The text of a line gives its event, and is one line's.
 pub record IsLineOf (schema : Declared) (line : KeptLine) : Type 0 where

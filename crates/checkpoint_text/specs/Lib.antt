@@ -3,7 +3,10 @@ pub mod Clocks
 pub mod LastClocks
 pub mod Numbers
 pub mod Checkpoints
-pub mod Reading
 pub mod Spelling
+pub mod Reading
 pub mod Keeping
 pub mod KeepLaws
+pub mod Streams
+pub mod Replaying
+pub mod GoingOn

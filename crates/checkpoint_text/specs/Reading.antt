@@ -14,6 +14,7 @@ use Rattle.checkpoint_text.specs.declared.HistoryFault.TheVariants.{Bad, ReadFau
 use Rattle.checkpoint_text.specs.declared.history.EventAt.{EventAt}
 use Rattle.checkpoint_text.specs.declared.history.History.{History}
 use Rattle.checkpoint_text.specs.Checkpoints.{Told, Refusal, told_by, checkpoint_of}
+use Rattle.checkpoint_text.specs.Spelling.{Spells}
 
 -- These are lines that are not refused: all that end among the bytes that are no longer left.
 pub record AreGoodBefore (schema : Declared) (queries : List Query) (bytes rest : List ℕ) : Type 0 where
@@ -46,6 +47,16 @@ pub record HasTold (schema : Declared) (queries : List Query) (reader : LineRead
   pub texts : List (List ℕ)
   pub given : HasGiven reader bytes left texts
   pub told_is : told_by schema queries texts ≡ Ok told
+
+-- Some lines told this.
+pub record SomeTold (schema : Declared) (queries : List Query) (told : Told) : Type 0 where
+  pub texts : List (List ℕ)
+  pub told_is : told_by schema queries texts ≡ Ok told
+
+-- Some lines spell the history.
+pub record IsSpelled (schema : Declared) (queries : List Query) (history : History) : Type 0 where
+  pub texts : List (List ℕ)
+  pub spells : Spells schema queries texts history
 
 -- what is told of a file of these bytes, where reading it ended
 abbrev pub IsEnd : Declared → List Query → List ℕ → Option (List ℕ) → List EventAt → Result ℕ (OrMemory HistoryFault) → Type 0

@@ -1,12 +1,12 @@
 //! The clocks of the queries along events.
 
-ghost use Rattle.std.specs.Prelude.{◌≡◌, ◌==◌, ◌+ℤ◌, int_lt, length, map, Some, None, IfOk};
+ghost use Rattle.std.specs.Prelude.{◌≡◌, ◌==◌, ◌+ℤ◌, int_lt, length, map, false, Some, None, IfOk, IfNone};
 ghost use Rattle.std.specs.List.{list_any};
 ghost use Rattle.cel_terms.specs.Answers.{types_of_stream};
 ghost use Rattle.cel_plain.specs.Below.{query_reads};
 ghost use Rattle.window_clock.specs.Clocks.{int_of, clock_of};
 ghost use Rattle.checkpoint_text.specs.Clocks.{clock_at, later, is_back};
-ghost use Rattle.checkpoint_text.specs.LastClocks.{any_back, next_clocks};
+ghost use Rattle.checkpoint_text.specs.LastClocks.{any_back, fall_of, first_back, next_clocks};
 ghost use Rattle.checkpoint_text.specs.Keeping.{is_within, are_within, any_needs};
 
 use crate::EventAt;
@@ -121,6 +121,55 @@ pub fn any_back(
         }
     }
     false
+}
+
+/// How the clock of a query falls: the query's number, from 1, its last clock, and that of the event.
+#[derive(Drop, Debug, Clone, Copy, PartialEq, Eq)]
+pub struct Fall {
+    pub query: u64,
+    pub before: i128,
+    pub now: i128,
+}
+
+/// How the clock of the query of this number falls, where it does.
+fn fall_of(query: u64, last: Option<i128>, now: Option<i128>) -> Option<Fall>
+    ensures fall { result ≡ fall_of query last now }
+    ensures none { IfNone result (is_back last now ≡ false) }
+{
+    match (last, now) {
+        (Some(before), Some(now)) => {
+            if now < before {
+                Some(Fall { query, before, now })
+            } else {
+                None
+            }
+        }
+        _ => None,
+    }
+}
+
+/// How the clock of a query falls with the event, of the least such query, the last clocks being
+/// these.
+pub fn first_back(
+    schema: &Schema,
+    queries: &[Query],
+    lasts: &[Option<i128>],
+    event: &Event,
+    position: Pos,
+) -> Option<Fall>
+    requires { length lasts.now ≡ length queries.now }
+    ensures first { result ≡ first_back schema.now 1 queries.now lasts.now
+        (record { position = position; event = event.now }) }
+    ensures none { IfNone result (any_back schema.now queries.now lasts.now
+        (record { position = position; event = event.now }) ≡ false) }
+{
+    for k in 0..queries.len() {
+        let now = clock_at(schema, &queries[k], event, position);
+        if let Some(fall) = fall_of(k as u64 + 1, lasts[k], now) {
+            return Some(fall);
+        }
+    }
+    None
 }
 
 /// The last clocks with the event, where they were these before.

@@ -1,6 +1,6 @@
 //! What a checkpoint keeps of a stream while its events come.
 
-ghost use Rattle.std.specs.Prelude.{◌≡◌, ◌≤◌, ◌<◌, ◌++◌, ◌∷◌, [], false, map, filter, length, flat_map, Ok, Err, Some, IfOk, OnOk, OnErr};
+ghost use Rattle.std.specs.Prelude.{◌≡◌, ◌≤◌, ◌<◌, ◌++◌, ◌∷◌, [], false, map, filter, length, flat_map, Ok, Err, Some, IfOk, IfNone, OnOk, OnErr};
 ghost use Rattle.std.specs.Str.Lines.{strip_carriage_return};
 ghost use Rattle.cer_base.specs.Answers.{OnFault};
 ghost use Rattle.cer_base.specs.declared.OrMemory.TheVariants as or;
@@ -9,12 +9,12 @@ ghost use Rattle.cer_outside.specs.Causes.{HasCauseOrMemory};
 ghost use Rattle.event_reader.specs.Events.{event_of_line};
 ghost use Rattle.cer_base.specs.declared.bytes.TheConstants as feed;
 ghost use Rattle.checkpoint_text.specs.declared.numbers.TheConstants as most;
-ghost use Rattle.checkpoint_text.specs.LastClocks.{last_clocks, any_back, next_clocks};
+ghost use Rattle.checkpoint_text.specs.LastClocks.{last_clocks, any_back, first_back, next_clocks};
 ghost use Rattle.checkpoint_text.specs.Spelling.{counts_text, position_text};
 ghost use Rattle.checkpoint_text.specs.Keeping.{is_within, are_within, any_needs, needed, next_event, with_event, line_text, checkpoint_text};
 
 use crate::EventAt;
-use crate::clocks::{any_back, any_needs, next_clocks, no_clocks};
+use crate::clocks::{Fall, any_needs, first_back, next_clocks, no_clocks};
 use crate::numbers::BLANK;
 use cel_terms::Query;
 use cer_base::bytes::{CARRIAGE_RETURN, LINE_FEED};
@@ -100,12 +100,14 @@ impl<'q> Keep<'q> {
         self.positions
     }
 
-    /// Whether the clock of some query falls with the event as the next one.
-    pub fn falls(&self, event: &Event) -> bool
-        ensures { result ≡ any_back self.now.schema self.now.queries self.now.lasts
+    /// How the clock of a query falls with the event as the next one, of the least such query.
+    pub fn falls(&self, event: &Event) -> Option<Fall>
+        ensures first { result ≡ first_back self.now.schema 1 self.now.queries self.now.lasts
             (next_event self.now event.now) }
+        ensures none { IfNone result (any_back self.now.schema self.now.queries self.now.lasts
+            (next_event self.now event.now) ≡ false) }
     {
-        any_back(
+        first_back(
             self.schema,
             self.queries,
             self.lasts.as_slice(),

@@ -10,15 +10,20 @@ mod history;
 mod keeping;
 pub mod laws;
 mod numbers;
+#[cfg(test)]
+mod outside_tests;
 mod reading;
+mod replaying;
 mod stand;
 #[cfg(test)]
 mod tests;
 
+pub use clocks::Fall;
 pub use history::{EventAt, History};
 pub use keeping::{Keep, KeptLine};
 pub use numbers::MOST_POSITIONS;
 pub use reading::{MOST_BYTES, read_checkpoint};
+pub use replaying::replay;
 use thiserror::Error;
 
 /// Why a line is refused.

@@ -1,12 +1,15 @@
 //! The history that a text tells.
 
-ghost use Rattle.std.specs.Prelude.{◌≡◌, ◌≤◌, ℕ, List, [], false, length, None, Some};
+ghost use Rattle.std.specs.Prelude.{◌≡◌, ◌≤◌, ℕ, List, [], false, length, None, Some, IfOk};
+ghost use Rattle.std.specs.List.{AllByRecursion};
+ghost use Rattle.stream_schema.specs.Events.{IsOfSchema};
 ghost use Rattle.checkpoint_text.specs.declared.history.EventAt.{EventAt};
 ghost use Rattle.checkpoint_text.specs.declared.reading.TheConstants as bytes;
 ghost use Rattle.event_reader.specs.Reading.{HasGiven};
 ghost use Rattle.checkpoint_text.specs.LastClocks.{last_clocks};
 ghost use Rattle.checkpoint_text.specs.Checkpoints.{at_stop};
-ghost use Rattle.checkpoint_text.specs.Reading.{IsOfText, IsEnd, EndsAs, HasReadCause, fault_of};
+ghost use Rattle.checkpoint_text.specs.Reading.{IsOfText, IsEnd, EndsAs, HasReadCause, IsSpelled, fault_of};
+ghost use Rattle.checkpoint_text.specs.Spelling.{IsHistory};
 
 use crate::clocks::no_clocks;
 use crate::stand::{Awaited, Stand, take_line};
@@ -27,7 +30,9 @@ pub const MOST_BYTES: u64 = 1099511627776;
 /// - `ReadFault`: the source failed; no line before is refused.
 /// - Memory ran out.
 ///
-/// No query's clock falls along the events.
+/// The history is one that a checkpoint may tell: no query's clock falls along its events, and
+/// these are of the schema.
+#[tactic(auto, using(crate::proofs::Told::spelled_is_history))]
 pub fn read_checkpoint<Q: Source>(
     alloc: Global,
     schema: &Schema,
@@ -36,6 +41,9 @@ pub fn read_checkpoint<Q: Source>(
 ) -> Result<History, OrMemory<HistoryFault>>
     ensures text { (bytes : List ℕ) → Q.left source.old ≡ Some bytes
         → IsOfText schema.now queries.now bytes (Q.left source.new) result }
+    ensures history { IfOk result (IsHistory schema.now queries.now) }
+    ensures of_schema { IfOk result (λ history. AllByRecursion (λ e. IsOfSchema schema.now e.event)
+        history.events) }
     ensures cause { HasReadCause (Q.faults source.old) (Q.faults source.new) result }
 {
     let mut lines = match Lines::new(alloc, MOST_BYTES) {
@@ -82,6 +90,8 @@ fn read_on<Q: Source>(
     requires lasts { lasts.old.items ≡ last_clocks schema.now queries.now [] }
     ensures text { (bytes : List ℕ) → HasGiven lines.old bytes (Q.left source.old) []
         → IsEnd schema.now queries.now bytes (Q.left source.new) events.new.items result }
+    ensures spelled { IfOk result (λ positions. IsSpelled schema.now queries.now
+        (record { positions = positions; events = events.new.items })) }
     ensures cause { HasReadCause (Q.faults source.old) (Q.faults source.new) result }
 {
     let mut stand = Stand::start();

@@ -11,7 +11,7 @@ use std::test::Fail;
 use stream_schema::{Attr, Kind, Schema, SchemaFault};
 
 // The types A(t INT) and B(t INT), and the stream S(A).
-fn two_types(alloc: Global) -> Result<Schema, OrMemory<SchemaFault>> {
+pub fn two_types(alloc: Global) -> Result<Schema, OrMemory<SchemaFault>> {
     let mut schema = Schema::new(alloc);
     let mut attrs = Vec::new(alloc);
     attrs.push(Attr {
@@ -51,14 +51,14 @@ fn query_in(alloc: Global, window: Window) -> Result<Query, Memory> {
 }
 
 // That query WITHIN 5 [t].
-fn by_time(alloc: Global) -> Result<Vec<Query>, Memory> {
+pub fn by_time(alloc: Global) -> Result<Vec<Query>, Memory> {
     let mut queries = Vec::new(alloc);
     queries.push(query_in(alloc, Window::Clock(name(alloc, "t")?, 5))?)?;
     Ok(queries)
 }
 
 // The bytes of a text whose line feeds stand as semicolons.
-fn bytes_of(alloc: Global, text: &str) -> Result<Vec<u8>, AllocError> {
+pub fn bytes_of(alloc: Global, text: &str) -> Result<Vec<u8>, AllocError> {
     let mut bytes = Vec::new(alloc);
     for byte in text.as_bytes() {
         bytes.push(if *byte == b';' { b'\n' } else { *byte })?;
@@ -76,7 +76,7 @@ fn history_words(alloc: Global, history: &History) -> Result<String, AllocError>
 }
 
 // What reading these bytes answers, in pieces, where the read of this number fails.
-fn words_of(
+pub fn words_of(
     alloc: Global,
     schema: &Schema,
     queries: &[Query],
@@ -290,8 +290,9 @@ fn add_line(
     }
     match read_event(alloc, schema, text)? {
         Some(event) => {
-            if keep.falls(&event) {
-                return Ok(false);
+            match keep.falls(&event) {
+                Some(_) => return Ok(false),
+                None => {}
             }
             keep.add(alloc, &event, text)?;
             Ok(true)
@@ -301,7 +302,7 @@ fn add_line(
 }
 
 // Takes the events of the lines between semicolons.
-fn add_lines(
+pub fn add_lines(
     alloc: Global,
     schema: &Schema,
     keep: &mut Keep,

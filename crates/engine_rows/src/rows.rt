@@ -140,7 +140,7 @@ pub fn states_found(alloc: Global, engine: &Engine) -> Result<String, RowFault> 
 }
 
 /// The answers after each event of the lines, which a semicolon parts, with a stroke after those of
-/// one event.
+/// one event. A line that begins with a dash skips as many positions as it has bytes.
 pub fn answers_after_each<L: Ledger>(
     alloc: Global,
     engine: &mut Engine,
@@ -154,6 +154,10 @@ pub fn answers_after_each<L: Ledger>(
     let mut steps = Steps::<L>::start(blank);
     let mut text = String::new(alloc);
     for line in lines.split(|b| *b == b';') {
+        if line.first() == Some(&b'-') {
+            engine.skip_to(engine.events().saturating_add(line.len() as u64));
+            continue;
+        }
         let event = event_of(alloc, engine, line)?;
         take(engine, &event, &mut text, &mut steps)?;
         text.push_str("/ ")?;

@@ -49,6 +49,14 @@ const ROWS: &[(&str, &str, &str)] = &[
         "A,3;B,2;B,8;B,9",
         "/ query 1: 2 after 3 / 0{1,0} / / 3 ",
     ),
+    // Positions that are skipped count in a window by count.
+    (
+        "SELECT * FROM S WHERE A ; B WITHIN 3 EVENTS",
+        "A,1;--;B,1;B,1",
+        "/ 0{3,0} / / 3 ",
+    ),
+    // They stand between no two events.
+    ("SELECT * FROM S WHERE A : B", "A,1;--;B,1", "/ 0{3,0} / 2 "),
     // A filter reads the value.
     (
         "SELECT * FROM S WHERE A ; B FILTER B[v > 1]",

@@ -2,7 +2,7 @@ use Rattle.std.proofs.Common.{◌≡◌, ℕ, ◌+◌, ◌≤◌, List, [], fals
 use Rattle.event_reader.specs.Reading.{HasGiven}
 use Rattle.checkpoint_text.specs.declared.reading.TheConstants.{MOST_BYTES}
 use Rattle.checkpoint_text.specs.LastClocks.{last_clocks}
-use Rattle.checkpoint_text.specs.Reading.{HasTold}
+use Rattle.checkpoint_text.specs.Reading.{HasTold, SomeTold}
 use Rattle.checkpoint_text.proofs.reading.read_on.Given as goal
 
 -- the lines so far have told where it stands, and the events
@@ -15,6 +15,7 @@ invariant-loop-lines g l = record {
   lasts : l.lasts.items ≡ last_clocks l.schema l.queries l.events.items;
   told : (bytes : List ℕ) → HasGiven l.fn.lines bytes (g.Q.Source.left l.fn.source) []
       → HasTold l.schema l.queries l.lines bytes (g.Q.Source.left l.source) (record { stand = l.stand; events = l.events.items });
+  so_far : SomeTold l.schema l.queries (record { stand = l.stand; events = l.events.items });
 }
 
 abbrev pub decreases-loop-lines : goal.decreases-loop-lines

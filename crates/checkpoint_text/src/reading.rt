@@ -124,7 +124,8 @@ fn read_on<Q: Source>(
 fn at_end(lines: u64, stand: &Stand, count: u64) -> Result<u64, OrMemory<HistoryFault>>
     requires { lines ≤ bytes.MOST_BYTES }
     ensures { (events : List EventAt) → length events ≡ count
-        → EndsAs (at_stop lines (record { stand = stand.now; events = events }) None) events result }
+        → EndsAs (at_stop lines (record { stand = stand.now; events = events }) None)
+        events result }
 {
     let line = lines + 1;
     let missing = HistoryFault::Bad {

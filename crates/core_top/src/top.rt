@@ -114,7 +114,8 @@ pub fn core_main<H: Host, K: Sink, N: Sink, L: Ledger>(
     // Each file is opened once and in its turn, and no other name; no call failed but the one that
     // is the cause.
     ensures opens { (job : Job) → AsksJob (map string_bytes words.items) job
-        → OpensInTurn H.opens (H.content host.old (queries_of job)) job result.cause host.old host.new }
+        → OpensInTurn H.opens (H.content host.old (queries_of job)) job result.cause
+        host.old host.new }
     ensures unopened { AskNothing (map string_bytes words.items) → host.new ≡ host.old }
     ensures unopened_sample { (seed count : ℕ)
         → IsSample (map string_bytes words.items) seed count → host.new ≡ host.old }

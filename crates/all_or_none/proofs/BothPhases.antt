@@ -55,7 +55,7 @@ all_after events event position (a ∷ as') (p ∷ ps) (n ∷ ns) len kept done 
     (one events event position a p n len head done.0 (All-head (InTime events event) a as' time) (All-head (StandsAt events) a as' stands))
     (all_after events event position as' ps ns len rest done.1 (All-tail (InTime events event) a as' time) (All-tail (StandsAt events) a as' stands))
 
-map_map : {A B C : Type 0} (f : B → C) (g : A → B) (xs : List A) → map (λ x. f (g x)) xs ≡ map f (map g xs)
+pub map_map : {A B C : Type 0} (f : B → C) (g : A → B) (xs : List A) → map (λ x. f (g x)) xs ≡ map f (map g xs)
 map_map f g [] = refl
 map_map f g (x ∷ xs) = ap (λ zs. f (g x) ∷ zs) (map_map f g xs)
 
@@ -77,17 +77,6 @@ idle_after before after event position prepared new z = all_mapped IsIdle after 
 
 pub quiet_after : {A : Type 0} (before after : A → Phase) (event : Event) (position : ℕ) (prepared new : List A) → AllZip (IsTaken event position) (map before prepared) (map after new) → All (λ p. IsQuiet (position + 1) (after p)) new
 quiet_after before after event position prepared new z = all_mapped (IsQuiet (position + 1)) after new (all_moved (IsQuiet (position + 1)) event position (map before prepared) (map after new) (λ o n m. m.quiet) z)
-
-idle_is_back : {A : Type 0} (phase : A → Phase) (xs : List A) → All (λ p. IsIdle (phase p)) xs → map (λ p. back (phase p)) xs ≡ map phase xs
-idle_is_back phase [] h = refl
-idle_is_back phase (x ∷ xs) h =
-    let idle : (phase x).ready ≡ None = All-head (λ p. IsIdle (phase p)) x xs h in
-    let same : back (phase x) ≡ phase x = (λ i. record (phase x) { ready = sym idle i }) in
-    ap (λ z. z ∷ map (λ p. back (phase p)) xs) same ∙ ap (λ zs. phase x ∷ zs) (idle_is_back phase xs (All-tail (λ p. IsIdle (phase p)) x xs h))
-
--- after a refusal all is as it was
-pub as_before : {A : Type 0} (phase : A → Phase) (at_first prepared new : List A) → All (λ p. IsIdle (phase p)) at_first → map (λ p. back (phase p)) prepared ≡ map (λ p. back (phase p)) at_first → map phase new ≡ map (λ p. back (phase p)) prepared → map phase new ≡ map phase at_first
-as_before phase at_first prepared new idle kept taken = taken ∙ (kept ∙ idle_is_back phase at_first idle)
 
 grown_one : (event : Event) (position : ℕ) (at_first prepared new : Phase) → back prepared ≡ back at_first → IsTaken event position prepared new → HasGrown event at_first new
 grown_one event position at_first prepared new kept taken =

@@ -6,7 +6,9 @@ use Rattle.stream_schema.specs.Events.{IsOfSchema}
 use Rattle.stream_schema.specs.declared.Event.{Event}
 use Rattle.cel_terms.specs.declared.Query.{Query}
 use Rattle.query_standing.specs.Bounds.{update_bound, MeetAtMost}
+use Rattle.cer_base.specs.Bits.{has}
 use Rattle.query_standing.specs.Clocks.{Reads, FallsBack}
+use Rattle.query_standing.specs.Keys.{leaves_reading}
 use Rattle.query_standing.specs.Kept.{Part, Extends, PartStands, roots_at}
 
 -- What a part is seen as: its schema and query, what is kept, what a commit makes of that, where it is prepared, how many events there were when the last one had come that did not pass it by, and whether its clock floats: whether it is the position of each event, also of one that passes it by.
@@ -63,6 +65,7 @@ pub record HasPassed (event : Event) (position : ℕ) (old new : Phase) : Type 0
   pub was_idle : IsIdle old
   pub idle : IsIdle new
   pub quiet : roots_at new.query new.kept ≡ []
+  pub upto : new.upto ≡ old.upto
   pub step : IsStep old.schema old.query event position old.kept new.kept
 
 -- It is prepared for the event, or may be left as it is.
@@ -112,6 +115,37 @@ pub record CanPrepare (event : Event) (position : ℕ) (p : Phase) : Type 0 wher
   pub of_schema : IsOfSchema p.schema event
   pub in_time : InTime events event p
   pub stands : StandsAt events p
+
+-- no leaf of the part's query reads the event
+abbrev pub IsUnread : Event → Phase → Type 0
+IsUnread event p = (k : ℕ) → leaves_reading p.schema p.query event k ≡ false
+
+-- The part rests: from the last event on that did not pass it by, each event that no leaf of its query reads passes it by. It is told by what the part is after each number of events.
+pub record Rests (phase : ℕ → Phase) : Type 0 where
+  pub passes : (event : Event) (position : ℕ) → (phase position).upto ≤ position → IsIdle (phase position) → CanPrepare event position (phase position) → IsUnread event (phase position) → HasPassed event position (phase position) (phase (position + 1))
+
+-- There were at least as many events as up to the last one that did not pass a part by, and each part whose number, from 0, is not in the set rests.
+pub record AreLeft {P : Type 0} (phase : ℕ → P → Phase) (count : ℕ) (awake : List Bool) (parts : List P) : Type 0 where
+  pub known : All (λ p. (phase count p).upto ≤ count) parts
+  pub others : (k : ℕ) (p : P) → slice_get parts k ≡ Some p → has awake k ≡ false → Rests (λ n. phase n p)
+
+-- no leaf reads the event of the query of a part whose number, from 0, is not in the set
+abbrev pub AreUnread : {P : Type 0} → (P → Phase) → Event → List Bool → List P → Type 0
+AreUnread phase event marked parts = (k : ℕ) (p : _) → slice_get parts k ≡ Some p → has marked k ≡ false → IsUnread event (phase p)
+
+-- the parts that are not in the set are as they were
+abbrev pub AreUntouched : {P : Type 0} → List Bool → List P → List P → Type 0
+AreUntouched marked old new = (k : ℕ) → has marked k ≡ false → slice_get new k ≡ slice_get old k
+
+-- the numbers, from 1, are of parts that are in the set
+abbrev pub AreOfMarked : List Bool → List ℕ → Type 0
+AreOfMarked marked numbers = (k : ℕ) → is_among numbers (k + 1) ≡ true → has marked k ≡ true
+
+-- The parts that are in the set are taken back, and the others are as they were.
+pub record AreBack {P : Type 0} (phase : ℕ → P → Phase) (marked : List Bool) (old new : List P) : Type 0 where
+  pub count : length new ≡ length old
+  pub others : AreUntouched marked old new
+  pub back : (k : ℕ) (o n : P) → slice_get old k ≡ Some o → slice_get new k ≡ Some n → has marked k ≡ true → (position : ℕ) → phase position n ≡ record (phase position o) { ready = None }
 
 -- The part of the same query has grown by the event.
 pub record HasGrown (event : Event) (old new : Phase) : Type 0 where

@@ -9,12 +9,14 @@
 //! It stands on `query_standing`.
 #![tactic(auto)]
 
-ghost use Rattle.std.specs.Prelude.{◌≡◌, ℕ, ◌+◌, ◌^◌, ◌<◌, ◌≤◌, true, List, [], ◌∷◌, ◌++◌, length, map, sum_by, All, OnOk, OnErr};
+ghost use Rattle.std.specs.Prelude.{◌≡◌, ℕ, ◌+◌, ◌^◌, ◌<◌, ◌≤◌, true, false, List, [], ◌∷◌, ◌++◌, length, map, sum_by, All, Some, slice_get, IfSome, IfNone, OnOk, OnErr};
 ghost use Rattle.std.specs.List.{AllZip};
+ghost use Rattle.cer_base.specs.Bits.{has};
 ghost use Rattle.stream_schema.specs.declared.Event.{Event};
 ghost use Rattle.query_standing.specs.Bounds.{update_bound};
-ghost use Rattle.all_or_none.specs.Phases.{Phase, CanPrepare, IsPrepared, IsIdle, IsQuiet, back, HasPassed, IsSet, IsNoted, AreSet, MayAnswer, IsTaken, IsWithin, StandsAt, InTime, ready_bound, kept_bound, AreBounded, HasGrown};
+ghost use Rattle.all_or_none.specs.Phases.{Phase, CanPrepare, IsPrepared, IsIdle, IsQuiet, back, HasPassed, Rests, AreLeft, AreUnread, AreUntouched, AreOfMarked, AreBack, IsSet, IsNoted, is_among, AreSet, MayAnswer, IsTaken, IsWithin, StandsAt, InTime, ready_bound, kept_bound, AreBounded, HasGrown};
 
+use cer_base::bits::Bits;
 use cer_base::steps::Steps;
 use cer_base::{Memory, Pos};
 use std::sync::ledger::Ledger;
@@ -22,7 +24,7 @@ use stream_schema::Event;
 
 /// What is kept of one query. Between `prepare` and `commit` it is still seen as what it was.
 pub trait Keeps {
-    ghost use Rattle.all_or_none.specs.Phases.{Phase, CanPrepare, ready_bound, IsWithin};
+    ghost use Rattle.all_or_none.specs.Phases.{Phase, CanPrepare, Rests, ready_bound, IsWithin};
 
     /// What it is after so many events.
     ghost phase: { ℕ → Self → Phase };
@@ -33,6 +35,10 @@ pub trait Keeps {
         requires can { CanPrepare event.now position (phase position self.now) }
         ensures passed { result ≡ true → HasPassed event.now position (phase position self.now)
             (phase (position + 1) self.now) };
+
+    /// Whether it is known to rest: each later event that no leaf of its query reads passes it by.
+    fn rests(&self) -> bool
+        ensures { result ≡ true → Rests (λ n. phase n self.now) };
 
     /// Makes ready what the event changes. After `Memory` it is as it was.
     fn prepare<L: Ledger>(
@@ -90,10 +96,25 @@ fn prepare_one<P: Keeps, L: Ledger>(
     part.prepare(event, position, steps)
 }
 
-/// Each part prepares that the event may not pass by, up to the first that cannot. The numbers of
-/// these parts, from 1, are left in `touched`.
+/// The first marked number from this one on, where it is below the end.
+#[inline(always)]
+fn find(marked: &Bits, from: usize, end: usize) -> Option<usize>
+    ensures found { IfSome result (λ k. (from ≤ k) × (k < end) × (has marked.now k ≡ true)) }
+    ensures first { IfSome result (λ k. (j : ℕ) → from ≤ j → j < k → has marked.now j ≡ false) }
+    ensures none { IfNone result ((j : ℕ) → from ≤ j → j < end → has marked.now j ≡ false) }
+{
+    match marked.next_from(from) {
+        Some(k) => { if k < end { Some(k) } else { None } }
+        None => None,
+    }
+}
+
+/// Each marked part prepares that the event may not pass by, up to the first that cannot. The others
+/// rest, and no leaf of theirs reads the event. The numbers of the prepared ones, from 1, are left in
+/// `touched`.
 fn prepare_all<P: Keeps, L: Ledger>(
     parts: &mut [P],
+    marked: &Bits,
     touched: &mut Vec<u64>,
     event: &Event,
     position: Pos,
@@ -101,10 +122,14 @@ fn prepare_all<P: Keeps, L: Ledger>(
 ) -> Result<(), Memory>
     requires idle { All (λ p. IsIdle (P.phase position p)) parts.old }
     requires can { All (λ p. CanPrepare event.now position (P.phase position p)) parts.old }
+    requires left { AreLeft P.phase position marked.now parts.old }
+    requires unread { AreUnread (P.phase position) event.now marked.now parts.old }
     ensures kept { map (λ p. back (P.phase position p)) parts.new
         ≡ map (λ p. back (P.phase position p)) parts.old }
     ensures set { OnOk result (AreSet (P.phase position) (P.phase (position + 1)) event.now
         position (length parts.new) touched.new.items parts.new) }
+    ensures marked { OnOk result (AreOfMarked marked.now touched.new.items) }
+    ensures others { AreUntouched marked.now parts.old parts.new }
     ensures steps { OnOk result (steps.new
         ≤ steps.old + sum_by (λ p. ready_bound (P.phase position p)) parts.new) }
     ensures within { (events : List Event) (most : List ℕ) → length events ≡ position
@@ -112,8 +137,10 @@ fn prepare_all<P: Keeps, L: Ledger>(
         ≤ steps.old + sum_by update_bound most }
 {
     touched.clear();
-    for k in 0..parts.len() {
+    let mut from: usize = 0;
+    while let Some(k) = find(marked, from, parts.len()) {
         prepare_one(&mut parts[k], k as u64 + 1, touched, event, position, steps)?;
+        from = k + 1;
     }
     Ok(())
 }
@@ -126,28 +153,65 @@ fn commit_all<P: Keeps>(parts: &mut [P], numbers: &[u64], event: &Event, positio
     ensures taken { AllZip (IsTaken event.now position) (map (P.phase position) parts.old)
         (map (P.phase (position + 1)) parts.new) }
     ensures answering { MayAnswer numbers.now (map (P.phase (position + 1)) parts.new) }
+    ensures others { (k : ℕ) → is_among numbers.now (k + 1) ≡ false → slice_get parts.new k
+        ≡ slice_get parts.old k }
 {
     for number in numbers {
         parts[*number as usize - 1].commit(event, position);
     }
 }
 
-/// Each part is taken back.
-fn take_back_all<P: Keeps>(parts: &mut [P])
-    ensures { (count : ℕ) → map (P.phase count) parts.new
-        ≡ map (λ p. back (P.phase count p)) parts.old }
+/// Each marked part is taken back.
+fn take_back_all<P: Keeps>(parts: &mut [P], marked: &Bits)
+    ensures { AreBack P.phase marked.now parts.old parts.new }
 {
     for k in 0..parts.len() {
-        parts[k].take_back();
+        if marked.contains(k) {
+            parts[k].take_back();
+        }
+    }
+}
+
+/// Takes all numbers out. Mostly there is none, so that is tested first.
+#[inline(always)]
+fn empty_out(set: &mut Bits)
+    ensures empty { (k : ℕ) → has set.new k ≡ false }
+    ensures room { length set.new ≡ length set.old }
+{
+    if set.is_empty() {
+        return;
+    }
+    set.clear();
+}
+
+/// Makes the set that of the marked parts that are not known to rest.
+fn look_all<P: Keeps>(parts: &[P], marked: &Bits, awake: &mut Bits)
+    requires { length awake.old ≡ length marked.now }
+    ensures rest { (k : ℕ) (p : P) → slice_get parts.now k ≡ Some p → has marked.now k ≡ true
+        → has awake.new k ≡ false → Rests (λ n. P.phase n p) }
+    ensures room { length awake.new ≡ length awake.old }
+{
+    empty_out(awake);
+    let mut from: usize = 0;
+    while let Some(k) = find(marked, from, parts.len()) {
+        if !parts[k].rests() {
+            awake.insert(k);
+        }
+        from = k + 1;
     }
 }
 
 /// All parts take the event as the next one, or none does. After `Memory` each part is as it was.
 ///
-/// `touched` has then the numbers, from 1 and rising, of the parts that the event did not pass by; no
-/// other may have an answer. Its memory is used again.
+/// It goes to the marked parts alone, by their numbers from 0. Each other part rests, and no leaf of
+/// its query reads the event. In `awake` is then each part that is not known to rest, for the next
+/// event, and after `Memory` each marked one beside those that were there. `touched` has then the
+/// numbers, from 1 and rising, of the parts that the event did not pass by; no other may have an
+/// answer. Its memory is used again.
 pub fn see<P: Keeps, L: Ledger>(
     parts: &mut [P],
+    marked: &Bits,
+    awake: &mut Bits,
     touched: &mut Vec<u64>,
     event: &Event,
     position: Pos,
@@ -156,6 +220,9 @@ pub fn see<P: Keeps, L: Ledger>(
     requires room { position + 1 < 2 ^ 64 }
     requires idle { All (λ p. IsIdle (P.phase position p)) parts.old }
     requires can { All (λ p. CanPrepare event.now position (P.phase position p)) parts.old }
+    requires left { AreLeft P.phase position marked.now parts.old }
+    requires unread { AreUnread (P.phase position) event.now marked.now parts.old }
+    requires sets { length awake.old ≡ length marked.now }
     ensures stands { OnOk result ((events : List Event) → length events ≡ position
         → All (λ p. InTime events event.now (P.phase position p)) parts.old
         → All (λ p. StandsAt events (P.phase position p)) parts.old
@@ -167,21 +234,26 @@ pub fn see<P: Keeps, L: Ledger>(
         (map (P.phase (position + 1)) parts.new)) }
     ensures answering { OnOk result (MayAnswer touched.new.items
         (map (P.phase (position + 1)) parts.new)) }
+    ensures left { OnOk result (AreLeft P.phase (position + 1) awake.new parts.new) }
     ensures unchanged { OnErr result (map (P.phase position) parts.new
         ≡ map (P.phase position) parts.old) }
+    ensures still_left { OnErr result (AreLeft P.phase position awake.new parts.new) }
+    ensures sets { length awake.new ≡ length awake.old }
     ensures steps { OnOk result (steps.new
         ≤ steps.old + sum_by (λ p. kept_bound (P.phase (position + 1) p)) parts.new) }
     ensures within { (events : List Event) (most : List ℕ) → length events ≡ position
         → AreBounded events event.now (map (P.phase position) parts.old) most → steps.new
         ≤ steps.old + sum_by update_bound most }
 {
-    match prepare_all(parts, touched, event, position, steps) {
+    match prepare_all(parts, marked, touched, event, position, steps) {
         Ok(()) => {
             commit_all(parts, touched.as_slice(), event, position);
+            look_all(parts, marked, awake);
             Ok(())
         }
         Err(refused) => {
-            take_back_all(parts);
+            take_back_all(parts, marked);
+            awake.unite(marked);
             Err(refused)
         }
     }

@@ -1,7 +1,6 @@
 -- Rows one after another, and what they cost. For callers of the crate too.
-use Rattle.std.proofs.Common.{◌≡◌, ℕ, zero, suc, ◌+◌, ◌-◌, ◌<◌, ◌≤◌, List, [], ◌∷◌, ◌++◌, length, map, take, drop, reverse, Option, Some, None, Result, Ok, Err, IsPermutation, refl, sym, ◌∙◌, ap, subst, append_assoc, arith, flat_map}
-use Rattle.std.specs.Prelude.{slice_get, sum_by}
-use Rattle.std.proofs.lemmas.Grind.{flat_map-append}
+use Rattle.std.proofs.Common.{◌≡◌, ℕ, suc, ◌+◌, ◌-◌, ◌<◌, ◌≤◌, List, [], ◌∷◌, ◌++◌, length, map, take, drop, reverse, Option, Some, Result, Ok, Err, IsPermutation, refl, sym, ◌∙◌, ap, subst, append_assoc, arith, flat_map}
+use Rattle.std.specs.Prelude.{slice_get}
 use Rattle.std.proofs.lemmas.List.{append-nil, take_more, take_all, take-append-drop, length-take, length-reverse, map-append}
 use Rattle.std.proofs.lemmas.List.Sums.{sum_by-cons, sum_by-append}
 use Rattle.std.proofs.lemmas.List.Sorted.{IsPermutation-refl, IsPermutation-sym, Contains-permutation, sum_by-IsPermutation}
@@ -16,14 +15,14 @@ use Rattle.stream_schema.specs.declared.Event.{Event}
 use Rattle.cel_terms.specs.declared.Query.{Query}
 use Rattle.cel_terms.specs.Answers.{Answer}
 use Rattle.cel_plain.specs.Valuations.{AreAnswersAt}
-use Rattle.cer_outside.specs.Bytes.{TookAll, TookPart}
+use Rattle.cer_outside.specs.Bytes.{TookAll}
 use Rattle.query_engine.specs.Bounds.{delay, update_bound, for_each_query}
 use Rattle.query_engine.specs.Engine.{State, StandsFor}
 use Rattle.query_engine.proofs.Counting.{one_query_more, fewer_queries}
 use Rattle.answer_text.specs.declared.Order.{Order}
-use Rattle.answer_text.specs.declared.Order.TheVariants.{Walk, Sorted}
+use Rattle.answer_text.specs.declared.Order.TheVariants.{Sorted}
 use Rattle.answer_text.specs.Output.{line, AreInOrder}
-use Rattle.answer_text.specs.Rows.{Row, row_line, lines_of, row_at, AreRowsOf, AreRowsAt}
+use Rattle.answer_text.specs.Rows.{Row, lines_of, row_at, AreRowsOf, AreRowsAt}
 use Rattle.answer_text.proofs.RowLists.{lines_both, lines_at, rows_of_block, rows_of_blocks, rows_append}
 use Rattle.answer_blocks.specs.Taken.{TookPrefix, TookBy}
 use Rattle.answer_blocks.specs.Wanted.{wanted, AreWanted}
@@ -31,7 +30,7 @@ use Rattle.answer_blocks.specs.Counted.{delay_of, delays, row_delays, HasRows, H
 use Rattle.answer_blocks.proofs.Blocks.{wanted_are_there, wanted_once, enough, some_block_is, some_blocks_are}
 use Rattle.answer_blocks.proofs.Sorting.{in_order, in_order_moves, in_order_is}
 use Rattle.answer_blocks.proofs.Joined.{item_at, none_wanted, none_in_order}
-use Rattle.answer_blocks.proofs.Writing.{all_after, prefix_after, prefix_none, line_failed}
+use Rattle.answer_blocks.proofs.Writing.{all_after, prefix_after, line_failed}
 
 -- DELAYS
 

@@ -2,6 +2,8 @@
 pub mod Sorting
 -- for callers of the crate too
 pub mod Blocks
+-- lines that were put after a text
+mod Put
 -- blocks one after another
 pub mod Joined
 -- what a sink has taken

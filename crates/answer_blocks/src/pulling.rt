@@ -1,8 +1,8 @@
 //! Pulling as many answers of a query as it wants.
 
-ghost use Rattle.std.specs.Prelude.{◌≡◌, ◌+◌, ◌<◌, ◌≤◌, [], ◌∷◌, length, reverse, IfOk, MatchOption};
+ghost use Rattle.std.specs.Prelude.{◌≡◌, ◌+◌, ◌<◌, ◌≤◌, true, [], ◌∷◌, length, reverse, IfOk, MatchOption};
 ghost use Rattle.query_engine.specs.Bounds.{delay, update_bound};
-ghost use Rattle.query_engine.specs.Engine.{count_of, found_of, Fits, IsNumber};
+ghost use Rattle.query_engine.specs.Engine.{State, count_of, found_of, Fits, IsNumber};
 ghost use Rattle.answer_blocks.specs.Wanted.{are_enough, one_fewer, to_give, AreWanted};
 
 use cer_base::steps::Steps;
@@ -80,6 +80,14 @@ impl Pulling {
             }
             None => None,
         }
+    }
+
+    /// Whether no more answers are wanted, or there are none.
+    pub fn is_over(&self) -> bool
+        ensures { (engine : State) → Fits engine self.now.cursor → result ≡ true
+            → to_give engine self.now.left self.now.cursor ≡ [] }
+    {
+        are_enough(self.left) || self.cursor.is_done()
     }
 
     /// The positions of the answer that was given last, greatest first.

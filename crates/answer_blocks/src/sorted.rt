@@ -1,6 +1,6 @@
 //! The blocks of a position, each in order.
 
-ghost use Rattle.std.specs.Prelude.{◌≡◌, ℕ, ◌+◌, ◌-◌, ◌<◌, ◌≤◌, List, ◌++◌, length, take, flat_map, IfOk, OnOk, OnErr};
+ghost use Rattle.std.specs.Prelude.{◌≡◌, ℕ, ◌+◌, ◌-◌, ◌<◌, ◌≤◌, List, ◌∷◌, ◌++◌, length, take, reverse, flat_map, OnOk, OnErr};
 ghost use Rattle.std.specs.List.Sorted.{IsPermutation};
 ghost use Rattle.stream_schema.specs.declared.Event.{Event};
 ghost use Rattle.cer_base.specs.Repeats.{HasNoRepeats};
@@ -11,36 +11,36 @@ ghost use Rattle.answer_text.specs.Output.{line, EachBeforeNext, AreBlocks};
 ghost use Rattle.answer_text.specs.Rows.{lines_of};
 ghost use Rattle.answer_text.specs.Texts.{StartsWith};
 ghost use Rattle.answer_blocks.specs.Wanted.{to_give};
-ghost use Rattle.answer_blocks.specs.Blocks.{HasBlock, HasBlocks};
+ghost use Rattle.answer_blocks.specs.Blocks.{HasBlock, HasBlocks, HasPut};
 ghost use Rattle.answer_blocks.specs.Counted.{delays, row_delays, HasRows, HasRowsAt};
 
 use crate::pulling::Pulling;
-use answer_text::Answer;
 use answer_text::answer::order;
+use answer_text::{Answer, push_line};
 use cer_base::steps::Steps;
 use cer_base::{Memory, Pos};
 use query_engine::Engine;
 use std::alloc::Global;
 use std::sync::ledger::Ledger;
 
-/// All that are wanted.
-fn pulled<L: Ledger>(
+/// Puts all that are still wanted after the answers.
+fn pull_all<L: Ledger>(
     alloc: Global,
     engine: &Engine,
     pulling: &mut Pulling,
+    found: &mut Vec<Answer>,
     steps: &mut Steps<L>,
-) -> Result<Vec<Answer>, Memory>
+) -> Result<(), Memory>
     requires fits { Fits engine.now pulling.old.cursor }
-    ensures all { IfOk result (λ v.
-        v.items ≡ to_give engine.now pulling.old.left pulling.old.cursor) }
+    ensures all { OnOk result (found.new.items
+        ≡ found.old.items ++ to_give engine.now pulling.old.left pulling.old.cursor) }
     ensures steps { steps.new ≤ steps.old + 1
         + delays (to_give engine.now pulling.old.left pulling.old.cursor) }
 {
-    let mut found = Vec::new(alloc);
     while let Some(start) = pulling.next(engine, steps) {
         found.push(Answer::new(alloc, start, pulling.positions())?)?;
     }
-    Ok(found)
+    Ok(())
 }
 
 fn sort(answers: &mut Vec<Answer>)
@@ -59,6 +59,60 @@ fn push_lines(text: &mut Vec<u8>, query: u64, end: Pos, answers: &[Answer]) -> R
         answer.push_line(text, query, end)?;
     }
     Ok(())
+}
+
+/// The lines of the answer that was given last and of all that are still wanted, in order.
+fn push_several<L: Ledger>(
+    alloc: Global,
+    engine: &Engine,
+    pulling: &mut Pulling,
+    start: Pos,
+    query: u64,
+    end: Pos,
+    text: &mut Vec<u8>,
+    steps: &mut Steps<L>,
+) -> Result<(), Memory>
+    requires fits { Fits engine.now pulling.old.cursor }
+    ensures put { HasPut query end (record { start = start; marks = reverse pulling.old.cursor.path }
+        ∷ to_give engine.now pulling.old.left pulling.old.cursor)
+        text.old.items text.new.items result }
+    ensures kept { OnErr result (StartsWith text.old.items text.new.items) }
+    ensures steps { steps.new ≤ steps.old + 1
+        + delays (to_give engine.now pulling.old.left pulling.old.cursor) }
+{
+    let mut answers = Vec::new(alloc);
+    answers.push(Answer::new(alloc, start, pulling.positions())?)?;
+    pull_all(alloc, engine, pulling, &mut answers, steps)?;
+    sort(&mut answers);
+    push_lines(text, query, end, answers.as_slice())
+}
+
+/// The lines of all that are wanted, in order. The line of one alone is put without keeping it.
+fn push_wanted<L: Ledger>(
+    alloc: Global,
+    engine: &Engine,
+    pulling: &mut Pulling,
+    query: u64,
+    end: Pos,
+    text: &mut Vec<u8>,
+    steps: &mut Steps<L>,
+) -> Result<(), Memory>
+    requires fits { Fits engine.now pulling.old.cursor }
+    ensures put { HasPut query end (to_give engine.now pulling.old.left pulling.old.cursor)
+        text.old.items text.new.items result }
+    ensures kept { OnErr result (StartsWith text.old.items text.new.items) }
+    ensures steps { steps.new ≤ steps.old + 1
+        + delays (to_give engine.now pulling.old.left pulling.old.cursor) }
+{
+    match pulling.next(engine, steps) {
+        None => Ok(()),
+        Some(start) => {
+            if pulling.is_over() {
+                return push_line(text, query, start, end, pulling.positions());
+            }
+            push_several(alloc, engine, pulling, start, query, end, text, steps)
+        }
+    }
 }
 
 fn push_block<L: Ledger>(
@@ -81,9 +135,8 @@ fn push_block<L: Ledger>(
         return Ok(());
     }
     let mut pulling = Pulling::start(engine, number, steps)?;
-    let mut answers = pulled(alloc, engine, &mut pulling, steps)?;
-    sort(&mut answers);
-    push_lines(text, number, engine.events() - 1, answers.as_slice())
+    let end = engine.events() - 1;
+    push_wanted(alloc, engine, &mut pulling, number, end, text, steps)
 }
 
 fn push_each<L: Ledger>(

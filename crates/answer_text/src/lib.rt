@@ -14,6 +14,7 @@ use std::alloc::Global;
 
 pub mod answer;
 mod explaining;
+mod short;
 #[cfg(test)]
 mod tests;
 pub mod writing;

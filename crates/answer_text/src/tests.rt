@@ -17,8 +17,41 @@ fn lines_are_laid_out(rt: HostRuntime) -> Result<(), Fail> {
     Ok(())
 }
 
+/// With eight positions, the most that are few, with the greatest numbers that there are, and with nine.
 #[test]
-fn a_line_goes_behind_the_text(rt: HostRuntime) -> Result<(), Fail> {
+fn lines_of_few_and_of_many_positions_are_laid_out(rt: HostRuntime) -> Result<(), Fail> {
+    let rows: [(u64, Pos, Pos, &[Pos], &str); 3] = [
+        (
+            1024,
+            10,
+            17,
+            &[10, 11, 12, 13, 14, 15, 16, 17],
+            "1024 [10,17] {10,11,12,13,14,15,16,17}\n",
+        ),
+        (
+            18_446_744_073_709_551_615,
+            18_446_744_073_709_551_615,
+            18_446_744_073_709_551_615,
+            &[18_446_744_073_709_551_614, 18_446_744_073_709_551_615],
+            "18446744073709551615 [18446744073709551615,18446744073709551615] {18446744073709551614,18446744073709551615}\n",
+        ),
+        (
+            1,
+            0,
+            9,
+            &[0, 1, 2, 3, 4, 5, 6, 7, 9],
+            "1 [0,9] {0,1,2,3,4,5,6,7,9}\n",
+        ),
+    ];
+    for (query, start, end, positions, want) in rows {
+        let text = line(rt.alloc(), query, start, end, positions)?;
+        assert_eq!(rt; text.as_slice(), want.as_bytes());
+    }
+    Ok(())
+}
+
+#[test]
+fn a_line_goes_after_the_text(rt: HostRuntime) -> Result<(), Fail> {
     let mut text = Vec::new(rt.alloc());
     push_line(&mut text, 1, 0, 5, &[5, 3, 0])?;
     push_line(&mut text, 2, 5, 5, &[])?;

@@ -1,10 +1,11 @@
 //! The line of a complex event, put after a text.
 
-ghost use Rattle.std.specs.Prelude.{◌≡◌, ◌++◌, ◌∷◌, true, false, reverse, decimal, codes, OnOk, OnErr};
+ghost use Rattle.std.specs.Prelude.{◌≡◌, ◌≤◌, ◌++◌, ◌∷◌, true, false, length, reverse, decimal, codes, OnOk, OnErr};
 ghost use Rattle.cer_base.specs.declared.bytes.TheConstants as bytes;
 ghost use Rattle.answer_text.specs.Output.{positions_text, line};
 ghost use Rattle.answer_text.specs.Texts.{StartsWith};
 
+use crate::short::{FEW, ROOM, put_line};
 use cer_base::bytes::COMMA;
 use cer_base::{Memory, Pos};
 use itoa::Buffer;
@@ -74,6 +75,25 @@ fn push_parts(
     Ok(())
 }
 
+/// The line of a complex event with few positions, made in one piece.
+fn push_short(
+    text: &mut Vec<u8>,
+    query: u64,
+    start: Pos,
+    end: Pos,
+    falling: &[Pos],
+) -> Result<(), Memory>
+    requires few { length falling.now ≤ FEW }
+    ensures line { OnOk result (text.new.items ≡ text.old.items ++ line query end (record
+        { start = start; marks = reverse falling.now })) }
+    ensures kept { OnErr result (text.new.items ≡ text.old.items) }
+{
+    let mut buf = [0; ROOM];
+    let at = put_line(&mut buf, query, start, end, falling);
+    text.extend_from_slice(&buf[at..])?;
+    Ok(())
+}
+
 /// Puts the line of a complex event after the text, with its line feed: the query's number, the
 /// start and the end, and the marked positions, which are given greatest first, in ascending order.
 /// Where memory runs out the text is as it was.
@@ -90,6 +110,9 @@ pub fn push_line(
         { start = start; marks = reverse falling.now })) }
     ensures kept { OnErr result (text.new.items ≡ text.old.items) }
 {
+    if falling.len() <= FEW {
+        return push_short(text, query, start, end, falling);
+    }
     let before = text.len();
     match push_parts(text, query, start, end, falling) {
         Ok(()) => Ok(()),

@@ -145,7 +145,8 @@ fn is_lower(a: i128, b: i128) -> bool
 /// The lower one of a clock and the cursor's, if it is the query's.
 fn lower(cursor: &Cursor, query: u64, low: i128) -> i128
     ensures { result
-        ≡ cond (cursor.now.query == query) (cond (int_le low cursor.now.low) low cursor.now.low) low }
+        ≡ cond (cursor.now.query == query)
+        (cond (int_le low cursor.now.low) low cursor.now.low) low }
 {
     if cursor.query() == query && !is_lower(low, cursor.low()) {
         return cursor.low();

@@ -100,7 +100,8 @@ fn keep_all<S: NodeStore, K: HasLists, C: HasCursor, L: Ledger>(
     requires room { length (S.nodes store.now) ≤ length table.old }
     requires blank { (id : ℕ) → get_or table.old id None ≡ None }
     ensures marks { AreNodeMarks least (S.nodes store.now)
-        (key_roots least (map K.rows keys.now) ++ cursor_roots query (map C.walk cursors.now)) 0 table.new }
+        (key_roots least (map K.rows keys.now)
+        ++ cursor_roots query (map C.walk cursors.now)) 0 table.new }
     ensures long { length table.new ≡ length table.old }
     ensures steps { steps.new
         ≤ steps.old + places (map K.rows keys.now) + length (S.nodes store.now) }
@@ -128,7 +129,8 @@ fn move_all<S: NodeStore, K: HasLists, C: HasCursor, L: Ledger>(
         × Fits w (S.nodes store.old)) (map C.walk cursors.old) }
     requires room { length (S.nodes store.old) ≤ length table.old }
     requires marks { AreNodeMarks least (S.nodes store.old)
-        (key_roots least (map K.rows keys.old) ++ cursor_roots query (map C.walk cursors.old)) 0 table.old }
+        (key_roots least (map K.rows keys.old)
+        ++ cursor_roots query (map C.walk cursors.old)) 0 table.old }
     ensures nodes { Compacted least (S.nodes store.old) (S.nodes store.new)
         (roots_of query (map K.rows keys.new) (map C.walk cursors.new)) }
     ensures lists { KeysCompacted least (S.nodes store.old) (S.nodes store.new)

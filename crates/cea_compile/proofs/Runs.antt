@@ -1,13 +1,13 @@
 -- A tree has a path with the marked positions exactly where the determinised run accepts.
-use Rattle.std.proofs.Common.{◌≡◌, refl, sym, ap, subst, ◌∙◌, ℕ, ◌<◌, ◌≤◌, ◌⊎◌, inl, inr, ◌↔◌, Bool, true, false, not, ◌&&◌, List, [], ◌∷◌, Decides, arith}
-use Rattle.std.proofs.lemmas.Bool.{false≢true, and_parts, cases_order}
+use Rattle.std.proofs.Common.{◌≡◌, refl, sym, ap, subst, ◌∙◌, ℕ, ◌<◌, ◌≤◌, ◌⊎◌, inl, inr, ◌↔◌, Bool, true, List, [], ◌∷◌, Decides, arith}
+use Rattle.std.proofs.lemmas.Bool.{false≢true, cases_order}
 use Rattle.query_leaves.specs.LeafTree.{LeafTree}
 use Rattle.cea_determinise.specs.Runs.{LeafSet, Automaton, start, pair, agrees, has_leaf, Entry, run, accepted_run}
 use Rattle.cea_compile.specs.Paths.{Step, Reading, Path, IsLinear}
 use Rattle.cea_compile.specs.Positions.{HasFollower, Steps, Walk, walk, IsAutomatonOf}
 use Rattle.cea_compile.specs.Covers.{IsEntry, Cover, CoverAfter, MarkedAt}
 use Rattle.cea_compile.proofs.Glushkov.{path_iff_walk, widened}
-use Rattle.cea_compile.proofs.Subsets.{IsLive, Leads, sound, complete, live_has_leaf, kept_accepts, accepts_kept, fresh_parts, fresh_from}
+use Rattle.cea_compile.proofs.Subsets.{IsLive, Leads, sound, complete, live_has_leaf, kept_accepts, accepts_kept, WasRead, Passed, came, goes, fresh_after, waiting_after, read_parts, read_from}
 use Rattle.cea_compile.proofs.Skips.{Follow, HasSteps, ReadsWithin, HaveMarks, steps_of_leads, leads_of_steps, steps_beyond, steps_rise, marked_beyond, agrees_same, agrees_from}
 
 -- A path of the tree from the start to the end has exactly the marks, among the positions of the substream.
@@ -26,32 +26,32 @@ pub record HasStart (a : Automaton) (marks : ℕ → Bool) (x : Entry) (xs : Lis
   pub leads : Leads a marks true leaf xs
 
 start_of_run : (a : Automaton) (marks : ℕ → Bool) (x : Entry) (xs : List Entry) → accepted_run a (run a marks start (x ∷ xs)) ≡ true → HasStart a marks x xs
-start_of_run a marks x xs h = go live.leaf live.below live.leads
+start_of_run a marks x xs h = go live.leaf live.below (came a marks start x xs live.leaf live.leads)
   where
     f : LeafSet
-    f k = a.first k && (x.bits k && agrees (marks x.position) (a.marked k))
+    f = fresh_after a marks start x
 
     w : LeafSet
-    w k = not (marks x.position) && false
+    w = waiting_after a marks start x
 
     live : IsLive a marks f w xs
     live = sound a marks xs f w (kept_accepts a (λ t. run a marks t xs) (pair f w) (has_leaf a (pair f w)) h)
 
-    go : (k : ℕ) → k < a.size → ((f k ≡ true) × Leads a marks true k xs) ⊎ ((w k ≡ true) × Leads a marks false k xs) → HasStart a marks x xs
-    go k b (inl h) = let p = fresh_parts a marks start x k h.0 in record { leaf = k; below = b; first = p.0; bit = p.1; mark = p.2; leads = h.1 }
-    go k b (inr h) = absurd (false≢true (and_parts (not (marks x.position)) false h.0).1)
+    go : (k : ℕ) → k < a.size → WasRead a marks start x xs k ⊎ Passed a marks start x xs k → HasStart a marks x xs
+    go k b (inl h) = let p = read_parts a marks start x k h.0 in record { leaf = k; below = b; first = p.0; bit = p.1; mark = p.2; leads = h.1 }
+    go k b (inr h) = absurd (false≢true h.1)
 
 run_of_start : (a : Automaton) (marks : ℕ → Bool) (x : Entry) (xs : List Entry) → HasStart a marks x xs → accepted_run a (run a marks start (x ∷ xs)) ≡ true
 run_of_start a marks x xs s = accepts_kept a (λ t. run a marks t xs) (pair f w) (has_leaf a (pair f w)) (live_has_leaf a marks xs f w live) (complete a marks xs f w live)
   where
     f : LeafSet
-    f k = a.first k && (x.bits k && agrees (marks x.position) (a.marked k))
+    f = fresh_after a marks start x
 
     w : LeafSet
-    w k = not (marks x.position) && false
+    w = waiting_after a marks start x
 
     live : IsLive a marks f w xs
-    live = record { leaf = s.leaf; below = s.below; leads = inl (fresh_from a marks start x s.leaf s.first s.bit s.mark, s.leads) }
+    live = record { leaf = s.leaf; below = s.below; leads = goes a marks start x xs s.leaf (read_from a marks start x s.leaf s.first s.bit s.mark) s.leads }
 
 -- the follow pairs of a tree are its automaton's
 steps_to : {r : Reading} (t : LeafTree ℕ) (a : Automaton) {j p l e : ℕ} {w : List Step} → IsAutomatonOf t a → Steps r (HasFollower t) j p w l e → Steps r (Follow a) j p w l e

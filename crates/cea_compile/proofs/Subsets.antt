@@ -2,7 +2,7 @@
 use Rattle.std.proofs.Common.{◌≡◌, refl, sym, ◌∙◌, ℕ, ◌<◌, ◌⊎◌, inl, inr, Bool, true, false, not, ◌&&◌, ◌||◌, cond, List, [], ◌∷◌, Option, Some, None, option_and_then, Decides}
 use Rattle.std.proofs.lemmas.Bool.{and_parts, and_from, or_cases, or_left, or_right, not-true, not_from_false, false≢true}
 use Rattle.std.proofs.lemmas.Bool.Decides.{Decides-below_or}
-use Rattle.cea_determinise.specs.Runs.{LeafSet, some_below, Automaton, follow, State, pair, candidates, patient, agrees, has_leaf, Entry, run, accepted_run}
+use Rattle.cea_determinise.specs.Runs.{LeafSet, some_below, Automaton, follow, State, pair, candidates, patient, agrees, readers, minds_next, waits_at_once, has_leaf, Entry, run, accepted_run}
 
 some_below_is : (p : LeafSet) (n : ℕ) → Decides (some_below n p) ((k : ℕ) × (k < n) × (p k ≡ true))
 some_below_is p = Decides-below_or p (λ k. p k ≡ true) (λ n. some_below n p) (λ k. (λ h. h, λ h. h)) refl (λ n. refl)
@@ -47,6 +47,25 @@ far_follower a (ends l) e = absurd (false≢true (sym e))
 far_follower a (reads {j = j} {k = k} m b y h s) e = (some_below_is (a.far j) a.size).1 (k, b, far_move a j k m.tight m.follows (λ t. sym e ∙ m.free t))
 far_follower a (skips m s) e = far_follower a s refl
 
+-- a leaf that waits can do no more than one that has read the event just before
+fresher : (a : Automaton) {marks : ℕ → Bool} {fresh : Bool} {j : ℕ} {xs : List Entry} → Leads a marks fresh j xs → fresh ≡ false → Leads a marks true j xs
+fresher a (ends l) e = absurd (false≢true (sym e))
+fresher a (reads m b y g s) e = reads (record { tight = m.tight; follows = m.follows; free = λ t. refl }) b y g s
+fresher a (skips m s) e = skips m s
+
+no_near : (a : Automaton) (j k : ℕ) → k < a.size → minds_next a j ≡ false → a.near j k ≡ true → ⊥
+no_near a j k b none near = false≢true (sym none ∙ or_right (a.last j) (some_below a.size (a.near j)) ((some_below_is (a.near j) a.size).1 (k, b, near)))
+
+-- and no less, where it does not mind the next event
+as_waiting : (a : Automaton) {marks : ℕ → Bool} {fresh : Bool} {j : ℕ} {xs : List Entry} → minds_next a j ≡ false → Leads a marks fresh j xs → Leads a marks false j xs
+as_waiting a {j = j} none (ends l) = absurd (false≢true (sym none ∙ or_left (a.last j) (some_below a.size (a.near j)) l))
+as_waiting a {j = j} none (reads {k = k} m b y g s) = reads (record { tight = m.tight; follows = m.follows; free = λ t. absurd (no_near a j k b none (tight_is m.tight t m.follows)) }) b y g s
+  where
+    tight_is : (tight : Bool) → tight ≡ true → follow a tight j k ≡ true → a.near j k ≡ true
+    tight_is true e f = f
+    tight_is false e f = absurd (false≢true e)
+as_waiting a none (skips m s) = skips m s
+
 -- a leaf of a state, fresh or waiting, that may be followed by k
 abbrev pub HasMove : Automaton → LeafSet → LeafSet → ℕ → ℕ → Type 0
 HasMove a fresh waiting k j = ((fresh j ≡ true) × IsMove a true j k) ⊎ ((waiting j ≡ true) × IsMove a false j k)
@@ -85,32 +104,64 @@ pub accepts_kept : (a : Automaton) (g : State → Option State) (t : State) (b :
 accepts_kept a g t true e h = h
 accepts_kept a g t false e h = absurd (false≢true e)
 
--- the sets after one more entry
+-- the leaves that read one more entry, and the sets after it
+abbrev pub read_at : Automaton → (ℕ → Bool) → State → Entry → LeafSet
+read_at a marks s x k = readers a s x.bits (marks x.position) k
+
 abbrev pub fresh_after : Automaton → (ℕ → Bool) → State → Entry → LeafSet
-fresh_after a marks s x k = candidates a s k && (x.bits k && agrees (marks x.position) (a.marked k))
+fresh_after a marks s x k = read_at a marks s x k && minds_next a k
 
 abbrev pub waiting_after : Automaton → (ℕ → Bool) → State → Entry → LeafSet
-waiting_after a marks s x k = not (marks x.position) && patient a s k
+waiting_after a marks s x k = not (marks x.position) && patient a s k || read_at a marks s x k && waits_at_once a k
 
-pub fresh_parts : (a : Automaton) (marks : ℕ → Bool) (s : State) (x : Entry) (k : ℕ) → fresh_after a marks s x k ≡ true → (candidates a s k ≡ true) × (x.bits k ≡ true) × (agrees (marks x.position) (a.marked k) ≡ true)
-fresh_parts a marks s x k h =
+pub read_parts : (a : Automaton) (marks : ℕ → Bool) (s : State) (x : Entry) (k : ℕ) → read_at a marks s x k ≡ true → (candidates a s k ≡ true) × (x.bits k ≡ true) × (agrees (marks x.position) (a.marked k) ≡ true)
+read_parts a marks s x k h =
     let p = and_parts (candidates a s k) (x.bits k && agrees (marks x.position) (a.marked k)) h in
     let q = and_parts (x.bits k) (agrees (marks x.position) (a.marked k)) p.1 in
     (p.0, q.0, q.1)
 
-pub fresh_from : (a : Automaton) (marks : ℕ → Bool) (s : State) (x : Entry) (k : ℕ) → candidates a s k ≡ true → x.bits k ≡ true → agrees (marks x.position) (a.marked k) ≡ true → fresh_after a marks s x k ≡ true
-fresh_from a marks s x k c b g = and_from (candidates a s k) (x.bits k && agrees (marks x.position) (a.marked k)) c (and_from (x.bits k) (agrees (marks x.position) (a.marked k)) b g)
+pub read_from : (a : Automaton) (marks : ℕ → Bool) (s : State) (x : Entry) (k : ℕ) → candidates a s k ≡ true → x.bits k ≡ true → agrees (marks x.position) (a.marked k) ≡ true → read_at a marks s x k ≡ true
+read_from a marks s x k c b g = and_from (candidates a s k) (x.bits k && agrees (marks x.position) (a.marked k)) c (and_from (x.bits k) (agrees (marks x.position) (a.marked k)) b g)
 
-waiting_parts : (a : Automaton) (marks : ℕ → Bool) (fresh waiting : LeafSet) (x : Entry) (k : ℕ) → waiting_after a marks (pair fresh waiting) x k ≡ true → (marks x.position ≡ false) × ((fresh k ≡ true) ⊎ (waiting k ≡ true))
-waiting_parts a marks fresh waiting x k h =
-    let p = and_parts (not (marks x.position)) (patient a (pair fresh waiting) k) h in
-    (not-true (marks x.position) p.0, or_cases (fresh k) (waiting k) (and_parts (fresh k || waiting k) (some_below a.size (a.far k)) p.1).0)
+-- a leaf of the sets after the entry leads on: one that read it, or that let it pass
+abbrev pub WasRead : Automaton → (ℕ → Bool) → State → Entry → List Entry → ℕ → Type 0
+WasRead a marks s x xs k = (read_at a marks s x k ≡ true) × Leads a marks true k xs
 
-waiting_from : (a : Automaton) (marks : ℕ → Bool) (fresh waiting : LeafSet) (x : Entry) (k : ℕ) → marks x.position ≡ false → (fresh k || waiting k) ≡ true → some_below a.size (a.far k) ≡ true → waiting_after a marks (pair fresh waiting) x k ≡ true
-waiting_from a marks fresh waiting x k m h f = and_from (not (marks x.position)) (patient a (pair fresh waiting) k) (not_from_false (marks x.position) m) (and_from (fresh k || waiting k) (some_below a.size (a.far k)) h f)
+abbrev pub Passed : Automaton → (ℕ → Bool) → State → Entry → List Entry → ℕ → Type 0
+Passed a marks s x xs k = (marks x.position ≡ false) × (patient a s k ≡ true) × Leads a marks false k xs
+
+abbrev pub LeadsFrom : Automaton → (ℕ → Bool) → LeafSet → LeafSet → List Entry → ℕ → Type 0
+LeadsFrom a marks fresh waiting xs k = ((fresh k ≡ true) × Leads a marks true k xs) ⊎ ((waiting k ≡ true) × Leads a marks false k xs)
+
+pub came : (a : Automaton) (marks : ℕ → Bool) (s : State) (x : Entry) (xs : List Entry) (k : ℕ) →
+    LeadsFrom a marks (fresh_after a marks s x) (waiting_after a marks s x) xs k → WasRead a marks s x xs k ⊎ Passed a marks s x xs k
+came a marks s x xs k (inl h) = inl ((and_parts (read_at a marks s x k) (minds_next a k) h.0).0, h.1)
+came a marks s x xs k (inr h) = elim (or_cases (not (marks x.position) && patient a s k) (read_at a marks s x k && waits_at_once a k) h.0) [
+  | inl past ↦ let p = and_parts (not (marks x.position)) (patient a s k) past in inr (not-true (marks x.position) p.0, p.1, h.1)
+  | inr now ↦ inl ((and_parts (read_at a marks s x k) (waits_at_once a k) now).0, fresher a h.1 refl)
+]
+
+pub goes : (a : Automaton) (marks : ℕ → Bool) (s : State) (x : Entry) (xs : List Entry) (k : ℕ) → read_at a marks s x k ≡ true → Leads a marks true k xs →
+    LeadsFrom a marks (fresh_after a marks s x) (waiting_after a marks s x) xs k
+goes a marks s x xs k read leads = by (minds_next a k) refl
+  where
+    by : (b : Bool) → minds_next a k ≡ b → LeadsFrom a marks (fresh_after a marks s x) (waiting_after a marks s x) xs k
+    by true e = inl (and_from (read_at a marks s x k) (minds_next a k) read e, leads)
+    by false e =
+        let waits = as_waiting a e leads in
+        let far = far_follower a waits refl in
+        let at_once = and_from (not (minds_next a k)) (some_below a.size (a.far k)) (not_from_false (minds_next a k) e) far in
+        inr (or_right (not (marks x.position) && patient a s k) (read_at a marks s x k && waits_at_once a k) (and_from (read_at a marks s x k) (waits_at_once a k) read at_once), waits)
+
+passes : (a : Automaton) (marks : ℕ → Bool) (fresh waiting : LeafSet) (x : Entry) (xs : List Entry) (k : ℕ) → marks x.position ≡ false → (fresh k || waiting k) ≡ true → Leads a marks false k xs →
+    LeadsFrom a marks (fresh_after a marks (pair fresh waiting) x) (waiting_after a marks (pair fresh waiting) x) xs k
+passes a marks fresh waiting x xs k m h leads =
+    let f = far_follower a leads refl in
+    let past = and_from (not (marks x.position)) (patient a (pair fresh waiting) k) (not_from_false (marks x.position) m) (and_from (fresh k || waiting k) (some_below a.size (a.far k)) h f) in
+    inr (or_left (not (marks x.position) && patient a (pair fresh waiting) k) (read_at a marks (pair fresh waiting) x k && waits_at_once a k) past, leads)
 
 live_before : (a : Automaton) (marks : ℕ → Bool) (x : Entry) (xs : List Entry) (fresh waiting : LeafSet) → IsLive a marks (fresh_after a marks (pair fresh waiting) x) (waiting_after a marks (pair fresh waiting) x) xs → IsLive a marks fresh waiting (x ∷ xs)
-live_before a marks x xs fresh waiting live = go live.leaf live.below live.leads
+live_before a marks x xs fresh waiting live = go live.leaf live.below (came a marks (pair fresh waiting) x xs live.leaf live.leads)
   where
     moved : (j k : ℕ) → j < a.size → k < a.size → HasMove a fresh waiting k j → x.bits k ≡ true → agrees (marks x.position) (a.marked k) ≡ true → Leads a marks true k xs → IsLive a marks fresh waiting (x ∷ xs)
     moved j k lo b (inl m) y g s = record { leaf = j; below = lo; leads = inl (m.0, reads m.1 b y g s) }
@@ -120,12 +171,12 @@ live_before a marks x xs fresh waiting live = go live.leaf live.below live.leads
     waited k b m (inl h) s = record { leaf = k; below = b; leads = inl (h, skips m s) }
     waited k b m (inr h) s = record { leaf = k; below = b; leads = inr (h, skips m s) }
 
-    go : (k : ℕ) → k < a.size → ((fresh_after a marks (pair fresh waiting) x k ≡ true) × Leads a marks true k xs) ⊎ ((waiting_after a marks (pair fresh waiting) x k ≡ true) × Leads a marks false k xs) → IsLive a marks fresh waiting (x ∷ xs)
+    go : (k : ℕ) → k < a.size → WasRead a marks (pair fresh waiting) x xs k ⊎ Passed a marks (pair fresh waiting) x xs k → IsLive a marks fresh waiting (x ∷ xs)
     go k b (inl h) =
-        let p = fresh_parts a marks (pair fresh waiting) x k h.0 in
+        let p = read_parts a marks (pair fresh waiting) x k h.0 in
         let c = (candidate_is a fresh waiting k).0 p.0 in
         moved c.0 k c.1 b c.2 p.1 p.2 h.1
-    go k b (inr h) = let p = waiting_parts a marks fresh waiting x k h.0 in waited k b p.0 p.1 h.1
+    go k b (inr h) = waited k b h.0 (or_cases (fresh k) (waiting k) (and_parts (fresh k || waiting k) (some_below a.size (a.far k)) h.1).0) h.2
 
 live_after : (a : Automaton) (marks : ℕ → Bool) (x : Entry) (xs : List Entry) (fresh waiting : LeafSet) → IsLive a marks fresh waiting (x ∷ xs) → IsLive a marks (fresh_after a marks (pair fresh waiting) x) (waiting_after a marks (pair fresh waiting) x) xs
 live_after a marks x xs fresh waiting live = go live.leaf live.below live.leads
@@ -134,13 +185,13 @@ live_after a marks x xs fresh waiting live = go live.leaf live.below live.leads
     go j b (inl h) = from_fresh h.0 h.1
       where
         from_fresh : fresh j ≡ true → Leads a marks true j (x ∷ xs) → IsLive a marks (fresh_after a marks (pair fresh waiting) x) (waiting_after a marks (pair fresh waiting) x) xs
-        from_fresh f (reads {k = k} m b' y g s) = record { leaf = k; below = b'; leads = inl (fresh_from a marks (pair fresh waiting) x k ((candidate_is a fresh waiting k).1 (j, b, inl (f, m))) y g, s) }
-        from_fresh f (skips m s) = record { leaf = j; below = b; leads = inr (waiting_from a marks fresh waiting x j m (or_left (fresh j) (waiting j) f) (far_follower a s refl), s) }
+        from_fresh f (reads {k = k} m b' y g s) = record { leaf = k; below = b'; leads = goes a marks (pair fresh waiting) x xs k (read_from a marks (pair fresh waiting) x k ((candidate_is a fresh waiting k).1 (j, b, inl (f, m))) y g) s }
+        from_fresh f (skips m s) = record { leaf = j; below = b; leads = passes a marks fresh waiting x xs j m (or_left (fresh j) (waiting j) f) s }
     go j b (inr h) = from_waiting h.0 h.1
       where
         from_waiting : waiting j ≡ true → Leads a marks false j (x ∷ xs) → IsLive a marks (fresh_after a marks (pair fresh waiting) x) (waiting_after a marks (pair fresh waiting) x) xs
-        from_waiting f (reads {k = k} m b' y g s) = record { leaf = k; below = b'; leads = inl (fresh_from a marks (pair fresh waiting) x k ((candidate_is a fresh waiting k).1 (j, b, inr (f, m))) y g, s) }
-        from_waiting f (skips m s) = record { leaf = j; below = b; leads = inr (waiting_from a marks fresh waiting x j m (or_right (fresh j) (waiting j) f) (far_follower a s refl), s) }
+        from_waiting f (reads {k = k} m b' y g s) = record { leaf = k; below = b'; leads = goes a marks (pair fresh waiting) x xs k (read_from a marks (pair fresh waiting) x k ((candidate_is a fresh waiting k).1 (j, b, inr (f, m))) y g) s }
+        from_waiting f (skips m s) = record { leaf = j; below = b; leads = passes a marks fresh waiting x xs j m (or_right (fresh j) (waiting j) f) s }
 
 pub live_has_leaf : (a : Automaton) (marks : ℕ → Bool) (xs : List Entry) (fresh waiting : LeafSet) → IsLive a marks fresh waiting xs → has_leaf a (pair fresh waiting) ≡ true
 live_has_leaf a marks xs fresh waiting live = (some_below_is (λ k. fresh k || waiting k) a.size).1 (live.leaf, live.below, go live.leads)

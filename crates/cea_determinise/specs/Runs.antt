@@ -1,6 +1,7 @@
 -- The position automaton of a pattern as sets of leaf numbers, and its determinised runs.
 -- Position automata are Glushkov's; that a waiting leaf lets events pass is "CORE: a Complex Event
--- Recognition Engine" (PVLDB 2022).
+-- Recognition Engine" (PVLDB 2022). A leaf to which the next event is like any later one waits at once,
+-- so that runs which differ in that alone meet in one state.
 use Rattle.std.specs.Prelude.{ℕ, zero, suc, Bool, true, false, not, ◌&&◌, ◌||◌, cond, List, [], ◌∷◌, Option, Some, None, option_and_then}
 
 -- A set of leaf numbers, by its test.
@@ -25,7 +26,7 @@ abbrev pub follow : Automaton → Bool → ℕ → LeafSet
 follow a true j = a.near j
 follow a false j = a.far j
 
--- A state of the subset construction: the leaves that read the last event, and those that read an earlier one and wait for a far follower.
+-- A state of the subset construction: the leaves that read the last event and mind what the next one is, and those that wait for a far follower, having read an earlier event, or the last one and not minding the next.
 pub data State : Type 0 where
   start : State
   pair : LeafSet → LeafSet → State
@@ -45,8 +46,21 @@ abbrev pub agrees : Bool → Bool → Bool
 agrees true m = m
 agrees false m = not m
 
+-- the leaves that read the event
+abbrev pub readers : Automaton → State → LeafSet → Bool → LeafSet
+readers a s bits mark k = candidates a s k && (bits k && agrees mark (a.marked k))
+
+-- the leaf minds what the very next event is: it may have read the last one of a match, or has a near follower
+abbrev pub minds_next : Automaton → LeafSet
+minds_next a k = a.last k || some_below a.size (a.near k)
+
+-- the leaf waits as soon as it has read an event
+abbrev pub waits_at_once : Automaton → LeafSet
+waits_at_once a k = not (minds_next a k) && some_below a.size (a.far k)
+
 abbrev pub successor : Automaton → State → LeafSet → Bool → State
-successor a s bits mark = pair (λ k. candidates a s k && (bits k && agrees mark (a.marked k))) (λ k. not mark && patient a s k)
+successor a s bits mark = pair (λ k. readers a s bits mark k && minds_next a k)
+    (λ k. not mark && patient a s k || readers a s bits mark k && waits_at_once a k)
 
 abbrev pub has_leaf : Automaton → State → Bool
 has_leaf a start = false

@@ -16,7 +16,7 @@ use crate::cea::{Cea, Side, StateSets};
 use crate::places::Places;
 use crate::rows::{KnownRow, KnownRows};
 use crate::successor::successor;
-use crate::table::{Both, EventClass, Mark, State, Successors, TransitionKey};
+use crate::table::{Both, EventClass, Sizes, State, Successors, TransitionKey};
 use cer_base::Memory;
 use cer_base::bits::Bits;
 use cer_base::steps::Steps;
@@ -103,13 +103,13 @@ impl Det {
     }
 
     /// How many states other than the start, how many known pairs and how many classes there are.
-    pub fn mark(&self) -> Mark
+    pub fn sizes(&self) -> Sizes
         ensures states { result.states ≡ length self.now.states }
         ensures pairs { result.pairs ≡ length self.now.transitions }
         ensures classes { result.classes ≡ length self.now.classes }
         ensures sound { IsSound self.now }
     {
-        Mark {
+        Sizes {
             states: self.states.len() as u64,
             pairs: self.transitions.len() as u64,
             classes: self.classes.len() as u64,
@@ -151,23 +151,23 @@ impl Det {
 
     /// Keeps the first so many states, pairs and classes. The pairs that stay are of states and
     /// classes that stay, and lead to states that stay.
-    pub fn back(&mut self, mark: Mark)
-        requires states { mark.states ≤ length self.old.states }
-        requires pairs { mark.pairs ≤ length self.old.transitions }
-        requires classes { mark.classes ≤ length self.old.classes }
-        requires within { All (StaysWithin mark.states mark.classes)
-            (take mark.pairs self.old.transitions) }
+    pub fn back(&mut self, sizes: Sizes)
+        requires states { sizes.states ≤ length self.old.states }
+        requires pairs { sizes.pairs ≤ length self.old.transitions }
+        requires classes { sizes.classes ≤ length self.old.classes }
+        requires within { All (StaysWithin sizes.states sizes.classes)
+            (take sizes.pairs self.old.transitions) }
         ensures { self.new ≡ record {
           cea = self.old.cea;
-          states = take mark.states self.old.states;
-          classes = take mark.classes self.old.classes;
-          transitions = take mark.pairs
+          states = take sizes.states self.old.states;
+          classes = take sizes.classes self.old.classes;
+          transitions = take sizes.pairs
               self.old.transitions;
         } }
     {
-        self.states.truncate(mark.states as usize);
-        self.transitions.truncate(mark.pairs as usize);
-        self.classes.truncate(mark.classes as usize);
+        self.states.truncate(sizes.states as usize);
+        self.transitions.truncate(sizes.pairs as usize);
+        self.classes.truncate(sizes.classes as usize);
         self.rows.clear();
     }
 

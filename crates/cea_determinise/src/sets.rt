@@ -2,7 +2,7 @@
 ghost use Rattle.std.specs.Prelude.{◌≡◌, ℕ, ◌<◌, ◌||◌, ◌&&◌, Bool, List, [], length, slice_index_or, option_map, IfOk, IfSome};
 ghost use Rattle.std.specs.Option.{option_copied};
 ghost use Rattle.cer_base.specs.Bits.{has, room_for};
-ghost use Rattle.cea_determinise.specs.Runs.{some_below, candidates, patient, agrees, pair};
+ghost use Rattle.cea_determinise.specs.Runs.{some_below, candidates, patient, agrees, pair, minds_next, waits_at_once};
 ghost use Rattle.cea_determinise.specs.Strict.{phase_after, next_standing};
 ghost use Rattle.cea_determinise.specs.Cea.{row, automaton_of_cea, IsSet, IsWellFormed, HasLeavesBelow, standing_of, standing, takes_marked};
 
@@ -56,6 +56,67 @@ fn has_far(cea: &Cea, leaf: usize) -> bool
     ensures { result ≡ some_below cea.now.size (row cea.now.far.items leaf) }
 {
     some_leaf(cea, &cea.far[leaf])
+}
+
+/// Whether the leaf has a near follower.
+fn has_near(cea: &Cea, leaf: usize) -> bool
+    requires well_formed { IsWellFormed cea.now }
+    requires leaf { leaf < cea.now.size }
+    ensures { result ≡ some_below cea.now.size (row cea.now.near.items leaf) }
+{
+    some_leaf(cea, &cea.near[leaf])
+}
+
+/// Whether the leaf minds what the very next event is.
+fn minds_next(cea: &Cea, leaf: usize) -> bool
+    requires well_formed { IsWellFormed cea.now }
+    requires leaf { leaf < cea.now.size }
+    ensures { result ≡ minds_next (automaton_of_cea cea.now) leaf }
+{
+    cea.last.contains(leaf) || has_near(cea, leaf)
+}
+
+/// Whether the leaf waits as soon as it has read an event.
+fn waits_at_once(cea: &Cea, leaf: usize) -> bool
+    requires well_formed { IsWellFormed cea.now }
+    requires leaf { leaf < cea.now.size }
+    ensures { result ≡ waits_at_once (automaton_of_cea cea.now) leaf }
+{
+    !minds_next(cea, leaf) && has_far(cea, leaf)
+}
+
+/// Those of the leaves that mind what the next event is.
+pub fn minding(alloc: Global, cea: &Cea, readers: &Bits) -> Result<Bits, Memory>
+    requires well_formed { IsWellFormed cea.now }
+    requires readers { IsSet cea.now.size readers.now }
+    ensures set { IfOk result (IsSet cea.now.size) }
+    ensures members { IfOk result (λ r. (k : ℕ) → has r k
+        ≡ has readers.now k && minds_next (automaton_of_cea cea.now) k) }
+{
+    let mut leaves = Bits::blank(alloc, cea.size)?;
+    for leaf in 0..cea.size {
+        if readers.contains(leaf) && minds_next(cea, leaf) {
+            leaves.insert(leaf);
+        }
+    }
+    Ok(leaves)
+}
+
+/// Those of the leaves that wait at once.
+pub fn waiting_at_once(alloc: Global, cea: &Cea, readers: &Bits) -> Result<Bits, Memory>
+    requires well_formed { IsWellFormed cea.now }
+    requires readers { IsSet cea.now.size readers.now }
+    ensures set { IfOk result (IsSet cea.now.size) }
+    ensures members { IfOk result (λ r. (k : ℕ) → has r k
+        ≡ has readers.now k && waits_at_once (automaton_of_cea cea.now) k) }
+{
+    let mut leaves = Bits::blank(alloc, cea.size)?;
+    for leaf in 0..cea.size {
+        if readers.contains(leaf) && waits_at_once(cea, leaf) {
+            leaves.insert(leaf);
+        }
+    }
+    Ok(leaves)
 }
 
 /// Whether the leaf has read the last event or an earlier one.

@@ -1,13 +1,15 @@
 //! The successor of a state on an event.
-ghost use Rattle.std.specs.Prelude.{◌≡◌, ℕ, ◌&&◌, not, length, option_map, IfOk, IfSome};
+ghost use Rattle.std.specs.Prelude.{◌≡◌, ℕ, ◌&&◌, ◌||◌, not, length, option_map, IfOk, IfSome};
 ghost use Rattle.std.specs.Option.{option_copied};
 ghost use Rattle.cer_base.specs.Bits.{has, room_for};
-ghost use Rattle.cea_determinise.specs.Runs.{candidates, patient, agrees, has_leaf, pair};
+ghost use Rattle.cea_determinise.specs.Runs.{candidates, patient, readers, minds_next, waits_at_once, has_leaf, pair};
 ghost use Rattle.cea_determinise.specs.Strict.{next_standing};
 ghost use Rattle.cea_determinise.specs.Cea.{automaton_of_cea, IsSet, IsWellFormed, HasLeavesBelow, standing_of, standing, takes_marked};
 
 use crate::cea::{Cea, Phase, Side, StateSets};
-use crate::sets::{all_waiting, keep_readers, may_read, phase_after, some_leaf};
+use crate::sets::{
+    all_waiting, keep_readers, may_read, minding, phase_after, some_leaf, waiting_at_once,
+};
 use cer_base::Memory;
 use cer_base::bits::Bits;
 use std::alloc::Global;
@@ -37,7 +39,7 @@ fn all_next(alloc: Global, cea: &Cea, state_sets: Option<&StateSets>) -> Result<
 }
 
 /// The leaves that read the event.
-fn fresh_after(
+fn readers(
     alloc: Global,
     cea: &Cea,
     state_sets: Option<&StateSets>,
@@ -48,8 +50,8 @@ fn fresh_after(
     requires bits { length bits.now ≡ room_for cea.now.size }
     ensures set { IfOk result (IsSet cea.now.size) }
     ensures members { IfOk result (λ c. (k : ℕ) → has c k
-        ≡ candidates (automaton_of_cea cea.now) (standing (option_copied state_sets.entry)).sets k
-        && (has bits.now k && agrees (takes_marked side) (has cea.now.marked k))) }
+        ≡ readers (automaton_of_cea cea.now) (standing (option_copied state_sets.entry)).sets
+        (has bits.now) (takes_marked side) k) }
 {
     let mut leaves = all_next(alloc, cea, state_sets)?;
     keep_readers(&mut leaves, cea, bits, side);
@@ -57,7 +59,7 @@ fn fresh_after(
 }
 
 /// The leaves that let the event pass, which is not marked then.
-fn waiting_after(
+fn passing(
     alloc: Global,
     cea: &Cea,
     state_sets: Option<&StateSets>,
@@ -74,6 +76,57 @@ fn waiting_after(
         (Some(state_sets), Side::Unmarked) => all_waiting(alloc, cea, state_sets),
         _ => Bits::blank(alloc, cea.size),
     }
+}
+
+/// The leaves that wait after the event: those that let it pass, and of those that read it the ones
+/// that wait at once.
+fn waiting_after(
+    alloc: Global,
+    cea: &Cea,
+    state_sets: Option<&StateSets>,
+    readers: &Bits,
+    side: Side,
+) -> Result<Bits, Memory>
+    requires well_formed { IsWellFormed cea.now }
+    requires state_sets { IfSome state_sets (λ p. HasLeavesBelow cea.now.size p.now) }
+    requires readers { IsSet cea.now.size readers.now }
+    ensures set { IfOk result (IsSet cea.now.size) }
+    ensures members { IfOk result (λ w. (k : ℕ) → has w k
+        ≡ not (takes_marked side) && patient (automaton_of_cea cea.now)
+        (standing (option_copied state_sets.entry)).sets k
+        || has readers.now k && waits_at_once (automaton_of_cea cea.now) k) }
+{
+    let mut waiting = passing(alloc, cea, state_sets, side)?;
+    let at_once = waiting_at_once(alloc, cea, readers)?;
+    waiting.unite(&at_once);
+    Ok(waiting)
+}
+
+/// The leaves that read the event and mind the next one, and those that wait after it.
+fn sets_after(
+    alloc: Global,
+    cea: &Cea,
+    state_sets: Option<&StateSets>,
+    bits: &Bits,
+    side: Side,
+) -> Result<(Bits, Bits), Memory>
+    requires well_formed { IsWellFormed cea.now }
+    requires state_sets { IfSome state_sets (λ p. HasLeavesBelow cea.now.size p.now) }
+    requires bits { length bits.now ≡ room_for cea.now.size }
+    ensures sets { IfOk result (λ r. IsSet cea.now.size r.0 × IsSet cea.now.size r.1) }
+    ensures fresh { IfOk result (λ r. (k : ℕ) → has r.0 k ≡ readers (automaton_of_cea cea.now)
+        (standing (option_copied state_sets.entry)).sets (has bits.now) (takes_marked side) k
+        && minds_next (automaton_of_cea cea.now) k) }
+    ensures waiting { IfOk result (λ r. (k : ℕ) → has r.1 k
+        ≡ not (takes_marked side) && patient (automaton_of_cea cea.now)
+        (standing (option_copied state_sets.entry)).sets k
+        || readers (automaton_of_cea cea.now) (standing (option_copied state_sets.entry)).sets
+        (has bits.now) (takes_marked side) k && waits_at_once (automaton_of_cea cea.now) k) }
+{
+    let readers = readers(alloc, cea, state_sets, bits, side)?;
+    let fresh = minding(alloc, cea, &readers)?;
+    let waiting = waiting_after(alloc, cea, state_sets, &readers, side)?;
+    Ok((fresh, waiting))
 }
 
 /// Whether some leaf is in one of the sets.
@@ -106,8 +159,7 @@ pub fn successor(
         Some(phase) => phase,
         None => return Ok(None),
     };
-    let fresh = fresh_after(alloc, cea, state_sets, bits, side)?;
-    let waiting = waiting_after(alloc, cea, state_sets, side)?;
+    let (fresh, waiting) = sets_after(alloc, cea, state_sets, bits, side)?;
     if !have_leaf(cea, &fresh, &waiting) {
         return Ok(None);
     }

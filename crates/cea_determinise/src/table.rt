@@ -24,7 +24,7 @@ pub struct Successors {
 /// How many states other than the start there are, how many pairs of state and class whose
 /// successors are known, and how many classes.
 #[derive(Drop, Debug, Clone, Copy, PartialEq, Eq)]
-pub struct Mark {
+pub struct Sizes {
     pub states: u64,
     pub pairs: u64,
     pub classes: u64,

@@ -5,7 +5,7 @@ use cer_base::Memory;
 use std::test::*;
 
 /// The successors of A+: 1 is {0}{}, 2 is {}{0}. Leaf numbers stand in braces, first those that have
-/// just read, then those that wait.
+/// just read and mind the next event, then those that wait.
 const REPEATED: [Look; 4] = [
     (0, 0, 1, Some(1), None),
     (1, 0, 1, Some(1), Some(2)),
@@ -13,12 +13,11 @@ const REPEATED: [Look; 4] = [
     (1, 1, 1, None, Some(2)),
 ];
 
-/// A ; B: 1 is {0}{}, 2 is {1}{}, 3 is {}{0}.
-const SEQUENCE: [Look; 6] = [
+/// A ; B: 1 is {}{0}, since leaf 0 waits at once, 2 is {1}{}.
+const SEQUENCE: [Look; 5] = [
     (0, 0, 1, Some(1), None),
-    (1, 1, 1, Some(2), Some(3)),
-    (1, 0, 1, None, Some(3)),
-    (3, 1, 1, Some(2), Some(3)),
+    (1, 1, 1, Some(2), Some(1)),
+    (1, 0, 1, None, Some(1)),
     (2, 0, 1, None, None),
     (0, 1, 1, None, None),
 ];
@@ -44,7 +43,7 @@ const CHOICE: [Look; 3] = [
     (1, 0, 1, None, None),
 ];
 
-/// STRICT A ; B: 1 is {0}{} within the marks, 2 is {1}{} within them, 3 is {}{0} after them.
+/// STRICT A ; B: 1 is {}{0} within the marks, 2 is {1}{} within them, 3 is {}{0} after them.
 const STRICT: [Look; 4] = [
     (0, 0, 1, Some(1), None),
     (1, 1, 1, Some(2), Some(3)),
@@ -52,14 +51,14 @@ const STRICT: [Look; 4] = [
     (1, 0, 1, None, Some(3)),
 ];
 
-/// The filter makes leaves A with v = 1, B, A, B with v = 1: 1 is {0,2}{}, 2 is {2}{}, 3 is {1,3}{}, 4 is
-/// {}{0,2}, 5 is {1}{}, 6 is {}{2}.
+/// The filter makes leaves A with v = 1, B, A, B with v = 1: 1 is {}{0,2}, 2 is {}{2}, 3 is {1,3}{}, 4 is
+/// {1}{}.
 const FILTERED: [Look; 5] = [
     (0, 0, 1, Some(1), None),
     (0, 0, 2, Some(2), None),
-    (1, 1, 1, Some(3), Some(4)),
-    (1, 1, 2, Some(5), Some(4)),
-    (2, 1, 2, None, Some(6)),
+    (1, 1, 1, Some(3), Some(1)),
+    (1, 1, 2, Some(4), Some(1)),
+    (2, 1, 2, None, Some(2)),
 ];
 
 const EVENTS: [(u64, i64); 4] = [(0, 1), (0, 2), (1, 1), (0, 1)];
@@ -73,7 +72,7 @@ fn the_65th_leaf_of_a_chain_alone_accepts(rt: HostRuntime) -> Result<(), Memory>
 
 #[test]
 fn sequences_wait_for_any_later_event(rt: HostRuntime) -> Result<(), Memory> {
-    assert!(rt; has_table(rt.alloc(), Sample::Sequence, &SEQUENCE, &[2], 3)?);
+    assert!(rt; has_table(rt.alloc(), Sample::Sequence, &SEQUENCE, &[2], 2)?);
     Ok(())
 }
 
@@ -124,7 +123,7 @@ fn strict_marks_stand_in_one_run(rt: HostRuntime) -> Result<(), Memory> {
 
 #[test]
 fn alternatives_of_a_filter_are_copies(rt: HostRuntime) -> Result<(), Memory> {
-    assert!(rt; has_table(rt.alloc(), Sample::FilterOfEither, &FILTERED, &[3, 5], 6)?);
+    assert!(rt; has_table(rt.alloc(), Sample::FilterOfEither, &FILTERED, &[3, 4], 4)?);
     Ok(())
 }
 

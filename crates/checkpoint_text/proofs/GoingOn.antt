@@ -1,7 +1,6 @@
 -- A run in two parts writes what a run over all events writes.
-use Rattle.std.proofs.Common.{◌≡◌, ℕ, zero, suc, ◌+◌, ◌≤◌, List, [], ◌∷◌, ◌++◌, length, refl, sym, ap, subst, ◌∙◌, All, Some, slice_get, arith, append_assoc, length-append}
+use Rattle.std.proofs.Common.{◌≡◌, ℕ, zero, suc, ◌+◌, ◌-◌, ◌≤◌, List, [], ◌∷◌, ◌++◌, length, refl, sym, ap, subst, ◌∙◌, All, Some, None, slice_get, arith, append_assoc, length-append}
 use Rattle.std.specs.Prelude.{◌↔◌}
-use Rattle.std.proofs.lemmas.List.{append-nil}
 use Rattle.stream_schema.specs.Types.{Declared, IsWellDeclared}
 use Rattle.stream_schema.specs.Events.{IsOfSchema}
 use Rattle.stream_schema.specs.declared.Event.{Event}
@@ -9,13 +8,17 @@ use Rattle.cel_terms.specs.declared.Query.{Query}
 use Rattle.cel_terms.specs.Checked.{IsChecked}
 use Rattle.cel_terms.specs.Answers.{Answer, IsAnswer}
 use Rattle.answer_text.specs.declared.Order.{Order}
-use Rattle.answer_text.specs.Output.{IsBlock, AreBlocks, IsOutputOf, IsOutput}
+use Rattle.answer_text.specs.declared.Order.TheVariants.{Sorted}
+use Rattle.answer_text.specs.Output.{IsBlock, AreBlocks, IsOutput}
+use Rattle.output_laws.specs.After.{IsOutputFrom, IsOutputAfter}
+use Rattle.output_laws.proofs.After.{parted, joined, after_is_from}
+use Rattle.output_laws.proofs.Unique.{one_output}
 use Rattle.output_laws.proofs.Growth.{enough_too, output_unchanged}
 use Rattle.query_engine.specs.Clocks.{NeverFalls}
-use Rattle.checkpoint_text.specs.KeepLaws.{lines_of, kept_lines, told_stream}
+use Rattle.checkpoint_text.specs.KeepLaws.{lines_of, events_of, kept_lines, told_stream}
 use Rattle.checkpoint_text.specs.Streams.{IsStreamOf, stream_of}
-use Rattle.checkpoint_text.specs.GoingOn.{IsOutputFrom, IsOutputInTurn}
-use Rattle.checkpoint_text.proofs.Restarting.{all_there, stream_long, restarting}
+use Rattle.checkpoint_text.specs.GoingOn.{IsOutputInTurn}
+use Rattle.checkpoint_text.proofs.Restarting.{all_there, events_long, stream_long, restarting}
 
 block_too : (order : Order) (schema : Declared) (number : ℕ) (q : Query) (events others : List Event) (end : ℕ) (bytes : List ℕ) → ((answer : Answer) → (IsAnswer schema q events end answer) ↔ (IsAnswer schema q others end answer)) → IsBlock order schema number q events end bytes → IsBlock order schema number q others end bytes
 block_too order schema number q events others end bytes same h = record {
@@ -48,28 +51,6 @@ from_too order schema queries first (suc n) events others bytes same h = (
   blocks_too order schema 1 queries events others (first + n) h.1 (λ k q answer at. same (first + n) k q answer (omega arith) at) h.3,
   h.4,
 )
-
--- the output at the first positions is in two parts
-parted : (order : Order) (schema : Declared) (queries : List Query) (events : List Event) (first n m : ℕ) (bytes : List ℕ) → m ≡ first + n → IsOutputOf m order schema queries events bytes →
-    (front : List ℕ) × (rest : List ℕ) × IsOutputOf first order schema queries events front × IsOutputFrom first n order schema queries events rest × (bytes ≡ front ++ rest)
-parted order schema queries events first zero m bytes e h =
-    let here : m ≡ first = omega (arith, e) in
-    (bytes, [], subst (λ k. IsOutputOf k order schema queries events bytes) here h, refl, sym (append-nil bytes))
-parted order schema queries events first (suc n) zero bytes e h = absurd (omega (arith, e))
-parted order schema queries events first (suc n) (suc m) bytes e h =
-    let place : m ≡ first + n = omega (arith, e) in
-    let r = parted order schema queries events first n m h.0 place h.2 in
-    (r.0, r.1 ++ h.1, r.2, (r.1, h.1, r.3, subst (λ end. AreBlocks order schema 1 queries events end h.1) place h.3, refl), h.4 ∙ (ap (λ xs. xs ++ h.1) r.4 ∙ append_assoc r.0 r.1 h.1))
-
-joined : (order : Order) (schema : Declared) (queries : List Query) (events : List Event) (first n m : ℕ) (front rest : List ℕ) → m ≡ first + n → IsOutputOf first order schema queries events front → IsOutputFrom first n order schema queries events rest →
-    IsOutputOf m order schema queries events (front ++ rest)
-joined order schema queries events first zero m front rest e h k =
-    let here : first ≡ m = omega (arith, e) in
-    subst (λ j. IsOutputOf j order schema queries events (front ++ rest)) here (subst (IsOutputOf first order schema queries events) (sym (append-nil front) ∙ ap (λ xs. front ++ xs) (sym k)) h)
-joined order schema queries events first (suc n) zero front rest e h k = absurd (omega (arith, e))
-joined order schema queries events first (suc n) (suc m) front rest e h k =
-    let place : m ≡ first + n = omega (arith, e) in
-    (front ++ k.0, k.1, joined order schema queries events first n m front k.0 place h k.2, subst (λ end. AreBlocks order schema 1 queries events end k.1) (sym place) k.3, ap (λ xs. front ++ xs) k.4 ∙ sym (append_assoc front k.0 k.1))
 
 pub runs_go_on : (order : Order) (schema : Declared) (queries : List Query) (came : List (Event × List ℕ)) (kept more : List Event) (bytes : List ℕ) →
     IsWellDeclared schema → All (IsChecked schema) queries → All (IsOfSchema schema) (stream_of came) → All (λ q. NeverFalls schema q (stream_of came ++ more)) queries →
@@ -105,3 +86,16 @@ runs_go_on order schema queries came kept more bytes well checked of level strea
         let turned : (end k : ℕ) (q : Query) (answer : Answer) → first ≤ end → slice_get queries k ≡ Some q → (IsAnswer schema q (kept ++ more) end answer) ↔ (IsAnswer schema q (stream_of came ++ more) end answer) = λ end k q answer after at. ((same end k q answer after at).1, (same end k q answer after at).0) in
         let after = from_too order schema queries first (length more) (kept ++ more) (stream_of came ++ more) h.after turned h.resumed in
         subst (IsOutput order schema queries (stream_of came ++ more)) (sym h.whole) (joined order schema queries (stream_of came ++ more) first (length more) (length (stream_of came ++ more)) h.before h.after count before after)
+
+pub resumed_is_rest : (schema : Declared) (queries : List Query) (came : List (Event × List ℕ)) (kept more : List Event) (first behind all : List ℕ) →
+    IsWellDeclared schema → All (IsChecked schema) queries → All (IsOfSchema schema) (stream_of came) → All (λ q. NeverFalls schema q (stream_of came ++ more)) queries → All (λ q. q.any ≡ None) queries →
+    IsStreamOf schema (told_stream (length came) (kept_lines schema queries (lines_of came))) kept →
+    IsOutput Sorted schema queries (stream_of came) first → IsOutputAfter (length kept) Sorted schema queries (kept ++ more) behind → IsOutput Sorted schema queries (stream_of came ++ more) all →
+    all ≡ first ++ behind
+resumed_is_rest schema queries came kept more first behind all well checked of level any stream one two whole =
+    let there = (after_is_from (length kept) Sorted schema queries (kept ++ more) behind).0 two in
+    let same : length kept ≡ length (stream_of came) = (let l = stream_long came in let k = events_long schema 0 (length came) (events_of (kept_lines schema queries (lines_of came))) kept stream in omega (arith, l, k)) in
+    let rest : length (kept ++ more) - length kept ≡ length more = (let l = length-append kept more in omega (arith, l)) in
+    let from = subst (λ (n : ℕ). IsOutputFrom n (length more) Sorted schema queries (kept ++ more) behind) same (subst (λ (n : ℕ). IsOutputFrom (length kept) n Sorted schema queries (kept ++ more) behind) rest there) in
+    let both = (runs_go_on Sorted schema queries came kept more (first ++ behind) well checked of level stream).1 (record { before = first; after = behind; run = one; resumed = from; whole = refl }) in
+    one_output schema queries (stream_of came ++ more) all (first ++ behind) any whole both

@@ -14,7 +14,7 @@ mod WordLines
 -- lines one after another
 mod Lines
 -- histories as they are read and as they are spelled
-mod Histories
+pub mod Histories
 -- what a keeper has
 mod Keepers
 -- what is written is read
@@ -28,7 +28,7 @@ pub mod Told
 -- the answers that follow need no more than the windows
 mod Restarting
 -- a run in two parts
-mod GoingOn
+pub mod GoingOn
 -- a history as a stream, and the clocks along it
 mod Replayed
 -- the clocks along the events that came; for callers

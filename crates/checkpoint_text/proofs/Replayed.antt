@@ -1,7 +1,8 @@
 -- The stream that a history tells, event by event, and the clocks along it.
-use Rattle.std.proofs.Common.{◌≡◌, ℕ, zero, suc, ◌+◌, ◌-◌, ◌<◌, ◌≤◌, inl, inr, ℤ, true, false, List, [], ◌∷◌, ◌++◌, take, length, refl, sym, ap, subst, ◌∙◌, All, Option, Some, None, slice_get, arith, add-one, append_assoc, length-append}
+use Rattle.std.proofs.Common.{◌≡◌, ℕ, zero, suc, ◌+◌, ◌-◌, ◌*◌, ◌<◌, ◌≤◌, inl, inr, ℤ, true, false, List, [], ◌∷◌, ◌++◌, take, length, refl, sym, ap, subst, ◌∙◌, All, Option, Some, None, slice_get, arith, add-one, append_assoc, length-append}
 use Rattle.std.specs.Prelude.{fold, int_lt, ◌<ℤ◌, max}
 use Rattle.std.specs.List.{AllByRecursion}
+use Rattle.std.proofs.Math.Nat.{mul-le-mul_right}
 use Rattle.std.proofs.lemmas.Int.{ints}
 use Rattle.std.proofs.lemmas.Bool.{cases_lt, cases_Bool}
 use Rattle.std.proofs.lemmas.List.{append-nil, take_all}
@@ -14,9 +15,14 @@ use Rattle.cel_plain.specs.Below.{query_reads}
 use Rattle.window_clock.specs.Clocks.{clock_of}
 use Rattle.query_standing.proofs.Reading.{reads_is, is_read}
 use Rattle.query_engine.specs.Clocks.{Reads, FallsBack, NoneFallsBack, IsFirstToFall}
-use Rattle.query_engine.specs.Engine.{State, StandsFor, SameQueries, count_of}
-use Rattle.query_engine.specs.Skipping.{IsBlank, AreBlanks}
+use Rattle.query_engine.specs.Counts.{MeetMost, event_bound}
+use Rattle.query_engine.specs.Engine.{State, StandsFor, SameQueries, count_of, peak_of, update_bounds}
+use Rattle.query_engine.specs.Bounds.{update_bound, for_each_query}
+use Rattle.query_engine.specs.Peaks.{PeaksFollow}
+use Rattle.query_engine.specs.Skipping.{IsBlank, AreBlanks, KeepsAll}
 use Rattle.query_engine.specs.Windows.{IsDense}
+use Rattle.query_engine.proofs.Counting.{first_meet_fewer, event_is_bounded, refused_is_bounded}
+use Rattle.query_engine.proofs.DenseNodes.{peaks_skip}
 use Rattle.query_engine.proofs.Skipped.{blank_unread, blanks_between, some_blanks}
 use Rattle.checkpoint_text.specs.declared.history.EventAt.{EventAt}
 use Rattle.checkpoint_text.specs.declared.history.History.{History}
@@ -193,6 +199,26 @@ no_time_back old new stream event query before now same none f =
 pub blanks_to : (schema : Declared) (from now old position : ℕ) (blanks : List Event) → now ≡ max old position → old ≤ position → AreBlanks schema from position blanks → AreBlanks schema from now blanks
 blanks_to schema from now old position blanks is ahead are = subst (λ n. AreBlanks schema from n blanks) (let same : position ≡ now = omega (arith, is, ahead) in same) are
 
+-- the queries meet the same states by another name
+met_too : (old new : State) (events : List Event) (most : ℕ → ℕ) → SameQueries old new → MeetMost old.schema old.queries events most → MeetMost new.schema new.queries events most
+met_too old new events most same meet = subst (λ s. MeetMost s new.queries events most) (sym same.0) (subst (λ qs. MeetMost old.schema qs events most) (sym same.1) meet)
+
+-- the steps of an event that is taken behind blank ones
+pub event_pays : (old mid new : State) (events : List Event) (most : ℕ → ℕ) (before after : ℕ) → SameQueries old mid → SameQueries mid new → StandsFor new events → MeetMost old.schema old.queries events most → after ≤ before + update_bounds new → after ≤ before + event_bound (length old.queries) most
+event_pays old mid new events most before after first second stands meet paid =
+    let bounded = event_is_bounded new events most stands (met_too mid new events most second (met_too old mid events most first meet)) in
+    let same : event_bound (length new.queries) most ≡ event_bound (length old.queries) most = ap (λ (qs : List Query). event_bound (length qs) most) (second.1 ∙ first.1) in
+    omega (arith, bounded, same, paid)
+
+-- and of one for which memory ran out
+pub want_pays : (old mid : State) (events : List Event) (most : ℕ → ℕ) (before after : ℕ) → SameQueries old mid → MeetMost old.schema old.queries events most →
+    (MeetMost mid.schema mid.queries events most → after ≤ before + for_each_query (length mid.queries) (λ k. update_bound (most k))) → after ≤ before + event_bound (length old.queries) most
+want_pays old mid events most before after first meet paid =
+    let cost = paid (met_too old mid events most first meet) in
+    let within = refused_is_bounded (length mid.queries) most in
+    let same : event_bound (length mid.queries) most ≡ event_bound (length old.queries) most = ap (λ (qs : List Query). event_bound (length qs) most) first.1 in
+    omega (arith, cost, within, same)
+
 -- so many events are taken
 pub record Reached (schema : Declared) (queries : List Query) (es : List EventAt) (k : ℕ) (engine : State) : Type 0 where
   pub schema_is : engine.schema ≡ schema
@@ -200,6 +226,33 @@ pub record Reached (schema : Declared) (queries : List Query) (es : List EventAt
   pub count : count_of engine ≡ reached 0 (take k es)
   pub stands : (stream : List Event) → AreEventsFrom schema 0 (reached 0 (take k es)) (take k es) stream → StandsFor engine stream
   pub dense : (stream : List Event) → AreEventsFrom schema 0 (reached 0 (take k es)) (take k es) stream → IsDense engine stream
+
+-- so many events are taken, with these peaks before them, and so many steps since then
+pub record Measured (schema : Declared) (queries : List Query) (es : List EventAt) (k : ℕ) (engine : State) (before : ℕ → ℕ) (begun now : ℕ) : Type 0 where
+  pub peaks : (stream : List Event) → AreEventsFrom schema 0 (reached 0 (take k es)) (take k es) stream → PeaksFollow before engine stream
+  pub steps : (stream : List Event) (most : ℕ → ℕ) → AreEventsFrom schema 0 (reached 0 (take k es)) (take k es) stream → MeetMost schema queries stream most → now ≤ begun + length stream * event_bound (length queries) most
+
+-- a stream begins with one of the first events
+front_of : (schema : Declared) (from to : ℕ) (es : List EventAt) (k : ℕ) (stream : List Event) → AreEventsFrom schema from to es stream →
+    (front : List Event) × (rest : List Event) × (stream ≡ front ++ rest) × AreEventsFrom schema from (reached from (take k es)) (take k es) front
+front_of schema from to [] zero stream are = ([], stream, refl, record { blank = (λ k d inside. absurd (omega arith)); count = omega arith })
+front_of schema from to [] (suc k) stream are = ([], stream, refl, record { blank = (λ k d inside. absurd (omega arith)); count = omega arith })
+front_of schema from to (e ∷ later) zero stream are = ([], stream, refl, record { blank = (λ k d inside. absurd (omega arith)); count = omega arith })
+front_of schema from to (e ∷ later) (suc k) stream (blanks, rest, is, before, behind) =
+    let r = front_of schema (e.position + 1) to later k rest behind in
+    (blanks ++ e.event ∷ r.0, r.1, is ∙ (ap (λ (xs : List Event). blanks ++ e.event ∷ xs) r.2 ∙ sym (append_assoc blanks (e.event ∷ r.0) r.1)), (blanks, r.0, refl, before, r.3))
+
+-- more positions allow more steps
+more_steps : (begun now short long bound : ℕ) → short ≤ long → now ≤ begun + short * bound → now ≤ begun + long * bound
+more_steps begun now short long bound less paid =
+    let more : short * bound ≤ long * bound = mul-le-mul_right bound less in
+    omega (arith, paid, more)
+
+one_more_step : (begun old now short long bound : ℕ) → short + 1 ≤ long → old ≤ begun + short * bound → now ≤ old + bound → now ≤ begun + long * bound
+one_more_step begun old now short long bound less paid step =
+    let more : (short + 1) * bound ≤ long * bound = mul-le-mul_right bound less in
+    let whole : (short + 1) * bound ≡ short * bound + bound = omega arith in
+    omega (arith, paid, step, more, whole)
 
 module _ (schema : Declared) (queries : List Query) (history : History) (well : IsWellDeclared schema) (is : IsHistory schema queries history) where
   -- none yet
@@ -215,6 +268,10 @@ module _ (schema : Declared) (queries : List Query) (history : History) (well : 
       empty : (stream : List Event) → AreBlanks schema 0 0 stream → stream ≡ []
       empty [] are = refl
       empty (x ∷ xs) are = absurd (let c = are.count in omega arith)
+
+  -- none yet, and no step
+  pub none_measured : (engine : State) (now : ℕ) → Measured schema queries history.events 0 engine (peak_of engine) now now
+  none_measured engine now = record { peaks = λ stream are k q at. inl (omega arith); steps = λ stream most are meet. omega arith }
 
   module _ (k : ℕ) (e : EventAt) (at : slice_get history.events k ≡ Some e) (engine : State) (r : Reached schema queries history.events k engine) where
     -- the next event comes behind, and in time
@@ -272,6 +329,50 @@ module _ (schema : Declared) (queries : List Query) (history : History) (well : 
               subst (IsDense after) (sym made.2) (dense made.0 made.1 (r.stands made.0 made.3) (r.dense made.0 made.3) (subst (λ s. AreBlanks s (length made.0) e.position made.1) (sym r.schema_is) made.4)))),
         )
 
+    -- a stream of one event more
+    with_next : (stream : List Event) → AreEventsFrom schema 0 (reached 0 (take (k + 1) history.events)) (take (k + 1) history.events) stream →
+        (events : List Event) × (blanks : List Event) × (stream ≡ events ++ blanks ++ e.event ∷ []) × AreEventsFrom schema 0 (reached 0 (take k history.events)) (take k history.events) events × AreBlanks schema (length events) e.position blanks
+    with_next stream are =
+        let there = subst (λ es. AreEventsFrom schema 0 (reached 0 es) es stream) take_suc are in
+        grown_of schema (take k history.events) e stream (subst (λ n. AreEventsFrom schema 0 n (take k history.events ++ e ∷ []) stream) (reached_more 0 (take k history.events) e) there)
+
+    blanks_here : (events blanks : List Event) → AreBlanks schema (length events) e.position blanks → AreBlanks engine.schema (length events) e.position blanks
+    blanks_here events blanks are = subst (λ s. AreBlanks s (length events) e.position blanks) (sym r.schema_is) are
+
+    -- what the next event takes of steps
+    pays_next : (before : ℕ → ℕ) (begun now later : ℕ) → Measured schema queries history.events k engine before begun now →
+        ((events blanks : List Event) (most : ℕ → ℕ) → StandsFor engine events → AreBlanks engine.schema (length events) e.position blanks → MeetMost engine.schema engine.queries (events ++ blanks ++ e.event ∷ []) most → later ≤ now + event_bound (length engine.queries) most) →
+        (stream : List Event) (most : ℕ → ℕ) → AreEventsFrom schema 0 (reached 0 (take (k + 1) history.events)) (take (k + 1) history.events) stream → MeetMost schema queries stream most → later ≤ begun + length stream * event_bound (length queries) most
+    pays_next before begun now later m step stream most are meet =
+        let made = with_next stream are in
+        let all = made.0 ++ made.1 ++ e.event ∷ [] in
+        let met : MeetMost schema queries all most = subst (λ es. MeetMost schema queries es most) made.2 meet in
+        let first = first_meet_fewer schema queries made.0 made.1 most (first_meet_fewer schema queries (made.0 ++ made.1) (e.event ∷ []) most met) in
+        let here : MeetMost engine.schema engine.queries all most = subst (λ s. MeetMost s engine.queries all most) (sym r.schema_is) (subst (λ qs. MeetMost schema qs all most) (sym r.queries_are) met) in
+        let cost : later ≤ now + event_bound (length queries) most = subst (λ (qs : List Query). later ≤ now + event_bound (length qs) most) r.queries_are (step made.0 made.1 most (r.stands made.0 made.3) (blanks_here made.0 made.1 made.4) here) in
+        let long : length made.0 + 1 ≤ length stream = (let w = ap length made.2 in let l = length-append (made.0 ++ made.1) (e.event ∷ []) in let n = length-append made.0 made.1 in omega (arith, w, l, n)) in
+        one_more_step begun now later (length made.0) (length stream) (event_bound (length queries) most) long (m.steps made.0 most made.3 first) cost
+
+    pub next_measured : (after : State) (before : ℕ → ℕ) (begun now later : ℕ) → Measured schema queries history.events k engine before begun now →
+        ((events blanks : List Event) → StandsFor engine events → IsDense engine events → PeaksFollow before engine events → AreBlanks engine.schema (length events) e.position blanks → PeaksFollow before after (events ++ blanks ++ e.event ∷ [])) →
+        ((events blanks : List Event) (most : ℕ → ℕ) → StandsFor engine events → AreBlanks engine.schema (length events) e.position blanks → MeetMost engine.schema engine.queries (events ++ blanks ++ e.event ∷ []) most → later ≤ now + event_bound (length engine.queries) most) →
+        Measured schema queries history.events (k + 1) after before begun later
+    next_measured after before begun now later m peaks step = record {
+      peaks = λ stream are. (let made = with_next stream are in
+          subst (PeaksFollow before after) (sym made.2) (peaks made.0 made.1 (r.stands made.0 made.3) (r.dense made.0 made.3) (m.peaks made.0 made.3) (blanks_here made.0 made.1 made.4)));
+      steps = pays_next before begun now later m step;
+    }
+
+    -- the steps where memory ran out
+    pub part_measured : (before : ℕ → ℕ) (begun now later : ℕ) → Measured schema queries history.events k engine before begun now →
+        ((events blanks : List Event) (most : ℕ → ℕ) → StandsFor engine events → AreBlanks engine.schema (length events) e.position blanks → MeetMost engine.schema engine.queries (events ++ blanks ++ e.event ∷ []) most → later ≤ now + event_bound (length engine.queries) most) →
+        (stream : List Event) (most : ℕ → ℕ) → AreEventsFrom schema 0 history.positions history.events stream → MeetMost schema queries stream most → later ≤ begun + length stream * event_bound (length queries) most
+    part_measured before begun now later m step stream most are meet =
+        let front = front_of schema 0 history.positions history.events (k + 1) stream are in
+        let met = first_meet_fewer schema queries front.0 front.1 most (subst (λ es. MeetMost schema queries es most) front.2 meet) in
+        let short : length front.0 ≤ length stream = (let w = ap length front.2 in let l = length-append front.0 front.1 in omega (arith, w, l)) in
+        more_steps begun later (length front.0) (length stream) (event_bound (length queries) most) short (pays_next before begun now later m step front.0 most front.3 met)
+
     -- where memory ran out it stands for the first events
     pub part_reached : (after : State) → count_of after ≡ e.position → ((events blanks : List Event) → StandsFor engine events → AreBlanks engine.schema (length events) e.position blanks → StandsFor after (events ++ blanks)) → StandsForFirst schema history.events after
     part_reached after count stands = record {
@@ -305,3 +406,20 @@ module _ (schema : Declared) (queries : List Query) (history : History) (well : 
 
       there : (stream : List Event) → AreEventsFrom schema 0 (reached 0 history.events) history.events stream → AreEventsFrom schema 0 (reached 0 (take k history.events)) (take k history.events) stream
       there stream are = subst (λ es. AreEventsFrom schema 0 (reached 0 es) es stream) (sym whole) are
+
+  -- at the end: the peaks, and the steps
+  pub all_peaks : (k : ℕ) (engine after : State) (before : ℕ → ℕ) (begun now : ℕ) → length history.events ≤ k → Measured schema queries history.events k engine before begun now → SameQueries engine after → KeepsAll engine after →
+      (stream : List Event) → AreEventsFrom schema 0 history.positions history.events stream → PeaksFollow before after stream
+  all_peaks k engine after before begun now end m same kept stream are =
+      let made = blanks_of schema history.positions history.events stream are in
+      let there = subst (λ es. AreEventsFrom schema 0 (reached 0 es) es made.0) (sym (take_all k history.events end)) made.3 in
+      subst (PeaksFollow before after) (sym made.2) (peaks_skip before engine after made.0 made.1 same kept (m.peaks made.0 there))
+
+  pub all_steps : (k : ℕ) (engine : State) (before : ℕ → ℕ) (begun now : ℕ) → length history.events ≤ k → Measured schema queries history.events k engine before begun now →
+      (stream : List Event) (most : ℕ → ℕ) → AreEventsFrom schema 0 history.positions history.events stream → MeetMost schema queries stream most → now ≤ begun + length stream * event_bound (length queries) most
+  all_steps k engine before begun now end m stream most are meet =
+      let made = blanks_of schema history.positions history.events stream are in
+      let there = subst (λ es. AreEventsFrom schema 0 (reached 0 es) es made.0) (sym (take_all k history.events end)) made.3 in
+      let met = first_meet_fewer schema queries made.0 made.1 most (subst (λ es. MeetMost schema queries es most) made.2 meet) in
+      let short : length made.0 ≤ length stream = (let w = ap length made.2 in let l = length-append made.0 made.1 in omega (arith, w, l)) in
+      more_steps begun now (length made.0) (length stream) (event_bound (length queries) most) short (m.steps made.0 most there met)

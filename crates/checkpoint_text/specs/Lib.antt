@@ -10,3 +10,4 @@ pub mod KeepLaws
 pub mod Streams
 pub mod Replaying
 pub mod GoingOn
+pub mod FaultWords

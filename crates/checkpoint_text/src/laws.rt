@@ -1,6 +1,6 @@
 //! Laws of checkpoints. Each function does nothing; its contract is the law.
 
-ghost use Rattle.checkpoint_text.specs.GoingOn.{RunsGoOn};
+ghost use Rattle.checkpoint_text.specs.GoingOn.{ResumedOutputIsTheRest, RunsGoOn};
 ghost use Rattle.checkpoint_text.specs.KeepLaws.{KeepersKeep, KeptTextGives, SavedIsRead, WrittenIsRead};
 ghost use Rattle.checkpoint_text.specs.Spelling.{HistoriesAreSpelled};
 ghost use Rattle.checkpoint_text.specs.Streams.{KeepersTellFalls, RestartingChangesNoAnswer};
@@ -47,4 +47,10 @@ pub fn restarting_changes_no_answer()
 /// what is kept of them.
 pub fn runs_go_on()
     ensures { RunsGoOn }
+{}
+
+/// In sorted order, and where no query has ANY, a run over all events writes what a run over the first
+/// writes, and then what one writes that goes on from what is kept of them.
+pub fn resumed_output_is_the_rest()
+    ensures { ResumedOutputIsTheRest }
 {}

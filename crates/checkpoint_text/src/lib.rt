@@ -5,6 +5,9 @@
 //! It stands on `event_reader` for lines and events, and on `cel_plain` for what a query reads.
 #![tactic(auto)]
 
+ghost use Rattle.std.specs.Prelude.{◌≡◌};
+ghost use Rattle.checkpoint_text.specs.FaultWords.{fault_words};
+
 mod clocks;
 mod history;
 mod keeping;
@@ -53,6 +56,24 @@ pub enum CheckpointFault {
     /// This many lines and no end are in the bytes that may be read; the line is the next one.
     #[error("too long")]
     TooLong,
+}
+
+impl CheckpointFault {
+    /// What is wrong with the line, in words.
+    pub fn words(self) -> &'static [u8]
+        ensures { result.now ≡ fault_words self }
+    {
+        match self {
+            CheckpointFault::LongLine => b"line too long",
+            CheckpointFault::BadHeader => b"bad header",
+            CheckpointFault::BadCount => b"bad count",
+            CheckpointFault::BadPosition => b"bad position",
+            CheckpointFault::BadEvent => b"bad event",
+            CheckpointFault::Short => b"missing line",
+            CheckpointFault::Extra => b"extra line",
+            CheckpointFault::TooLong => b"too long",
+        }
+    }
 }
 
 /// Why a text has no history.

@@ -1,15 +1,18 @@
 //! A history that is taken into an engine.
 
-ghost use Rattle.std.specs.Prelude.{◌≡◌, ◌+◌, ◌≤◌, ◌<◌, [], ◌∷◌, ◌++◌, List, length, OnOk, OnErr};
+ghost use Rattle.std.specs.Prelude.{◌≡◌, ◌+◌, ◌*◌, ◌≤◌, ◌<◌, ℕ, [], ◌∷◌, ◌++◌, List, length, OnOk, OnErr};
 ghost use Rattle.std.specs.List.{AllByRecursion};
 ghost use Rattle.stream_schema.specs.declared.Event.{Event};
 ghost use Rattle.stream_schema.specs.Events.{IsOfSchema};
-ghost use Rattle.query_engine.specs.Engine.{StandsFor, SameQueries, count_of};
+ghost use Rattle.query_engine.specs.Counts.{MeetMost, event_bound};
+ghost use Rattle.query_engine.specs.Engine.{StandsFor, SameQueries, count_of, peak_of};
+ghost use Rattle.query_engine.specs.Peaks.{PeaksFollow};
 ghost use Rattle.query_engine.specs.Skipping.{AreBlanks};
 ghost use Rattle.query_engine.specs.Windows.{IsDense};
 ghost use Rattle.checkpoint_text.specs.declared.numbers.TheConstants as most;
 ghost use Rattle.checkpoint_text.specs.Spelling.{IsHistory};
 ghost use Rattle.checkpoint_text.specs.Replaying.{StandsForFirst, Replayed, IsInTime};
+ghost use Rattle.checkpoint_text.specs.Streams.{IsStreamOf};
 
 use crate::{EventAt, History};
 use cer_base::Memory;
@@ -21,7 +24,9 @@ use std::sync::ledger::Ledger;
 /// at all others. No answer is asked for. The history is one that a checkpoint may tell of the
 /// engine's queries, and its events are of the engine's schema, as `read_checkpoint` gives it.
 ///
-/// After `Memory` the engine stands for the first events of the history.
+/// After `Memory` the engine stands for the first events of the history. However it ends, its steps
+/// are bounded by the positions of the history. No query had more nodes meanwhile than the history's
+/// events allow, or than it had before.
 pub fn replay<L: Ledger>(
     engine: &mut Engine,
     history: &History,
@@ -35,6 +40,13 @@ pub fn replay<L: Ledger>(
     ensures replayed { OnOk result (Replayed engine.old.schema history.now.events
         history.now.positions engine.new) }
     ensures part { OnErr result (StandsForFirst engine.old.schema history.now.events engine.new) }
+    ensures peaks { OnOk result ((stream : List Event)
+        → IsStreamOf engine.old.schema history.now stream
+        → PeaksFollow (peak_of engine.old) engine.new stream) }
+    ensures steps { (stream : List Event) (most : ℕ → ℕ)
+        → IsStreamOf engine.old.schema history.now stream
+        → MeetMost engine.old.schema engine.old.queries stream most → steps.new ≤ steps.old
+        + length stream * event_bound (length engine.old.queries) most }
     ensures same { SameQueries engine.old engine.new }
 {
     engine.schema().well_declared();
@@ -65,6 +77,15 @@ fn replay_event<L: Ledger>(
         → IsDense engine.old events
         → AreBlanks engine.old.schema (length events) at.now.position blanks
         → IsDense engine.new (events ++ blanks ++ at.now.event ∷ [])) }
+    ensures peaks { OnOk result ((before : ℕ → ℕ) (events blanks : List Event)
+        → StandsFor engine.old events → IsDense engine.old events
+        → PeaksFollow before engine.old events
+        → AreBlanks engine.old.schema (length events) at.now.position blanks
+        → PeaksFollow before engine.new (events ++ blanks ++ at.now.event ∷ [])) }
+    ensures steps { (events blanks : List Event) (most : ℕ → ℕ) → StandsFor engine.old events
+        → AreBlanks engine.old.schema (length events) at.now.position blanks
+        → MeetMost engine.old.schema engine.old.queries (events ++ blanks ++ at.now.event ∷ [])
+        most → steps.new ≤ steps.old + event_bound (length engine.old.queries) most }
     ensures count { OnOk result (count_of engine.new ≡ at.now.position + 1) }
     ensures place { OnErr result (count_of engine.new ≡ at.now.position) }
     ensures before { OnErr result ((events blanks : List Event) → StandsFor engine.old events

@@ -3,7 +3,7 @@ use Rattle.std.proofs.Common.{◌≡◌, [], ◌∷◌, Some, None, codes, refl}
 use Rattle.answer_text.specs.declared.Order.TheVariants.{Walk, Sorted}
 use Rattle.clap.proofs.OnLiterals.{clap_on_literals}
 use Rattle.command_words.specs.CommandLine.{AsksFor, command_of}
-use Rattle.command_words.specs.declared.Command.TheVariants.{Run, Sample, Session, Reorder, Explain}
+use Rattle.command_words.specs.declared.Command.TheVariants.{Run, Sample, Session, Reorder, Explain, Save, Resume}
 
 pub options_stand_between : AsksFor (codes "run" ∷ codes "--order=walk" ∷ codes "q" ∷ codes "--max-bytes" ∷ codes "+05" ∷ codes "-" ∷ [])
     (Run (codes "q") (codes "-") Walk None 5)
@@ -38,6 +38,18 @@ positions_are_listed = refl
 pub no_position_is_needed : AsksFor (codes "explain" ∷ codes "q" ∷ codes "e" ∷ codes "1" ∷ codes "2" ∷ codes "5" ∷ []) (Explain (codes "q") (codes "e") 1 2 5 [])
 unfolding clap_on_literals
 no_position_is_needed = refl
+
+pub a_checkpoint_is_asked_for : AsksFor (codes "save" ∷ codes "q" ∷ codes "e" ∷ []) (Save (codes "q") (codes "e"))
+unfolding clap_on_literals
+a_checkpoint_is_asked_for = refl
+
+pub a_checkpoint_is_named : AsksFor (codes "resume" ∷ codes "q" ∷ codes "--compact-every=9" ∷ codes "c" ∷ codes "e" ∷ codes "--order" ∷ codes "walk" ∷ []) (Resume (codes "q") (codes "c") (codes "e") Walk (Some 9) 1099511627776)
+unfolding clap_on_literals
+a_checkpoint_is_named = refl
+
+pub a_checkpoint_is_needed : command_of (codes "resume" ∷ codes "q" ∷ codes "e" ∷ []) ≡ None
+unfolding clap_on_literals
+a_checkpoint_is_needed = refl
 
 pub one_name_is_refused : command_of (codes "run" ∷ codes "q" ∷ []) ≡ None
 unfolding clap_on_literals

@@ -35,39 +35,41 @@ level_has s names words has below asks e =
     let after_settles = last_none settles (or_else defaults checks) after_below in
     has_one s (finished s.rules end) has asks (last_none defaults checks after_settles)
 
--- what was found is after one of five names
+-- what was found is after this name
 abbrev IsFound : Text → Option (Text × List Row) → Type 0
 IsFound name found = (rows : List Row) × (found ≡ Some (name, rows))
 
--- the first of five shapes whose test passes
-abbrev first_of_five : Bool → Bool → Bool → Bool → Bool → Shape → Shape → Shape → Shape → Shape → Option Shape
-first_of_five first second third fourth fifth a b c d e =
-    cond first (Some a) (cond second (Some b) (cond third (Some c) (cond fourth (Some d) (cond fifth (Some e) None))))
+-- the first of seven shapes whose test passes
+abbrev first_of_seven : Bool → Bool → Bool → Bool → Bool → Bool → Bool → Shape → Shape → Shape → Shape → Shape → Shape → Shape → Option Shape
+first_of_seven first second third fourth fifth sixth seventh a b c d e f g =
+    cond first (Some a) (cond second (Some b) (cond third (Some c) (cond fourth (Some d) (cond fifth (Some e) (cond sixth (Some f) (cond seventh (Some g) None))))))
 
-one_of_five : (first second third fourth fifth : Bool) (a b c d e : Shape) (words : List Text)
-    → is_some (option_map (λ s. rows_at s words) (first_of_five first second third fourth fifth a b c d e)) ≡ true
-    → IsFound a.name (option_map (λ s. rows_at s words) (first_of_five first second third fourth fifth a b c d e))
-    ⊎ (IsFound b.name (option_map (λ s. rows_at s words) (first_of_five first second third fourth fifth a b c d e))
-    ⊎ (IsFound c.name (option_map (λ s. rows_at s words) (first_of_five first second third fourth fifth a b c d e))
-    ⊎ (IsFound d.name (option_map (λ s. rows_at s words) (first_of_five first second third fourth fifth a b c d e))
-    ⊎ IsFound e.name (option_map (λ s. rows_at s words) (first_of_five first second third fourth fifth a b c d e)))))
-one_of_five true second third fourth fifth a b c d e words some = inl (_, refl)
-one_of_five false true third fourth fifth a b c d e words some = inr (inl (_, refl))
-one_of_five false false true fourth fifth a b c d e words some = inr (inr (inl (_, refl)))
-one_of_five false false false true fifth a b c d e words some = inr (inr (inr (inl (_, refl))))
-one_of_five false false false false true a b c d e words some = inr (inr (inr (inr (_, refl))))
-one_of_five false false false false false a b c d e words some = absurd (true≢false (sym some))
+-- what was found is after one of these names
+abbrev IsOneOf : List Text → Option (Text × List Row) → Type 0
+IsOneOf [] found = ⊥
+IsOneOf (name ∷ names) found = IsFound name found ⊎ IsOneOf names found
+
+one_of_seven : (first second third fourth fifth sixth seventh : Bool) (a b c d e f g : Shape) (words : List Text)
+    → is_some (option_map (λ s. rows_at s words) (first_of_seven first second third fourth fifth sixth seventh a b c d e f g)) ≡ true
+    → IsOneOf (a.name ∷ b.name ∷ c.name ∷ d.name ∷ e.name ∷ f.name ∷ g.name ∷ []) (option_map (λ s. rows_at s words) (first_of_seven first second third fourth fifth sixth seventh a b c d e f g))
+one_of_seven true second third fourth fifth sixth seventh a b c d e f g words some = inl (_, refl)
+one_of_seven false true third fourth fifth sixth seventh a b c d e f g words some = inr (inl (_, refl))
+one_of_seven false false true fourth fifth sixth seventh a b c d e f g words some = inr (inr (inl (_, refl)))
+one_of_seven false false false true fifth sixth seventh a b c d e f g words some = inr (inr (inr (inl (_, refl))))
+one_of_seven false false false false true sixth seventh a b c d e f g words some = inr (inr (inr (inr (inl (_, refl)))))
+one_of_seven false false false false false true seventh a b c d e f g words some = inr (inr (inr (inr (inr (inl (_, refl))))))
+one_of_seven false false false false false false true a b c d e f g words some = inr (inr (inr (inr (inr (inr (inl (_, refl)))))))
+one_of_seven false false false false false false false a b c d e f g words some = absurd (true≢false (sym some))
 
 -- after the name of one of the commands
 abbrev pub IsOfCommand : Option (Text × List Row) → Type 0
-IsOfCommand found = IsFound (codes "run") found ⊎ (IsFound (codes "sample") found
-    ⊎ (IsFound (codes "session") found ⊎ (IsFound (codes "reorder") found ⊎ IsFound (codes "explain") found)))
+IsOfCommand found = IsOneOf (codes "run" ∷ codes "sample" ∷ codes "session" ∷ codes "reorder" ∷ codes "explain" ∷ codes "save" ∷ codes "resume" ∷ []) found
 
 entered_one : (stop : Option (Text × List Text)) → is_some (entered (built program) stop) ≡ true → IsOfCommand (entered (built program) stop)
 entered_one None some = absurd (true≢false (sym some))
 entered_one (Some p) some =
-    one_of_five (answers_to p.0 (codes "run", [])) (answers_to p.0 (codes "sample", [])) (answers_to p.0 (codes "session", [])) (answers_to p.0 (codes "reorder", []))
-    (answers_to p.0 (codes "explain", [])) _ _ _ _ _ p.1 some
+    one_of_seven (answers_to p.0 (codes "run", [])) (answers_to p.0 (codes "sample", [])) (answers_to p.0 (codes "session", [])) (answers_to p.0 (codes "reorder", [])) (answers_to p.0 (codes "explain", [])) (answers_to p.0 (codes "save", [])) (answers_to p.0 (codes "resume", []))
+    _ _ _ _ _ _ _ p.1 some
 
 -- clap found one of the commands in words that it takes
 pub taken_is_found : (words : List Text) → is_taken words ≡ true → IsOfCommand (subcommand_of program words)

@@ -1,6 +1,6 @@
 -- What the words after the program's name ask for: the command that clap reads in them.
 use Rattle.std.specs.Prelude.{◌≡◌, ℕ, Bool, true, false, List, [], ◌∷◌, Option, Some, None, codes}
-use Rattle.std.specs.Prelude.{if◌then◌else◌, option_map, option_and_then, unwrap_or}
+use Rattle.std.specs.Prelude.{if◌then◌else◌, option_map, option_and_then, unwrap_or, min}
 use Rattle.std.specs.List.{filter_map}
 use Rattle.std.specs.Option.{option_map_or}
 use Rattle.std.specs.Str.{bytes_eq}
@@ -10,7 +10,7 @@ use Rattle.clap.specs.Words.{Kinds, Row, Text, all_of, fault_of, first_of, one_o
 use Rattle.answer_text.specs.declared.Order.{Order}
 use Rattle.answer_text.specs.declared.Order.TheVariants.{Walk, Sorted}
 use Rattle.command_words.specs.declared.Command.{Command}
-use Rattle.command_words.specs.declared.Command.TheVariants.{Run, Sample, Session, Reorder, Explain}
+use Rattle.command_words.specs.declared.Command.TheVariants.{Run, Sample, Session, Reorder, Explain, Save, Resume}
 use Rattle.command_words.specs.Program.{program}
 
 -- the name under an id
@@ -73,12 +73,31 @@ explain_in rows = Explain (text_in (codes "queries") rows) (text_in (codes "even
     (number_in 0 (codes "query") rows) (number_in 0 (codes "start") rows)
     (number_in 0 (codes "end") rows) (numbers_in (codes "positions") rows)
 
+-- what was found after `save`, as a checkpoint that is asked for
+abbrev pub save_in : List Row → Command
+save_in rows = Save (text_in (codes "queries") rows) (text_in (codes "events") rows)
+
+-- how many bytes are too many; clap takes no number above this bound
+abbrev pub bytes_in : List Row → ℕ
+bytes_in rows = min (number_in 1099511627776 (codes "max-bytes") rows) 4611686018427387904
+
+abbrev pub resume_with : List Row → Order → Command
+resume_with rows order = Resume (text_in (codes "queries") rows)
+    (text_in (codes "checkpoint") rows) (text_in (codes "events") rows) order
+    (number_at (codes "compact-every") rows) (bytes_in rows)
+
+-- what was found after `resume`; none where the order is of neither name
+abbrev pub resume_in : List Row → Option Command
+resume_in rows = option_map (resume_with rows) (order_in rows)
+
 abbrev pub command_named : Text → List Row → Option Command
 command_named name rows = if bytes_eq name (codes "run") then run_in rows
     else (if bytes_eq name (codes "sample") then Some (sample_in rows)
     else (if bytes_eq name (codes "session") then Some (session_in rows)
     else (if bytes_eq name (codes "reorder") then reorder_in rows
-    else (if bytes_eq name (codes "explain") then Some (explain_in rows) else None))))
+    else (if bytes_eq name (codes "explain") then Some (explain_in rows)
+    else (if bytes_eq name (codes "save") then Some (save_in rows)
+    else (if bytes_eq name (codes "resume") then resume_in rows else None))))))
 
 -- the command of a subcommand and what was found after it
 abbrev pub command_at : Option (Text × List Row) → Option Command

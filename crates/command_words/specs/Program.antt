@@ -71,6 +71,15 @@ explain = with_rule (with_rule (with_rule (with_rule (over_files (codes "explain
     (whole (name (codes "query")))) (whole (name (codes "start")))) (whole (name (codes "end"))))
     (whole (repeated (codes "positions")))
 
+-- save QUERIES EVENTS
+abbrev pub save : App
+save = over_files (codes "save")
+
+-- resume QUERIES CHECKPOINT EVENTS, with the options of a run
+abbrev pub resume : App
+resume = with_run_options (with_rule (with_rule (with_rule (new_app (codes "resume"))
+    (name (codes "queries"))) (name (codes "checkpoint"))) (name (codes "events")))
+
 -- the words are those after the program's name; there is no help and no version, and one of the
 -- commands has to be there
 abbrev pub bare : Shape → Shape
@@ -84,5 +93,6 @@ bare top = record top {
 
 abbrev pub program : App
 program = with_subcommand (with_subcommand (with_subcommand (with_subcommand (with_subcommand
+    (with_subcommand (with_subcommand
     (record { top = bare (new_app (codes "core_cli")).top; subs = [] }) run.top) sample.top)
-    session.top) reorder.top) explain.top
+    session.top) reorder.top) explain.top) save.top) resume.top

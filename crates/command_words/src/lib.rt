@@ -1,5 +1,6 @@
 //! What the words after the program's name ask for: a run over two files, the same over late events,
-//! a session, a sample, or why a complex event is an answer.
+//! a session, a sample, why a complex event is an answer, a checkpoint of events, or the run that goes
+//! on from one.
 //!
 //! Promised: the answer is `clap`'s own reading of the program's command, which `specs/Program` and
 //! `specs/CommandLine` write out, and `Usage` where the words ask for nothing by it. By the laws in
@@ -70,6 +71,23 @@ pub enum Command {
         end: u64,
         /// Its marked positions, as they were given.
         positions: Listed<u64>,
+    },
+    /// A checkpoint of the events of one file, for the queries of another.
+    Save {
+        queries: Text,
+        events: Text,
+    },
+    /// The answers to the queries of one file over the events of another, which come after those
+    /// that a checkpoint keeps.
+    Resume {
+        queries: Text,
+        checkpoint: Text,
+        events: Text,
+        order: Order,
+        /// From 1. The engine is compacted after every so many events, where it is given.
+        compact_every: Option<u64>,
+        /// From 1 to 2^62.
+        most_bytes: u64,
     },
 }
 

@@ -4,7 +4,8 @@ ghost use Rattle.clap.specs.Words.{app_of, kind_of, rule_of, subcommand_of, subc
 ghost use Rattle.cer_base.specs.Answers.{OnFault};
 ghost use Rattle.cer_base.specs.declared.OrMemory.TheVariants.{Memory};
 ghost use Rattle.command_words.specs.CommandLine.{is_taken};
-ghost use Rattle.command_words.specs.Program.{compact_every, explain, late, most_bytes, name, option, over_files, program, reorder, repeated, run, sample, session, whole, with_run_options};
+ghost use Rattle.command_words.specs.Program.{compact_every, explain, late, most_bytes, name, option, over_files, program, reorder, repeated};
+ghost use Rattle.command_words.specs.Program.{resume, run, sample, save, session, whole, with_run_options};
 
 use crate::Usage;
 use cer_base::OrMemory;
@@ -175,6 +176,27 @@ fn explain<'a>(alloc: Global) -> Result<clap::Command<'a>, AllocError>
         .arg(positions)
 }
 
+/// `save QUERIES EVENTS`
+fn save<'a>(alloc: Global) -> Result<clap::Command<'a>, AllocError>
+    ensures { IfOk result (λ c. app_of c ≡ save) }
+{
+    over_files(alloc, "save")
+}
+
+/// `resume QUERIES CHECKPOINT EVENTS`, with the options of a run.
+fn resume<'a>(alloc: Global) -> Result<clap::Command<'a>, AllocError>
+    ensures { IfOk result (λ c. app_of c ≡ resume) }
+{
+    let queries = name(alloc, "queries");
+    let checkpoint = name(alloc, "checkpoint");
+    let events = name(alloc, "events");
+    let files = clap::Command::new(alloc, "resume")
+        .arg(queries)?
+        .arg(checkpoint)?
+        .arg(events)?;
+    with_run_options(alloc, files)
+}
+
 /// The command that has one of these as its subcommand, and no help and no version.
 fn program<'a>(alloc: Global) -> Result<clap::Command<'a>, AllocError>
     ensures { IfOk result (λ c. app_of c ≡ program) }
@@ -184,6 +206,8 @@ fn program<'a>(alloc: Global) -> Result<clap::Command<'a>, AllocError>
     let session = session(alloc)?;
     let reorder = reorder(alloc)?;
     let explain = explain(alloc)?;
+    let save = save(alloc)?;
+    let resume = resume(alloc)?;
     clap::Command::new(alloc, "core_cli")
         .no_binary_name(true)
         .disable_help_flag(true)
@@ -194,5 +218,7 @@ fn program<'a>(alloc: Global) -> Result<clap::Command<'a>, AllocError>
         .subcommand(sample)?
         .subcommand(session)?
         .subcommand(reorder)?
-        .subcommand(explain)
+        .subcommand(explain)?
+        .subcommand(save)?
+        .subcommand(resume)
 }

@@ -4,7 +4,7 @@ ghost use Rattle.std.specs.List.{cons_option, filter_map};
 ghost use Rattle.clap.specs.Words.{found_of, rows_of, subcommand_rows_of};
 ghost use Rattle.cer_base.specs.Answers.{OnFault};
 ghost use Rattle.command_words.specs.CommandLine.{command_at, number_at, number_in, number_of, numbers_in};
-ghost use Rattle.command_words.specs.CommandLine.{explain_in, order_in, order_of, reorder_in, run_in, sample_in, session_in, text_in};
+ghost use Rattle.command_words.specs.CommandLine.{explain_in, order_in, order_of, reorder_in, resume_in, run_in, sample_in, save_in, session_in, text_in};
 
 use crate::{Command, Usage};
 use answer_text::Order;
@@ -13,6 +13,9 @@ use clap::ArgMatches;
 use std::alloc::Global;
 
 const MOST_BYTES: u64 = 1099511627776;
+
+/// The greatest number of `--max-bytes`: 2^62.
+const GREATEST_BYTES: u64 = 4611686018427387904;
 
 /// The command in the matches, where they have one of the commands and an order's name.
 pub(crate) fn command_in(
@@ -39,6 +42,12 @@ pub(crate) fn command_in(
     }
     if name == "explain" {
         return explain_in(alloc, found);
+    }
+    if name == "save" {
+        return save_in(alloc, found);
+    }
+    if name == "resume" {
+        return resume_in(alloc, found);
     }
     Err(OrMemory::Fault(Usage))
 }
@@ -115,6 +124,35 @@ fn explain_in(alloc: Global, matches: &ArgMatches<'_>) -> Result<Command, OrMemo
         start: number_in(matches, "start", 0),
         end: number_in(matches, "end", 0),
         positions: numbers_in(alloc, matches, "positions")?,
+    })
+}
+
+/// What was found after `save`.
+fn save_in(alloc: Global, matches: &ArgMatches<'_>) -> Result<Command, OrMemory<Usage>>
+    ensures read { IfOk result (λ c. c ≡ save_in (rows_of (found_of matches.now))) }
+    ensures none { OnFault result (λ u. ⊥) }
+{
+    Ok(Command::Save {
+        queries: text_in(alloc, matches, "queries")?,
+        events: text_in(alloc, matches, "events")?,
+    })
+}
+
+/// What was found after `resume`.
+fn resume_in(alloc: Global, matches: &ArgMatches<'_>) -> Result<Command, OrMemory<Usage>>
+    ensures read { IfOk result (λ c. resume_in (rows_of (found_of matches.now)) ≡ Some c) }
+    ensures none { OnFault result (λ u. resume_in (rows_of (found_of matches.now)) ≡ None) }
+{
+    let Some(order) = order_in(matches) else {
+        return Err(OrMemory::Fault(Usage));
+    };
+    Ok(Command::Resume {
+        queries: text_in(alloc, matches, "queries")?,
+        checkpoint: text_in(alloc, matches, "checkpoint")?,
+        events: text_in(alloc, matches, "events")?,
+        order,
+        compact_every: number_at(matches, "compact-every"),
+        most_bytes: number_in(matches, "max-bytes", MOST_BYTES).min(GREATEST_BYTES),
     })
 }
 

@@ -96,7 +96,7 @@ const RUNS: [(&str, &str); 59] = [
 ];
 
 /// The same of other words: too few or too many, questions, and what the program does not have.
-const OTHERS: [(&str, &str); 46] = [
+const OTHERS: [(&str, &str); 59] = [
     // too few names, too many, and names of no command
     ("run", "usage"),
     ("run q", "usage"),
@@ -156,6 +156,27 @@ const OTHERS: [(&str, &str); 46] = [
     ("reorder q e t 5 5", "usage"),
     ("reorder q e t 5 --order up", "usage"),
     ("run q e t 5", "usage"),
+    // a checkpoint: two names, and no option
+    ("save q e", "save q e"),
+    ("save -- - -e", "save - -e"),
+    ("save q", "usage"),
+    ("save q c e", "usage"),
+    ("save q e --max-bytes 5", "usage"),
+    // the run that goes on from it: three names, and the options of a run
+    ("resume q c e", "resume q c e Sorted 1099511627776"),
+    (
+        "resume --order=walk q c --max-bytes 9 e",
+        "resume q c e Walk 9",
+    ),
+    (
+        "resume q c e --compact-every 3",
+        "resume q c e Sorted 1099511627776, compacted every 3",
+    ),
+    ("resume -- - -c -e", "resume - -c -e Sorted 1099511627776"),
+    ("resume q e", "usage"),
+    ("resume q c e x", "usage"),
+    ("resume q c e --order up", "usage"),
+    ("resume q c e --compact-every 0", "usage"),
     // what the program does not have
     ("--help", "usage"),
     ("-h", "usage"),
@@ -211,6 +232,26 @@ fn shown(alloc: Global, asked: Result<Command, OrMemory<Usage>>) -> Result<Strin
                 }
                 None => format!(in alloc; "{asked} {order:?} {most_bytes}")?,
             }
+        }
+        Ok(
+            Command::Resume {
+                queries,
+                checkpoint,
+                events,
+                order,
+                compact_every,
+                most_bytes,
+            },
+        ) => {
+            let names = format!(in alloc; "resume {} {}", queries.as_str(), checkpoint.as_str())?;
+            let asked = format!(in alloc; "{names} {} {order:?} {most_bytes}", events.as_str())?;
+            match compact_every {
+                Some(n) => format!(in alloc; "{asked}, compacted every {n}")?,
+                None => asked,
+            }
+        }
+        Ok(Command::Save { queries, events }) => {
+            format!(in alloc; "save {} {}", queries.as_str(), events.as_str())?
         }
         Ok(Command::Sample { seed, count }) => format!(in alloc; "sample {seed} {count}")?,
         Ok(Command::Session { queries, script }) => {

@@ -1,16 +1,16 @@
 -- A job over a host that never fails ends well, or memory ran out.
-use Rattle.std.proofs.Common.{◌≡◌, ℕ, List, Option, Some, None, refl, sym, ◌∙◌, ap, arith, IsSomeAnd, cond, is_some}
+use Rattle.std.proofs.Common.{◌≡◌, ℕ, List, Option, Some, None, refl, sym, ◌∙◌, ap, subst, arith, IsSomeAnd, cond, is_some}
 use Rattle.cer_outside.specs.Causes.{Rose}
 use Rattle.cer_outside.specs.Content.{Content, Missing, Holds}
 use Rattle.cer_outside.specs.States.{FileState}
 use Rattle.cer_outside.specs.Files.{file_under, content_of, content_under, sure_faults_under}
 use Rattle.fault_notes.specs.declared.File.{File}
 use Rattle.fault_notes.specs.declared.File.TheVariants as file
-use Rattle.core_top.specs.declared.Cause.{Cause}
-use Rattle.core_top.specs.declared.Cause.TheVariants as cause
-use Rattle.core_top.specs.Command.{Job, queries_of, events_of, AsksJob}
-use Rattle.core_top.specs.Causes.{IsFineOrOutside, IsFineOrMemory, HasOpenFault, HasReadFault, name_of}
-use Rattle.core_top.proofs.Words.{one_job}
+use Rattle.core_jobs.specs.declared.Cause.{Cause}
+use Rattle.core_jobs.specs.declared.Cause.TheVariants as cause
+use Rattle.core_jobs.specs.Command.{Job, query_file_of, checkpoint_file_of, event_file_of, HasCheckpoint, AsksJob}
+use Rattle.core_jobs.specs.Causes.{ReadsFile, ComesInTurn, IsFineOrOutside, IsFineOrMemory, HasOpenFault, HasReadFault, name_of}
+use Rattle.core_jobs.proofs.Words.{one_job}
 
 -- a count that is 0 has not risen
 pub never_rose : (before after : ℕ) → after ≡ 0 → Rose before after → ⊥
@@ -24,17 +24,26 @@ none_of (Some file) bytes others told = refl
 pub no_faults : (files : List FileState) (others : ℕ) (name bytes : List ℕ) → content_under files name ≡ Holds bytes → sure_faults_under files others name ≡ 0
 no_faults files others name bytes told = none_of (file_under files name) bytes others told
 
--- neither name has faults
-pub neither : (new : List ℕ → ℕ) (job : Job) → new (queries_of job) ≡ 0 → new (events_of job) ≡ 0 → (opened : File) → new (name_of opened job) ≡ 0
-neither new job first second file.Queries = first
-neither new job first second file.Events = second
+-- none of the names has faults
+pub no_name : (new : List ℕ → ℕ) (job : Job) → new (query_file_of job) ≡ 0 → (HasCheckpoint job → new (checkpoint_file_of job) ≡ 0) → new (event_file_of job) ≡ 0 → (opened : File) → ReadsFile job opened → new (name_of opened job) ≡ 0
+no_name new job first middle second file.Queries reads = first
+no_name new job first middle second file.Checkpoint reads = middle reads
+no_name new job first middle second file.Events reads = second
+
+-- what comes in its turn is a file of the job
+in_turn : (job : Job) (opened : File) (content : List ℕ → Content) → ComesInTurn job opened content → ReadsFile job opened
+in_turn job file.Queries content turn = tt
+in_turn job file.Checkpoint content turn = turn.0
+in_turn job file.Events content turn = tt
 
 -- no file of the words failed to open
 pub never_open : (words : List (List ℕ)) (content : List ℕ → Content) (old new : List ℕ → ℕ) (job : Job) (opened : File) (before after : ℕ) →
-    AsksJob words job → new (queries_of job) ≡ 0 → new (events_of job) ≡ 0 → HasOpenFault words content old new opened before after → ⊥
-never_open words content old new job opened before after is first second fault =
+    AsksJob words job → new (query_file_of job) ≡ 0 → (HasCheckpoint job → new (checkpoint_file_of job) ≡ 0) → new (event_file_of job) ≡ 0 → HasOpenFault words content old new opened before after → ⊥
+never_open words content old new job opened before after is first middle second fault =
     let same = one_job words fault.job job fault.asked is in
-    let here : new (name_of opened fault.job) ≡ 0 = ap (λ w. new (name_of opened w)) same ∙ neither new job first second opened in
+    let R : Job → Type 0 = λ w. ReadsFile w opened in
+    let reads : ReadsFile job opened = subst R same (in_turn fault.job opened content fault.turn) in
+    let here : new (name_of opened fault.job) ≡ 0 = ap (λ w. new (name_of opened w)) same ∙ no_name new job first middle second opened reads in
     never_rose before after (fault.to ∙ here) fault.rose
 
 -- no source failed
@@ -53,6 +62,7 @@ fine_or_memory (cause.Queries fault place) ends opens reads writes = ends
 fine_or_memory (cause.ClockKind name) ends opens reads writes = ends
 fine_or_memory (cause.Event line fault) ends opens reads writes = ends
 fine_or_memory (cause.InputTooLong taken) ends opens reads writes = ends
+fine_or_memory (cause.Checkpoint line fault) ends opens reads writes = ends
 fine_or_memory (cause.OpenFault opened before after) ends opens reads writes = opens opened before after refl
 fine_or_memory (cause.ReadFault read after) ends opens reads writes = reads read after refl
 fine_or_memory (cause.WriteFault before after) ends opens reads writes = writes before after refl

@@ -1,16 +1,15 @@
 //! The note of a cause, written to standard error.
 
 ghost use Rattle.std.specs.Prelude.{◌≡◌, ◌⊎◌, OnOk, OnErr};
-ghost use Rattle.core_top.specs.Notes.{note_of, TookNote, NeedsMemory, IsNoted};
+ghost use Rattle.core_jobs.specs.Notes.{note_of, TookNote, NeedsMemory, IsToldAs};
 
-use super::Cause;
-use super::opening::Stop;
 use cer_base::Memory;
 use cer_outside::Sink;
 use cer_outside::writing::put_all;
+use core_jobs::{Cause, Stop};
 use fault_notes::{
-    clock_note, event_note, memory_note, open_note, query_note, read_note, too_long_note,
-    usage_note, write_note,
+    checkpoint_note, clock_note, event_note, memory_note, open_note, query_note, read_note,
+    too_long_note, usage_note, write_note,
 };
 use std::alloc::Global;
 
@@ -49,6 +48,10 @@ fn write_note_of<N: Sink>(alloc: Global, notes: &mut N, cause: &Cause) -> Result
             let note = too_long_note(alloc, *taken)?;
             put(notes, note.as_slice());
         }
+        Cause::Checkpoint { line, fault } => {
+            let note = checkpoint_note(alloc, *line, fault.words())?;
+            put(notes, note.as_slice());
+        }
         Cause::OpenFault { file, .. } => put(notes, open_note(*file)),
         Cause::ReadFault { file, .. } => put(notes, read_note(*file)),
         Cause::WriteFault { .. } => put(notes, write_note()),
@@ -59,7 +62,7 @@ fn write_note_of<N: Sink>(alloc: Global, notes: &mut N, cause: &Cause) -> Result
 
 /// Writes the note of how the call ended. Where there is no memory for it, memory is the cause.
 pub fn noted<S: Drop, N: Sink>(alloc: Global, notes: &mut N, stop: Stop<S>) -> Stop<S>
-    ensures stop { IsNoted stop.cause stop.failed result.cause result.failed }
+    ensures stop { IsToldAs stop.cause stop.failed result.cause result.failed }
     ensures left { ((result.cause ≡ stop.cause) × (result.left ≡ stop.left))
         ⊎ ((result.cause ≡ Cause.Memory) × (result.left ≡ None)) }
     ensures took { TookNote (N.taken notes.old) (N.taken notes.new)

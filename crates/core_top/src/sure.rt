@@ -5,9 +5,9 @@ ghost use Rattle.cer_outside.specs.Causes.{Rose};
 ghost use Rattle.cer_outside.specs.Content.{Holds};
 ghost use Rattle.cer_outside.specs.Files.{content_under};
 ghost use Rattle.event_run.specs.Runs as stop;
-ghost use Rattle.core_top.specs.Command.{Job, queries_of, events_of, AsksJob};
-ghost use Rattle.core_top.specs.Accepted.{StopsOver};
-ghost use Rattle.core_top.specs.Causes.{IsFineOrMemory};
+ghost use Rattle.core_jobs.specs.Command.{Job, query_file_of, event_file_of, AsksJob};
+ghost use Rattle.core_jobs.specs.Accepted.{JobStops};
+ghost use Rattle.core_jobs.specs.Causes.{CheckpointHolds, IsFineOrMemory};
 
 use super::Done;
 use super::top::core_main;
@@ -18,9 +18,9 @@ use cer_outside::sources::SureSource;
 use std::alloc::Global;
 use std::sync::ledger::Ledger;
 
-/// A job over a query text that it takes and an event file that is read to its end, on a host that
-/// never fails and has both: where the output's count of faults did not rise, all was well or memory ran
-/// out.
+/// A job over a query text that it takes, a checkpoint, where it has one, that it takes, and an event
+/// file that is read to its end, on a host that never fails and has them: where the output's count of
+/// faults did not rise, all was well or memory ran out.
 pub fn run_over_sure<K: Sink, N: Sink, L: Ledger>(
     alloc: Global,
     words: Vec<String>,
@@ -29,10 +29,11 @@ pub fn run_over_sure<K: Sink, N: Sink, L: Ledger>(
     notes: &mut N,
     steps: &mut Steps<L>,
 ) -> Done<SureSource>
-    ensures { (job : Job) (text lines : List ℕ) → AsksJob (map string_bytes words.items) job
-        → content_under host.old.files (queries_of job) ≡ Holds text
-        → content_under host.old.files (events_of job) ≡ Holds lines
-        → StopsOver job text lines stop.End
+    ensures { (job : Job) (text kept lines : List ℕ) → AsksJob (map string_bytes words.items) job
+        → content_under host.old.files (query_file_of job) ≡ Holds text
+        → CheckpointHolds (content_under host.old.files) job kept
+        → content_under host.old.files (event_file_of job) ≡ Holds lines
+        → JobStops job text kept lines stop.End
         → (Rose (K.faults out.old) (K.faults out.new) → ⊥) → IsFineOrMemory result.cause }
 {
     core_main(alloc, words, host, out, notes, steps)

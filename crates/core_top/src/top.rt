@@ -4,33 +4,33 @@ ghost use Rattle.std.specs.Prelude.{◌≡◌, ◌↔◌, ℕ, List, map, string
 ghost use Rattle.cer_base.specs.declared.Place.{Place};
 ghost use Rattle.ceql_grammar.specs.declared.faults.QueryFault.{QueryFault};
 ghost use Rattle.event_reader.specs.declared.EventFault.{EventFault};
+ghost use Rattle.checkpoint_text.specs.declared.CheckpointFault.{CheckpointFault};
 ghost use Rattle.cer_outside.specs.Content.{Missing, Holds};
 ghost use Rattle.event_run.specs.Runs as stop;
 ghost use Rattle.fault_notes.specs.declared.File.{File};
 ghost use Rattle.command_words.specs.CommandLine.{AskNothing};
-ghost use Rattle.core_top.specs.Command.{Job, queries_of, events_of, AsksJob, IsSample};
-ghost use Rattle.core_top.specs.Accepted.{IsRefusedBy, LacksItsClock, StopsOver};
-ghost use Rattle.core_top.specs.Causes.{status_of, name_of, Exactly, IsFineOrOutside, IsReading, HasOpenFault, HasReadFault, HasWriteFault, CountsOpens, CountsWrites, EndsWithout};
-ghost use Rattle.core_top.specs.Opening.{OpensInTurn};
-ghost use Rattle.core_top.specs.Output.{WroteBy, WroteSample};
-ghost use Rattle.core_top.specs.Left.{IsLeftBy};
-ghost use Rattle.core_top.specs.Steps.{StepsOf};
-ghost use Rattle.core_top.specs.Notes.{note_of, TookNote};
-ghost use Rattle.core_top.specs.Run.{Finished, left_of};
+ghost use Rattle.core_jobs.specs.Command.{Job, query_file_of, event_file_of, AsksJob, AsksSample};
+ghost use Rattle.core_jobs.specs.Accepted.{IsRefusedBy, LacksItsClock, RefusesCheckpoint, JobStops};
+ghost use Rattle.core_jobs.specs.Causes.{status_of, name_of, ReadsFile, CheckpointHolds, Exactly, IsFineOrOutside, IsReading};
+ghost use Rattle.core_jobs.specs.Causes.{HasOpenFault, HasReadFault, HasWriteFault, CountsOpens, CountsWrites, EndsWithout};
+ghost use Rattle.core_jobs.specs.Opening.{OpensInTurn};
+ghost use Rattle.core_jobs.specs.Output.{WroteBy, WroteSample};
+ghost use Rattle.core_jobs.specs.Left.{IsLeftBy};
+ghost use Rattle.core_jobs.specs.Steps.{StepsOf};
+ghost use Rattle.core_jobs.specs.Notes.{note_of, TookNote};
+ghost use Rattle.core_jobs.specs.Run.{CallEnded, left_by};
 
-use super::explain::explain_files;
+use super::Done;
 use super::notes::noted;
-use super::opening::Stop;
-use super::reorder::reorder_files;
-use super::run::run_files;
-use super::sample::run_sample;
-use super::session::session_files;
-use super::{Cause, Done};
 use answer_explain::Question;
 use cer_base::OrMemory;
 use cer_base::steps::Steps;
 use cer_outside::{Host, Sink};
 use command_words::{Command, read_command};
+use core_jobs::{
+    Cause, Stop, explain_files, reorder_files, resume_files, run_files, run_sample, save_files,
+    session_files,
+};
 use std::alloc::Global;
 use std::sync::ledger::Ledger;
 
@@ -40,9 +40,12 @@ use std::sync::ledger::Ledger;
 /// to `out`; `reorder QUERIES EVENTS CLOCK LATE` does so for events that come late, by LATE at the
 /// most, in the order of their attribute CLOCK; `explain QUERIES EVENTS QUERY START END
 /// [POSITION]...` writes why one of them is an answer; `session QUERIES SCRIPT` carries out the
-/// commands of a script, by which events come and cursors give their answers; `sample SEED COUNT`
-/// writes a summary of two fixed queries. The note of the cause goes to `notes`; a fault there changes neither status nor
-/// cause, but that where there is no memory for a note, memory is the cause.
+/// commands of a script, by which events come and cursors give their answers; `save QUERIES EVENTS`
+/// writes a checkpoint of the events: how many came, and those that the windows still need; `resume
+/// QUERIES CHECKPOINT EVENTS` writes the answers over events that come after those of a checkpoint;
+/// `sample SEED COUNT` writes a summary of two fixed queries. The note of the cause goes to `notes`; a
+/// fault there changes neither status nor cause, but that where there is no memory for a note, memory
+/// is the cause.
 pub fn core_main<H: Host, K: Sink, N: Sink, L: Ledger>(
     alloc: Global,
     words: Vec<String>,
@@ -54,13 +57,17 @@ pub fn core_main<H: Host, K: Sink, N: Sink, L: Ledger>(
     // The headline: what the output has taken after each cause. With status 0 a run has written
     // exactly the answers of the query text over the event file, position by position and query by
     // query, each once, one over late events those over the file's events in the order of their
-    // clocks, an explanation that of the complex event that is asked for, and a session the bytes of
-    // the steps that a machine makes by the commands of the script, in their order.
+    // clocks, an explanation that of the complex event that is asked for, a session the bytes of the
+    // steps that a machine makes by the commands of the script, in their order, and `save` the
+    // checkpoint of all events of the file; where these do not end well it has written nothing. A
+    // run that goes on from a checkpoint has written the answers of the stream of its history and
+    // then the event file, at the positions behind the history; where the checkpoint is refused it
+    // has written nothing.
     ensures wrote { (job : Job) → AsksJob (map string_bytes words.items) job
         → WroteBy result.cause (H.content host.old) job
-        (left_of (record { faults = H.Src.faults; left = H.Src.left }) result.failed)
+        (left_by (record { faults = H.Src.faults; left = H.Src.left }) result.failed)
         (K.taken out.old) (K.taken out.new) }
-    ensures sampled { (seed count : ℕ) → IsSample (map string_bytes words.items) seed count
+    ensures sampled { (seed count : ℕ) → AsksSample (map string_bytes words.items) seed count
         → WroteSample result.cause seed count (K.taken out.old) (K.taken out.new) }
     ensures silent { AskNothing (map string_bytes words.items)
         → K.taken out.new ≡ K.taken out.old }
@@ -70,23 +77,31 @@ pub fn core_main<H: Host, K: Sink, N: Sink, L: Ledger>(
     ensures usage { Exactly result.cause Cause.Usage (AskNothing (map string_bytes words.items)) }
     ensures queries { (job : Job) (text : List ℕ) (fault : QueryFault) (place : Place)
         → AsksJob (map string_bytes words.items) job
-        → H.content host.old (queries_of job) ≡ Holds text
+        → H.content host.old (query_file_of job) ≡ Holds text
         → Exactly result.cause (Cause.Queries fault place) (IsRefusedBy job text fault place) }
     ensures clock { (job : Job) (text name : List ℕ) → AsksJob (map string_bytes words.items) job
-        → H.content host.old (queries_of job) ≡ Holds text
+        → H.content host.old (query_file_of job) ≡ Holds text
         → Exactly result.cause (Cause.ClockKind name) (LacksItsClock job text name) }
-    ensures event { (job : Job) (text lines : List ℕ) (line : ℕ) (fault : EventFault)
+    ensures checkpoint { (job : Job) (text kept : List ℕ) (line : ℕ) (fault : CheckpointFault)
         → AsksJob (map string_bytes words.items) job
-        → H.content host.old (queries_of job) ≡ Holds text
-        → H.content host.old (events_of job) ≡ Holds lines
+        → H.content host.old (query_file_of job) ≡ Holds text
+        → CheckpointHolds (H.content host.old) job kept
+        → Exactly result.cause (Cause.Checkpoint line fault)
+        (RefusesCheckpoint job text kept line fault) }
+    ensures event { (job : Job) (text kept lines : List ℕ) (line : ℕ) (fault : EventFault)
+        → AsksJob (map string_bytes words.items) job
+        → H.content host.old (query_file_of job) ≡ Holds text
+        → CheckpointHolds (H.content host.old) job kept
+        → H.content host.old (event_file_of job) ≡ Holds lines
         → Exactly result.cause (Cause.Event line fault)
-        (StopsOver job text lines (stop.Event line fault)) }
-    ensures too_long { (job : Job) (text lines : List ℕ) (taken : ℕ)
+        (JobStops job text kept lines (stop.Event line fault)) }
+    ensures too_long { (job : Job) (text kept lines : List ℕ) (taken : ℕ)
         → AsksJob (map string_bytes words.items) job
-        → H.content host.old (queries_of job) ≡ Holds text
-        → H.content host.old (events_of job) ≡ Holds lines
+        → H.content host.old (query_file_of job) ≡ Holds text
+        → CheckpointHolds (H.content host.old) job kept
+        → H.content host.old (event_file_of job) ≡ Holds lines
         → Exactly result.cause (Cause.InputTooLong taken)
-        (StopsOver job text lines (stop.InputTooLong taken)) }
+        (JobStops job text kept lines (stop.InputTooLong taken)) }
     ensures open_fault { (file : File) (before after : ℕ)
         → result.cause ≡ Cause.OpenFault file before after
         → HasOpenFault (map string_bytes words.items) (H.content host.old)
@@ -100,37 +115,39 @@ pub fn core_main<H: Host, K: Sink, N: Sink, L: Ledger>(
 
     // A file that the host lacks is never opened, and nothing is written without it.
     ensures missing { (job : Job) (file : File) → AsksJob (map string_bytes words.items) job
-        → H.content host.old (name_of file job) ≡ Missing
+        → ReadsFile job file → H.content host.old (name_of file job) ≡ Missing
         → EndsWithout file result.cause × (K.taken out.new ≡ K.taken out.old) }
 
-    // A text that the job takes and an event file that is read to its end, or a script without a
-    // refusal, are answered, but for memory and the outside.
-    ensures complete { (job : Job) (text lines : List ℕ)
+    // A text and a checkpoint that the job takes and an event file that is read to its end, or a
+    // script without a refusal, are answered, but for memory and the outside.
+    ensures complete { (job : Job) (text kept lines : List ℕ)
         → AsksJob (map string_bytes words.items) job
-        → H.content host.old (queries_of job) ≡ Holds text
-        → H.content host.old (events_of job) ≡ Holds lines
-        → StopsOver job text lines stop.End → IsFineOrOutside result.cause }
+        → H.content host.old (query_file_of job) ≡ Holds text
+        → CheckpointHolds (H.content host.old) job kept
+        → H.content host.old (event_file_of job) ≡ Holds lines
+        → JobStops job text kept lines stop.End → IsFineOrOutside result.cause }
 
     // Each file is opened once and in its turn, and no other name; no call failed but the one that
     // is the cause.
     ensures opens { (job : Job) → AsksJob (map string_bytes words.items) job
-        → OpensInTurn H.opens (H.content host.old (queries_of job)) job result.cause
-        host.old host.new }
+        → OpensInTurn H.opens (H.content host.old) job result.cause host.old host.new }
     ensures unopened { AskNothing (map string_bytes words.items) → host.new ≡ host.old }
     ensures unopened_sample { (seed count : ℕ)
-        → IsSample (map string_bytes words.items) seed count → host.new ≡ host.old }
+        → AsksSample (map string_bytes words.items) seed count → host.new ≡ host.old }
     ensures counts_opens { (job : Job) → AsksJob (map string_bytes words.items) job
         → CountsOpens result.cause job (H.faults host.old) (H.faults host.new) }
     ensures counts_writes { CountsWrites result.cause (K.faults out.old) (K.faults out.new) }
 
-    // However a run ends, its steps are bounded by the events of the file and their answers; an
-    // explanation takes none. Those of a session are bounded command by command, by `Session::run`.
+    // However a run ends, its steps are bounded by the events of the file, those of a checkpoint
+    // before it among them, and by their answers; an explanation takes none, nor does saving events.
+    // Those of a session are bounded command by command, by `Session::run`.
     ensures steps { (job : Job) → AsksJob (map string_bytes words.items) job
         → StepsOf result.cause (H.content host.old) job (K.taken out.old) (K.taken out.new)
         steps.old steps.new }
 
     // The engine of a run, over late events or not, is left with status 0, and with no other; it
-    // stands for exactly the events of the event file. No other call leaves one.
+    // stands for exactly the events of the event file, behind those of a checkpoint where there is
+    // one. No other call leaves one.
     ensures left { (job : Job) → AsksJob (map string_bytes words.items) job
         → IsLeftBy result.cause (H.content host.old) job result.left }
     ensures none_left { ((job : Job) → AsksJob (map string_bytes words.items) job → ⊥)
@@ -167,7 +184,7 @@ fn run<H: Host, K: Sink, L: Ledger>(
     out: &mut K,
     steps: &mut Steps<L>,
 ) -> Stop<H::Src>
-    ensures finished { Finished (record { faults = H.Src.faults; left = H.Src.left }) H.opens
+    ensures finished { CallEnded (record { faults = H.Src.faults; left = H.Src.left }) H.opens
         (map string_bytes words.now)
         (record {
           content = H.content host.old;
@@ -264,6 +281,30 @@ fn run<H: Host, K: Sink, L: Ledger>(
             out,
             steps,
         ),
+        Ok(
+            Command::Resume {
+                queries,
+                checkpoint,
+                events,
+                order,
+                compact_every,
+                most_bytes,
+            },
+        ) => resume_files(
+            alloc,
+            queries.as_str(),
+            checkpoint.as_str(),
+            events.as_str(),
+            order,
+            compact_every,
+            most_bytes,
+            host,
+            out,
+            steps,
+        ),
+        Ok(Command::Save { queries, events }) => {
+            save_files(alloc, queries.as_str(), events.as_str(), host, out)
+        }
         Ok(Command::Sample { seed, count }) => run_sample(alloc, seed, count, out, steps),
         Err(OrMemory::Memory) => Stop::of(Cause::Memory),
         Err(OrMemory::Fault(_)) => Stop::of(Cause::Usage),
@@ -283,5 +324,6 @@ fn status(cause: &Cause) -> u8
         Cause::WriteFault { .. } => 6,
         Cause::Memory => 7,
         Cause::InputTooLong { .. } => 8,
+        Cause::Checkpoint { .. } => 9,
     }
 }

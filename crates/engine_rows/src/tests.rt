@@ -17,7 +17,7 @@ const ROWS: &[(&str, &str, &str)] = &[
     (
         "SELECT * FROM S WHERE A ; B",
         "A,1;B,1;A,1;B,1",
-        "/ 0{1,0} / / 2{3,2} 0{3,0} / 3 ",
+        "/ 0{1,0} / / 2{3,2} 0{3,0} / 2 ",
     ),
     // Nothing may stand between.
     (
@@ -29,13 +29,13 @@ const ROWS: &[(&str, &str, &str)] = &[
     (
         "SELECT * FROM S WHERE A ; B WITHIN 2 EVENTS",
         "A,1;A,1;B,1;B,1",
-        "/ / 1{2,1} 0{2,0} / 1{3,1} / 3 ",
+        "/ / 1{2,1} 0{2,0} / 1{3,1} / 2 ",
     ),
     // Each key has its own substream.
     (
         "SELECT * FROM S WHERE A ; B PARTITION BY [v]",
         "A,1;A,2;B,2;B,1;B,3",
-        "/ / 1{2,1} / 0{3,0} / / 3 ",
+        "/ / 1{2,1} / 0{3,0} / / 2 ",
     ),
     // An event of another type is no answer's, and counts as a position.
     (
@@ -47,13 +47,13 @@ const ROWS: &[(&str, &str, &str)] = &[
     (
         "SELECT * FROM S WHERE A ; B WITHIN 5 [v]",
         "A,3;B,2;B,8;B,9",
-        "/ query 1: 2 after 3 / 0{1,0} / / 3 ",
+        "/ query 1: 2 after 3 / 0{1,0} / / 2 ",
     ),
     // Positions that are skipped count in a window by count.
     (
         "SELECT * FROM S WHERE A ; B WITHIN 3 EVENTS",
         "A,1;--;B,1;B,1",
-        "/ 0{3,0} / / 3 ",
+        "/ 0{3,0} / / 2 ",
     ),
     // They stand between no two events.
     ("SELECT * FROM S WHERE A : B", "A,1;--;B,1", "/ 0{3,0} / 2 "),
@@ -61,7 +61,7 @@ const ROWS: &[(&str, &str, &str)] = &[
     (
         "SELECT * FROM S WHERE A ; B FILTER B[v > 1]",
         "A,1;B,1;B,2",
-        "/ / 0{2,0} / 3 ",
+        "/ / 0{2,0} / 2 ",
     ),
 ];
 

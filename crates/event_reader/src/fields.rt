@@ -55,7 +55,8 @@ pub fn record_of(alloc: Global, line: &[u8]) -> Result<ByteRecord, Memory>
 /// The first record of the text, if it has one.
 fn first_record(alloc: Global, text: &[u8]) -> Result<Option<ByteRecord>, Error>
     ensures { IfOk result (λ o. option_map fields_of_record o
-        ≡ option_map (λ p. p.0) (next_record default_config state.StartRecord [] [] (strip_bom text.now))) }
+        ≡ option_map (λ p. p.0)
+        (next_record default_config state.StartRecord [] [] (strip_bom text.now))) }
 {
     let mut reader = ReaderBuilder::new()
         .has_headers(false)

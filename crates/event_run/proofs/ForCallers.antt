@@ -11,7 +11,7 @@ use Rattle.event_reader.specs.declared.LineFault.{LineFault}
 use Rattle.event_reader.specs.Events.{event_of_line}
 use Rattle.event_reader.specs.Lines.{file_lines}
 use Rattle.query_engine.specs.Clocks.{NoneFallsBack}
-use Rattle.event_run.specs.Runs.{Stop, stop_of, StopsInTime, AfterLine, RunsOn, RunsTo, AfterGood, AreEventsAfter}
+use Rattle.event_run.specs.Runs.{Stop, stop_of, StopsInTime, AfterLine, RunsOn, RunsAfter, RunsTo, AfterGood, AreEventsAfter}
 use Rattle.event_run.specs.Runs as runs
 use Rattle.event_run.proofs.Alike.{none_as, first_as}
 use Rattle.event_run.proofs.FirstFalls.{falls_or_none, not_both, one_first}
@@ -78,6 +78,13 @@ pub one_run_of_trees : (schema : Declared) (ps qs : List Query) (most_bytes : �
 one_run_of_trees schema ps qs most_bytes bytes events again stop halt same one other =
     one_run schema qs 1 [] (file_lines most_bytes bytes).texts (file_lines most_bytes bytes).fault events again stop halt
     (same_run schema ps qs same 1 [] (file_lines most_bytes bytes).texts (file_lines most_bytes bytes).fault events stop one) other
+
+-- and so after other events
+pub one_run_after_of_trees : (before : List Event) (schema : Declared) (ps qs : List Query) (most_bytes : ℕ) (bytes : List ℕ) (events again : List Event) (stop halt : Stop) →
+    map query_tree ps ≡ map query_tree qs → RunsAfter before schema ps most_bytes bytes events stop → RunsAfter before schema qs most_bytes bytes again halt → (events ≡ again) × (stop ≡ halt)
+one_run_after_of_trees before schema ps qs most_bytes bytes events again stop halt same one other =
+    one_run schema qs 1 before (file_lines most_bytes bytes).texts (file_lines most_bytes bytes).fault events again stop halt
+    (same_run schema ps qs same 1 before (file_lines most_bytes bytes).texts (file_lines most_bytes bytes).fault events stop one) other
 
 -- Some events and a stop are those of a run, which goes on after the events before.
 pub record HasRun (schema : Declared) (queries : List Query) (number : ℕ) (before : List Event) (texts : List (List ℕ)) (fault : Option LineFault) : Type 0 where

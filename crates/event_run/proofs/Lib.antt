@@ -13,3 +13,5 @@ mod LineTaken
 mod RanOut
 -- the events of a file as a list
 mod Listed
+-- the events of two files, one behind the other
+pub mod TwoFiles

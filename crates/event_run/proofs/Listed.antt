@@ -55,10 +55,10 @@ pub line_added : (schema : Declared) (queries : List Query) (old new : LineReade
     HasTaken schema queries old bytes before events → HasTaken schema queries new bytes left after
 line_added schema queries old new bytes before left events after gives (inl none) had =
     let P : List Event → Type 0 = HasTaken schema queries new bytes left in
-    subst P (sym none.1) (empty_line schema queries old new bytes before left events gives none.0 had)
+    subst P (sym none.1) (empty_line [] schema queries old new bytes before left events gives none.0 had)
 line_added schema queries old new bytes before left events after gives (inr some) had =
     let P : List Event → Type 0 = HasTaken schema queries new bytes left in
-    subst P (sym some.2.1) (event_line schema queries old new bytes before left events some.0 gives some.1 some.2.0 had)
+    subst P (sym some.2.1) (event_line [] schema queries old new bytes before left events some.0 gives some.1 some.2.0 had)
 
 -- the line that was given last stops the run
 pub line_stops : (schema : Declared) (queries : List Query) (old new : LineReader) (bytes : List ℕ) (before left : Option (List ℕ)) (events : List Event) (number : ℕ) (refusal : EventFault) → number ≡ new.number →
@@ -66,18 +66,18 @@ pub line_stops : (schema : Declared) (queries : List Query) (old new : LineReade
     HasTaken schema queries old bytes before events → RunsTo schema queries new.budget bytes events (stop.Event number refusal)
 line_stops schema queries old new bytes before left events number refusal numbered gives stops had =
     let R : ℕ → Type 0 = λ n. RunsTo schema queries new.budget bytes events (stop.Event n refusal) in
-    subst R (sym numbered) (at_line schema queries new bytes left had.texts new.text events refusal (gives had.texts had.given) had.good stops)
+    subst R (sym numbered) (at_line [] schema queries new bytes left had.texts new.text events refusal (gives had.texts had.given) had.good stops)
 
 -- there is no further line
 pub no_further : (schema : Declared) (queries : List Query) (old new : LineReader) (bytes : List ℕ) (before left : Option (List ℕ)) (events : List Event) (fault : LineFault) →
     ((texts : List (List ℕ)) → HasGiven old bytes before texts → Follows new bytes left texts (Err fault)) →
     HasTaken schema queries old bytes before events → StopsBy schema queries new.budget bytes left (run_fault fault)
 no_further schema queries old new bytes before left events line.ReadFault follows had =
-    (events, at_read_fault schema queries new.budget bytes left had.texts events (follows had.texts had.given) had.good)
+    (events, at_read_fault [] schema queries new.budget bytes left had.texts events (follows had.texts had.given) had.good)
 no_further schema queries old new bytes before left events (line.LineTooLong number) follows had =
-    (events, at_end schema queries new.budget bytes had.texts (Some (line.LineTooLong number)) events (follows had.texts had.given) had.good)
+    (events, at_end [] schema queries new.budget bytes had.texts (Some (line.LineTooLong number)) events (follows had.texts had.given) had.good)
 no_further schema queries old new bytes before left events (line.InputTooLong most) follows had =
-    (events, at_end schema queries new.budget bytes had.texts (Some (line.InputTooLong most)) events (follows had.texts had.given) had.good)
+    (events, at_end [] schema queries new.budget bytes had.texts (Some (line.InputTooLong most)) events (follows had.texts had.given) had.good)
 
 -- nothing was read yet
 pub nothing_taken : (schema : Declared) (queries : List Query) (reader : LineReader) (bytes : List ℕ) → HasGiven reader bytes (Some bytes) [] → HasTaken schema queries reader bytes (Some bytes) []

@@ -46,10 +46,14 @@ RunsOn schema queries number before (text ∷ texts) fault events stop =
     AfterLine schema queries number before events stop (RunsOn schema queries (number + 1) before texts fault events stop)
     (λ next. RunsOn schema queries (number + 1) (before ++ next ∷ []) texts fault events stop) (event_of_line schema text)
 
+-- After the events before come those that the queries take of a file of these bytes, of which so many are too many; these are all events, and the run stops so.
+abbrev pub RunsAfter : List StreamEvent → Declared → List Query → ℕ → List ℕ → List StreamEvent → Stop → Type 0
+RunsAfter before schema queries most_bytes bytes events stop =
+    RunsOn schema queries 1 before (file_lines most_bytes bytes).texts (file_lines most_bytes bytes).fault events stop
+
 -- The queries take these events of a file of these bytes, of which so many are too many, and stop so.
 abbrev pub RunsTo : Declared → List Query → ℕ → List ℕ → List StreamEvent → Stop → Type 0
-RunsTo schema queries most_bytes bytes events stop =
-    RunsOn schema queries 1 [] (file_lines most_bytes bytes).texts (file_lines most_bytes bytes).fault events stop
+RunsTo schema queries most_bytes bytes events stop = RunsAfter [] schema queries most_bytes bytes events stop
 
 -- What follows from a line that is good: it is no event, or one with which no clock falls.
 abbrev pub AfterGood : Declared → List Query → List StreamEvent → Type 0 → (StreamEvent → Type 0) → Result (Option StreamEvent) EventFault → Type 0

@@ -19,47 +19,63 @@ use Rattle.event_run.specs.declared.Taken.{Taken}
 use Rattle.event_run.specs.declared.Taken.TheVariants as taken
 use Rattle.event_run.specs.declared.RunFault.{RunFault}
 use Rattle.event_run.specs.declared.RunFault.TheVariants as fault
-use Rattle.event_run.specs.Runs.{Stop, StopsInTime, RunsTo, AreEventsOf}
+use Rattle.event_run.specs.Runs.{Stop, StopsInTime, RunsAfter, AreEventsAfter}
 use Rattle.event_run.specs.Runs as stop
 
--- The reader has given lines of a file of these bytes, all of them good, and these are their events; its source has the bytes left.
-pub record HasTaken (schema : Declared) (queries : List Query) (reader : LineReader) (bytes : List ℕ) (left : Option (List ℕ)) (events : List Event) : Type 0 where
+-- The reader has given lines of a file of these bytes, all of them good, and with their events after those before these are all; its source has the bytes left.
+pub record HasTakenAfter (before : List Event) (schema : Declared) (queries : List Query) (reader : LineReader) (bytes : List ℕ) (left : Option (List ℕ)) (events : List Event) : Type 0 where
   pub texts : List (List ℕ)
   pub given : HasGiven reader bytes left texts
-  pub good : AreEventsOf schema queries texts events
+  pub good : AreEventsAfter schema queries before texts events
 
--- The run over a file of these bytes begins with these events.
-pub record BeginsRun (schema : Declared) (queries : List Query) (most_bytes : ℕ) (bytes : List ℕ) (events : List Event) : Type 0 where
+-- with no event before
+abbrev pub HasTaken : Declared → List Query → LineReader → List ℕ → Option (List ℕ) → List Event → Type 0
+HasTaken schema queries reader bytes left events = HasTakenAfter [] schema queries reader bytes left events
+
+-- The run over a file of these bytes, after the events before, begins with these events, those before among them.
+pub record BeginsRunAfter (before : List Event) (schema : Declared) (queries : List Query) (most_bytes : ℕ) (bytes : List ℕ) (events : List Event) : Type 0 where
   pub more : List Event
   pub stop : Stop
-  pub runs : RunsTo schema queries most_bytes bytes (events ++ more) stop
+  pub runs : RunsAfter before schema queries most_bytes bytes (events ++ more) stop
 
--- These are the events of all lines that end among the bytes that are no longer left; each of these lines is good.
-pub record AreEventsBefore (schema : Declared) (queries : List Query) (bytes rest : List ℕ) (events : List Event) : Type 0 where
+-- The run over a file of these bytes begins with these events.
+abbrev pub BeginsRun : Declared → List Query → ℕ → List ℕ → List Event → Type 0
+BeginsRun schema queries most_bytes bytes events = BeginsRunAfter [] schema queries most_bytes bytes events
+
+-- After the events before come those of all lines that end among the bytes that are no longer left, and these are all; each of these lines is good.
+pub record AreEventsBeforeRest (before : List Event) (schema : Declared) (queries : List Query) (bytes rest : List ℕ) (events : List Event) : Type 0 where
   pub read : List ℕ
   pub whole : bytes ≡ read ++ rest
-  pub good : AreEventsOf schema queries (whole_lines read) events
+  pub good : AreEventsAfter schema queries before (whole_lines read) events
 
 -- the same of a source that tells what it has left
+abbrev pub AreEventsReadAfter : List Event → Declared → List Query → List ℕ → Option (List ℕ) → List Event → Type 0
+AreEventsReadAfter before schema queries bytes None events = ⊥
+AreEventsReadAfter before schema queries bytes (Some rest) events = AreEventsBeforeRest before schema queries bytes rest events
+
+-- These are the events of all lines that end among the bytes that are no longer left; each of these lines is good.
+abbrev pub AreEventsBefore : Declared → List Query → List ℕ → List ℕ → List Event → Type 0
+AreEventsBefore schema queries bytes rest events = AreEventsBeforeRest [] schema queries bytes rest events
+
 abbrev pub AreEventsRead : Declared → List Query → List ℕ → Option (List ℕ) → List Event → Type 0
 AreEventsRead schema queries bytes None events = ⊥
 AreEventsRead schema queries bytes (Some rest) events = AreEventsBefore schema queries bytes rest events
 
 -- What one call has made of an engine that stood for these events: it stands for one more, which added what an event adds, or for the same.
--- Given `Had`, what the reader had taken before of a file of these bytes, this is what is known of the file.
-abbrev pub AfterCall : Declared → List Query → LineReader → State → State → (List ℕ → Type 0) → Option (List ℕ) → List Event → Result Taken (OrMemory RunFault) → Type 0
-AfterCall schema queries reader old engine Had left events (Ok taken.Event) =
-    (next : Event) × StandsFor engine (events ++ next ∷ []) × ((bytes : List ℕ) → Had bytes → HasTaken schema queries reader bytes left (events ++ next ∷ [])) × HasAdded old engine next
-AfterCall schema queries reader old engine Had left events (Ok taken.End) =
-    StandsFor engine events × ((bytes : List ℕ) → Had bytes → RunsTo schema queries reader.budget bytes events stop.End)
-AfterCall schema queries reader old engine Had left events (Err (Fault (fault.Event line refusal))) =
-    StandsFor engine events × ((bytes : List ℕ) → Had bytes → RunsTo schema queries reader.budget bytes events (stop.Event line refusal))
-AfterCall schema queries reader old engine Had left events (Err (Fault (fault.InputTooLong most))) =
-    StandsFor engine events × ((bytes : List ℕ) → Had bytes → RunsTo schema queries reader.budget bytes events (stop.InputTooLong most))
-AfterCall schema queries reader old engine Had left events (Err (Fault fault.ReadFault)) =
-    StandsFor engine events × ((bytes : List ℕ) → Had bytes → AreEventsRead schema queries bytes left events)
-AfterCall schema queries reader old engine Had left events (Err Memory) =
-    StandsFor engine events × ((bytes : List ℕ) → Had bytes → BeginsRun schema queries reader.budget bytes events)
+-- Given `Had`, what the reader had taken before of a file of these bytes, this is what is known of the file, where these events came before all of its own.
+abbrev pub AfterCall : List Event → Declared → List Query → LineReader → State → State → (List ℕ → Type 0) → Option (List ℕ) → List Event → Result Taken (OrMemory RunFault) → Type 0
+AfterCall before schema queries reader old engine Had left events (Ok taken.Event) =
+    (next : Event) × StandsFor engine (events ++ next ∷ []) × ((bytes : List ℕ) → Had bytes → HasTakenAfter before schema queries reader bytes left (events ++ next ∷ [])) × HasAdded old engine next
+AfterCall before schema queries reader old engine Had left events (Ok taken.End) =
+    StandsFor engine events × ((bytes : List ℕ) → Had bytes → RunsAfter before schema queries reader.budget bytes events stop.End)
+AfterCall before schema queries reader old engine Had left events (Err (Fault (fault.Event line refusal))) =
+    StandsFor engine events × ((bytes : List ℕ) → Had bytes → RunsAfter before schema queries reader.budget bytes events (stop.Event line refusal))
+AfterCall before schema queries reader old engine Had left events (Err (Fault (fault.InputTooLong most))) =
+    StandsFor engine events × ((bytes : List ℕ) → Had bytes → RunsAfter before schema queries reader.budget bytes events (stop.InputTooLong most))
+AfterCall before schema queries reader old engine Had left events (Err (Fault fault.ReadFault)) =
+    StandsFor engine events × ((bytes : List ℕ) → Had bytes → AreEventsReadAfter before schema queries bytes left events)
+AfterCall before schema queries reader old engine Had left events (Err Memory) =
+    StandsFor engine events × ((bytes : List ℕ) → Had bytes → BeginsRunAfter before schema queries reader.budget bytes events)
 
 -- the source's count of faults rose where it failed, and else stays
 abbrev pub HasSourceCause : {T : Type 0} → ℕ → ℕ → Result T (OrMemory RunFault) → Type 0

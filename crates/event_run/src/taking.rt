@@ -10,7 +10,7 @@ ghost use Rattle.cer_base.specs.Answers.{OnFault};
 ghost use Rattle.event_reader.specs.Events.{event_of_line};
 ghost use Rattle.query_engine.specs.Clocks.{NoneFallsBack};
 ghost use Rattle.event_run.specs.Wanting.{OnMemory, AreWantingSteps, WantsSteps};
-ghost use Rattle.event_run.specs.Taking.{BeginsRun, HasTaken, AfterCall, AfterText, AfterEvent, HasSourceCause, TakesRoom, TakesSteps, run_fault};
+ghost use Rattle.event_run.specs.Taking.{BeginsRunAfter, HasTakenAfter, AfterCall, AfterText, AfterEvent, HasSourceCause, TakesRoom, TakesSteps, run_fault};
 
 use crate::{RunFault, Taken};
 use cer_base::OrMemory;
@@ -25,9 +25,10 @@ use stream_schema::Event;
 /// Gives the engine the next event of the file.
 ///
 /// Empty lines are passed over. Where it ends otherwise than by `Taken::Event`, the engine stands
-/// for the events that it stood for; after a fault or the end the reader is not asked again.
-/// `lines` has numbered at least as many lines as the engine has taken events. The event is read
-/// into `row`, whatever that holds: one row for all calls spares their memory.
+/// for the events that it stood for; after a fault or the end the reader is not asked again. Events
+/// that the engine took before the first of the file may be any. It has taken fewer than leave room
+/// for an event at each byte that may still be read. The event is read into `row`, whatever that
+/// holds: one row for all calls spares their memory.
 pub fn take_event<Q: Source, L: Ledger>(
     alloc: Global,
     lines: &mut Lines,
@@ -37,12 +38,12 @@ pub fn take_event<Q: Source, L: Ledger>(
     steps: &mut Steps<L>,
 ) -> Result<Taken, OrMemory<RunFault>>
     requires open { lines.old.closed ≡ false }
-    requires counted { count_of engine.old ≤ lines.old.number }
-    ensures took { (events : List Event) → StandsFor engine.old events
-        → AfterCall engine.old.schema engine.old.queries lines.new engine.old engine.new
-        (λ bytes. HasTaken engine.old.schema engine.old.queries lines.old bytes
+    requires counted { count_of engine.old + lines.old.room < 2 ^ 64 }
+    ensures took { (before events : List Event) → StandsFor engine.old events
+        → AfterCall before engine.old.schema engine.old.queries lines.new engine.old engine.new
+        (λ bytes. HasTakenAfter before engine.old.schema engine.old.queries lines.old bytes
         (Q.left source.old) events) (Q.left source.new) events result }
-    ensures counted { count_of engine.new ≤ lines.new.number }
+    ensures counted { count_of engine.new + lines.new.room < 2 ^ 64 }
     ensures some { result ≡ Ok Taken.Event → 0 < count_of engine.new }
     ensures ended { result ≡ Ok Taken.End → engine.new ≡ engine.old }
     ensures same { SameQueries engine.old engine.new }
@@ -52,11 +53,11 @@ pub fn take_event<Q: Source, L: Ledger>(
     ensures steps { TakesSteps (update_bounds engine.new) steps.old steps.new result }
     ensures growth { result ≡ Ok Taken.Event → (query : ℕ) → len_of engine.new query
         ≤ len_of engine.old query + update_bound (found_of engine.new query) }
-    ensures wanting_steps { (events : List Event) → StandsFor engine.old events
+    ensures wanting_steps { (before events : List Event) → StandsFor engine.old events
         → OnMemory result (WantsSteps engine.old.schema engine.old.queries events
-        (λ next. (bytes : List ℕ) → HasTaken engine.old.schema engine.old.queries lines.old bytes
-        (Q.left source.old) events → BeginsRun engine.old.schema engine.old.queries
-        lines.new.budget bytes (events ++ next ∷ [])) steps.old steps.new) }
+        (λ next. (bytes : List ℕ) → HasTakenAfter before engine.old.schema engine.old.queries
+        lines.old bytes (Q.left source.old) events → BeginsRunAfter before engine.old.schema
+        engine.old.queries lines.new.budget bytes (events ++ next ∷ [])) steps.old steps.new) }
 {
     loop {
         match lines.next(source) {
@@ -98,11 +99,11 @@ fn give_line<L: Ledger>(
     engine: &mut Engine,
     steps: &mut Steps<L>,
 ) -> Result<bool, OrMemory<EventFault>>
-    requires counted { count_of engine.old + 1 ≤ lines.now.number }
+    requires counted { count_of engine.old + 1 < 2 ^ 64 }
     ensures took { (events : List Event) → StandsFor engine.old events
         → AfterText engine.old.schema engine.old.queries lines.now.number engine.old engine.new
         lines.now.text events result }
-    ensures counted { count_of engine.new ≤ lines.now.number }
+    ensures counted { count_of engine.new ≤ count_of engine.old + 1 }
     ensures some { result ≡ Ok true → 0 < count_of engine.new }
     ensures same { SameQueries engine.old engine.new }
     ensures steps { OnOk result (steps.new ≤ steps.old + update_bounds engine.new) }

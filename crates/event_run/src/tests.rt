@@ -1,6 +1,6 @@
 //! Small event files, taken event by event: how many events a run takes, and why it stops.
 
-ghost use Rattle.std.specs.Prelude.{◌≡◌, ◌<◌, ◌≤◌, false, IfOk};
+ghost use Rattle.std.specs.Prelude.{◌≡◌, ◌+◌, ◌^◌, ◌<◌, ◌≤◌, false, IfOk};
 ghost use Rattle.query_engine.specs.Engine.{count_of};
 
 use crate::{RunFault, Taken, read_events, take_event};
@@ -55,7 +55,7 @@ fn take_all<Q: Source, L: Ledger>(
     steps: &mut Steps<L>,
 ) -> Result<(), OrMemory<RunFault>>
     requires open { lines.old.closed ≡ false }
-    requires counted { count_of engine.old ≤ lines.old.number }
+    requires counted { count_of engine.old + lines.old.room < 2 ^ 64 }
 {
     let mut row = Row::new(alloc);
     loop {

@@ -98,9 +98,14 @@ event_note line fault = note (codes "events line " ++ decimal line ++ codes ": "
 abbrev pub too_long_note : ℕ → List ℕ
 too_long_note bytes = note (codes "events longer than " ++ decimal bytes ++ codes " bytes")
 
+-- core: checkpoint line 2: bad count
+abbrev pub checkpoint_note : ℕ → List ℕ → List ℕ
+checkpoint_note line words = note (codes "checkpoint line " ++ decimal line ++ codes ": " ++ words)
+
 -- the word for a file
 abbrev pub file_word : File → List ℕ
 file_word file.Queries = codes "queries"
+file_word file.Checkpoint = codes "checkpoint"
 file_word file.Events = codes "events"
 
 -- core: cannot open events
@@ -120,4 +125,4 @@ memory_note = note (codes "out of memory")
 -- each command with its options
 abbrev pub usage_note : List ℕ
 usage_note =
-    note (codes "usage: core_cli run QUERIES EVENTS [--order walk|sorted] [--compact-every N] [--max-bytes N], core_cli sample SEED COUNT, core_cli session QUERIES SCRIPT, core_cli reorder QUERIES EVENTS CLOCK LATE [--order walk|sorted] [--compact-every N] [--max-bytes N], core_cli explain QUERIES EVENTS QUERY START END [POSITION]...")
+    note (codes "usage: core_cli run QUERIES EVENTS [--order walk|sorted] [--compact-every N] [--max-bytes N], core_cli sample SEED COUNT, core_cli session QUERIES SCRIPT, core_cli reorder QUERIES EVENTS CLOCK LATE [--order walk|sorted] [--compact-every N] [--max-bytes N], core_cli explain QUERIES EVENTS QUERY START END [POSITION]..., core_cli save QUERIES EVENTS, core_cli resume QUERIES CHECKPOINT EVENTS [--order walk|sorted] [--compact-every N] [--max-bytes N]")

@@ -9,7 +9,7 @@ use crate::File;
 pub fn usage_note() -> &'static [u8]
     ensures { result.now ≡ usage_note }
 {
-    b"core: usage: core_cli run QUERIES EVENTS [--order walk|sorted] [--compact-every N] [--max-bytes N], core_cli sample SEED COUNT, core_cli session QUERIES SCRIPT, core_cli reorder QUERIES EVENTS CLOCK LATE [--order walk|sorted] [--compact-every N] [--max-bytes N], core_cli explain QUERIES EVENTS QUERY START END [POSITION]...\n"
+    b"core: usage: core_cli run QUERIES EVENTS [--order walk|sorted] [--compact-every N] [--max-bytes N], core_cli sample SEED COUNT, core_cli session QUERIES SCRIPT, core_cli reorder QUERIES EVENTS CLOCK LATE [--order walk|sorted] [--compact-every N] [--max-bytes N], core_cli explain QUERIES EVENTS QUERY START END [POSITION]..., core_cli save QUERIES EVENTS, core_cli resume QUERIES CHECKPOINT EVENTS [--order walk|sorted] [--compact-every N] [--max-bytes N]\n"
 }
 
 /// The note on a file that could not be opened.
@@ -18,6 +18,7 @@ pub fn open_note(file: File) -> &'static [u8]
 {
     match file {
         File::Queries => b"core: cannot open queries\n",
+        File::Checkpoint => b"core: cannot open checkpoint\n",
         File::Events => b"core: cannot open events\n",
     }
 }
@@ -28,6 +29,7 @@ pub fn read_note(file: File) -> &'static [u8]
 {
     match file {
         File::Queries => b"core: cannot read queries\n",
+        File::Checkpoint => b"core: cannot read checkpoint\n",
         File::Events => b"core: cannot read events\n",
     }
 }

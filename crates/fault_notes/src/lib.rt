@@ -5,11 +5,13 @@
 //! It stands on `itoa` for numbers, and on `ceql_grammar` and `event_reader` for the faults.
 #![tactic(auto)]
 
+mod checkpoints;
 mod events;
 mod fixed;
 mod queries;
 mod words;
 
+pub use checkpoints::checkpoint_note;
 pub use events::{event_note, too_long_note};
 pub use fixed::{memory_note, open_note, read_note, usage_note, write_note};
 pub use queries::{clock_note, query_note};
@@ -19,6 +21,8 @@ pub use queries::{clock_note, query_note};
 pub enum File {
     /// The query text.
     Queries,
+    /// The checkpoint that a run goes on from.
+    Checkpoint,
     /// The events.
     Events,
 }

@@ -15,6 +15,7 @@ use Rattle.event_run.specs.Runs.{Stop}
 use Rattle.stream_answers.specs.Steps.{AreBounded}
 use Rattle.stream_answers.specs.Counting.{StepsAtFault}
 use Rattle.stream_answers.proofs.Portions.{took_both}
+use Rattle.stream_answers.specs.Windows.{is_due}
 use Rattle.stream_answers.proofs.Totals.{bounded_all, bounded_more, one_ends}
 use Rattle.late_answers.specs.Late.{Feed, RunsLate}
 use Rattle.late_answers.specs.Written.{asked}
@@ -35,7 +36,7 @@ module _ (every : Option ℕ) where
         rows = rows ++ grown.0;
         are_rows = grown.1;
         took = tt;
-        bounded = bounded_all every (asked a) events begun.more rows grown.0 before now bounded;
+        bounded = bounded_all (is_due every) (asked a) events begun.more rows grown.0 before now bounded;
       }
 
   -- the feed ended by itself, and all was written
@@ -72,11 +73,11 @@ module _ (every : Option ℕ) where
         one = s.one;
         later = s.later;
         are_rows = subst P split (rows_grow_at_last a.order a.schema a.queries events next rows more are_rows are_more);
-        last = let at = one_ends every (asked a) all s.whole s.later s.one more s.rows_are are_more in omega arith;
+        last = let at = one_ends (is_due every) (asked a) all s.whole s.later s.one more s.rows_are are_more in omega arith;
         middle = s.middle;
         took = subst (TookAll before s.middle) (sym (lines_both rows s.whole)) (took_both before middle s.middle (lines_of rows) (lines_of s.whole) (subst (TookAll before middle) so_written took) s.took);
         part = s.part;
-        bounded = subst B (sym (append_assoc rows s.whole (s.one ∷ []))) (bounded_more every (asked a) engine events next rows (s.whole ++ s.one ∷ []) first old seen now same alike stands bounded cost s.steps);
+        bounded = subst B (sym (append_assoc rows s.whole (s.one ∷ []))) (bounded_more (is_due every) (asked a) engine events next rows (s.whole ++ s.one ∷ []) first old seen now same alike stands bounded cost s.steps);
       }
 
   pub counts_at_fault : (a : Feed) (lines : List ℕ) (before middle after : Option (List ℕ)) (written held : List ℕ) (engine : State) (events : List StreamEvent) (next : StreamEvent) (rows more : List Row) (first old seen now : ℕ) → BeginsLate a lines (events ++ next ∷ []) →
@@ -89,7 +90,7 @@ module _ (every : Option ℕ) where
       over Walk walk steps = counts_up_to a lines before middle after written held engine events next rows more first old seen now begun same alike stands took (none walk) are_more are_rows so_far bounded cost steps
       over Sorted sorted steps =
           counts_whole a lines (events ++ next ∷ []) (rows ++ more) first now begun (rows_grow_at_last a.order a.schema a.queries events next rows more are_rows are_more)
-          (bounded_more every (asked a) engine events next rows more first old seen now same alike stands bounded cost steps)
+          (bounded_more (is_due every) (asked a) engine events next rows more first old seen now same alike stands bounded cost steps)
 
   -- a write failed while what was held was written
   pub counts_held : (a : Feed) (lines : List ℕ) (before after : Option (List ℕ)) (first now : ℕ) → a.order ≡ Sorted → LateCounts every a lines first now → LateCountsAtFault every a.order a lines before after first now

@@ -23,6 +23,7 @@ use Rattle.stream_answers.specs.declared.StreamFault.{StreamFault}
 use Rattle.stream_answers.specs.declared.StreamFault.TheVariants as fault
 use Rattle.stream_answers.specs.Gathering.{Gathered, PassesOn, Finished, stream_fault}
 use Rattle.stream_answers.specs.Streams.{WroteOver, HasReadCause, HasWriteCause}
+use Rattle.stream_answers.specs.Windows.{is_due}
 use Rattle.stream_answers.proofs.Totals.{none_taken, walk_or_sorted}
 use Rattle.stream_answers.proofs.Windows.{windows_at_first}
 use Rattle.stream_answers.proofs.Portions.{took_none, took_both, took_then_part, part_of_more, prefix_of_more, prefix_of_all}
@@ -140,7 +141,7 @@ starts every a source before reader g o engine first fresh =
         took = took_none before;
         output = fresh.none_waits;
         counting = record { rows = []; are_rows = refl; lines = fresh.none_waits; bounded = λ most meet. omega arith; few = λ most meet. first_has_no_node engine most fresh.stands };
-        windows = windows_at_first every engine fresh.stands;
+        windows = windows_at_first (is_due every) engine fresh.stands;
         none_waits = λ walk. fresh.none_waits;
       };
       due = refl;
@@ -190,8 +191,8 @@ module _ (every : Option ℕ) (peaks : ℕ → ℕ) where
       let counts = counts_whole every a bytes u.events u.rows first now (u.begins bytes told) u.are_rows u.bounded in
       elim finished.way [
         | inl fine ↦ subst P (sym fine.0) (well counts fine.1)
-        | inr failed ↦ elim (walk_or_sorted every a.order) [
-          | inl walk ↦ let empty = u.none_waits walk in subst P (sym (none empty)) (well counts (none_taken every middle after held empty failed.1))
+        | inr failed ↦ elim (walk_or_sorted (is_due every) a.order) [
+          | inl walk ↦ let empty = u.none_waits walk in subst P (sym (none empty)) (well counts (none_taken (is_due every) middle after held empty failed.1))
           | inr is ↦ subst P (sym failed.0) (counts_held every a bytes before after first now is counts)
         ]
       ]
@@ -314,7 +315,7 @@ module _ (every : Option ℕ) (peaks : ℕ → ℕ) where
         wrote = part_of_late a source f.events (f.written ++ o.held) (TookPart before after) f.output begins (λ rest p. part_of_more before after (f.written ++ o.held) rest p) (took_then_part before middle after f.written o.held f.took part);
         steps = λ bytes told.
             let counts = counts_whole every a bytes f.events f.counting.rows first steps (begins bytes told) f.counting.are_rows f.counting.bounded in
-            elim (walk_or_sorted every a.order) [
+            elim (walk_or_sorted (is_due every) a.order) [
               | inl walk ↦ absurd (some (f.none_waits walk))
               | inr is ↦ counts_held every a bytes before after first steps is counts
             ];

@@ -1,5 +1,5 @@
 -- A late feed from event to event.
-use Rattle.std.proofs.Common.{◌≡◌, ℕ, ◌+◌, ◌-◌, ◌≤◌, inr, inl, List, [], ◌∷◌, ◌++◌, length, Option, Some, None, Ok, Err, refl, sym, ◌∙◌, ap, subst, append_assoc, append-nil}
+use Rattle.std.proofs.Common.{◌≡◌, ℕ, ◌+◌, ◌-◌, ◌≤◌, inr, inl, List, [], ◌∷◌, ◌++◌, length, Option, Some, None, Ok, Err, refl, sym, ◌∙◌, ap, subst, append_assoc, append-nil, arith}
 use Rattle.cer_base.specs.declared.OrMemory.TheVariants.{Fault, Memory}
 use Rattle.cer_outside.specs.Bytes.{TookAll, TookPart}
 use Rattle.stream_schema.specs.Types.{Declared}
@@ -30,7 +30,7 @@ use Rattle.reorder_gate.specs.Gates.{Held}
 use Rattle.stream_answers.specs.declared.StreamFault.TheVariants as fault
 use Rattle.stream_answers.specs.Gathering.{Gathered, PassesOn}
 use Rattle.stream_answers.specs.Steps.{compaction_at}
-use Rattle.stream_answers.specs.Windows.{last_due, FollowsWindows}
+use Rattle.stream_answers.specs.Windows.{is_due, last_due, FollowsWindows}
 use Rattle.stream_answers.specs.Counting.{IsCompacted, StepsAtFault}
 use Rattle.stream_answers.proofs.Portions.{took_both, took_then_part, part_of_more}
 use Rattle.stream_answers.proofs.Running.{Came, output_with}
@@ -205,7 +205,7 @@ module _ (every : Option ℕ) (peaks : ℕ → ℕ) where
           events = all;
           written = w.written;
           took = w.took;
-          output = output_with (asked a) w.events e.1 w.written o.held (lines_of more.0) w.output (came_of a all more.0 more.1);
+          output = output_with [] (asked a) w.events e.1 w.written o.held (lines_of more.0) (omega arith) w.output (came_of a all more.0 more.1);
           begins = λ bytes told.
               let goes = owe_first a source put g e o old before after first steps w bytes told in
               begins_at a bytes (w.gone ++ e ∷ []) goes.0 all (goes.1 ∙ sym (append_assoc w.gone (e ∷ []) goes.0))
@@ -214,7 +214,7 @@ module _ (every : Option ℕ) (peaks : ℕ → ℕ) where
           rows = w.counting.rows ++ more.0;
           are_rows = rows_grow_at_last a.order a.schema a.queries w.events e.1 w.counting.rows more.0 w.counting.are_rows more.1;
           lines = lines_with w.written o.held w.counting.rows more.0 w.counting.lines;
-          bounded = bounded_wanting every (asked a) w.events e.1 w.counting.rows more.0 first steps now w.counting.bounded here.1;
+          bounded = bounded_wanting (is_due every) (asked a) w.events e.1 w.counting.rows more.0 first steps now w.counting.bounded here.1;
           none_waits = w.none_waits;
         },
       )
@@ -247,7 +247,7 @@ module _ (every : Option ℕ) (peaks : ℕ → ℕ) where
         was = old;
         steps = steps;
         counting = w.counting;
-        windows = windows_due every peaks old new w.events e.1 same after_it.0 added w.windows;
+        windows = windows_due (is_due every) peaks old new w.events e.1 same after_it.0 added w.windows;
         kept = same;
         growth = growth;
         cost = cost;
@@ -264,9 +264,9 @@ module _ (every : Option ℕ) (peaks : ℕ → ℕ) where
   pub takes_compacted : (a : Feed) (source : Option (List ℕ)) (put : List Numbered) (g : Held) (o : Gathered) (engine last : State) (before after : Option (List ℕ)) (first seen paused now : ℕ) → (t : Taken every peaks a source put g o engine before after first seen) →
       SameQueries engine last → ((events : List StreamEvent) → StandsFor engine events → StandsFor last events) → ((query : ℕ) → len_of last query ≤ len_of engine query) →
       ((events : List StreamEvent) (most : ℕ → ℕ) → StandsFor engine events → MeetMost engine.schema engine.queries events most → HasFewNodes engine (length events) most → now ≤ paused + compaction_at every (length engine.queries) most (length events)) →
-      IsCompacted every (asked a) (t.events ++ t.next ∷ []) last paused now
+      IsCompacted (is_due every) (asked a) (t.events ++ t.next ∷ []) last paused now
   takes_compacted a source put g o engine last before after first seen paused now t same stands fewer steps =
-      compacted every (asked a) t.was engine last t.events t.next paused now t.schema t.queries t.kept same t.stands (stands (t.events ++ t.next ∷ []) t.stands) t.counting.few t.growth fewer
+      compacted (is_due every) (asked a) t.was engine last t.events t.next paused now t.schema t.queries t.kept same t.stands (stands (t.events ++ t.next ∷ []) t.stands) t.counting.few t.growth fewer
       (λ most meet few. steps (t.events ++ t.next ∷ []) most t.stands meet few) (λ most meet. first_meet_fewer a.schema a.queries t.events (t.next ∷ []) most meet)
 
   -- the output over the events with the one that was taken, where its answers were put
@@ -277,27 +277,27 @@ module _ (every : Option ℕ) (peaks : ℕ → ℕ) where
       let O : List ℕ → Type 0 = IsOutput a.order a.schema a.queries (t.events ++ t.next ∷ []) in
       let turn = in_turn t.written o.held (lines_of more) passed.written now.held [] passed.whole in
       let came = came_of a (t.events ++ t.next ∷ []) more are_more in
-      let output : O ((t.written ++ passed.written) ++ (now.held ++ [])) = subst O turn (output_with (asked a) t.events t.next t.written o.held (lines_of more) t.output came) in
+      let output : O ((t.written ++ passed.written) ++ (now.held ++ [])) = subst O turn (output_with [] (asked a) t.events t.next t.written o.held (lines_of more) (omega arith) t.output came) in
       subst (λ h. O ((t.written ++ passed.written) ++ h)) (append-nil now.held) output
 
   -- and its steps, with those of a compaction
   counting_on : (a : Feed) (source : Option (List ℕ)) (put : List Numbered) (g : Held) (o now : Gathered) (engine last : State) (before middle after : Option (List ℕ)) (first seen paused steps : ℕ) (more : List Row) → (t : Taken every peaks a source put g o engine before middle first seen) →
       AreRowsAt a.order a.schema 1 a.queries (t.events ++ t.next ∷ []) (length (t.events ++ t.next ∷ []) - 1) more → (passed : PassesOn middle after o.held (lines_of more) now.held []) → paused ≤ seen + cursor_bounds engine + row_delays more →
-      IsCompacted every (asked a) (t.events ++ t.next ∷ []) last paused steps → Counting every a (t.events ++ t.next ∷ []) ((t.written ++ passed.written) ++ now.held) last first steps
+      IsCompacted (is_due every) (asked a) (t.events ++ t.next ∷ []) last paused steps → Counting every a (t.events ++ t.next ∷ []) ((t.written ++ passed.written) ++ now.held) last first steps
   counting_on a source put g o now engine last before middle after first seen paused steps more t are_more passed cost c =
       let turn = in_turn t.written o.held (lines_of more) passed.written now.held [] passed.whole in
       record {
         rows = t.counting.rows ++ more;
         are_rows = rows_grow_at_last a.order a.schema a.queries t.events t.next t.counting.rows more t.counting.are_rows are_more;
         lines = ap (λ (h : List ℕ). (t.written ++ passed.written) ++ h) (sym (append-nil now.held)) ∙ (sym turn ∙ lines_with t.written o.held t.counting.rows more t.counting.lines);
-        bounded = bounded_on every (asked a) engine t.events t.next t.counting.rows more first t.steps seen paused steps t.schema t.queries t.stands t.counting.bounded t.cost cost c.steps;
+        bounded = bounded_on (is_due every) (asked a) engine t.events t.next t.counting.rows more first t.steps seen paused steps t.schema t.queries t.stands t.counting.bounded t.cost cost c.steps;
         few = c.few;
       }
 
   -- the answers were put, and the engine is compacted
   pub puts : (a : Feed) (source : Option (List ℕ)) (put : List Numbered) (g : Held) (o now : Gathered) (engine last : State) (before middle after : Option (List ℕ)) (first seen paused steps : ℕ) (more : List Row) → now.order ≡ o.order →
       (t : Taken every peaks a source put g o engine before middle first seen) → AreRowsAt a.order a.schema 1 a.queries (t.events ++ t.next ∷ []) (length (t.events ++ t.next ∷ []) - 1) more → PassesOn middle after o.held (lines_of more) now.held [] →
-      paused ≤ seen + cursor_bounds engine + row_delays more → (a.order ≡ Walk → now.held ≡ []) → SameQueries engine last → IsCompacted every (asked a) (t.events ++ t.next ∷ []) last paused steps →
+      paused ≤ seen + cursor_bounds engine + row_delays more → (a.order ≡ Walk → now.held ≡ []) → SameQueries engine last → IsCompacted (is_due every) (asked a) (t.events ++ t.next ∷ []) last paused steps →
       FollowsWindows every peaks (last_due every (length (t.events ++ t.next ∷ []))) (t.events ++ t.next ∷ []) last → Flowing every peaks a source put g now last before after first steps
   puts a source put g o now engine last before middle after first seen paused steps more order t are_more passed cost none_waits same c windows = record {
     order = order ∙ t.order;
@@ -321,7 +321,7 @@ module _ (every : Option ℕ) (peaks : ℕ → ℕ) where
   -- memory ran out while it was compacted
   pub compaction_wants : (a : Feed) (source : Option (List ℕ)) (put : List Numbered) (g : Held) (o now : Gathered) (engine last : State) (before middle after : Option (List ℕ)) (first seen paused steps : ℕ) (more : List Row) →
       (t : Taken every peaks a source put g o engine before middle first seen) → AreRowsAt a.order a.schema 1 a.queries (t.events ++ t.next ∷ []) (length (t.events ++ t.next ∷ []) - 1) more → PassesOn middle after o.held (lines_of more) now.held [] →
-      paused ≤ seen + cursor_bounds engine + row_delays more → (a.order ≡ Walk → now.held ≡ []) → IsCompacted every (asked a) (t.events ++ t.next ∷ []) last paused steps →
+      paused ≤ seen + cursor_bounds engine + row_delays more → (a.order ≡ Walk → now.held ≡ []) → IsCompacted (is_due every) (asked a) (t.events ++ t.next ∷ []) last paused steps →
       (left : Option (List ℕ)) → Ended every peaks a source left before after now.held last first steps {T = Unit {0}} (Err Memory)
   compaction_wants a source put g o now engine last before middle after first seen paused steps more t are_more passed cost none_waits c left = (
     [],
@@ -344,13 +344,13 @@ module _ (every : Option ℕ) (peaks : ℕ → ℕ) where
           events = all;
           written = t.written ++ passed.1.written;
           took = took_both before middle after t.written passed.1.written t.took passed.1.took;
-          output = subst O turn (output_with (asked a) t.events t.next t.written o.held (lines_of more) t.output (came_of a all more are_more));
+          output = subst O turn (output_with [] (asked a) t.events t.next t.written o.held (lines_of more) (omega arith) t.output (came_of a all more are_more));
           begins = taken_begins a source put g o engine before middle first seen t;
           are = λ bytes told. tt;
           rows = t.counting.rows ++ more;
           are_rows = rows_grow_at_last a.order a.schema a.queries t.events t.next t.counting.rows more t.counting.are_rows are_more;
           lines = sym turn ∙ lines_with t.written o.held t.counting.rows more t.counting.lines;
-          bounded = bounded_more every (asked a) engine t.events t.next t.counting.rows more first t.steps seen steps t.schema t.queries t.stands t.counting.bounded t.cost cost;
+          bounded = bounded_more (is_due every) (asked a) engine t.events t.next t.counting.rows more first t.steps seen steps t.schema t.queries t.stands t.counting.bounded t.cost cost;
           none_waits = none_waits;
         },
       )
@@ -361,7 +361,7 @@ module _ (every : Option ℕ) (peaks : ℕ → ℕ) where
       StepsAtFault o.order middle after more (seen + cursor_bounds engine) steps →
       WroteLatePart a source (TookPart before after) × ((bytes : List ℕ) → source ≡ Some bytes → LateCountsAtFault every a.order a bytes before after first steps)
   puts_failing a source put g o engine before middle after first seen steps more t are_more part cost = (
-    part_of_late a source (t.events ++ t.next ∷ []) (t.written ++ (o.held ++ lines_of more)) (TookPart before after) (output_with (asked a) t.events t.next t.written o.held (lines_of more) t.output (came_of a (t.events ++ t.next ∷ []) more are_more))
+    part_of_late a source (t.events ++ t.next ∷ []) (t.written ++ (o.held ++ lines_of more)) (TookPart before after) (output_with [] (asked a) t.events t.next t.written o.held (lines_of more) (omega arith) t.output (came_of a (t.events ++ t.next ∷ []) more are_more))
         (taken_begins a source put g o engine before middle first seen t) (λ rest p. part_of_more before after (t.written ++ (o.held ++ lines_of more)) rest p) (took_then_part before middle after t.written (o.held ++ lines_of more) t.took part),
     λ bytes told.
         counts_at_fault every a bytes before middle after t.written o.held engine t.events t.next t.counting.rows more first t.steps seen steps (taken_begins a source put g o engine before middle first seen t bytes told)

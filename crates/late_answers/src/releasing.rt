@@ -98,7 +98,7 @@ fn answer_event<K: Sink, L: Ledger>(
         Err(OrMemory::Memory) => return Err(OrMemory::Memory),
         Err(OrMemory::Fault(WriteFault)) => return Err(OrMemory::Fault(StreamFault::WriteFault)),
     }
-    match compact_if_due(compact_every, engine, steps) {
+    match compact_if_due(compact_every, 0, engine, steps) {
         Ok(()) => Ok(()),
         Err(Memory) => Err(OrMemory::Memory),
     }

@@ -5,7 +5,7 @@ use Rattle.cer_base.specs.Bits.{has}
 use Rattle.cea_determinise.specs.Runs.{LeafSet, Automaton, start, pair, follow, some_below, agrees, has_leaf, Entry, run, accepted_run}
 use Rattle.cea_compile.specs.Paths.{Reading}
 use Rattle.cea_compile.specs.Covers.{Cover}
-use Rattle.cea_compile.proofs.Subsets.{IsMove, IsLive, Leads, ends, reads, skips, sound, kept_accepts, fresh_parts}
+use Rattle.cea_compile.proofs.Subsets.{IsMove, IsLive, Leads, ends, reads, skips, sound, kept_accepts, WasRead, Passed, came, fresh_after, waiting_after, read_parts}
 use Rattle.cea_compile.proofs.Runs.{HasStart}
 use Rattle.match_explain.specs.declared.turns.Turn.{Turn}
 use Rattle.match_explain.specs.declared.moves.Last.{Last}
@@ -62,20 +62,20 @@ finish_of_leads a marks fresh k xs (t ∷ ts) are (skips {fresh = f} {j = j} {x 
     pass_on a f j t ts (are.0.marked ∙ m) (finish_of_leads a marks false j xs' ts are.1 s)
 
 start_of_run : (a : Automaton) (marks : ℕ → Bool) (x : Entry) (xs : List Entry) → accepted_run a (run a marks start (x ∷ xs)) ≡ true → HasStart a marks x xs
-start_of_run a marks x xs h = go live.leaf live.below live.leads
+start_of_run a marks x xs h = go live.leaf live.below (came a marks start x xs live.leaf live.leads)
   where
     f : LeafSet
-    f k = a.first k && (x.bits k && agrees (marks x.position) (a.marked k))
+    f = fresh_after a marks start x
 
     w : LeafSet
-    w k = not (marks x.position) && false
+    w = waiting_after a marks start x
 
     live : IsLive a marks f w xs
     live = sound a marks xs f w (kept_accepts a (λ t. run a marks t xs) (pair f w) (has_leaf a (pair f w)) h)
 
-    go : (k : ℕ) → k < a.size → ((f k ≡ true) × Leads a marks true k xs) ⊎ ((w k ≡ true) × Leads a marks false k xs) → HasStart a marks x xs
-    go k b (inl h) = let p = fresh_parts a marks start x k h.0 in record { leaf = k; below = b; first = p.0; bit = p.1; mark = p.2; leads = h.1 }
-    go k b (inr h) = absurd (false≢true (and_parts (not (marks x.position)) false h.0).1)
+    go : (k : ℕ) → k < a.size → WasRead a marks start x xs k ⊎ Passed a marks start x xs k → HasStart a marks x xs
+    go k b (inl h) = let p = read_parts a marks start x k h.0 in record { leaf = k; below = b; first = p.0; bit = p.1; mark = p.2; leads = h.1 }
+    go k b (inr h) = absurd (false≢true h.1)
 
 -- Where the determinised run accepts the search can begin.
 pub begins : (r : Reading) (a : Automaton) (marks : ℕ → Bool) (from e : ℕ) (xs : List Entry) (ts : List Turn) → Cover r a.size from xs e → AreTurnsOf a marks xs ts → accepted_run a (run a marks start xs) ≡ true → can_finish a Start ts ≡ true

@@ -17,6 +17,7 @@ use Rattle.cea_compile.specs.Covers.{is_listed}
 use Rattle.match_explain.specs.declared.turns.Turn.{Turn}
 use Rattle.match_explain.specs.declared.moves.Last.{Last}
 use Rattle.match_explain.specs.declared.moves.Last.TheVariants.{Start, Leaf as At}
+use Rattle.match_explain.specs.declared.moves.Age.{Age}
 use Rattle.match_explain.specs.declared.moves.Age.TheVariants.{Just, Earlier}
 use Rattle.match_explain.specs.declared.finishing.Ahead.{Ahead}
 
@@ -55,6 +56,11 @@ can_finish a last [] = has_ended a last
 can_finish a last (t ∷ ts) =
     some_below a.size (λ j. may_read a last j && (has t.readers j && can_finish a (At Just j) ts))
     || (has_begun last && (not t.marked && can_finish a (passed last) ts))
+
+-- the leaf goes on to one of the finishers of the turn, or, where the turn is not marked, past it
+abbrev pub goes_on : Automaton → Age → Bool → List Bool → List Bool → LeafSet
+goes_on a age marked finishers earlier k =
+    some_below a.size (λ j. may_read a (At age k) j && has finishers j) || (not marked && has earlier k)
 
 -- The steps finish the run over the turns.
 pub data Goes (a : Automaton) : Last → List Turn → List Step → Type 0 where

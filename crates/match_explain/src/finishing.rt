@@ -1,11 +1,9 @@
 //! Which leaves can finish a run, from the last event of a span to the first.
 
-ghost use Rattle.std.specs.Prelude.{◌≡◌, ℕ, ◌<◌, ◌&&◌, ◌||◌, not, [], All, IfOk, reverse};
+ghost use Rattle.std.specs.Prelude.{◌≡◌, ℕ, ◌<◌, ◌&&◌, [], All, IfOk, reverse};
 ghost use Rattle.cer_base.specs.Bits.{has};
-ghost use Rattle.cea_determinise.specs.Runs.{some_below};
 ghost use Rattle.cea_determinise.specs.Cea.{automaton_of_cea, IsWellFormed, IsSet};
-ghost use Rattle.match_explain.specs.declared.moves.Last.TheVariants.{Leaf as At};
-ghost use Rattle.match_explain.specs.Searching.{may_read, can_finish, IsAhead, AreFinishers};
+ghost use Rattle.match_explain.specs.Searching.{can_finish, goes_on, IsAhead, AreFinishers};
 
 use crate::moves::{Age, Last, leads};
 use crate::turns::Turn;
@@ -59,7 +57,8 @@ fn before(
     requires finishers { IsSet cea.now.size finishers.now }
     ensures set { IfOk result (IsSet cea.now.size) }
     ensures members { IfOk result (λ b. (k : ℕ) → k < cea.now.size → has b k
-        ≡ (some_below cea.now.size (λ j. may_read (automaton_of_cea cea.now) (At age k) j && has finishers.now j) || (not turn.now.marked && has ahead.now.earlier k))) }
+        ≡ goes_on (automaton_of_cea cea.now) age turn.now.marked finishers.now
+        ahead.now.earlier k) }
 {
     let mut set = Bits::blank(alloc, cea.size)?;
     for leaf in 0..cea.size {

@@ -20,3 +20,5 @@ pub mod LineText
 pub mod RowsWritten
 -- the output's rows where more events come; for callers
 pub mod RowsGrow
+-- what is written behind other events; for callers
+pub mod After

@@ -6,6 +6,7 @@
 
 ghost use Rattle.output_laws.specs.Laws.{AnswersLookBack, AnswersLookWithin, LaterEventsChangeNoAnswer, LaterEventsChangeNoBlock, LaterEventsChangeNoBlocks, LaterEventsChangeNoOutput, OneMoreEventAddsItsBlocks, OutputBeginsWithThatOfTheFirst, OutputGrowsAtItsEnd, OutputStartsEmpty, SortedOutputIsUnique, TreesTellTheAnswers, TreesTellTheOutput};
 ghost use Rattle.output_laws.specs.Rows.{LinesTellTheirRows, OrdersWriteTheSameLines, OutputIsRows, RowsAreTheOutput, RowsGrowAtTheirEnd};
+ghost use Rattle.output_laws.specs.After.{OutputAfterIsFromThere, OutputIsInTwoParts};
 ghost use Rattle.output_laws.specs.Words.{WordsTellTheAnswers, WordsTellTheOutput};
 
 /// An answer depends on the events up to its end alone.
@@ -106,4 +107,14 @@ pub fn rows_are_the_output()
 /// The rows of more events are those of the first with more after them.
 pub fn rows_grow_at_their_end()
     ensures { RowsGrowAtTheirEnd }
+{}
+
+/// The output behind the first events is that at the positions from there on.
+pub fn output_after_is_from_there()
+    ensures { OutputAfterIsFromThere }
+{}
+
+/// The output of all events is that of the first, and behind it that of those that come after them.
+pub fn output_is_in_two_parts()
+    ensures { OutputIsInTwoParts }
 {}

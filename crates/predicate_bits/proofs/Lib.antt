@@ -5,3 +5,5 @@ pub mod Collected
 -- a set that is filled with the leaves of a group whose tests hold
 pub mod Filled
 mod Ranged
+-- what the range of a leaf settles
+mod Settled

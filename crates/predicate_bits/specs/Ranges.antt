@@ -26,3 +26,12 @@ AsksFor r holds = (event : Event) (v : ℤ) → IsWide v → holds event ≡ tru
 pub record AreRangesOf (list : List Leaf) (ranges : List Range) : Type 0 where
   pub count : length ranges ≡ length list
   pub each : (k : ℕ) (l : Leaf) (r : Range) → slice_get list k ≡ Some l → slice_get ranges k ≡ Some r → AsksFor r (each_holds l.tests.items)
+
+-- the test holds where the whole number at the range's place is in the range
+abbrev pub Settles : Range → (Event → Bool) → Type 0
+Settles r holds = (event : Event) (v : ℤ) → slice_get event.values r.place ≡ Some (value.Int v) → IsIn r v → holds event ≡ true
+
+-- for each leaf whether its range is known to settle its tests
+pub record AreSettled (list : List Leaf) (ranges : List Range) (settled : List Bool) : Type 0 where
+  pub count : length settled ≡ length list
+  pub each : (k : ℕ) (l : Leaf) (r : Range) → slice_get list k ≡ Some l → slice_get ranges k ≡ Some r → slice_get settled k ≡ Some true → Settles r (each_holds l.tests.items)

@@ -7,11 +7,12 @@ ghost use Rattle.query_leaves.specs.Conditions.{leaf_conditions};
 ghost use Rattle.query_leaves.specs.declared.Leaf.{Leaf};
 ghost use Rattle.query_leaves.specs.Shapes.{each_holds as tests_hold};
 ghost use Rattle.predicate_bits.specs.Groups.{IsGroup};
-ghost use Rattle.predicate_bits.specs.Ranges.{AreRangesOf};
+ghost use Rattle.predicate_bits.specs.Ranges.{AreRangesOf, AreSettled};
 
 use crate::groups::grouped;
 use crate::holding::each_holds;
-use crate::ranges::{Range, may_hold, ranges_of};
+use crate::ranges::{Range, ranges_of};
+use crate::settling::{settled_of, told};
 use cer_base::bits::Bits;
 use cer_base::{Listed, Memory};
 use query_leaves::Leaf;
@@ -25,6 +26,8 @@ pub struct Conditions {
     list: Listed<Leaf>,
     /// The range that the tests of each leaf ask for.
     ranges: Vec<Range>,
+    /// Whether this settles them.
+    settled: Vec<bool>,
     /// The numbers of the leaves of each type, by the type's number.
     groups: Vec<Vec<usize>>,
 }
@@ -34,7 +37,7 @@ impl Model for Conditions {
     ghost use Rattle.query_leaves.specs.declared.Leaf.{Leaf};
     ghost use Rattle.std.specs.Prelude.{slice_get};
     ghost use Rattle.predicate_bits.specs.Groups.{AreGrouped};
-    ghost use Rattle.predicate_bits.specs.Ranges.{AreRangesOf};
+    ghost use Rattle.predicate_bits.specs.Ranges.{AreRangesOf, AreSettled};
     ghost use Rattle.query_leaves.specs.contracts.Test as test;
     ghost use Rattle.std.specs.Coded.{codes};
 
@@ -45,7 +48,7 @@ impl Model for Conditions {
     ghost view = { λ c. c.list };
 
     ghost invariant = { λ c. AreGrouped c.list (slice_get c.groups.items)
-        × AreRangesOf c.list c.ranges.items };
+        × AreRangesOf c.list c.ranges.items × AreSettled c.list c.ranges.items c.settled.items };
 }
 
 impl Conditions {
@@ -55,9 +58,11 @@ impl Conditions {
     {
         let groups = grouped(alloc, list.as_slice())?;
         let ranges = ranges_of(alloc, list.as_slice())?;
+        let settled = settled_of(alloc, list.as_slice(), ranges.as_slice())?;
         Ok(Conditions {
             list,
             ranges,
+            settled,
             groups,
         })
     }
@@ -80,9 +85,11 @@ impl Conditions {
         empty_out(into);
         if let Some(numbers) = group_of(self.groups.as_slice(), event.ty) {
             let ranges = self.ranges.as_slice();
+            let settled = self.settled.as_slice();
             add(
                 self.list.as_slice(),
                 ranges,
+                settled,
                 numbers.as_slice(),
                 event,
                 into,
@@ -96,8 +103,10 @@ impl Conditions {
     {
         match group_of(self.groups.as_slice(), event.ty) {
             Some(numbers) => {
+                let list = self.list.as_slice();
                 let ranges = self.ranges.as_slice();
-                hold_none(self.list.as_slice(), ranges, numbers.as_slice(), event)
+                let settled = self.settled.as_slice();
+                hold_none(list, ranges, settled, numbers.as_slice(), event)
             }
             None => true,
         }
@@ -124,27 +133,35 @@ fn group_of(groups: &[Vec<usize>], ty: TypeId) -> Option<&Vec<usize>>
 
 /// Whether the tests of the leaf of this number hold of the event.
 #[inline(always)]
-fn holds_at(list: &[Leaf], ranges: &[Range], number: usize, event: &Event) -> bool
+fn holds_at(list: &[Leaf], ranges: &[Range], settled: &[bool], number: usize, event: &Event) -> bool
     requires inside { number < length list.now }
     requires ranges { AreRangesOf list.now ranges.now }
+    requires settled { AreSettled list.now ranges.now settled.now }
     ensures { (l : Leaf) → slice_get list.now number ≡ Some l
         → result ≡ tests_hold l.tests.items event.now }
 {
-    if !may_hold(&ranges[number], event) {
-        return false;
+    match told(&ranges[number], settled[number], event) {
+        Some(holds) => holds,
+        None => each_holds(list[number].tests.as_slice(), event),
     }
-    each_holds(list[number].tests.as_slice(), event)
 }
 
 /// Whether the tests of none of the leaves of these numbers, which are of the event's type, hold of the
 /// event.
-fn hold_none(list: &[Leaf], ranges: &[Range], numbers: &[usize], event: &Event) -> bool
+fn hold_none(
+    list: &[Leaf],
+    ranges: &[Range],
+    settled: &[bool],
+    numbers: &[usize],
+    event: &Event,
+) -> bool
     requires ranges { AreRangesOf list.now ranges.now }
+    requires settled { AreSettled list.now ranges.now settled.now }
     requires group { IsGroup list.now event.now.ty numbers.now }
     ensures { result ≡ true → (k : ℕ) → leaf_conditions list.now event.now k ≡ false }
 {
     for number in numbers {
-        if holds_at(list, ranges, *number, event) {
+        if holds_at(list, ranges, settled, *number, event) {
             return false;
         }
     }
@@ -152,8 +169,16 @@ fn hold_none(list: &[Leaf], ranges: &[Range], numbers: &[usize], event: &Event) 
 }
 
 /// Puts in those of the numbers, which are of the event's type, whose tests hold of the event.
-fn add(list: &[Leaf], ranges: &[Range], numbers: &[usize], event: &Event, into: &mut Bits)
+fn add(
+    list: &[Leaf],
+    ranges: &[Range],
+    settled: &[bool],
+    numbers: &[usize],
+    event: &Event,
+    into: &mut Bits,
+)
     requires ranges { AreRangesOf list.now ranges.now }
+    requires settled { AreSettled list.now ranges.now settled.now }
     requires group { IsGroup list.now event.now.ty numbers.now }
     requires room { length into.old ≡ room_for (length list.now) }
     requires empty { (k : ℕ) → has into.old k ≡ false }
@@ -161,7 +186,7 @@ fn add(list: &[Leaf], ranges: &[Range], numbers: &[usize], event: &Event, into: 
     ensures room { length into.new ≡ length into.old }
 {
     for number in numbers {
-        if holds_at(list, ranges, *number, event) {
+        if holds_at(list, ranges, settled, *number, event) {
             into.insert(*number);
         }
     }

@@ -37,7 +37,8 @@ fn compares(op: Op, value: &Value, literal: &Value) -> bool
 }
 
 /// The value at the place.
-fn value_at(values: &[Value], place: usize) -> Option<&Value>
+#[inline(always)]
+pub fn value_at(values: &[Value], place: usize) -> Option<&Value>
     ensures { option_copied result ≡ slice_get values.now place }
 {
     values.get(place)

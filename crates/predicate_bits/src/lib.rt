@@ -9,6 +9,7 @@ mod conditions;
 mod groups;
 mod holding;
 pub mod ranges;
+mod settling;
 #[cfg(test)]
 mod tests;
 

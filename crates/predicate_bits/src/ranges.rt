@@ -40,7 +40,7 @@ fn low_of(op: Op, literal: i64) -> i64
 {
     match op {
         Op::Eq => literal,
-        Op::Gt => literal,
+        Op::Gt => literal.saturating_add(1),
         Op::Ge => literal,
         _ => i64::MIN,
     }
@@ -53,7 +53,7 @@ fn high_of(op: Op, literal: i64) -> i64
 {
     match op {
         Op::Eq => literal,
-        Op::Lt => literal,
+        Op::Lt => literal.saturating_sub(1),
         Op::Le => literal,
         _ => i64::MAX,
     }

@@ -13,7 +13,7 @@ use Rattle.query_leaves.specs.Expand.{Occurrence, tree_of}
 use Rattle.query_leaves.specs.Leaves.{occurrences}
 use Rattle.cea_determinise.specs.declared.cea.Phase.{Phase}
 use Rattle.cea_determinise.specs.declared.cea.Phase.TheVariants.{Before, Within, After}
-use Rattle.cea_determinise.specs.Runs.{LeafSet, Automaton, State, start, pair, some_below, candidates, patient, agrees, successor, has_leaf, next}
+use Rattle.cea_determinise.specs.Runs.{LeafSet, Automaton, State, start, pair, some_below, candidates, patient, agrees, readers, minds_next, waits_at_once, successor, has_leaf, next}
 use Rattle.cea_determinise.specs.Strict.{Standing, begin, phase_after, next_standing, run_standing}
 use Rattle.cea_compile.specs.Compiled.{automaton_of}
 use Rattle.cea_compile.specs.Covers.{is_listed}
@@ -154,6 +154,14 @@ and_last true y e = e
 and_last false true e = refl
 and_last false false e = e
 
+and_front : (x y : Bool) → (x && y) ≡ true → x ≡ true
+and_front true y e = refl
+and_front false y e = e
+
+one_of : (x y : Bool) → (x || y) ≡ true → (x ≡ true) ⊎ (y ≡ true)
+one_of true y e = inl refl
+one_of false y e = inr e
+
 either : (x y z : Bool) → ((x || y) && z) ≡ true → (x ≡ true) ⊎ (y ≡ true)
 either true y z e = inl refl
 either false true z e = inr refl
@@ -165,9 +173,15 @@ patient_below a m (pair f w) k below is = elim (either (f k) (w k) (some_below a
 
 successor_below : (a : Automaton) (m : ℕ) (s : State) (bits : LeafSet) (mark : Bool) → IsBelow m s → AllBelow m bits → IsBelow m (successor a s bits mark)
 successor_below a m s bits mark below read = (
-  λ k is. read k (and_middle (candidates a s k) (bits k) (agrees mark (a.marked k)) is),
-  λ k is. patient_below a m s k below (and_last (not mark) (patient a s k) is),
+  λ k is. reader k (and_front (readers a s bits mark k) (minds_next a k) is),
+  λ k is. elim (one_of (not mark && patient a s k) (readers a s bits mark k && waits_at_once a k) is) [
+    | inl past ↦ patient_below a m s k below (and_last (not mark) (patient a s k) past)
+    | inr now ↦ reader k (and_front (readers a s bits mark k) (waits_at_once a k) now)
+  ],
 )
+  where
+    reader : (k : ℕ) → readers a s bits mark k ≡ true → k < m
+    reader k is = read k (and_middle (candidates a s k) (bits k) (agrees mark (a.marked k)) is)
 
 from_cond : {A : Type 0} (b : Bool) (x y : A) → (cond b (Some x) None) ≡ Some y → x ≡ y
 from_cond true x y e = cc

@@ -24,8 +24,10 @@ use Rattle.cea_compile.specs.Compiled.{automaton_of}
 use Rattle.cea_compile.specs.LeafAutomaton.{automaton_of_leaves}
 use Rattle.cea_compile.proofs.LeafAutomaton.{leaves_tell}
 use Rattle.query_standing.specs.Bounds.{IsMet}
-use Rattle.query_standing.specs.Kept.{HasStates, PartStands}
+use Rattle.query_standing.specs.Kept.{low_at, HasStates, PartStands}
 use Rattle.query_standing.proofs.Lists.{none_in_nil}
+use Rattle.query_standing.proofs.Growing.{seen_none}
+use Rattle.event_update.proofs.Before.{none_stand}
 use Rattle.query_part.specs.declared.machine.Machine.{Machine}
 use Rattle.query_part.specs.Matches.{Held, none_open}
 use Rattle.query_part.specs.Parts.{part_of, HasAutomaton, IsMachineOf}
@@ -68,8 +70,8 @@ none_stands schema q h m = subst (λ (k : Held). PartStands schema q [] (part_of
   never_falls = λ i j before now le a b. (let e = a.at in absurd cc);
   clock = tt;
   unread = λ p event e r. absurd cc;
-  keys = record { distinct = tt; all = λ key p k. (let e = k.at in absurd cc); lists = refl };
-  here = λ key p ends k. (let e = k.at in absurd cc);
+  keys = record { distinct = tt; others = λ key fresh. record { seen = []; are_seen = seen_none schema q key; stands = none_stand (none_open h.table.cea).table (low_at q None) [] }; lists = refl };
+  here = λ end answer ends is. absurd (omega arith);
   each = λ n key rows e f. absurd cc;
 })
 

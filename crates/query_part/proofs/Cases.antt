@@ -5,7 +5,7 @@ use Rattle.std.proofs.Math.Nat.{pow-zero}
 use Rattle.std.proofs.lemmas.Int.{ints}
 use Rattle.std.proofs.lemmas.Bool.{cases_lt}
 use Rattle.std.proofs.lemmas.Option.{slice_get_within}
-use Rattle.std.proofs.lemmas.List.Elements.{All-nil, All-cons, All-head, All-tail, Contains-push_cases}
+use Rattle.std.proofs.lemmas.List.Elements.{All-nil, All-cons, All-head, All-tail, All-contains, Contains-push_cases}
 use Rattle.cer_base.specs.Bits.{has}
 use Rattle.cer_base.specs.declared.node.Stamp.{Stamp}
 use Rattle.cer_base.specs.declared.node.Root.{Root}
@@ -19,11 +19,7 @@ use Rattle.cel_terms.specs.Answers.{HasKey, HasClock}
 use Rattle.cea_determinise.specs.declared.cea.StateSets.{StateSets}
 use Rattle.cea_determinise.specs.Cea.{standing_of}
 use Rattle.event_update.specs.declared.Staged.{Staged}
-use Rattle.event_update.specs.declared.Staged.TheVariants.{Unchanged}
-use Rattle.event_update.specs.Still.{IsQuiet}
-use Rattle.event_update.proofs.GivenBack.{discovers_none}
-use Rattle.event_update.proofs.RowPlaced.{grows_by_none}
-use Rattle.event_update.proofs.Resting.{resting_stand}
+use Rattle.event_update.specs.Still.{Rest}
 use Rattle.query_standing.proofs.Lists.{got}
 use Rattle.event_update.specs.Reach.{Seen}
 use Rattle.event_update.specs.Stands.{seen, IsLater}
@@ -32,15 +28,16 @@ use Rattle.event_update.proofs.Before.{can_advance}
 use Rattle.query_standing.specs.Bounds.{IsMet}
 use Rattle.query_standing.specs.Clocks.{Reads, HasClockAt, IsLastClock, FallsBack, least, low_of}
 use Rattle.query_standing.specs.Keys.{leaves_reading, positions}
-use Rattle.query_standing.specs.Kept.{Part, low_at, PartStands}
+use Rattle.query_standing.specs.Kept.{Rows, Part, low_at, PartStands}
 use Rattle.query_standing.specs.Steps.{Advances, HasKeyOf}
 use Rattle.query_standing.proofs.Growing.{all_earlier}
 use Rattle.query_standing.proofs.Grown.{some_at}
 use Rattle.query_standing.proofs.Parts.{part_unread}
-use Rattle.query_standing.proofs.PartSteps.{part_no_key, part_keyed, part_with_key}
+use Rattle.query_standing.proofs.PartSteps.{part_no_key, part_resting, part_keyed, part_with_key}
+use Rattle.query_standing.proofs.KeyCases.{at_one_place}
 use Rattle.query_standing.specs.Bounds.{update_bound}
 use Rattle.all_or_none.specs.Phases.{Grows, IsStep}
-use Rattle.query_part.specs.Matches.{Held, HasRest, TakesKey, CanTake, IsReady}
+use Rattle.query_part.specs.Matches.{Held, TakesKey, CanTake, IsReady}
 use Rattle.query_part.specs.Parts.{part_of, put_in}
 use Rattle.cea_determinise.specs.Det.{Table}
 use Rattle.query_part.proofs.Cuts.{mid_table, mid_nodes}
@@ -71,27 +68,28 @@ nothing_new schema q event h c n d m = record {
 pub unread_step : (schema : Declared) (q : Query) (event : Event) (position : ℕ) (h : Held) (c : Option ℤ) (n : Option ℕ) → (Reads schema q event → ⊥) → IsStep schema q event position (part_of h c n) (part_of h c None)
 unread_step schema q event position h c n unread = record { stands = λ events len time s. part_unread schema q events event (part_of h c n) s unread; grows = nothing_new schema q event h c n c None }
 
--- one that it reads, and that has no key
+-- one that it reads, and that moves on the clock alone
+clock_advances : (schema : Declared) (q : Query) (events : List Event) (event : Event) (h : Held) (c : Option ℤ) (n : Option ℕ) (now : ℤ) → Reads schema q event → HasClock schema q.window event (length events) now → least ≤ℤ low_of q.window now → ((before next : ℤ) → FallsBack schema q events event before next → ⊥) → PartStands schema q events (part_of h c n) → Advances schema q events event now (part_of h c n) (part_of h (Some now) None)
+clock_advances schema q events event h c n now reads now_is fits time s = record {
+  reads = reads;
+  now_is = now_is;
+  fits = fits;
+  in_time = in_time schema q events event now c time reads now_is s.clock;
+  clock = refl;
+  extends = record { cea = refl; more_states = []; states = sym (append_none h.table.states); more_nodes = []; nodes = sym (append_none h.nodes) };
+  met = All-nil (λ (p : StateSets). IsMet schema q (events ++ event ∷ []) (standing_of p));
+  sets = s.states.sets;
+  distinct = s.states.distinct;
+  well_formed = s.nodes;
+  starts = λ t has. inl has;
+}
+
+-- one that has no key
 pub no_key_step : (schema : Declared) (q : Query) (event : Event) (position : ℕ) (h : Held) (c : Option ℤ) (n : Option ℕ) (now : ℤ) → Reads schema q event → HasClock schema q.window event position now → least ≤ℤ low_of q.window now → ((key : List Value) → HasKey schema q event key → ⊥) → IsStep schema q event position (part_of h c n) (part_of h (Some now) None)
 no_key_step schema q event position h c n now reads clock fits none = record {
   stands = λ events len time s. (
       let now_is : HasClock schema q.window event (length events) now = subst (λ p. HasClock schema q.window event p now) (sym len) clock in
-      let old : Part = part_of h c n in
-      let new : Part = part_of h (Some now) None in
-      let advances : Advances schema q events event now old new = record {
-        reads = reads;
-        now_is = now_is;
-        fits = fits;
-        in_time = in_time schema q events event now c time reads now_is s.clock;
-        clock = refl;
-        extends = record { cea = refl; more_states = []; states = sym (append_none h.table.states); more_nodes = []; nodes = sym (append_none h.nodes) };
-        met = All-nil (λ (p : StateSets). IsMet schema q (events ++ event ∷ []) (standing_of p));
-        sets = s.states.sets;
-        distinct = s.states.distinct;
-        well_formed = s.nodes;
-        starts = λ t has. inl has;
-      } in
-      part_no_key schema q events event now old new s advances (record { none = none; keys = refl; rows = refl; here = refl })
+      part_no_key schema q events event now (part_of h c n) (part_of h (Some now) None) s (clock_advances schema q events event h c n now reads now_is fits time s) (record { none = none; keys = refl; rows = refl; here = refl })
       );
   grows = nothing_new schema q event h c n (Some now) None;
 }
@@ -198,42 +196,27 @@ keyed_step schema q event position bits key number staged old new c n now reads 
   grows = keyed_grows schema q event (record { pos = position; clock = now }) bits key number staged old new c n now reads r;
 }
 
-set_same : {X : Type 0} (xs : List X) (n : ℕ) (d : X) → n < length xs → slice_set xs n (slice_index_or xs n d) ≡ xs
-set_same [] n d l = absurd (omega arith)
-set_same (x ∷ xs) zero d l = refl
-set_same (x ∷ xs) (suc n) d l = ap (λ zs. x ∷ zs) (set_same xs n d (omega arith))
-
--- what is ready where a key's lists rest: nothing changes
-resting_ready : (schema : Declared) (q : Query) (events : List Event) (stamp : Stamp) (bits : List Bool) (places : List ℕ) (values : List Value) (number : ℕ) (h : Held) (c : Option ℤ) (n : Option ℕ) → IsQuiet bits → (r : HasRest h places values number) → PartStands schema q events (part_of h c n) → IsReady stamp bits r.key number Unchanged h h
-resting_ready schema q events stamp bits places values number h c n quiet r s = record {
-  mid = h;
-  takes = inl (got h.keys number r.key r.numbered, refl);
-  keys = refl;
-  rows = refl;
-  numbered = r.numbered;
-  before = r.rows;
-  before_is = r.at;
-  states = 0 ∷ map (λ (r : ℕ × List Root). r.0) r.rows;
-  states_are = refl;
-  table = discovers_none h.table (0 ∷ map (λ (r : ℕ × List Root). r.0) r.rows) bits;
-  sets = s.states.sets;
-  distinct = s.states.distinct;
-  nodes = grows_by_none stamp h.nodes s.nodes;
-  stands = λ low xs later st. resting_stand h.table low xs stamp bits h.nodes r.rows quiet r.rest later st;
-  growth = omega arith;
-}
-
--- one that has a known key whose lists rest, and that no leaf can read
-pub resting_step : (schema : Declared) (q : Query) (event : Event) (position : ℕ) (bits : List Bool) (places : List ℕ) (values : List Value) (number : ℕ) (h : Held) (c : Option ℤ) (n : Option ℕ) (now : ℤ) → Reads schema q event → HasClock schema q.window event position now → least ≤ℤ low_of q.window now → has bits ≡ leaves_reading schema q event → IsQuiet bits → (r : HasRest h places values number) → HasKey schema q event r.key → IsStep schema q event position (part_of h c n) (part_of h (Some now) (Some number))
-resting_step schema q event position bits places values number h c n now reads clock fits bits_are quiet r has_key = record {
+-- one that no leaf can read, where the lists of its key rest, if that is kept
+pub resting_step : (schema : Declared) (q : Query) (event : Event) (position : ℕ) (h : Held) (c : Option ℤ) (n : Option ℕ) (now : ℤ) → Reads schema q event → HasClock schema q.window event position now → least ≤ℤ low_of q.window now → ((k : ℕ) → leaves_reading schema q event k ≡ false) → ((events : List Event) → PartStands schema q events (part_of h c n) → (key : List Value) (number : ℕ) (rows : Rows) → HasKey schema q event key → slice_get h.keys number ≡ Some key → slice_get h.rows number ≡ Some rows → Rest h.table rows) → IsStep schema q event position (part_of h c n) (part_of h (Some now) None)
+resting_step schema q event position h c n now reads clock fits unread rests = record {
   stands = λ events len time s. (
-      let stamp : Stamp = record { pos = position; clock = now } in
-      let stands = keyed_stands schema q events event stamp bits r.key number Unchanged h h c n now reads (subst (λ p. HasClock schema q.window event p now) (sym len) clock) fits has_key bits_are (ap (λ p. record { pos = p; clock = now }) (sym len)) (resting_ready schema q events stamp bits places values number h c n quiet r s) time s in
-      let rows = set_same h.rows number [] (slice_get_within h.rows number r.rows r.at) in
-      subst (λ rs. PartStands schema q (events ++ event ∷ []) (part_of (record h { rows = rs }) (Some now) (Some number))) rows stands
+      let now_is : HasClock schema q.window event (length events) now = subst (λ p. HasClock schema q.window event p now) (sym len) clock in
+      part_resting schema q events event now (part_of h c n) (part_of h (Some now) None) s (clock_advances schema q events event h c n now reads now_is fits time s)
+      (record { unread = unread; rests = rests events s; table = refl; keys = refl; rows = refl; here = refl })
       );
-  grows = nothing_new schema q event h c n (Some now) (Some number);
+  grows = nothing_new schema q event h c n (Some now) None;
 }
+
+-- the lists of each key rest, or of the one that the event has
+pub all_rests : (schema : Declared) (q : Query) (event : Event) (h : Held) (c : Option ℤ) (n : Option ℕ) → All (Rest h.table) h.rows → (events : List Event) → PartStands schema q events (part_of h c n) → (key : List Value) (number : ℕ) (rows : Rows) → HasKey schema q event key → slice_get h.keys number ≡ Some key → slice_get h.rows number ≡ Some rows → Rest h.table rows
+all_rests schema q event h c n all events s key number rows has numbered at = All-contains (Rest h.table) h.rows rows all (got h.rows number rows at)
+
+pub one_rests : (schema : Declared) (q : Query) (event : Event) (h : Held) (c : Option ℤ) (n : Option ℕ) (own : List Value) (place : ℕ) (there : Rows) → HasKey schema q event own → slice_get h.keys place ≡ Some own → slice_get h.rows place ≡ Some there → Rest h.table there → (events : List Event) → PartStands schema q events (part_of h c n) → (key : List Value) (number : ℕ) (rows : Rows) → HasKey schema q event key → slice_get h.keys number ≡ Some key → slice_get h.rows number ≡ Some rows → Rest h.table rows
+one_rests schema q event h c n own place there has_own own_at there_at rest events s key number rows has numbered at =
+    let same : own ≡ key = (let both = sym has_own.1 ∙ has.1 in cc) in
+    let here : place ≡ number = at_one_place h.keys place number key s.keys.distinct (subst (λ k. slice_get h.keys place ≡ Some k) same own_at) numbered in
+    let is : there ≡ rows = (let both = sym there_at ∙ subst (λ i. slice_get h.rows i ≡ Some rows) (sym here) at in cc) in
+    subst (Rest h.table) is rest
 
 -- each key's lists can take in the next event
 pub can_take : (schema : Declared) (q : Query) (events : List Event) (old : Held) (c : Option ℤ) (n : Option ℕ) (stamp : Stamp) → stamp.pos ≡ length events → PartStands schema q events (part_of old c n) → CanTake stamp old

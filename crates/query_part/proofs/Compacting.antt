@@ -1,5 +1,5 @@
 -- What a compaction makes of what is kept of a query.
-use Rattle.std.proofs.Common.{◌≡◌, ℕ, zero, suc, ℤ, ◌+◌, ◌<◌, ◌≤◌, List, [], ◌∷◌, take, slice_index_or, length, All, Option, Some, refl, sym, ap, subst, ◌∙◌, slice_get, get_or, arith}
+use Rattle.std.proofs.Common.{◌≡◌, ℕ, zero, suc, ℤ, ◌+◌, ◌<◌, ◌≤◌, List, [], ◌∷◌, take, slice_index_or, length, All, Contains, Option, Some, refl, sym, ap, subst, ◌∙◌, slice_get, get_or, arith}
 use Rattle.std.specs.Prelude.{◌≤ℤ◌, nat_le}
 use Rattle.std.proofs.Math.Dec.{leb-zero}
 use Rattle.std.proofs.lemmas.List.Recursion.{is_count_by}
@@ -10,12 +10,13 @@ use Rattle.std.proofs.lemmas.List.Elements.{All-nil, All-cons, All-append}
 use Rattle.query_part.specs.declared.matches.Lists.{Lists}
 use Rattle.stream_schema.specs.Types.{Declared}
 use Rattle.stream_schema.specs.declared.Event.{Event}
+use Rattle.stream_schema.specs.declared.Value.{Value}
 use Rattle.cel_terms.specs.declared.Query.{Query}
 use Rattle.cer_base.specs.declared.node.Root.{Root}
 use Rattle.cer_base.specs.declared.node.Node.{Node}
 use Rattle.tecs_enumerate.specs.Rest.{CursorState}
 use Rattle.union_lists.specs.Lists.{IsUnionList}
-use Rattle.query_standing.specs.Kept.{Rows, Part, low_at, PartStands}
+use Rattle.query_standing.specs.Kept.{Rows, Part, low_at, KeyStands, PartStands}
 use Rattle.all_or_none.specs.Phases.{Phase}
 use Rattle.arena_compact.specs.Moves.{later}
 use Rattle.arena_compact.specs.Roots.{kept_rows}
@@ -58,7 +59,7 @@ module _ (schema : Declared) (q : Query) (events : List Event) where
     never_falls = s.never_falls;
     clock = s.clock;
     unread = s.unread;
-    keys = record { distinct = s.keys.distinct; all = s.keys.all; lists = keys_length used part.nodes nodes part.rows rows lists ∙ s.keys.lists };
+    keys = record { distinct = s.keys.distinct; others = others; lists = keys_length used part.nodes nodes part.rows rows lists ∙ s.keys.lists };
     here = s.here;
     each = λ n key moved at there.
         let was = key_at used part.nodes nodes part.rows rows n moved lists there in
@@ -68,7 +69,15 @@ module _ (schema : Declared) (q : Query) (events : List Event) where
           are_seen = stand.are_seen;
           stands = still_stand used part.nodes nodes s.nodes part.table (low_at q part.clock) stand.seen was.0 moved le stand.stands was.2;
         };
-  }
+  } where
+    others : (key : List Value) → (Contains part.keys key → ⊥) → KeyStands schema q events (record part { nodes = nodes; rows = rows }) key []
+    others key fresh =
+        let stand = s.keys.others key fresh in
+        record {
+          seen = stand.seen;
+          are_seen = stand.are_seen;
+          stands = still_stand used part.nodes nodes s.nodes part.table (low_at q part.clock) stand.seen [] [] le stand.stands tt;
+        }
 
   -- each key's lists are lists of the nodes
   pub part_lists : (h : Held) (c : Option ℤ) (n : Option ℕ) → PartStands schema q events (part_of h c n) → All (λ rows. All (λ (r : ℕ × List Root). IsUnionList h.nodes r.1) rows) h.rows

@@ -6,7 +6,7 @@ use Rattle.cer_base.specs.declared.node.Node.{Node}
 use Rattle.stream_schema.specs.declared.Value.{Value}
 use Rattle.cea_determinise.specs.Det.{Table, IsSound}
 use Rattle.event_update.specs.Update.{Discovers}
-use Rattle.query_part.specs.declared.matches.Marks.{Marks}
+use Rattle.query_part.specs.declared.matches.Sizes.{Sizes}
 use Rattle.event_update.specs.Reach.{Seen}
 use Rattle.event_update.specs.Stands.{CanAdvance}
 use Rattle.event_update.proofs.Before.{can_advance, none_stand}
@@ -14,7 +14,7 @@ use Rattle.event_update.proofs.GivenBack.{states_more, pairs_more, classes_more,
 use Rattle.query_standing.specs.Clocks.{least}
 use Rattle.query_standing.proofs.Growing.{get_cases}
 use Rattle.query_standing.proofs.Parts.{length_more}
-use Rattle.query_part.specs.Matches.{Held, cut, CanCut, AreMarks, TakesKey, CanTake}
+use Rattle.query_part.specs.Matches.{Held, cut, CanCut, AreSizes, TakesKey, CanTake}
 
 take_front : {X : Type 0} (xs ys : List X) (n : ℕ) → n ≡ length xs → take n (xs ++ ys) ≡ xs
 take_front [] ys zero e = refl
@@ -48,7 +48,7 @@ mid_rows : (old mid : Held) (key : List Value) (n : ℕ) → TakesKey old key mi
 mid_rows old mid key n (inl h) e = ap (λ (x : Held). take n x.rows) h.1 ∙ take_whole old.rows n e
 mid_rows old mid key n (inr h) e = ap (λ (x : Held). take n x.rows) h.1 ∙ take_front old.rows ([] ∷ []) n e
 
-module _ (m : Marks) (key : List Value) (old mid : Held) (are : AreMarks m old) (same : length old.keys ≡ length old.rows) (takes : TakesKey old key mid) (states : List ℕ) (bits : List Bool) (table : Table) (found : Discovers mid.table states bits table) (nodes more_nodes : List Node) (grown : nodes ≡ mid.nodes ++ more_nodes) where
+module _ (m : Sizes) (key : List Value) (old mid : Held) (are : AreSizes m old) (same : length old.keys ≡ length old.rows) (takes : TakesKey old key mid) (states : List ℕ) (bits : List Bool) (table : Table) (found : Discovers mid.table states bits table) (nodes more_nodes : List Node) (grown : nodes ≡ mid.nodes ++ more_nodes) where
   as_many_states : m.det.states ≡ length mid.table.states
   as_many_states = are.states ∙ ap (λ (x : Table). length x.states) (sym (mid_table old mid key takes))
 

@@ -7,7 +7,7 @@ use Rattle.query_part.specs.Parts.{clock_at, here_at, seen}
 
 -- once as many events as it was taken to, it is as it is kept
 pub fresh_seen : (count : ℕ) (p : Phase) → p.upto ≡ count → seen count p ≡ p
-fresh_seen count p is = (λ i. record p { kept = record p.kept { clock = clock p.floats i; here = here p.floats i } })
+fresh_seen count p is = (λ i. record p { kept = record p.kept { clock = clock p.floats i; here = here i } })
   where
     now : (count == p.upto) ≡ true
     now = eq-eqb count p.upto (sym is)
@@ -16,6 +16,5 @@ fresh_seen count p is = (λ i. record p { kept = record p.kept { clock = clock p
     clock false = refl
     clock true = ap (λ b. if b then p.kept.clock else Some (pos (count - 1))) now
 
-    here : (floats : Bool) → here_at floats p.upto count p.kept.here ≡ p.kept.here
-    here false = ap (λ b. if b then p.kept.here else None) now
-    here true = ap (λ b. if b then p.kept.here else Some 0) now
+    here : here_at p.upto count p.kept.here ≡ p.kept.here
+    here = ap (λ b. if b then p.kept.here else None) now

@@ -1,7 +1,6 @@
 -- What a cursor gives of a part.
-use Rattle.std.proofs.Common.{◌≡◌, ℕ, ◌<◌, ◌≤◌, ℤ, Bool, true, false, List, [], ◌∷◌, ◌++◌, map, length, refl, sym, ap, subst, ◌∙◌, All, Option, Some, None, slice_index_or, arith, cond}
+use Rattle.std.proofs.Common.{◌≡◌, ℕ, ◌<◌, ◌≤◌, ℤ, Bool, true, false, List, [], ◌∷◌, ◌++◌, map, length, refl, sym, ap, subst, ◌∙◌, All, Option, Some, None, slice_index_or, arith}
 use Rattle.std.specs.Prelude.{Result, Ok, Err, IfOk, if◌then◌else◌}
-use Rattle.std.specs.List.{flat_map}
 use Rattle.std.proofs.lemmas.Option.{slice_get_within, slice_get-get_or}
 use Rattle.std.proofs.lemmas.List.Elements.{All-nil, All-cons, All-head, All-tail, All-append}
 use Rattle.cer_base.specs.Nodes.{IsRoot}
@@ -23,24 +22,12 @@ use Rattle.tecs_enumerate.specs.Rest.{CursorState, rest, recent_of}
 use Rattle.event_update.specs.Update.{accepted_entries, entries_of}
 use Rattle.window_clock.specs.declared.Source.{Source}
 use Rattle.window_clock.specs.Places.{low_since, IsOf}
-use Rattle.query_standing.specs.Holding.{accepting}
 use Rattle.query_standing.specs.Kept.{Rows, Part, low_at, IsHere, PartStands, roots_of, roots_for, roots_at}
+use Rattle.query_standing.proofs.Roots.{entries_same}
 use Rattle.all_or_none.specs.Phases.{Phase}
 use Rattle.query_part.specs.Matches.{Held, HasLists, CanList, entries_for}
 use Rattle.query_part.specs.Parts.{part_of}
 use Rattle.query_part.proofs.Prepare.{Idle}
-
--- the entries of the accepting states, gathered in either way
-entries_same : (t : Table) (rows : Rows) → accepted_entries t rows ≡ roots_of (automaton_of_cea t.cea) (standing_at t.states) rows
-entries_same t [] = refl
-entries_same t (r ∷ rows) = go (accepts (automaton_of_cea t.cea) (standing_at t.states r.0).sets) (entries_same t rows)
-  where
-    others : Rows
-    others = accepting (automaton_of_cea t.cea) (standing_at t.states) rows
-
-    go : (b : Bool) → accepted_entries t rows ≡ flat_map (λ (r : ℕ × List Root). r.1) others → (if b then r.1 else []) ++ accepted_entries t rows ≡ flat_map (λ (r : ℕ × List Root). r.1) (cond b (r ∷ others) others)
-    go true same = ap (λ z. r.1 ++ z) same
-    go false same = same
 
 pub roots_same : (q : Query) (h : Held) (c : Option ℤ) (here m : Option ℕ) → automaton_of_cea h.table.cea ≡ automaton_of (tree_of q) → entries_for h m ≡ roots_for q (part_of h c here) m
 roots_same q h c here None e = refl

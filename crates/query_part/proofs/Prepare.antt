@@ -1,6 +1,6 @@
 -- What is known of a part when an event is prepared.
 use Rattle.std.proofs.Common.{◌≡◌, ℕ, ℤ, ◌≤ℤ◌, ◌<◌, Bool, true, false, List, [], ◌∷◌, slice_index_or, length, refl, sym, ap, subst, ◌∙◌, Option, Some, None, slice_get, arith}
-use Rattle.std.specs.Prelude.{IfSome, IsSomeAnd, option_and_then, option_map, bytes_eq}
+use Rattle.std.specs.Prelude.{IsSomeAnd, option_and_then, option_map, bytes_eq}
 use Rattle.std.proofs.lemmas.Bool.{false≢true, and_parts}
 use Rattle.std.proofs.lemmas.Option.{slice_get_within}
 use Rattle.cel_plain.specs.Below.{query_reads as reads}
@@ -28,18 +28,17 @@ use Rattle.cel_terms.specs.Answers.{HasClock, values_at}
 use Rattle.cea_determinise.specs.declared.cea.Cea.{Cea}
 use Rattle.cea_determinise.specs.Det.{Table}
 use Rattle.event_update.specs.declared.Staged.{Staged}
-use Rattle.event_update.specs.Still.{Rest}
 use Rattle.window_clock.specs.declared.Source.{Source}
 use Rattle.window_clock.specs.Clocks as clocks
 use Rattle.window_clock.specs.Places.{clock_in, low_in, IsOf}
 use Rattle.query_standing.specs.Clocks.{FallsBack, least, low_of}
-use Rattle.query_standing.specs.Kept.{Rows, PartStands}
+use Rattle.query_standing.specs.Kept.{PartStands}
 use Rattle.all_or_none.specs.Phases.{Phase, CanPrepare, IsIdle}
 use Rattle.query_part.specs.declared.matches.Ready.{Ready}
 use Rattle.query_part.specs.declared.part.Step.{Step}
-use Rattle.query_part.specs.declared.part.Step.TheVariants.{Unread, NoKey, Resting, Keyed}
-use Rattle.query_part.specs.Matches.{Held, HasKeyThere, HasRest, IsReady}
-use Rattle.query_part.specs.Parts.{part_of, kept_of, ready_of, clock_at, here_at, settled, seen, IsAlone, AreTypesRead, IsMade}
+use Rattle.query_part.specs.declared.part.Step.TheVariants.{Unread, NoChange, Keyed}
+use Rattle.query_part.specs.Matches.{Held, IsReady}
+use Rattle.query_part.specs.Parts.{part_of, kept_of, ready_of, clock_at, here_at, settled, seen, AreTypesRead, IsMade}
 use Rattle.partition_table.specs.Keys.{is_at, are_at}
 use Rattle.stream_schema.specs.Equality.{Decides-value}
 use Rattle.query_part.proofs.Cuts.{mid_table}
@@ -47,8 +46,7 @@ use Rattle.query_part.proofs.Cuts.{mid_table}
 idle_kept : (step : Option Step) (r : Option Ready) (h : Held) (c : Option ℤ) (n : Option ℕ) → ready_of step r h c n ≡ None → kept_of step r h c n ≡ part_of h c n
 idle_kept None r h c n e = refl
 idle_kept (Some Unread) r h c n e = absurd cc
-idle_kept (Some (NoKey now)) r h c n e = absurd cc
-idle_kept (Some (Resting now number)) r h c n e = absurd cc
+idle_kept (Some (NoChange now)) r h c n e = absurd cc
 idle_kept (Some (Keyed now)) None h c n e = refl
 idle_kept (Some (Keyed now)) (Some r) h c n e = absurd cc
 
@@ -60,7 +58,7 @@ pub record Facts (schema : Declared) (q : Query) (event : Event) (position : ℕ
   pub in_time : (before now : ℤ) → FallsBack schema q events event before now → ⊥
   pub stands : PartStands schema q events (part_of h c n)
 
-pub facts : (schema : Declared) (q : Query) (event : Event) (position : ℕ) (step : Option Step) (r : Option Ready) (h : Held) (c : Option ℤ) (n : Option ℕ) (upto : ℕ) (floats : Bool) (p : Phase) → record { schema = schema; query = q; kept = kept_of step r h c n; ready = ready_of step r h c n; upto = upto; floats = floats } ≡ p → IsIdle (seen position p) → CanPrepare event position (seen position p) → Facts schema q event position h (clock_at floats upto position c) (here_at floats upto position n)
+pub facts : (schema : Declared) (q : Query) (event : Event) (position : ℕ) (step : Option Step) (r : Option Ready) (h : Held) (c : Option ℤ) (n : Option ℕ) (upto : ℕ) (floats : Bool) (p : Phase) → record { schema = schema; query = q; kept = kept_of step r h c n; ready = ready_of step r h c n; upto = upto; floats = floats } ≡ p → IsIdle (seen position p) → CanPrepare event position (seen position p) → Facts schema q event position h (clock_at floats upto position c) (here_at upto position n)
 facts schema q event position step r h c n upto floats p is idle can =
     let rest : ready_of step r h c n ≡ None = subst IsIdle (sym is) idle in
     let know : CanPrepare event position (seen position (record { schema = schema; query = q; kept = kept_of step r h c n; ready = ready_of step r h c n; upto = upto; floats = floats })) = subst (λ (x : Phase). CanPrepare event position (seen position x)) (sym is) can in
@@ -78,7 +76,7 @@ pub record Idle (schema : Declared) (q : Query) (h : Held) (c : Option ℤ) (n :
   pub query_is : q ≡ p.query
   pub kept_is : part_of h c n ≡ p.kept
 
-pub idle_part : (schema : Declared) (q : Query) (step : Option Step) (r : Option Ready) (h : Held) (c : Option ℤ) (n : Option ℕ) (upto : ℕ) (floats : Bool) (count : ℕ) (p : Phase) → record { schema = schema; query = q; kept = kept_of step r h c n; ready = ready_of step r h c n; upto = upto; floats = floats } ≡ p → IsIdle p → Idle schema q h (clock_at floats upto count c) (here_at floats upto count n) (seen count p)
+pub idle_part : (schema : Declared) (q : Query) (step : Option Step) (r : Option Ready) (h : Held) (c : Option ℤ) (n : Option ℕ) (upto : ℕ) (floats : Bool) (count : ℕ) (p : Phase) → record { schema = schema; query = q; kept = kept_of step r h c n; ready = ready_of step r h c n; upto = upto; floats = floats } ≡ p → IsIdle p → Idle schema q h (clock_at floats upto count c) (here_at upto count n) (seen count p)
 idle_part schema q step r h c n upto floats count p is idle = record {
   schema_is = ap (λ (x : Phase). x.schema) is;
   query_is = ap (λ (x : Phase). x.query) is;
@@ -216,37 +214,3 @@ values_are (k ∷ ks) (p ∷ ps) values e =
 -- a key of the values at the places of the event's type is the event's
 pub key_found : (schema : Declared) (q : Query) (table : List (Option (List ℕ))) (event : Event) (places : List ℕ) (key : List Value) → AreKeyPlaces schema q table → IsOfSchema schema event → slice_index_or table event.ty None ≡ Some places → are_at key places event.values ≡ true → values_at schema q.partition event ≡ Some key
 key_found schema q table event places key are of here at = sym (key_through schema q table event are of) ∙ (ap (option_and_then (λ ps. values_there ps event.values)) here ∙ values_are key places event.values at)
-
--- in an event of a query without a partition the key has no value
-pub key_alone : (schema : Declared) (q : Query) (event : Event) (key : List Value) → q.partition ≡ [] → are_at key [] [] ≡ true → values_at schema q.partition event ≡ Some key
-key_alone schema q event key none has = ap (λ names. values_at schema names event) none ∙ go key has
-  where
-    go : (key : List Value) → are_at key [] [] ≡ true → Some [] ≡ Some key
-    go [] e = refl
-    go (k ∷ ks) e = absurd cc
-
--- it is found at no place
-pub found_alone : (schema : Declared) (q : Query) (table : List (Option (List ℕ))) (event : Event) (places : List ℕ) (key : List Value) (values : List Value) → AreKeyPlaces schema q table → IsOfSchema schema event → q.partition ≡ [] → slice_index_or table event.ty None ≡ Some places → are_at key places values ≡ true → are_at key [] [] ≡ true
-found_alone schema q table event places key values are of none here has =
-    let told : Some places ≡ Some [] = sym here ∙ (are event.ty (type_below schema.types event.ty _ of) ∙ ap (λ names. places_in schema names event.ty) none) in
-    let no_place : places ≡ [] = cc in
-    go key (subst (λ ps. are_at key ps values ≡ true) no_place has)
-  where
-    go : (key : List Value) → are_at key [] values ≡ true → are_at key [] [] ≡ true
-    go [] e = refl
-    go (k ∷ ks) e = absurd cc
-
--- the key that is found rests alone, where the query has no partition
-pub rests_alone : (schema : Declared) (q : Query) (table : List (Option (List ℕ))) (event : Event) (places : List ℕ) (number : ℕ) (h : Held) (o : Option ℕ) → AreKeyPlaces schema q table → IsOfSchema schema event → slice_index_or table event.ty None ≡ Some places → HasKeyThere h places event.values number → (rows : Rows) × (slice_get h.rows number ≡ Some rows) × Rest h.table rows → IfSome o (λ n. (q.partition ≡ []) × (n ≡ number)) → IsAlone q o h
-rests_alone schema q table event places number h None are of here k r found = tt
-rests_alone schema q table event places number h (Some n) are of here k r found = (
-  found.0,
-  subst (HasRest h [] []) (sym found.1) (record {
-    key = k.key;
-    numbered = k.numbered;
-    has = found_alone schema q table event places k.key event.values are of found.0 here k.has;
-    rows = r.0;
-    at = r.1;
-    rest = r.2;
-  }),
-)

@@ -1,5 +1,5 @@
 -- The open matches of a query, key by key, and what a key's event makes of them.
-use Rattle.std.specs.Prelude.{◌≡◌, ℕ, ◌+◌, ℤ, ◌<◌, ◌≤◌, ◌⊎◌, Bool, true, List, [], ◌∷◌, ◌++◌, length, map, take, All, Contains, Option, Some, None, slice_get, slice_index_or}
+use Rattle.std.specs.Prelude.{◌≡◌, ℕ, suc, ◌+◌, ℤ, ◌<◌, ◌≤◌, ◌⊎◌, Bool, true, false, if◌then◌else◌, List, [], ◌∷◌, ◌++◌, length, map, take, All, Contains, Option, Some, None, slice_get, slice_index_or}
 use Rattle.std.specs.List.{IsDistinct}
 use Rattle.stream_schema.specs.declared.Value.{Value}
 use Rattle.cer_base.specs.declared.node.Stamp.{Stamp}
@@ -14,9 +14,9 @@ use Rattle.event_update.specs.Reach.{Seen}
 use Rattle.event_update.specs.Stands.{seen, IsLater, Stands, CanAdvance}
 use Rattle.event_update.specs.Update.{Discovers, GrowsBy, rows_after, work_bound, IsWithinWork, accepted_entries}
 use Rattle.query_standing.specs.Kept.{Rows}
-use Rattle.event_update.specs.Still.{Rest}
+use Rattle.event_update.specs.Still.{IsAtRest, Rest}
 use Rattle.partition_table.specs.Keys.{are_at}
-use Rattle.query_part.specs.declared.matches.Marks.{Marks}
+use Rattle.query_part.specs.declared.matches.Sizes.{Sizes}
 use Rattle.query_part.specs.declared.matches.Lists.{Lists}
 
 -- What contracts see of the open matches: the states, the nodes, and the keys with the lists of each.
@@ -30,6 +30,15 @@ pub record Held : Type 0 where
 abbrev pub MayRest : Table → Lists → Type 0
 MayRest t l = l.rests ≡ true → Rest t l.active.entries
 
+-- how many keys' lists are not known to rest
+abbrev pub awake_in : List Lists → ℕ
+awake_in [] = 0
+awake_in (l ∷ ls) = if l.rests then awake_in ls else suc (awake_in ls)
+
+-- states that are known to be still are at rest
+abbrev pub AreStill : Table → List Bool → Type 0
+AreStill t still = (n : ℕ) → slice_index_or still n false ≡ true → IsAtRest t n
+
 -- The number is that of a key that has the values at the places.
 pub record HasKeyThere (h : Held) (places : List ℕ) (values : List Value) (number : ℕ) : Type 0 where
   pub key : List Value
@@ -37,21 +46,12 @@ pub record HasKeyThere (h : Held) (places : List ℕ) (values : List Value) (num
   pub has : are_at key places values ≡ true
   pub inside : number < length h.rows
 
--- The number is that of a key that has the values at the places, and whose lists rest.
-pub record HasRest (h : Held) (places : List ℕ) (values : List Value) (number : ℕ) : Type 0 where
-  pub key : List Value
-  pub numbered : slice_get h.keys number ≡ Some key
-  pub has : are_at key places values ≡ true
-  pub rows : Rows
-  pub at : slice_get h.rows number ≡ Some rows
-  pub rest : Rest h.table rows
-
 -- no open match, and no state met
 abbrev pub none_open : Cea → Held
 none_open cea = record { table = record { cea = cea; states = []; classes = []; transitions = [] }; nodes = []; keys = []; rows = [] }
 
 -- the first so many of each
-abbrev pub cut : Marks → Held → Held
+abbrev pub cut : Sizes → Held → Held
 cut m h = record {
   table = record { cea = h.table.cea; states = take m.det.states h.table.states; classes = take m.det.classes h.table.classes; transitions = take m.det.pairs h.table.transitions };
   nodes = take m.nodes h.nodes;
@@ -60,7 +60,7 @@ cut m h = record {
 }
 
 -- there are as many, and the pairs that stay are of states and classes that stay, and lead to such states
-pub record CanCut (m : Marks) (h : Held) : Type 0 where
+pub record CanCut (m : Sizes) (h : Held) : Type 0 where
   pub states : m.det.states ≤ length h.table.states
   pub classes : m.det.classes ≤ length h.table.classes
   pub pairs : m.det.pairs ≤ length h.table.transitions
@@ -69,7 +69,7 @@ pub record CanCut (m : Marks) (h : Held) : Type 0 where
   pub keys : m.keys ≤ length h.keys
 
 -- these are the numbers of all that there is
-pub record AreMarks (m : Marks) (h : Held) : Type 0 where
+pub record AreSizes (m : Sizes) (h : Held) : Type 0 where
   pub states : m.det.states ≡ length h.table.states
   pub classes : m.det.classes ≡ length h.table.classes
   pub pairs : m.det.pairs ≡ length h.table.transitions
@@ -84,11 +84,11 @@ with_key h key = record h { keys = h.keys ++ key ∷ []; rows = h.rows ++ [] ∷
 abbrev pub TakesKey : Held → List Value → Held → Type 0
 TakesKey old key new = (Contains old.keys key × (new ≡ old)) ⊎ ((Contains old.keys key → ⊥) × (new ≡ with_key old key))
 
--- Before the key of this number was put in, where it was not there, there were as many as the marks tell.
-pub record HasBegun (m : Marks) (number : ℕ) (mid : Held) : Type 0 where
+-- Before the key of this number was put in, where it was not there, there were as many as the sizes tell.
+pub record HasBegun (m : Sizes) (number : ℕ) (mid : Held) : Type 0 where
   pub before : Held
   pub key : List Value
-  pub are : AreMarks m before
+  pub are : AreSizes m before
   pub sound : IsSound before.table
   pub takes : TakesKey before key mid
   pub numbered : slice_get mid.keys number ≡ Some key

@@ -1,12 +1,12 @@
 -- What is kept of a query while an event is prepared: it is still seen as what it was, and what a commit makes of it is told.
-use Rattle.std.specs.Prelude.{◌≡◌, ◌≢◌, ℕ, ◌-◌, ◌<◌, ◌==◌, ℤ, pos, Bool, true, false, ◌||◌, if◌then◌else◌, List, [], length, Option, Some, None, slice_set, slice_index_or}
+use Rattle.std.specs.Prelude.{◌≡◌, ◌≢◌, ℕ, ◌-◌, ◌<◌, ◌==◌, ℤ, pos, ◌≤ℤ◌, Bool, true, false, ◌||◌, if◌then◌else◌, List, [], length, Option, Some, None, slice_set, slice_index_or}
 use Rattle.std.specs.List.{list_any}
 use Rattle.stream_schema.specs.Types.{Declared}
 use Rattle.stream_schema.specs.Events.{IsOfSchema}
 use Rattle.stream_schema.specs.declared.Event.{Event}
 use Rattle.cel_terms.specs.declared.Query.{Query}
 use Rattle.cel_terms.specs.declared.Window.{Window}
-use Rattle.window_clock.specs.Clocks.{clock_of}
+use Rattle.window_clock.specs.Clocks.{least, low_of, clock_of}
 use Rattle.cel_terms.specs.Answers.{query_types}
 use Rattle.query_leaves.specs.Expand.{tree_of}
 use Rattle.cea_determinise.specs.Runs.{Automaton}
@@ -24,9 +24,9 @@ use Rattle.query_standing.specs.Clocks.{Reads}
 use Rattle.query_standing.specs.Keys.{leaves_reading}
 use Rattle.query_standing.specs.Kept.{Part}
 use Rattle.query_part.specs.declared.part.Step.{Step}
-use Rattle.query_part.specs.declared.part.Step.TheVariants.{Unread, NoKey, Resting, Keyed}
+use Rattle.query_part.specs.declared.part.Step.TheVariants.{Unread, NoChange, Keyed}
 use Rattle.query_part.specs.KeyPlaces.{AreKeyPlaces}
-use Rattle.query_part.specs.Matches.{Held, HasRest, none_open, cut, CanCut}
+use Rattle.query_part.specs.Matches.{Held, none_open, cut, CanCut}
 use Rattle.query_part.specs.declared.matches.Ready.{Ready}
 
 abbrev pub part_of : Held → Option ℤ → Option ℕ → Part
@@ -40,17 +40,15 @@ put_in number staged h = record h { rows = slice_set h.rows number (rows_after (
 abbrev pub kept_of : Option Step → Option Ready → Held → Option ℤ → Option ℕ → Part
 kept_of None ready h clock here = part_of h clock here
 kept_of (Some Unread) ready h clock here = part_of h clock here
-kept_of (Some (NoKey now)) ready h clock here = part_of h clock here
-kept_of (Some (Resting now number)) ready h clock here = part_of h clock here
+kept_of (Some (NoChange now)) ready h clock here = part_of h clock here
 kept_of (Some (Keyed now)) None h clock here = part_of h clock here
-kept_of (Some (Keyed now)) (Some r) h clock here = part_of (cut r.marks h) clock here
+kept_of (Some (Keyed now)) (Some r) h clock here = part_of (cut r.sizes h) clock here
 
 -- what a commit makes of it
 abbrev pub ready_of : Option Step → Option Ready → Held → Option ℤ → Option ℕ → Option Part
 ready_of None ready h clock here = None
 ready_of (Some Unread) ready h clock here = Some (part_of h clock None)
-ready_of (Some (NoKey now)) ready h clock here = Some (part_of h (Some now) None)
-ready_of (Some (Resting now number)) ready h clock here = Some (part_of h (Some now) (Some number))
+ready_of (Some (NoChange now)) ready h clock here = Some (part_of h (Some now) None)
 ready_of (Some (Keyed now)) None h clock here = None
 ready_of (Some (Keyed now)) (Some r) h clock here = Some (part_of (put_in r.number r.staged h) (Some now) (Some r.number))
 
@@ -58,24 +56,22 @@ ready_of (Some (Keyed now)) (Some r) h clock here = Some (part_of (put_in r.numb
 abbrev pub CanEnd : Option Step → Option Ready → Held → Type 0
 CanEnd None ready h = Unit {0}
 CanEnd (Some Unread) ready h = Unit {0}
-CanEnd (Some (NoKey now)) ready h = IsNear now
-CanEnd (Some (Resting now number)) ready h = IsNear now
+CanEnd (Some (NoChange now)) ready h = IsNear now
 CanEnd (Some (Keyed now)) None h = Unit {0}
-CanEnd (Some (Keyed now)) (Some r) h = IsNear now × CanCut r.marks h × (r.number < length h.rows)
+CanEnd (Some (Keyed now)) (Some r) h = IsNear now × CanCut r.sizes h × (r.number < length h.rows)
 
 -- the last clock after so many events
 abbrev pub clock_at : Bool → ℕ → ℕ → Option ℤ → Option ℤ
 clock_at false upto n clock = clock
 clock_at true upto n clock = if n == upto then clock else Some (pos (n - 1))
 
--- the number of the last event's key after so many: of one that was not looked at the one key's, where the clock floats, and else of none
-abbrev pub here_at : Bool → ℕ → ℕ → Option ℕ → Option ℕ
-here_at false upto n here = if n == upto then here else None
-here_at true upto n here = if n == upto then here else Some 0
+-- the number of the last event's key after so many: of none, where that was not looked at
+abbrev pub here_at : ℕ → ℕ → Option ℕ → Option ℕ
+here_at upto n here = if n == upto then here else None
 
 -- what is kept, after so many events
 abbrev pub settled : Bool → ℕ → ℕ → Part → Part
-settled floats upto n part = record part { clock = clock_at floats upto n part.clock; here = here_at floats upto n part.here }
+settled floats upto n part = record part { clock = clock_at floats upto n part.clock; here = here_at upto n part.here }
 
 -- what the part is after so many events
 abbrev pub seen : ℕ → Phase → Phase
@@ -93,18 +89,18 @@ skipped count p = record p { kept = record p.kept { here = None }; upto = count 
 abbrev pub IsByPosition : Window → Type 0
 IsByPosition window = (schema : Declared) (event : Event) (p : ℕ) → clock_of schema window event p ≡ Some (pos p)
 
+-- the low clock of a position is a number of 128 bits
+abbrev pub HasLows : Window → Type 0
+HasLows window = (p : ℕ) → least ≤ℤ low_of window (pos p)
+
 -- A clock that floats is the position, and the query reads each type.
 pub record Floats (schema : Declared) (q : Query) (source : Source) (types : List Bool) : Type 0 where
   pub clock : (event : Event) (p : ℕ) → clock_in source event p ≡ Some (pos p)
+  pub low : HasLows q.window
   pub all : (ty : ℕ) → ty < length schema.types → slice_index_or types ty false ≡ true
 
 abbrev pub MayFloat : Declared → Query → Source → List Bool → Bool → Type 0
 MayFloat schema q source types floats = floats ≡ true → Floats schema q source types
-
--- a number that is told is that of the one key, of a query without a partition, and the key's lists rest
-abbrev pub IsAlone : Query → Option ℕ → Held → Type 0
-IsAlone q None h = Unit {0}
-IsAlone q (Some number) h = (q.partition ≡ []) × HasRest h [] [] number
 
 -- whether one of the query's streams has the type
 abbrev pub reads_type : Declared → Query → ℕ → Bool

@@ -1,6 +1,6 @@
 //! The open matches of a query, key by key.
 
-ghost use Rattle.std.specs.Prelude.{◌≡◌, ℕ, ◌+◌, ◌*◌, ◌<◌, ◌≤◌, ◌⊎◌, false, List, [], ◌∷◌, ◌++◌, length, map, get_or, All, Contains, Some, slice_get, slice_set, slice_index_or, IfOk, OnOk, OnErr, IfNone, MatchOption, IfSome, true};
+ghost use Rattle.std.specs.Prelude.{◌≡◌, ℕ, ◌+◌, ◌-◌, ◌*◌, ◌<◌, ◌≤◌, ◌⊎◌, false, List, [], ◌∷◌, ◌++◌, length, map, get_or, All, Contains, Some, slice_get, slice_set, slice_index_or, IfOk, OnOk, OnErr, IfNone, MatchOption, IfSome, true};
 ghost use Rattle.cer_base.specs.Bits.{room_for};
 ghost use Rattle.cer_base.specs.Nodes.{AreInStep, WellFormed};
 ghost use Rattle.cer_base.specs.declared.node.Node.{Node as NodeData};
@@ -8,7 +8,8 @@ ghost use Rattle.cer_base.specs.declared.node.Node.TheVariants.{Bottom};
 ghost use Rattle.cea_determinise.specs.Cea.{IsWellFormed};
 ghost use Rattle.cea_determinise.specs.Det.{Table, IsSound};
 ghost use Rattle.stream_schema.specs.declared.Value.{Value as Datum};
-ghost use Rattle.event_update.specs.Still.{IsQuiet, Rest};
+ghost use Rattle.event_update.specs.ActiveLists.{keys};
+ghost use Rattle.event_update.specs.Still.{IsQuiet, IsAtRest, Rest};
 ghost use Rattle.event_update.specs.declared.Staged.TheVariants.{Unchanged};
 ghost use Rattle.query_standing.specs.Kept.{Rows};
 ghost use Rattle.event_update.specs.Update.{rows_after, work_bound};
@@ -17,12 +18,12 @@ ghost use Rattle.union_lists.specs.Lists.{IsUnionList};
 ghost use Rattle.arena_compact.specs.Roots.{places};
 ghost use Rattle.arena_compact.specs.Compacted.{least_of, roots_of, Compacted, KeysCompacted, CursorCompacted};
 ghost use Rattle.query_part.specs.Compacting.{HasStatesOnce};
-ghost use Rattle.query_part.specs.Matches.{Held, MayRest, HasKeyThere, HasBegun, none_open, cut, CanCut, AreMarks, TakesKey, CanTake, IsReady, HasWorked, CanList, entries_for};
+ghost use Rattle.query_part.specs.Matches.{Held, MayRest, awake_in, AreStill, HasKeyThere, HasBegun, none_open, cut, CanCut, AreSizes, TakesKey, CanTake, IsReady, HasWorked, CanList, entries_for};
 
 use arena_compact::{HasCursor, HasLists, Room, compact};
 use cea_determinise::cea::Cea;
 use cea_determinise::det::Det;
-use cea_determinise::table::Mark;
+use cea_determinise::table::{Sizes as TableSizes, State};
 use cer_base::Memory;
 use cer_base::bits::Bits;
 use cer_base::node::{Root, Stamp};
@@ -40,8 +41,8 @@ use tecs_enumerate::Cursor;
 
 /// How many states, pairs, classes, nodes and keys there are.
 #[derive(Drop, Clone, Copy)]
-pub struct Marks {
-    pub det: Mark,
+pub struct Sizes {
+    pub det: TableSizes,
     pub nodes: u64,
     pub keys: u64,
 }
@@ -49,7 +50,7 @@ pub struct Marks {
 /// The lists of a key after an event, not in place yet, and how many of each there were before.
 #[derive(Drop)]
 pub struct Ready {
-    pub marks: Marks,
+    pub sizes: Sizes,
     pub number: u64,
     pub staged: Staged,
 }
@@ -71,6 +72,11 @@ pub struct Matches {
     keys: Keys,
     /// For each key, by its number.
     lists: Vec<Lists>,
+    /// How many of them are not known to rest.
+    awake: u64,
+    /// For each state, by its number, whether an event that no leaf can read is known to leave its
+    /// list as it is.
+    still: Vec<bool>,
     /// Where the lists of an event are made.
     stage: Stage,
 }
@@ -78,7 +84,7 @@ pub struct Matches {
 impl Model for Matches {
     ghost use Rattle.std.specs.Prelude.{◌≡◌, length, map, All};
     ghost use Rattle.query_part.specs.Compacting.{HasStatesOnce};
-    ghost use Rattle.query_part.specs.Matches.{Held, MayRest};
+    ghost use Rattle.query_part.specs.Matches.{Held, MayRest, awake_in, AreStill};
 
     ghost Value = { Held };
 
@@ -90,7 +96,9 @@ impl Model for Matches {
     } };
 
     ghost invariant = { λ m. (length m.keys ≡ length m.lists.items)
-        × All (MayRest m.det) m.lists.items };
+        × All (MayRest m.det) m.lists.items
+        × (m.awake ≡ awake_in m.lists.items)
+        × AreStill m.det m.still.items };
 }
 
 impl Lists {
@@ -98,6 +106,7 @@ impl Lists {
     fn none(alloc: Global) -> Lists
         ensures none { result.active.entries ≡ [] }
         ensures rests { (t : Table) → MayRest t result }
+        ensures known { result.rests ≡ true }
     {
         Lists {
             active: Active::new(alloc),
@@ -105,16 +114,36 @@ impl Lists {
         }
     }
 
-    /// Puts them in place. Where they change they are not known to rest.
-    fn put(&mut self, stage: &mut Stage, staged: Staged)
+    /// Puts them in place. They rest where the event leaves them as they were and they rested, and
+    /// where their states are all known to be still.
+    fn put(&mut self, still: &[bool], stage: &mut Stage, staged: Staged)
         ensures rows { self.new.active.entries ≡ rows_after self.old.active.entries staged }
-        ensures rests { (t : Table) → MayRest t self.old → MayRest t self.new }
+        ensures rests { (t : Table) → AreStill t still.now → MayRest t self.old → MayRest t self.new }
     {
         let stays = is_unchanged(&staged);
         commit(&mut self.active, stage, staged);
         if !stays {
             self.rests = false;
         }
+        self.look(still);
+    }
+
+    /// Notes that they rest, where their states are all known to be still.
+    fn look(&mut self, still: &[bool])
+        ensures rows { self.new.active.entries ≡ self.old.active.entries }
+        ensures rests { (t : Table) → AreStill t still.now → MayRest t self.old → MayRest t self.new }
+    {
+        if are_still(&self.active, still) {
+            self.rests = true;
+        }
+    }
+
+    /// Looks at them anew.
+    fn look_again(&mut self, still: &[bool])
+        ensures rows { self.new.active.entries ≡ self.old.active.entries }
+        ensures rests { (t : Table) → AreStill t still.now → MayRest t self.new }
+    {
+        self.rests = are_still(&self.active, still);
     }
 }
 
@@ -141,28 +170,126 @@ fn is_unchanged(staged: &Staged) -> bool
     matches!(staged, Staged::Unchanged)
 }
 
-/// Notes that the key's lists rest, where an event that no leaf can read leaves them as they are.
-fn note(lists: &mut [Lists], number: u64, bits: &Bits, staged: &Staged)
-    requires inside { number < length lists.old }
-    ensures rows { map (λ l. l.active.entries) lists.new ≡ map (λ l. l.active.entries) lists.old }
-    ensures rests { (t : Table) → All (MayRest t) lists.old → ((rows : Rows) → slice_get
-        (map (λ l. l.active.entries) lists.old) number ≡ Some rows → IsQuiet bits.now → staged.now
-        ≡ Unchanged → Rest t rows) → All (MayRest t) lists.new }
+/// Whether an event that no leaf can read is known to leave the state's list as it is.
+fn is_still(still: &[bool], state: State) -> bool
+    ensures { result ≡ slice_index_or still.now state false }
+{
+    match still.get(state as usize) {
+        Some(known) => *known,
+        None => false,
+    }
+}
+
+/// Whether the lists' states are all known to be still.
+fn are_still(active: &Active, still: &[bool]) -> bool
+    ensures { result ≡ true → All (λ n. slice_index_or still.now n false ≡ true) (keys active.now) }
+{
+    for k in 0..active.len() {
+        if !is_still(still, active.state(k)) {
+            return false;
+        }
+    }
+    true
+}
+
+/// Makes room for a number at the place, where there is memory.
+fn make_room(still: &mut Vec<bool>, place: usize)
+    ensures { (n : ℕ) → slice_index_or still.new.items n false
+        ≡ slice_index_or still.old.items n false }
+{
+    if place >= still.len() {
+        let _filled = still.resize(place.saturating_add(1), false);
+    }
+}
+
+/// Notes that the state is still, where there is memory.
+fn mark(still: &mut Vec<bool>, state: State)
+    ensures { (t : Table) → AreStill t still.old.items → IsAtRest t state
+        → AreStill t still.new.items }
+{
+    let place = state as usize;
+    make_room(still, place);
+    if place < still.len() {
+        still[place] = true;
+    }
+}
+
+/// Notes that the lists' states are still.
+fn mark_all(still: &mut Vec<bool>, active: &Active)
+    ensures { (t : Table) → AreStill t still.old.items → All (IsAtRest t) (keys active.now)
+        → AreStill t still.new.items }
+{
+    for k in 0..active.len() {
+        mark(still, active.state(k));
+    }
+}
+
+/// Notes that the states of a key's lists are still, where an event that no leaf can read leaves
+/// them as they are.
+fn note(still: &mut Vec<bool>, active: &Active, bits: &Bits, staged: &Staged)
+    ensures { (t : Table) → AreStill t still.old.items → (IsQuiet bits.now → staged.now ≡ Unchanged
+        → Rest t active.now.entries) → AreStill t still.new.items }
 {
     if !is_unchanged(staged) || !bits.is_empty() {
         return;
     }
-    lists[number as usize].rests = true;
+    mark_all(still, active);
 }
 
-/// Forgets which lists rest.
-fn wake(lists: &mut [Lists])
-    ensures rows { map (λ l. l.active.entries) lists.new ≡ map (λ l. l.active.entries) lists.old }
-    ensures rests { (t : Table) → All (MayRest t) lists.new }
+/// How many keys' lists are not known to rest, of so many, once it is looked at one of them again.
+fn recount(awake: u64, count: u64, rested: bool, rests: bool) -> u64
+    ensures same { rested ≡ rests → result ≡ awake }
+    ensures fewer { rested ≡ false → rests ≡ true → result ≡ awake - 1 }
+    ensures more { rested ≡ true → rests ≡ false → awake < count → result ≡ awake + 1 }
 {
-    for k in 0..lists.len() {
-        lists[k].rests = false;
+    if rested == rests {
+        return awake;
     }
+    if rests {
+        return awake.saturating_sub(1);
+    }
+    if awake < count { awake + 1 } else { awake }
+}
+
+/// Puts a key's lists in place, and counts anew.
+fn put_lists(
+    lists: &mut [Lists],
+    awake: &mut u64,
+    still: &[bool],
+    stage: &mut Stage,
+    number: u64,
+    staged: Staged,
+)
+    requires inside { number < length lists.old }
+    requires awake { awake.old ≡ awake_in lists.old }
+    ensures rows { map (λ l. l.active.entries) lists.new
+        ≡ slice_set (map (λ l. l.active.entries) lists.old) number (rows_after
+        (slice_index_or (map (λ l. l.active.entries) lists.old) number []) staged) }
+    ensures rests { (t : Table) → AreStill t still.now → All (MayRest t) lists.old
+        → All (MayRest t) lists.new }
+    ensures awake { awake.new ≡ awake_in lists.new }
+{
+    let count = lists.len() as u64;
+    let own = &mut lists[number as usize];
+    let rested = own.rests;
+    own.put(still, stage, staged);
+    *awake = recount(*awake, count, rested, own.rests);
+}
+
+/// Looks at all lists anew. How many are not known to rest.
+fn look_over(lists: &mut [Lists], still: &[bool]) -> u64
+    ensures rows { map (λ l. l.active.entries) lists.new ≡ map (λ l. l.active.entries) lists.old }
+    ensures rests { (t : Table) → AreStill t still.now → All (MayRest t) lists.new }
+    ensures awake { result ≡ awake_in lists.new }
+{
+    let mut awake: u64 = 0;
+    for k in 0..lists.len() {
+        lists[k].look_again(still);
+        if !lists[k].rests {
+            awake += 1;
+        }
+    }
+    awake
 }
 
 /// No state stands twice in a key's lists.
@@ -186,32 +313,35 @@ impl Matches {
             store: Arena::new(alloc),
             keys: Keys::new(alloc),
             lists: Vec::new(alloc),
+            awake: 0,
+            still: Vec::new(alloc),
             stage: Stage::new(alloc),
         }
     }
 
     /// How many there are of each.
-    pub fn marks(&self) -> Marks
-        ensures are { AreMarks result self.now }
+    pub fn sizes(&self) -> Sizes
+        ensures are { AreSizes result self.now }
         ensures sound { IsSound self.now.table }
     {
-        Marks {
-            det: self.det.mark(),
+        Sizes {
+            det: self.det.sizes(),
             nodes: self.store.len(),
             keys: self.keys.len(),
         }
     }
 
     /// Keeps the first so many of each.
-    pub fn cut_to(&mut self, marks: Marks)
-        requires { CanCut marks self.old }
-        ensures { self.new ≡ cut marks self.old }
+    pub fn cut_to(&mut self, sizes: Sizes)
+        requires { CanCut sizes self.old }
+        ensures { self.new ≡ cut sizes self.old }
     {
-        self.det.back(marks.det);
-        self.store.cut_to(marks.nodes);
-        self.keys.cut_to(marks.keys);
-        self.lists.truncate(marks.keys as usize);
-        wake(self.lists.as_mut_slice());
+        self.det.back(sizes.det);
+        self.store.cut_to(sizes.nodes);
+        self.keys.cut_to(sizes.keys);
+        self.lists.truncate(sizes.keys as usize);
+        self.still.clear();
+        self.awake = look_over(self.lists.as_mut_slice(), self.still.as_slice());
     }
 
     /// The key's number, which is the next one where the key is new.
@@ -241,6 +371,13 @@ impl Matches {
         self.keys.find(places, values)
     }
 
+    /// Whether the lists of each key are known to rest.
+    pub fn all_rest(&self) -> bool
+        ensures { result ≡ true → All (Rest self.now.table) self.now.rows }
+    {
+        self.awake == 0
+    }
+
     /// Whether the lists of the key of this number are known to rest, and no leaf can read the event.
     pub fn resting(&self, number: u64, bits: &Bits) -> bool
         requires { number < length self.now.rows }
@@ -252,29 +389,29 @@ impl Matches {
     }
 
     /// Works out the lists of the key of this number after an event of it. After `Memory` there is
-    /// what there was at the marks.
+    /// what there was at the sizes.
     fn work<L: Ledger>(
         &mut self,
-        marks: Marks,
+        sizes: Sizes,
         number: u64,
         bits: &Bits,
         stamp: Stamp,
         steps: &mut Steps<L>,
     ) -> Result<Ready, Memory>
-        requires begun { HasBegun marks number self.old }
+        requires begun { HasBegun sizes number self.old }
         requires well_formed { WellFormed self.old.nodes }
         requires in_step { AreInStep (self.old.nodes ++ Bottom stamp ∷ []) }
         requires bits { length bits.now ≡ room_for self.old.table.cea.size }
         requires can { CanTake stamp self.old }
-        ensures ready { IfOk result (λ r. (b : HasBegun marks number self.old) → IsReady stamp
+        ensures ready { IfOk result (λ r. (b : HasBegun sizes number self.old) → IsReady stamp
             bits.now b.key r.number r.staged b.before self.new) }
-        ensures marks { IfOk result (λ r. ((b : HasBegun marks number self.old)
-            → cut r.marks self.new ≡ b.before) × CanCut r.marks self.new) }
-        ensures refused { OnErr result ((b : HasBegun marks number self.old)
+        ensures sizes { IfOk result (λ r. ((b : HasBegun sizes number self.old)
+            → cut r.sizes self.new ≡ b.before) × CanCut r.sizes self.new) }
+        ensures refused { OnErr result ((b : HasBegun sizes number self.old)
             → self.new ≡ b.before) }
         ensures steps { OnOk result (steps.new
             ≤ steps.old + work_bound (length self.new.table.states)) }
-        ensures worked { (b : HasBegun marks number self.old) → HasWorked bits.now b.key b.before
+        ensures worked { (b : HasBegun sizes number self.old) → HasWorked bits.now b.key b.before
             steps.old steps.new }
     {
         let active = &self.lists[number as usize].active;
@@ -288,17 +425,17 @@ impl Matches {
             steps,
         ) {
             Ok(staged) => {
-                let _mark = self.det.mark();
+                let _sizes = self.det.sizes();
                 let _found = self.det.found();
-                note(self.lists.as_mut_slice(), number, bits, &staged);
+                note(&mut self.still, active, bits, &staged);
                 Ok(Ready {
-                    marks,
+                    sizes,
                     number,
                     staged,
                 })
             }
             Err(refused) => {
-                self.cut_to(marks);
+                self.cut_to(sizes);
                 Err(refused)
             }
         }
@@ -318,17 +455,17 @@ impl Matches {
         requires can { CanTake stamp self.old }
         ensures ready { IfOk result (λ r. IsReady stamp bits.now key.now r.number r.staged self.old
             self.new) }
-        ensures marks { IfOk result (λ r. (cut r.marks self.new ≡ self.old)
-            × CanCut r.marks self.new) }
+        ensures sizes { IfOk result (λ r. (cut r.sizes self.new ≡ self.old)
+            × CanCut r.sizes self.new) }
         ensures refused { OnErr result (self.new ≡ self.old) }
         ensures steps { OnOk result (steps.new
             ≤ steps.old + work_bound (length self.new.table.states)) }
         ensures worked { (steps.new ≡ steps.old)
             ⊎ HasWorked bits.now key.now self.old steps.old steps.new }
     {
-        let marks = self.marks();
+        let sizes = self.sizes();
         let number = self.number(key)?;
-        self.work(marks, number, bits, stamp, steps)
+        self.work(sizes, number, bits, stamp, steps)
     }
 
     /// The same for the key of this number, which is there.
@@ -346,16 +483,16 @@ impl Matches {
         requires can { CanTake stamp self.old }
         ensures ready { IfOk result (λ r. (key : List Datum) → slice_get self.old.keys number
             ≡ Some key → IsReady stamp bits.now key r.number r.staged self.old self.new) }
-        ensures marks { IfOk result (λ r. (cut r.marks self.new ≡ self.old)
-            × CanCut r.marks self.new) }
+        ensures sizes { IfOk result (λ r. (cut r.sizes self.new ≡ self.old)
+            × CanCut r.sizes self.new) }
         ensures refused { OnErr result (self.new ≡ self.old) }
         ensures steps { OnOk result (steps.new
             ≤ steps.old + work_bound (length self.new.table.states)) }
         ensures worked { (key : List Datum) → slice_get self.old.keys number ≡ Some key
             → HasWorked bits.now key self.old steps.old steps.new }
     {
-        let marks = self.marks();
-        self.work(marks, number, bits, stamp, steps)
+        let sizes = self.sizes();
+        self.work(sizes, number, bits, stamp, steps)
     }
 
     /// Puts the lists in place. It takes no memory.
@@ -366,12 +503,18 @@ impl Matches {
               (rows_after (slice_index_or self.old.rows number []) staged);
         } }
     {
-        self.lists[number as usize].put(&mut self.stage, staged);
+        put_lists(
+            self.lists.as_mut_slice(),
+            &mut self.awake,
+            self.still.as_slice(),
+            &mut self.stage,
+            number,
+            staged,
+        );
     }
 
-    /// Keeps of the nodes what the recent entries of the lists and the query's cursors need, and
-    /// forgets which lists rest; a start is recent where its clock is at least the least of `low` and
-    /// these cursors' own. The room is for as many nodes as there are. It takes no memory.
+    /// Keeps of the nodes what the recent entries of the lists and the query's cursors need; a start
+    /// is recent where its clock is at least the least of `low` and these cursors' own. The room is for as many nodes as there are. It takes no memory.
     pub fn compact<C: HasCursor, L: Ledger>(
         &mut self,
         query: u64,
@@ -401,7 +544,7 @@ impl Matches {
     {
         let lists = self.lists.as_mut_slice();
         compact(&mut self.store, query, lists, cursors, low, room, steps);
-        wake(lists);
+        self.awake = look_over(lists, self.still.as_slice());
     }
 
     /// How many states were found.

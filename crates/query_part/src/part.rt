@@ -40,10 +40,8 @@ use window_clock::{Clock, TimeBack};
 pub enum Step {
     /// It is not read.
     Unread,
-    /// It has no key. Its clock.
-    NoKey(i128),
-    /// It has a key with this number, whose lists rest, and no leaf can read it. Its clock.
-    Resting(i128, u64),
+    /// It changes no list: it has no key, or no leaf can read it and its key's lists rest. Its clock.
+    NoChange(i128),
     /// It has a key, whose lists are ready. Its clock.
     Keyed(i128),
 }
@@ -59,13 +57,10 @@ pub struct Part {
     floats: bool,
     /// For each type whether the query reads it.
     types: Vec<bool>,
-    /// The number of the one key, where the query has no partition and the key's lists are known to
-    /// rest.
-    alone: Option<u64>,
     step: Option<Step>,
     /// How many events there were when the last one had come that did not pass it by.
     upto: Pos,
-    /// The number of that event's key, where it is read and has one.
+    /// The number of that event's key, where it may have an answer.
     here: Option<u64>,
     clock: Clock,
     bits: Bits,
@@ -84,7 +79,7 @@ impl Model for Part {
     ghost use Rattle.std.specs.Coded.{codes};
     ghost use Rattle.cel_terms.specs.contracts.Formula as formula;
     ghost use Rattle.all_or_none.specs.Phases.{Phase};
-    ghost use Rattle.query_part.specs.Parts.{kept_of, ready_of, CanEnd, IsAlone, IsMade, MayFloat};
+    ghost use Rattle.query_part.specs.Parts.{kept_of, ready_of, CanEnd, IsMade, MayFloat};
 
     ghost Value = { Phase };
 
@@ -101,7 +96,6 @@ impl Model for Part {
 
     ghost invariant = { λ p. IsMade p.schema.value p.query p.types.items p.keys.items p.conditions
         p.clock.source p.bits p.matches × CanEnd p.step p.ready p.matches
-        × IsAlone p.query p.alone p.matches
         × MayFloat p.schema.value p.query p.clock.source p.types.items p.floats };
 }
 
@@ -132,7 +126,6 @@ fn joined(
         alloc,
         floats: reading.floats,
         types: reading.types,
-        alone: None,
         step: None,
         upto: 0,
         here: None,
@@ -287,10 +280,8 @@ impl Part {
         }
         if self.floats {
             self.clock.set(i128::from(count.saturating_sub(1)));
-            self.here = Some(0);
-        } else {
-            self.here = None;
         }
+        self.here = None;
         self.upto = count;
     }
 
@@ -333,20 +324,9 @@ impl Part {
         ensures steps { steps.new
             ≤ steps.old + 8 * length self.old.kept.nodes + 4 * places self.old.kept.rows }
     {
-        self.alone = None;
         self.step = None;
         let low = self.clock.low();
         self.matches.compact(number, cursors, low, room, steps);
-    }
-}
-
-/// Whether the number is told, and that of the first key.
-fn is_first(number: Option<u64>) -> bool
-    ensures { result ≡ true → number ≡ Some 0 }
-{
-    match number {
-        Some(number) => number == 0,
-        None => false,
     }
 }
 
@@ -362,16 +342,6 @@ fn known(matches: &Matches, table: &[Option<Places>], event: &Event) -> Option<u
     }
 }
 
-/// The number of a key that is found, where the query has no partition: it is the one key.
-fn alone_of(query: &Query, number: u64) -> Option<u64>
-    ensures { IfSome result (λ n. (query.now.partition ≡ []) × (n ≡ number)) }
-{
-    match query.partition.as_slice() {
-        [] => Some(number),
-        _ => None,
-    }
-}
-
 impl Keeps for Part {
     ghost phase = { λ n p. seen n p };
 
@@ -382,14 +352,14 @@ impl Keeps for Part {
         if !self.floats {
             return !is_read(self.types.as_slice(), event.ty);
         }
-        if !is_first(self.alone) {
+        if !self.matches.all_rest() {
             return false;
         }
-        if !self.conditions.read_none(event) {
-            return false;
-        }
-        let _now = self.clock.now(event, position);
-        true
+        self.conditions.read_none(event)
+    }
+
+    fn rests(&self) -> bool {
+        self.floats && self.matches.all_rest()
     }
 
     fn prepare<L: Ledger>(
@@ -404,9 +374,9 @@ impl Keeps for Part {
         }
         let clock = self.clock.now(event, position);
         self.conditions.fill(event, &mut self.bits);
-        if let Some(number) = self.alone {
+        if self.matches.all_rest() {
             if self.bits.is_empty() {
-                self.step = Some(Step::Resting(clock, number));
+                self.step = Some(Step::NoChange(clock));
                 return Ok(());
             }
         }
@@ -417,24 +387,21 @@ impl Keeps for Part {
         match known(&self.matches, self.keys.as_slice(), event) {
             Some(number) => {
                 if self.matches.resting(number, &self.bits) {
-                    self.alone = alone_of(&self.query, number);
-                    self.step = Some(Step::Resting(clock, number));
+                    self.step = Some(Step::NoChange(clock));
                     return Ok(());
                 }
                 let ready = self.matches.advance_at(number, &self.bits, stamp, steps)?;
-                self.alone = None;
                 self.ready = Some(ready);
                 self.step = Some(Step::Keyed(clock));
                 Ok(())
             }
             None => match key_of(self.alloc, self.keys.as_slice(), event)? {
                 None => {
-                    self.step = Some(Step::NoKey(clock));
+                    self.step = Some(Step::NoChange(clock));
                     Ok(())
                 }
                 Some(key) => {
                     let ready = self.matches.advance(&key, &self.bits, stamp, steps)?;
-                    self.alone = None;
                     self.ready = Some(ready);
                     self.step = Some(Step::Keyed(clock));
                     Ok(())
@@ -450,15 +417,10 @@ impl Keeps for Part {
                 self.upto = position + 1;
                 self.here = None;
             }
-            Some(Step::NoKey(now)) => {
+            Some(Step::NoChange(now)) => {
                 self.upto = position + 1;
                 self.clock.set(now);
                 self.here = None;
-            }
-            Some(Step::Resting(now, number)) => {
-                self.upto = position + 1;
-                self.clock.set(now);
-                self.here = Some(number);
             }
             Some(Step::Keyed(now)) => match self.ready.take() {
                 None => {}
@@ -466,7 +428,6 @@ impl Keeps for Part {
                     self.upto = position + 1;
                     self.clock.set(now);
                     self.here = Some(ready.number);
-                    self.alone = None;
                     self.matches.put(ready.number, ready.staged);
                 }
             },
@@ -478,8 +439,7 @@ impl Keeps for Part {
             Some(Step::Keyed(_)) => match self.ready.take() {
                 None => {}
                 Some(ready) => {
-                    self.alone = None;
-                    self.matches.cut_to(ready.marks);
+                    self.matches.cut_to(ready.sizes);
                 }
             },
             _ => {}

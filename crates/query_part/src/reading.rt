@@ -1,9 +1,10 @@
 //! Which events a query reads, and their keys.
 
-ghost use Rattle.std.specs.Prelude.{◌≡◌, ℕ, ◌<◌, ◌++◌, false, true, Some, None, option_map, option_and_then, take, drop, slice_get, slice_index_or, IfOk, length};
+ghost use Rattle.std.specs.Prelude.{◌≡◌, ℕ, ℤ, pos, ◌-ℤ◌, ◌≤ℤ◌, ◌<◌, ◌++◌, false, true, Some, None, option_map, option_and_then, take, drop, slice_get, slice_index_or, IfOk, length};
 ghost use Rattle.std.specs.Option.{option_copied};
+ghost use Rattle.window_clock.specs.Clocks.{least};
 ghost use Rattle.query_part.specs.KeyPlaces.{places_in, values_there, key_there, AreKeyPlaces};
-ghost use Rattle.query_part.specs.Parts.{IsByPosition};
+ghost use Rattle.query_part.specs.Parts.{IsByPosition, HasLows};
 
 use cel_terms::{Name, Query, Window};
 use cer_base::{Listed, Memory};
@@ -37,13 +38,22 @@ fn are_all_read(schema: &Schema, table: &[bool]) -> bool
     true
 }
 
+/// A position less the width is a number of 128 bits. The call does nothing.
+fn has_low(width: u64)
+    ensures { (p : ℕ) → least ≤ℤ (pos p -ℤ pos width) }
+{}
+
 /// Whether a clock in the window is the position.
 fn is_by_position(window: &Window) -> bool
-    ensures { result ≡ true → IsByPosition window.now }
+    ensures clock { result ≡ true → IsByPosition window.now }
+    ensures low { result ≡ true → HasLows window.now }
 {
     match window {
         Window::Free => true,
-        Window::Events(_) => true,
+        Window::Events(width) => {
+            has_low(*width);
+            true
+        }
         Window::Clock(_, _) => false,
     }
 }
@@ -51,6 +61,7 @@ fn is_by_position(window: &Window) -> bool
 /// Whether a clock in the window is the position, and each type of the schema is read.
 pub fn floats(schema: &Schema, window: &Window, table: &[bool]) -> bool
     ensures clock { result ≡ true → IsByPosition window.now }
+    ensures low { result ≡ true → HasLows window.now }
     ensures all { result ≡ true → (ty : ℕ) → ty < length schema.now.types
         → slice_index_or table.now ty false ≡ true }
 {

@@ -18,3 +18,5 @@ pub mod Grown
 pub mod PartSteps
 -- the kept states are different ones, and runs lead to each
 pub mod FoundStates
+-- whether an event has a key, and whether a key is kept
+pub mod KeyCases

@@ -1,33 +1,45 @@
 -- What is kept of a query stands for the events with one more, where it advances.
-use Rattle.std.proofs.Common.{◌≡◌, ℕ, zero, suc, ◌<◌, ◌⊎◌, inl, inr, ℤ, ◌≤ℤ◌, List, [], ◌∷◌, ◌++◌, length, refl, sym, ap, subst, ◌∙◌, All, Contains, Option, Some, None, slice_get, arith}
-use Rattle.std.specs.Prelude.{IfSome, IfNone}
+use Rattle.std.proofs.Common.{◌≡◌, ℕ, suc, ◌<◌, ◌⊎◌, inl, inr, ℤ, ◌≤ℤ◌, List, [], ◌∷◌, ◌++◌, map, length, refl, sym, ap, subst, ◌∙◌, All, Contains, Option, Some, None, slice_get, arith}
+use Rattle.std.specs.Prelude.{IfSome, IfNone, slice_index_or}
+use Rattle.std.proofs.Math.Path.{fun_ext}
 use Rattle.std.proofs.lemmas.Bool.{cases_lt, cases_eq}
 use Rattle.std.proofs.lemmas.Int.{ints}
-use Rattle.std.proofs.lemmas.Option.{slice_get_within}
+use Rattle.std.proofs.lemmas.Option.{slice_get_within, slice_get-get_or}
 use Rattle.std.proofs.lemmas.List.Elements.{All-nil, All-cons, All-head, All-tail, All-weaker, All-append, Contains-append_left, Contains-push_cases}
 use Rattle.cer_base.specs.declared.node.Stamp.{Stamp}
+use Rattle.cer_base.specs.declared.node.Root.{Root}
 use Rattle.cer_base.specs.Repeats.{HasNoRepeats}
 use Rattle.stream_schema.specs.Types.{Declared}
 use Rattle.stream_schema.specs.declared.Event.{Event}
 use Rattle.stream_schema.specs.declared.Value.{Value}
 use Rattle.cel_terms.specs.declared.Query.{Query}
-use Rattle.cel_terms.specs.Answers.{HasKey, HasClock}
+use Rattle.cel_terms.specs.Answers.{Answer, IsAnswer, HasKey, HasClock, values_at}
+use Rattle.query_leaves.specs.Expand.{tree_of}
 use Rattle.cea_determinise.specs.declared.cea.StateSets.{StateSets}
 use Rattle.cea_determinise.specs.declared.cea.Cea.{Cea}
 use Rattle.cea_determinise.specs.Cea.{standing_of}
 use Rattle.cea_determinise.specs.Cea as stored
+use Rattle.cea_determinise.specs.Det.{standing_at}
+use Rattle.cea_compile.specs.Compiled.{automaton_of}
+use Rattle.cel_plain.specs.Valuations.{AreAnswersAt}
+use Rattle.tecs_enumerate.specs.Rest.{recent_of}
 use Rattle.event_update.specs.Reach.{Seen}
-use Rattle.event_update.specs.Stands.{Stands}
-use Rattle.event_update.proofs.Before.{none_stand, stand_later}
+use Rattle.event_update.specs.Stands.{seen, Stands}
+use Rattle.event_update.specs.Still.{IsAtRest, Rest}
+use Rattle.event_update.proofs.Before.{stand_later}
+use Rattle.event_update.proofs.Resting.{resting_stand, resting_accept_none}
 use Rattle.query_standing.specs.Bounds.{IsMet}
 use Rattle.query_standing.specs.Clocks.{Reads, HasClockAt, NeverFalls, IsLastClock, low_of}
-use Rattle.query_standing.specs.Keys.{HasKeyAt, IsSeen, positions, AreSeen}
-use Rattle.query_standing.specs.Kept.{Rows, Part, low_at, KeyStands, HasStates, IsHere, HaveStarts, PartStands}
-use Rattle.query_standing.specs.Steps.{Advances, HasNoKey, HasKeyOf}
+use Rattle.query_standing.specs.Keys.{IsSeenAs, positions, IsGiven}
+use Rattle.query_standing.specs.Holding.{answer_of}
+use Rattle.query_standing.specs.Kept.{Rows, Part, low_at, KeyStands, HasStates, IsHere, HaveStarts, PartStands, roots_of}
+use Rattle.query_standing.specs.Steps.{Advances, HasNoKey, LeavesLists, HasKeyOf}
 use Rattle.query_standing.proofs.Lists.{none_in_nil, got}
-use Rattle.query_standing.proofs.Growing.{get_front, get_last, get_cases, seen_none, seen_same, seen_more, all_earlier}
+use Rattle.query_standing.proofs.KeyCases.{has_key, kept_key, at_one_place}
+use Rattle.query_standing.proofs.Roots.{entries_same, roots_give_answers}
+use Rattle.query_standing.proofs.Growing.{get_front, get_last, get_cases, seen_same, seen_more, all_earlier}
 use Rattle.query_standing.proofs.Grown.{stands_grown}
-use Rattle.query_standing.proofs.Parts.{clock_front, clock_cases, met_more, length_more}
+use Rattle.query_standing.proofs.Parts.{clock_front, clock_cases, met_more, length_more, none_after}
 use Rattle.query_standing.proofs.Windows.{clock_is_one, low_rises}
 
 module _ (schema : Declared) (q : Query) (events : List Event) (event : Event) (now : ℤ) (old new : Part) (s : PartStands schema q events old) (v : Advances schema q events event now old new) where
@@ -89,27 +101,23 @@ module _ (schema : Declared) (q : Query) (events : List Event) (event : Event) (
     | inr own ↦ subst (λ (x : Stamp). HasClockAt schema q more x.pos x.clock) (sym own) at_last
   ]
 
+  -- what stands still does in more nodes, with more states, and from the later clock on
+  grown : (xs : List Seen) (rows : Rows) → Stands old.table (low_at q old.clock) xs old.nodes rows → Stands new.table (low_at q new.clock) xs new.nodes rows
+  grown xs rows st = stand_later new.table (low_at q old.clock) (low_at q new.clock) xs new.nodes rows low_le
+      (subst (λ c. Stands (record { cea = c; states = new.table.states; classes = new.table.classes; transitions = new.table.transitions }) (low_at q old.clock) xs new.nodes rows) (sym v.extends.cea)
+      (subst (λ ps. Stands (record { cea = old.table.cea; states = ps; classes = new.table.classes; transitions = new.table.transitions }) (low_at q old.clock) xs new.nodes rows) (sym v.extends.states)
+      (subst (λ ns. Stands (record { cea = old.table.cea; states = old.table.states ++ v.extends.more_states; classes = new.table.classes; transitions = new.table.transitions }) (low_at q old.clock) xs ns rows) (sym v.extends.nodes) one)))
+    where
+      one : Stands (record { cea = old.table.cea; states = old.table.states ++ v.extends.more_states; classes = new.table.classes; transitions = new.table.transitions }) (low_at q old.clock) xs (old.nodes ++ v.extends.more_nodes) rows
+      one = stands_grown old.table.cea old.table.states v.extends.more_states old.table.classes new.table.classes old.table.transitions new.table.transitions (low_at q old.clock) xs old.nodes v.extends.more_nodes rows st
+
   -- what stands for another key still does
   other_key : (key : List Value) (rows : Rows) → (HasKey schema q event key → ⊥) → KeyStands schema q events old key rows → KeyStands schema q more new key rows
   other_key key rows other k = record {
     seen = k.seen;
     are_seen = seen_same schema q events event key k.seen k.are_seen other;
-    stands = stand_later new.table (low_at q old.clock) (low_at q new.clock) k.seen new.nodes rows low_le grown;
-  } where
-    one : Stands (record { cea = old.table.cea; states = old.table.states ++ v.extends.more_states; classes = new.table.classes; transitions = new.table.transitions }) (low_at q old.clock) k.seen (old.nodes ++ v.extends.more_nodes) rows
-    one = stands_grown old.table.cea old.table.states v.extends.more_states old.table.classes new.table.classes old.table.transitions new.table.transitions (low_at q old.clock) k.seen old.nodes v.extends.more_nodes rows k.stands
-
-    grown : Stands new.table (low_at q old.clock) k.seen new.nodes rows
-    grown =
-        subst (λ c. Stands (record { cea = c; states = new.table.states; classes = new.table.classes; transitions = new.table.transitions }) (low_at q old.clock) k.seen new.nodes rows) (sym v.extends.cea)
-        (subst (λ ps. Stands (record { cea = old.table.cea; states = ps; classes = new.table.classes; transitions = new.table.transitions }) (low_at q old.clock) k.seen new.nodes rows) (sym v.extends.states)
-        (subst (λ ns. Stands (record { cea = old.table.cea; states = old.table.states ++ v.extends.more_states; classes = new.table.classes; transitions = new.table.transitions }) (low_at q old.clock) k.seen ns rows) (sym v.extends.nodes) one))
-
-  keyed_cases : (key : List Value) (p : ℕ) → HasKeyAt schema q more key p → HasKeyAt schema q events key p ⊎ ((p ≡ length events) × HasKey schema q event key)
-  keyed_cases key p h = elim (get_cases events event p h.event h.at) [
-    | inl l ↦ inl (record { event = h.event; at = l; has = h.has })
-    | inr r ↦ inr (r.0, subst (λ e. HasKey schema q e key) (sym r.1) h.has)
-  ]
+    stands = grown k.seen rows k.stands;
+  }
 
   clock_part : IfSome new.clock (IsLastClock schema q more)
   clock_part = subst (λ c. IfSome c (IsLastClock schema q more)) (sym v.clock) last_clock
@@ -128,28 +136,92 @@ module _ (schema : Declared) (q : Query) (events : List Event) (event : Event) (
     unread = unread_part;
     keys = record {
       distinct = subst HasNoRepeats (sym h.keys) s.keys.distinct;
-      all = λ key p k. subst (λ ks. Contains ks key) (sym h.keys) (s.keys.all key p (elim (keyed_cases key p k) [ inl l ↦ l | inr r ↦ absurd (h.none key r.1) ]));
+      others = λ key fresh. other_key key [] (h.none key) (s.keys.others key (λ c. fresh (subst (λ ks. Contains ks key) (sym h.keys) c)));
       lists = ap length h.rows ∙ (s.keys.lists ∙ ap length (sym h.keys));
     };
-    here = subst (IsHere schema q more new.keys) (sym h.here) nobody;
+    here = subst (IsHere schema q more new.keys) (sym h.here) (none_after schema q events event h.none);
     each = λ n key rows at lists. other_key key rows (h.none key) (s.each n key rows (subst (λ ks. slice_get ks n ≡ Some key) h.keys at) (subst (λ rs. slice_get rs n ≡ Some rows) h.rows lists));
-  } where
-    nobody : IsHere schema q more new.keys None
-    nobody key p ends k = elim (keyed_cases key p k) [
-      | inl l ↦ let i = slice_get_within events p l.event l.at in let m = length_more events event in absurd (omega arith)
-      | inr r ↦ absurd (h.none key r.1)
-    ]
+  }
 
   -- two keys of one event are one
   one_key : (k l : List Value) → HasKey schema q event k → HasKey schema q event l → k ≡ l
   one_key k l a b = let both = sym a.1 ∙ b.1 in cc
 
-  at_one_place : (ks : List (List Value)) (i j : ℕ) (k : List Value) → HasNoRepeats ks → slice_get ks i ≡ Some k → slice_get ks j ≡ Some k → i ≡ j
-  at_one_place [] i j k d e f = absurd cc
-  at_one_place (x ∷ xs) zero zero k d e f = refl
-  at_one_place (x ∷ xs) zero (suc j) k d e f = let same : x ≡ k = cc in absurd (d.0 (subst (Contains xs) (sym same) (got xs j k f)))
-  at_one_place (x ∷ xs) (suc i) zero k d e f = let same : x ≡ k = cc in absurd (d.0 (subst (Contains xs) (sym same) (got xs i k e)))
-  at_one_place (x ∷ xs) (suc i) (suc j) k d e f = ap suc (at_one_place xs i j k d.1 e f)
+  all_below : (xs : List Seen) → All (λ p. p < length events) (positions xs) → All (λ (x : Seen). x.stamp.pos < length events) xs
+  all_below [] a = All-nil (λ (x : Seen). x.stamp.pos < length events)
+  all_below (x ∷ xs) a = All-cons (λ (x : Seen). x.stamp.pos < length events) x xs (All-head (λ p. p < length events) x.stamp.pos (positions xs) a) (all_below xs (All-tail (λ p. p < length events) x.stamp.pos (positions xs) a))
+
+  -- An event that no leaf can read leaves lists that rest, and lists of other keys, as they are.
+  pub part_resting : LeavesLists schema q event old new → PartStands schema q more new
+  part_resting h = record {
+    states = states;
+    nodes = v.well_formed;
+    starts = starts;
+    never_falls = never_falls;
+    clock = clock_part;
+    unread = unread_part;
+    keys = record {
+      distinct = subst HasNoRepeats (sym h.keys) s.keys.distinct;
+      others = λ key fresh. after key [] (λ has. All-nil (λ (r : ℕ × List Root). IsAtRest old.table r.0)) (s.keys.others key (λ c. fresh (subst (λ ks. Contains ks key) (sym h.keys) c)));
+      lists = ap length h.rows ∙ (s.keys.lists ∙ ap length (sym h.keys));
+    };
+    here = subst (IsHere schema q more new.keys) (sym h.here) (λ end answer ends is. (let l = length_more events event in no_answers end answer (omega arith) is));
+    each = λ n key rows at lists. (
+        let was = subst (λ ks. slice_get ks n ≡ Some key) h.keys at in
+        let were = subst (λ rs. slice_get rs n ≡ Some rows) h.rows lists in
+        after key rows (λ has. h.rests key n rows has was were) (s.each n key rows was were)
+        );
+  } where
+    stamp : Stamp
+    stamp = record { pos = length events; clock = now }
+
+    tells : IsSeenAs schema q event (seen stamp [])
+    tells = record { clock = v.now_is; bits = fun_ext (λ k. sym (h.unread k)) }
+
+    own : (key : List Value) (rows : Rows) → HasKey schema q event key → Rest old.table rows → KeyStands schema q events old key rows → KeyStands schema q more new key rows
+    own key rows has rest k = record {
+      seen = k.seen ++ seen stamp [] ∷ [];
+      are_seen = seen_more schema q events event key k.seen (seen stamp []) k.are_seen has refl tells;
+      stands = grown (k.seen ++ seen stamp [] ∷ []) rows (resting_stand old.table (low_at q old.clock) k.seen stamp [] old.nodes rows (λ n. refl) rest (all_below k.seen (all_earlier schema q events key k.seen k.are_seen)) k.stands);
+    }
+
+    after : (key : List Value) (rows : Rows) → (HasKey schema q event key → Rest old.table rows) → KeyStands schema q events old key rows → KeyStands schema q more new key rows
+    after key rows rest k = elim (has_key schema q event key v.reads) [
+      | inl has ↦ own key rows has (rest has) k
+      | inr other ↦ other_key key rows other k
+    ]
+
+    -- lists that rest have no entry of an accepting state
+    none_at : (key : List Value) (rows : Rows) → HasKey schema q event key → Rest old.table rows → KeyStands schema q events old key rows → (end : ℕ) (answer : Answer) → end ≡ length events → IsAnswer schema q more end answer → ⊥
+    none_at key rows has rest k end answer ends is =
+        let stand = own key rows has rest k in
+        let at_end : slice_get more end ≡ Some event = subst (λ i. slice_get more i ≡ Some event) (sym ends) (get_last events event) in
+        let l = length_more events event in
+        let given : IsGiven schema q more end key now stand.seen = record { seen = stand.are_seen; last = event; last_is = at_end; has = has; clock = subst (λ i. HasClock schema q.window event i now) (sym ends) v.now_is; ends = omega arith } in
+        let rested : Rest new.table rows = subst (λ t. Rest t rows) (sym h.table) rest in
+        let none : roots_of (automaton_of (tree_of q)) (standing_at new.table.states) rows ≡ [] = ap (λ a. roots_of a (standing_at new.table.states) rows) (sym states.automaton) ∙ (sym (entries_same new.table rows) ∙ resting_accept_none new.table rows rested) in
+        let answers = roots_give_answers schema q more end key now stand.seen given new.table (low_at q new.clock) new.nodes rows (ap (low_at q) v.clock) states.automaton states.strict stand.stands in
+        let nothing = subst (λ rs. AreAnswersAt schema q more end (map answer_of (recent_of (low_at q new.clock) new.nodes rs))) none answers in
+        none_in_nil answer (nothing.all answer is)
+
+    no_answers : (end : ℕ) (answer : Answer) → end ≡ length events → IsAnswer schema q more end answer → ⊥
+    no_answers end answer ends is = go (values_at schema q.partition event) refl
+      where
+        go : (o : Option (List Value)) → values_at schema q.partition event ≡ o → ⊥
+        go None e =
+            let l = length_more events event in
+            none_after schema q events event (λ key has. (let both = sym e ∙ has.1 in absurd cc)) end answer (omega arith) is
+        go (Some key) e = elim (kept_key key old.keys) [
+          | inl there ↦ (
+              let inside = slice_get_within old.keys there.0 key there.1 in
+              let count = s.keys.lists in
+              let within : there.0 < length old.rows = omega arith in
+              let at = slice_get-get_or old.rows there.0 [] within in
+              let rows = slice_index_or old.rows there.0 [] in
+              none_at key rows (v.reads, e) (h.rests key there.0 rows (v.reads, e) there.1 at) (s.each there.0 key rows there.1 at) end answer ends is
+              )
+          | inr fresh ↦ none_at key [] (v.reads, e) (All-nil (λ (r : ℕ × List Root). IsAtRest old.table r.0)) (s.keys.others key fresh) end answer ends is
+        ]
 
   -- An event with a known key changes the lists of that key alone, which then stand for one event more.
   pub part_keyed : HasKeyOf schema q events event now old new → PartStands schema q more new
@@ -162,7 +234,10 @@ module _ (schema : Declared) (q : Query) (events : List Event) (event : Event) (
     unread = unread_part;
     keys = record {
       distinct = subst HasNoRepeats (sym h.keys) s.keys.distinct;
-      all = λ key p k. subst (λ ks. Contains ks key) (sym h.keys) (elim (keyed_cases key p k) [ inl l ↦ s.keys.all key p l | inr r ↦ subst (Contains old.keys) (one_key h.key key h.has r.1) (got old.keys h.number h.key h.numbered) ]);
+      others = λ key fresh. (
+          let new_to : Contains old.keys key → ⊥ = λ c. fresh (subst (λ ks. Contains ks key) (sym h.keys) c) in
+          other_key key [] (λ has. new_to (subst (Contains old.keys) (one_key h.key key h.has has) (got old.keys h.number h.key h.numbered))) (s.keys.others key new_to)
+          );
       lists = h.count ∙ (s.keys.lists ∙ ap length (sym h.keys));
     };
     here = subst (IsHere schema q more new.keys) (sym h.here) (h.key, length events, sym (length_more events event), record { event = event; at = get_last events event; has = h.has }, subst (λ ks. slice_get ks h.number ≡ Some h.key) (sym h.keys) h.numbered);
@@ -177,10 +252,6 @@ module _ (schema : Declared) (q : Query) (events : List Event) (event : Event) (
           are_seen = seen_more schema q events event h.key k.seen h.seen k.are_seen h.has (ap (λ (x : Stamp). x.pos) h.stamp) h.tells;
           stands = stand_later new.table (low_at q old.clock) (low_at q new.clock) (k.seen ++ h.seen ∷ []) new.nodes rows low_le (subst (λ rs. Stands new.table (low_at q old.clock) (k.seen ++ h.seen ∷ []) new.nodes rs) is (h.stands k.seen before k.stands));
         }
-      where
-        all_below : (xs : List Seen) → All (λ p. p < length events) (positions xs) → All (λ (x : Seen). x.stamp.pos < length events) xs
-        all_below [] a = All-nil (λ (x : Seen). x.stamp.pos < length events)
-        all_below (x ∷ xs) a = All-cons (λ (x : Seen). x.stamp.pos < length events) x xs (All-head (λ p. p < length events) x.stamp.pos (positions xs) a) (all_below xs (All-tail (λ p. p < length events) x.stamp.pos (positions xs) a))
 
     each : (n : ℕ) (key : List Value) (rows : Rows) → slice_get old.keys n ≡ Some key → slice_get new.rows n ≡ Some rows → KeyStands schema q more new key rows
     each n key rows at lists = elim (cases_eq n h.number) [
@@ -192,7 +263,7 @@ module _ (schema : Declared) (q : Query) (events : List Event) (event : Event) (
           other_key key rows others (s.each n key rows at (sym (h.others n apart) ∙ lists))
     ]
 
--- A key that no event has may be put in, last and with no list.
+-- A key that is not kept may be put in, last and with no list.
 pub part_with_key : (schema : Declared) (q : Query) (events : List Event) (part : Part) (key : List Value) → PartStands schema q events part → (Contains part.keys key → ⊥) → PartStands schema q events (record part { keys = part.keys ++ key ∷ []; rows = part.rows ++ [] ∷ [] })
 part_with_key schema q events part key s fresh = record {
   states = s.states;
@@ -203,7 +274,7 @@ part_with_key schema q events part key s fresh = record {
   unread = s.unread;
   keys = record {
     distinct = distinct part.keys s.keys.distinct fresh;
-    all = λ k p h. Contains-append_left part.keys (key ∷ []) k (s.keys.all k p h);
+    others = λ k apart. moved k [] (s.keys.others k (λ c. apart (Contains-append_left part.keys (key ∷ []) k c)));
     lists = let a = length_more part.rows [] in let b = length_more part.keys key in let c = s.keys.lists in omega arith;
   };
   here = here part.here s.here;
@@ -238,8 +309,5 @@ part_with_key schema q events part key s fresh = record {
   no_list : (n : ℕ) (rows : Rows) → n ≡ length part.rows → slice_get (part.rows ++ [] ∷ []) n ≡ Some rows → KeyStands schema q events (record part { keys = part.keys ++ key ∷ []; rows = part.rows ++ [] ∷ [] }) key rows
   no_list n rows e at = elim (get_cases part.rows [] n rows at) [
     | inl l ↦ let i = slice_get_within part.rows n rows l in absurd (omega arith)
-    | inr r ↦ subst (λ z. KeyStands schema q events (record part { keys = part.keys ++ key ∷ []; rows = part.rows ++ [] ∷ [] }) key z) r.1 (record { seen = []; are_seen = unseen; stands = none_stand part.table (low_at q part.clock) part.nodes })
+    | inr r ↦ subst (λ z. KeyStands schema q events (record part { keys = part.keys ++ key ∷ []; rows = part.rows ++ [] ∷ [] }) key z) r.1 (moved key [] (s.keys.others key fresh))
   ]
-    where
-      unseen : AreSeen schema q events key []
-      unseen = record { ascending = (seen_none schema q key).ascending; exact = λ p. ((λ c. absurd (none_in_nil p c)), (λ h. absurd (fresh (s.keys.all key p h)))); seen = All-nil (IsSeen schema q events) }

@@ -1,5 +1,5 @@
 -- What is kept of one query as events come, and what a cursor that is opened on it gives.
-use Rattle.std.proofs.Common.{◌≡◌, All, ◌-◌, ℕ, zero, suc, ◌+◌, ◌<◌, ◌⊎◌, inl, inr, ℤ, List, [], ◌∷◌, ◌++◌, map, length, refl, sym, ap, subst, ◌∙◌, Option, Some, None, slice_get, slice_index_or, append_assoc, arith}
+use Rattle.std.proofs.Common.{◌≡◌, All, ◌-◌, ℕ, suc, ◌+◌, ◌<◌, ◌⊎◌, inl, inr, ℤ, List, [], ◌∷◌, ◌++◌, map, length, refl, sym, ap, subst, ◌∙◌, Option, Some, None, slice_get, slice_index_or, append_assoc, arith}
 use Rattle.std.specs.Prelude.{IfSome, IfNone}
 use Rattle.std.proofs.lemmas.Bool.{cases_lt}
 use Rattle.std.proofs.lemmas.Option.{slice_get_within, slice_get-get_or}
@@ -8,7 +8,7 @@ use Rattle.stream_schema.specs.Types.{Declared}
 use Rattle.stream_schema.specs.declared.Event.{Event}
 use Rattle.stream_schema.specs.declared.Value.{Value}
 use Rattle.cel_terms.specs.declared.Query.{Query}
-use Rattle.cel_terms.specs.Answers.{Answer, IsAnswer, HasClock}
+use Rattle.cel_terms.specs.Answers.{Answer, IsAnswer, HasKey, HasClock}
 use Rattle.query_leaves.specs.Expand.{tree_of}
 use Rattle.cea_determinise.specs.declared.cea.StateSets.{StateSets}
 use Rattle.cea_determinise.specs.Strict.{Standing}
@@ -22,16 +22,11 @@ use Rattle.query_standing.specs.Bounds.{IsMet}
 use Rattle.query_standing.specs.Clocks.{Reads, HasClockAt, IsLastClock}
 use Rattle.query_standing.specs.Keys.{HasKeyAt, IsGiven}
 use Rattle.query_standing.specs.Holding.{answer_of}
-use Rattle.query_standing.specs.Kept.{Part, low_at, HasStates, IsHere, PartStands, roots_of, roots_for, roots_at, KeptState, KeptStands, nodes_at, kept_rest}
+use Rattle.query_standing.specs.Kept.{Rows, Part, low_at, KeyStands, HasStates, IsHere, PartStands, roots_of, roots_for, roots_at, KeptState, KeptStands, nodes_at, kept_rest}
 use Rattle.query_standing.proofs.Lists.{none_in_nil}
 use Rattle.query_standing.proofs.Link.{no_answer}
 use Rattle.query_standing.proofs.Roots.{roots_give_answers}
-use Rattle.query_standing.proofs.Growing.{get_front, get_cases, seen_same}
-
-some_at : {X : Type 0} (xs : List X) (i : ℕ) → i < length xs → (x : X) × (slice_get xs i ≡ Some x)
-some_at [] i l = absurd (omega arith)
-some_at (x ∷ xs) zero l = (x, refl)
-some_at (x ∷ xs) (suc i) l = some_at xs i (omega arith)
+use Rattle.query_standing.proofs.Growing.{get_front, get_last, get_cases, seen_same}
 
 -- the last read event is the last of all where that is read
 clock_is_now : (schema : Declared) (q : Query) (events : List Event) (end : ℕ) (last : Event) (now : ℤ) → suc end ≡ length events → slice_get events end ≡ Some last → Reads schema q last → IsLastClock schema q events now → HasClock schema q.window last end now
@@ -48,9 +43,6 @@ none_given schema q events end none = record { each = λ a c. absurd (none_in_ni
 pub part_gives : (schema : Declared) (q : Query) (events : List Event) (end : ℕ) (part : Part) → suc end ≡ length events → PartStands schema q events part → AreAnswersAt schema q events end (map answer_of (recent_of (low_at q part.clock) part.nodes (roots_at q part)))
 part_gives schema q events end part ends s = at_here part.here refl s.here
   where
-    last : (event : Event) × (slice_get events end ≡ Some event)
-    last = some_at events end (omega arith)
-
     given_low : (n : ℕ) (key : List Value) (p : ℕ) (h : HasKeyAt schema q events key p) → p ≡ end → slice_get part.keys n ≡ Some key → (c : Option ℤ) → part.clock ≡ c → IfSome c (IsLastClock schema q events) → IfNone c ((p : ℕ) (event : Event) → slice_get events p ≡ Some event → Reads schema q event → ⊥) → AreAnswersAt schema q events end (map answer_of (recent_of (low_at q part.clock) part.nodes (roots_of (automaton_of (tree_of q)) (standing_at part.table.states) (slice_index_or part.rows n []))))
     given_low n key p h here at None e some none = absurd (none p h.event h.at h.has.0)
     given_low n key p h here at (Some now) e some none =
@@ -66,8 +58,7 @@ part_gives schema q events end part ends s = at_here part.here refl s.here
     at_here : (o : Option ℕ) → part.here ≡ o → IsHere schema q events part.keys part.here → AreAnswersAt schema q events end (map answer_of (recent_of (low_at q part.clock) part.nodes (roots_at q part)))
     at_here None e is =
         let none : IsHere schema q events part.keys None = subst (IsHere schema q events part.keys) e is in
-        let empty : (answer : Answer) → IsAnswer schema q events end answer → ⊥ = no_answer schema q events end last.0 last.1 (λ key has. none key end (omega arith) (record { event = last.0; at = last.1; has = has })) in
-        subst (λ o. AreAnswersAt schema q events end (map answer_of (recent_of (low_at q part.clock) part.nodes (roots_for q part o)))) (sym e) (none_given schema q events end empty)
+        subst (λ o. AreAnswersAt schema q events end (map answer_of (recent_of (low_at q part.clock) part.nodes (roots_for q part o)))) (sym e) (none_given schema q events end (λ answer is. none end answer (omega arith) is))
     at_here (Some n) e is =
         let some : IsHere schema q events part.keys (Some n) = subst (IsHere schema q events part.keys) e is in
         let p_is = some.2 in
@@ -111,6 +102,13 @@ pub length_more : {X : Type 0} (xs : List X) (x : X) → length (xs ++ x ∷ [])
 length_more [] x = refl
 length_more (y ∷ ys) x = let rest = length_more ys x in omega arith
 
+-- an event without a key has no answer
+pub none_after : (schema : Declared) (q : Query) (events : List Event) (event : Event) → ((key : List Value) → HasKey schema q event key → ⊥) → (end : ℕ) (answer : Answer) → end + 1 ≡ length (events ++ event ∷ []) → IsAnswer schema q (events ++ event ∷ []) end answer → ⊥
+none_after schema q events event none end answer ends is =
+    let l = length_more events event in
+    let here : length events ≡ end = omega arith in
+    no_answer schema q (events ++ event ∷ []) end event (subst (λ k. slice_get (events ++ event ∷ []) k ≡ Some event) here (get_last events event)) none answer is
+
 -- An event that the query does not read, blank ones among them, changes nothing but that no key is the last one's.
 pub part_unread : (schema : Declared) (q : Query) (events : List Event) (event : Event) (part : Part) → PartStands schema q events part → (Reads schema q event → ⊥) → PartStands schema q (events ++ event ∷ []) (record part { here = None })
 part_unread schema q events event part s unread = record {
@@ -120,18 +118,15 @@ part_unread schema q events event part s unread = record {
   never_falls = λ i j b n le hb hn. s.never_falls i j b n le (old i b hb) (old j n hn);
   clock = last part.clock s.clock;
   unread = none part.clock s.unread;
-  keys = record { distinct = s.keys.distinct; all = λ key p h. s.keys.all key p (old_key key p h); lists = s.keys.lists };
-  here = λ key p ends h. (let l = length_more events event in let k = old_key key p h in let inside = slice_get_within events p k.event k.at in absurd (omega arith));
-  each = λ n key rows at lists. (let k = s.each n key rows at lists in record { seen = k.seen; are_seen = seen_same schema q events event key k.seen k.are_seen (λ has. unread has.0); stands = k.stands });
+  keys = record { distinct = s.keys.distinct; others = λ key fresh. stays key [] (s.keys.others key fresh); lists = s.keys.lists };
+  here = none_after schema q events event (λ key has. unread has.0);
+  each = λ n key rows at lists. stays key rows (s.each n key rows at lists);
 } where
+  stays : (key : List Value) (rows : Rows) → KeyStands schema q events part key rows → KeyStands schema q (events ++ event ∷ []) (record part { here = None }) key rows
+  stays key rows k = record { seen = k.seen; are_seen = seen_same schema q events event key k.seen k.are_seen (λ has. unread has.0); stands = k.stands }
+
   old : (p : ℕ) (c : ℤ) → HasClockAt schema q (events ++ event ∷ []) p c → HasClockAt schema q events p c
   old p c h = elim (clock_cases schema q events event p c h) [ inl l ↦ l | inr r ↦ absurd (unread r.1) ]
-
-  old_key : (key : List Value) (p : ℕ) → HasKeyAt schema q (events ++ event ∷ []) key p → HasKeyAt schema q events key p
-  old_key key p h = elim (get_cases events event p h.event h.at) [
-    | inl l ↦ record { event = h.event; at = l; has = h.has }
-    | inr r ↦ absurd (unread (subst (Reads schema q) (sym r.1) h.has.0))
-  ]
 
   last : (c : Option ℤ) → IfSome c (IsLastClock schema q events) → IfSome c (IsLastClock schema q (events ++ event ∷ []))
   last None l = tt

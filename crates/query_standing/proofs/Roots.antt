@@ -1,6 +1,7 @@
 -- A cursor on the entries of accepting states' lists gives the answers.
 use Rattle.std.proofs.Common.{◌≡◌, ℕ, ℤ, Bool, true, false, List, [], ◌∷◌, ◌++◌, map, refl, sym, ap, subst, ◌∙◌}
-use Rattle.std.specs.Prelude.{int_le}
+use Rattle.std.specs.Prelude.{int_le, cond, if◌then◌else◌}
+use Rattle.std.specs.List.{flat_map}
 use Rattle.std.proofs.lemmas.Grind.{flat_map-append}
 use Rattle.std.proofs.lemmas.List.Elements.{filter-append}
 use Rattle.cer_base.specs.declared.node.Root.{Root}
@@ -22,11 +23,24 @@ use Rattle.tecs_enumerate.specs.Rest.{recent_of}
 use Rattle.union_lists.specs.Lists.{members_of}
 use Rattle.event_update.specs.Reach.{Seen, all_of}
 use Rattle.event_update.specs.Stands.{Stands, member_rows}
+use Rattle.event_update.specs.Update.{accepted_entries}
 use Rattle.query_standing.specs.Clocks.{low_of}
 use Rattle.query_standing.specs.Holding.{Holds, accepting, answer_of}
 use Rattle.query_standing.specs.Kept.{Rows, roots_of}
 use Rattle.query_standing.specs.Keys.{IsGiven}
 use Rattle.query_standing.proofs.Link.{are_answers}
+
+-- the entries of the accepting states, gathered in either way
+pub entries_same : (t : Table) (rows : Rows) → accepted_entries t rows ≡ roots_of (stored.automaton_of_cea t.cea) (standing_at t.states) rows
+entries_same t [] = refl
+entries_same t (r ∷ rows) = go (accepts (stored.automaton_of_cea t.cea) (standing_at t.states r.0).sets) (entries_same t rows)
+  where
+    others : Rows
+    others = accepting (stored.automaton_of_cea t.cea) (standing_at t.states) rows
+
+    go : (b : Bool) → accepted_entries t rows ≡ flat_map (λ (r : ℕ × List Root). r.1) others → (if b then r.1 else []) ++ accepted_entries t rows ≡ flat_map (λ (r : ℕ × List Root). r.1) (cond b (r ∷ others) others)
+    go true same = ap (λ z. r.1 ++ z) same
+    go false same = same
 
 abbrev recent_at : ℤ → List Node → Root → List Member
 recent_at low nodes r = recent low (members (tree nodes r.id))

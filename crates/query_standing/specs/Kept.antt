@@ -6,6 +6,7 @@ use Rattle.stream_schema.specs.Types.{Declared}
 use Rattle.stream_schema.specs.declared.Event.{Event}
 use Rattle.stream_schema.specs.declared.Value.{Value}
 use Rattle.cel_terms.specs.declared.Query.{Query}
+use Rattle.cel_terms.specs.Answers.{Answer, IsAnswer}
 use Rattle.query_leaves.specs.Expand.{tree_of}
 use Rattle.cer_base.specs.declared.node.Stamp.{Stamp}
 use Rattle.cer_base.specs.declared.node.Root.{Root}
@@ -35,7 +36,7 @@ use Rattle.query_standing.specs.Holding.{accepting}
 abbrev pub Rows : Type 0
 Rows = List (ℕ × List Root)
 
--- What is kept of one query: its states, its nodes, its keys in the order in which they came with the lists of each, the clock of the last event that it reads, and the number of the key of the last event of all.
+-- What is kept of one query: its states, its nodes, its keys in the order in which they came with the lists of each, the clock of the last event that it reads, and the number of the key of the last event of all, where that may have an answer.
 pub record Part : Type 0 where
   pub table : Table
   pub nodes : List Node
@@ -63,15 +64,15 @@ pub record HasStates (schema : Declared) (q : Query) (events : List Event) (t : 
   pub distinct : IsDistinct are_same_sets t.states
   pub met : All (λ p. IsMet schema q events (standing_of p)) t.states
 
--- Each key of an event is kept once, and none else.
+-- No key is kept twice, and one that is not kept stands with no list: what its events say leaves no match open.
 pub record HasKeys (schema : Declared) (q : Query) (events : List Event) (part : Part) : Type 0 where
   pub distinct : HasNoRepeats part.keys
-  pub all : (key : List Value) (p : ℕ) → HasKeyAt schema q events key p → Contains part.keys key
+  pub others : (key : List Value) → (Contains part.keys key → ⊥) → KeyStands schema q events part key []
   pub lists : length part.rows ≡ length part.keys
 
--- the number of the last event's key, where it has one
+-- the number of the last event's key; where none is told, there is no answer at that event
 abbrev pub IsHere : Declared → Query → List Event → List (List Value) → Option ℕ → Type 0
-IsHere schema q events keys None = (key : List Value) (p : ℕ) → p + 1 ≡ length events → HasKeyAt schema q events key p → ⊥
+IsHere schema q events keys None = (end : ℕ) (answer : Answer) → end + 1 ≡ length events → IsAnswer schema q events end answer → ⊥
 IsHere schema q events keys (Some n) = (key : List Value) × (p : ℕ) × (p + 1 ≡ length events) × HasKeyAt schema q events key p × (slice_get keys n ≡ Some key)
 
 -- every start in the nodes is an event that the query reads, with its clock

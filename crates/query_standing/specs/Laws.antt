@@ -22,7 +22,7 @@ use Rattle.query_standing.specs.Clocks.{Reads, HasClockAt, NeverFalls, low_of}
 use Rattle.query_standing.specs.Keys.{AreSeen, IsSeenAs, IsGiven}
 use Rattle.query_standing.specs.Holding.{Holds, answer_of, answers_in, dropped}
 use Rattle.query_standing.specs.Kept.{Rows, Part, low_at, PartStands, roots_of, roots_at, KeptState, KeptStands, kept_rest}
-use Rattle.query_standing.specs.Steps.{Advances, HasNoKey, HasKeyOf}
+use Rattle.query_standing.specs.Steps.{Advances, HasNoKey, LeavesLists, HasKeyOf}
 
 -- Where the lists of a key hold what its events say, the recent members of accepting states are exactly the answers at the key's last event, each once.
 abbrev pub HeldAreAnswers : Type 0
@@ -83,7 +83,7 @@ KeptEngineGivesAnswers = (engine : KeptState) (events : List Event) (end query :
     KeptStands engine events → suc end ≡ length events → slice_get engine.queries (query - 1) ≡ Some q → slice_get engine.parts (query - 1) ≡ Some part → w.query ≡ query →
     rest w part.nodes ≡ recent_of (low_at q part.clock) part.nodes (roots_at q part) → AreAnswersAt engine.schema q events end (map answer_of (kept_rest engine w))
 
--- It stands for one event more: where the event is not read, where it has no key, and where it has a known key.
+-- It stands for one event more: where the event is not read, where it has no key, where it leaves the lists of its key as they are, and where it has a known key.
 abbrev pub KeptPassesUnread : Type 0
 KeptPassesUnread = (schema : Declared) (q : Query) (events : List Event) (event : Event) (part : Part) →
     PartStands schema q events part → (Reads schema q event → ⊥) → PartStands schema q (events ++ event ∷ []) (record part { here = None })
@@ -97,11 +97,15 @@ abbrev pub KeptPassesWithoutKey : Type 0
 KeptPassesWithoutKey = (schema : Declared) (q : Query) (events : List Event) (event : Event) (now : ℤ) (old new : Part) →
     PartStands schema q events old → Advances schema q events event now old new → HasNoKey schema q event old new → PartStands schema q (events ++ event ∷ []) new
 
+abbrev pub KeptPassesResting : Type 0
+KeptPassesResting = (schema : Declared) (q : Query) (events : List Event) (event : Event) (now : ℤ) (old new : Part) →
+    PartStands schema q events old → Advances schema q events event now old new → LeavesLists schema q event old new → PartStands schema q (events ++ event ∷ []) new
+
 abbrev pub KeptAdvances : Type 0
 KeptAdvances = (schema : Declared) (q : Query) (events : List Event) (event : Event) (now : ℤ) (old new : Part) →
     PartStands schema q events old → Advances schema q events event now old new → HasKeyOf schema q events event now old new → PartStands schema q (events ++ event ∷ []) new
 
--- A key that no event has may be put in with no list, before the event comes.
+-- A key that is not kept may be put in with no list, before the event comes.
 abbrev pub KeptTakesAKey : Type 0
 KeptTakesAKey = (schema : Declared) (q : Query) (events : List Event) (part : Part) (key : List Value) →
     PartStands schema q events part → (Contains part.keys key → ⊥) → PartStands schema q events (record part { keys = part.keys ++ key ∷ []; rows = part.rows ++ [] ∷ [] })

@@ -1,5 +1,5 @@
 -- What happens to what is kept of a query when an event comes that it reads.
-use Rattle.std.specs.Prelude.{◌≡◌, ◌≢◌, ℕ, ◌⊎◌, ◌<◌, ℤ, ◌≤ℤ◌, List, [], ◌∷◌, ◌++◌, length, All, Contains, Some, None, slice_get, IfSome}
+use Rattle.std.specs.Prelude.{◌≡◌, ◌≢◌, ℕ, ◌⊎◌, ◌<◌, ℤ, ◌≤ℤ◌, false, List, [], ◌∷◌, ◌++◌, length, All, Contains, Some, None, slice_get, IfSome}
 use Rattle.std.specs.List.{IsDistinct}
 use Rattle.stream_schema.specs.Types.{Declared}
 use Rattle.stream_schema.specs.declared.Event.{Event}
@@ -13,9 +13,10 @@ use Rattle.cea_determinise.specs.Cea.{standing_of, HasLeavesBelow}
 use Rattle.cea_determinise.specs.Keys.{are_same_sets}
 use Rattle.event_update.specs.Reach.{Seen}
 use Rattle.event_update.specs.Stands.{Stands}
+use Rattle.event_update.specs.Still.{Rest}
 use Rattle.query_standing.specs.Bounds.{IsMet}
 use Rattle.query_standing.specs.Clocks.{Reads, least, low_of}
-use Rattle.query_standing.specs.Keys.{IsSeenAs}
+use Rattle.query_standing.specs.Keys.{leaves_reading, IsSeenAs}
 use Rattle.query_standing.specs.Kept.{Rows, Part, low_at, Extends}
 
 -- The event is read, its clock does not fall, and the low clock is a number of 128 bits; states and nodes are added, and no start but the event's own.
@@ -35,6 +36,15 @@ pub record Advances (schema : Declared) (q : Query) (events : List Event) (event
 -- the event has no key: no list changes
 pub record HasNoKey (schema : Declared) (q : Query) (event : Event) (old new : Part) : Type 0 where
   pub none : (key : List Value) → HasKey schema q event key → ⊥
+  pub keys : new.keys ≡ old.keys
+  pub rows : new.rows ≡ old.rows
+  pub here : new.here ≡ None
+
+-- No leaf can read the event, and the lists of its key rest, where that is kept: no list changes, and there is no answer.
+pub record LeavesLists (schema : Declared) (q : Query) (event : Event) (old new : Part) : Type 0 where
+  pub unread : (k : ℕ) → leaves_reading schema q event k ≡ false
+  pub rests : (key : List Value) (number : ℕ) (rows : Rows) → HasKey schema q event key → slice_get old.keys number ≡ Some key → slice_get old.rows number ≡ Some rows → Rest old.table rows
+  pub table : new.table ≡ old.table
   pub keys : new.keys ≡ old.keys
   pub rows : new.rows ≡ old.rows
   pub here : new.here ≡ None

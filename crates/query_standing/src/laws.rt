@@ -1,7 +1,7 @@
 //! Laws that tie what the engine keeps to the answers of a query. Each function does nothing; its
 //! contract is the law.
 
-ghost use Rattle.query_standing.specs.Laws.{HeldAreAnswers, NodesGiveAnswers, NoKeyNoAnswer, OthersLeaveAKey, OneOfAKeyComesLast, LowNeverFalls, HoldsLater, HoldsWithoutDropped, LaterAnswersStartLate, KeptGivesAnswers, KeptEngineGivesAnswers, KeptPassesUnread, KeptSkips, KeptPassesWithoutKey, KeptAdvances, KeptTakesAKey, StatesAreMet};
+ghost use Rattle.query_standing.specs.Laws.{HeldAreAnswers, NodesGiveAnswers, NoKeyNoAnswer, OthersLeaveAKey, OneOfAKeyComesLast, LowNeverFalls, HoldsLater, HoldsWithoutDropped, LaterAnswersStartLate, KeptGivesAnswers, KeptEngineGivesAnswers, KeptPassesUnread, KeptSkips, KeptPassesWithoutKey, KeptPassesResting, KeptAdvances, KeptTakesAKey, StatesAreMet};
 
 /// The recent open matches of accepting states are exactly the answers at the last event of their
 /// key, each once; over nodes, a cursor on their entries gives exactly these.
@@ -37,6 +37,7 @@ pub fn kept_stands()
     ensures unread { KeptPassesUnread }
     ensures skips { KeptSkips }
     ensures no_key { KeptPassesWithoutKey }
+    ensures resting { KeptPassesResting }
     ensures keyed { KeptAdvances }
     ensures new_key { KeptTakesAKey }
     ensures states { StatesAreMet }

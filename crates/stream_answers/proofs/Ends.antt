@@ -1,5 +1,5 @@
 -- How a run ends.
-use Rattle.std.proofs.Common.{◌≡◌, ℕ, ◌⊎◌, List, [], ◌∷◌, ◌++◌, length, Option, Some, None, Result, Ok, Err, inl, inr, refl, sym, ◌∙◌, ap, subst, append_assoc}
+use Rattle.std.proofs.Common.{◌≡◌, ℕ, ◌+◌, ◌≤◌, ◌⊎◌, Bool, List, [], ◌∷◌, ◌++◌, length, Option, Some, None, Result, Ok, Err, inl, inr, refl, sym, ◌∙◌, ap, subst, append_assoc, length-append, arith}
 use Rattle.std.specs.Prelude.{OnOk}
 use Rattle.std.proofs.lemmas.List.{append-nil}
 use Rattle.cer_base.specs.declared.OrMemory.{OrMemory}
@@ -7,7 +7,7 @@ use Rattle.cer_base.specs.declared.OrMemory.TheVariants.{Fault, Memory}
 use Rattle.stream_schema.specs.declared.Event.{Event as StreamEvent}
 use Rattle.cer_outside.specs.Causes.{Rose}
 use Rattle.cer_outside.specs.Bytes.{TookAll, TookPart}
-use Rattle.answer_text.specs.Output.{IsOutput}
+use Rattle.output_laws.specs.After.{IsOutputAfter}
 use Rattle.answer_blocks.specs.Taken.{TookPrefix}
 use Rattle.event_reader.specs.Reading.{LineReader}
 use Rattle.query_engine.specs.Engine.{State, StandsFor}
@@ -15,117 +15,118 @@ use Rattle.event_run.specs.declared.Taken.{Taken}
 use Rattle.event_run.specs.declared.Taken.TheVariants as taken
 use Rattle.event_run.specs.declared.RunFault.{RunFault}
 use Rattle.event_run.specs.declared.RunFault.TheVariants as run
-use Rattle.event_run.specs.Runs.{Stop, RunsTo}
+use Rattle.event_run.specs.Runs.{Stop, RunsAfter}
 use Rattle.event_run.specs.Runs as stop
-use Rattle.event_run.specs.Taking.{HasTaken, BeginsRun, AfterCall, HasSourceCause}
+use Rattle.event_run.specs.Taking.{HasTakenAfter, BeginsRunAfter, AfterCall, HasSourceCause}
 use Rattle.stream_answers.specs.declared.StreamFault.{StreamFault}
 use Rattle.stream_answers.specs.declared.StreamFault.TheVariants as fault
-use Rattle.stream_answers.specs.Windows.{last_due, FollowsWindows}
+use Rattle.stream_answers.specs.Windows.{last_of, FollowsWindowsBy}
 use Rattle.stream_answers.specs.Gathering.{PassesOn, Running, Finished, stream_fault}
-use Rattle.stream_answers.specs.Streams.{Asked, StandsForAll, WroteOver, WroteAll, WrotePartOf, WroteStream, HasReadCause}
+use Rattle.stream_answers.specs.Streams.{Asked, StandsForAllAfter, WroteOverAfter, WroteAllAfter, WrotePartOfAfter, WroteStreamAfter, HasReadCause}
 use Rattle.stream_answers.proofs.Portions.{took_both, took_then_part, part_of_more, prefix_of_more, prefix_of_all}
 use Rattle.stream_answers.proofs.Wholes.{part_of_run}
 use Rattle.stream_answers.proofs.Running.{Owing, Came, output_with, in_turn, begins_so}
 
 -- What was held is written, or a write failed: then a part of the answers over the whole file was.
-ends : {T : Type 0} (a : Asked) (source left before middle after : Option (List ℕ)) (held written : List ℕ) (old new : ℕ) (events : List StreamEvent) (end result : Result T (OrMemory StreamFault)) →
-    TookAll before middle written → IsOutput a.order a.schema a.queries events (written ++ held) → ((lines : List ℕ) → source ≡ Some lines → BeginsRun a.schema a.queries a.most_bytes lines events) →
-    Finished middle after old new held end result → (TookAll before after (written ++ held) → WroteStream a source left before after end) → WroteStream a source left before after result
-ends {T} a source left before middle after held written old new events end result took output begins finished well =
-    let P : Result T (OrMemory StreamFault) → Type 0 = λ r. WroteStream a source left before after r in
+ends : (earlier : List StreamEvent) {T : Type 0} (a : Asked) (source left before middle after : Option (List ℕ)) (held written : List ℕ) (old new : ℕ) (events : List StreamEvent) (end result : Result T (OrMemory StreamFault)) →
+    TookAll before middle written → length earlier ≤ length events → IsOutputAfter (length earlier) a.order a.schema a.queries events (written ++ held) → ((lines : List ℕ) → source ≡ Some lines → BeginsRunAfter earlier a.schema a.queries a.most_bytes lines events) →
+    Finished middle after old new held end result → (TookAll before after (written ++ held) → WroteStreamAfter earlier a source left before after end) → WroteStreamAfter earlier a source left before after result
+ends earlier {T} a source left before middle after held written old new events end result took behind output begins finished well =
+    let P : Result T (OrMemory StreamFault) → Type 0 = λ r. WroteStreamAfter earlier a source left before after r in
     elim finished.way [
       | inl fine ↦ subst P (sym fine.0) (well (took_both before middle after written held took fine.1))
       | inr failed ↦
           let part = took_then_part before middle after written held took failed.1 in
-          subst P (sym failed.0) (part_of_run a source events (written ++ held) (TookPart before after) output begins (λ rest p. part_of_more before after (written ++ held) rest p) part)
+          subst P (sym failed.0) (part_of_run earlier a source events (written ++ held) (TookPart before after) behind output begins (λ rest p. part_of_more before after (written ++ held) rest p) part)
     ]
 
 -- the run stops
-stops : {T : Type 0} (a : Asked) (source left before middle after : Option (List ℕ)) (held written : List ℕ) (old new : ℕ) (events : List StreamEvent) (halt : Stop) (end result : Result T (OrMemory StreamFault)) →
-    TookAll before middle written → IsOutput a.order a.schema a.queries events (written ++ held) → ((lines : List ℕ) → source ≡ Some lines → RunsTo a.schema a.queries a.most_bytes lines events halt) →
-    Finished middle after old new held end result → (WroteAll a source halt before after → WroteStream a source left before after end) → WroteStream a source left before after result
-stops a source left before middle after held written old new events halt end result took output runs finished well =
-    ends a source left before middle after held written old new events end result took output
-    (λ lines same. let P : List StreamEvent → Type 0 = λ e. RunsTo a.schema a.queries a.most_bytes lines e halt in record { more = []; stop = halt; runs = subst P (sym (append-nil events)) (runs lines same) })
+stops : (earlier : List StreamEvent) {T : Type 0} (a : Asked) (source left before middle after : Option (List ℕ)) (held written : List ℕ) (old new : ℕ) (events : List StreamEvent) (halt : Stop) (end result : Result T (OrMemory StreamFault)) →
+    TookAll before middle written → length earlier ≤ length events → IsOutputAfter (length earlier) a.order a.schema a.queries events (written ++ held) → ((lines : List ℕ) → source ≡ Some lines → RunsAfter earlier a.schema a.queries a.most_bytes lines events halt) →
+    Finished middle after old new held end result → (WroteAllAfter earlier a source halt before after → WroteStreamAfter earlier a source left before after end) → WroteStreamAfter earlier a source left before after result
+stops earlier a source left before middle after held written old new events halt end result took behind output runs finished well =
+    ends earlier a source left before middle after held written old new events end result took behind output
+    (λ lines same. let P : List StreamEvent → Type 0 = λ e. RunsAfter earlier a.schema a.queries a.most_bytes lines e halt in record { more = []; stop = halt; runs = subst P (sym (append-nil events)) (runs lines same) })
     finished (λ all. well (record { events = events; bytes = written ++ held; output = output; took = all; are = runs }))
 
 -- the number of bytes that are too many by another name
-at_most : (a : Asked) (most : ℕ) (source : Option (List ℕ)) (Had : List ℕ → Type 0) (events : List StreamEvent) (halt : Stop) → most ≡ a.most_bytes → ((lines : List ℕ) → source ≡ Some lines → Had lines) →
-    ((lines : List ℕ) → Had lines → RunsTo a.schema a.queries most lines events halt) → (lines : List ℕ) → source ≡ Some lines → RunsTo a.schema a.queries a.most_bytes lines events halt
-at_most a most source Had events halt same had runs lines told = subst (λ n. RunsTo a.schema a.queries n lines events halt) same (runs lines (had lines told))
+at_most : (earlier : List StreamEvent) (a : Asked) (most : ℕ) (source : Option (List ℕ)) (Had : List ℕ → Type 0) (events : List StreamEvent) (halt : Stop) → most ≡ a.most_bytes → ((lines : List ℕ) → source ≡ Some lines → Had lines) →
+    ((lines : List ℕ) → Had lines → RunsAfter earlier a.schema a.queries most lines events halt) → (lines : List ℕ) → source ≡ Some lines → RunsAfter earlier a.schema a.queries a.most_bytes lines events halt
+at_most earlier a most source Had events halt same had runs lines told = subst (λ n. RunsAfter earlier a.schema a.queries n lines events halt) same (runs lines (had lines told))
 
-pub ends_at_end : {T : Type 0} (a : Asked) (source : Option (List ℕ)) (old_reader reader : LineReader) (had left before middle after : Option (List ℕ)) (held : List ℕ) (old new : ℕ) (engine now : State) (done : T) (result : Result T (OrMemory StreamFault)) →
-    reader.budget ≡ a.most_bytes → (r : Running a source old_reader had before middle held engine) →
-    AfterCall a.schema a.queries reader engine now (λ bytes. HasTaken a.schema a.queries old_reader bytes had r.events) left r.events (Ok taken.End) →
-    Finished middle after old new held (Ok done) result → WroteStream a source left before after result
-ends_at_end a source old_reader reader had left before middle after held old new engine now done result budget r took finished =
-    stops a source left before middle after held r.written old new r.events stop.End (Ok done) result r.took r.output
-    (at_most a reader.budget source (λ bytes. HasTaken a.schema a.queries old_reader bytes had r.events) r.events stop.End budget r.taken took.1) finished (λ all. all)
+pub ends_at_end : (earlier : List StreamEvent) {T : Type 0} (a : Asked) (source : Option (List ℕ)) (old_reader reader : LineReader) (had left before middle after : Option (List ℕ)) (held : List ℕ) (old new : ℕ) (engine now : State) (done : T) (result : Result T (OrMemory StreamFault)) →
+    reader.budget ≡ a.most_bytes → (r : Running earlier a source old_reader had before middle held engine) →
+    AfterCall earlier a.schema a.queries reader engine now (λ bytes. HasTakenAfter earlier a.schema a.queries old_reader bytes had r.events) left r.events (Ok taken.End) →
+    Finished middle after old new held (Ok done) result → WroteStreamAfter earlier a source left before after result
+ends_at_end earlier a source old_reader reader had left before middle after held old new engine now done result budget r took finished =
+    stops earlier a source left before middle after held r.written old new r.events stop.End (Ok done) result r.took r.behind r.output
+    (at_most earlier a reader.budget source (λ bytes. HasTakenAfter earlier a.schema a.queries old_reader bytes had r.events) r.events stop.End budget r.taken took.1) finished (λ all. all)
 
-pub ends_by : {T : Type 0} (a : Asked) (source : Option (List ℕ)) (old_reader reader : LineReader) (had left before middle after : Option (List ℕ)) (held : List ℕ) (old new : ℕ) (engine now : State) (why : OrMemory RunFault) (result : Result T (OrMemory StreamFault)) →
-    reader.budget ≡ a.most_bytes → old_reader.budget ≡ a.most_bytes → (r : Running a source old_reader had before middle held engine) →
-    AfterCall a.schema a.queries reader engine now (λ bytes. HasTaken a.schema a.queries old_reader bytes had r.events) left r.events (Err why) →
-    Finished middle after old new held (Err (stream_fault why)) result → WroteStream a source left before after result
-ends_by a source old_reader reader had left before middle after held old new engine now Memory result budget same r took finished =
-    let begun = begins_so a source old_reader had r.events same r.taken in
-    ends a source left before middle after held r.written old new r.events (Err Memory) result r.took r.output begun finished
-    (λ all. part_of_run a source r.events (r.written ++ held) (TookPrefix before after) r.output begun (λ rest p. prefix_of_more before after (r.written ++ held) rest p) (prefix_of_all before after (r.written ++ held) all))
-ends_by a source old_reader reader had left before middle after held old new engine now (Fault (run.Event line refusal)) result budget same r took finished =
-    stops a source left before middle after held r.written old new r.events (stop.Event line refusal) (Err (Fault (fault.Event line refusal))) result r.took r.output
-    (at_most a reader.budget source (λ bytes. HasTaken a.schema a.queries old_reader bytes had r.events) r.events (stop.Event line refusal) budget r.taken took.1) finished (λ all. all)
-ends_by a source old_reader reader had left before middle after held old new engine now (Fault (run.InputTooLong most)) result budget same r took finished =
-    stops a source left before middle after held r.written old new r.events (stop.InputTooLong most) (Err (Fault (fault.InputTooLong most))) result r.took r.output
-    (at_most a reader.budget source (λ bytes. HasTaken a.schema a.queries old_reader bytes had r.events) r.events (stop.InputTooLong most) budget r.taken took.1) finished (λ all. all)
-ends_by a source old_reader reader had left before middle after held old new engine now (Fault run.ReadFault) result budget same r took finished =
-    ends a source left before middle after held r.written old new r.events (Err (Fault fault.ReadFault)) result r.took r.output (begins_so a source old_reader had r.events same r.taken) finished
+pub ends_by : (earlier : List StreamEvent) {T : Type 0} (a : Asked) (source : Option (List ℕ)) (old_reader reader : LineReader) (had left before middle after : Option (List ℕ)) (held : List ℕ) (old new : ℕ) (engine now : State) (why : OrMemory RunFault) (result : Result T (OrMemory StreamFault)) →
+    reader.budget ≡ a.most_bytes → old_reader.budget ≡ a.most_bytes → (r : Running earlier a source old_reader had before middle held engine) →
+    AfterCall earlier a.schema a.queries reader engine now (λ bytes. HasTakenAfter earlier a.schema a.queries old_reader bytes had r.events) left r.events (Err why) →
+    Finished middle after old new held (Err (stream_fault why)) result → WroteStreamAfter earlier a source left before after result
+ends_by earlier a source old_reader reader had left before middle after held old new engine now Memory result budget same r took finished =
+    let begun = begins_so earlier a source old_reader had r.events same r.taken in
+    ends earlier a source left before middle after held r.written old new r.events (Err Memory) result r.took r.behind r.output begun finished
+    (λ all. part_of_run earlier a source r.events (r.written ++ held) (TookPrefix before after) r.behind r.output begun (λ rest p. prefix_of_more before after (r.written ++ held) rest p) (prefix_of_all before after (r.written ++ held) all))
+ends_by earlier a source old_reader reader had left before middle after held old new engine now (Fault (run.Event line refusal)) result budget same r took finished =
+    stops earlier a source left before middle after held r.written old new r.events (stop.Event line refusal) (Err (Fault (fault.Event line refusal))) result r.took r.behind r.output
+    (at_most earlier a reader.budget source (λ bytes. HasTakenAfter earlier a.schema a.queries old_reader bytes had r.events) r.events (stop.Event line refusal) budget r.taken took.1) finished (λ all. all)
+ends_by earlier a source old_reader reader had left before middle after held old new engine now (Fault (run.InputTooLong most)) result budget same r took finished =
+    stops earlier a source left before middle after held r.written old new r.events (stop.InputTooLong most) (Err (Fault (fault.InputTooLong most))) result r.took r.behind r.output
+    (at_most earlier a reader.budget source (λ bytes. HasTakenAfter earlier a.schema a.queries old_reader bytes had r.events) r.events (stop.InputTooLong most) budget r.taken took.1) finished (λ all. all)
+ends_by earlier a source old_reader reader had left before middle after held old new engine now (Fault run.ReadFault) result budget same r took finished =
+    ends earlier a source left before middle after held r.written old new r.events (Err (Fault fault.ReadFault)) result r.took r.behind r.output (begins_so earlier a source old_reader had r.events same r.taken) finished
     (λ all. record { events = r.events; bytes = r.written ++ held; output = r.output; took = all; are = λ lines told. took.1 lines (r.taken lines told) })
 
 -- memory ran out while the answers of an event were put
-pub ends_for_memory : {T : Type 0} (a : Asked) (source : Option (List ℕ)) (reader : LineReader) (left before middle later after : Option (List ℕ)) (held blocks now : List ℕ) (old new : ℕ) (engine : State) (result : Result T (OrMemory StreamFault)) →
-    reader.budget ≡ a.most_bytes → (o : Owing a source reader left before middle held engine) → Came a (o.events ++ o.next ∷ []) blocks → (rest : List ℕ) × PassesOn middle later held blocks now rest →
-    Finished later after old new now (Err Memory) result → WroteStream a source left before after result
-ends_for_memory {T} a source reader left before middle later after held blocks now old new engine result budget o came put finished =
+pub ends_for_memory : (earlier : List StreamEvent) {T : Type 0} (a : Asked) (source : Option (List ℕ)) (reader : LineReader) (left before middle later after : Option (List ℕ)) (held blocks now : List ℕ) (old new : ℕ) (engine : State) (result : Result T (OrMemory StreamFault)) →
+    reader.budget ≡ a.most_bytes → (o : Owing earlier a source reader left before middle held engine) → Came a (o.events ++ o.next ∷ []) blocks → (rest : List ℕ) × PassesOn middle later held blocks now rest →
+    Finished later after old new now (Err Memory) result → WroteStreamAfter earlier a source left before after result
+ends_for_memory earlier {T} a source reader left before middle later after held blocks now old new engine result budget o came put finished =
     let passed = put.1 in
     let events = o.events ++ o.next ∷ [] in
     let written = o.written ++ passed.written in
     let took = took_both before middle later o.written passed.written o.took passed.took in
-    let O : List ℕ → Type 0 = IsOutput a.order a.schema a.queries events in
-    let output : O (written ++ now ++ put.0) = subst O (in_turn o.written held blocks passed.written now put.0 passed.whole) (output_with a o.events o.next o.written held blocks o.output came) in
-    let begun = begins_so a source reader left events budget o.taken in
-    let P : Result T (OrMemory StreamFault) → Type 0 = λ r. WroteStream a source left before after r in
+    let O : List ℕ → Type 0 = IsOutputAfter (length earlier) a.order a.schema a.queries events in
+    let output : O (written ++ now ++ put.0) = subst O (in_turn o.written held blocks passed.written now put.0 passed.whole) (output_with earlier a o.events o.next o.written held blocks o.behind o.output came) in
+    let begun = begins_so earlier a source reader left events budget o.taken in
+    let behind : length earlier ≤ length events = (let long = length-append o.events (o.next ∷ []) in let b = o.behind in omega (arith, long, b)) in
+    let P : Result T (OrMemory StreamFault) → Type 0 = λ r. WroteStreamAfter earlier a source left before after r in
     elim finished.way [
       | inl fine ↦
           let all = prefix_of_all before after (written ++ now) (took_both before later after written now took fine.1) in
-          subst P (sym fine.0) (part_of_run a source events (written ++ now ++ put.0) (TookPrefix before after) output begun (λ rest p. prefix_of_more before after (written ++ now ++ put.0) rest p) (prefix_of_more before after (written ++ now) put.0 all))
+          subst P (sym fine.0) (part_of_run earlier a source events (written ++ now ++ put.0) (TookPrefix before after) behind output begun (λ rest p. prefix_of_more before after (written ++ now ++ put.0) rest p) (prefix_of_more before after (written ++ now) put.0 all))
       | inr failed ↦
           let part = took_then_part before later after written now took failed.1 in
-          subst P (sym failed.0) (part_of_run a source events (written ++ now ++ put.0) (TookPart before after) output begun (λ rest p. part_of_more before after (written ++ now ++ put.0) rest p) (part_of_more before after (written ++ now) put.0 part))
+          subst P (sym failed.0) (part_of_run earlier a source events (written ++ now ++ put.0) (TookPart before after) behind output begun (λ rest p. part_of_more before after (written ++ now ++ put.0) rest p) (part_of_more before after (written ++ now) put.0 part))
     ]
 
 -- memory ran out while the engine was compacted
-pub ends_for_compaction : {T : Type 0} (a : Asked) (source : Option (List ℕ)) (reader : LineReader) (left before middle after : Option (List ℕ)) (held : List ℕ) (old new : ℕ) (engine : State) (result : Result T (OrMemory StreamFault)) →
-    reader.budget ≡ a.most_bytes → (r : Running a source reader left before middle held engine) → Finished middle after old new held (Err Memory) result → WroteStream a source left before after result
-ends_for_compaction a source reader left before middle after held old new engine result budget r finished =
-    let begun = begins_so a source reader left r.events budget r.taken in
-    ends a source left before middle after held r.written old new r.events (Err Memory) result r.took r.output begun finished
-    (λ all. part_of_run a source r.events (r.written ++ held) (TookPrefix before after) r.output begun (λ rest p. prefix_of_more before after (r.written ++ held) rest p) (prefix_of_all before after (r.written ++ held) all))
+pub ends_for_compaction : (earlier : List StreamEvent) {T : Type 0} (a : Asked) (source : Option (List ℕ)) (reader : LineReader) (left before middle after : Option (List ℕ)) (held : List ℕ) (old new : ℕ) (engine : State) (result : Result T (OrMemory StreamFault)) →
+    reader.budget ≡ a.most_bytes → (r : Running earlier a source reader left before middle held engine) → Finished middle after old new held (Err Memory) result → WroteStreamAfter earlier a source left before after result
+ends_for_compaction earlier a source reader left before middle after held old new engine result budget r finished =
+    let begun = begins_so earlier a source reader left r.events budget r.taken in
+    ends earlier a source left before middle after held r.written old new r.events (Err Memory) result r.took r.behind r.output begun finished
+    (λ all. part_of_run earlier a source r.events (r.written ++ held) (TookPrefix before after) r.behind r.output begun (λ rest p. prefix_of_more before after (r.written ++ held) rest p) (prefix_of_all before after (r.written ++ held) all))
 
 -- a write failed meanwhile
-pub ends_for_fault : (a : Asked) (source : Option (List ℕ)) (reader : LineReader) (left before middle after : Option (List ℕ)) (held blocks : List ℕ) (engine : State) →
-    reader.budget ≡ a.most_bytes → (o : Owing a source reader left before middle held engine) → Came a (o.events ++ o.next ∷ []) blocks → TookPart middle after (held ++ blocks) → WrotePartOf a source (TookPart before after)
-ends_for_fault a source reader left before middle after held blocks engine budget o came part =
-    part_of_run a source (o.events ++ o.next ∷ []) (o.written ++ (held ++ blocks)) (TookPart before after) (output_with a o.events o.next o.written held blocks o.output came)
-    (begins_so a source reader left (o.events ++ o.next ∷ []) budget o.taken) (λ rest p. part_of_more before after (o.written ++ (held ++ blocks)) rest p) (took_then_part before middle after o.written (held ++ blocks) o.took part)
+pub ends_for_fault : (earlier : List StreamEvent) (a : Asked) (source : Option (List ℕ)) (reader : LineReader) (left before middle after : Option (List ℕ)) (held blocks : List ℕ) (engine : State) →
+    reader.budget ≡ a.most_bytes → (o : Owing earlier a source reader left before middle held engine) → Came a (o.events ++ o.next ∷ []) blocks → TookPart middle after (held ++ blocks) → WrotePartOfAfter earlier a source (TookPart before after)
+ends_for_fault earlier a source reader left before middle after held blocks engine budget o came part =
+    part_of_run earlier a source (o.events ++ o.next ∷ []) (o.written ++ (held ++ blocks)) (TookPart before after) (let long = length-append o.events (o.next ∷ []) in let b = o.behind in omega (arith, long, b)) (output_with earlier a o.events o.next o.written held blocks o.behind o.output came)
+    (begins_so earlier a source reader left (o.events ++ o.next ∷ []) budget o.taken) (λ rest p. part_of_more before after (o.written ++ (held ++ blocks)) rest p) (took_then_part before middle after o.written (held ++ blocks) o.took part)
 
 -- the engine, where the source has ended
-pub stands_at_end : (every : Option ℕ) (peaks : ℕ → ℕ) (a : Asked) (source : Option (List ℕ)) (old_reader reader : LineReader) (had left before middle : Option (List ℕ)) (held : List ℕ) (engine now : State) →
-    reader.budget ≡ a.most_bytes → (r : Running a source old_reader had before middle held engine) → FollowsWindows every peaks (last_due every (length r.events)) r.events engine → now ≡ engine →
-    AfterCall a.schema a.queries reader engine now (λ bytes. HasTaken a.schema a.queries old_reader bytes had r.events) left r.events (Ok taken.End) → (bytes : List ℕ) → source ≡ Some bytes → StandsForAll every peaks a bytes now
-stands_at_end every peaks a source old_reader reader had left before middle held engine now budget r windows kept took bytes told = record {
+pub stands_at_end : (earlier : List StreamEvent) (due : ℕ → Bool) (peaks : ℕ → ℕ) (a : Asked) (source : Option (List ℕ)) (old_reader reader : LineReader) (had left before middle : Option (List ℕ)) (held : List ℕ) (engine now : State) →
+    reader.budget ≡ a.most_bytes → (r : Running earlier a source old_reader had before middle held engine) → FollowsWindowsBy due peaks (last_of due (length r.events)) r.events engine → now ≡ engine →
+    AfterCall earlier a.schema a.queries reader engine now (λ bytes. HasTakenAfter earlier a.schema a.queries old_reader bytes had r.events) left r.events (Ok taken.End) → (bytes : List ℕ) → source ≡ Some bytes → StandsForAllAfter due peaks earlier a bytes now
+stands_at_end earlier due peaks a source old_reader reader had left before middle held engine now budget r windows kept took bytes told = record {
   events = r.events;
-  runs = subst (λ n. RunsTo a.schema a.queries n bytes r.events stop.End) budget (took.1 bytes (r.taken bytes told));
+  runs = subst (λ n. RunsAfter earlier a.schema a.queries n bytes r.events stop.End) budget (took.1 bytes (r.taken bytes told));
   stands = took.0;
-  windows = subst (FollowsWindows every peaks (last_due every (length r.events)) r.events) (sym kept) windows;
+  windows = subst (FollowsWindowsBy due peaks (last_of due (length r.events)) r.events) (sym kept) windows;
 }
 
 -- a fact, where all was well

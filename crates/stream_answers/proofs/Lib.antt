@@ -3,8 +3,8 @@
 pub mod Portions
 -- the blocks of one position, put after what is held
 mod Putting
--- a part of the answers over a whole file
-mod Wholes
+-- a part of the answers over a whole file; for callers
+pub mod Wholes
 -- a run from event to event; for callers
 pub mod Running
 -- the compaction after an event; for callers

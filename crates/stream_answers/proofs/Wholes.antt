@@ -1,34 +1,34 @@
 -- A part of the answers over all events that the queries take of a file.
-use Rattle.std.proofs.Common.{◌≡◌, ℕ, ◌+◌, List, [], ◌++◌, Option, Some, None, refl, sym, ◌∙◌, ap, subst, arith}
+use Rattle.std.proofs.Common.{◌≡◌, ℕ, ◌+◌, ◌≤◌, List, [], ◌++◌, length, Option, Some, None, refl, sym, ◌∙◌, ap, subst, arith}
 use Rattle.std.proofs.lemmas.List.{append-nil}
 use Rattle.stream_schema.specs.declared.Event.{Event}
-use Rattle.answer_text.specs.Output.{IsOutput}
+use Rattle.output_laws.specs.After.{IsOutputAfter}
 use Rattle.answer_blocks.specs.Taken.{TookPrefix, IsPart}
 use Rattle.answer_blocks.proofs.Blocks.{some_blocks_are}
 use Rattle.event_reader.specs.Lines.{file_lines}
-use Rattle.event_run.specs.Taking.{BeginsRun}
+use Rattle.event_run.specs.Taking.{BeginsRunAfter}
 use Rattle.event_run.proofs.ForCallers.{HasRun, some_run}
-use Rattle.output_laws.proofs.Growth.{output_grows}
-use Rattle.stream_answers.specs.Streams.{Asked, AreAnswersOver, WrotePartOf}
+use Rattle.output_laws.proofs.After.{after_none, after_grows}
+use Rattle.stream_answers.specs.Streams.{Asked, AreAnswersAfter, WrotePartOfAfter}
 
 -- A part of the answers over the first events is one of the answers over all.
-pub part_of_run : (a : Asked) (source : Option (List ℕ)) (events : List Event) (bytes : List ℕ) (Took : List ℕ → Type 0) → IsOutput a.order a.schema a.queries events bytes →
-    ((lines : List ℕ) → source ≡ Some lines → BeginsRun a.schema a.queries a.most_bytes lines events) → ((rest : List ℕ) → Took bytes → Took (bytes ++ rest)) → Took bytes → WrotePartOf a source Took
-part_of_run a None events bytes Took output begins more took = record { bytes = bytes; took = took; are = λ lines same. absurd cc }
-part_of_run a (Some lines) events bytes Took output begins more took =
+pub part_of_run : (earlier : List Event) (a : Asked) (source : Option (List ℕ)) (events : List Event) (bytes : List ℕ) (Took : List ℕ → Type 0) → length earlier ≤ length events → IsOutputAfter (length earlier) a.order a.schema a.queries events bytes →
+    ((lines : List ℕ) → source ≡ Some lines → BeginsRunAfter earlier a.schema a.queries a.most_bytes lines events) → ((rest : List ℕ) → Took bytes → Took (bytes ++ rest)) → Took bytes → WrotePartOfAfter earlier a source Took
+part_of_run earlier a None events bytes Took behind output begins more took = record { bytes = bytes; took = took; are = λ lines same. absurd cc }
+part_of_run earlier a (Some lines) events bytes Took behind output begins more took =
     let run = begins lines refl in
-    let grown = output_grows a.order a.schema a.queries events run.more bytes (λ end. some_blocks_are a.order a.schema 1 a.queries (events ++ run.more) end) output in
-    let P : List ℕ → Type 0 = λ l. AreAnswersOver a l (bytes ++ grown.0) in
+    let grown = after_grows (length earlier) a.order a.schema a.queries events run.more bytes behind (λ end. some_blocks_are a.order a.schema 1 a.queries (events ++ run.more) end) output in
+    let P : List ℕ → Type 0 = λ l. AreAnswersAfter earlier a l (bytes ++ grown.0) in
     record {
       bytes = bytes ++ grown.0;
       took = more grown.0 took;
       are = λ other same. let is : lines ≡ other = cc in subst P is (record { events = events ++ run.more; stop = run.stop; runs = run.runs; output = grown.1 });
     }
 
--- every run begins with no event
-pub begins_empty : (a : Asked) (lines : List ℕ) → BeginsRun a.schema a.queries a.most_bytes lines []
-begins_empty a lines =
-    let run = some_run a.schema a.queries 1 [] (file_lines a.most_bytes lines).texts (file_lines a.most_bytes lines).fault in
+-- every run begins with the events before it
+pub begins_at_first : (earlier : List Event) (a : Asked) (lines : List ℕ) → BeginsRunAfter earlier a.schema a.queries a.most_bytes lines earlier
+begins_at_first earlier a lines =
+    let run = some_run a.schema a.queries 1 earlier (file_lines a.most_bytes lines).texts (file_lines a.most_bytes lines).fault in
     record { more = run.more; stop = run.stop; runs = run.runs }
 
 -- nothing was taken
@@ -36,6 +36,6 @@ prefix_none : (before : Option (List ℕ)) (bytes : List ℕ) → TookPrefix bef
 prefix_none None bytes = refl
 prefix_none (Some b) bytes = record { count = 0; within = omega arith; took = sym (append-nil b) }
 
-pub wrote_none : (a : Asked) (source before : Option (List ℕ)) → WrotePartOf a source (TookPrefix before before)
-wrote_none a source before =
-    part_of_run a source [] [] (TookPrefix before before) refl (λ lines same. begins_empty a lines) (λ rest took. prefix_none before rest) (prefix_none before [])
+pub wrote_none : (earlier : List Event) (a : Asked) (source before : Option (List ℕ)) → WrotePartOfAfter earlier a source (TookPrefix before before)
+wrote_none earlier a source before =
+    part_of_run earlier a source earlier [] (TookPrefix before before) (omega arith) (after_none (length earlier) a.order a.schema a.queries earlier refl) (λ lines same. begins_at_first earlier a lines) (λ rest took. prefix_none before rest) (prefix_none before [])

@@ -1,16 +1,19 @@
 -- The nodes of an engine that is compacted after every so many events, from event to event.
 use Rattle.std.proofs.Common.{◌≡◌, ℕ, zero, suc, ◌+◌, ◌-◌, ◌<◌, ◌≤◌, ◌⊎◌, inl, inr, cond, Bool, true, false, List, [], ◌∷◌, ◌++◌, take, length, refl, sym, ap, subst, ◌∙◌, Option, Some, Result, Ok, Err, slice_get, arith, length-append}
 use Rattle.std.specs.Prelude.{max, OnOk}
-use Rattle.std.proofs.lemmas.Bool.{cases_lt}
+use Rattle.std.specs.Prelude.{nat_lt, ◌&&◌}
+use Rattle.std.proofs.lemmas.Bool.{cases_Bool, cases_lt, ltb-true}
+use Rattle.std.proofs.lemmas.List.Elements.{All-weaker}
 use Rattle.std.proofs.lemmas.List.{append-nil, take-append-le, take_all}
 use Rattle.stream_schema.specs.Types.{Declared}
 use Rattle.stream_schema.specs.declared.Event.{Event}
 use Rattle.cel_terms.specs.declared.Query.{Query}
 use Rattle.query_engine.specs.Clocks.{HasClockAt, IsLastClock}
 use Rattle.query_engine.specs.Engine.{State, Open, StandsFor, SameQueries, found_of, len_of, peak_of}
-use Rattle.query_engine.specs.Windows.{IsBoundedBy, IsDense, FollowsWindow, IsRecentAt, FollowsWindowSince, HasAdded}
+use Rattle.query_engine.specs.Windows.{IsBoundedBy, IsReadFrom, IsDense, FollowsWindow, IsRecentAt, FollowsWindowSince, HasAdded}
+use Rattle.query_engine.proofs.DenseNodes.{dense_follows}
 use Rattle.query_engine.proofs.Windows.{bounded_on, event_keeps_dense, event_keeps_window, compacted_follows_window, first_follows_window, recent_inside}
-use Rattle.stream_answers.specs.Windows.{is_due, last_due, HasPeak, FollowsWindows}
+use Rattle.stream_answers.specs.Windows.{is_due, is_due_after, last_of, HasPeak, FollowsEvents, FollowsWindowsBy}
 
 -- WHEN A COMPACTION IS DUE
 
@@ -18,20 +21,77 @@ last_either : (b : Bool) (n m : ℕ) → m ≤ n → cond b (suc n) m ≤ suc n
 last_either true n m le = omega arith
 last_either false n m le = omega arith
 
-pub last_upto : (every : Option ℕ) (n : ℕ) → last_due every n ≤ n
-last_upto every zero = omega arith
-last_upto every (suc n) = last_either (is_due every (suc n)) n (last_due every n) (last_upto every n)
+pub last_upto : (due : ℕ → Bool) (n : ℕ) → last_of due n ≤ n
+last_upto due zero = omega arith
+last_upto due (suc n) = last_either (due (suc n)) n (last_of due n) (last_upto due n)
 
-last_now : (every : Option ℕ) (n : ℕ) → is_due every n ≡ true → last_due every n ≡ n
-last_now every zero due = refl
-last_now every (suc n) due = ap (λ (b : Bool). cond b (suc n) (last_due every n)) due
+last_now : (due : ℕ → Bool) (n : ℕ) → due n ≡ true → last_of due n ≡ n
+last_now due zero has_come = refl
+last_now due (suc n) has_come = ap (λ (b : Bool). cond b (suc n) (last_of due n)) has_come
+
+pub last_stays : (due : ℕ → Bool) (n : ℕ) → due n ≡ false → last_of due n ≡ last_of due (n - 1)
+last_stays due zero none = refl
+last_stays due (suc n) none = ap (λ (b : Bool). cond b (suc n) (last_of due n)) none ∙ ap (last_of due) (let e : n ≡ suc n - 1 = omega arith in e)
 
 -- AT FIRST
 
-pub windows_at_first : (every : Option ℕ) (engine : State) → StandsFor engine [] → FollowsWindows every (peak_of engine) 0 [] engine
-windows_at_first every engine stands =
+pub windows_at_first : (due : ℕ → Bool) (engine : State) → StandsFor engine [] → FollowsWindowsBy due (peak_of engine) 0 [] engine
+windows_at_first due engine stands =
     let first = first_follows_window engine stands in
     record { dense = first.0; nodes = first.1; peaks = λ k q at. inl (omega arith) }
+
+-- how it is told, by the number of earlier events
+pub due_first : (every : Option ℕ) (first events : ℕ) (b : Bool) → first ≡ 0 → b ≡ is_due every events → b ≡ is_due_after every first events
+due_first every first events b none is = subst (λ (n : ℕ). b ≡ is_due_after every n events) (sym none) is
+
+pub due_behind : (every : Option ℕ) (first events : ℕ) (b : Bool) → (first ≡ 0 → ⊥) → b ≡ (nat_lt first events && is_due every (events - first)) → b ≡ is_due_after every first events
+due_behind every zero events b some is = absurd (some refl)
+due_behind every (suc n) events b some is = is
+
+-- behind earlier events none is due up to the last of these
+not_less : (n m : ℕ) → n ≤ m → nat_lt m n ≡ false
+not_less n m le = elim (cases_Bool (nat_lt m n)) [
+  | inl less ↦ absurd (let l : m < n = ltb-true m n less in omega arith)
+  | inr none ↦ none
+]
+
+none_due : (b c : Bool) (n m : ℕ) → b ≡ false → cond (b && c) n m ≡ m
+none_due true c n m none = absurd cc
+none_due false c n m none = refl
+
+pub last_none : (every : Option ℕ) (first n : ℕ) → n ≤ first → last_of (is_due_after every first) n ≡ 0
+last_none every first zero le = refl
+last_none every zero (suc n) le = absurd (omega arith)
+last_none every (suc k) (suc n) le =
+    none_due (nat_lt (suc k) (suc n)) (is_due every (suc n - suc k)) (suc n) (last_of (is_due_after every (suc k)) n) (not_less (suc n) (suc k) le)
+    ∙ last_none every (suc k) n (omega arith)
+
+pub windows_behind : (every : Option ℕ) (peaks : ℕ → ℕ) (engine : State) (events : List Event) → FollowsEvents peaks engine events →
+    FollowsWindowsBy (is_due_after every (length events)) peaks (last_of (is_due_after every (length events)) (length events)) events engine
+windows_behind every peaks engine events f = record {
+  dense = f.dense;
+  nodes = subst (λ (n : ℕ). FollowsWindowSince n engine events) (sym (none_until (length events) (omega arith))) (dense_follows engine events f.dense);
+  peaks = λ k q at. elim (f.peaks_are k q at) [
+    | inl was ↦ inl was
+    | inr had ↦ inr (record {
+      count = length events;
+      among = omega arith;
+      nodes = subst (λ (es : List Event). IsBoundedBy (IsRecentAt engine.schema q es (last_of (is_due_after every (length events)) (length events - 1))) engine (k + 1) (peak_of engine (k + 1))) (sym (take_all (length events) events (omega arith))) (
+          subst (λ (n : ℕ). IsBoundedBy (IsRecentAt engine.schema q events n) engine (k + 1) (peak_of engine (k + 1))) (sym (none_until (length events - 1) (omega arith))) (record {
+            positions = had.positions;
+            distinct = had.distinct;
+            each = All-weaker (IsReadFrom engine.schema q events 0) (IsRecentAt engine.schema q events 0) (λ x r. record { clock = r.clock; has = r.has; recent = inl (omega arith) }) had.positions had.each;
+            bounded = had.bounded;
+          }));
+    })
+  ];
+} where
+  none_until : (n : ℕ) → n ≤ length events → last_of (is_due_after every (length events)) n ≡ 0
+  none_until n le = last_none every (length events) n le
+
+-- an engine of no event
+pub follows_none : (engine : State) → StandsFor engine [] → FollowsEvents (peak_of engine) engine []
+follows_none engine stands = record { stands = stands; dense = (first_follows_window engine stands).0; peaks_are = λ k q at. inl (omega arith) }
 
 -- AN EVENT
 
@@ -42,10 +102,10 @@ most_stays : (n m : ℕ) → m ≤ n → max n m ≡ n
 most_stays n m le = omega arith
 
 -- a peak that there was is one still
-peak_on : (every : Option ℕ) (old new : State) (events more : List Event) (k : ℕ) (q : Query) → new.schema ≡ old.schema → found_of old (k + 1) ≤ found_of new (k + 1) → peak_of new (k + 1) ≤ peak_of old (k + 1) →
-    HasPeak every events old k q → HasPeak every (events ++ more) new k q
-peak_on every old new events more k q same found few h =
-    let first = last_due every (h.count - 1) in
+peak_on : (due : ℕ → Bool) (old new : State) (events more : List Event) (k : ℕ) (q : Query) → new.schema ≡ old.schema → found_of old (k + 1) ≤ found_of new (k + 1) → peak_of new (k + 1) ≤ peak_of old (k + 1) →
+    HasPeak due events old k q → HasPeak due (events ++ more) new k q
+peak_on due old new events more k q same found few h =
+    let first = last_of due (h.count - 1) in
     let whole : take h.count (events ++ more) ≡ take h.count events = take-append-le h.count events more h.among in
     let long = length-append events more in
     let among = h.among in
@@ -59,49 +119,49 @@ peak_on every old new events more k q same found few h =
     }
 
 -- the nodes that there are are a peak
-peak_here : (every : Option ℕ) (new : State) (events : List Event) (event : Event) (k : ℕ) (q : Query) → peak_of new (k + 1) ≡ len_of new (k + 1) →
-    IsBoundedBy (IsRecentAt new.schema q (events ++ event ∷ []) (last_due every (length events))) new (k + 1) (len_of new (k + 1)) → HasPeak every (events ++ event ∷ []) new k q
-peak_here every new events event k q is h =
+peak_here : (due : ℕ → Bool) (new : State) (events : List Event) (event : Event) (k : ℕ) (q : Query) → peak_of new (k + 1) ≡ len_of new (k + 1) →
+    IsBoundedBy (IsRecentAt new.schema q (events ++ event ∷ []) (last_of due (length events))) new (k + 1) (len_of new (k + 1)) → HasPeak due (events ++ event ∷ []) new k q
+peak_here due new events event k q is h =
     let all = events ++ event ∷ [] in
     let long = length-append events (event ∷ []) in
     let before : length events ≡ length all - 1 = omega arith in
     record {
       count = length all;
       among = omega arith;
-      nodes = subst (λ (n : ℕ). IsBoundedBy (IsRecentAt new.schema q (take (length all) all) (last_due every n)) new (k + 1) (peak_of new (k + 1))) before (
-          subst (λ (es : List Event). IsBoundedBy (IsRecentAt new.schema q es (last_due every (length events))) new (k + 1) (peak_of new (k + 1))) (sym (take_all (length all) all (omega arith))) (
-          subst (IsBoundedBy (IsRecentAt new.schema q all (last_due every (length events))) new (k + 1)) (sym is) h));
+      nodes = subst (λ (n : ℕ). IsBoundedBy (IsRecentAt new.schema q (take (length all) all) (last_of due n)) new (k + 1) (peak_of new (k + 1))) before (
+          subst (λ (es : List Event). IsBoundedBy (IsRecentAt new.schema q es (last_of due (length events))) new (k + 1) (peak_of new (k + 1))) (sym (take_all (length all) all (omega arith))) (
+          subst (IsBoundedBy (IsRecentAt new.schema q all (last_of due (length events))) new (k + 1)) (sym is) h));
     }
 
-pub windows_on : (every : Option ℕ) (before : ℕ → ℕ) (old new : State) (events : List Event) (event : Event) → SameQueries old new → StandsFor new (events ++ event ∷ []) → HasAdded old new event →
-    FollowsWindows every before (last_due every (length events)) events old → FollowsWindows every before (last_due every (length events)) (events ++ event ∷ []) new
-windows_on every before old new events event same stands added w = record {
+pub windows_on : (due : ℕ → Bool) (before : ℕ → ℕ) (old new : State) (events : List Event) (event : Event) → SameQueries old new → StandsFor new (events ++ event ∷ []) → HasAdded old new event →
+    FollowsWindowsBy due before (last_of due (length events)) events old → FollowsWindowsBy due before (last_of due (length events)) (events ++ event ∷ []) new
+windows_on due before old new events event same stands added w = record {
   dense = event_keeps_dense old new events event same stands added w.dense;
   nodes = nodes_now;
   peaks = λ k q at. (
       let peak = added.peak (k + 1) in
       let found = added.found (k + 1) in
       elim (cases_lt (peak_of old (k + 1)) (len_of new (k + 1))) [
-        | inl less ↦ inr (peak_here every new events event k q (peak ∙ most_is (peak_of old (k + 1)) (len_of new (k + 1)) less) (nodes_now k q at))
+        | inl less ↦ inr (peak_here due new events event k q (peak ∙ most_is (peak_of old (k + 1)) (len_of new (k + 1)) less) (nodes_now k q at))
         | inr least ↦
             let stays = peak ∙ most_stays (peak_of old (k + 1)) (len_of new (k + 1)) least in
             elim (w.peaks k q (subst (λ (qs : List Query). slice_get qs k ≡ Some q) same.1 at)) [
               | inl was ↦ inl (omega arith)
-              | inr had ↦ inr (peak_on every old new events (event ∷ []) k q same.0 found (omega arith) had)
+              | inr had ↦ inr (peak_on due old new events (event ∷ []) k q same.0 found (omega arith) had)
             ]
       ]
       );
 } where
-  nodes_now : FollowsWindowSince (last_due every (length events)) new (events ++ event ∷ [])
-  nodes_now = event_keeps_window old new events event same stands added (last_due every (length events)) (last_upto every (length events)) w.nodes
+  nodes_now : FollowsWindowSince (last_of due (length events)) new (events ++ event ∷ [])
+  nodes_now = event_keeps_window old new events event same stands added (last_of due (length events)) (last_upto due (length events)) w.nodes
 
 -- so they do before the compaction that may be due
-pub windows_due : (every : Option ℕ) (before : ℕ → ℕ) (old new : State) (events : List Event) (event : Event) → SameQueries old new → StandsFor new (events ++ event ∷ []) → HasAdded old new event →
-    FollowsWindows every before (last_due every (length events)) events old → FollowsWindows every before (last_due every (length (events ++ event ∷ []) - 1)) (events ++ event ∷ []) new
-windows_due every before old new events event same stands added w =
+pub windows_due : (due : ℕ → Bool) (before : ℕ → ℕ) (old new : State) (events : List Event) (event : Event) → SameQueries old new → StandsFor new (events ++ event ∷ []) → HasAdded old new event →
+    FollowsWindowsBy due before (last_of due (length events)) events old → FollowsWindowsBy due before (last_of due (length (events ++ event ∷ []) - 1)) (events ++ event ∷ []) new
+windows_due due before old new events event same stands added w =
     let long = length-append events (event ∷ []) in
     let count : length events ≡ length (events ++ event ∷ []) - 1 = omega arith in
-    subst (λ (n : ℕ). FollowsWindows every before (last_due every n) (events ++ event ∷ []) new) count (windows_on every before old new events event same stands added w)
+    subst (λ (n : ℕ). FollowsWindowsBy due before (last_of due n) (events ++ event ∷ []) new) count (windows_on due before old new events event same stands added w)
 
 -- A COMPACTION
 
@@ -110,39 +170,51 @@ nothing_held [] none = refl
 nothing_held (c ∷ held) none = absurd (omega arith)
 
 -- it is made, with no cursor held
-pub windows_compacted : (every : Option ℕ) (before : ℕ → ℕ) (first : ℕ) (old new : State) (held : List Open) (events : List Event) → is_due every (length events) ≡ true → length held ≡ 0 → SameQueries old new → ((query : ℕ) → found_of new query ≡ found_of old query) →
-    ((query : ℕ) → peak_of new query ≡ peak_of old query) → StandsFor new events → IsDense new events → FollowsWindow new events held → FollowsWindows every before first events old → FollowsWindows every before (last_due every (length events)) events new
-windows_compacted every before first old new held events due none same found peak stands dense window w =
+pub windows_compacted : (due : ℕ → Bool) (before : ℕ → ℕ) (first : ℕ) (old new : State) (held : List Open) (events : List Event) → due (length events) ≡ true → length held ≡ 0 → SameQueries old new → ((query : ℕ) → found_of new query ≡ found_of old query) →
+    ((query : ℕ) → peak_of new query ≡ peak_of old query) → StandsFor new events → IsDense new events → FollowsWindow new events held → FollowsWindowsBy due before first events old → FollowsWindowsBy due before (last_of due (length events)) events new
+windows_compacted due before first old new held events has_come none same found peak stands dense window w =
     let left = subst (FollowsWindow new events) (nothing_held held none) window in
     record {
       dense = dense;
-      nodes = subst (λ (n : ℕ). FollowsWindowSince n new events) (sym (last_now every (length events) due)) (compacted_follows_window new events stands left);
+      nodes = subst (λ (n : ℕ). FollowsWindowSince n new events) (sym (last_now due (length events) has_come)) (compacted_follows_window new events stands left);
       peaks = λ k q at. (
           let states = found (k + 1) in
           let most = peak (k + 1) in
           elim (w.peaks k q (subst (λ (qs : List Query). slice_get qs k ≡ Some q) same.1 at)) [
             | inl was ↦ inl (omega arith)
-            | inr had ↦ inr (subst (λ (es : List Event). HasPeak every es new k q) (append-nil events) (peak_on every old new events [] k q same.0 (omega arith) (omega arith) had))
+            | inr had ↦ inr (subst (λ (es : List Event). HasPeak due es new k q) (append-nil events) (peak_on due old new events [] k q same.0 (omega arith) (omega arith) had))
           ]
           );
     }
 
 -- by how the call ended
-pub compaction_follows : {T E : Type 0} (r : Result T E) (every : Option ℕ) (old new : State) (held : List Open) (count : ℕ) → ((events : List Event) → StandsFor old events → count ≡ length events) → is_due every count ≡ true → length held ≡ 0 →
+pub compaction_follows : {T E : Type 0} (r : Result T E) (due : ℕ → Bool) (old new : State) (held : List Open) (count : ℕ) → ((events : List Event) → StandsFor old events → count ≡ length events) → due count ≡ true → length held ≡ 0 →
     SameQueries old new → ((query : ℕ) → found_of new query ≡ found_of old query) → ((query : ℕ) → peak_of new query ≡ peak_of old query) →
     OnOk r ((events : List Event) → StandsFor old events → StandsFor new events) → OnOk r ((events : List Event) → IsDense old events → IsDense new events) →
     OnOk r ((events : List Event) → StandsFor old events → IsDense old events → FollowsWindow new events held) →
-    OnOk r ((before : ℕ → ℕ) (events : List Event) → StandsFor old events → FollowsWindows every before (last_due every (length events - 1)) events old → FollowsWindows every before (last_due every (length events)) events new)
-compaction_follows (Err e) every old new held count counted due none same found peak stands dense window = tt
-compaction_follows (Ok x) every old new held count counted due none same found peak stands dense window = λ before events at w.
-    windows_compacted every before (last_due every (length events - 1)) old new held events (subst (λ (n : ℕ). is_due every n ≡ true) (counted events at) due) none same found peak (stands events at) (dense events w.dense) (window events at w.dense) w
+    OnOk r ((before : ℕ → ℕ) (events : List Event) → StandsFor old events → FollowsWindowsBy due before (last_of due (length events - 1)) events old → FollowsWindowsBy due before (last_of due (length events)) events new)
+compaction_follows (Err e) due old new held count counted has_come none same found peak stands dense window = tt
+compaction_follows (Ok x) due old new held count counted has_come none same found peak stands dense window = λ before events at w.
+    windows_compacted due before (last_of due (length events - 1)) old new held events (subst (λ (n : ℕ). due n ≡ true) (counted events at) has_come) none same found peak (stands events at) (dense events w.dense) (window events at w.dense) w
 
 -- AT THE END
 
 -- the same with the peaks that there were by another name
-pub windows_before : (every : Option ℕ) (before others : ℕ → ℕ) (first : ℕ) (events : List Event) (engine : State) → ((query : ℕ) → before query ≤ others query) → FollowsWindows every before first events engine → FollowsWindows every others first events engine
-windows_before every before others first events engine less w = record {
+pub windows_before : (due : ℕ → Bool) (before others : ℕ → ℕ) (first : ℕ) (events : List Event) (engine : State) → ((query : ℕ) → before query ≤ others query) → FollowsWindowsBy due before first events engine → FollowsWindowsBy due others first events engine
+windows_before due before others first events engine less w = record {
   dense = w.dense;
   nodes = w.nodes;
   peaks = λ k q at. (let le = less (k + 1) in elim (w.peaks k q at) [ inl was ↦ inl (omega arith) | inr had ↦ inr had ]);
 }
+
+-- the same of compactions that are counted from there, by another name
+pub windows_counted : (every : Option ℕ) (first n : ℕ) (old new : State) → first ≡ n →
+    ((before : ℕ → ℕ) (events : List Event) → StandsFor old events → FollowsWindowsBy (is_due_after every first) before (last_of (is_due_after every first) (length events - 1)) events old → FollowsWindowsBy (is_due_after every first) before (last_of (is_due_after every first) (length events)) events new) →
+    (before : ℕ → ℕ) (events : List Event) → StandsFor old events → FollowsWindowsBy (is_due_after every n) before (last_of (is_due_after every n) (length events - 1)) events old → FollowsWindowsBy (is_due_after every n) before (last_of (is_due_after every n) (length events)) events new
+windows_counted every first n old new same follows =
+    subst (λ (m : ℕ). (before : ℕ → ℕ) (events : List Event) → StandsFor old events → FollowsWindowsBy (is_due_after every m) before (last_of (is_due_after every m) (length events - 1)) events old → FollowsWindowsBy (is_due_after every m) before (last_of (is_due_after every m) (length events)) events new) same follows
+
+-- a fact that follows, where all was well
+pub on_ok : {T E : Type 0} (r : Result T E) (P Q : Type 0) → (P → Q) → OnOk r P → OnOk r Q
+on_ok (Ok done) P Q follows p = follows p
+on_ok (Err why) P Q follows p = tt

@@ -1,17 +1,17 @@
 -- Lines that are gathered before they are written, and how a run stands meanwhile. Private clauses alone cite this file.
-use Rattle.std.specs.Prelude.{◌≡◌, ◌≢◌, ℕ, ◌⊎◌, List, [], ◌++◌, Option, Some, Result, Ok, Err}
+use Rattle.std.specs.Prelude.{◌≡◌, ◌≢◌, ℕ, ◌≤◌, ◌⊎◌, List, [], ◌++◌, length, Option, Some, Result, Ok, Err}
 use Rattle.cer_base.specs.declared.OrMemory.{OrMemory}
 use Rattle.cer_base.specs.declared.OrMemory.TheVariants.{Fault, Memory}
 use Rattle.cer_outside.specs.Causes.{Rose}
 use Rattle.cer_outside.specs.Bytes.{TookAll, TookPart}
 use Rattle.stream_schema.specs.declared.Event.{Event}
 use Rattle.answer_text.specs.declared.Order.{Order}
-use Rattle.answer_text.specs.Output.{IsOutput}
+use Rattle.output_laws.specs.After.{IsOutputAfter}
 use Rattle.event_reader.specs.Reading.{LineReader}
 use Rattle.query_engine.specs.Engine.{State, StandsFor}
 use Rattle.event_run.specs.declared.RunFault.{RunFault}
 use Rattle.event_run.specs.declared.RunFault.TheVariants as run
-use Rattle.event_run.specs.Taking.{HasTaken}
+use Rattle.event_run.specs.Taking.{HasTakenAfter}
 use Rattle.stream_answers.specs.declared.StreamFault.{StreamFault}
 use Rattle.stream_answers.specs.declared.StreamFault.TheVariants as fault
 use Rattle.stream_answers.specs.Streams.{Asked}
@@ -33,14 +33,15 @@ Passed before after held came now (Ok done) = PassesOn before after held came no
 Passed before after held came now (Err (Fault f)) = TookPart before after (held ++ came)
 Passed before after held came now (Err Memory) = (rest : List ℕ) × PassesOn before after held came now rest
 
--- The engine stands for events, of which the first have their answers written or held; `lines` are those of the source, where it tells them.
-pub record Running (a : Asked) (source : Option (List ℕ)) (reader : LineReader) (left before after : Option (List ℕ)) (held : List ℕ) (engine : State) : Type 0 where
+-- The engine stands for events, of which those after the earlier ones have their answers written or held; `lines` are those of the source, where it tells them.
+pub record Running (earlier : List Event) (a : Asked) (source : Option (List ℕ)) (reader : LineReader) (left before after : Option (List ℕ)) (held : List ℕ) (engine : State) : Type 0 where
   pub events : List Event
   pub stands : StandsFor engine events
   pub written : List ℕ
   pub took : TookAll before after written
-  pub output : IsOutput a.order a.schema a.queries events (written ++ held)
-  pub taken : (lines : List ℕ) → source ≡ Some lines → HasTaken a.schema a.queries reader lines left events
+  pub behind : length earlier ≤ length events
+  pub output : IsOutputAfter (length earlier) a.order a.schema a.queries events (written ++ held)
+  pub taken : (lines : List ℕ) → source ≡ Some lines → HasTakenAfter earlier a.schema a.queries reader lines left events
 
 -- What was held was written, and the answer is the one that was to come; or a write failed, and that is the answer.
 pub record Finished {T : Type 0} (before after : Option (List ℕ)) (old new : ℕ) (held : List ℕ) (end result : Result T (OrMemory StreamFault)) : Type 0 where

@@ -1,5 +1,5 @@
--- What has been written of the answers over the events of a source, by how it ended.
-use Rattle.std.specs.Prelude.{◌≡◌, ℕ, ◌⊎◌, List, length, Option, Some, Result, Ok, Err}
+-- What has been written of the answers over the events of a source, which may come after others, by how it ended.
+use Rattle.std.specs.Prelude.{◌≡◌, ℕ, ◌⊎◌, Bool, List, [], length, Option, Some, Result, Ok, Err}
 use Rattle.cer_base.specs.declared.OrMemory.{OrMemory}
 use Rattle.cer_base.specs.declared.OrMemory.TheVariants.{Fault, Memory}
 use Rattle.cer_outside.specs.Causes.{Rose}
@@ -8,13 +8,13 @@ use Rattle.stream_schema.specs.Types.{Declared}
 use Rattle.stream_schema.specs.declared.Event.{Event as StreamEvent}
 use Rattle.cel_terms.specs.declared.Query.{Query}
 use Rattle.answer_text.specs.declared.Order.{Order}
-use Rattle.answer_text.specs.Output.{IsOutput}
+use Rattle.output_laws.specs.After.{IsOutputAfter}
 use Rattle.answer_blocks.specs.Taken.{TookPrefix}
 use Rattle.query_engine.specs.Engine.{State, StandsFor}
-use Rattle.event_run.specs.Runs.{Stop, RunsTo}
+use Rattle.event_run.specs.Runs.{Stop, RunsAfter}
 use Rattle.event_run.specs.Runs as stop
-use Rattle.event_run.specs.Taking.{AreEventsRead}
-use Rattle.stream_answers.specs.Windows.{last_due, FollowsWindows}
+use Rattle.event_run.specs.Taking.{AreEventsReadAfter}
+use Rattle.stream_answers.specs.Windows.{is_due, last_of, FollowsWindowsBy}
 use Rattle.stream_answers.specs.declared.StreamFault.{StreamFault}
 use Rattle.stream_answers.specs.declared.StreamFault.TheVariants as fault
 
@@ -25,48 +25,75 @@ pub record Asked : Type 0 where
   pub queries : List Query
   pub most_bytes : ℕ
 
--- The bytes are the answers over the events that the queries take of a file of these bytes.
-pub record AreAnswersOver (a : Asked) (lines bytes : List ℕ) : Type 0 where
+-- WHAT COMES AFTER OTHER EVENTS
+-- `earlier` are events that came before and whose answers are not asked for; `events` are these and then those of the file.
+
+-- The bytes are the answers over the events that come after those before, as the queries take them of a file of these bytes.
+pub record AreAnswersAfter (earlier : List StreamEvent) (a : Asked) (lines bytes : List ℕ) : Type 0 where
   pub events : List StreamEvent
   pub stop : Stop
-  pub runs : RunsTo a.schema a.queries a.most_bytes lines events stop
-  pub output : IsOutput a.order a.schema a.queries events bytes
+  pub runs : RunsAfter earlier a.schema a.queries a.most_bytes lines events stop
+  pub output : IsOutputAfter (length earlier) a.order a.schema a.queries events bytes
 
--- The sink took the answers over these events, and what the source was tells which these are.
-pub record WroteOver (a : Asked) (source : Option (List ℕ)) (Are : List ℕ → List StreamEvent → Type 0) (before after : Option (List ℕ)) : Type 0 where
+-- The sink took the answers over the events that come after those before, and what the source was tells which these are.
+pub record WroteOverAfter (earlier : List StreamEvent) (a : Asked) (source : Option (List ℕ)) (Are : List ℕ → List StreamEvent → Type 0) (old new : Option (List ℕ)) : Type 0 where
   pub events : List StreamEvent
   pub bytes : List ℕ
-  pub output : IsOutput a.order a.schema a.queries events bytes
-  pub took : TookAll before after bytes
+  pub output : IsOutputAfter (length earlier) a.order a.schema a.queries events bytes
+  pub took : TookAll old new bytes
   pub are : (lines : List ℕ) → source ≡ Some lines → Are lines events
 
--- The engine stands for exactly the events that the queries take of a file of these bytes, which is read to its end. It was compacted after every so many of them, and its nodes follow the windows; these were its peaks before.
-pub record StandsForAll (every : Option ℕ) (peaks : ℕ → ℕ) (a : Asked) (lines : List ℕ) (engine : State) : Type 0 where
+-- The engine stands for exactly the events before and those that the queries take of a file of these bytes, which is read to its end. It was compacted where that was due, and its nodes follow the windows; these were its peaks before.
+pub record StandsForAllAfter (due : ℕ → Bool) (peaks : ℕ → ℕ) (earlier : List StreamEvent) (a : Asked) (lines : List ℕ) (engine : State) : Type 0 where
   pub events : List StreamEvent
-  pub runs : RunsTo a.schema a.queries a.most_bytes lines events stop.End
+  pub runs : RunsAfter earlier a.schema a.queries a.most_bytes lines events stop.End
   pub stands : StandsFor engine events
-  pub windows : FollowsWindows every peaks (last_due every (length events)) events engine
+  pub windows : FollowsWindowsBy due peaks (last_of due (length events)) events engine
 
 -- it took those over all events that the queries take, which stop so
-abbrev pub WroteAll : Asked → Option (List ℕ) → Stop → Option (List ℕ) → Option (List ℕ) → Type 0
-WroteAll a source stop before after =
-    WroteOver a source (λ lines events. RunsTo a.schema a.queries a.most_bytes lines events stop) before after
+abbrev pub WroteAllAfter : List StreamEvent → Asked → Option (List ℕ) → Stop → Option (List ℕ) → Option (List ℕ) → Type 0
+WroteAllAfter earlier a source stop old new =
+    WroteOverAfter earlier a source (λ lines events. RunsAfter earlier a.schema a.queries a.most_bytes lines events stop) old new
 
 -- The sink took a part of bytes, and where the source told its own, these are the answers over its events.
-pub record WrotePartOf (a : Asked) (source : Option (List ℕ)) (Took : List ℕ → Type 0) : Type 0 where
+pub record WrotePartOfAfter (earlier : List StreamEvent) (a : Asked) (source : Option (List ℕ)) (Took : List ℕ → Type 0) : Type 0 where
   pub bytes : List ℕ
   pub took : Took bytes
-  pub are : (lines : List ℕ) → source ≡ Some lines → AreAnswersOver a lines bytes
+  pub are : (lines : List ℕ) → source ≡ Some lines → AreAnswersAfter earlier a lines bytes
 
 -- all answers up to the stop; those over the lines that were read; a proper part after a fault of the sink; a first part where memory ran out
+abbrev pub WroteStreamAfter : List StreamEvent → Asked → Option (List ℕ) → Option (List ℕ) → Option (List ℕ) → Option (List ℕ) → {T : Type 0} → Result T (OrMemory StreamFault) → Type 0
+WroteStreamAfter earlier a source left old new (Ok done) = WroteAllAfter earlier a source stop.End old new
+WroteStreamAfter earlier a source left old new (Err (Fault (fault.Event line refusal))) = WroteAllAfter earlier a source (stop.Event line refusal) old new
+WroteStreamAfter earlier a source left old new (Err (Fault (fault.InputTooLong taken))) = WroteAllAfter earlier a source (stop.InputTooLong taken) old new
+WroteStreamAfter earlier a source left old new (Err (Fault fault.ReadFault)) =
+    WroteOverAfter earlier a source (λ lines events. AreEventsReadAfter earlier a.schema a.queries lines left events) old new
+WroteStreamAfter earlier a source left old new (Err (Fault fault.WriteFault)) = WrotePartOfAfter earlier a source (TookPart old new)
+WroteStreamAfter earlier a source left old new (Err Memory) = WrotePartOfAfter earlier a source (TookPrefix old new)
+
+-- THE SAME WITH NO EVENT BEFORE
+
+-- The bytes are the answers over the events that the queries take of a file of these bytes.
+abbrev pub AreAnswersOver : Asked → List ℕ → List ℕ → Type 0
+AreAnswersOver a lines bytes = AreAnswersAfter [] a lines bytes
+
+-- The sink took the answers over these events, and what the source was tells which these are.
+abbrev pub WroteOver : Asked → Option (List ℕ) → (List ℕ → List StreamEvent → Type 0) → Option (List ℕ) → Option (List ℕ) → Type 0
+WroteOver a source Are old new = WroteOverAfter [] a source Are old new
+
+-- The engine stands for exactly the events that the queries take of a file of these bytes, which is read to its end. It was compacted after every so many of them, and its nodes follow the windows; these were its peaks before.
+abbrev pub StandsForAll : Option ℕ → (ℕ → ℕ) → Asked → List ℕ → State → Type 0
+StandsForAll every peaks a lines engine = StandsForAllAfter (is_due every) peaks [] a lines engine
+
+abbrev pub WroteAll : Asked → Option (List ℕ) → Stop → Option (List ℕ) → Option (List ℕ) → Type 0
+WroteAll a source stop old new = WroteAllAfter [] a source stop old new
+
+abbrev pub WrotePartOf : Asked → Option (List ℕ) → (List ℕ → Type 0) → Type 0
+WrotePartOf a source Took = WrotePartOfAfter [] a source Took
+
+-- all answers up to the stop, or those over what was read, or a part of them
 abbrev pub WroteStream : Asked → Option (List ℕ) → Option (List ℕ) → Option (List ℕ) → Option (List ℕ) → {T : Type 0} → Result T (OrMemory StreamFault) → Type 0
-WroteStream a source left before after (Ok done) = WroteAll a source stop.End before after
-WroteStream a source left before after (Err (Fault (fault.Event line refusal))) = WroteAll a source (stop.Event line refusal) before after
-WroteStream a source left before after (Err (Fault (fault.InputTooLong taken))) = WroteAll a source (stop.InputTooLong taken) before after
-WroteStream a source left before after (Err (Fault fault.ReadFault)) =
-    WroteOver a source (λ lines events. AreEventsRead a.schema a.queries lines left events) before after
-WroteStream a source left before after (Err (Fault fault.WriteFault)) = WrotePartOf a source (TookPart before after)
-WroteStream a source left before after (Err Memory) = WrotePartOf a source (TookPrefix before after)
+WroteStream a source left old new result = WroteStreamAfter [] a source left old new result
 
 -- the source's count of faults rose where it failed, and else stays; where the sink failed the source may have failed before
 abbrev pub HasReadCause : {T : Type 0} → ℕ → ℕ → Result T (OrMemory StreamFault) → Type 0

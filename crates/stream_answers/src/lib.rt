@@ -3,6 +3,7 @@
 //! Promised: `write_answers` gives an engine the events of a file one after the other and writes,
 //! after each, the answers of all queries there, as `specs/Streams` says: all of them up to the
 //! end or to the first fault, and where the sink fails or memory runs out a first part of them.
+//! `write_answers_after` does so with an engine that has events already, and writes none at these.
 //! In sorted order lines are gathered until they fill a piece or the source has to be asked; in walk
 //! order each line is written before the next answer is asked for. `Output` gathers and writes the
 //! lines of whatever gives an engine its events.
@@ -16,7 +17,7 @@ mod tests;
 
 use event_reader::EventFault;
 pub use output::Output;
-pub use stream::{compact_if_due, finish, stream_fault, write_answers};
+pub use stream::{compact_if_due, finish, stream_fault, write_answers, write_answers_after};
 
 /// Why the answers ended before the end of the source.
 #[derive(Drop, Debug, Clone, Copy, PartialEq, Eq)]

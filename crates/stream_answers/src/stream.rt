@@ -1,14 +1,14 @@
 //! The loop over the events of a source.
 
-ghost use Rattle.std.specs.Prelude.{◌≡◌, ◌+◌, ◌-◌, ◌≤◌, ℕ, List, [], length, false, Some, OnOk};
+ghost use Rattle.std.specs.Prelude.{◌≡◌, ◌+◌, ◌-◌, ◌^◌, ◌<◌, ◌≤◌, ℕ, List, [], length, false, Some, OnOk};
 ghost use Rattle.stream_schema.specs.declared.Event.{Event};
 ghost use Rattle.event_reader.specs.Reading.{HasGiven};
 ghost use Rattle.query_engine.specs.Engine.{StandsFor, SameQueries, count_of, len_of, peak_of};
 ghost use Rattle.query_engine.specs.Counts.{MeetMost, HasFewNodes};
 ghost use Rattle.stream_answers.specs.Gathering.{Finished, stream_fault};
-ghost use Rattle.stream_answers.specs.Steps.{StepsOver, compaction_at};
-ghost use Rattle.stream_answers.specs.Windows.{is_due, last_due, FollowsWindows};
-ghost use Rattle.stream_answers.specs.Streams.{WroteStream, StandsForAll, HasReadCause, HasWriteCause};
+ghost use Rattle.stream_answers.specs.Steps.{AreBoundedBy, StepsOver, StepsOverAfter, compaction_by};
+ghost use Rattle.stream_answers.specs.Windows.{is_due, is_due_after, last_of, FollowsEvents, FollowsWindowsBy};
+ghost use Rattle.stream_answers.specs.Streams.{WroteStream, WroteStreamAfter, StandsForAll, StandsForAllAfter, HasReadCause, HasWriteCause};
 
 use crate::StreamFault;
 use crate::output::Output;
@@ -75,6 +75,69 @@ pub fn write_answers<Q: Source, K: Sink, L: Ledger>(
     ensures read_cause { HasReadCause (Q.faults source.old) (Q.faults source.new) result }
     ensures write_cause { HasWriteCause (K.faults out.old) (K.faults out.new) result }
 {
+    write_answers_after(
+        alloc,
+        order,
+        most_bytes,
+        compact_every,
+        engine,
+        source,
+        out,
+        steps,
+    )
+}
+
+/// The same for an engine that took events before, in which no answer was asked for: it goes on with
+/// the events of the source, and writes the answers at each of these. Positions go on from those
+/// before; line numbers are those of the source. With `compact_every` the engine is compacted after
+/// every so many events of the source, and before the first of them it is not.
+///
+/// The steps are bounded by all events, those before and those of the source, by the answers at the
+/// events of the source, and by the compactions; they may be counted from before the earlier events
+/// were taken, where these took no more than their own bound.
+pub fn write_answers_after<Q: Source, K: Sink, L: Ledger>(
+    alloc: Global,
+    order: Order,
+    most_bytes: u64,
+    compact_every: Option<u64>,
+    engine: &mut Engine,
+    source: &mut Q,
+    out: &mut K,
+    steps: &mut Steps<L>,
+) -> Result<(), OrMemory<StreamFault>>
+    requires room { count_of engine.old + most_bytes < 2 ^ 64 }
+    ensures wrote { (peaks : ℕ → ℕ) (earlier : List Event) → FollowsEvents peaks engine.old earlier
+        → WroteStreamAfter earlier (record {
+          order = order;
+          schema = engine.old.schema;
+          queries = engine.old.queries;
+          most_bytes = most_bytes;
+        })
+        (Q.left source.old) (Q.left source.new) (K.taken out.old) (K.taken out.new) result }
+    ensures steps { (peaks : ℕ → ℕ) (earlier : List Event) (begun : ℕ)
+        → FollowsEvents peaks engine.old earlier
+        → AreBoundedBy (is_due_after compact_every (length earlier)) engine.old.schema
+        engine.old.queries earlier [] begun steps.old
+        → (bytes : List ℕ) → Q.left source.old ≡ Some bytes
+        → StepsOverAfter (is_due_after compact_every (length earlier)) earlier (record {
+          order = order;
+          schema = engine.old.schema;
+          queries = engine.old.queries;
+          most_bytes = most_bytes;
+        }) bytes (K.taken out.old) (K.taken out.new) begun steps.new result }
+    ensures stands { OnOk result ((peaks : ℕ → ℕ) (earlier : List Event)
+        → FollowsEvents peaks engine.old earlier
+        → (bytes : List ℕ) → Q.left source.old ≡ Some bytes
+        → StandsForAllAfter (is_due_after compact_every (length earlier)) peaks earlier (record {
+          order = order;
+          schema = engine.old.schema;
+          queries = engine.old.queries;
+          most_bytes = most_bytes;
+        }) bytes engine.new) }
+    ensures same { SameQueries engine.old engine.new }
+    ensures read_cause { HasReadCause (Q.faults source.old) (Q.faults source.new) result }
+    ensures write_cause { HasWriteCause (K.faults out.old) (K.faults out.new) result }
+{
     let mut lines = match Lines::new(alloc, most_bytes) {
         Ok(lines) => lines,
         Err(Memory) => return Err(OrMemory::Memory),
@@ -106,27 +169,33 @@ fn answer_events<Q: Source, K: Sink, L: Ledger>(
     out: &mut K,
     steps: &mut Steps<L>,
 ) -> Result<(), OrMemory<StreamFault>>
-    requires fresh { StandsFor engine.old [] }
     requires open { lines.old.closed ≡ false }
-    requires counted { count_of engine.old ≤ lines.old.number }
+    requires room { count_of engine.old + lines.old.budget < 2 ^ 64 }
     requires given { (bytes : List ℕ) → HasGiven lines.old bytes (Some bytes) [] }
     requires empty { output.old.held ≡ [] }
-    ensures wrote { WroteStream (record {
-      order = output.old.order;
-      schema = engine.old.schema;
-      queries = engine.old.queries;
-      most_bytes = lines.old.budget;
-    })
-        (Q.left source.old) (Q.left source.new) (K.taken out.old) (K.taken out.new) result }
-    ensures steps { (bytes : List ℕ) → Q.left source.old ≡ Some bytes
-        → StepsOver compact_every (record {
+    ensures wrote { (peaks : ℕ → ℕ) (earlier : List Event) → FollowsEvents peaks engine.old earlier
+        → WroteStreamAfter earlier (record {
           order = output.old.order;
           schema = engine.old.schema;
           queries = engine.old.queries;
           most_bytes = lines.old.budget;
-        }) bytes (K.taken out.old) (K.taken out.new) steps.old steps.new result }
-    ensures stands { OnOk result ((bytes : List ℕ) → Q.left source.old ≡ Some bytes
-        → StandsForAll compact_every (peak_of engine.old) (record {
+        })
+        (Q.left source.old) (Q.left source.new) (K.taken out.old) (K.taken out.new) result }
+    ensures steps { (peaks : ℕ → ℕ) (earlier : List Event) (begun : ℕ)
+        → FollowsEvents peaks engine.old earlier
+        → AreBoundedBy (is_due_after compact_every (length earlier)) engine.old.schema
+        engine.old.queries earlier [] begun steps.old
+        → (bytes : List ℕ) → Q.left source.old ≡ Some bytes
+        → StepsOverAfter (is_due_after compact_every (length earlier)) earlier (record {
+          order = output.old.order;
+          schema = engine.old.schema;
+          queries = engine.old.queries;
+          most_bytes = lines.old.budget;
+        }) bytes (K.taken out.old) (K.taken out.new) begun steps.new result }
+    ensures stands { OnOk result ((peaks : ℕ → ℕ) (earlier : List Event)
+        → FollowsEvents peaks engine.old earlier
+        → (bytes : List ℕ) → Q.left source.old ≡ Some bytes
+        → StandsForAllAfter (is_due_after compact_every (length earlier)) peaks earlier (record {
           order = output.old.order;
           schema = engine.old.schema;
           queries = engine.old.queries;
@@ -136,6 +205,7 @@ fn answer_events<Q: Source, K: Sink, L: Ledger>(
     ensures read_cause { HasReadCause (Q.faults source.old) (Q.faults source.new) result }
     ensures write_cause { HasWriteCause (K.faults out.old) (K.faults out.new) result }
 {
+    let first = engine.events();
     loop {
         match take_event(alloc, lines, row, source, engine, steps) {
             Ok(Taken::Event) => {}
@@ -149,7 +219,7 @@ fn answer_events<Q: Source, K: Sink, L: Ledger>(
                 return Err(OrMemory::Fault(StreamFault::WriteFault));
             }
         }
-        match compact_if_due(compact_every, engine, steps) {
+        match compact_if_due(compact_every, first, engine, steps) {
             Ok(()) => {}
             Err(Memory) => return finish(output, out, Err(OrMemory::Memory)),
         }
@@ -166,10 +236,21 @@ fn is_due(every: Option<u64>, events: u64) -> bool
     }
 }
 
-/// Compacts the engine where it has taken so many events that it is due. After `Memory` it is as it
-/// was.
+/// The same where the first so many do not count.
+fn is_due_after(every: Option<u64>, first: u64, events: u64) -> bool
+    ensures { result ≡ is_due_after every first events }
+{
+    if first == 0 {
+        return is_due(every, events);
+    }
+    first < events && is_due(every, events - first)
+}
+
+/// Compacts the engine where it has taken so many events behind the first that it is due. After
+/// `Memory` it is as it was.
 pub fn compact_if_due<L: Ledger>(
     every: Option<u64>,
+    first: u64,
     engine: &mut Engine,
     steps: &mut Steps<L>,
 ) -> Result<(), Memory>
@@ -179,14 +260,17 @@ pub fn compact_if_due<L: Ledger>(
     ensures count { count_of engine.new ≡ count_of engine.old }
     ensures fewer { (query : ℕ) → len_of engine.new query ≤ len_of engine.old query }
     ensures windows { OnOk result ((before : ℕ → ℕ) (events : List Event) → StandsFor engine.old
-        events → FollowsWindows every before (last_due every (length events - 1)) events engine.old
-        → FollowsWindows every before (last_due every (length events)) events engine.new) }
+        events → FollowsWindowsBy (is_due_after every first) before
+        (last_of (is_due_after every first) (length events - 1)) events engine.old
+        → FollowsWindowsBy (is_due_after every first) before
+        (last_of (is_due_after every first) (length events)) events engine.new) }
     ensures steps { (events : List Event) (most : ℕ → ℕ) → StandsFor engine.old events
         → MeetMost engine.old.schema engine.old.queries events most
         → HasFewNodes engine.old (length events) most → steps.new ≤ steps.old
-        + compaction_at every (length engine.old.queries) most (length events) }
+        + compaction_by (is_due_after every first) (length engine.old.queries) most
+        (length events) }
 {
-    if !is_due(every, engine.events()) {
+    if !is_due_after(every, first, engine.events()) {
         return Ok(());
     }
     engine.compact(&mut [], steps)

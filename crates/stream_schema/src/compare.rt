@@ -60,6 +60,7 @@ pub fn is_met_by(op: Op, value: &Value, literal: &Value) -> bool
 }
 
 /// Whether the two values are equal, of one kind.
+#[inline]
 pub fn same_value(a: &Value, b: &Value) -> bool
     ensures { result ≡ same_value a.now b.now }
 {

@@ -34,3 +34,7 @@ pub offset_bounds-parts-number : goal.offset_bounds-parts-number
 offset_bounds-parts-number g c =
     let inside : slice_index_or c.args.numbers.now c.loop-number.number-index 0 - 1 < length c.loop-number.parts = next_within (g.P.Keeps.phase c.args.position) (g.P.Keeps.phase (c.args.position + 1)) c.args.event.now c.args.position c.args.numbers.now c.loop-number.number-index (slice_index_or c.args.numbers.now c.loop-number.number-index 0) c.args.parts.now c.loop-number.parts c.loop-number-test.true refl c.requires.set c.loop-number.invariant in
     search rules
+
+pub returns-clause-others : goal.returns-clause-others
+returns-clause-others g c =
+    (subst (λ ns. HasCommitted (g.P.Keeps.phase c.args.position) (g.P.Keeps.phase (c.args.position + 1)) c.args.event.now c.args.position ns c.args.parts.now c.loop-number.parts) (take_all c.loop-number.number-index c.args.numbers.now c.loop-number-test.false) c.loop-number.invariant).left

@@ -1,82 +1,117 @@
-use Rattle.std.proofs.Common.{◌≡◌, ◌+◌, ◌<◌, length, refl, subst, arith}
+use Rattle.std.proofs.Common.{◌<◌, length, arith}
 use Rattle.query_standing.specs.Bounds.{update_bound}
-use Rattle.all_or_none.specs.Phases.{back, IsIdle, AreSet, CanPrepare, InTime, StandsAt, MeetsAtMost, ready_bound}
+use Rattle.all_or_none.specs.Phases.{back, IsIdle, CanPrepare, InTime, StandsAt, MeetsAtMost, ready_bound}
 use Rattle.std.proofs.lemmas.List.Sums.{sum_by-take-le}
-use Rattle.all_or_none.proofs.Numbers.{set_none, set_next}
-use Rattle.all_or_none.proofs.LoopTurn.{all_here, same_next, left_next, same_whole, sum_next, pair_at, all_mapped}
+use Rattle.all_or_none.proofs.LoopTurn.{all_here, same_whole, sum_next, pair_at, all_mapped}
+use Rattle.all_or_none.proofs.Marked.{CanTake, gone_none, skip_to, next_one, gone_all, sum_more, untouched_next}
 use Rattle.all_or_none.proofs.prepare_all.Goals as goal
 
-pub prepare_one-requires-clause-can : goal.prepare_one-requires-clause-can
-prepare_one-requires-clause-can g c =
-    let inside : c.loop-k.k < length c.loop-k.parts = omega arith in
-    let same : length c.loop-k.parts ≡ length c.args.parts.now = omega arith in
-    all_here (λ p. CanPrepare c.args.event.now c.args.position (g.P.Keeps.phase c.args.position p)) c.loop-k.parts c.args.parts.now c.loop-k.k c.index-parts-k.result inside same c.loop-k.invariant.left c.requires.can
+pub loop-k-init : goal.loop-k-init
+loop-k-init g c = record {
+  low = omega arith;
+  gone = gone_none g.P.Keeps.phase c.args.event.now c.args.position c.args.marked.now c.clear.new.self.items c.args.parts.now c.clear.ensures.items;
+  steps = omega arith;
+  within = λ events most count bounded. omega arith;
+}
 
 pub prepare_one-requires-clause-idle : goal.prepare_one-requires-clause-idle
 prepare_one-requires-clause-idle g c =
-    let inside : c.loop-k.k < length c.loop-k.parts = omega arith in
-    let same : length c.loop-k.parts ≡ length c.args.parts.now = omega arith in
-    all_here (λ p. IsIdle (g.P.Keeps.phase c.args.position p)) c.loop-k.parts c.args.parts.now c.loop-k.k c.index-parts-k.result inside same c.loop-k.invariant.left c.requires.idle
+    let phase = g.P.Keeps.phase in
+    let same = c.loop-k.invariant.gone.count in
+    let inside : c.in-Some.k < length c.loop-k.parts = c.in-Some.ensures.found.1 in
+    let asked : CanTake g.P.Keeps.phase c.args.event.now c.args.position c.args.marked.now c.args.parts.now = record { idle = c.requires.idle; can = c.requires.can; left = c.requires.left; unread = c.requires.unread } in
+    let gone = skip_to phase c.args.event.now c.args.position c.args.marked.now c.args.parts.now asked c.loop-k.from c.in-Some.k c.loop-k.touched.items c.loop-k.parts c.in-Some.ensures.found.0 (omega arith) c.loop-k.invariant.gone c.in-Some.ensures.first in
+    all_here (λ p. IsIdle (phase c.args.position p)) c.loop-k.parts c.args.parts.now c.in-Some.k c.index-parts-k.result inside same gone.left c.requires.idle
+
+pub prepare_one-requires-clause-can : goal.prepare_one-requires-clause-can
+prepare_one-requires-clause-can g c =
+    let phase = g.P.Keeps.phase in
+    let same = c.loop-k.invariant.gone.count in
+    let inside : c.in-Some.k < length c.loop-k.parts = c.in-Some.ensures.found.1 in
+    let asked : CanTake g.P.Keeps.phase c.args.event.now c.args.position c.args.marked.now c.args.parts.now = record { idle = c.requires.idle; can = c.requires.can; left = c.requires.left; unread = c.requires.unread } in
+    let gone = skip_to phase c.args.event.now c.args.position c.args.marked.now c.args.parts.now asked c.loop-k.from c.in-Some.k c.loop-k.touched.items c.loop-k.parts c.in-Some.ensures.found.0 (omega arith) c.loop-k.invariant.gone c.in-Some.ensures.first in
+    all_here (λ p. CanPrepare c.args.event.now c.args.position (phase c.args.position p)) c.loop-k.parts c.args.parts.now c.in-Some.k c.index-parts-k.result inside same gone.left c.requires.can
 
 pub returns-in_err-prepare_one-clause-kept : goal.returns-in_err-prepare_one-clause-kept
 returns-in_err-prepare_one-clause-kept g c =
-    let inside : c.loop-k.k < length c.loop-k.parts = omega arith in
-    let same : length c.loop-k.parts ≡ length c.args.parts.now = omega arith in
-    same_whole (λ p. back (g.P.Keeps.phase c.args.position p)) c.loop-k.parts c.args.parts.now c.loop-k.k c.prepare_one.new.part c.index-parts-k.result inside same c.loop-k.invariant.left c.loop-k.invariant.kept c.prepare_one.ensures.kept
+    let phase = g.P.Keeps.phase in
+    let same = c.loop-k.invariant.gone.count in
+    let inside : c.in-Some.k < length c.loop-k.parts = c.in-Some.ensures.found.1 in
+    let asked : CanTake g.P.Keeps.phase c.args.event.now c.args.position c.args.marked.now c.args.parts.now = record { idle = c.requires.idle; can = c.requires.can; left = c.requires.left; unread = c.requires.unread } in
+    let gone = skip_to phase c.args.event.now c.args.position c.args.marked.now c.args.parts.now asked c.loop-k.from c.in-Some.k c.loop-k.touched.items c.loop-k.parts c.in-Some.ensures.found.0 (omega arith) c.loop-k.invariant.gone c.in-Some.ensures.first in
+    same_whole (λ p. back (phase c.args.position p)) c.loop-k.parts c.args.parts.now c.in-Some.k c.prepare_one.new.part c.index-parts-k.result inside same gone.left gone.kept c.prepare_one.ensures.kept
+
+pub returns-in_err-prepare_one-clause-others : goal.returns-in_err-prepare_one-clause-others
+returns-in_err-prepare_one-clause-others g c = untouched_next c.args.marked.now c.args.parts.now c.loop-k.parts c.in-Some.k c.prepare_one.new.part c.loop-k.invariant.gone.others c.in-Some.ensures.found.2
+
+pub returns-in_err-prepare_one-clause-within : goal.returns-in_err-prepare_one-clause-within
+returns-in_err-prepare_one-clause-within g c events most count bounded =
+    let phase = g.P.Keeps.phase in
+    let event = c.args.event.now in
+    let at = g.P.Keeps.phase c.args.position in
+    let same = c.loop-k.invariant.gone.count in
+    let inside : c.in-Some.k < length c.loop-k.parts = c.in-Some.ensures.found.1 in
+    let asked : CanTake g.P.Keeps.phase c.args.event.now c.args.position c.args.marked.now c.args.parts.now = record { idle = c.requires.idle; can = c.requires.can; left = c.requires.left; unread = c.requires.unread } in
+    let gone = skip_to phase event c.args.position c.args.marked.now c.args.parts.now asked c.loop-k.from c.in-Some.k c.loop-k.touched.items c.loop-k.parts c.in-Some.ensures.found.0 (omega arith) c.loop-k.invariant.gone c.in-Some.ensures.first in
+    let pair = pair_at (MeetsAtMost events event) at update_bound c.loop-k.parts c.args.parts.now most c.in-Some.k c.index-parts-k.result inside same gone.left bounded.each in
+    let time = all_here (λ p. InTime events event (at p)) c.loop-k.parts c.args.parts.now c.in-Some.k c.index-parts-k.result inside same gone.left (all_mapped (InTime events event) at c.args.parts.now bounded.in_time) in
+    let stands = all_here (λ p. StandsAt events (at p)) c.loop-k.parts c.args.parts.now c.in-Some.k c.index-parts-k.result inside same gone.left (all_mapped (StandsAt events) at c.args.parts.now bounded.stands) in
+    let before = c.loop-k.invariant.within events most count bounded in
+    let more = sum_more update_bound most c.loop-k.from c.in-Some.k c.in-Some.ensures.found.0 in
+    let own = c.prepare_one.ensures.within events pair.other count time stands pair.related in
+    let sum = pair.sum in
+    let all = pair.within in
+    omega arith
 
 pub loop-k-preserved : goal.loop-k-preserved
 loop-k-preserved g c =
-    let inside : c.loop-k.k < length c.loop-k.parts = omega arith in
-    let same : length c.loop-k.parts ≡ length c.args.parts.now = omega arith in
+    let phase = g.P.Keeps.phase in
+    let event = c.args.event.now in
+    let at = g.P.Keeps.phase c.args.position in
+    let same = c.loop-k.invariant.gone.count in
+    let inside : c.in-Some.k < length c.loop-k.parts = c.in-Some.ensures.found.1 in
+    let asked : CanTake g.P.Keeps.phase c.args.event.now c.args.position c.args.marked.now c.args.parts.now = record { idle = c.requires.idle; can = c.requires.can; left = c.requires.left; unread = c.requires.unread } in
+    let gone = skip_to phase event c.args.position c.args.marked.now c.args.parts.now asked c.loop-k.from c.in-Some.k c.loop-k.touched.items c.loop-k.parts c.in-Some.ensures.found.0 (omega arith) c.loop-k.invariant.gone c.in-Some.ensures.first in
     record {
-      kept = same_next (λ p. back (g.P.Keeps.phase c.args.position p)) (λ p. back (g.P.Keeps.phase c.args.position p)) c.loop-k.parts c.args.parts.now c.loop-k.k c.prepare_one.new.part c.index-parts-k.result inside same c.loop-k.invariant.left c.loop-k.invariant.kept c.prepare_one.ensures.kept;
-      set = set_next (g.P.Keeps.phase c.args.position) (g.P.Keeps.phase (c.args.position + 1)) c.args.event.now c.args.position c.loop-k.k c.loop-k.touched.items c.loop-k.parts c.prepare_one.new.part c.loop-k.invariant.set c.prepare_one.new.touched.items c.in_ok-prepare_one.ensures.noted;
-      left = left_next c.loop-k.parts c.args.parts.now c.loop-k.k c.prepare_one.new.part inside same c.loop-k.invariant.left;
-      steps = (let sum = sum_next (λ p. ready_bound (g.P.Keeps.phase c.args.position p)) c.loop-k.parts c.loop-k.k c.prepare_one.new.part inside in let before = c.loop-k.invariant.steps in let own = c.in_ok-prepare_one.ensures.steps in omega arith);
+      low = omega arith;
+      gone = next_one phase event c.args.position c.args.marked.now c.args.parts.now asked c.in-Some.k c.loop-k.touched.items c.prepare_one.new.touched.items c.loop-k.parts c.prepare_one.new.part c.index-parts-k.result gone inside c.in-Some.ensures.found.2 c.prepare_one.ensures.kept c.in_ok-prepare_one.ensures.noted;
+      steps = (
+          let sum = sum_next (λ p. ready_bound (at p)) c.loop-k.parts c.in-Some.k c.prepare_one.new.part inside in
+          let before = c.loop-k.invariant.steps in
+          let more = sum_more (λ p. ready_bound (at p)) c.loop-k.parts c.loop-k.from c.in-Some.k c.in-Some.ensures.found.0 in
+          let own = c.in_ok-prepare_one.ensures.steps in
+          omega arith
+          );
       within = λ events most count bounded. (
-          let phase = g.P.Keeps.phase c.args.position in
-          let event = c.args.event.now in
-          let pair = pair_at (MeetsAtMost events event) phase update_bound c.loop-k.parts c.args.parts.now most c.loop-k.k c.index-parts-k.result inside same c.loop-k.invariant.left bounded.each in
-          let time = all_here (λ p. InTime events event (phase p)) c.loop-k.parts c.args.parts.now c.loop-k.k c.index-parts-k.result inside same c.loop-k.invariant.left (all_mapped (InTime events event) phase c.args.parts.now bounded.in_time) in
-          let stands = all_here (λ p. StandsAt events (phase p)) c.loop-k.parts c.args.parts.now c.loop-k.k c.index-parts-k.result inside same c.loop-k.invariant.left (all_mapped (StandsAt events) phase c.args.parts.now bounded.stands) in
+          let pair = pair_at (MeetsAtMost events event) at update_bound c.loop-k.parts c.args.parts.now most c.in-Some.k c.index-parts-k.result inside same gone.left bounded.each in
+          let time = all_here (λ p. InTime events event (at p)) c.loop-k.parts c.args.parts.now c.in-Some.k c.index-parts-k.result inside same gone.left (all_mapped (InTime events event) at c.args.parts.now bounded.in_time) in
+          let stands = all_here (λ p. StandsAt events (at p)) c.loop-k.parts c.args.parts.now c.in-Some.k c.index-parts-k.result inside same gone.left (all_mapped (StandsAt events) at c.args.parts.now bounded.stands) in
           let before = c.loop-k.invariant.within events most count bounded in
+          let more = sum_more update_bound most c.loop-k.from c.in-Some.k c.in-Some.ensures.found.0 in
           let own = c.prepare_one.ensures.within events pair.other count time stands pair.related in
           let sum = pair.sum in
           omega arith
           );
     }
 
-pub returns-in_err-prepare_one-clause-within : goal.returns-in_err-prepare_one-clause-within
-returns-in_err-prepare_one-clause-within g c events most count bounded =
-    let inside : c.loop-k.k < length c.loop-k.parts = omega arith in
-    let same : length c.loop-k.parts ≡ length c.args.parts.now = omega arith in
-    let phase = g.P.Keeps.phase c.args.position in
-    let event = c.args.event.now in
-    let pair = pair_at (MeetsAtMost events event) phase update_bound c.loop-k.parts c.args.parts.now most c.loop-k.k c.index-parts-k.result inside same c.loop-k.invariant.left bounded.each in
-    let time = all_here (λ p. InTime events event (phase p)) c.loop-k.parts c.args.parts.now c.loop-k.k c.index-parts-k.result inside same c.loop-k.invariant.left (all_mapped (InTime events event) phase c.args.parts.now bounded.in_time) in
-    let stands = all_here (λ p. StandsAt events (phase p)) c.loop-k.parts c.args.parts.now c.loop-k.k c.index-parts-k.result inside same c.loop-k.invariant.left (all_mapped (StandsAt events) phase c.args.parts.now bounded.stands) in
-    let before = c.loop-k.invariant.within events most count bounded in
-    let own = c.prepare_one.ensures.within events pair.other count time stands pair.related in
-    let sum = pair.sum in
-    let all = pair.within in
+pub returns-clause-kept : goal.returns-clause-kept
+returns-clause-kept g c =
+    let asked : CanTake g.P.Keeps.phase c.args.event.now c.args.position c.args.marked.now c.args.parts.now = record { idle = c.requires.idle; can = c.requires.can; left = c.requires.left; unread = c.requires.unread } in
+    (gone_all g.P.Keeps.phase c.args.event.now c.args.position c.args.marked.now c.args.parts.now asked c.loop-k.from c.loop-k.touched.items c.loop-k.parts c.loop-k.invariant.low c.loop-k.invariant.gone c.in_default.ensures.none).kept
+
+pub returns-clause-set : goal.returns-clause-set
+returns-clause-set g c =
+    let asked : CanTake g.P.Keeps.phase c.args.event.now c.args.position c.args.marked.now c.args.parts.now = record { idle = c.requires.idle; can = c.requires.can; left = c.requires.left; unread = c.requires.unread } in
+    (gone_all g.P.Keeps.phase c.args.event.now c.args.position c.args.marked.now c.args.parts.now asked c.loop-k.from c.loop-k.touched.items c.loop-k.parts c.loop-k.invariant.low c.loop-k.invariant.gone c.in_default.ensures.none).set
+
+pub returns-clause-steps : goal.returns-clause-steps
+returns-clause-steps g c =
+    let before = c.loop-k.invariant.steps in
+    let part = sum_by-take-le (λ p. ready_bound (g.P.Keeps.phase c.args.position p)) c.loop-k.parts c.loop-k.from in
     omega arith
 
 pub returns-clause-within : goal.returns-clause-within
 returns-clause-within g c events most count bounded =
     let before = c.loop-k.invariant.within events most count bounded in
-    let part = sum_by-take-le update_bound most c.loop-k.k in
+    let part = sum_by-take-le update_bound most c.loop-k.from in
     omega arith
-
-pub loop-k-init : goal.loop-k-init
-loop-k-init g c = record {
-  kept = refl;
-  set = set_none (g.P.Keeps.phase c.args.position) (g.P.Keeps.phase (c.args.position + 1)) c.args.event.now c.args.position c.clear.new.self.items c.args.parts.now c.clear.ensures.items;
-  left = refl;
-  steps = omega arith;
-  within = λ events most count bounded. omega arith;
-}
-
-pub returns-clause-set : goal.returns-clause-set
-returns-clause-set g c =
-    let end : c.loop-k.k ≡ length c.loop-k.parts = omega arith in
-    subst (λ n. AreSet (g.P.Keeps.phase c.args.position) (g.P.Keeps.phase (c.args.position + 1)) c.args.event.now c.args.position n c.loop-k.touched.items c.loop-k.parts) end c.loop-k.invariant.set

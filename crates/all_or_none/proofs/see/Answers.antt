@@ -1,6 +1,7 @@
-use Rattle.std.proofs.Common.{◌+◌, length, map, subst, sym, arith}
-use Rattle.all_or_none.specs.Phases.{AreSet, MayAnswer}
-use Rattle.all_or_none.proofs.BothPhases.{stands_after, idle_after, quiet_after, as_before, grown_after, bounds_after}
+use Rattle.std.proofs.Common.{◌+◌, ◌∙◌, length, map, subst, sym, arith}
+use Rattle.all_or_none.specs.Phases.{AreSet, MayAnswer, AreOfMarked}
+use Rattle.all_or_none.proofs.BothPhases.{stands_after, idle_after, quiet_after, grown_after, bounds_after}
+use Rattle.all_or_none.proofs.Marked.{known_after, untouched_all, left_after, left_again, unchanged_after}
 use Rattle.all_or_none.proofs.see.Goals as goal
 
 pub returns-in-Ok-clause-stands : goal.returns-in-Ok-clause-stands
@@ -13,7 +14,7 @@ pub returns-in-Ok-clause-quiet : goal.returns-in-Ok-clause-quiet
 returns-in-Ok-clause-quiet g c = quiet_after (g.P.Keeps.phase c.args.position) (g.P.Keeps.phase (c.args.position + 1)) c.args.event.now c.args.position c.prepare_all.new.parts c.commit_all.new.parts c.commit_all.ensures.taken
 
 pub returns-in-Err-clause-unchanged : goal.returns-in-Err-clause-unchanged
-returns-in-Err-clause-unchanged g c = as_before (g.P.Keeps.phase c.args.position) c.args.parts.now c.prepare_all.new.parts c.take_back_all.new.parts c.requires.idle c.prepare_all.ensures.kept (c.take_back_all.ensures c.args.position)
+returns-in-Err-clause-unchanged g c = unchanged_after g.P.Keeps.phase c.args.position c.args.marked.now c.args.parts.now c.prepare_all.new.parts c.take_back_all.new.parts c.requires.idle c.prepare_all.ensures.kept c.prepare_all.ensures.others c.take_back_all.ensures
 
 pub returns-in-Ok-clause-grown : goal.returns-in-Ok-clause-grown
 returns-in-Ok-clause-grown g c = grown_after (g.P.Keeps.phase c.args.position) (g.P.Keeps.phase (c.args.position + 1)) c.args.event.now c.args.position c.args.parts.now c.prepare_all.new.parts c.commit_all.new.parts c.in-Ok.ensures.kept c.commit_all.ensures.taken
@@ -29,3 +30,17 @@ returns-in-Ok-clause-answering g c = subst (λ ns. MayAnswer ns (map (g.P.Keeps.
 
 pub commit_all-requires-clause-set : goal.commit_all-requires-clause-set
 commit_all-requires-clause-set g c = subst (λ ns. AreSet (g.P.Keeps.phase c.args.position) (g.P.Keeps.phase (c.args.position + 1)) c.args.event.now c.args.position (length c.prepare_all.new.parts) ns c.prepare_all.new.parts) (sym c.as_slice.ensures.value) c.in-Ok.ensures.set
+
+pub returns-in-Ok-clause-left : goal.returns-in-Ok-clause-left
+returns-in-Ok-clause-left g c =
+    let numbers = c.as_slice.result.now in
+    let listed = subst (AreOfMarked c.args.marked.now) (sym c.as_slice.ensures.value) c.in-Ok.ensures.marked in
+    left_after g.P.Keeps.phase c.args.position c.args.marked.now c.look_all.new.awake c.args.parts.now c.commit_all.new.parts
+    (known_after g.P.Keeps.phase c.args.event.now c.args.position c.args.parts.now c.prepare_all.new.parts c.commit_all.new.parts c.in-Ok.ensures.kept c.commit_all.ensures.taken c.requires.left.known)
+    (untouched_all c.args.marked.now numbers c.args.parts.now c.prepare_all.new.parts c.commit_all.new.parts listed c.in-Ok.ensures.others c.commit_all.ensures.others)
+    c.requires.left c.look_all.ensures.rest
+
+pub returns-in-Err-clause-still_left : goal.returns-in-Err-clause-still_left
+returns-in-Err-clause-still_left g c =
+    let same = unchanged_after g.P.Keeps.phase c.args.position c.args.marked.now c.args.parts.now c.prepare_all.new.parts c.take_back_all.new.parts c.requires.idle c.prepare_all.ensures.kept c.prepare_all.ensures.others c.take_back_all.ensures in
+    left_again g.P.Keeps.phase c.args.position c.args.marked.now c.args.awake.now c.unite.new.self c.args.parts.now c.take_back_all.new.parts same (λ k unmarked. c.take_back_all.ensures.others k unmarked ∙ c.prepare_all.ensures.others k unmarked) c.requires.left c.unite.ensures.members

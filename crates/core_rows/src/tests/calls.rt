@@ -131,6 +131,72 @@ pub fn sure_host(alloc: Global, queries: &[u8], events: &[u8]) -> Result<SureHos
     Ok(SureHost::new(files))
 }
 
+/// The host that has a checkpoint as `c` beside the query text and the events, each read in pieces of 4
+/// bytes. The open of the first number fails, of the checkpoint the read of the second, of the event
+/// file that of the third.
+pub fn failing_resume_host(
+    alloc: Global,
+    queries: &[u8],
+    checkpoint: &[u8],
+    events: &[u8],
+    open: u64,
+    checkpoint_read: u64,
+    event_read: u64,
+) -> Result<MemHost, AllocError> {
+    let mut files = Vec::new(alloc);
+    for (name, bytes, read) in [
+        ("q", queries, 0),
+        ("c", checkpoint, checkpoint_read),
+        ("e", events, event_read),
+    ] {
+        let Ok(name) = Text::copy_of(alloc, name) else {
+            return Err(AllocError);
+        };
+        let bytes = Vec::from_slice(alloc, bytes)?;
+        files.push(MemFile::new(name, bytes, 4, Vec::from_slice(alloc, &[read])?))?;
+    }
+    Ok(MemHost::new(files, Vec::from_slice(alloc, &[open])?))
+}
+
+/// The host that has these three files, and never fails.
+pub fn sure_resume_host(
+    alloc: Global,
+    queries: &[u8],
+    checkpoint: &[u8],
+    events: &[u8],
+) -> Result<SureHost, AllocError> {
+    let mut files = Vec::new(alloc);
+    for (name, bytes) in [("q", queries), ("c", checkpoint), ("e", events)] {
+        let Ok(name) = Text::copy_of(alloc, name) else {
+            return Err(AllocError);
+        };
+        let bytes = Vec::from_slice(alloc, bytes)?;
+        files.push(SureFile::new(name, bytes, 3))?;
+    }
+    Ok(SureHost::new(files))
+}
+
+/// What a call answers over both hosts that have a checkpoint, where all goes well outside.
+pub fn both_resume(
+    alloc: Global,
+    words: &str,
+    queries: &[u8],
+    checkpoint: &[u8],
+    events: &[u8],
+) -> Result<(String, String), AllocError> {
+    let sinks = Sinks {
+        room: AMPLE,
+        piece: 7,
+        write: 0,
+        note: 0,
+    };
+    let mut faulty = failing_resume_host(alloc, queries, checkpoint, events, 0, 0, 0)?;
+    let first = over_faulty(alloc, words_of(alloc, words)?, &mut faulty, sinks)?;
+    let mut sure = sure_resume_host(alloc, queries, checkpoint, events)?;
+    let second = over_sure(alloc, words_of(alloc, words)?, &mut sure, sinks)?;
+    Ok((first, second))
+}
+
 /// What a call answers over both hosts, where all goes well outside.
 pub fn both(
     alloc: Global,

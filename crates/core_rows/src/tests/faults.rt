@@ -194,7 +194,8 @@ fn each_write_fails(rt: HostRuntime) -> Result<(), Fail> {
     holds(&rt, alloc, Failing { write, ..NONE }, 0, OUTPUT, "")
 }
 
-/// Late events are answered as they go, or at the end; an explanation is written at its end.
+/// Late events are answered as they go, or at the end; an explanation and a checkpoint are written at
+/// their end.
 #[test]
 fn a_write_fails_in_each_command(rt: HostRuntime) -> Result<(), Fail> {
     let alloc = rt.alloc();
@@ -204,6 +205,8 @@ fn a_write_fails_in_each_command(rt: HostRuntime) -> Result<(), Fail> {
         ("reorder --order walk q e v 9", 4, "1 [0,0] {0}\n"),
         ("explain q e 1 0 1 0 1", 1, ""),
         ("explain q e 1 0 1 0 1", 5, "1 [0,1] {0,1}\nA {0,1"),
+        ("save q e", 1, ""),
+        ("save q e", 3, "core check"),
     ] {
         let failing = Failing { write, ..NONE };
         words_hold(
@@ -240,6 +243,23 @@ fn a_read_of_late_events_fails(rt: HostRuntime) -> Result<(), Fail> {
         )?;
     }
     Ok(())
+}
+
+/// Three reads give the events, and a fourth finds the end.
+#[test]
+fn nothing_is_saved_where_a_read_fails(rt: HostRuntime) -> Result<(), Fail> {
+    let alloc = rt.alloc();
+    let note = "core: cannot read events\n";
+    for event_read in 1..=4u64 {
+        let failing = Failing { event_read, ..NONE };
+        words_hold(&rt, alloc, "save q e", failing, 5, "", note)?;
+    }
+    let saved = "core checkpoint 1\nevents 3 3\nat 0\nA,1\nat 1\nA,2\nat 2\nA,3\n";
+    let failing = Failing {
+        event_read: 5,
+        ..NONE
+    };
+    words_hold(&rt, alloc, "save q e", failing, 0, saved, "")
 }
 
 /// A sink with room for 20 bytes keeps as many.

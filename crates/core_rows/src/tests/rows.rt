@@ -1,6 +1,6 @@
 //! Tables of rows: a line each for a whole call of the program.
 
-use super::calls::both;
+use super::calls::{both, both_resume};
 use std::alloc::{AllocError, Global};
 use std::process::Abort;
 use std::test::*;
@@ -13,15 +13,17 @@ const RUN: &str = "run q e";
 
 /// The note `usage` of a table.
 const USAGE: &str =
-    "usage: core_cli run QUERIES EVENTS [--order walk|sorted] [--compact-every N] [--max-bytes N], core_cli sample SEED COUNT, core_cli session QUERIES SCRIPT, core_cli reorder QUERIES EVENTS CLOCK LATE [--order walk|sorted] [--compact-every N] [--max-bytes N], core_cli explain QUERIES EVENTS QUERY START END [POSITION]...";
+    "usage: core_cli run QUERIES EVENTS [--order walk|sorted] [--compact-every N] [--max-bytes N], core_cli sample SEED COUNT, core_cli session QUERIES SCRIPT, core_cli reorder QUERIES EVENTS CLOCK LATE [--order walk|sorted] [--compact-every N] [--max-bytes N], core_cli explain QUERIES EVENTS QUERY START END [POSITION]..., core_cli save QUERIES EVENTS, core_cli resume QUERIES CHECKPOINT EVENTS [--order walk|sorted] [--compact-every N] [--max-bytes N]";
 
 /// What a row says: the words, the lines after the query text's first ones, the formula of a query
-/// that marks all, the lines of the event file, the status, the lines of the output, and the note.
+/// that marks all, the lines of the checkpoint, those of the event file, the status, the lines of the
+/// output, and the note.
 #[derive(Clone, Copy)]
 struct Row<'a> {
     words: &'a str,
     query: Option<&'a str>,
     formula: Option<&'a str>,
+    checkpoint: Option<&'a str>,
     events: Option<&'a str>,
     status: &'a str,
     output: &'a str,
@@ -35,6 +37,7 @@ fn row_of<'a>(columns: &str, line: &'a str) -> Row<'a> {
         words: RUN,
         query: None,
         formula: None,
+        checkpoint: None,
         events: None,
         status: "0",
         output: "",
@@ -45,6 +48,7 @@ fn row_of<'a>(columns: &str, line: &'a str) -> Row<'a> {
             "words" => row.words = cell,
             "query" => row.query = Some(cell),
             "formula" => row.formula = Some(cell),
+            "checkpoint" => row.checkpoint = Some(cell),
             "events" => row.events = Some(cell),
             "status" => row.status = cell,
             "output" => row.output = cell,
@@ -100,6 +104,26 @@ fn wanted_of(alloc: Global, row: Row<'_>) -> Result<String, AllocError> {
     Ok(text)
 }
 
+/// What the row's words answer over both hosts.
+fn answers_of(
+    alloc: Global,
+    row: Row<'_>,
+    queries: &str,
+    events: &str,
+) -> Result<(String, String), AllocError> {
+    if row.checkpoint.is_none() {
+        return both(alloc, row.words, queries.as_bytes(), events.as_bytes());
+    }
+    let checkpoint = lines_of(alloc, row.checkpoint)?;
+    both_resume(
+        alloc,
+        row.words,
+        queries.as_bytes(),
+        checkpoint.as_bytes(),
+        events.as_bytes(),
+    )
+}
+
 /// Holds the row against both hosts.
 fn row_holds(
     rt: &impl Abort,
@@ -112,7 +136,7 @@ fn row_holds(
     let queries = queries_of(alloc, first, row)?;
     let events = lines_of(alloc, row.events)?;
     let wanted = wanted_of(alloc, row)?;
-    let (faulty, sure) = both(alloc, row.words, queries.as_bytes(), events.as_bytes())?;
+    let (faulty, sure) = answers_of(alloc, row, queries.as_str(), events.as_str())?;
     assert_eq!(rt; faulty.as_str(), wanted.as_str(), "{line}");
     assert_eq!(rt; sure.as_str(), wanted.as_str(), "{line}");
     Ok(())

@@ -6,29 +6,29 @@ use Rattle.event_update.proofs.GivenBack.{discovers_none, states_more, pairs_mor
 use Rattle.event_update.proofs.prepare.Goals as goal
 
 pub back-requires-clause-states : goal.back-requires-clause-states
-back-requires-clause-states g c = let more = states_more _ _ _ _ c.find_and_stage.ensures.det in let same = c.mark-mark.ensures.states in omega arith
+back-requires-clause-states g c = let more = states_more _ _ _ _ c.find_and_stage.ensures.det in let same = c.sizes-sizes.ensures.states in omega arith
 
 pub back-requires-clause-pairs : goal.back-requires-clause-pairs
-back-requires-clause-pairs g c = let more = pairs_more _ _ _ _ c.find_and_stage.ensures.det in let same = c.mark-mark.ensures.pairs in omega arith
+back-requires-clause-pairs g c = let more = pairs_more _ _ _ _ c.find_and_stage.ensures.det in let same = c.sizes-sizes.ensures.pairs in omega arith
 
 pub back-requires-clause-classes : goal.back-requires-clause-classes
-back-requires-clause-classes g c = let more = classes_more _ _ _ _ c.find_and_stage.ensures.det in let same = c.mark-mark.ensures.classes in omega arith
+back-requires-clause-classes g c = let more = classes_more _ _ _ _ c.find_and_stage.ensures.det in let same = c.sizes-sizes.ensures.classes in omega arith
 
 pub back-requires-clause-within : goal.back-requires-clause-within
-back-requires-clause-within g c = stay_so _ _ _ _ c.find_and_stage.ensures.det _ _ _ c.mark-mark.ensures.states c.mark-mark.ensures.pairs c.mark-mark.ensures.classes c.mark-mark.ensures.sound
+back-requires-clause-within g c = stay_so _ _ _ _ c.find_and_stage.ensures.det _ _ _ c.sizes-sizes.ensures.states c.sizes-sizes.ensures.pairs c.sizes-sizes.ensures.classes c.sizes-sizes.ensures.sound
 
 pub returns-in-Err-clause-refused : goal.returns-in-Err-clause-refused
-returns-in-Err-clause-refused g c = (c.in-Err.ensures.refused, back_so _ _ _ _ c.find_and_stage.ensures.det _ _ _ c.mark-mark.ensures.states c.mark-mark.ensures.pairs c.mark-mark.ensures.classes _ c.back.ensures)
+returns-in-Err-clause-refused g c = (c.in-Err.ensures.refused, back_so _ _ _ _ c.find_and_stage.ensures.det _ _ _ c.sizes-sizes.ensures.states c.sizes-sizes.ensures.pairs c.sizes-sizes.ensures.classes _ c.back.ensures)
 
 pub returns-in-Err-clause-det : goal.returns-in-Err-clause-det
 returns-in-Err-clause-det g c =
     let t = c.args.det.now in
     let ns = 0 ∷ keys c.args.active.now in
-    let same = back_so _ _ _ _ c.find_and_stage.ensures.det _ _ _ c.mark-mark.ensures.states c.mark-mark.ensures.pairs c.mark-mark.ensures.classes _ c.back.ensures in
+    let same = back_so _ _ _ _ c.find_and_stage.ensures.det _ _ _ c.sizes-sizes.ensures.states c.sizes-sizes.ensures.pairs c.sizes-sizes.ensures.classes _ c.back.ensures in
     subst (λ (u : Table). Discovers t ns c.args.bits.now u) (sym same) (discovers_none t ns c.args.bits.now)
 
 pub returns-in-Err-clause-refused_steps : goal.returns-in-Err-clause-refused_steps
-returns-in-Err-clause-refused_steps g c = record { found = c.find_and_stage.new.det; discovers = c.find_and_stage.ensures.det; sound = c.mark-reached-in-Err.ensures.sound; distinct = c.found-found-in-Err.ensures.once; bounded = c.find_and_stage.ensures.steps }
+returns-in-Err-clause-refused_steps g c = record { found = c.find_and_stage.new.det; discovers = c.find_and_stage.ensures.det; sound = c.sizes-reached-in-Err.ensures.sound; distinct = c.found-found-in-Err.ensures.once; bounded = c.find_and_stage.ensures.steps }
 
 pub returns-in-Ok-clause-refused_steps : goal.returns-in-Ok-clause-refused_steps
-returns-in-Ok-clause-refused_steps g c = record { found = c.find_and_stage.new.det; discovers = c.find_and_stage.ensures.det; sound = c.mark-reached.ensures.sound; distinct = c.found-found.ensures.once; bounded = c.find_and_stage.ensures.steps }
+returns-in-Ok-clause-refused_steps g c = record { found = c.find_and_stage.new.det; discovers = c.find_and_stage.ensures.det; sound = c.sizes-reached.ensures.sound; distinct = c.found-found.ensures.once; bounded = c.find_and_stage.ensures.steps }

@@ -1,5 +1,5 @@
 use Rattle.std.proofs.Common.{◌∙◌, ap}
-use Rattle.fault_notes.specs.Notes.{clock_note}
+use Rattle.fault_notes.specs.Notes.{checkpoint_note, clock_note}
 use Rattle.core_top.proofs.Noted.{note_as}
 use Rattle.core_top.proofs.notes.write_note_of.Goals as goal
 
@@ -18,6 +18,10 @@ returns-in_ok-note-in-Event-clause-took g c =
 pub returns-in_ok-note-in-InputTooLong-clause-took : goal.returns-in_ok-note-in-InputTooLong-clause-took
 returns-in_ok-note-in-InputTooLong-clause-took g c =
     rw c.in-InputTooLong.is (note_as _ _ _ _ _ _ (c.as_slice-in-InputTooLong.ensures.value ∙ c.in_ok-note-in-InputTooLong.ensures) c.put-in-InputTooLong.ensures)
+
+pub returns-in_ok-note-in-Checkpoint-clause-took : goal.returns-in_ok-note-in-Checkpoint-clause-took
+returns-in_ok-note-in-Checkpoint-clause-took g c =
+    rw c.in-Checkpoint.is (note_as _ _ _ _ _ _ (c.as_slice-in-Checkpoint.ensures.value ∙ c.in_ok-note-in-Checkpoint.ensures ∙ ap (checkpoint_note c.in-Checkpoint.line) c.words.ensures) c.put-in-Checkpoint.ensures)
 
 pub returns-in-OpenFault-clause-took : goal.returns-in-OpenFault-clause-took
 returns-in-OpenFault-clause-took g c = rw c.in-OpenFault.is (note_as _ _ _ _ _ _ c.open_note.ensures c.put-in-OpenFault.ensures)

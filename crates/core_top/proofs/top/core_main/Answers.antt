@@ -1,8 +1,8 @@
 -- Each clause follows from how the call ended.
 use Rattle.std.proofs.Common.{ap, sym, map, string_bytes}
-use Rattle.core_top.proofs.TopClauses.{finished_as, silent_clause, counts_opens_clause, usage_clause, queries_clause, clock_clause, event_clause, too_long_clause, open_clause, read_clause, write_clause, wrote_clause, sampled_clause, failed_clause, missing_clause, complete_clause, opens_clause, unopened_clause, counts_writes_clause}
-use Rattle.core_top.proofs.StepClauses.{noted_steps, job_as}
-use Rattle.core_top.proofs.Leaving.{left_noted, none_noted}
+use Rattle.core_top.proofs.TopClauses.{finished_as, silent_clause, counts_opens_clause, usage_clause, queries_clause, clock_clause, checkpoint_clause, event_clause, too_long_clause, open_clause, read_clause, write_clause, wrote_clause, sampled_clause, failed_clause, missing_clause, complete_clause, opens_clause, unopened_clause, counts_writes_clause}
+use Rattle.core_jobs.proofs.StepClauses.{noted_steps, job_as}
+use Rattle.core_jobs.proofs.Leaving.{left_noted, none_noted}
 use Rattle.core_top.proofs.top.core_main.Goals as goal
 
 pub returns-clause-usage : goal.returns-clause-usage
@@ -13,6 +13,9 @@ returns-clause-queries g c = queries_clause _ _ _ _ _ _ _ _ (finished_as _ _ _ _
 
 pub returns-clause-clock : goal.returns-clause-clock
 returns-clause-clock g c = clock_clause _ _ _ _ _ _ _ _ (finished_as _ _ _ _ _ _ _ _ _ _ _ _ _ (ap (map string_bytes) c.as_slice.ensures.value) c.done.ensures.cause c.done.ensures.failed c.noted.ensures.stop c.run-stop.ensures.finished)
+
+pub returns-clause-checkpoint : goal.returns-clause-checkpoint
+returns-clause-checkpoint g c = checkpoint_clause _ _ _ _ _ _ _ _ (finished_as _ _ _ _ _ _ _ _ _ _ _ _ _ (ap (map string_bytes) c.as_slice.ensures.value) c.done.ensures.cause c.done.ensures.failed c.noted.ensures.stop c.run-stop.ensures.finished)
 
 pub returns-clause-event : goal.returns-clause-event
 returns-clause-event g c = event_clause _ _ _ _ _ _ _ _ (finished_as _ _ _ _ _ _ _ _ _ _ _ _ _ (ap (map string_bytes) c.as_slice.ensures.value) c.done.ensures.cause c.done.ensures.failed c.noted.ensures.stop c.run-stop.ensures.finished)

@@ -1,10 +1,11 @@
 use Rattle.std.proofs.Common.{refl, inl, inr, map, string_bytes}
-use Rattle.core_top.specs.declared.Cause.TheVariants as cause
-use Rattle.core_top.specs.Command.{running, reordering, explaining, playing}
-use Rattle.core_top.specs.Run.{ran, sampled, refused, unread}
-use Rattle.core_top.proofs.Words.{run_asked, reorder_asked, explanation_asked, session_asked, no_job_and_sample}
-use Rattle.core_top.proofs.StepClauses.{job_steps, no_steps}
-use Rattle.core_top.proofs.Leaving.{left_asked, early_left}
+use Rattle.core_jobs.specs.declared.Cause.TheVariants as cause
+use Rattle.core_jobs.specs.Command.{running, reordering, explaining, playing, resuming, saving}
+use Rattle.core_jobs.specs.Run.{ran, sampled, refused, unread}
+use Rattle.core_jobs.proofs.Words.{run_asked, reorder_asked, explanation_asked, session_asked, saving_asked, resume_asked, no_job_and_sample}
+use Rattle.command_words.proofs.ForCallers.{resume_has_bound}
+use Rattle.core_jobs.proofs.StepClauses.{job_steps, no_steps}
+use Rattle.core_jobs.proofs.Leaving.{left_asked, early_left}
 use Rattle.core_top.proofs.top.run.Goals as goal
 
 pub returns-in-Ok-Run-clause-finished : goal.returns-in-Ok-Run-clause-finished
@@ -22,6 +23,17 @@ returns-in-Ok-Explain-clause-finished g c =
 pub returns-in-Ok-Session-clause-finished : goal.returns-in-Ok-Session-clause-finished
 returns-in-Ok-Session-clause-finished g c =
     ran (playing _) (session_asked _ _ _ _ _ c.as_str-in-Ok-Session.ensures c.as_str-in-Ok-Session-2.ensures (rw c.in-Ok-Session.field-0-is at c.in-Ok-Session.ensures.asks)) c.session_files.ensures.ends
+
+pub resume_files-requires : goal.resume_files-requires
+resume_files-requires g c = resume_has_bound _ _ _ _ _ _ _ (rw c.in-Ok-Resume.field-0-is at c.in-Ok-Resume.ensures.asks)
+
+pub returns-in-Ok-Resume-clause-finished : goal.returns-in-Ok-Resume-clause-finished
+returns-in-Ok-Resume-clause-finished g c =
+    ran (resuming _) (resume_asked _ _ _ _ _ _ _ _ _ _ c.as_str-in-Ok-Resume.ensures c.as_str-in-Ok-Resume-2.ensures c.as_str-in-Ok-Resume-3.ensures (rw c.in-Ok-Resume.field-0-is at c.in-Ok-Resume.ensures.asks)) c.resume_files.ensures.ends
+
+pub returns-in-Ok-Save-clause-finished : goal.returns-in-Ok-Save-clause-finished
+returns-in-Ok-Save-clause-finished g c =
+    ran (saving _) (saving_asked _ _ _ _ _ c.as_str-in-Ok-Save.ensures c.as_str-in-Ok-Save-2.ensures (rw c.in-Ok-Save.field-0-is at c.in-Ok-Save.ensures.asks)) c.save_files.ensures.ends
 
 pub returns-in-Ok-Sample-clause-finished : goal.returns-in-Ok-Sample-clause-finished
 returns-in-Ok-Sample-clause-finished g c =
@@ -57,6 +69,16 @@ returns-in-Ok-Session-clause-steps g c = λ job asked.
     job_steps (map string_bytes c.args.words.now) (g.H.Host.content c.args.host.now) (playing _) job c.session_files.result.cause (g.K.Sink.taken c.args.out.now) (g.K.Sink.taken c.session_files.new.out) c.args.steps.now c.session_files.new.steps
     (session_asked _ _ _ _ _ c.as_str-in-Ok-Session.ensures c.as_str-in-Ok-Session-2.ensures (rw c.in-Ok-Session.field-0-is at c.in-Ok-Session.ensures.asks)) asked tt
 
+pub returns-in-Ok-Resume-clause-steps : goal.returns-in-Ok-Resume-clause-steps
+returns-in-Ok-Resume-clause-steps g c = λ job asked.
+    job_steps (map string_bytes c.args.words.now) (g.H.Host.content c.args.host.now) (resuming _) job c.resume_files.result.cause (g.K.Sink.taken c.args.out.now) (g.K.Sink.taken c.resume_files.new.out) c.args.steps.now c.resume_files.new.steps
+    (resume_asked _ _ _ _ _ _ _ _ _ _ c.as_str-in-Ok-Resume.ensures c.as_str-in-Ok-Resume-2.ensures c.as_str-in-Ok-Resume-3.ensures (rw c.in-Ok-Resume.field-0-is at c.in-Ok-Resume.ensures.asks)) asked c.resume_files.ensures.steps
+
+pub returns-in-Ok-Save-clause-steps : goal.returns-in-Ok-Save-clause-steps
+returns-in-Ok-Save-clause-steps g c = λ job asked.
+    job_steps (map string_bytes c.args.words.now) (g.H.Host.content c.args.host.now) (saving _) job c.save_files.result.cause (g.K.Sink.taken c.args.out.now) (g.K.Sink.taken c.save_files.new.out) c.args.steps.now c.args.steps.now
+    (saving_asked _ _ _ _ _ c.as_str-in-Ok-Save.ensures c.as_str-in-Ok-Save-2.ensures (rw c.in-Ok-Save.field-0-is at c.in-Ok-Save.ensures.asks)) asked refl
+
 pub returns-in-Ok-Sample-clause-steps : goal.returns-in-Ok-Sample-clause-steps
 returns-in-Ok-Sample-clause-steps g c = λ job asked. absurd (no_job_and_sample _ job _ _ asked (rw c.in-Ok-Sample.field-0-is at c.in-Ok-Sample.ensures.asks))
 
@@ -91,6 +113,20 @@ pub returns-in-Ok-Session-clause-left : goal.returns-in-Ok-Session-clause-left
 returns-in-Ok-Session-clause-left g c = λ job asked.
     left_asked (map string_bytes c.args.words.now) (g.H.Host.content c.args.host.now) (playing _) job c.session_files.result.cause c.session_files.result.left
     (session_asked _ _ _ _ _ c.as_str-in-Ok-Session.ensures c.as_str-in-Ok-Session-2.ensures (rw c.in-Ok-Session.field-0-is at c.in-Ok-Session.ensures.asks)) asked c.session_files.ensures.none_left
+
+pub returns-in-Ok-Resume-clause-left : goal.returns-in-Ok-Resume-clause-left
+returns-in-Ok-Resume-clause-left g c = λ job asked.
+    left_asked (map string_bytes c.args.words.now) (g.H.Host.content c.args.host.now) (resuming _) job c.resume_files.result.cause c.resume_files.result.left
+    (resume_asked _ _ _ _ _ _ _ _ _ _ c.as_str-in-Ok-Resume.ensures c.as_str-in-Ok-Resume-2.ensures c.as_str-in-Ok-Resume-3.ensures (rw c.in-Ok-Resume.field-0-is at c.in-Ok-Resume.ensures.asks)) asked c.resume_files.ensures.left
+
+pub returns-in-Ok-Resume-clause-none_left : goal.returns-in-Ok-Resume-clause-none_left
+returns-in-Ok-Resume-clause-none_left g c = λ none.
+    absurd (none (resuming _) (resume_asked _ _ _ _ _ _ _ _ _ _ c.as_str-in-Ok-Resume.ensures c.as_str-in-Ok-Resume-2.ensures c.as_str-in-Ok-Resume-3.ensures (rw c.in-Ok-Resume.field-0-is at c.in-Ok-Resume.ensures.asks)))
+
+pub returns-in-Ok-Save-clause-left : goal.returns-in-Ok-Save-clause-left
+returns-in-Ok-Save-clause-left g c = λ job asked.
+    left_asked (map string_bytes c.args.words.now) (g.H.Host.content c.args.host.now) (saving _) job c.save_files.result.cause c.save_files.result.left
+    (saving_asked _ _ _ _ _ c.as_str-in-Ok-Save.ensures c.as_str-in-Ok-Save-2.ensures (rw c.in-Ok-Save.field-0-is at c.in-Ok-Save.ensures.asks)) asked c.save_files.ensures.none_left
 
 pub returns-in-Ok-Sample-clause-left : goal.returns-in-Ok-Sample-clause-left
 returns-in-Ok-Sample-clause-left g c = λ job asked. absurd (no_job_and_sample _ job _ _ asked (rw c.in-Ok-Sample.field-0-is at c.in-Ok-Sample.ensures.asks))

@@ -1,4 +1,4 @@
-use Rattle.std.proofs.Common.{ℕ, None, subst, ◌∙◌}
+use Rattle.std.proofs.Common.{ℕ, [], None, subst, ◌∙◌}
 use Rattle.event_run.specs.Runs.{RunsTo}
 use Rattle.event_run.specs.Runs as stop
 use Rattle.event_run.specs.Taking.{run_fault}
@@ -13,7 +13,7 @@ returns-in-Ok-End-clause-all g c = λ bytes had.
     let t = inv.taken bytes had in
     let moved = rw c.in-Ok-End.field-0-is at c.in-Ok-End.ensures.moves in
     subst (λ (n : ℕ). RunsTo c.args.schema.now c.args.queries.now n bytes c.loop-fault.events.items stop.End) (moved.budget ∙ inv.budget)
-    (at_end c.args.schema.now c.args.queries.now _ bytes t.texts None c.loop-fault.events.items ((rw c.in-Ok-End.field-0-is at c.in-Ok-End.ensures.lines) bytes t.texts t.given) t.good)
+    (at_end [] c.args.schema.now c.args.queries.now _ bytes t.texts None c.loop-fault.events.items ((rw c.in-Ok-End.field-0-is at c.in-Ok-End.ensures.lines) bytes t.texts t.given) t.good)
 
 pub returns-in-Err-clause-stops : goal.returns-in-Err-clause-stops
 returns-in-Err-clause-stops g c = λ bytes had.

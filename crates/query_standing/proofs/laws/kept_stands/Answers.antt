@@ -1,5 +1,5 @@
 use Rattle.query_standing.proofs.Parts.{part_gives, kept_gives, part_unread, part_skips}
-use Rattle.query_standing.proofs.PartSteps.{part_no_key, part_keyed, part_with_key}
+use Rattle.query_standing.proofs.PartSteps.{part_no_key, part_resting, part_keyed, part_with_key}
 use Rattle.query_standing.proofs.FoundStates.{states_are_met}
 use Rattle.query_standing.proofs.laws.kept_stands.Goals as goal
 
@@ -11,6 +11,9 @@ returns-clause-unread c = part_unread
 
 pub returns-clause-no_key : goal.returns-clause-no_key
 returns-clause-no_key c = part_no_key
+
+pub returns-clause-resting : goal.returns-clause-resting
+returns-clause-resting c = part_resting
 
 pub returns-clause-keyed : goal.returns-clause-keyed
 returns-clause-keyed c = part_keyed

@@ -1,17 +1,22 @@
-use Rattle.std.proofs.Common.{◌≡◌, ◌≤◌, [], false}
+use Rattle.std.proofs.Common.{◌≡◌, ◌+◌, ◌^◌, ◌<◌, ℕ, List, [], length, false}
+use Rattle.stream_schema.specs.declared.Event.{Event}
 use Rattle.answer_text.specs.declared.Order.TheVariants.{Walk}
-use Rattle.query_engine.specs.Engine.{count_of, peak_of, SameQueries}
+use Rattle.query_engine.specs.Engine.{count_of, SameQueries}
 use Rattle.stream_answers.specs.Counting.{Following}
+use Rattle.stream_answers.specs.Steps.{AreBoundedBy}
+use Rattle.stream_answers.specs.Windows.{is_due_after, FollowsEvents}
 use Rattle.stream_answers.proofs.stream.answer_events.Given as goal
 
 -- the answers over the events so far are written or held
 abbrev pub invariant-loop-output : goal.invariant-loop-output
 invariant-loop-output g l = record {
-  following : Following l.fn.compact_every (record { order = l.fn.output.order; schema = l.fn.engine.schema; queries = l.fn.engine.queries; most_bytes = l.fn.lines.budget })
-      (g.Q.Source.left l.fn.source) l.lines (g.Q.Source.left l.source) (g.K.Sink.taken l.fn.out) (g.K.Sink.taken l.out) l.output.held l.engine l.fn.steps l.steps (peak_of l.fn.engine);
+  following : (peaks : ℕ → ℕ) (earlier : List Event) (begun : ℕ) → FollowsEvents peaks l.fn.engine earlier
+      → AreBoundedBy (is_due_after l.fn.compact_every (length earlier)) l.fn.engine.schema l.fn.engine.queries earlier [] begun l.fn.steps
+      → Following (is_due_after l.fn.compact_every (length earlier)) earlier (record { order = l.fn.output.order; schema = l.fn.engine.schema; queries = l.fn.engine.queries; most_bytes = l.fn.lines.budget })
+      (g.Q.Source.left l.fn.source) l.lines (g.Q.Source.left l.source) (g.K.Sink.taken l.fn.out) (g.K.Sink.taken l.out) l.output.held l.engine begun l.steps peaks;
   none_waits : l.fn.output.order ≡ Walk → l.output.held ≡ [];
   open_is : l.lines.closed ≡ false;
-  counted : count_of l.engine ≤ l.lines.number;
+  counted : count_of l.engine + l.lines.room < 2 ^ 64;
   same : SameQueries l.fn.engine l.engine;
   budget : l.lines.budget ≡ l.fn.lines.budget;
   order : l.output.order ≡ l.fn.output.order;

@@ -1,9 +1,19 @@
-use Rattle.stream_answers.proofs.Wholes.{wrote_none}
-use Rattle.stream_answers.proofs.Totals.{counts_none}
+use Rattle.std.proofs.Common.{◌+◌, ◌^◌, ◌<◌, [], arith}
+use Rattle.query_engine.specs.Engine.{peak_of}
+use Rattle.stream_answers.specs.Windows.{is_due}
+use Rattle.stream_answers.proofs.Windows.{follows_none, on_ok}
+use Rattle.stream_answers.proofs.Totals.{bounded_none}
 use Rattle.stream_answers.proofs.stream.write_answers.Goals as goal
 
-pub returns-in-Err-clause-wrote : goal.returns-in-Err-clause-wrote
-returns-in-Err-clause-wrote g c = wrote_none _ _ _
+pub returns-clause-wrote : goal.returns-clause-wrote
+returns-clause-wrote g c = c.write_answers_after.ensures.wrote (peak_of c.args.engine.now) [] (follows_none c.args.engine.now c.requires.fresh)
 
-pub returns-in-Err-clause-steps : goal.returns-in-Err-clause-steps
-returns-in-Err-clause-steps g c = λ bytes same. counts_none _ _ bytes _
+pub returns-clause-steps : goal.returns-clause-steps
+returns-clause-steps g c = λ bytes same.
+    c.write_answers_after.ensures.steps (peak_of c.args.engine.now) [] c.args.steps.now (follows_none c.args.engine.now c.requires.fresh) (bounded_none (is_due c.args.compact_every) _ _ [] [] c.args.steps.now) bytes same
+
+pub returns-clause-stands : goal.returns-clause-stands
+returns-clause-stands g c = on_ok c.write_answers_after.result _ _ (λ stands. stands (peak_of c.args.engine.now) [] (follows_none c.args.engine.now c.requires.fresh)) c.write_answers_after.ensures.stands
+
+pub write_answers_after-requires : goal.write_answers_after-requires
+write_answers_after-requires g c = let none = c.requires.none in let range = c.ranges.most_bytes in record { room = omega (arith, none, range) }

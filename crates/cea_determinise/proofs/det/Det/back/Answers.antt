@@ -6,7 +6,7 @@ use Rattle.cea_determinise.proofs.det.Det.back.Goals as goal
 
 pub invariant_of-self : goal.invariant_of-self
 invariant_of-self c =
-    let m = c.args.mark in
+    let m = c.args.sizes in
     let t : Table = record { cea = c.self.inside.cea; states = c.self.inside.states.keys; classes = c.self.inside.classes.keys; transitions = c.self.inside.transitions.entries } in
     let few = subst (λ (o : Table). m.states ≤ length o.states) (sym c.self.view_is) c.requires.states in
     let known = subst (λ (o : Table). m.classes ≤ length o.classes) (sym c.self.view_is) c.requires.classes in

@@ -1,9 +1,10 @@
-use Rattle.std.proofs.Common.{◌∙◌, List, map, length, refl, ap, subst, All}
+use Rattle.std.proofs.Common.{◌∙◌, List, map, length, refl, sym, ap, subst, All}
 use Rattle.stream_schema.specs.Types.{Declared}
 use Rattle.all_or_none.specs.Phases.{Phase}
 use Rattle.query_part.specs.Parts.{seen}
 use Rattle.query_engine.specs.Running.{IsFirst, HasNoClock, AreNamed}
 use Rattle.query_engine.proofs.Named.{noted_first}
+use Rattle.query_engine.proofs.Watched.{watching_first}
 use Rattle.query_engine.proofs.Keeping.{seen_queries}
 use Rattle.query_engine.proofs.Taking.{first_stands, first_keeps, first_peaks}
 use Rattle.query_engine.proofs.engine.Engine.new.Goals as goal
@@ -25,4 +26,6 @@ invariant_of-result c =
       noted_first parts (map (seen 0) parts) (map (λ (p : Phase). p.query) (map (seen 0) parts)) c.in_ok-touched.touched.items c.in_ok-all.all.items c.in_ok-timed.timed.items (seen_queries 0 parts)
           (subst (λ (ps : List Phase). AreNamed (λ (p : Phase). ⊥) (length ps) ps c.in_ok-all.all.items) c.as_slice-2.ensures.value c.in_ok-all.ensures)
           (subst (λ (ps : List Phase). AreNamed (λ (p : Phase). HasNoClock p.query) (length ps) ps c.in_ok-timed.timed.items) c.as_slice-3.ensures.value c.in_ok-timed.ensures),
+      watching_first c.args.schema (map (λ (p : Phase). p.query) (map (seen 0) parts)) c.as_slice-listed.result.now parts c.in_ok-watching.watching.watch c.in_ok-watching.watching.awake c.in_ok-watching.watching.marked
+          (seen_queries 0 parts ∙ (c.in_ok-add_parts.ensures.queries ∙ (c.into_vec.ensures ∙ sym c.as_slice-listed.ensures))) refl c.in_ok-watching.ensures.watch c.in_ok-watching.ensures.count c.in_ok-watching.ensures.room c.in_ok-watching.ensures.sets c.in_ok-watching.ensures.awake first,
     )

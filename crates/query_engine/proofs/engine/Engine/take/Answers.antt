@@ -1,115 +1,139 @@
-use Rattle.std.proofs.Common.{◌≡◌, ◌+◌, ◌∙◌, List, map, length, true, false, sym, ap, subst, arith}
+use Rattle.std.proofs.Common.{◌≡◌, ◌+◌, ◌∙◌, List, Bool, map, length, true, false, refl, sym, ap, subst, arith}
 use Rattle.std.proofs.lemmas.Bool.{false≢true}
 use Rattle.std.specs.Vec.{with_items}
 use Rattle.std.proofs.lemmas.List.{with_items_is}
-use Rattle.all_or_none.specs.Phases.{Phase, MayAnswer}
+use Rattle.all_or_none.specs.Phases.{Phase, MayAnswer, AreLeft, AreUnread}
 use Rattle.query_part.specs.Parts.{seen}
 use Rattle.query_engine.proofs.Keeping.{running, keeping, kept_back, state_back}
 use Rattle.query_engine.proofs.Taking.{took, can_take, took_running, took_stands, took_cursors, took_same, took_growth, took_unread, took_peak, steps_within, steps_wanted}
 use Rattle.query_engine.proofs.Added.{took_added}
 use Rattle.query_engine.proofs.Growth.{same_queries}
 use Rattle.query_engine.proofs.Named.{noted_same}
+use Rattle.query_engine.proofs.Watched.{left_marked, unread_marked, watching_same, room_there}
 use Rattle.query_engine.proofs.engine.Engine.take.Goals as goal
 
 pub see-requires-clause-can : goal.see-requires-clause-can
-see-requires-clause-can g c = can_take c.self.inside.schema c.self.inside.count c.self.inside.parts.items c.as_mut_slice.result.now c.self.inside.peaks.items c.args.self.now c.args.event.now c.self.view_is c.self.invariant.0 c.requires.of_schema c.requires.in_time c.as_mut_slice.ensures.value
+see-requires-clause-can g c = can_take c.self.inside.schema c.self.inside.count c.self.inside.parts.items c.as_mut_slice-parts.result.now c.self.inside.peaks.items c.args.self.now c.args.event.now c.self.view_is c.self.invariant.0 c.requires.of_schema c.requires.in_time c.as_mut_slice-parts.ensures.value
+
+pub mark-requires-clause-room : goal.mark-requires-clause-room
+mark-requires-clause-room g c = room_there c.self.inside.schema (map (λ (p : Phase). p.query) (map (seen c.self.inside.count) c.self.inside.parts.items)) c.self.inside.count c.self.inside.parts.items c.self.inside.watching.watch c.self.inside.watching.awake c.self.inside.watching.marked c.self.invariant.2
+
+pub mark-requires-clause-sets : goal.mark-requires-clause-sets
+mark-requires-clause-sets g c = c.self.invariant.2.sets
+
+pub see-requires-clause-left : goal.see-requires-clause-left
+see-requires-clause-left g c =
+    subst (λ (ps : List Phase). AreLeft seen c.self.inside.count c.mark.new.self.marked ps) (sym c.as_mut_slice-parts.ensures.value)
+    (left_marked c.self.inside.count c.self.inside.parts.items c.self.inside.watching.awake c.mark.new.self.marked c.mark.ensures.awake c.self.invariant.2.left)
+
+pub see-requires-clause-unread : goal.see-requires-clause-unread
+see-requires-clause-unread g c =
+    subst (λ (ps : List Phase). AreUnread (seen c.self.inside.count) c.args.event.now c.mark.new.self.marked ps) (sym c.as_mut_slice-parts.ensures.value)
+    (unread_marked c.self.inside.schema (map (λ (p : Phase). p.query) (map (seen c.self.inside.count) c.self.inside.parts.items)) c.self.inside.count c.self.inside.parts.items c.self.inside.watching.watch c.self.inside.watching.awake c.self.inside.watching.marked c.mark.new.self.marked c.args.event.now refl c.self.invariant.0.schemas c.self.invariant.2 c.mark.ensures.marked)
+
+pub see-requires-clause-sets : goal.see-requires-clause-sets
+see-requires-clause-sets g c = ap (λ (b : List Bool). length b) c.mark.ensures.same.1 ∙ (sym c.self.invariant.2.sets ∙ sym c.mark.ensures.sets)
 
 pub invariant_of-self : goal.invariant_of-self
 invariant_of-self g c =
-    let long : length c.see.new.parts ≡ c.self.inside.parts.len = (let e = c.as_mut_slice.ensures.len in let f = c.see.auto.parts in omega arith) in
+    let long : length c.see.new.parts ≡ c.self.inside.parts.len = (let e = c.as_mut_slice-parts.ensures.len in let f = c.see.auto.parts in omega arith) in
     let new = (with_items c.self.inside.parts c.see.new.parts).items in
     let is = with_items_is c.self.inside.parts c.see.new.parts long in
-    let t = took c.self.inside.schema c.self.inside.count c.self.inside.parts.items c.as_mut_slice.result.now c.self.inside.peaks.items c.args.self.now c.args.event.now c.see.new.parts new c.self.view_is c.self.invariant.0 c.requires.in_time c.as_mut_slice.ensures.value c.in-Ok.ensures.grown c.in-Ok.ensures.idle c.in-Ok.ensures.quiet c.in-Ok.ensures.stands is in
+    let t = took c.self.inside.schema c.self.inside.count c.self.inside.parts.items c.as_mut_slice-parts.result.now c.self.inside.peaks.items c.args.self.now c.args.event.now c.see.new.parts new c.self.view_is c.self.invariant.0 c.requires.in_time c.as_mut_slice-parts.ensures.value c.in-Ok.ensures.grown c.in-Ok.ensures.idle c.in-Ok.ensures.quiet c.in-Ok.ensures.stands is in
     let old = map (seen c.self.inside.count) c.self.inside.parts.items in
     let after = map (seen (c.self.inside.count + 1)) new in
     let queries : map (λ (p : Phase). p.query) after ≡ map (λ (p : Phase). p.query) old = same_queries c.args.event.now old after t.grown in (
       keeping c.self.inside.schema (c.self.inside.count + 1) new c.self.inside.peaks.items (took_running c.self.inside.schema c.self.inside.count (map (seen c.self.inside.count) c.self.inside.parts.items) c.self.inside.peaks.items c.args.event.now (map (seen (c.self.inside.count + 1)) new) t c.args.self.now c.self.view_is),
       noted_same (map (λ (p : Phase). p.query) old) (map (λ (p : Phase). p.query) after) old after c.self.inside.told true c.self.inside.touched.items c.see.new.touched.items c.self.inside.all.items c.self.inside.timed.items queries c.self.invariant.1
           (λ told. subst (λ (ps : List Phase). MayAnswer c.see.new.touched.items (map (seen (c.self.inside.count + 1)) ps)) (sym is) c.in-Ok.ensures.answering),
+      watching_same c.self.inside.schema (map (λ (p : Phase). p.query) old) (map (λ (p : Phase). p.query) after) c.self.inside.count (c.self.inside.count + 1) c.self.inside.parts.items new c.self.inside.watching.watch c.mark.new.self.watch c.self.inside.watching.awake c.self.inside.watching.marked c.see.new.awake c.mark.new.self.marked queries
+          c.mark.ensures.same.0 (c.see.ensures.sets ∙ ap (λ (b : List Bool). length b) c.mark.ensures.same.1) c.mark.ensures.sets (subst (λ (ps : List Phase). AreLeft seen (c.self.inside.count + 1) c.see.new.awake ps) (sym is) c.in-Ok.ensures.left) c.self.invariant.2,
     )
 
 pub returns-in-Ok-clause-stands : goal.returns-in-Ok-clause-stands
 returns-in-Ok-clause-stands g c =
-    let long : length c.see.new.parts ≡ c.self.inside.parts.len = (let e = c.as_mut_slice.ensures.len in let f = c.see.auto.parts in omega arith) in
+    let long : length c.see.new.parts ≡ c.self.inside.parts.len = (let e = c.as_mut_slice-parts.ensures.len in let f = c.see.auto.parts in omega arith) in
     let new = (with_items c.self.inside.parts c.see.new.parts).items in
     let is = with_items_is c.self.inside.parts c.see.new.parts long in
-    let t = took c.self.inside.schema c.self.inside.count c.self.inside.parts.items c.as_mut_slice.result.now c.self.inside.peaks.items c.args.self.now c.args.event.now c.see.new.parts new c.self.view_is c.self.invariant.0 c.requires.in_time c.as_mut_slice.ensures.value c.in-Ok.ensures.grown c.in-Ok.ensures.idle c.in-Ok.ensures.quiet c.in-Ok.ensures.stands is in
+    let t = took c.self.inside.schema c.self.inside.count c.self.inside.parts.items c.as_mut_slice-parts.result.now c.self.inside.peaks.items c.args.self.now c.args.event.now c.see.new.parts new c.self.view_is c.self.invariant.0 c.requires.in_time c.as_mut_slice-parts.ensures.value c.in-Ok.ensures.grown c.in-Ok.ensures.idle c.in-Ok.ensures.quiet c.in-Ok.ensures.stands is in
     took_stands c.self.inside.schema c.self.inside.count (map (seen c.self.inside.count) c.self.inside.parts.items) c.self.inside.peaks.items c.args.event.now (map (seen (c.self.inside.count + 1)) new) t c.args.self.now c.self.view_is
 
 pub returns-in-Ok-clause-cursors : goal.returns-in-Ok-clause-cursors
 returns-in-Ok-clause-cursors g c =
-    let long : length c.see.new.parts ≡ c.self.inside.parts.len = (let e = c.as_mut_slice.ensures.len in let f = c.see.auto.parts in omega arith) in
+    let long : length c.see.new.parts ≡ c.self.inside.parts.len = (let e = c.as_mut_slice-parts.ensures.len in let f = c.see.auto.parts in omega arith) in
     let new = (with_items c.self.inside.parts c.see.new.parts).items in
     let is = with_items_is c.self.inside.parts c.see.new.parts long in
-    let t = took c.self.inside.schema c.self.inside.count c.self.inside.parts.items c.as_mut_slice.result.now c.self.inside.peaks.items c.args.self.now c.args.event.now c.see.new.parts new c.self.view_is c.self.invariant.0 c.requires.in_time c.as_mut_slice.ensures.value c.in-Ok.ensures.grown c.in-Ok.ensures.idle c.in-Ok.ensures.quiet c.in-Ok.ensures.stands is in
+    let t = took c.self.inside.schema c.self.inside.count c.self.inside.parts.items c.as_mut_slice-parts.result.now c.self.inside.peaks.items c.args.self.now c.args.event.now c.see.new.parts new c.self.view_is c.self.invariant.0 c.requires.in_time c.as_mut_slice-parts.ensures.value c.in-Ok.ensures.grown c.in-Ok.ensures.idle c.in-Ok.ensures.quiet c.in-Ok.ensures.stands is in
     took_cursors c.self.inside.schema c.self.inside.count (map (seen c.self.inside.count) c.self.inside.parts.items) c.self.inside.peaks.items c.args.event.now (map (seen (c.self.inside.count + 1)) new) t c.args.self.now c.self.view_is
 
 pub returns-in-Ok-clause-same : goal.returns-in-Ok-clause-same
 returns-in-Ok-clause-same g c =
-    let long : length c.see.new.parts ≡ c.self.inside.parts.len = (let e = c.as_mut_slice.ensures.len in let f = c.see.auto.parts in omega arith) in
+    let long : length c.see.new.parts ≡ c.self.inside.parts.len = (let e = c.as_mut_slice-parts.ensures.len in let f = c.see.auto.parts in omega arith) in
     let new = (with_items c.self.inside.parts c.see.new.parts).items in
     let is = with_items_is c.self.inside.parts c.see.new.parts long in
-    let t = took c.self.inside.schema c.self.inside.count c.self.inside.parts.items c.as_mut_slice.result.now c.self.inside.peaks.items c.args.self.now c.args.event.now c.see.new.parts new c.self.view_is c.self.invariant.0 c.requires.in_time c.as_mut_slice.ensures.value c.in-Ok.ensures.grown c.in-Ok.ensures.idle c.in-Ok.ensures.quiet c.in-Ok.ensures.stands is in
+    let t = took c.self.inside.schema c.self.inside.count c.self.inside.parts.items c.as_mut_slice-parts.result.now c.self.inside.peaks.items c.args.self.now c.args.event.now c.see.new.parts new c.self.view_is c.self.invariant.0 c.requires.in_time c.as_mut_slice-parts.ensures.value c.in-Ok.ensures.grown c.in-Ok.ensures.idle c.in-Ok.ensures.quiet c.in-Ok.ensures.stands is in
     took_same c.self.inside.schema c.self.inside.count (map (seen c.self.inside.count) c.self.inside.parts.items) c.self.inside.peaks.items c.args.event.now (map (seen (c.self.inside.count + 1)) new) t c.args.self.now c.self.view_is
 
 pub returns-in-Ok-clause-growth : goal.returns-in-Ok-clause-growth
 returns-in-Ok-clause-growth g c =
-    let long : length c.see.new.parts ≡ c.self.inside.parts.len = (let e = c.as_mut_slice.ensures.len in let f = c.see.auto.parts in omega arith) in
+    let long : length c.see.new.parts ≡ c.self.inside.parts.len = (let e = c.as_mut_slice-parts.ensures.len in let f = c.see.auto.parts in omega arith) in
     let new = (with_items c.self.inside.parts c.see.new.parts).items in
     let is = with_items_is c.self.inside.parts c.see.new.parts long in
-    let t = took c.self.inside.schema c.self.inside.count c.self.inside.parts.items c.as_mut_slice.result.now c.self.inside.peaks.items c.args.self.now c.args.event.now c.see.new.parts new c.self.view_is c.self.invariant.0 c.requires.in_time c.as_mut_slice.ensures.value c.in-Ok.ensures.grown c.in-Ok.ensures.idle c.in-Ok.ensures.quiet c.in-Ok.ensures.stands is in
+    let t = took c.self.inside.schema c.self.inside.count c.self.inside.parts.items c.as_mut_slice-parts.result.now c.self.inside.peaks.items c.args.self.now c.args.event.now c.see.new.parts new c.self.view_is c.self.invariant.0 c.requires.in_time c.as_mut_slice-parts.ensures.value c.in-Ok.ensures.grown c.in-Ok.ensures.idle c.in-Ok.ensures.quiet c.in-Ok.ensures.stands is in
     took_growth c.self.inside.schema c.self.inside.count (map (seen c.self.inside.count) c.self.inside.parts.items) c.self.inside.peaks.items c.args.event.now (map (seen (c.self.inside.count + 1)) new) t c.args.self.now c.self.view_is
 
 pub returns-in-Ok-clause-no_growth : goal.returns-in-Ok-clause-no_growth
 returns-in-Ok-clause-no_growth g c =
-    let long : length c.see.new.parts ≡ c.self.inside.parts.len = (let e = c.as_mut_slice.ensures.len in let f = c.see.auto.parts in omega arith) in
+    let long : length c.see.new.parts ≡ c.self.inside.parts.len = (let e = c.as_mut_slice-parts.ensures.len in let f = c.see.auto.parts in omega arith) in
     let new = (with_items c.self.inside.parts c.see.new.parts).items in
     let is = with_items_is c.self.inside.parts c.see.new.parts long in
-    let t = took c.self.inside.schema c.self.inside.count c.self.inside.parts.items c.as_mut_slice.result.now c.self.inside.peaks.items c.args.self.now c.args.event.now c.see.new.parts new c.self.view_is c.self.invariant.0 c.requires.in_time c.as_mut_slice.ensures.value c.in-Ok.ensures.grown c.in-Ok.ensures.idle c.in-Ok.ensures.quiet c.in-Ok.ensures.stands is in
+    let t = took c.self.inside.schema c.self.inside.count c.self.inside.parts.items c.as_mut_slice-parts.result.now c.self.inside.peaks.items c.args.self.now c.args.event.now c.see.new.parts new c.self.view_is c.self.invariant.0 c.requires.in_time c.as_mut_slice-parts.ensures.value c.in-Ok.ensures.grown c.in-Ok.ensures.idle c.in-Ok.ensures.quiet c.in-Ok.ensures.stands is in
     took_unread c.self.inside.schema c.self.inside.count (map (seen c.self.inside.count) c.self.inside.parts.items) c.self.inside.peaks.items c.args.event.now (map (seen (c.self.inside.count + 1)) new) t c.args.self.now c.self.view_is
 
 pub returns-in-Ok-clause-peak : goal.returns-in-Ok-clause-peak
 returns-in-Ok-clause-peak g c =
-    let long : length c.see.new.parts ≡ c.self.inside.parts.len = (let e = c.as_mut_slice.ensures.len in let f = c.see.auto.parts in omega arith) in
+    let long : length c.see.new.parts ≡ c.self.inside.parts.len = (let e = c.as_mut_slice-parts.ensures.len in let f = c.see.auto.parts in omega arith) in
     let new = (with_items c.self.inside.parts c.see.new.parts).items in
     let is = with_items_is c.self.inside.parts c.see.new.parts long in
-    let t = took c.self.inside.schema c.self.inside.count c.self.inside.parts.items c.as_mut_slice.result.now c.self.inside.peaks.items c.args.self.now c.args.event.now c.see.new.parts new c.self.view_is c.self.invariant.0 c.requires.in_time c.as_mut_slice.ensures.value c.in-Ok.ensures.grown c.in-Ok.ensures.idle c.in-Ok.ensures.quiet c.in-Ok.ensures.stands is in
+    let t = took c.self.inside.schema c.self.inside.count c.self.inside.parts.items c.as_mut_slice-parts.result.now c.self.inside.peaks.items c.args.self.now c.args.event.now c.see.new.parts new c.self.view_is c.self.invariant.0 c.requires.in_time c.as_mut_slice-parts.ensures.value c.in-Ok.ensures.grown c.in-Ok.ensures.idle c.in-Ok.ensures.quiet c.in-Ok.ensures.stands is in
     took_peak c.self.inside.schema c.self.inside.count (map (seen c.self.inside.count) c.self.inside.parts.items) c.self.inside.peaks.items c.args.event.now (map (seen (c.self.inside.count + 1)) new) t c.args.self.now c.self.view_is
 
 pub returns-in-Ok-clause-added : goal.returns-in-Ok-clause-added
 returns-in-Ok-clause-added g c =
-    let long : length c.see.new.parts ≡ c.self.inside.parts.len = (let e = c.as_mut_slice.ensures.len in let f = c.see.auto.parts in omega arith) in
+    let long : length c.see.new.parts ≡ c.self.inside.parts.len = (let e = c.as_mut_slice-parts.ensures.len in let f = c.see.auto.parts in omega arith) in
     let new = (with_items c.self.inside.parts c.see.new.parts).items in
     let is = with_items_is c.self.inside.parts c.see.new.parts long in
-    let t = took c.self.inside.schema c.self.inside.count c.self.inside.parts.items c.as_mut_slice.result.now c.self.inside.peaks.items c.args.self.now c.args.event.now c.see.new.parts new c.self.view_is c.self.invariant.0 c.requires.in_time c.as_mut_slice.ensures.value c.in-Ok.ensures.grown c.in-Ok.ensures.idle c.in-Ok.ensures.quiet c.in-Ok.ensures.stands is in
+    let t = took c.self.inside.schema c.self.inside.count c.self.inside.parts.items c.as_mut_slice-parts.result.now c.self.inside.peaks.items c.args.self.now c.args.event.now c.see.new.parts new c.self.view_is c.self.invariant.0 c.requires.in_time c.as_mut_slice-parts.ensures.value c.in-Ok.ensures.grown c.in-Ok.ensures.idle c.in-Ok.ensures.quiet c.in-Ok.ensures.stands is in
     took_added c.self.inside.schema c.self.inside.count (map (seen c.self.inside.count) c.self.inside.parts.items) c.self.inside.peaks.items c.args.event.now (map (seen (c.self.inside.count + 1)) new) t c.args.self.now c.self.view_is
 
 pub returns-in-Ok-clause-steps : goal.returns-in-Ok-clause-steps
 returns-in-Ok-clause-steps g c =
-    let long : length c.see.new.parts ≡ c.self.inside.parts.len = (let e = c.as_mut_slice.ensures.len in let f = c.see.auto.parts in omega arith) in
+    let long : length c.see.new.parts ≡ c.self.inside.parts.len = (let e = c.as_mut_slice-parts.ensures.len in let f = c.see.auto.parts in omega arith) in
     let new = (with_items c.self.inside.parts c.see.new.parts).items in
     let is = with_items_is c.self.inside.parts c.see.new.parts long in
     steps_within c.self.inside.schema (c.self.inside.count + 1) c.see.new.parts new c.self.inside.peaks.items c.args.steps.now c.see.new.steps is c.in-Ok.ensures.steps
 
 pub invariant_of-self-in-Err : goal.invariant_of-self-in-Err
 invariant_of-self-in-Err g c =
-    let long : length c.see.new.parts ≡ c.self.inside.parts.len = (let e = c.as_mut_slice.ensures.len in let f = c.see.auto.parts in omega arith) in
+    let long : length c.see.new.parts ≡ c.self.inside.parts.len = (let e = c.as_mut_slice-parts.ensures.len in let f = c.see.auto.parts in omega arith) in
     let new = (with_items c.self.inside.parts c.see.new.parts).items in
     let is = with_items_is c.self.inside.parts c.see.new.parts long in
     let old = map (seen c.self.inside.count) c.self.inside.parts.items in
     let after = map (seen c.self.inside.count) new in
-    let same : after ≡ old = ap (map (seen c.self.inside.count)) is ∙ (c.in-Err.ensures.unchanged ∙ ap (map (seen c.self.inside.count)) c.as_mut_slice.ensures.value) in (
-      kept_back c.self.inside.schema c.self.inside.count c.self.inside.parts.items c.as_mut_slice.result.now c.see.new.parts new c.self.inside.peaks.items c.self.invariant.0 c.as_mut_slice.ensures.value is c.in-Err.ensures.unchanged,
+    let same : after ≡ old = ap (map (seen c.self.inside.count)) is ∙ (c.in-Err.ensures.unchanged ∙ ap (map (seen c.self.inside.count)) c.as_mut_slice-parts.ensures.value) in (
+      kept_back c.self.inside.schema c.self.inside.count c.self.inside.parts.items c.as_mut_slice-parts.result.now c.see.new.parts new c.self.inside.peaks.items c.self.invariant.0 c.as_mut_slice-parts.ensures.value is c.in-Err.ensures.unchanged,
       noted_same (map (λ (p : Phase). p.query) old) (map (λ (p : Phase). p.query) after) old after c.self.inside.told false c.self.inside.touched.items c.see.new.touched.items c.self.inside.all.items c.self.inside.timed.items (ap (map (λ (p : Phase). p.query)) same) c.self.invariant.1
           (λ told. absurd (false≢true told)),
+      watching_same c.self.inside.schema (map (λ (p : Phase). p.query) old) (map (λ (p : Phase). p.query) after) c.self.inside.count c.self.inside.count c.self.inside.parts.items new c.self.inside.watching.watch c.mark.new.self.watch c.self.inside.watching.awake c.self.inside.watching.marked c.see.new.awake c.mark.new.self.marked (ap (map (λ (p : Phase). p.query)) same)
+          c.mark.ensures.same.0 (c.see.ensures.sets ∙ ap (λ (b : List Bool). length b) c.mark.ensures.same.1) c.mark.ensures.sets (subst (λ (ps : List Phase). AreLeft seen c.self.inside.count c.see.new.awake ps) (sym is) c.in-Err.ensures.still_left) c.self.invariant.2,
     )
 
 pub returns-in-Err-clause-unchanged : goal.returns-in-Err-clause-unchanged
 returns-in-Err-clause-unchanged g c =
-    let long : length c.see.new.parts ≡ c.self.inside.parts.len = (let e = c.as_mut_slice.ensures.len in let f = c.see.auto.parts in omega arith) in
+    let long : length c.see.new.parts ≡ c.self.inside.parts.len = (let e = c.as_mut_slice-parts.ensures.len in let f = c.see.auto.parts in omega arith) in
     let new = (with_items c.self.inside.parts c.see.new.parts).items in
     let is = with_items_is c.self.inside.parts c.see.new.parts long in
-    state_back c.self.inside.schema c.self.inside.count c.self.inside.parts.items c.as_mut_slice.result.now c.see.new.parts new c.self.inside.peaks.items c.args.self.now c.self.view_is c.as_mut_slice.ensures.value is c.in-Err.ensures.unchanged
+    state_back c.self.inside.schema c.self.inside.count c.self.inside.parts.items c.as_mut_slice-parts.result.now c.see.new.parts new c.self.inside.peaks.items c.args.self.now c.self.view_is c.as_mut_slice-parts.ensures.value is c.in-Err.ensures.unchanged
 
 pub returns-in-Err-clause-wanting_steps : goal.returns-in-Err-clause-wanting_steps
-returns-in-Err-clause-wanting_steps g c = steps_wanted c.self.inside.schema c.self.inside.count (map (seen c.self.inside.count) c.self.inside.parts.items) (map (seen c.self.inside.count) c.as_mut_slice.result.now) c.self.inside.peaks.items c.args.self.now c.args.event.now c.args.steps.now c.see.new.steps c.self.view_is (running c.self.inside.schema c.self.inside.count c.self.inside.parts.items c.self.inside.peaks.items c.self.invariant.0) c.requires.in_time (ap (map (seen c.self.inside.count)) c.as_mut_slice.ensures.value) c.see.ensures.within
+returns-in-Err-clause-wanting_steps g c = steps_wanted c.self.inside.schema c.self.inside.count (map (seen c.self.inside.count) c.self.inside.parts.items) (map (seen c.self.inside.count) c.as_mut_slice-parts.result.now) c.self.inside.peaks.items c.args.self.now c.args.event.now c.args.steps.now c.see.new.steps c.self.view_is (running c.self.inside.schema c.self.inside.count c.self.inside.parts.items c.self.inside.peaks.items c.self.invariant.0) c.requires.in_time (ap (map (seen c.self.inside.count)) c.as_mut_slice-parts.ensures.value) c.see.ensures.within

@@ -5,27 +5,27 @@ use Rattle.query_part.proofs.Cuts.{can_mid}
 use Rattle.query_part.proofs.matches.Matches.advance.Goals as goal
 
 pub work-requires-clause-begun : goal.work-requires-clause-begun
-work-requires-clause-begun g c = record { before = c.args.self.now; key = c.args.key.now; are = c.marks-marks.ensures.are; sound = c.marks-marks.ensures.sound; takes = c.in_ok-number.ensures.taken; numbered = c.in_ok-number.ensures.number }
+work-requires-clause-begun g c = record { before = c.args.self.now; key = c.args.key.now; are = c.sizes-sizes.ensures.are; sound = c.sizes-sizes.ensures.sound; takes = c.in_ok-number.ensures.taken; numbered = c.in_ok-number.ensures.number }
 
 pub work-requires-clause-can : goal.work-requires-clause-can
 work-requires-clause-can g c = can_mid c.args.stamp c.args.self.now c.number.new.self c.args.key.now c.in_ok-number.ensures.taken c.requires.can
 
 pub returns-clause-ready : goal.returns-clause-ready
 returns-clause-ready g c =
-    let b : HasBegun c.marks-marks.result c.in_ok-number.number c.number.new.self = record { before = c.args.self.now; key = c.args.key.now; are = c.marks-marks.ensures.are; sound = c.marks-marks.ensures.sound; takes = c.in_ok-number.ensures.taken; numbered = c.in_ok-number.ensures.number } in
+    let b : HasBegun c.sizes-sizes.result c.in_ok-number.number c.number.new.self = record { before = c.args.self.now; key = c.args.key.now; are = c.sizes-sizes.ensures.are; sound = c.sizes-sizes.ensures.sound; takes = c.in_ok-number.ensures.taken; numbered = c.in_ok-number.ensures.number } in
     IfOk-weaker c.work.result _ _ (λ r f. f b) c.work.ensures.ready
 
-pub returns-clause-marks : goal.returns-clause-marks
-returns-clause-marks g c =
-    let b : HasBegun c.marks-marks.result c.in_ok-number.number c.number.new.self = record { before = c.args.self.now; key = c.args.key.now; are = c.marks-marks.ensures.are; sound = c.marks-marks.ensures.sound; takes = c.in_ok-number.ensures.taken; numbered = c.in_ok-number.ensures.number } in
-    IfOk-weaker c.work.result _ _ (λ r f. (f.0 b, f.1)) c.work.ensures.marks
+pub returns-clause-sizes : goal.returns-clause-sizes
+returns-clause-sizes g c =
+    let b : HasBegun c.sizes-sizes.result c.in_ok-number.number c.number.new.self = record { before = c.args.self.now; key = c.args.key.now; are = c.sizes-sizes.ensures.are; sound = c.sizes-sizes.ensures.sound; takes = c.in_ok-number.ensures.taken; numbered = c.in_ok-number.ensures.number } in
+    IfOk-weaker c.work.result _ _ (λ r f. (f.0 b, f.1)) c.work.ensures.sizes
 
 pub returns-clause-refused : goal.returns-clause-refused
 returns-clause-refused g c =
-    let b : HasBegun c.marks-marks.result c.in_ok-number.number c.number.new.self = record { before = c.args.self.now; key = c.args.key.now; are = c.marks-marks.ensures.are; sound = c.marks-marks.ensures.sound; takes = c.in_ok-number.ensures.taken; numbered = c.in_ok-number.ensures.number } in
+    let b : HasBegun c.sizes-sizes.result c.in_ok-number.number c.number.new.self = record { before = c.args.self.now; key = c.args.key.now; are = c.sizes-sizes.ensures.are; sound = c.sizes-sizes.ensures.sound; takes = c.in_ok-number.ensures.taken; numbered = c.in_ok-number.ensures.number } in
     on_err_weaker c.work.result (λ f. f b) c.work.ensures.refused
 
 pub returns-clause-worked : goal.returns-clause-worked
 returns-clause-worked g c =
-    let b : HasBegun c.marks-marks.result c.in_ok-number.number c.number.new.self = record { before = c.args.self.now; key = c.args.key.now; are = c.marks-marks.ensures.are; sound = c.marks-marks.ensures.sound; takes = c.in_ok-number.ensures.taken; numbered = c.in_ok-number.ensures.number } in
+    let b : HasBegun c.sizes-sizes.result c.in_ok-number.number c.number.new.self = record { before = c.args.self.now; key = c.args.key.now; are = c.sizes-sizes.ensures.are; sound = c.sizes-sizes.ensures.sound; takes = c.in_ok-number.ensures.taken; numbered = c.in_ok-number.ensures.number } in
     inr (c.work.ensures.worked b)

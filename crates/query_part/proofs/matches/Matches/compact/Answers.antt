@@ -6,23 +6,25 @@ use Rattle.cer_base.specs.declared.node.Node.{Node}
 use Rattle.query_standing.specs.Kept.{Rows}
 use Rattle.arena_compact.specs.Compacted.{least_of, roots_of, Compacted}
 use Rattle.query_part.specs.declared.matches.Lists.{Lists}
-use Rattle.query_part.specs.Matches.{Held, MayRest}
+use Rattle.query_part.specs.Matches.{Held, MayRest, awake_in, AreStill}
 use Rattle.query_part.proofs.matches.Matches.compact.Goals as goal
 
 pub invariant_of-self : goal.invariant_of-self
 invariant_of-self g c =
-    let long : length c.wake.new.lists ≡ c.self.inside.lists.len = (let a = c.as_mut_slice-lists.ensures.len in let b = c.compact.auto.keys in let d = c.wake.auto.lists in omega arith) in
-    let items = with_items_is c.self.inside.lists c.wake.new.lists long in
-    let same : length c.wake.new.lists ≡ length c.self.inside.lists.items = c.wake.auto.lists ∙ (c.compact.auto.keys ∙ ap length c.as_mut_slice-lists.ensures.value) in (
+    let long : length c.look_over-self-inside.new.lists ≡ c.self.inside.lists.len = (let a = c.as_mut_slice-lists.ensures.len in let b = c.compact.auto.keys in let d = c.look_over-self-inside.auto.lists in omega arith) in
+    let items = with_items_is c.self.inside.lists c.look_over-self-inside.new.lists long in
+    let same : length c.look_over-self-inside.new.lists ≡ length c.self.inside.lists.items = c.look_over-self-inside.auto.lists ∙ (c.compact.auto.keys ∙ ap length c.as_mut_slice-lists.ensures.value) in (
       c.self.invariant.0 ∙ sym (ap length items ∙ same),
-      subst (All (MayRest c.self.inside.det)) (sym items) (c.wake.ensures.rests c.self.inside.det),
+      subst (All (MayRest c.self.inside.det)) (sym items) (c.look_over-self-inside.ensures.rests c.self.inside.det (subst (AreStill c.self.inside.det) (sym c.as_slice.ensures.value) c.self.invariant.3)),
+      c.look_over-self-inside.ensures.awake ∙ sym (ap awake_in items),
+      c.self.invariant.3,
     )
 
 pub returns-clause-nodes : goal.returns-clause-nodes
 returns-clause-nodes g c =
-    let long : length c.wake.new.lists ≡ c.self.inside.lists.len = (let a = c.as_mut_slice-lists.ensures.len in let b = c.compact.auto.keys in let d = c.wake.auto.lists in omega arith) in
-    let items = with_items_is c.self.inside.lists c.wake.new.lists long in
-    let rows = ap (map (λ (l : Lists). l.active.entries)) items ∙ c.wake.ensures.rows in
+    let long : length c.look_over-self-inside.new.lists ≡ c.self.inside.lists.len = (let a = c.as_mut_slice-lists.ensures.len in let b = c.compact.auto.keys in let d = c.look_over-self-inside.auto.lists in omega arith) in
+    let items = with_items_is c.self.inside.lists c.look_over-self-inside.new.lists long in
+    let rows = ap (map (λ (l : Lists). l.active.entries)) items ∙ c.look_over-self-inside.ensures.rows in
     let ws = map g.C.HasCursor.walk c.args.cursors.now in let vs = map g.C.HasCursor.walk c.compact.new.cursors in
     let left = rw (to_z-of_z w128 c.args.low c.ranges.low) at c.compact.ensures.nodes in
     subst (λ (rs : List Rows). Compacted (least_of c.args.query c.args.low ws) c.args.self.now.nodes c.compact.new.store (roots_of c.args.query rs vs)) (sym rows)

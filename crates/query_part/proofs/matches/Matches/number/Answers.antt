@@ -1,8 +1,10 @@
-use Rattle.std.proofs.Common.{◌≡◌, ◌++◌, ◌∷◌, [], All, sym, ap, subst, inl, inr, length, arith}
+use Rattle.std.proofs.Common.{◌≡◌, ◌∙◌, suc, ◌++◌, ◌∷◌, [], All, take, sym, ap, subst, inl, inr, length, arith}
+use Rattle.std.specs.Prelude.{if◌then◌else◌}
 use Rattle.std.proofs.lemmas.List.Elements.{All-push, All-take}
 use Rattle.std.proofs.lemmas.Grind.{common_steps}
 use Rattle.query_standing.proofs.Parts.{length_more}
-use Rattle.query_part.specs.Matches.{MayRest}
+use Rattle.query_part.specs.Matches.{MayRest, awake_in}
+use Rattle.query_part.proofs.Resting.{awake_push, popped}
 use Rattle.query_part.proofs.matches.Matches.number.Goals as goal
 
 pub invariant_of-self-in-Ok : goal.invariant_of-self-in-Ok
@@ -19,13 +21,18 @@ invariant_of-self-in-Ok c =
             omega arith
       ],
       subst (All (MayRest c.self.inside.det)) (sym pushed) (All-push (MayRest c.self.inside.det) c.self.inside.lists.items c.none.result c.self.invariant.1 (c.none.ensures.rests c.self.inside.det)),
+      c.self.invariant.2 ∙ sym (ap awake_in pushed ∙ (awake_push c.self.inside.lists.items c.none.result ∙ ap (λ b. if b then awake_in c.self.inside.lists.items else suc (awake_in c.self.inside.lists.items)) c.none.ensures.known)),
+      c.self.invariant.3,
     )
 
 pub invariant_of-self-in-Err : goal.invariant_of-self-in-Err
 invariant_of-self-in-Err c =
     let pushed : c.push.new.self.items ≡ c.self.inside.lists.items ++ c.none.result ∷ [] = c.in_ok-push.ensures.items in
     let all = subst (All (MayRest c.self.inside.det)) (sym pushed) (All-push (MayRest c.self.inside.det) c.self.inside.lists.items c.none.result c.self.invariant.1 (c.none.ensures.rests c.self.inside.det)) in
-    let long : length c.number.new.self ≡ length c.pop-none.new.self.items = grind (arith, common_steps) in (
+    let long : length c.number.new.self ≡ length c.pop-none.new.self.items = grind (arith, common_steps) in
+    let back : length c.pop-none.new.self.items ≡ length c.self.inside.lists.items = grind (arith, common_steps) in (
       long,
       subst (All (MayRest c.self.inside.det)) (sym c.pop-none.ensures.rest) (All-take (MayRest c.self.inside.det) _ c.push.new.self.items all),
+      c.self.invariant.2 ∙ sym (ap awake_in (c.pop-none.ensures.rest ∙ (ap (take _) pushed ∙ popped c.self.inside.lists.items c.none.result _ (sym (ap length (c.pop-none.ensures.rest ∙ ap (take _) pushed)) ∙ back)))),
+      c.self.invariant.3,
     )

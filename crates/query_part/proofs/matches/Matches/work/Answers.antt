@@ -1,13 +1,10 @@
-use Rattle.std.proofs.Common.{◌≡◌, ◌<◌, ◌∙◌, List, All, map, sym, ap, subst, refl, length, Some, slice_get, arith}
+use Rattle.std.proofs.Common.{◌≡◌, ◌<◌, ◌∙◌, sym, subst, refl, length, Some, slice_get, arith}
 use Rattle.std.proofs.lemmas.Option.{slice_get_within}
-use Rattle.std.proofs.lemmas.List.{with_items_is}
-use Rattle.event_update.specs.Still.{Rest}
 use Rattle.event_update.specs.Update.{IsAdvancedBy, rows_after}
 use Rattle.event_update.proofs.Resting.{unchanged_rest}
-use Rattle.query_standing.specs.Kept.{Rows}
 use Rattle.query_part.specs.declared.matches.Lists.{Lists}
-use Rattle.query_part.specs.Matches.{Held, MayRest, TakesKey, CanTake, CanCut, cut}
-use Rattle.query_part.proofs.Resting.{rest_later}
+use Rattle.query_part.specs.Matches.{Held, TakesKey, CanTake}
+use Rattle.query_part.proofs.Resting.{rest_later, still_later}
 use Rattle.query_part.proofs.Cuts.{cut_back, can_cut, row_at, length_map, same_before, sound_mid, grown_from}
 use Rattle.query_part.proofs.matches.Matches.work.Goals as goal
 
@@ -24,7 +21,7 @@ cut_to-requires g c =
     let b = c.requires.begun in
     let takes = subst (TakesKey b.before b.key) (sym c.self.view_is) b.takes in
     let same = same_before b.before _ b.key takes (c.self.invariant.0 ∙ sym (length_map _ c.self.inside.lists.items)) in
-    can_cut c.args.marks b.key b.before _ b.are same takes _ c.args.bits.now c.prepare.new.det c.prepare.ensures.det c.prepare.new.store c.prepare.ensures.grows.more c.prepare.ensures.grows.appended (sound_mid b.before _ b.key takes b.sound)
+    can_cut c.args.sizes b.key b.before _ b.are same takes _ c.args.bits.now c.prepare.new.det c.prepare.ensures.det c.prepare.new.store c.prepare.ensures.grows.more c.prepare.ensures.grows.appended (sound_mid b.before _ b.key takes b.sound)
 
 pub returns-in-Ok-clause-ready : goal.returns-in-Ok-clause-ready
 returns-in-Ok-clause-ready g c b =
@@ -32,47 +29,36 @@ returns-in-Ok-clause-ready g c b =
     let at = subst (λ (h : Held). slice_get h.keys c.args.number ≡ Some b.key) (sym c.self.view_is) b.numbered in
     let within = slice_get_within c.self.inside.keys c.args.number b.key at in
     let inside : c.args.number < length c.self.inside.lists.items = (let l = c.self.invariant.0 in omega arith) in
-    let long : length c.note.new.lists ≡ c.self.inside.lists.len = (let e = c.as_mut_slice.ensures.len in let f = c.note.auto.lists in omega arith) in
-    let items = with_items_is c.self.inside.lists c.note.new.lists long in
-    let rows = ap (map (λ (l : Lists). l.active.entries)) items ∙ (c.note.ensures.rows ∙ ap (map (λ (l : Lists). l.active.entries)) c.as_mut_slice.ensures.value) in
     record {
       mid = _;
       takes = takes;
       keys = refl;
-      rows = rows;
+      rows = refl;
       numbered = at;
       before = c.index.result.now.active.entries;
       before_is = row_at _ c.self.inside.lists.items c.args.number c.index.result.now inside c.index.ensures;
       states = _;
       states_are = refl;
       table = c.prepare.ensures.det;
-      sets = c.mark-mark.ensures.sound.states;
+      sets = c.sizes-sizes.ensures.sound.states;
       distinct = c.found-found.ensures.once;
       nodes = c.prepare.ensures.grows;
       stands = c.in-Ok.ensures.stands;
       growth = grown_from b.before _ b.key takes _ _ c.prepare.ensures.pushes;
     }
 
-pub returns-in-Ok-clause-marks : goal.returns-in-Ok-clause-marks
-returns-in-Ok-clause-marks g c = (
+pub returns-in-Ok-clause-sizes : goal.returns-in-Ok-clause-sizes
+returns-in-Ok-clause-sizes g c = (
   λ b. (
       let takes = subst (TakesKey b.before b.key) (sym c.self.view_is) b.takes in
       let same = same_before b.before _ b.key takes (c.self.invariant.0 ∙ sym (length_map _ c.self.inside.lists.items)) in
-      let long : length c.note.new.lists ≡ c.self.inside.lists.len = (let e = c.as_mut_slice.ensures.len in let f = c.note.auto.lists in omega arith) in
-      let items = with_items_is c.self.inside.lists c.note.new.lists long in
-      let rows = ap (map (λ (l : Lists). l.active.entries)) items ∙ (c.note.ensures.rows ∙ ap (map (λ (l : Lists). l.active.entries)) c.as_mut_slice.ensures.value) in
-      let held : List Rows → Held = λ rs. record { table = c.prepare.new.det; nodes = c.prepare.new.store; keys = c.self.inside.keys; rows = rs } in
-      ap (λ rs. cut c.args.marks (held rs)) rows ∙ cut_back c.args.marks b.key b.before _ b.are same takes _ c.args.bits.now c.prepare.new.det c.prepare.ensures.det c.prepare.new.store c.prepare.ensures.grows.more c.prepare.ensures.grows.appended
+      cut_back c.args.sizes b.key b.before _ b.are same takes _ c.args.bits.now c.prepare.new.det c.prepare.ensures.det c.prepare.new.store c.prepare.ensures.grows.more c.prepare.ensures.grows.appended
       ),
   (
       let b = c.requires.begun in
       let takes = subst (TakesKey b.before b.key) (sym c.self.view_is) b.takes in
       let same = same_before b.before _ b.key takes (c.self.invariant.0 ∙ sym (length_map _ c.self.inside.lists.items)) in
-      let long : length c.note.new.lists ≡ c.self.inside.lists.len = (let e = c.as_mut_slice.ensures.len in let f = c.note.auto.lists in omega arith) in
-      let items = with_items_is c.self.inside.lists c.note.new.lists long in
-      let rows = ap (map (λ (l : Lists). l.active.entries)) items ∙ (c.note.ensures.rows ∙ ap (map (λ (l : Lists). l.active.entries)) c.as_mut_slice.ensures.value) in
-      let held : List Rows → Held = λ rs. record { table = c.prepare.new.det; nodes = c.prepare.new.store; keys = c.self.inside.keys; rows = rs } in
-      subst (λ rs. CanCut c.args.marks (held rs)) (sym rows) (can_cut c.args.marks b.key b.before _ b.are same takes _ c.args.bits.now c.prepare.new.det c.prepare.ensures.det c.prepare.new.store c.prepare.ensures.grows.more c.prepare.ensures.grows.appended (sound_mid b.before _ b.key takes b.sound))
+      can_cut c.args.sizes b.key b.before _ b.are same takes _ c.args.bits.now c.prepare.new.det c.prepare.ensures.det c.prepare.new.store c.prepare.ensures.grows.more c.prepare.ensures.grows.appended (sound_mid b.before _ b.key takes b.sound)
       ),
 )
 
@@ -80,7 +66,7 @@ pub returns-in-Err-clause-refused : goal.returns-in-Err-clause-refused
 returns-in-Err-clause-refused g c b =
     let takes = subst (TakesKey b.before b.key) (sym c.self.view_is) b.takes in
     let same = same_before b.before _ b.key takes (c.self.invariant.0 ∙ sym (length_map _ c.self.inside.lists.items)) in
-    c.cut_to.ensures ∙ cut_back c.args.marks b.key b.before _ b.are same takes _ c.args.bits.now c.prepare.new.det c.prepare.ensures.det c.prepare.new.store c.prepare.ensures.grows.more c.prepare.ensures.grows.appended
+    c.cut_to.ensures ∙ cut_back c.args.sizes b.key b.before _ b.are same takes _ c.args.bits.now c.prepare.new.det c.prepare.ensures.det c.prepare.new.store c.prepare.ensures.grows.more c.prepare.ensures.grows.appended
 
 pub returns-in-Ok-clause-worked : goal.returns-in-Ok-clause-worked
 returns-in-Ok-clause-worked g c b =
@@ -126,14 +112,10 @@ invariant_of-self g c =
     let inside : c.args.number < length c.self.inside.lists.items = (let l = c.self.invariant.0 in omega arith) in
     let row = row_at (λ (l : Lists). l.active.entries) c.self.inside.lists.items c.args.number c.index.result.now inside c.index.ensures in
     let can = subst (CanTake c.args.stamp) (sym c.self.view_is) c.requires.can c.args.number c.index.result.now.active.entries row in
-    let long : length c.note.new.lists ≡ c.self.inside.lists.len = (let e = c.as_mut_slice.ensures.len in let f = c.note.auto.lists in omega arith) in
-    let items = with_items_is c.self.inside.lists c.note.new.lists long in
-    let value = c.as_mut_slice.ensures.value in
-    let before = rest_later c.self.inside.det c.prepare.new.det _ c.args.bits.now c.self.inside.lists.items c.prepare.ensures.det c.self.invariant.1 in (
-      c.self.invariant.0 ∙ (sym (ap length value) ∙ (sym c.note.auto.lists ∙ sym (ap length items))),
-      subst (All (MayRest c.prepare.new.det)) (sym items) (c.note.ensures.rests c.prepare.new.det (subst (All (MayRest c.prepare.new.det)) (sym value) before) (λ rows is quiet stays. (
-          let both : Some c.index.result.now.active.entries ≡ Some rows = sym row ∙ (ap (λ ls. slice_get (map (λ (l : Lists). l.active.entries) ls) c.args.number) (sym value) ∙ is) in
-          let same : c.index.result.now.active.entries ≡ rows = cc in
-          subst (Rest c.prepare.new.det) same (unchanged_rest c.self.inside.det c.prepare.new.det c.args.bits.now c.args.stamp c.self.inside.store c.prepare.new.store c.index.result.now.active.entries quiet c.mark-mark.ensures.sound can c.prepare.ensures.grows (subst (λ s. IsAdvancedBy c.prepare.new.det c.args.bits.now c.args.stamp c.self.inside.store c.index.result.now.active.entries c.prepare.new.store (rows_after c.index.result.now.active.entries s)) stays c.in-Ok.ensures.advanced))
-          ))),
+    let still = still_later c.self.inside.det c.prepare.new.det _ c.args.bits.now c.self.inside.still.items c.prepare.ensures.det c.self.invariant.3 in (
+      c.self.invariant.0,
+      rest_later c.self.inside.det c.prepare.new.det _ c.args.bits.now c.self.inside.lists.items c.prepare.ensures.det c.self.invariant.1,
+      c.self.invariant.2,
+      c.note.ensures c.prepare.new.det still (λ quiet stays.
+          unchanged_rest c.self.inside.det c.prepare.new.det c.args.bits.now c.args.stamp c.self.inside.store c.prepare.new.store c.index.result.now.active.entries quiet c.sizes-sizes.ensures.sound can c.prepare.ensures.grows (subst (λ s. IsAdvancedBy c.prepare.new.det c.args.bits.now c.args.stamp c.self.inside.store c.index.result.now.active.entries c.prepare.new.store (rows_after c.index.result.now.active.entries s)) stays c.in-Ok.ensures.advanced)),
     )

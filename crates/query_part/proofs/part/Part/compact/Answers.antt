@@ -50,8 +50,7 @@ invariant_of-self g c =
         room = m.room ∙ ap (λ (t : Table). room_for t.cea.size) (sym same);
       },
       tt,
-      tt,
-      c.self.invariant.3,
+      c.self.invariant.2,
     )
 
 pub returns-clause-same : goal.returns-clause-same

@@ -2,7 +2,7 @@ use Rattle.std.proofs.Common.{◌≡◌, ◌+◌, ◌≤◌, ◌∙◌, rules, t
 use Rattle.all_or_none.specs.Phases.{Phase, HasPassed}
 use Rattle.query_part.specs.Parts.{seen}
 use Rattle.query_part.proofs.Prepare.{facts, idle_fields, not_read}
-use Rattle.query_part.proofs.Sleeping.{not_true, passes_unread, passes_resting}
+use Rattle.query_part.proofs.Sleeping.{not_true, unread_of, passes_unread, passes_resting}
 use Rattle.query_part.proofs.part.PartKeeps.passes.Goals as goal
 
 pub returns-then-not-self : goal.returns-then-not-self
@@ -23,9 +23,8 @@ returns c =
     let f = facts c.self.inside.schema.value c.self.inside.query c.args.event.now c.args.position c.self.inside.step c.self.inside.ready c.self.inside.matches c.self.inside.clock.last c.self.inside.here c.self.inside.upto c.self.inside.floats c.args.self.now c.self.view_is c.requires.idle c.requires.can in
     let floats : c.self.inside.floats ≡ true = search rules in
     let le : c.self.inside.upto ≤ c.args.position = search rules in
-    let first : c.is_first.result ≡ true = search rules in
-    let none : c.read_none.result ≡ true = search rules in
+    let all : c.all_rest.result ≡ true = search rules in
     record {
       passed = λ told. subst (λ (p : Phase). HasPassed c.args.event.now c.args.position (seen c.args.position p) (seen (c.args.position + 1) p)) (idle_fields c.self.inside.schema.value c.self.inside.query c.self.inside.step c.self.inside.ready c.self.inside.matches c.self.inside.clock.last c.self.inside.here c.self.inside.upto c.self.inside.floats c.args.self.now c.self.view_is c.requires.idle)
-          (passes_resting c.self.inside.schema.value c.self.inside.query c.self.inside.clock.source c.self.inside.types.items c.self.inside.conditions f.events c.args.event.now c.args.position c.self.inside.matches c.self.inside.clock.last c.self.inside.here c.self.inside.upto c.self.inside.floats c.self.inside.alone c.now-now.result floats c.self.invariant.3 c.self.invariant.0.types c.self.invariant.0.clock f.of_schema le (c.is_first.ensures first) c.self.invariant.2 (c.read_none.ensures none) (c.self.invariant.0.leaves c.args.event.now) c.now-now.ensures.clock c.now-now.ensures.fits f.stands);
+          (passes_resting c.self.inside.schema.value c.self.inside.query c.self.inside.clock.source c.self.inside.types.items c.args.event.now c.args.position c.self.inside.matches c.self.inside.clock.last c.self.inside.here c.self.inside.upto c.self.inside.floats floats c.self.invariant.2 c.self.invariant.0.types c.self.invariant.0.clock f.of_schema le (c.all_rest.ensures all) (unread_of c.self.inside.conditions c.args.event.now _ (c.self.invariant.0.leaves c.args.event.now) (c.read_none.ensures told)));
     }

@@ -1,0 +1,344 @@
+-- A walk over the marked parts: between two of them each part rests, and the event passes it by.
+use Rattle.std.proofs.Common.{◌≡◌, refl, sym, ap, subst, ◌∙◌, ℕ, zero, suc, ◌+◌, ◌-◌, ◌<◌, ◌≤◌, inl, inr, Bool, true, false, ◌||◌, eqb, List, [], ◌∷◌, ◌++◌, length, map, take, take_all, drop, All, Some, None, slice_get, slice_index_or, slice_set, arith}
+use Rattle.std.specs.Prelude.{sum_by}
+use Rattle.std.specs.List.{AllZip}
+use Rattle.std.proofs.lemmas.Bool.{cases_lt, eqb-true, eq-eqb, false≢true, or_cases, or_left}
+use Rattle.std.proofs.lemmas.Option.{slice_get-get_or}
+use Rattle.std.proofs.lemmas.List.Elements.{All-nil, All-cons, All-head, All-tail, All-map}
+use Rattle.std.proofs.lemmas.List.Sums.{sum_by-cons}
+use Rattle.stream_schema.specs.declared.Event.{Event}
+use Rattle.cer_base.specs.Bits.{has}
+use Rattle.all_or_none.specs.Phases.{Phase, IsIdle, CanPrepare, HasPassed, IsNoted, back, is_among, AreSet, IsTaken, Rests, AreLeft, AreUnread, AreUntouched, AreOfMarked, AreBack}
+use Rattle.all_or_none.proofs.LoopTurn.{same_next, left_next, all_mapped}
+use Rattle.all_or_none.proofs.BothPhases.{map_map}
+use Rattle.all_or_none.proofs.Numbers.{read_other, read_there, as_long, among_push, set_none, set_next}
+
+-- the element at a place
+pub there : {A : Type 0} (xs : List A) (k : ℕ) → k < length xs → (x : A) × (slice_get xs k ≡ Some x)
+there [] k less = absurd (omega arith)
+there (x ∷ xs) zero less = (x, refl)
+there (x ∷ xs) (suc k) less = there xs k (omega arith)
+
+-- a fact of all is one of the element at a place
+pub all_get : {A : Type 0} (P : A → Type 0) (xs : List A) (k : ℕ) (x : A) → All P xs → slice_get xs k ≡ Some x → P x
+all_get P [] k x h at = absurd cc
+all_get P (y ∷ ys) zero x h at = let same : y ≡ x = cc in subst P same (All-head P y ys h)
+all_get P (y ∷ ys) (suc k) x h at = all_get P ys k x (All-tail P y ys h) at
+
+-- to write what is there changes nothing
+set_same : {A : Type 0} (xs : List A) (k : ℕ) (x : A) → slice_get xs k ≡ Some x → slice_set xs k x ≡ xs
+set_same [] k x at = refl
+set_same (y ∷ ys) zero x at = let same : x ≡ y = cc in ap (λ z. z ∷ ys) same
+set_same (y ∷ ys) (suc k) x at = ap (λ zs. y ∷ zs) (set_same ys k x at)
+
+get_within : {A : Type 0} (xs : List A) (k : ℕ) (x : A) → slice_get xs k ≡ Some x → k < length xs
+get_within [] k x at = absurd cc
+get_within (y ∷ ys) zero x at = omega arith
+get_within (y ∷ ys) (suc k) x at = let r = get_within ys k x at in omega arith
+
+-- more elements have no lower sum
+pub sum_more : {A : Type 0} (f : A → ℕ) (xs : List A) (k j : ℕ) → k ≤ j → sum_by f (take k xs) ≤ sum_by f (take j xs)
+sum_more f [] zero zero le = omega arith
+sum_more f [] zero (suc j) le = omega arith
+sum_more f [] (suc k) zero le = absurd (omega arith)
+sum_more f [] (suc k) (suc j) le = omega arith
+sum_more f (x ∷ xs) zero zero le = omega arith
+sum_more f (x ∷ xs) zero (suc j) le = let a = sum_by-cons f x (take j xs) in omega arith
+sum_more f (x ∷ xs) (suc k) zero le = absurd (omega arith)
+sum_more f (x ∷ xs) (suc k) (suc j) le =
+    let a = sum_by-cons f x (take k xs) in
+    let b = sum_by-cons f x (take j xs) in
+    let r = sum_more f xs k j (omega arith) in
+    omega arith
+
+-- where a marked part changes, the others are as they were
+pub untouched_next : {P : Type 0} (marked : List Bool) (old cur : List P) (k : ℕ) (v : P) → AreUntouched marked old cur → has marked k ≡ true → AreUntouched marked old (slice_set cur k v)
+untouched_next marked old cur k v others is j unmarked = read_other cur k j v (λ same. false≢true (sym unmarked ∙ (ap (has marked) same ∙ is))) ∙ others j unmarked
+
+-- What is asked of the parts before the event.
+pub record CanTake {P : Type 0} (phase : ℕ → P → Phase) (event : Event) (position : ℕ) (marked : List Bool) (parts : List P) : Type 0 where
+  pub idle : All (λ p. IsIdle (phase position p)) parts
+  pub can : All (λ p. CanPrepare event position (phase position p)) parts
+  pub left : AreLeft phase position marked parts
+  pub unread : AreUnread (phase position) event marked parts
+
+pub passed_there : {P : Type 0} (phase : ℕ → P → Phase) (event : Event) (position : ℕ) (marked : List Bool) (parts : List P) → CanTake phase event position marked parts → (k : ℕ) (p : P) → slice_get parts k ≡ Some p → has marked k ≡ false → HasPassed event position (phase position p) (phase (position + 1) p)
+passed_there phase event position marked parts h k p at unmarked =
+    (h.left.others k p at unmarked).passes event position
+    (all_get (λ x. (phase position x).upto ≤ position) parts k p h.left.known at)
+    (all_get (λ x. IsIdle (phase position x)) parts k p h.idle at)
+    (all_get (λ x. CanPrepare event position (phase position x)) parts k p h.can at)
+    (h.unread k p at unmarked)
+
+-- The first so many parts were gone over: the marked ones are prepared or the event passes them by, and the others are as they were.
+pub record HaveGone {P : Type 0} (phase : ℕ → P → Phase) (event : Event) (position : ℕ) (marked : List Bool) (k : ℕ) (numbers : List ℕ) (old cur : List P) : Type 0 where
+  pub count : length cur ≡ length old
+  pub kept : map (λ p. back (phase position p)) (take k cur) ≡ map (λ p. back (phase position p)) (take k old)
+  pub set : AreSet (phase position) (phase (position + 1)) event position k numbers cur
+  pub left : drop k cur ≡ drop k old
+  pub listed : AreOfMarked marked numbers
+  pub others : AreUntouched marked old cur
+
+-- All parts were gone over.
+pub record HasGone {P : Type 0} (phase : ℕ → P → Phase) (event : Event) (position : ℕ) (marked : List Bool) (numbers : List ℕ) (old cur : List P) : Type 0 where
+  pub kept : map (λ p. back (phase position p)) cur ≡ map (λ p. back (phase position p)) old
+  pub set : AreSet (phase position) (phase (position + 1)) event position (length cur) numbers cur
+
+pub gone_none : {P : Type 0} (phase : ℕ → P → Phase) (event : Event) (position : ℕ) (marked : List Bool) (numbers : List ℕ) (xs : List P) → numbers ≡ [] → HaveGone phase event position marked 0 numbers xs xs
+gone_none phase event position marked numbers xs none = record {
+  count = refl;
+  kept = refl;
+  set = set_none (phase position) (phase (position + 1)) event position numbers xs none;
+  left = refl;
+  listed = λ k among. absurd (false≢true (sym (ap (λ ns. is_among ns (k + 1)) none) ∙ among));
+  others = λ k unmarked. refl;
+}
+
+module _ {P : Type 0} (phase : ℕ → P → Phase) (event : Event) (position : ℕ) (marked : List Bool) (old : List P) (asked : CanTake phase event position marked old) where
+  -- one that is not marked is passed by
+  skip_one : (k : ℕ) (numbers : List ℕ) (cur : List P) → HaveGone phase event position marked k numbers old cur → k < length old → has marked k ≡ false → HaveGone phase event position marked (k + 1) numbers old cur
+  skip_one k numbers cur h less unmarked =
+      let inside : k < length cur = (let e = h.count in omega arith) in
+      let x = there cur k inside in
+      let same = set_same cur k x.0 x.1 in
+      let here : slice_index_or cur k x.0 ≡ x.0 = (let both = sym (slice_get-get_or cur k x.0 inside) ∙ x.1 in cc) in
+      let passed = passed_there phase event position marked old asked k x.0 (sym (h.others k unmarked) ∙ x.1) unmarked in
+      record {
+        count = h.count;
+        kept = subst (λ zs. map (λ p. back (phase position p)) (take (k + 1) zs) ≡ map (λ p. back (phase position p)) (take (k + 1) old)) same
+            (same_next (λ p. back (phase position p)) (λ p. back (phase position p)) cur old k x.0 x.0 inside h.count h.left h.kept (ap (λ p. back (phase position p)) (sym here)));
+        set = subst (λ zs. AreSet (phase position) (phase (position + 1)) event position (k + 1) numbers zs) same
+            (set_next (phase position) (phase (position + 1)) event position k numbers cur x.0 h.set numbers (inr (passed, refl)));
+        left = subst (λ zs. drop (k + 1) zs ≡ drop (k + 1) old) same (left_next cur old k x.0 inside h.count h.left);
+        listed = h.listed;
+        others = h.others;
+      }
+
+  pub skip : (n k j : ℕ) (numbers : List ℕ) (cur : List P) → k + n ≡ j → j ≤ length old → HaveGone phase event position marked k numbers old cur → ((i : ℕ) → k ≤ i → i < j → has marked i ≡ false) → HaveGone phase event position marked j numbers old cur
+  skip zero k j numbers cur is le h none = let same : k ≡ j = omega arith in subst (λ m. HaveGone phase event position marked m numbers old cur) same h
+  skip (suc n) k j numbers cur is le h none =
+      skip n (k + 1) j numbers cur (omega arith) le (skip_one k numbers cur h (omega arith) (none k (omega arith) (omega arith))) (λ i above below. none i (omega arith) below)
+
+  -- Those up to a marked one are passed by.
+  pub skip_to : (k j : ℕ) (numbers : List ℕ) (cur : List P) → k ≤ j → j ≤ length old → HaveGone phase event position marked k numbers old cur → ((i : ℕ) → k ≤ i → i < j → has marked i ≡ false) → HaveGone phase event position marked j numbers old cur
+  skip_to k j numbers cur low le h none = skip (j - k) k j numbers cur (omega arith) le h none
+
+  -- Where no further one is marked, all were gone over.
+  pub gone_all : (k : ℕ) (numbers : List ℕ) (cur : List P) → k ≤ length old → HaveGone phase event position marked k numbers old cur → ((i : ℕ) → k ≤ i → i < length cur → has marked i ≡ false) → HasGone phase event position marked numbers old cur
+  gone_all k numbers cur le h none =
+      let same = h.count in
+      let all = skip_to k (length old) numbers cur le (omega arith) h (λ i above below. none i above (omega arith)) in
+      record {
+        kept = subst (λ zs. map (λ p. back (phase position p)) cur ≡ map (λ p. back (phase position p)) zs) (take_all (length old) old (omega arith))
+            (subst (λ zs. map (λ p. back (phase position p)) zs ≡ map (λ p. back (phase position p)) (take (length old) old)) (take_all (length old) cur (omega arith)) all.kept);
+        set = subst (λ n. AreSet (phase position) (phase (position + 1)) event position n numbers cur) (sym h.count) all.set;
+      }
+
+  -- A marked one is prepared and noted, or the event passes it by.
+  pub next_one : (k : ℕ) (numbers more : List ℕ) (cur : List P) (v d : P) → HaveGone phase event position marked k numbers old cur → k < length cur → has marked k ≡ true → back (phase position v) ≡ back (phase position (slice_index_or cur k d)) → IsNoted event position (k + 1) (phase position v) (phase (position + 1) v) numbers more → HaveGone phase event position marked (k + 1) more old (slice_set cur k v)
+  next_one k numbers more cur v d h inside is_marked same noted = record {
+    count = as_long cur k v ∙ h.count;
+    kept = same_next (λ p. back (phase position p)) (λ p. back (phase position p)) cur old k v d inside h.count h.left h.kept same;
+    set = set_next (phase position) (phase (position + 1)) event position k numbers cur v h.set more noted;
+    left = left_next cur old k v inside h.count h.left;
+    listed = listed_more more noted;
+    others = untouched_next marked old cur k v h.others is_marked;
+  }
+    where
+      pushed : (j : ℕ) → is_among (numbers ++ (k + 1) ∷ []) (j + 1) ≡ true → has marked j ≡ true
+      pushed j among = elim (or_cases (is_among numbers (j + 1)) (eqb (k + 1) (j + 1)) (sym (among_push numbers (k + 1) (j + 1)) ∙ among)) [
+        | inl was ↦ h.listed j was
+        | inr new ↦ (let e = eqb-true (k + 1) (j + 1) new in let same : k ≡ j = omega arith in subst (λ i. has marked i ≡ true) same is_marked)
+      ]
+
+      listed_more : (ns : List ℕ) → IsNoted event position (k + 1) (phase position v) (phase (position + 1) v) numbers ns → AreOfMarked marked ns
+      listed_more ns (inl done) = subst (AreOfMarked marked) (sym done.1) pushed
+      listed_more ns (inr passed) = subst (AreOfMarked marked) (sym passed.1) h.listed
+
+-- The marked ones among the first so many parts are taken back, and the others are as they were.
+pub record AreBackUpTo {P : Type 0} (k : ℕ) (phase : ℕ → P → Phase) (marked : List Bool) (old cur : List P) : Type 0 where
+  pub count : length cur ≡ length old
+  pub others : AreUntouched marked old cur
+  pub ahead : drop k cur ≡ drop k old
+  pub back : (j : ℕ) (o n : P) → j < k → slice_get old j ≡ Some o → slice_get cur j ≡ Some n → has marked j ≡ true → (position : ℕ) → phase position n ≡ record (phase position o) { ready = None }
+
+pub back_none : {P : Type 0} (phase : ℕ → P → Phase) (marked : List Bool) (xs : List P) → AreBackUpTo 0 phase marked xs xs
+back_none phase marked xs = record { count = refl; others = λ k unmarked. refl; ahead = refl; back = λ j o n less. absurd (omega arith) }
+
+pub back_all : {P : Type 0} (k : ℕ) (phase : ℕ → P → Phase) (marked : List Bool) (old cur : List P) → length cur ≤ k → AreBackUpTo k phase marked old cur → AreBack phase marked old cur
+back_all k phase marked old cur end h = record { count = h.count; others = h.others; back = λ j o n at is. (let less = get_within cur j n is in h.back j o n (omega arith) at is) }
+
+at_ahead : {A : Type 0} (xs ys : List A) (k : ℕ) (d o : A) → k < length xs → drop k xs ≡ drop k ys → slice_get ys k ≡ Some o → slice_index_or xs k d ≡ o
+at_ahead [] ys k d o less same at = absurd (omega arith)
+at_ahead (x ∷ xs) [] k d o less same at = absurd cc
+at_ahead (x ∷ xs) (y ∷ ys) zero d o less same at = cc
+at_ahead (x ∷ xs) (y ∷ ys) (suc k) d o less same at = at_ahead xs ys k d o (omega arith) same at
+
+module _ {P : Type 0} (k : ℕ) (phase : ℕ → P → Phase) (marked : List Bool) (old cur : List P) (h : AreBackUpTo k phase marked old cur) (inside : k < length cur) where
+  -- one that is not marked
+  pub back_past : has marked k ≡ false → AreBackUpTo (k + 1) phase marked old cur
+  back_past unmarked =
+      let x = there cur k inside in
+      record {
+        count = h.count;
+        others = h.others;
+        ahead = subst (λ zs. drop (k + 1) zs ≡ drop (k + 1) old) (set_same cur k x.0 x.1) (left_next cur old k x.0 inside h.count h.ahead);
+        back = λ j o n less at is among. elim (cases_lt j k) [
+          | inl low ↦ h.back j o n low at is among
+          | inr high ↦ absurd (false≢true (sym unmarked ∙ (ap (has marked) (let e : k ≡ j = omega arith in e) ∙ among)))
+        ];
+      }
+
+  -- one that is marked is taken back
+  pub back_next : (v d : P) → has marked k ≡ true → ((position : ℕ) → phase position v ≡ back (phase position (slice_index_or cur k d))) → AreBackUpTo (k + 1) phase marked old (slice_set cur k v)
+  back_next v d is_marked taken = record {
+    count = as_long cur k v ∙ h.count;
+    others = untouched_next marked old cur k v h.others is_marked;
+    ahead = left_next cur old k v inside h.count h.ahead;
+    back = λ j o n less at is among position. elim (cases_lt j k) [
+      | inl low ↦ h.back j o n low at (sym (read_other cur k j v (λ same. omega arith)) ∙ is) among position
+      | inr high ↦ (
+          let same : j ≡ k = omega arith in
+          let new : n ≡ v = read_there cur k v n (subst (λ i. slice_get (slice_set cur k v) i ≡ Some n) same is) in
+          let was : slice_index_or cur k d ≡ o = at_ahead cur old k d o inside h.ahead (subst (λ i. slice_get old i ≡ Some o) same at) in
+          ap (phase position) new ∙ (taken position ∙ ap (λ p. back (phase position p)) was)
+          )
+    ];
+  }
+
+-- The parts are after the event what the marked ones became, and what the others were.
+pub left_after : {P : Type 0} (phase : ℕ → P → Phase) (count : ℕ) (marked awake : List Bool) (old new : List P) → All (λ p. (phase (count + 1) p).upto ≤ count + 1) new → AreUntouched marked old new → AreLeft phase count marked old → ((k : ℕ) (p : P) → slice_get new k ≡ Some p → has marked k ≡ true → has awake k ≡ false → Rests (λ n. phase n p)) → AreLeft phase (count + 1) awake new
+left_after phase count marked awake old new known same left rest = record { known = known; others = λ k p at out. by k p at out (has marked k) refl }
+  where
+    by : (k : ℕ) (p : _) → slice_get new k ≡ Some p → has awake k ≡ false → (b : Bool) → has marked k ≡ b → Rests (λ n. phase n p)
+    by k p at out true is = rest k p at is out
+    by k p at out false is = left.others k p (sym (same k is) ∙ at) is
+
+-- and after a refusal, where the marked ones stay awake
+pub left_again : {P : Type 0} (phase : ℕ → P → Phase) (count : ℕ) (marked before awake : List Bool) (old new : List P) → map (phase count) new ≡ map (phase count) old → AreUntouched marked old new → AreLeft phase count marked old → ((k : ℕ) → has awake k ≡ (has before k || has marked k)) → AreLeft phase count awake new
+left_again phase count marked before awake old new unchanged same left members = record {
+  known = all_mapped (λ (p : Phase). p.upto ≤ count) (phase count) new (subst (All (λ (p : Phase). p.upto ≤ count)) (sym unchanged) (All-map (λ (p : Phase). p.upto ≤ count) (phase count) old left.known));
+  others = λ k p at out. (let unmarked = second (has before k) (has marked k) (sym (members k) ∙ out) in left.others k p (sym (same k unmarked) ∙ at) unmarked);
+}
+  where
+    second : (a b : Bool) → (a || b) ≡ false → b ≡ false
+    second true b e = absurd (false≢true (sym e))
+    second false b e = e
+
+taken_upto : (event : Event) (position : ℕ) (o n : Phase) → IsTaken event position o n → o.upto ≤ position → n.upto ≤ position + 1
+taken_upto event position o n (inl done) le = let e = done.1.upto in omega arith
+taken_upto event position o n (inr passed) le = let e = passed.upto in omega arith
+
+taken_all : (event : Event) (position : ℕ) (old new : List Phase) → AllZip (IsTaken event position) old new → All (λ (p : Phase). p.upto ≤ position) old → All (λ (p : Phase). p.upto ≤ position + 1) new
+taken_all event position [] [] z h = All-nil (λ (p : Phase). p.upto ≤ position + 1)
+taken_all event position [] (n ∷ ns) z h = absurd z
+taken_all event position (o ∷ os) [] z h = absurd z
+taken_all event position (o ∷ os) (n ∷ ns) z h = All-cons (λ (p : Phase). p.upto ≤ position + 1) n ns (taken_upto event position o n z.0 (All-head (λ (p : Phase). p.upto ≤ position) o os h)) (taken_all event position os ns z.1 (All-tail (λ (p : Phase). p.upto ≤ position) o os h))
+
+back_upto : (count : ℕ) (old new : List Phase) → map back new ≡ map back old → All (λ (p : Phase). p.upto ≤ count) old → All (λ (p : Phase). p.upto ≤ count) new
+back_upto count [] [] e h = h
+back_upto count [] (n ∷ ns) e h = absurd cc
+back_upto count (o ∷ os) [] e h = absurd cc
+back_upto count (o ∷ os) (n ∷ ns) e h =
+    let head : back n ≡ back o = cc in
+    let rest : map back ns ≡ map back os = cc in
+    let same : n.upto ≡ o.upto = ap (λ (p : Phase). p.upto) head in
+    let le : o.upto ≤ count = All-head (λ (p : Phase). p.upto ≤ count) o os h in
+    All-cons (λ (p : Phase). p.upto ≤ count) n ns (omega arith) (back_upto count os ns rest (All-tail (λ (p : Phase). p.upto ≤ count) o os h))
+
+-- after the event each part's last one is among them
+pub known_after : {P : Type 0} (phase : ℕ → P → Phase) (event : Event) (position : ℕ) (at_first prepared new : List P) → map (λ p. back (phase position p)) prepared ≡ map (λ p. back (phase position p)) at_first → AllZip (IsTaken event position) (map (phase position) prepared) (map (phase (position + 1)) new) → All (λ p. (phase position p).upto ≤ position) at_first → All (λ p. (phase (position + 1) p).upto ≤ position + 1) new
+known_after phase event position at_first prepared new kept taken known =
+    all_mapped (λ (p : Phase). p.upto ≤ position + 1) (phase (position + 1)) new
+    (taken_all event position (map (phase position) prepared) (map (phase (position + 1)) new) taken
+    (back_upto position (map (phase position) at_first) (map (phase position) prepared) (sym (map_map back (phase position) prepared) ∙ (kept ∙ map_map back (phase position) at_first)) (All-map (λ (p : Phase). p.upto ≤ position) (phase position) at_first known)))
+
+-- the parts that are not among the numbers commit nothing
+pub untouched_all : {P : Type 0} (marked : List Bool) (numbers : List ℕ) (old prepared new : List P) → AreOfMarked marked numbers → AreUntouched marked old prepared → ((k : ℕ) → is_among numbers (k + 1) ≡ false → slice_get new k ≡ slice_get prepared k) → AreUntouched marked old new
+untouched_all marked numbers old prepared new listed same others k unmarked = by (is_among numbers (k + 1)) refl
+  where
+    by : (b : Bool) → is_among numbers (k + 1) ≡ b → slice_get new k ≡ slice_get old k
+    by false e = others k e ∙ same k unmarked
+    by true e = absurd (false≢true (sym unmarked ∙ listed k e))
+
+-- after a refusal each part is as it was
+pub unchanged_after : {P : Type 0} (phase : ℕ → P → Phase) (position : ℕ) (marked : List Bool) (at_first prepared new : List P) → All (λ p. IsIdle (phase position p)) at_first → map (λ p. back (phase position p)) prepared ≡ map (λ p. back (phase position p)) at_first → AreUntouched marked at_first prepared → AreBack phase marked prepared new → map (phase position) new ≡ map (phase position) at_first
+unchanged_after phase position marked at_first prepared new idle kept same taken =
+    go at_first prepared new 0 idle kept taken.count
+    (λ k unmarked. same k (ap (has marked) (from_zero k) ∙ unmarked))
+    (λ k unmarked. taken.others k (ap (has marked) (from_zero k) ∙ unmarked))
+    (λ k o n at is among. taken.back k o n at is (ap (has marked) (from_zero k) ∙ among) position)
+  where
+    from_zero : (k : ℕ) → k ≡ 0 + k
+    from_zero k = omega arith
+
+    is_back : (a : _) → IsIdle (phase position a) → back (phase position a) ≡ phase position a
+    is_back a e = (λ i. record (phase position a) { ready = sym e i })
+
+    go : (as' ps ns : List _) (first : ℕ) → All (λ p. IsIdle (phase position p)) as' → map (λ p. back (phase position p)) ps ≡ map (λ p. back (phase position p)) as' → length ns ≡ length ps → ((k : ℕ) → has marked (first + k) ≡ false → slice_get ps k ≡ slice_get as' k) → ((k : ℕ) → has marked (first + k) ≡ false → slice_get ns k ≡ slice_get ps k) → ((k : ℕ) (o n : _) → slice_get ps k ≡ Some o → slice_get ns k ≡ Some n → has marked (first + k) ≡ true → phase position n ≡ back (phase position o)) → map (phase position) ns ≡ map (phase position) as'
+    go [] [] [] first h e long one two three = refl
+    go [] [] (n ∷ ns) first h e long one two three = absurd (omega arith)
+    go [] (p ∷ ps) ns first h e long one two three = absurd cc
+    go (a ∷ as') [] ns first h e long one two three = absurd cc
+    go (a ∷ as') (p ∷ ps) [] first h e long one two three = absurd (omega arith)
+    go (a ∷ as') (p ∷ ps) (n ∷ ns) first h e long one two three =
+        let head : back (phase position p) ≡ back (phase position a) = cc in
+        let rest : map (λ x. back (phase position x)) ps ≡ map (λ x. back (phase position x)) as' = cc in
+        let idle_a = All-head (λ x. IsIdle (phase position x)) a as' h in
+        let more : (k : ℕ) → first + 1 + k ≡ first + suc k = (λ k. omega arith) in
+        let here : phase position n ≡ phase position a = by a p n idle_a head (one 0) (two 0) (three 0 p n refl refl) (has marked (first + 0)) refl in
+        ap (λ z. z ∷ map (phase position) ns) here ∙ ap (λ zs. phase position a ∷ zs) (go as' ps ns (first + 1) (All-tail (λ x. IsIdle (phase position x)) a as' h) rest (omega arith) (λ k out. one (suc k) (ap (has marked) (sym (more k)) ∙ out)) (λ k out. two (suc k) (ap (has marked) (sym (more k)) ∙ out)) (λ k o m at is among. three (suc k) o m at is (ap (has marked) (sym (more k)) ∙ among)))
+      where
+        by : (a p n : _) → IsIdle (phase position a) → back (phase position p) ≡ back (phase position a) → (has marked (first + 0) ≡ false → Some p ≡ Some a) → (has marked (first + 0) ≡ false → Some n ≡ Some p) → (has marked (first + 0) ≡ true → phase position n ≡ back (phase position p)) → (b : Bool) → has marked (first + 0) ≡ b → phase position n ≡ phase position a
+        by a p n idle_a head one two three true is = three is ∙ (head ∙ is_back a idle_a)
+        by a p n idle_a head one two three false is =
+            let first_same = one is in
+            let next_same = two is in
+            let same : n ≡ a = cc in
+            ap (phase position) same
+
+-- a number of a set is below its room
+pub has_within : (set : List Bool) (k : ℕ) → has set k ≡ true → k < length set
+has_within [] k is = absurd (false≢true is)
+has_within (b ∷ bs) zero is = omega arith
+has_within (b ∷ bs) (suc k) is = let r = has_within bs k is in omega arith
+
+-- Looked at are the marked ones below the next one.
+abbrev HaveLooked : {P : Type 0} → (ℕ → P → Phase) → List P → List Bool → List Bool → ℕ → Type 0
+HaveLooked phase parts marked awake k = (j : ℕ) (p : _) → j < k → slice_get parts j ≡ Some p → has marked j ≡ true → has awake j ≡ false → Rests (λ n. phase n p)
+
+none_between : (marked : List Bool) (from k j : ℕ) → ((i : ℕ) → from ≤ i → i < k → has marked i ≡ false) → j < k → has marked j ≡ true → j < from
+none_between marked from k j first less is = elim (cases_lt j from) [
+  | inl low ↦ low
+  | inr high ↦ absurd (false≢true (sym (first j high less) ∙ is))
+]
+
+-- one that is not known to rest
+pub look_next : {P : Type 0} (phase : ℕ → P → Phase) (parts : List P) (marked awake after : List Bool) (from k : ℕ) → ((i : ℕ) → from ≤ i → i < k → has marked i ≡ false) → ((j : ℕ) → has after j ≡ (eqb j k || has awake j)) → HaveLooked phase parts marked awake from → HaveLooked phase parts marked after (k + 1)
+look_next phase parts marked awake after from k first members h j p less at is out = elim (cases_lt j k) [
+  | inl low ↦ h j p (none_between marked from k j first low is) at is (second (eqb j k) (has awake j) (sym (members j) ∙ out))
+  | inr high ↦ absurd (false≢true (sym out ∙ (members j ∙ or_left (eqb j k) (has awake j) (eq-eqb j k (let e : j ≡ k = omega arith in e)))))
+]
+  where
+    second : (a b : Bool) → (a || b) ≡ false → b ≡ false
+    second true b e = absurd (false≢true (sym e))
+    second false b e = e
+
+-- one that rests
+pub look_end : {P : Type 0} (phase : ℕ → P → Phase) (parts : List P) (marked awake : List Bool) (from k : ℕ) (x : P) → k < length parts → ((i : ℕ) → from ≤ i → i < k → has marked i ≡ false) → x ≡ slice_index_or parts k x → Rests (λ n. phase n x) → HaveLooked phase parts marked awake from → HaveLooked phase parts marked awake (k + 1)
+look_end phase parts marked awake from k x inside first here rests h j p less at is out = elim (cases_lt j k) [
+  | inl low ↦ h j p (none_between marked from k j first low is) at is out
+  | inr high ↦ (
+      let same : j ≡ k = omega arith in
+      let there = slice_get-get_or parts k x inside in
+      let one : x ≡ p = (let both = sym (subst (λ i. slice_get parts i ≡ Some p) same at) ∙ there in cc) in
+      subst (λ z. Rests (λ n. phase n z)) one rests
+      )
+]
+
+-- all of them
+pub look_all_of : {P : Type 0} (phase : ℕ → P → Phase) (parts : List P) (marked awake : List Bool) (from : ℕ) → ((j : ℕ) → from ≤ j → j < length parts → has marked j ≡ false) → HaveLooked phase parts marked awake from → (k : ℕ) (p : P) → slice_get parts k ≡ Some p → has marked k ≡ true → has awake k ≡ false → Rests (λ n. phase n p)
+look_all_of phase parts marked awake from none h k p at is out = elim (cases_lt k from) [
+  | inl low ↦ h k p low at is out
+  | inr high ↦ absurd (false≢true (sym (none k high (get_within parts k p at)) ∙ is))
+]

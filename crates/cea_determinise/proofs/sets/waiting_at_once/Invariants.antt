@@ -1,0 +1,11 @@
+use Rattle.std.proofs.Common.{◌≡◌, ℕ, ◌&&◌, length, nat_lt}
+use Rattle.cer_base.specs.Bits.{has, room_for}
+use Rattle.cea_determinise.specs.Runs.{waits_at_once}
+use Rattle.cea_determinise.specs.Cea.{automaton_of_cea}
+use Rattle.cea_determinise.proofs.sets.waiting_at_once.Given as goal
+
+abbrev pub invariant-loop-leaf : goal.invariant-loop-leaf
+invariant-loop-leaf l = record {
+  room : length l.leaves ≡ room_for l.cea.size;
+  members : (k : ℕ) → has l.leaves k ≡ nat_lt k l.leaf && (has l.readers k && waits_at_once (automaton_of_cea l.cea) k);
+}

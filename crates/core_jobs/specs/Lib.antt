@@ -1,0 +1,15 @@
+pub mod Command
+pub mod Accepted
+pub mod Output
+pub mod Causes
+pub mod Opening
+pub mod Notes
+pub mod SourceBytes
+pub mod Run
+pub mod Explaining
+pub mod Saving
+pub mod Playing
+pub mod Reordering
+pub mod Resuming
+pub mod Steps
+pub mod Left

@@ -1,0 +1,114 @@
+//! A file, opened, and one read whole.
+
+ghost use Rattle.std.specs.Prelude.{◌≡◌, ℕ, List, IfOk, IfErr};
+ghost use Rattle.cer_outside.specs.Causes.{AllStay};
+ghost use Rattle.cer_outside.specs.Content.{HasOpened};
+ghost use Rattle.core_jobs.specs.SourceBytes.{AreFirstOf};
+ghost use Rattle.core_jobs.specs.Run.{ReadingStops, StopCounts, IsOpening};
+
+use super::files::{MOST_READ, read_whole};
+use super::{Cause, File};
+use cer_base::OrMemory;
+use cer_outside::{Host, OpenError, Source};
+use query_engine::Engine;
+use std::alloc::Global;
+
+/// A call that ended: its cause, the source that failed where reading did, and the engine of a run
+/// where all was well.
+#[derive(Drop)]
+pub struct Stop<S> {
+    pub cause: Cause,
+    pub failed: Option<S>,
+    pub left: Option<Engine>,
+}
+
+impl<S> Stop<S> {
+    /// With no source that failed, and no engine.
+    pub fn of(cause: Cause) -> Stop<S>
+        ensures cause { result.cause ≡ cause }
+        ensures failed { result.failed ≡ None }
+        ensures left { result.left ≡ None }
+    {
+        Stop {
+            cause,
+            failed: None,
+            left: None,
+        }
+    }
+}
+
+/// A source of what the host has under the name. The host is asked once. An `OpenFault` names its
+/// count of faults for the name before and after.
+pub fn open<H: Host>(
+    alloc: Global,
+    host: &mut H,
+    file: File,
+    name: &str,
+) -> Result<H::Src, Stop<H::Src>>
+    ensures fresh { IfOk result (λ source. H.Src.faults source ≡ 0) }
+    ensures bytes { IfOk result (λ source.
+        HasOpened (H.content host.old name.now) (H.Src.left source)) }
+    ensures stop { IfErr result (λ stop.
+        ReadingStops (record { faults = H.Src.faults; left = H.Src.left })
+        file (H.content host.old name.now)
+        (H.faults host.old name.now) (H.faults host.new name.now) stop.cause stop.failed) }
+    ensures opening { IfErr result (λ stop. IsOpening stop.cause) }
+    ensures none_left { IfErr result (λ stop. stop.left ≡ None) }
+    ensures counts { IfOk result (λ source. AllStay (H.faults host.old) (H.faults host.new)) }
+    ensures counts_stop { IfErr result
+        (λ stop. StopCounts stop.cause name.now (H.faults host.old) (H.faults host.new)) }
+    ensures opened { H.opens host.old name.now host.new }
+    ensures kept { (any : List ℕ) → H.content host.new any ≡ H.content host.old any }
+{
+    let before = host.fault_count(name);
+    match host.take_file(alloc, name) {
+        Ok(source) => Ok(source),
+        Err(OpenError::Memory) => Err(Stop::of(Cause::Memory)),
+        Err(OpenError::Failed) => {
+            let after = host.fault_count(name);
+            Err(Stop::of(Cause::OpenFault {
+                file,
+                before,
+                after,
+            }))
+        }
+    }
+}
+
+/// The bytes that the host has under the name, at most `MOST_READ` of them. The host is asked once.
+pub fn take_whole<H: Host>(
+    alloc: Global,
+    host: &mut H,
+    file: File,
+    name: &str,
+) -> Result<Vec<u8>, Stop<H::Src>>
+    ensures bytes { IfOk result (λ bytes.
+        AreFirstOf MOST_READ (H.content host.old name.now) bytes.items) }
+    ensures stop { IfErr result (λ stop.
+        ReadingStops (record { faults = H.Src.faults; left = H.Src.left })
+        file (H.content host.old name.now)
+        (H.faults host.old name.now) (H.faults host.new name.now) stop.cause stop.failed) }
+    ensures none_left { IfErr result (λ stop. stop.left ≡ None) }
+    ensures counts { IfOk result (λ bytes. AllStay (H.faults host.old) (H.faults host.new)) }
+    ensures counts_stop { IfErr result
+        (λ stop. StopCounts stop.cause name.now (H.faults host.old) (H.faults host.new)) }
+    ensures opened { H.opens host.old name.now host.new }
+    ensures kept { (any : List ℕ) → H.content host.new any ≡ H.content host.old any }
+{
+    let mut source = match open(alloc, host, file, name) {
+        Ok(source) => source,
+        Err(stop) => return Err(stop),
+    };
+    match read_whole(alloc, &mut source) {
+        Ok(bytes) => Ok(bytes),
+        Err(OrMemory::Memory) => Err(Stop::of(Cause::Memory)),
+        Err(OrMemory::Fault(_)) => {
+            let after = source.fault_count();
+            Err(Stop {
+                cause: Cause::ReadFault { file, after },
+                failed: Some(source),
+                left: None,
+            })
+        }
+    }
+}

@@ -1,0 +1,345 @@
+//! The order of work of a run that goes on from a checkpoint: the query file, the checkpoint, the
+//! event file, the answers.
+
+ghost use Rattle.std.specs.Prelude.{◌≡◌, ◌≤◌, ℕ, List, [], Ok, Some, None, IfOk, IfErr};
+ghost use Rattle.std.specs.List.{AllByRecursion};
+ghost use Rattle.cer_outside.specs.Causes.{AllStay};
+ghost use Rattle.cer_outside.specs.Content.{Holds, OfOpened};
+ghost use Rattle.stream_schema.specs.Events.{IsOfSchema};
+ghost use Rattle.query_engine.specs.Engine.{StandsFor, SameQueries, count_of, peak_of};
+ghost use Rattle.checkpoint_text.specs.Checkpoints.{checkpoint_of};
+ghost use Rattle.checkpoint_text.specs.Spelling.{IsHistory};
+ghost use Rattle.resumed_answers.specs.Resumed.{StandsForResumed};
+ghost use Rattle.core_jobs.specs.Command.{resuming};
+ghost use Rattle.core_jobs.specs.Left.{IsLeftByResume};
+ghost use Rattle.core_jobs.specs.Causes.{CountsWrites};
+ghost use Rattle.core_jobs.specs.Steps.{ResumeStepsBy, ResumeSteps};
+ghost use Rattle.core_jobs.specs.Run.{JobEnded, StopCounts};
+ghost use Rattle.core_jobs.specs.Resuming.{AfterEach, HistoryStop, NoHistory, ResumedFileStop, ResumedStop};
+
+use super::opening::{Stop, open};
+use super::queries::read_accepted;
+use super::run::leaving;
+use super::{Cause, File};
+use answer_text::Order;
+use ceql_parser::Accepted;
+use cer_base::steps::Steps;
+use cer_base::{Memory, OrMemory};
+use cer_outside::{Host, Sink, Source};
+use checkpoint_text::{History, HistoryFault, read_checkpoint};
+use query_engine::Engine;
+use resumed_answers::resume_answers;
+use std::alloc::Global;
+use std::sync::ledger::Ledger;
+use stream_answers::StreamFault;
+
+/// Reads the query text and the checkpoint, and then writes the answers of the queries over the
+/// events of the event file, which come after those that the checkpoint keeps.
+///
+/// `most_bytes` is at most 2^62.
+pub fn resume_files<H: Host, K: Sink, L: Ledger>(
+    alloc: Global,
+    queries: &str,
+    checkpoint: &str,
+    events: &str,
+    order: Order,
+    compact_every: Option<u64>,
+    most_bytes: u64,
+    host: &mut H,
+    out: &mut K,
+    steps: &mut Steps<L>,
+) -> Stop<H::Src>
+    requires { most_bytes ≤ 4611686018427387904 }
+    ensures ends { JobEnded (record { faults = H.Src.faults; left = H.Src.left }) H.opens
+        (record {
+          content = H.content host.old;
+          old = H.faults host.old;
+          new = H.faults host.new;
+          out_old = K.faults out.old;
+          out_new = K.faults out.new;
+          before = K.taken out.old;
+          after = K.taken out.new;
+        })
+        (resuming (record {
+          queries = queries.now;
+          checkpoint = checkpoint.now;
+          events = events.now;
+          order = order;
+          compact_every = compact_every;
+          most_bytes = most_bytes;
+        }))
+        host.old host.new result.cause result.failed }
+    ensures steps { ResumeSteps result.cause (H.content host.old) (record {
+      queries = queries.now;
+      checkpoint = checkpoint.now;
+      events = events.now;
+      order = order;
+      compact_every = compact_every;
+      most_bytes = most_bytes;
+    }) (K.taken out.old) (K.taken out.new) steps.old steps.new }
+    ensures left { IsLeftByResume result.cause (H.content host.old) (record {
+      queries = queries.now;
+      checkpoint = checkpoint.now;
+      events = events.now;
+      order = order;
+      compact_every = compact_every;
+      most_bytes = most_bytes;
+    }) result.left }
+    ensures kept { (any : List ℕ) → H.content host.new any ≡ H.content host.old any }
+{
+    let accepted = match read_accepted(alloc, host, queries) {
+        Ok(accepted) => accepted,
+        Err(stop) => return stop,
+    };
+    let history = match read_history(alloc, &accepted, checkpoint, host) {
+        Ok(history) => history,
+        Err(stop) => return stop,
+    };
+    let mut engine = match Engine::new(alloc, accepted.schema, accepted.queries) {
+        Ok(engine) => engine,
+        Err(Memory) => return Stop::of(Cause::Memory),
+    };
+    let stop = resume_file(
+        alloc,
+        &mut engine,
+        &history,
+        events,
+        order,
+        compact_every,
+        most_bytes,
+        host,
+        out,
+        steps,
+    );
+    leaving(stop, engine)
+}
+
+/// The history that the host's checkpoint tells for the queries.
+fn read_history<H: Host>(
+    alloc: Global,
+    accepted: &Accepted,
+    checkpoint: &str,
+    host: &mut H,
+) -> Result<History, Stop<H::Src>>
+    ensures told { IfOk result (λ history. OfOpened (H.content host.old checkpoint.now)
+        (λ kept. checkpoint_of accepted.now.schema accepted.now.queries kept ≡ Ok history)) }
+    ensures history { IfOk result (IsHistory accepted.now.schema accepted.now.queries) }
+    ensures of_schema { IfOk result (λ history.
+        AllByRecursion (λ e. IsOfSchema accepted.now.schema e.event) history.events) }
+    ensures stop { IfErr result (λ stop.
+        HistoryStop (record { faults = H.Src.faults; left = H.Src.left })
+        accepted.now.schema accepted.now.queries (H.content host.old checkpoint.now)
+        (H.faults host.old checkpoint.now) (H.faults host.new checkpoint.now)
+        stop.cause stop.failed) }
+    ensures none_left { IfErr result (λ stop. stop.left ≡ None) }
+    ensures counts { IfOk result (λ history. AllStay (H.faults host.old) (H.faults host.new)) }
+    ensures counts_stop { IfErr result (λ stop.
+        StopCounts stop.cause checkpoint.now (H.faults host.old) (H.faults host.new)) }
+    ensures opened { H.opens host.old checkpoint.now host.new }
+    ensures kept { (any : List ℕ) → H.content host.new any ≡ H.content host.old any }
+{
+    match open(alloc, host, File::Checkpoint, checkpoint) {
+        Ok(source) => history_of(alloc, accepted, source),
+        Err(stop) => Err(stop),
+    }
+}
+
+/// The history that what the source has left tells for the queries.
+fn history_of<S: Source + Drop>(
+    alloc: Global,
+    accepted: &Accepted,
+    mut source: S,
+) -> Result<History, Stop<S>>
+    requires sound { S.faults source ≡ 0 }
+    ensures told { IfOk result (λ history. (kept : List ℕ) → S.left source ≡ Some kept
+        → checkpoint_of accepted.now.schema accepted.now.queries kept ≡ Ok history) }
+    ensures history { IfOk result (IsHistory accepted.now.schema accepted.now.queries) }
+    ensures of_schema { IfOk result (λ history.
+        AllByRecursion (λ e. IsOfSchema accepted.now.schema e.event) history.events) }
+    ensures stop { IfErr result (λ stop. NoHistory (record { faults = S.faults; left = S.left })
+        accepted.now.schema accepted.now.queries (S.left source) stop.cause stop.failed) }
+    ensures none_left { IfErr result (λ stop. stop.left ≡ None) }
+{
+    let queries = accepted.queries.as_slice();
+    match read_checkpoint(alloc, &accepted.schema, queries, &mut source) {
+        Ok(history) => Ok(history),
+        Err(OrMemory::Memory) => Err(Stop::of(Cause::Memory)),
+        Err(OrMemory::Fault(HistoryFault::Bad { line, fault })) => {
+            Err(Stop::of(Cause::Checkpoint { line, fault }))
+        }
+        Err(OrMemory::Fault(HistoryFault::ReadFault)) => {
+            let after = source.fault_count();
+            Err(Stop {
+                cause: Cause::ReadFault {
+                    file: File::Checkpoint,
+                    after,
+                },
+                failed: Some(source),
+                left: None,
+            })
+        }
+    }
+}
+
+/// Writes the answers of the engine's queries over the host's file, behind the history.
+fn resume_file<H: Host, K: Sink, L: Ledger>(
+    alloc: Global,
+    engine: &mut Engine,
+    history: &History,
+    events: &str,
+    order: Order,
+    compact_every: Option<u64>,
+    most_bytes: u64,
+    host: &mut H,
+    out: &mut K,
+    steps: &mut Steps<L>,
+) -> Stop<H::Src>
+    requires fresh { StandsFor engine.old [] }
+    requires none { count_of engine.old ≡ 0 }
+    requires history { IsHistory engine.old.schema engine.old.queries history.now }
+    requires of_schema { AllByRecursion (λ e. IsOfSchema engine.old.schema e.event)
+        history.now.events }
+    requires room { most_bytes ≤ 4611686018427387904 }
+    ensures stop { ResumedFileStop (record { faults = H.Src.faults; left = H.Src.left })
+        (record {
+          order = order;
+          schema = engine.old.schema;
+          queries = engine.old.queries;
+          most_bytes = most_bytes;
+        })
+        history.now (H.content host.old events.now)
+        (H.faults host.old events.now) (H.faults host.new events.now)
+        (K.faults out.old) (K.faults out.new) (K.taken out.old) (K.taken out.new)
+        result.cause result.failed }
+    ensures steps { ResumeStepsBy compact_every
+        (λ Says. (bytes : List ℕ) → H.content host.old events.now ≡ Holds bytes
+        → AfterEach engine.old.schema history.now (λ earlier. Says (record {
+          before = earlier;
+          asked = record {
+            order = order;
+            schema = engine.old.schema;
+            queries = engine.old.queries;
+            most_bytes = most_bytes;
+          };
+        }) bytes))
+        result.cause (K.taken out.old) (K.taken out.new) steps.old steps.new }
+    ensures left { result.cause ≡ Cause.Fine → (bytes : List ℕ)
+        → H.content host.old events.now ≡ Holds bytes
+        → StandsForResumed compact_every (peak_of engine.old) history.now (record {
+          order = order;
+          schema = engine.old.schema;
+          queries = engine.old.queries;
+          most_bytes = most_bytes;
+        }) bytes engine.new }
+    ensures none_left { result.left ≡ None }
+    ensures same { SameQueries engine.old engine.new }
+    ensures counts { StopCounts result.cause events.now (H.faults host.old) (H.faults host.new) }
+    ensures writes { CountsWrites result.cause (K.faults out.old) (K.faults out.new) }
+    ensures opened { H.opens host.old events.now host.new }
+    ensures kept { (any : List ℕ) → H.content host.new any ≡ H.content host.old any }
+{
+    match open(alloc, host, File::Events, events) {
+        Ok(source) => resume_source(
+            alloc,
+            engine,
+            history,
+            source,
+            order,
+            compact_every,
+            most_bytes,
+            out,
+            steps,
+        ),
+        Err(stop) => stop,
+    }
+}
+
+/// Writes the answers of the engine's queries over what the source has left, behind the history.
+fn resume_source<S: Source + Drop, K: Sink, L: Ledger>(
+    alloc: Global,
+    engine: &mut Engine,
+    history: &History,
+    mut source: S,
+    order: Order,
+    compact_every: Option<u64>,
+    most_bytes: u64,
+    out: &mut K,
+    steps: &mut Steps<L>,
+) -> Stop<S>
+    requires fresh { StandsFor engine.old [] }
+    requires none { count_of engine.old ≡ 0 }
+    requires history { IsHistory engine.old.schema engine.old.queries history.now }
+    requires of_schema { AllByRecursion (λ e. IsOfSchema engine.old.schema e.event)
+        history.now.events }
+    requires room { most_bytes ≤ 4611686018427387904 }
+    requires sound { S.faults source ≡ 0 }
+    ensures stop { ResumedStop (record { faults = S.faults; left = S.left })
+        (record {
+          order = order;
+          schema = engine.old.schema;
+          queries = engine.old.queries;
+          most_bytes = most_bytes;
+        })
+        history.now (S.left source)
+        (K.faults out.old) (K.faults out.new) (K.taken out.old) (K.taken out.new)
+        result.cause result.failed }
+    ensures steps { ResumeStepsBy compact_every
+        (λ Says. (bytes : List ℕ) → S.left source ≡ Some bytes
+        → AfterEach engine.old.schema history.now (λ earlier. Says (record {
+          before = earlier;
+          asked = record {
+            order = order;
+            schema = engine.old.schema;
+            queries = engine.old.queries;
+            most_bytes = most_bytes;
+          };
+        }) bytes))
+        result.cause (K.taken out.old) (K.taken out.new) steps.old steps.new }
+    ensures left { result.cause ≡ Cause.Fine → (bytes : List ℕ) → S.left source ≡ Some bytes
+        → StandsForResumed compact_every (peak_of engine.old) history.now (record {
+          order = order;
+          schema = engine.old.schema;
+          queries = engine.old.queries;
+          most_bytes = most_bytes;
+        }) bytes engine.new }
+    ensures none_left { result.left ≡ None }
+    ensures same { SameQueries engine.old engine.new }
+    ensures writes { CountsWrites result.cause (K.faults out.old) (K.faults out.new) }
+{
+    let before = out.fault_count();
+    match resume_answers(
+        alloc,
+        order,
+        most_bytes,
+        compact_every,
+        engine,
+        history,
+        &mut source,
+        out,
+        steps,
+    ) {
+        Ok(()) => Stop::of(Cause::Fine),
+        Err(OrMemory::Memory) => Stop::of(Cause::Memory),
+        Err(OrMemory::Fault(StreamFault::Event { line, fault })) => {
+            Stop::of(Cause::Event { line, fault })
+        }
+        Err(OrMemory::Fault(StreamFault::InputTooLong { taken })) => {
+            Stop::of(Cause::InputTooLong { taken })
+        }
+        Err(OrMemory::Fault(StreamFault::WriteFault)) => {
+            let after = out.fault_count();
+            Stop::of(Cause::WriteFault { before, after })
+        }
+        Err(OrMemory::Fault(StreamFault::ReadFault)) => {
+            let after = source.fault_count();
+            Stop {
+                cause: Cause::ReadFault {
+                    file: File::Events,
+                    after,
+                },
+                failed: Some(source),
+                left: None,
+            }
+        }
+    }
+}

@@ -1,0 +1,121 @@
+-- What is known of the parts that an event need not go to.
+use Rattle.std.proofs.Common.{◌≡◌, refl, sym, ap, subst, ◌∙◌, ℕ, ◌+◌, ◌<◌, ◌≤◌, inl, inr, Bool, true, false, ◌||◌, eqb, List, [], ◌∷◌, map, length, All, Option, Some, None, slice_get, arith}
+use Rattle.std.specs.List.{AllZip}
+use Rattle.std.proofs.lemmas.Bool.{cases_lt, eq-eqb, false≢true, or_left, or_right}
+use Rattle.std.proofs.lemmas.Option.{slice_get_within}
+use Rattle.std.proofs.lemmas.List.Elements.{All-nil, All-cons, All-head, All-tail}
+use Rattle.cer_base.specs.Bits.{has, room_for}
+use Rattle.stream_schema.specs.Types.{Declared}
+use Rattle.stream_schema.specs.declared.Event.{Event}
+use Rattle.cel_terms.specs.declared.Query.{Query}
+use Rattle.query_leaves.specs.Expand.{Occurrence, tree_of}
+use Rattle.query_leaves.specs.Leaves.{occurrences, occurrence_reads}
+use Rattle.cea_compile.specs.DeterminisedRuns.{reads_at}
+use Rattle.query_standing.specs.Keys.{leaves_reading}
+use Rattle.all_or_none.specs.Phases.{Phase, AreLeft, AreUnread}
+use Rattle.query_part.specs.Parts.{seen, woken, skipped}
+use Rattle.query_watch.specs.Rows.{Table, HasRow, IsWatch}
+use Rattle.query_engine.specs.Compacting.{IsCompacted}
+use Rattle.query_engine.specs.Running.{IsFirst}
+use Rattle.query_engine.specs.Watching.{IsWatching}
+use Rattle.query_engine.proofs.Standing.{length_map, map_at, all_at}
+use Rattle.query_engine.proofs.Keeping.{seen_queries}
+
+not_in : (a b : List Bool) (k : ℕ) → (has a k ≡ true → has b k ≡ true) → has b k ≡ false → has a k ≡ false
+not_in a b k within out = by (has a k) refl
+  where
+    by : (x : Bool) → has a k ≡ x → has a k ≡ false
+    by false e = e
+    by true e = absurd (false≢true (sym out ∙ within e))
+
+-- those that are not marked are not awake, so they rest
+pub left_marked : (count : ℕ) (parts : List Phase) (awake marked : List Bool) → ((k : ℕ) → has awake k ≡ true → has marked k ≡ true) → AreLeft seen count awake parts → AreLeft seen count marked parts
+left_marked count parts awake marked within h = record { known = h.known; others = λ k p at out. h.others k p at (not_in awake marked k (within k) out) }
+
+leaf_there : (schema : Declared) (x : Option Occurrence) (event : Event) → reads_at schema x (Some event) ≡ true → (o : Occurrence) × (x ≡ Some o) × (occurrence_reads schema o event ≡ true)
+leaf_there schema None event e = absurd (false≢true e)
+leaf_there schema (Some o) event e = (o, refl, e)
+
+-- and no leaf of their queries can read the event
+pub unread_marked : (schema : Declared) (queries : List Query) (count : ℕ) (parts : List Phase) (table : Table) (awake marks marked : List Bool) (event : Event) → queries ≡ map (λ (p : Phase). p.query) (map (seen count) parts) → All (λ (p : Phase). p.schema ≡ schema) parts → IsWatching schema queries count parts table awake marks → ((k : ℕ) → HasRow table.rows k event → has marked k ≡ true) → AreUnread (seen count) event marked parts
+unread_marked schema queries count parts table awake marks marked event queries_is schemas h marks_all k p at out j = by (leaves_reading p.schema p.query event j) refl
+  where
+    q_at : slice_get queries k ≡ Some p.query
+    q_at = ap (λ qs. slice_get qs k) (queries_is ∙ seen_queries count parts) ∙ map_at (λ (x : Phase). x.query) parts k p at
+
+    by : (b : Bool) → leaves_reading p.schema p.query event j ≡ b → leaves_reading p.schema p.query event j ≡ false
+    by false e = e
+    by true e =
+        let o = leaf_there p.schema (slice_get (occurrences (tree_of p.query)) j) event e in
+        let same : p.schema ≡ schema = all_at (λ (x : Phase). x.schema ≡ schema) parts k p schemas at in
+        let row = h.watch k p.query q_at event j o.0 o.1 (subst (λ s. occurrence_reads s o.0 event ≡ true) same o.2) in
+        absurd (false≢true (sym out ∙ marks_all k row))
+
+-- what is known of the same queries stays
+pub watching_same : (schema : Declared) (old new : List Query) (count later : ℕ) (parts after : List Phase) (table same_table : Table) (awake marked more marks : List Bool) → new ≡ old → same_table ≡ table → length more ≡ length awake → length marks ≡ length marked → AreLeft seen later more after → IsWatching schema old count parts table awake marked → IsWatching schema new later after same_table more marks
+watching_same schema old new count later parts after table same_table awake marked more marks is table_is room sets left h = record {
+  watch = subst (λ (t : Table). IsWatch schema new t.rows) (sym table_is) (subst (λ qs. IsWatch schema qs table.rows) (sym is) h.watch);
+  queries_are = ap (λ (t : Table). t.count) table_is ∙ (h.queries_are ∙ ap length (sym is));
+  room = room ∙ (h.room ∙ ap (λ qs. room_for (length qs)) (sym is));
+  sets = sets ∙ (h.sets ∙ sym room);
+  left = left;
+}
+
+-- where all are awake
+pub left_all : (count : ℕ) (parts : List Phase) (awake : List Bool) → All (λ (p : Phase). p.upto ≤ count) parts → ((k : ℕ) → k < length parts → has awake k ≡ true) → AreLeft seen count awake parts
+left_all count parts awake known all = record {
+  known = known;
+  others = λ k p at out. absurd (false≢true (sym out ∙ all k (slice_get_within parts k p at)));
+}
+
+pub first_known : (schema : Declared) (parts : List Phase) → All (IsFirst schema) parts → All (λ (p : Phase). p.upto ≤ 0) parts
+first_known schema [] h = All-nil (λ (p : Phase). p.upto ≤ 0)
+first_known schema (p ∷ parts) h =
+    let is = (All-head (IsFirst schema) p parts h).upto in
+    All-cons (λ (x : Phase). x.upto ≤ 0) p parts (omega arith) (first_known schema parts (All-tail (IsFirst schema) p parts h))
+
+pub skipped_known : (count : ℕ) (parts : List Phase) → All (λ (p : Phase). p.upto ≤ count) (map (skipped count) parts)
+skipped_known count [] = All-nil (λ (p : Phase). p.upto ≤ count)
+skipped_known count (p ∷ parts) = All-cons (λ (x : Phase). x.upto ≤ count) (skipped count p) (map (skipped count) parts) (omega arith) (skipped_known count parts)
+
+pub compacted_known : (count : ℕ) (old new : List Phase) → AllZip IsCompacted (map (woken count) old) new → All (λ (p : Phase). p.upto ≤ count) new
+compacted_known count [] [] z = All-nil (λ (p : Phase). p.upto ≤ count)
+compacted_known count [] (n ∷ new) z = absurd z
+compacted_known count (o ∷ old) [] z = absurd z
+compacted_known count (o ∷ old) (n ∷ new) z =
+    let is : n.upto ≡ count = z.0.upto in
+    All-cons (λ (x : Phase). x.upto ≤ count) n new (omega arith) (compacted_known count old new z.1)
+
+-- the sets have room for each part
+pub room_there : (schema : Declared) (queries : List Query) (count : ℕ) (parts : List Phase) (table : Table) (awake marked : List Bool) → IsWatching schema queries count parts table awake marked → table.count ≤ length marked
+room_there schema queries count parts table awake marked h =
+    let a = h.queries_are in
+    let b = h.room in
+    let c = h.sets in
+    omega arith
+
+pub parts_within : (schema : Declared) (queries : List Query) (count many : ℕ) (parts : List Phase) (table : Table) (awake marked : List Bool) → queries ≡ map (λ (p : Phase). p.query) (map (seen count) parts) → many ≡ length parts → IsWatching schema queries count parts table awake marked → many ≤ length awake
+parts_within schema queries count many parts table awake marked is many_is h =
+    let b = h.room in
+    let l : length queries ≡ length parts = ap length is ∙ (length_map (λ (p : Phase). p.query) (map (seen count) parts) ∙ length_map (seen count) parts) in
+    omega arith
+
+-- before any event
+pub watching_first : (schema : Declared) (queries given : List Query) (parts : List Phase) (table : Table) (awake marked : List Bool) → queries ≡ given → queries ≡ map (λ (p : Phase). p.query) (map (seen 0) parts) → IsWatch schema given table.rows → table.count ≡ length given → length awake ≡ room_for (length given) → length marked ≡ length awake → ((k : ℕ) → k < length given → has awake k ≡ true) → All (IsFirst schema) parts → IsWatching schema queries 0 parts table awake marked
+watching_first schema queries given parts table awake marked is are watch count room sets all first =
+    let l : length queries ≡ length parts = ap length are ∙ (length_map (λ (p : Phase). p.query) (map (seen 0) parts) ∙ length_map (seen 0) parts) in
+    let m : length queries ≡ length given = ap length is in
+    record {
+      watch = subst (λ qs. IsWatch schema qs table.rows) (sym is) watch;
+      queries_are = count ∙ sym m;
+      room = room ∙ ap room_for (sym m);
+      sets = sets;
+      left = left_all 0 parts awake (first_known schema parts first) (λ k less. all k (omega arith));
+    }
+
+-- one number more is put in
+pub filled_next : (k : ℕ) (set after : List Bool) → ((j : ℕ) → has after j ≡ (eqb j k || has set j)) → ((j : ℕ) → j < k → has set j ≡ true) → (j : ℕ) → j < k + 1 → has after j ≡ true
+filled_next k set after members h j less = members j ∙ elim (cases_lt j k) [
+  | inl low ↦ or_right (eqb j k) (has set j) (h j low)
+  | inr high ↦ or_left (eqb j k) (has set j) (eq-eqb j k (let e : j ≡ k = omega arith in e))
+]

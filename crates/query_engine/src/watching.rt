@@ -1,0 +1,83 @@
+//! Which parts of an engine an event goes to.
+
+ghost use Rattle.std.specs.Prelude.{◌≡◌, ℕ, ◌<◌, ◌≤◌, false, true, length, IfOk};
+ghost use Rattle.cer_base.specs.Bits.{has, room_for};
+ghost use Rattle.query_watch.specs.Rows.{IsWatch, HasRow};
+
+use cel_terms::Query;
+use cer_base::Memory;
+use cer_base::bits::Bits;
+use query_watch::Watch;
+use std::alloc::Global;
+use stream_schema::{Event, Schema};
+
+/// The parts have numbers from 0.
+#[derive(Drop)]
+pub struct Watching {
+    /// Which queries an event can concern.
+    watch: Watch,
+    /// The parts that are not known to rest.
+    pub awake: Bits,
+    /// The parts that the event goes to, in memory that is used again.
+    pub marked: Bits,
+}
+
+impl Watching {
+    /// That of the queries, none of whose parts is known to rest.
+    pub fn of(alloc: Global, schema: &Schema, queries: &[Query]) -> Result<Watching, Memory>
+        ensures watch { IfOk result (λ w. IsWatch schema.now queries.now w.watch.rows) }
+        ensures count { IfOk result (λ w. w.watch.count ≡ length queries.now) }
+        ensures room { IfOk result (λ w. length w.awake ≡ room_for (length queries.now)) }
+        ensures sets { IfOk result (λ w. length w.marked ≡ length w.awake) }
+        ensures awake { IfOk result (λ w. (k : ℕ) → k < length queries.now
+            → has w.awake k ≡ true) }
+    {
+        let watch = Watch::of(alloc, schema, queries)?;
+        let mut awake = Bits::blank(alloc, queries.len())?;
+        fill(&mut awake, queries.len());
+        let marked = Bits::blank(alloc, queries.len())?;
+        Ok(Watching {
+            watch,
+            awake,
+            marked,
+        })
+    }
+
+    /// Marks the parts that are not known to rest, and those of the queries that have a leaf which
+    /// can read the event.
+    #[inline(always)]
+    pub fn mark(&mut self, event: &Event)
+        requires room { self.old.watch.count ≤ length self.old.marked }
+        requires sets { length self.old.marked ≡ length self.old.awake }
+        ensures marked { (k : ℕ) → HasRow self.old.watch.rows k event.now
+            → has self.new.marked k ≡ true }
+        ensures awake { (k : ℕ) → has self.old.awake k ≡ true → has self.new.marked k ≡ true }
+        ensures same { (self.new.watch ≡ self.old.watch) × (self.new.awake ≡ self.old.awake) }
+        ensures sets { length self.new.marked ≡ length self.old.marked }
+    {
+        self.marked.clear();
+        self.marked.unite(&self.awake);
+        self.watch.mark(event, &mut self.marked);
+    }
+
+    /// No part is known to rest, of which there are so many.
+    pub fn wake_all(&mut self, count: usize)
+        requires { count ≤ length self.old.awake }
+        ensures awake { (k : ℕ) → k < count → has self.new.awake k ≡ true }
+        ensures same { (self.new.watch ≡ self.old.watch) × (self.new.marked ≡ self.old.marked) }
+        ensures room { length self.new.awake ≡ length self.old.awake }
+    {
+        fill(&mut self.awake, count);
+    }
+}
+
+/// Puts in each number below the count.
+fn fill(set: &mut Bits, count: usize)
+    requires { count ≤ length set.old }
+    ensures filled { (k : ℕ) → k < count → has set.new k ≡ true }
+    ensures room { length set.new ≡ length set.old }
+{
+    for k in 0..count {
+        set.insert(k);
+    }
+}

@@ -1,0 +1,2 @@
+-- rows that are put in, and looked at
+mod Listed

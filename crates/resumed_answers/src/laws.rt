@@ -1,0 +1,9 @@
+//! The law of runs that go on. It is the contract of a function that does nothing.
+
+ghost use Rattle.resumed_answers.specs.Laws.{SavedRunsGoOn};
+
+/// A run over two files as one writes what a run over the first writes, and then what one over the
+/// second writes that goes on from what was saved of the first.
+pub fn saved_runs_go_on()
+    ensures { SavedRunsGoOn }
+{}

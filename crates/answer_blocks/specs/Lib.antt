@@ -3,4 +3,3 @@ pub mod Taken
 pub mod Wanted
 pub mod Blocks
 pub mod Counted
-pub mod Rows

@@ -9,8 +9,6 @@
 pub mod laws;
 mod pulling;
 pub mod sorted;
-#[cfg(test)]
-mod tests;
 pub mod walk;
 
 pub use sorted::push_blocks;

@@ -15,8 +15,6 @@ use std::alloc::Global;
 pub mod answer;
 mod explaining;
 mod short;
-#[cfg(test)]
-mod tests;
 pub mod writing;
 
 pub use answer::Answer;

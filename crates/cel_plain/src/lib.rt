@@ -17,6 +17,4 @@ pub mod predicate;
 pub mod sequence;
 pub mod single;
 pub mod substream;
-#[cfg(test)]
-mod tests;
 pub mod window;

@@ -26,5 +26,3 @@ pub use faults::{QueryError, QueryFault};
 pub use parsing::parse;
 pub use terms::{AttrDecl, AttrDecls, KindDecl, NumberAt, Script, Select, Statement, Statements};
 
-#[cfg(test)]
-mod tests;

@@ -23,8 +23,6 @@ pub mod laws;
 mod portions;
 pub mod sinks;
 pub mod sources;
-#[cfg(test)]
-mod tests;
 pub mod writing;
 
 /// The call failed, and the object's count of faults rose by one.

@@ -13,13 +13,9 @@ mod history;
 mod keeping;
 pub mod laws;
 mod numbers;
-#[cfg(test)]
-mod outside_tests;
 mod reading;
 mod replaying;
 mod stand;
-#[cfg(test)]
-mod tests;
 
 pub use clocks::Fall;
 pub use history::{EventAt, History};

@@ -15,8 +15,6 @@ ghost use Rattle.command_words.specs.CommandLine.{AsksFor, AskNothing};
 
 mod program;
 mod reading;
-#[cfg(test)]
-mod tests;
 
 use answer_text::Order;
 use cer_base::{Listed, OrMemory, Text};

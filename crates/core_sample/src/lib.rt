@@ -9,8 +9,7 @@ mod counting;
 pub mod generator;
 mod queries;
 pub mod summary;
-#[cfg(test)]
-mod tests;
 
 pub use generator::sample_event;
+pub use queries::{sample_queries, sample_schema};
 pub use summary::write_sample;

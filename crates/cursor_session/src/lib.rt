@@ -11,12 +11,8 @@ mod command;
 pub mod laws;
 mod numbers;
 mod opened;
-#[cfg(test)]
-mod plays;
 mod pulling;
 pub mod session;
-#[cfg(test)]
-mod tests;
 
 pub use command::{Command, CommandFault, command_text, read_command};
 pub use numbers::{MOST_CURSORS, MOST_PULLED};

@@ -16,17 +16,9 @@ mod common;
 mod events;
 mod fields;
 mod line_buffer;
-#[cfg(test)]
-mod line_tests;
 mod numbers;
 mod reader;
 mod row;
-#[cfg(test)]
-mod row_tests;
-#[cfg(test)]
-mod speed;
-#[cfg(test)]
-mod tests;
 mod types;
 mod values;
 

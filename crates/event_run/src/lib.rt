@@ -12,8 +12,6 @@ mod clocks;
 pub mod laws;
 mod listing;
 mod taking;
-#[cfg(test)]
-mod tests;
 
 use event_reader::EventFault;
 pub use listing::read_events;

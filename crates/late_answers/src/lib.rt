@@ -14,7 +14,5 @@ mod feeding;
 mod late;
 pub mod laws;
 mod releasing;
-#[cfg(test)]
-mod tests;
 
 pub use late::write_late;

@@ -16,8 +16,6 @@ mod finishing;
 mod leaf_names;
 mod moves;
 mod spans;
-#[cfg(test)]
-mod tests;
 mod turns;
 mod walking;
 

@@ -10,7 +10,5 @@ mod groups;
 mod holding;
 pub mod ranges;
 mod settling;
-#[cfg(test)]
-mod tests;
 
 pub use conditions::Conditions;

@@ -18,8 +18,6 @@ mod numbering;
 mod occurrence;
 mod query;
 mod test_of;
-#[cfg(test)]
-mod tests;
 
 pub use query::leaves_of;
 

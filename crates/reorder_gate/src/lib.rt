@@ -13,8 +13,6 @@
 mod clock;
 mod gate;
 pub mod laws;
-#[cfg(test)]
-mod tests;
 
 pub use clock::clock_fits;
 pub use gate::{Gate, TooLate};

@@ -12,8 +12,6 @@
 
 mod output;
 mod stream;
-#[cfg(test)]
-mod tests;
 
 use event_reader::EventFault;
 pub use output::Output;

@@ -10,7 +10,5 @@
 
 pub mod laws;
 mod saving;
-#[cfg(test)]
-mod tests;
 
 pub use saving::{MOST_BYTES, save_events};

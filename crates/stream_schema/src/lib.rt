@@ -16,8 +16,6 @@ mod declarations;
 mod names;
 mod number;
 mod registry;
-#[cfg(test)]
-mod tests;
 
 pub use compare::{are_alike, is_met_by, kind_of, same_value};
 pub use copies::{copy_event, copy_value, copy_values};

@@ -1,5 +1,0 @@
--- the count has the ledger of its blank
-use Rattle.answer_blocks.proofs.tests.blocks_are_sorted_and_any_is_kept.Given as goal
-
-abbrev pub ghosts-sorted : goal.ghosts-sorted
-ghosts-sorted g a = record { name = a.blank.name; parts = a.blank.parts }

@@ -1,6 +1,0 @@
-use denote.Text.{Utf8}
-use denote.Shadow.{shadow}
-use Rattle.ceql_grammar.proofs.tests.shown.+filter.Given as goal
-
-abbrev pub invariant-push_filters-loop-filter : goal.invariant-push_filters-loop-filter
-invariant-push_filters-loop-filter l = shadow (Utf8 l.before)

@@ -1,6 +1,0 @@
-use denote.Text.{Utf8}
-use denote.Shadow.{shadow}
-use Rattle.ceql_grammar.proofs.tests.shown.+pred.Given as goal
-
-abbrev pub invariant-push_preds-loop-pred : goal.invariant-push_preds-loop-pred
-invariant-push_preds-loop-pred l = shadow (Utf8 l.before)

@@ -1,0 +1,5 @@
+-- The count has the ledger of its blank.
+use Rattle.job_rows.proofs.tests.late.feed_words.Given as goal
+
+abbrev pub ghosts-run_over : goal.ghosts-run_over
+ghosts-run_over a = record { name = a.blank.name; parts = a.blank.parts }

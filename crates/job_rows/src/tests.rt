@@ -1,0 +1,6 @@
+mod checkpoints;
+mod late;
+mod outside;
+mod sample;
+mod saving;
+mod words;

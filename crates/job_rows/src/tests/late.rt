@@ -1,0 +1,256 @@
+//! Small feeds, told by what was written and how they ended.
+
+ghost use Rattle.std.specs.Prelude.{◌≡◌, ◌<◌, [], true, IfOk};
+ghost use Rattle.query_engine.specs.Engine.{StandsFor, count_of};
+ghost use Rattle.reorder_gate.specs.Clocks.{clock_fits};
+
+use answer_text::Order;
+use ceql_parser::read_queries;
+use cer_base::steps::Steps;
+use cer_base::{Memory, OrMemory};
+use cer_outside::sinks::MemSink;
+use cer_outside::sources::MemSource;
+use late_answers::write_late;
+use query_engine::Engine;
+use reorder_gate::clock_fits;
+use std::alloc::{AllocError, Global};
+use std::marker::Brand;
+use std::sync::ledger::{Blank, Ledger};
+use std::test::Fail;
+use stream_answers::StreamFault;
+
+/// One query, which has one answer at each event of type A.
+const EACH: &str = "DECLARE EVENT A(t INT)\nDECLARE EVENT B(t INT)\n\
+DECLARE STREAM S(A, B)\nSELECT * FROM S WHERE A\n";
+
+/// One query, which has an answer for each A before a B.
+const PAIRS: &str = "DECLARE EVENT A(t INT)\nDECLARE EVENT B(t INT)\n\
+DECLARE STREAM S(A, B)\nSELECT * FROM S WHERE A ; B\n";
+
+/// One query, with a clock of its own beside that of the feed.
+const TWO_CLOCKS: &str = "DECLARE EVENT A(t INT, u INT)\n\
+DECLARE STREAM S(A)\nSELECT * FROM S WHERE A WITHIN 9 [u]\n";
+
+/// More bytes than a file has here.
+const AMPLE: u64 = 1 << 20;
+
+/// The greatest bound.
+const MOST: u64 = (1 << 63) - 1;
+
+/// An engine of the queries.
+fn engine_of(alloc: Global, queries: &str) -> Result<Engine, Memory>
+    ensures fresh { IfOk result (λ engine. StandsFor engine []) }
+    ensures none { IfOk result (λ engine. count_of engine ≡ 0) }
+{
+    match read_queries(alloc, queries.as_bytes()) {
+        Ok(accepted) => Engine::new(alloc, accepted.schema, accepted.queries),
+        Err(_) => Err(Memory),
+    }
+}
+
+/// What was written, and how the feed ended.
+fn words_of(
+    alloc: Global,
+    end: Result<(), OrMemory<StreamFault>>,
+    out: &MemSink,
+) -> Result<String, AllocError> {
+    let Ok(lines) = str::from_utf8(out.as_slice()) else {
+        return format!(in alloc; "no text");
+    };
+    match end {
+        Ok(()) => format!(in alloc; "{lines}end"),
+        Err(OrMemory::Memory) => format!(in alloc; "{lines}memory"),
+        Err(OrMemory::Fault(StreamFault::Event { line, fault })) => {
+            format!(in alloc; "{lines}line {line}: {fault}")
+        }
+        Err(OrMemory::Fault(StreamFault::InputTooLong { taken })) => {
+            format!(in alloc; "{lines}longer than {taken}")
+        }
+        Err(OrMemory::Fault(StreamFault::ReadFault)) => format!(in alloc; "{lines}cannot read"),
+        Err(OrMemory::Fault(StreamFault::WriteFault)) => format!(in alloc; "{lines}cannot write"),
+    }
+}
+
+/// The answers over the source, into the sink. The steps count in the ledger that the blank opens.
+fn run_over<L: Ledger>(
+    alloc: Global,
+    order: Order,
+    late: u64,
+    most_bytes: u64,
+    engine: &mut Engine,
+    source: &mut MemSource,
+    out: &mut MemSink,
+    blank: Blank,
+) -> Result<(), OrMemory<StreamFault>>
+    requires fresh { StandsFor engine.old [] }
+    requires none { count_of engine.old ≡ 0 }
+    requires name { blank.name ≡ L.name }
+    requires parts { blank.parts ≡ L.parts }
+    requires some { 0 < blank.parts }
+{
+    if !clock_fits(engine.schema(), "t") {
+        return Err(OrMemory::Memory);
+    }
+    let mut steps: Steps<L> = Steps::start(blank);
+    write_late(
+        alloc, order, "t", late, most_bytes, None, engine, source, out, &mut steps,
+    )
+}
+
+/// What is answered over these bytes by an engine of these queries, where an event may come `late`
+/// and so many bytes are too many. A read brings five bytes. The read and the write of these numbers
+/// fail, from 1; none fails at 0.
+fn feed_words(
+    alloc: Global,
+    order: Order,
+    queries: &str,
+    late: u64,
+    most_bytes: u64,
+    bytes: &str,
+    fails: (u64, u64),
+) -> Result<String, AllocError> {
+    let Ok(mut engine) = engine_of(alloc, queries) else {
+        return Err(AllocError);
+    };
+    let read_fails = Vec::from_slice(alloc, &[fails.0])?;
+    let write_fails = Vec::from_slice(alloc, &[fails.1])?;
+    let bytes = Vec::from_slice(alloc, bytes.as_bytes())?;
+    let mut source = MemSource::new(bytes, 5, read_fails);
+    let Ok(mut out) = MemSink::new(alloc, 4096, 4096, write_fails) else {
+        return Err(AllocError);
+    };
+    let end = run_over::<Brand>(
+        alloc,
+        order,
+        late,
+        most_bytes,
+        &mut engine,
+        &mut source,
+        &mut out,
+        Blank::new(1),
+    );
+    words_of(alloc, end, &out)
+}
+
+#[test]
+fn events_are_answered_by_their_clocks(rt: HostRuntime) -> Result<(), Fail> {
+    let alloc = rt.alloc();
+    for (queries, late, bytes, wanted) in [
+        // The A of clock 9 comes after the B of clock 14.
+        (
+            PAIRS,
+            5,
+            "A,10\nB,14\nA,9\nB,16\n",
+            "1 [0,2] {0,2}\n1 [1,2] {1,2}\n1 [0,3] {0,3}\n1 [1,3] {1,3}\nend",
+        ),
+        // Of one clock they go as they came.
+        (PAIRS, 9, "A,5\nB,5\n", "1 [0,1] {0,1}\nend"),
+        (PAIRS, 9, "B,5\nA,5\n", "end"),
+        (EACH, 0, "", "end"),
+        (EACH, 3, "\nA,1", "1 [0,0] {0}\nend"),
+        // At the bound, and one below it.
+        (EACH, 5, "A,10\nA,5\n", "1 [0,0] {0}\n1 [1,1] {1}\nend"),
+        (
+            EACH,
+            5,
+            "A,10\nA,4\n",
+            "line 2: time 4 comes too late after 10",
+        ),
+        (
+            EACH,
+            0,
+            "A,10\nA,9\n",
+            "1 [0,0] {0}\nline 2: time 9 comes too late after 10",
+        ),
+        (EACH, 2, "B,-3\nA,-5\n", "1 [0,0] {0}\nend"),
+        (
+            EACH,
+            2,
+            "B,-3\nA,-6\n",
+            "line 2: time -6 comes too late after -3",
+        ),
+        // The greatest clock counts, and not the last one.
+        (
+            EACH,
+            5,
+            "B,10\nB,6\nA,4\n",
+            "line 3: time 4 comes too late after 10",
+        ),
+        // The greatest bound, from 10 on.
+        (
+            EACH,
+            MOST,
+            "B,10\nA,-9223372036854775797\n",
+            "1 [0,0] {0}\nend",
+        ),
+        (
+            EACH,
+            MOST,
+            "B,10\nA,-9223372036854775798\n",
+            "line 2: time -9223372036854775798 comes too late after 10",
+        ),
+    ] {
+        let words = feed_words(alloc, Order::Sorted, queries, late, AMPLE, bytes, (0, 0))?;
+        assert_eq!(rt; words.as_str(), wanted, "{bytes} late by {late}");
+    }
+    Ok(())
+}
+
+#[test]
+fn only_the_end_lets_all_events_go(rt: HostRuntime) -> Result<(), Fail> {
+    let alloc = rt.alloc();
+    for (queries, late, most_bytes, bytes, fails, wanted) in [
+        // A refused line, too many bytes and a read that fails: what waits is not answered.
+        (
+            EACH,
+            1,
+            AMPLE,
+            "A,10\nA,11\nC,12\n",
+            (0, 0),
+            "1 [0,0] {0}\nline 3: unknown type",
+        ),
+        (
+            EACH,
+            0,
+            5,
+            "A,10\nA,11\n",
+            (0, 0),
+            "1 [0,0] {0}\nlonger than 5",
+        ),
+        (EACH, 1, 5, "A,10\nA,11\n", (0, 0), "longer than 5"),
+        (
+            EACH,
+            0,
+            AMPLE,
+            "A,10\nA,11\n",
+            (2, 0),
+            "1 [0,0] {0}\ncannot read",
+        ),
+        (EACH, 1, AMPLE, "A,10\nA,11\n", (2, 0), "cannot read"),
+        // The query's own clock falls from 2 to 1 along the feed's: at the line of that event.
+        (
+            TWO_CLOCKS,
+            5,
+            AMPLE,
+            "A,10,1\nA,9,2\n",
+            (0, 0),
+            "1 [0,0] {0}\nline 1: time falls from 2 to 1 in query 1",
+        ),
+        // It falls before the next line is read.
+        (
+            TWO_CLOCKS,
+            5,
+            AMPLE,
+            "A,10,1\nA,9,2\nA,15,3\nC\n",
+            (0, 0),
+            "1 [0,0] {0}\nline 1: time falls from 2 to 1 in query 1",
+        ),
+        (EACH, 5, AMPLE, "A,10\nA,9\n", (0, 1), "cannot write"),
+    ] {
+        for order in [Order::Sorted, Order::Walk] {
+            let words = feed_words(alloc, order, queries, late, most_bytes, bytes, fails)?;
+            assert_eq!(rt; words.as_str(), wanted, "{bytes} late by {late}");
+        }
+    }
+    Ok(())
+}

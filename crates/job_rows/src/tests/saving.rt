@@ -1,0 +1,176 @@
+//! Small event files, saved: what is written, or why nothing is.
+
+ghost use Rattle.std.specs.Prelude.{◌≡◌, ◌<◌, ◌≤◌};
+ghost use Rattle.checkpoint_text.specs.declared.numbers.TheConstants as most;
+
+use ceql_parser::read_queries;
+use cer_base::OrMemory;
+use cer_outside::sinks::MemSink;
+use cer_outside::sources::MemSource;
+use std::alloc::{AllocError, Global};
+use std::test::Fail;
+use stream_answers::StreamFault;
+use stream_checkpoint::save_events;
+
+/// Two types with a whole number each, and a stream of both.
+const FIRST: &str = "DECLARE EVENT A(v INT)\nDECLARE EVENT B(v INT)\nDECLARE STREAM S(A, B)\n";
+
+/// A window of events, one of a clock, none, and two queries.
+const EVENTS: &str = "SELECT * FROM S WHERE A WITHIN 1 EVENTS\n";
+
+const CLOCK: &str = "SELECT * FROM S WHERE A WITHIN 5 [v]\n";
+
+const FREE: &str = "SELECT * FROM S WHERE A\n";
+
+const TWO: &str = "SELECT * FROM S WHERE A\nSELECT * FROM S WHERE B WITHIN 9 [v]\n";
+
+const OTHER: &str = "DECLARE STREAM T(A)\nSELECT * FROM T WHERE A WITHIN 1 EVENTS\n";
+
+/// More bytes than a file has here.
+const AMPLE: u64 = 1 << 20;
+
+/// How the call ended, and what was written.
+fn words_of(
+    alloc: Global,
+    end: Result<(), OrMemory<StreamFault>>,
+    out: &MemSink,
+) -> Result<String, AllocError> {
+    let Ok(text) = str::from_utf8(out.as_slice()) else {
+        return format!(in alloc; "no text");
+    };
+    match end {
+        Ok(()) => format!(in alloc; "end: {text}"),
+        Err(OrMemory::Memory) => format!(in alloc; "memory: {text}"),
+        Err(OrMemory::Fault(StreamFault::Event { line, fault })) => {
+            format!(in alloc; "line {line}: {fault}: {text}")
+        }
+        Err(OrMemory::Fault(StreamFault::InputTooLong { taken })) => {
+            format!(in alloc; "{taken} bytes are too many: {text}")
+        }
+        Err(OrMemory::Fault(StreamFault::ReadFault)) => format!(in alloc; "cannot read: {text}"),
+        Err(OrMemory::Fault(StreamFault::WriteFault)) => format!(in alloc; "cannot write: {text}"),
+    }
+}
+
+/// What is saved of the source for the queries of the text.
+fn saved_of(
+    alloc: Global,
+    queries: &str,
+    most_bytes: u64,
+    source: &mut MemSource,
+    out: &mut MemSink,
+) -> Result<(), OrMemory<StreamFault>>
+    requires { most_bytes ≤ most.MOST_POSITIONS }
+{
+    match read_queries(alloc, queries.as_bytes()) {
+        Ok(accepted) => save_events(
+            alloc,
+            &accepted.schema,
+            accepted.queries.as_slice(),
+            most_bytes,
+            source,
+            out,
+        ),
+        Err(_) => Err(OrMemory::Memory),
+    }
+}
+
+/// What is saved of these bytes, of which a read brings at most three, where the read and the write
+/// of these numbers fail, from 1; none fails at 0. A write takes at most 20 bytes.
+fn saved_words(
+    alloc: Global,
+    queries: &str,
+    bytes: &str,
+    most_bytes: u64,
+    read_fails: u64,
+    write_fails: u64,
+) -> Result<String, AllocError>
+    requires { most_bytes ≤ most.MOST_POSITIONS }
+{
+    let text = format!(in alloc; "{FIRST}{queries}")?;
+    let read_fails = Vec::from_slice(alloc, &[read_fails])?;
+    let write_fails = Vec::from_slice(alloc, &[write_fails])?;
+    let bytes = Vec::from_slice(alloc, bytes.as_bytes())?;
+    let mut source = MemSource::new(bytes, 3, read_fails);
+    let Ok(mut out) = MemSink::new(alloc, 20, 4096, write_fails) else {
+        return Err(AllocError);
+    };
+    let end = saved_of(alloc, text.as_str(), most_bytes, &mut source, &mut out);
+    words_of(alloc, end, &out)
+}
+
+#[test]
+fn what_the_windows_need_is_written(rt: HostRuntime) -> Result<(), Fail> {
+    let alloc = rt.alloc();
+    for (queries, bytes, wanted) in [
+        (
+            EVENTS,
+            "A,1\nA,2\nA,3\n",
+            "events 3 2\nat 1\nA,2\nat 2\nA,3\n",
+        ),
+        (
+            CLOCK,
+            "A,4\nA,5\nB,10",
+            "events 3 2\nat 1\nA,5\nat 2\nB,10\n",
+        ),
+        (FREE, "A,1\n\nB,2\r\n", "events 2 2\nat 0\nA,1\nat 1\nB,2\n"),
+        (FREE, "\u{feff}A,\"1\"\n", "events 1 1\nat 0\nA,\"1\"\n"),
+        (OTHER, "A,1\nB,2\nB,3\n", "events 3 1\nat 0\nA,1\n"),
+        (FREE, "", "events 0 0\n"),
+    ] {
+        let words = saved_words(alloc, queries, bytes, AMPLE, 0, 0)?;
+        let wanted = format!(in alloc; "end: core checkpoint 1\n{wanted}")?;
+        assert_eq!(rt; words.as_str(), wanted.as_str(), "at {bytes}");
+    }
+    Ok(())
+}
+
+#[test]
+fn a_fault_leaves_nothing_or_a_first_part(rt: HostRuntime) -> Result<(), Fail> {
+    let alloc = rt.alloc();
+    for (queries, bytes, most_bytes, read_fails, write_fails, wanted) in [
+        (
+            FREE,
+            "A,1\nA,x\n",
+            AMPLE,
+            0,
+            0,
+            "line 2: field 1 is of another kind: ",
+        ),
+        (
+            TWO,
+            "A,1\n\nA,9\nB,8\n",
+            AMPLE,
+            0,
+            0,
+            "line 4: time falls from 9 to 8 in query 2: ",
+        ),
+        (FREE, "A,1\nA,2\n", 8, 0, 0, "8 bytes are too many: "),
+        (
+            FREE,
+            "A,1\nA,2\n",
+            9,
+            0,
+            0,
+            "end: core checkpoint 1\nevents 2 2\nat 0\nA,1\nat 1\nA,2\n",
+        ),
+        (FREE, "A,1\nA,2\n", AMPLE, 2, 0, "cannot read: "),
+        (FREE, "A,1\nA,2\n", AMPLE, 0, 1, "cannot write: "),
+        (
+            FREE,
+            "A,1\nA,2\n",
+            AMPLE,
+            0,
+            2,
+            "cannot write: core checkpoint 1\nev",
+        ),
+    ] {
+        let words = saved_words(alloc, queries, bytes, most_bytes, read_fails, write_fails)?;
+        assert_eq!(rt;
+            words.as_str(),
+            wanted,
+            "at {bytes}, {read_fails}, {write_fails}"
+        );
+    }
+    Ok(())
+}

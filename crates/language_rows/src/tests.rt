@@ -1,0 +1,3 @@
+mod grammar;
+mod parser;
+mod schema;

@@ -1,0 +1,4 @@
+mod answers;
+mod conditions;
+mod explaining;
+mod leaves;

@@ -1,0 +1,6 @@
+mod events;
+mod gate;
+mod lines;
+mod objects;
+mod rows;
+mod speed;

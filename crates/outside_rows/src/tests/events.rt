@@ -1,0 +1,124 @@
+use cer_base::{Listed, Memory, OrMemory, Text};
+use event_reader::{EventFault, read_event};
+use std::alloc::{AllocError, Global};
+use std::test::Fail;
+use stream_schema::{Attr, Event, Kind, Schema, SchemaFault, Value};
+
+fn declare(
+    alloc: Global,
+    schema: &mut Schema,
+    name: &str,
+    kind: Kind,
+) -> Result<(), OrMemory<SchemaFault>> {
+    let mut attrs = Vec::new(alloc);
+    attrs.push(Attr {
+        name: Text::copy_of(alloc, "v")?,
+        kind,
+    })?;
+    schema.declare_event(name, &Listed::of(attrs))?;
+    Ok(())
+}
+
+pub fn five_types(alloc: Global) -> Result<Schema, OrMemory<SchemaFault>> {
+    let mut schema = Schema::new(alloc);
+    declare(alloc, &mut schema, "A", Kind::Int)?;
+    declare(alloc, &mut schema, "N", Kind::Text)?;
+    declare(alloc, &mut schema, "F", Kind::Flag)?;
+    declare(alloc, &mut schema, "D", Kind::Dec(2))?;
+    declare(alloc, &mut schema, "Z", Kind::Dec(0))?;
+    Ok(schema)
+}
+
+// What a line answers: the type's number and the values, or the words of the fault.
+pub fn answer(alloc: Global, schema: &Schema, line: &[u8]) -> Result<String, AllocError> {
+    if line.contains(&b'\n') {
+        return "line feed".to_string(alloc);
+    }
+    words_of(alloc, read_event(alloc, schema, line))
+}
+
+fn words_of(
+    alloc: Global,
+    given: Result<Option<Event>, OrMemory<EventFault>>,
+) -> Result<String, AllocError> {
+    let event = match given {
+        Ok(Some(event)) => event,
+        Ok(None) => return "none".to_string(alloc),
+        Err(OrMemory::Fault(fault)) => return format!(in alloc; "{fault}"),
+        Err(OrMemory::Memory) => return "memory".to_string(alloc),
+    };
+    let mut words = format!(in alloc; "{}", event.ty)?;
+    for value in event.values.as_slice() {
+        let word = match value {
+            Value::Int(number) => format!(in alloc; " {number}")?,
+            Value::Text(text) => format!(in alloc; " {}", text.as_str())?,
+            Value::Flag(truth) => format!(in alloc; " {truth}")?,
+            Value::Dec { scaled, places } => format!(in alloc; " {scaled}/{places}")?,
+        };
+        words.push_str(word.as_str())?;
+    }
+    Ok(words)
+}
+
+#[test]
+fn lines_become_events_or_refusals(rt: HostRuntime) -> Result<(), Fail> {
+    let alloc = rt.alloc();
+    let Ok(schema) = five_types(alloc) else {
+        return Err(Fail::new("five types"));
+    };
+    for (line, wanted) in [
+        ("", "none"),
+        ("\r", "none"),
+        ("\r\r", "carriage return or byte order mark in the line"),
+        ("A,1\r", "0 1"),
+        ("A,1\r\r", "carriage return or byte order mark in the line"),
+        (
+            "\u{feff}A,1",
+            "carriage return or byte order mark in the line",
+        ),
+        ("\rC,\"", "carriage return or byte order mark in the line"),
+        ("C,\"", "open quote"),
+        ("C,1,2", "unknown type"),
+        ("A,x,2", "2 fields where 1 is wanted"),
+        ("A,\"1", "open quote"),
+        ("\"A\",1", "0 1"),
+        ("A,x", "field 1 is of another kind"),
+        ("A,+1", "0 1"),
+        ("A,-0", "0 0"),
+        ("A,9223372036854775807", "0 9223372036854775807"),
+        ("A,9223372036854775808", "field 1 is of another kind"),
+        ("A,-9223372036854775808", "0 -9223372036854775808"),
+        ("A,18446744073709551617", "field 1 is of another kind"),
+        ("A,1.0", "field 1 is of another kind"),
+        ("A,+-1", "field 1 is of another kind"),
+        ("F,TRUE", "2 true"),
+        ("F,fAlse", "2 false"),
+        ("F,tru", "field 1 is of another kind"),
+        ("D,1", "3 100/2"),
+        ("D,1.5", "3 150/2"),
+        ("D,-1.49", "3 -149/2"),
+        ("D,1.505", "field 1 is of another kind"),
+        ("D,1.", "field 1 is of another kind"),
+        ("D,.5", "field 1 is of another kind"),
+        ("D,92233720368547758.08", "field 1 is of another kind"),
+        ("Z,7", "4 7/0"),
+        ("Z,7.0", "field 1 is of another kind"),
+        ("N", "0 fields where 1 is wanted"),
+        ("N,", "1 "),
+        ("N,\"", "open quote"),
+        ("N,\"a", "open quote"),
+        ("N,\"a,", "open quote"),
+        ("N,\"a,\"", "1 a,"),
+        ("N,\"a,\"\"", "open quote"),
+        ("N,\"a,\"\"b", "open quote"),
+        ("N,\"a,\"\"b\"\r", "1 a,\"b"),
+        ("N,\"a\"\"b\"c", "1 a\"bc"),
+        ("N,a\"b", "1 a\"b"),
+    ] {
+        let words = answer(alloc, &schema, line.as_bytes())?;
+        assert_eq!(rt; words.as_str(), wanted, "at {line}");
+    }
+    let words = answer(alloc, &schema, b"N,\xff")?;
+    assert_eq!(rt; words.as_str(), "field 1 is of another kind");
+    Ok(())
+}

@@ -1,0 +1,174 @@
+use crate::tests::events::five_types;
+use cer_base::{Listed, OrMemory, Text};
+use event_reader::Row;
+use std::alloc::{AllocError, Global};
+use std::test::Fail;
+use stream_schema::{Attr, Kind, Schema, SchemaFault, Value};
+
+// The five types, and two of more attributes: `P` of three whole numbers, `M` of each kind.
+fn seven_types(alloc: Global) -> Result<Schema, OrMemory<SchemaFault>> {
+    let mut schema = five_types(alloc)?;
+    declare(alloc, &mut schema, "P", &[Kind::Int, Kind::Int, Kind::Int])?;
+    let each = [Kind::Int, Kind::Text, Kind::Flag, Kind::Dec(2)];
+    declare(alloc, &mut schema, "M", &each)?;
+    Ok(schema)
+}
+
+fn declare(
+    alloc: Global,
+    schema: &mut Schema,
+    name: &str,
+    kinds: &[Kind],
+) -> Result<(), OrMemory<SchemaFault>> {
+    let mut attrs = Vec::new(alloc);
+    for (i, kind) in kinds.iter().enumerate() {
+        let word = format!(in alloc; "v{i}")?;
+        attrs.push(Attr {
+            name: Text::copy_of(alloc, word.as_str())?,
+            kind: *kind,
+        })?;
+    }
+    schema.declare_event(name, &Listed::of(attrs))?;
+    Ok(())
+}
+
+// What reading the line into the row answers, and the event that the row then holds.
+fn words_of(
+    alloc: Global,
+    schema: &Schema,
+    line: &[u8],
+    row: &mut Row,
+) -> Result<String, AllocError> {
+    if line.contains(&b'\n') {
+        return "line feed".to_string(alloc);
+    }
+    match row.read(alloc, schema, line) {
+        Ok(true) => event_words(alloc, row),
+        Ok(false) => format!(in alloc; "none{}", value_words(alloc, row)?.as_str()),
+        Err(OrMemory::Fault(fault)) => {
+            format!(in alloc; "{fault}{}", value_words(alloc, row)?.as_str())
+        }
+        Err(OrMemory::Memory) => "memory".to_string(alloc),
+    }
+}
+
+fn event_words(alloc: Global, row: &Row) -> Result<String, AllocError> {
+    format!(in alloc; "{}{}", row.event().ty, value_words(alloc, row)?.as_str())
+}
+
+// The values, each after a blank.
+fn value_words(alloc: Global, row: &Row) -> Result<String, AllocError> {
+    let mut words = String::new(alloc);
+    for value in row.event().values.as_slice() {
+        let word = match value {
+            Value::Int(number) => format!(in alloc; " {number}")?,
+            Value::Text(text) => format!(in alloc; " {}", text.as_str())?,
+            Value::Flag(truth) => format!(in alloc; " {truth}")?,
+            Value::Dec { scaled, places } => format!(in alloc; " {scaled}/{places}")?,
+        };
+        words.push_str(word.as_str())?;
+    }
+    Ok(words)
+}
+
+// The first line of the table of which something else is read than what stands after it. One row
+// reads all of them.
+fn first_wrong(
+    alloc: Global,
+    schema: &Schema,
+    row: &mut Row,
+    table: &str,
+) -> Result<String, AllocError> {
+    for entry in table.split('\n') {
+        let Some((line, wanted)) = entry.split_once('|') else {
+            return entry.to_string(alloc);
+        };
+        let words = words_of(alloc, schema, line.as_bytes(), row)?;
+        if words.as_str() != wanted {
+            return format!(in alloc; "{line}: {}", words.as_str());
+        }
+    }
+    Ok(String::new(alloc))
+}
+
+fn read_wrong(alloc: Global, table: &str) -> Result<String, AllocError> {
+    let Ok(schema) = seven_types(alloc) else {
+        return "seven types".to_string(alloc);
+    };
+    let mut row = Row::new(alloc);
+    first_wrong(alloc, &schema, &mut row, table)
+}
+
+/// Each line, and what is read of it.
+const ONE_ROW: &str = "A,1|0 1\n\
+A,x|field 1 is of another kind\n\
+N,abc|1 abc\n\
+|none\n\
+P,1,-2,+3|5 1 -2 3\n\
+A,7|0 7\n\
+N,b|1 b\n\
+P,4,5,6|5 4 5 6\n\
+P,1,2|2 fields where 3 is wanted\n\
+P,1,2,3,4|4 fields where 3 is wanted\n\
+P,1,2,3,|4 fields where 3 is wanted\n\
+P,1,,3|field 2 is of another kind\n\
+P|0 fields where 3 is wanted\n\
+M,-1,x y,tRUE,-1.5\r|6 -1 x y true -150/2\n\
+M,-1,x,true,1.505|field 4 is of another kind\n\
+M,1,,false,0|6 1  false 0/2\n\
+M,1,\"a,b\",false,0|6 1 a,b false 0/2\n\
+M,1,\"a,b,false,0|open quote\n\
+\"A\",2|0 2\n\
+A,\"2\"|0 2\n\
+A,2\"|field 1 is of another kind\n\
+A,3\r\r|carriage return or byte order mark in the line\n\
+A\r,3|carriage return or byte order mark in the line\n\
+\u{feff}A,3|carriage return or byte order mark in the line\n\
+\r|none\n\
+N,\u{e9}|1 \u{e9}\n\
+\u{e9},1|unknown type\n\
+,1|unknown type\n\
+,|unknown type\n\
+A,3|0 3";
+
+#[test]
+fn one_row_holds_the_last_line_alone(rt: HostRuntime) -> Result<(), Fail> {
+    let alloc = rt.alloc();
+    let wrong = read_wrong(alloc, ONE_ROW)?;
+    assert_eq!(rt; wrong.as_str(), "");
+    Ok(())
+}
+
+/// Each line, and what is read of it.
+const WHOLE_NUMBERS: &str = "A,-0|0 0\n\
+A,+0|0 0\n\
+A,000|0 0\n\
+A,99999999999999999|0 99999999999999999\n\
+A,100000000000000000|0 100000000000000000\n\
+A,999999999999999999|0 999999999999999999\n\
+A,-999999999999999999|0 -999999999999999999\n\
+A,1000000000000000000|0 1000000000000000000\n\
+A,9223372036854775807|0 9223372036854775807\n\
+A,9223372036854775808|field 1 is of another kind\n\
+A,-9223372036854775808|0 -9223372036854775808\n\
+A,-9223372036854775809|field 1 is of another kind\n\
+A,18446744073709551617|field 1 is of another kind\n\
+A,00000000000000000000000012|0 12\n\
+A,|field 1 is of another kind\n\
+A,+|field 1 is of another kind\n\
+A,-|field 1 is of another kind\n\
+A,--1|field 1 is of another kind\n\
+A,1-|field 1 is of another kind\n\
+A,1 |field 1 is of another kind\n\
+A, 1|field 1 is of another kind\n\
+A,1.0|field 1 is of another kind\n\
+A,/|field 1 is of another kind\n\
+A,:|field 1 is of another kind";
+
+#[test]
+fn whole_numbers_of_any_length(rt: HostRuntime) -> Result<(), Fail> {
+    let alloc = rt.alloc();
+    let wrong = read_wrong(alloc, WHOLE_NUMBERS)?;
+    assert_eq!(rt; wrong.as_str(), "");
+    Ok(())
+}

@@ -1,5 +1,0 @@
--- The count has the ledger of its blank.
-use Rattle.stream_answers.proofs.tests.run_words.Given as goal
-
-abbrev pub ghosts-run_over : goal.ghosts-run_over
-ghosts-run_over a = record { name = a.blank.name; parts = a.blank.parts }

@@ -1,0 +1,6 @@
+mod blocks;
+mod commands;
+mod lines;
+mod runs;
+mod sessions;
+mod streams;

@@ -1,0 +1,97 @@
+use answer_text::answer::order;
+use answer_text::*;
+use cer_base::{Memory, Pos};
+use std::cmp::Ordering;
+use std::test::Fail;
+
+#[test]
+fn lines_are_laid_out(rt: HostRuntime) -> Result<(), Fail> {
+    let rows: [(u64, Pos, Pos, &[Pos], &str); 3] = [
+        (1, 0, 5, &[0, 3, 5], "1 [0,5] {0,3,5}\n"),
+        (1, 0, 0, &[], "1 [0,0] {}\n"),
+        (12, 7, 4096, &[4096], "12 [7,4096] {4096}\n"),
+    ];
+    for (query, start, end, positions, want) in rows {
+        let text = line(rt.alloc(), query, start, end, positions)?;
+        assert_eq!(rt; text.as_slice(), want.as_bytes());
+    }
+    Ok(())
+}
+
+/// With eight positions, the most that are few, with the greatest numbers that there are, and with nine.
+#[test]
+fn lines_of_few_and_of_many_positions_are_laid_out(rt: HostRuntime) -> Result<(), Fail> {
+    let rows: [(u64, Pos, Pos, &[Pos], &str); 3] = [
+        (
+            1024,
+            10,
+            17,
+            &[10, 11, 12, 13, 14, 15, 16, 17],
+            "1024 [10,17] {10,11,12,13,14,15,16,17}\n",
+        ),
+        (
+            18_446_744_073_709_551_615,
+            18_446_744_073_709_551_615,
+            18_446_744_073_709_551_615,
+            &[18_446_744_073_709_551_614, 18_446_744_073_709_551_615],
+            "18446744073709551615 [18446744073709551615,18446744073709551615] {18446744073709551614,18446744073709551615}\n",
+        ),
+        (
+            1,
+            0,
+            9,
+            &[0, 1, 2, 3, 4, 5, 6, 7, 9],
+            "1 [0,9] {0,1,2,3,4,5,6,7,9}\n",
+        ),
+    ];
+    for (query, start, end, positions, want) in rows {
+        let text = line(rt.alloc(), query, start, end, positions)?;
+        assert_eq!(rt; text.as_slice(), want.as_bytes());
+    }
+    Ok(())
+}
+
+#[test]
+fn a_line_goes_after_the_text(rt: HostRuntime) -> Result<(), Fail> {
+    let mut text = Vec::new(rt.alloc());
+    push_line(&mut text, 1, 0, 5, &[5, 3, 0])?;
+    push_line(&mut text, 2, 5, 5, &[])?;
+    assert_eq!(rt;
+        text.as_slice(),
+        b"1 [0,5] {0,3,5}\n2 [5,5] {}\n".as_slice()
+    );
+    Ok(())
+}
+
+#[test]
+fn names_are_laid_out(rt: HostRuntime) -> Result<(), Fail> {
+    let mut text = line(rt.alloc(), 1, 1, 3, &[3])?;
+    push_binding(rt.alloc(), &mut text, "A", &[1, 2])?;
+    push_binding(rt.alloc(), &mut text, "b", &[3])?;
+    assert_eq!(rt;
+        text.as_slice(),
+        b"1 [1,3] {3}\nA {1,2}\nb {3}\n".as_slice()
+    );
+    let text = none(rt.alloc())?;
+    assert_eq!(rt; text.as_slice(), b"none\n".as_slice());
+    Ok(())
+}
+
+/// Each row has two answers, positions greatest first, and how the first compares to the second.
+#[test]
+fn answers_are_ordered(rt: HostRuntime) -> Result<(), Fail> {
+    let rows: [(Pos, &[Pos], Pos, &[Pos], Ordering); 6] = [
+        (0, &[9], 1, &[1], Ordering::Less),
+        (1, &[1], 0, &[9], Ordering::Greater),
+        (0, &[2, 0], 0, &[2, 1, 0], Ordering::Greater),
+        (0, &[2, 0], 0, &[3, 2, 0], Ordering::Less),
+        (0, &[], 0, &[0], Ordering::Less),
+        (0, &[2, 0], 0, &[2, 0], Ordering::Equal),
+    ];
+    for (start, falling, other_start, other_falling, want) in rows {
+        let one = Answer::new(rt.alloc(), start, falling)?;
+        let other = Answer::new(rt.alloc(), other_start, other_falling)?;
+        assert_eq!(rt; order(&one, &other), want);
+    }
+    Ok(())
+}

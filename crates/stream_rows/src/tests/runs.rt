@@ -1,0 +1,306 @@
+//! Small event files, taken event by event: how many events a run takes, and why it stops.
+
+ghost use Rattle.std.specs.Prelude.{◌≡◌, ◌+◌, ◌^◌, ◌<◌, ◌≤◌, false, IfOk};
+ghost use Rattle.query_engine.specs.Engine.{count_of};
+
+use ceql_parser::read_queries;
+use cer_base::steps::Steps;
+use cer_base::{Memory, OrMemory};
+use cer_outside::Source;
+use cer_outside::sources::MemSource;
+use event_reader::{Lines, Row};
+use event_run::{RunFault, Taken, read_events, take_event};
+use query_engine::Engine;
+use std::alloc::{AllocError, Global};
+use std::marker::Brand;
+use std::sync::ledger::{Blank, Ledger};
+use std::test::Fail;
+
+/// One query, whose clock is the position.
+const BY_POSITION: &str = "DECLARE EVENT A(v INT)\nDECLARE EVENT B(v INT)\n\
+DECLARE STREAM S(A, B)\nSELECT * FROM S WHERE A\n";
+
+/// One query, whose clock is an attribute.
+const BY_TIME: &str = "DECLARE EVENT A(t INT)\nDECLARE EVENT B(t INT)\n\
+DECLARE STREAM S(A, B)\nSELECT * FROM S WHERE A WITHIN 5 [t]\n";
+
+/// Three queries. The first reads A alone, the others A and B; the last two have a clock.
+const THREE: &str = "DECLARE EVENT A(t INT)\nDECLARE EVENT B(t INT)\n\
+DECLARE STREAM S(A)\nDECLARE STREAM T(A, B)\nSELECT * FROM S WHERE A\n\
+SELECT * FROM T WHERE A WITHIN 5 [t]\nSELECT * FROM T WHERE B WITHIN 9 [t]\n";
+
+/// One query over texts.
+const TEXTS: &str = "DECLARE EVENT N(s STRING)\nDECLARE STREAM S(N)\n\n\
+SELECT * FROM S WHERE N FILTER N[s = 'a,\"b']\n";
+
+/// More bytes than a file has here.
+const AMPLE: u64 = 1 << 20;
+
+/// An engine of the queries of the text.
+fn engine_of(alloc: Global, text: &str) -> Result<Engine, Memory>
+    ensures { IfOk result (λ engine. count_of engine ≡ 0) }
+{
+    match read_queries(alloc, text.as_bytes()) {
+        Ok(accepted) => Engine::new(alloc, accepted.schema, accepted.queries),
+        Err(_) => Err(Memory),
+    }
+}
+
+/// Takes all events, up to the end or a fault.
+fn take_all<Q: Source, L: Ledger>(
+    alloc: Global,
+    lines: &mut Lines,
+    source: &mut Q,
+    engine: &mut Engine,
+    steps: &mut Steps<L>,
+) -> Result<(), OrMemory<RunFault>>
+    requires open { lines.old.closed ≡ false }
+    requires counted { count_of engine.old + lines.old.room < 2 ^ 64 }
+{
+    let mut row = Row::new(alloc);
+    loop {
+        match take_event(alloc, lines, &mut row, source, engine, steps) {
+            Ok(Taken::Event) => {}
+            Ok(Taken::End) => return Ok(()),
+            Err(fault) => return Err(fault),
+        }
+    }
+}
+
+/// How many events were taken, and why no more.
+fn words_of(
+    alloc: Global,
+    taken: u64,
+    stop: Result<(), OrMemory<RunFault>>,
+) -> Result<String, AllocError> {
+    match stop {
+        Ok(()) => format!(in alloc; "{taken}, end"),
+        Err(OrMemory::Memory) => format!(in alloc; "{taken}, memory"),
+        Err(OrMemory::Fault(RunFault::ReadFault)) => format!(in alloc; "{taken}, cannot read"),
+        Err(OrMemory::Fault(RunFault::InputTooLong { taken: most })) => {
+            format!(in alloc; "{taken}, {most} bytes are too many")
+        }
+        Err(OrMemory::Fault(RunFault::Event { line, fault })) => {
+            format!(in alloc; "{taken}, line {line}: {fault}")
+        }
+    }
+}
+
+/// What the engine takes of a file, of which so many bytes are too many. The steps count in the
+/// ledger that the blank opens.
+fn run_over<L: Ledger>(
+    alloc: Global,
+    engine: &mut Engine,
+    source: &mut MemSource,
+    most_bytes: u64,
+    blank: Blank,
+) -> Result<String, AllocError>
+    requires fresh { count_of engine.old ≡ 0 }
+    requires name { blank.name ≡ L.name }
+    requires parts { blank.parts ≡ L.parts }
+    requires some { 0 < blank.parts }
+{
+    let Ok(mut lines) = Lines::new(alloc, most_bytes) else {
+        return Err(AllocError);
+    };
+    let mut steps: Steps<L> = Steps::start(blank);
+    let stop = take_all(alloc, &mut lines, source, engine, &mut steps);
+    words_of(alloc, engine.events(), stop)
+}
+
+/// What an engine of these queries takes of these bytes, of which a read brings at most `piece`
+/// and the read of this number fails.
+fn run_words(
+    alloc: Global,
+    queries: &str,
+    bytes: &[u8],
+    most_bytes: u64,
+    piece: usize,
+    fails: u64,
+) -> Result<String, AllocError>
+    requires { 0 < piece }
+{
+    let Ok(mut engine) = engine_of(alloc, queries) else {
+        return Err(AllocError);
+    };
+    let fails = Vec::from_slice(alloc, &[fails])?;
+    let mut source = MemSource::new(Vec::from_slice(alloc, bytes)?, piece, fails);
+    run_over::<Brand>(alloc, &mut engine, &mut source, most_bytes, Blank::new(1))
+}
+
+#[test]
+fn events_are_taken_up_to_the_stop(rt: HostRuntime) -> Result<(), Fail> {
+    let alloc = rt.alloc();
+    for (queries, bytes, most_bytes, wanted) in [
+        (BY_POSITION, "", AMPLE, "0, end"),
+        (BY_POSITION, "\n\r\n", AMPLE, "0, end"),
+        (BY_POSITION, "A,1\nA,2", AMPLE, "2, end"),
+        (BY_POSITION, "A,2\n\nB,1\n", AMPLE, "2, end"),
+        (
+            BY_POSITION,
+            "A,1,2\n",
+            AMPLE,
+            "0, line 1: 2 fields where 1 is wanted",
+        ),
+        (BY_POSITION, "A,\"1\n", AMPLE, "0, line 1: open quote"),
+        (
+            BY_POSITION,
+            "A,1\n\nA,x\n",
+            AMPLE,
+            "1, line 3: field 1 is of another kind",
+        ),
+        (
+            BY_POSITION,
+            "A,1\nC,1\nA,2\n",
+            AMPLE,
+            "1, line 2: unknown type",
+        ),
+        (BY_POSITION, "A,1\n", 4, "1, 4 bytes are too many"),
+        (
+            BY_POSITION,
+            "A,1\nA,x\n",
+            8,
+            "1, line 2: field 1 is of another kind",
+        ),
+        (BY_POSITION, "A,1\n", 5, "1, end"),
+        (
+            BY_TIME,
+            "A,10\nA,9\n",
+            AMPLE,
+            "1, line 2: time falls from 10 to 9 in query 1",
+        ),
+        (BY_TIME, "A,10\nB,10\n", AMPLE, "2, end"),
+        (
+            BY_TIME,
+            "A,10\nB,11\n\nA,10\nC,1\n",
+            AMPLE,
+            "2, line 4: time falls from 11 to 10 in query 1",
+        ),
+        (
+            THREE,
+            "A,3\nB,4\nA,2\n",
+            AMPLE,
+            "2, line 3: time falls from 4 to 2 in query 2",
+        ),
+    ] {
+        for piece in [1, 4] {
+            let words = run_words(alloc, queries, bytes.as_bytes(), most_bytes, piece, 0)?;
+            assert_eq!(rt; words.as_str(), wanted, "at {bytes} in pieces of {piece}");
+        }
+    }
+    Ok(())
+}
+
+#[test]
+fn first_parts_of_a_quoted_line_are_events_or_open(rt: HostRuntime) -> Result<(), Fail> {
+    let alloc = rt.alloc();
+    let line = b"N,\"a,\"\"b\"\r\n";
+    for (end, wanted) in [
+        (0, "0, end"),
+        (1, "0, line 1: 0 fields where 1 is wanted"),
+        (2, "1, end"),
+        (3, "0, line 1: open quote"),
+        (4, "0, line 1: open quote"),
+        (5, "0, line 1: open quote"),
+        (6, "1, end"),
+        (7, "0, line 1: open quote"),
+        (8, "0, line 1: open quote"),
+        (9, "1, end"),
+        (10, "1, end"),
+        (11, "1, end"),
+    ] {
+        let words = run_words(alloc, TEXTS, &line[..end], AMPLE, 4, 0)?;
+        assert_eq!(rt; words.as_str(), wanted, "at {end}");
+    }
+    Ok(())
+}
+
+#[test]
+fn each_read_fails_in_turn(rt: HostRuntime) -> Result<(), Fail> {
+    let alloc = rt.alloc();
+    let bytes = b"A,1\nA,2\nA,3\n";
+    for (fails, wanted) in [
+        (1, "0, cannot read"),
+        (2, "1, cannot read"),
+        (3, "2, cannot read"),
+        (4, "3, cannot read"),
+        (5, "3, end"),
+    ] {
+        let words = run_words(alloc, BY_POSITION, bytes, AMPLE, 4, fails)?;
+        assert_eq!(rt; words.as_str(), wanted, "at read {fails}");
+    }
+    Ok(())
+}
+
+#[test]
+fn the_longest_line_is_an_event(rt: HostRuntime) -> Result<(), Fail> {
+    let alloc = rt.alloc();
+    for (len, wanted) in [
+        (65_534, "1, end"),
+        (65_535, "0, line 1: line longer than 65536 bytes"),
+    ] {
+        let mut line = Vec::from_slice(alloc, b"N,")?;
+        for _byte in 0..len {
+            line.push(b'x')?;
+        }
+        let words = run_words(alloc, TEXTS, line.as_slice(), AMPLE, 4096, 0)?;
+        assert_eq!(rt; words.as_str(), wanted, "at {len}");
+    }
+    Ok(())
+}
+
+/// How many events a list of the file has, or why there is none.
+fn listed_words(
+    alloc: Global,
+    queries: &str,
+    bytes: &[u8],
+    most_bytes: u64,
+    fails: u64,
+) -> Result<String, AllocError> {
+    let Ok(accepted) = read_queries(alloc, queries.as_bytes()) else {
+        return Err(AllocError);
+    };
+    let fails = Vec::from_slice(alloc, &[fails])?;
+    let mut source = MemSource::new(Vec::from_slice(alloc, bytes)?, 4, fails);
+    let queries = accepted.queries.as_slice();
+    match read_events(alloc, &accepted.schema, queries, most_bytes, &mut source) {
+        Ok(events) => words_of(alloc, events.len() as u64, Ok(())),
+        Err(stop) => words_of(alloc, 0, Err(stop)),
+    }
+}
+
+#[test]
+fn events_are_listed_as_they_are_taken(rt: HostRuntime) -> Result<(), Fail> {
+    let alloc = rt.alloc();
+    for (queries, bytes, most_bytes, fails, wanted) in [
+        (BY_POSITION, "A,2\n\nB,1\n", AMPLE, 0, "2, end"),
+        (BY_POSITION, "A,2\n", 4, 0, "0, 4 bytes are too many"),
+        (BY_POSITION, "A,2\nB,1\n", AMPLE, 2, "0, cannot read"),
+        (
+            BY_POSITION,
+            "A,1\n\nA,x\n",
+            AMPLE,
+            0,
+            "0, line 3: field 1 is of another kind",
+        ),
+        (
+            BY_TIME,
+            "A,10\nB,11\n\nA,10\nC,1\n",
+            AMPLE,
+            0,
+            "0, line 4: time falls from 11 to 10 in query 1",
+        ),
+        (
+            THREE,
+            "A,3\nB,4\nA,2\n",
+            AMPLE,
+            0,
+            "0, line 3: time falls from 4 to 2 in query 2",
+        ),
+        (THREE, "A,3\nB,4\nA,4\n", AMPLE, 0, "3, end"),
+    ] {
+        let words = listed_words(alloc, queries, bytes.as_bytes(), most_bytes, fails)?;
+        assert_eq!(rt; words.as_str(), wanted, "at {bytes}");
+    }
+    Ok(())
+}

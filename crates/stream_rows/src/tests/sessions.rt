@@ -1,0 +1,369 @@
+//! Scripts, played by a session over the queries `A` and `A+`.
+
+ghost use Rattle.std.specs.Prelude.{◌≡◌, ◌+◌, ◌^◌, ◌<◌, ◌≤◌, [], ◌∷◌, map, All, codes, IfOk, OnOk};
+ghost use Rattle.cel_terms.specs.Checked.{IsChecked, IsCheckedFormula, IsStreamName, leaf_count};
+ghost use Rattle.query_engine.specs.Engine.{count_of};
+ghost use Rattle.stream_rows.specs.Rows.{one_type};
+ghost use Rattle.cursor_session.specs.Commands.{HasEventOf};
+
+use cel_terms::{Formula, Name, Names, Postfix, Query, Window};
+use cer_base::steps::Steps;
+use cer_base::{Listed, Memory, OrMemory, Place, Text};
+use cer_outside::Sink;
+use cer_outside::sinks::MemSink;
+use cursor_session::{Command, Refusal, RunFault, Session, read_command};
+use query_engine::Queries;
+use std::alloc::{AllocError, Global};
+use std::marker::Brand;
+use std::sync::ledger::{Blank, Ledger};
+use std::test::Fail;
+use stream_schema::{Schema, SchemaFault};
+
+const HERE: Place = Place { line: 1, col: 1 };
+
+/// `DECLARE EVENT A()` and `DECLARE STREAM S(A)`.
+fn schema(alloc: Global) -> Result<Schema, OrMemory<SchemaFault>>
+    ensures { IfOk result (λ s. s ≡ one_type) }
+{
+    let mut schema = Schema::new(alloc);
+    schema.declare_event("A", &Listed::of(Vec::new(alloc)))?;
+    let mut types = Vec::new(alloc);
+    types.push(Text::copy_of(alloc, "A")?)?;
+    schema.declare_stream("S", &Listed::of(types))?;
+    Ok(schema)
+}
+
+fn name(alloc: Global, text: &str) -> Result<Name, Memory>
+    ensures { IfOk result (λ n. n.text ≡ text.now) }
+{
+    Ok(Name {
+        text: Text::copy_of(alloc, text)?,
+        place: HERE,
+    })
+}
+
+/// S
+fn streams(alloc: Global) -> Result<Names, Memory>
+    ensures texts { IfOk result (λ ns. map (λ n. n.text) ns ≡ codes "S" ∷ []) }
+    ensures known { IfOk result (All (λ n. IsStreamName one_type.streams n.text)) }
+{
+    let mut list = Vec::new(alloc);
+    list.push(name(alloc, "S")?)?;
+    Ok(Listed::of(list))
+}
+
+/// A
+fn one(alloc: Global) -> Result<Formula, Memory>
+    ensures checked { IfOk result (IsCheckedFormula one_type.types) }
+    ensures leaves { IfOk result (λ f. leaf_count f ≡ 1) }
+{
+    Ok(Formula::Of(name(alloc, "A")?))
+}
+
+/// A+
+fn some(alloc: Global) -> Result<Formula, Memory>
+    ensures checked { IfOk result (IsCheckedFormula one_type.types) }
+    ensures leaves { IfOk result (λ f. leaf_count f ≡ 1) }
+{
+    let base = Formula::Of(name(alloc, "A")?);
+    let mut postfixes = Vec::new(alloc);
+    postfixes.push(Postfix::Plus)?;
+    Ok(Formula::Post(Box::new(alloc, base)?, postfixes))
+}
+
+/// `SELECT * FROM S WHERE` the formula.
+fn query(alloc: Global, formula: Formula) -> Result<Query, Memory>
+    requires checked { IsCheckedFormula one_type.types formula }
+    requires leaves { leaf_count formula ≡ 1 }
+    ensures { IfOk result (IsChecked one_type) }
+{
+    Ok(Query {
+        select: None,
+        strict: false,
+        any: None,
+        streams: streams(alloc)?,
+        formula,
+        partition: Listed::of(Vec::new(alloc)),
+        window: Window::Free,
+        place: HERE,
+    })
+}
+
+fn queries(alloc: Global) -> Result<Queries, Memory>
+    ensures { IfOk result (All (IsChecked one_type)) }
+{
+    let mut list = Vec::new(alloc);
+    list.push(query(alloc, one(alloc)?)?)?;
+    list.push(query(alloc, some(alloc)?)?)?;
+    Ok(Listed::of(list))
+}
+
+fn session(alloc: Global) -> Result<Session, Memory>
+    ensures schema { IfOk result (λ s. s.engine.schema ≡ one_type) }
+    ensures count { IfOk result (λ s. count_of s.engine ≡ 0) }
+{
+    match schema(alloc) {
+        Ok(schema) => Session::new(alloc, schema, queries(alloc)?),
+        Err(_) => Err(Memory),
+    }
+}
+
+/// The command that the line spells.
+fn command(alloc: Global, schema: &Schema, line: &str) -> Result<Command, Memory>
+    requires { schema.now ≡ one_type }
+    ensures { IfOk result (HasEventOf one_type) }
+{
+    let text = line.as_bytes();
+    if text.contains(&b'\n') {
+        return Err(Memory);
+    }
+    match read_command(alloc, schema, text) {
+        Ok(command) => Ok(command),
+        Err(_) => Err(Memory),
+    }
+}
+
+fn play_line<K: Sink, L: Ledger>(
+    alloc: Global,
+    schema: &Schema,
+    session: &mut Session,
+    line: &str,
+    out: &mut K,
+    steps: &mut Steps<L>,
+) -> Result<(), RunFault>
+    requires schema { schema.now ≡ one_type }
+    requires same { session.old.engine.schema ≡ one_type }
+    requires room { count_of session.old.engine + 1 < 2 ^ 64 }
+    ensures same { session.new.engine.schema ≡ one_type }
+    ensures count { count_of session.new.engine ≤ count_of session.old.engine + 1 }
+{
+    if session.is_closed() {
+        return Err(RunFault::Memory);
+    }
+    match command(alloc, schema, line) {
+        Ok(command) => session.run(command, out, steps),
+        Err(_) => Err(RunFault::Memory),
+    }
+}
+
+/// Plays up to a thousand lines.
+fn play_lines<K: Sink, L: Ledger>(
+    alloc: Global,
+    schema: &Schema,
+    session: &mut Session,
+    script: &str,
+    out: &mut K,
+    steps: &mut Steps<L>,
+) -> Result<(), RunFault>
+    requires schema { schema.now ≡ one_type }
+    requires same { session.old.engine.schema ≡ one_type }
+    requires fresh { count_of session.old.engine ≡ 0 }
+{
+    let mut left = 1000u64;
+    for line in script.split(';') {
+        if left == 0 {
+            return Err(RunFault::Memory);
+        }
+        left -= 1;
+        match play_line(alloc, schema, session, line, out, steps) {
+            Ok(()) => {}
+            Err(fault) => return Err(fault),
+        }
+    }
+    Ok(())
+}
+
+fn play_over<K: Sink, L: Ledger>(
+    alloc: Global,
+    schema: &Schema,
+    script: &str,
+    out: &mut K,
+    steps: &mut Steps<L>,
+) -> Result<(), RunFault>
+    requires { schema.now ≡ one_type }
+{
+    match session(alloc) {
+        Ok(session) => {
+            let mut session = session;
+            play_lines(alloc, schema, &mut session, script, out, steps)
+        }
+        Err(_) => Err(RunFault::Memory),
+    }
+}
+
+/// Plays the lines of the script, which `;` parts.
+fn play<K: Sink, L: Ledger>(
+    alloc: Global,
+    script: String,
+    out: &mut K,
+    blank: Blank,
+) -> Result<(), RunFault>
+    requires name { blank.name ≡ L.name }
+    requires parts { blank.parts ≡ L.parts }
+    requires some { 0 < blank.parts }
+{
+    let mut steps = Steps::<L>::start(blank);
+    match schema(alloc) {
+        Ok(schema) => play_over(alloc, &schema, script.as_str(), out, &mut steps),
+        Err(_) => Err(RunFault::Memory),
+    }
+}
+
+fn play_into(alloc: Global, script: &str, out: &mut MemSink) -> Result<(), RunFault> {
+    match script.to_string(alloc) {
+        Ok(script) => play::<MemSink, Brand>(alloc, script, out, Blank::new(1)),
+        Err(_) => Err(RunFault::Memory),
+    }
+}
+
+/// A sink with ample room, of which the call with the number fails.
+fn sink(alloc: Global, fails: u64) -> Result<MemSink, Memory> {
+    let mut list = Vec::new(alloc);
+    list.push(fails)?;
+    MemSink::new(alloc, 4096, 4096, list)
+}
+
+const ONE_CURSOR: &str = "event A;open 1 1;event A;compact;pull 1 5;pull 1 1;drop 1";
+
+const OF_ONE_CURSOR: &str = "at 0\nat 1\n1 [0,0] {0}\nend\nend\n";
+
+#[test]
+fn a_cursor_keeps_its_position(rt: HostRuntime) -> Result<(), Fail> {
+    let mut out = sink(rt.alloc(), 100)?;
+    let played = play_into(rt.alloc(), ONE_CURSOR, &mut out);
+    assert!(rt; played.is_ok(), "not played");
+    assert_eq!(rt; out.as_slice(), OF_ONE_CURSOR.as_bytes());
+    Ok(())
+}
+
+const MANY_CURSORS: &str =
+    "event A;open 1 1;open 1 2;open 1 3;open 1 4;open 1 5;open 1 6;open 1 7;open 1 8;open 1 9;\
+open 1 10;open 1 11;open 1 12;open 1 13;open 1 14;open 1 15;open 1 16;open 1 17;open 1 18;\
+open 1 19;open 1 20;open 1 21;open 1 22;open 1 23;open 1 24;open 1 25;open 1 26;open 1 27;\
+open 1 28;open 1 29;open 1 30;open 1 31;open 1 32;open 1 33;open 1 34;open 1 35;open 1 36;\
+open 1 37;open 1 38;open 1 39;open 1 40;open 1 41;open 1 42;open 1 43;open 1 44;open 1 45;\
+open 1 46;open 1 47;open 1 48;open 1 49;open 1 50;open 1 51;open 1 52;open 1 53;open 1 54;\
+open 1 55;open 1 56;open 1 57;open 1 58;open 1 59;open 1 60;open 1 61;open 1 62;open 1 63;\
+open 1 64;pull 1 1;pull 64 1";
+
+#[test]
+fn sixty_four_cursors_are_open(rt: HostRuntime) -> Result<(), Fail> {
+    let mut out = sink(rt.alloc(), 100)?;
+    let played = play_into(rt.alloc(), MANY_CURSORS, &mut out);
+    assert!(rt; played.is_ok(), "not played");
+    assert_eq!(rt;
+        out.as_slice(),
+        b"at 0\n1 [0,0] {0}\nend\n1 [0,0] {0}\nend\n".as_slice()
+    );
+    Ok(())
+}
+
+const SOME_ANSWERS: &str = "event A;event A;event A;open 2 7;pull 7 1;event A;compact;pull 7 10";
+
+fn has(text: &[u8], part: &[u8]) -> bool {
+    for k in 0..text.len() {
+        if text[k..].starts_with(part) {
+            return true;
+        }
+    }
+    false
+}
+
+fn line_count(text: &[u8]) -> usize {
+    text.iter().filter(|byte| **byte == b'\n').count()
+}
+
+/// Whether the four answers of `A+` at position 2 stand there, one of them before the fourth event.
+fn has_some_answers(text: &[u8]) -> bool {
+    line_count(text) == 10
+        && text.starts_with(b"at 0\nat 1\nat 2\n2 [")
+        && has(text, b"\n2 [0,2] {0,1,2}\n")
+        && has(text, b"\n2 [0,2] {0,2}\n")
+        && has(text, b"\n2 [1,2] {1,2}\n")
+        && has(text, b"\n2 [2,2] {2}\n")
+        && has(text, b"}\nmore\nat 3\n2 [")
+        && text.ends_with(b"}\nend\n")
+}
+
+#[test]
+fn a_cursor_goes_on_after_an_event(rt: HostRuntime) -> Result<(), Fail> {
+    let mut out = sink(rt.alloc(), 100)?;
+    let played = play_into(rt.alloc(), SOME_ANSWERS, &mut out);
+    assert!(rt; played.is_ok(), "not played");
+    assert!(rt; has_some_answers(out.as_slice()), "other answers");
+    Ok(())
+}
+
+#[test]
+fn a_failed_write_ends_the_script(rt: HostRuntime) -> Result<(), Fail> {
+    let mut out = sink(rt.alloc(), 2)?;
+    let played = play_into(rt.alloc(), ONE_CURSOR, &mut out);
+    assert!(rt; matches!(played, Err(RunFault::WriteFault)), "no fault");
+    assert_eq!(rt; out.as_slice(), b"at 0\n".as_slice());
+    Ok(())
+}
+
+fn refusal_words(alloc: Global, refusal: Refusal) -> Result<String, AllocError> {
+    match refusal {
+        Refusal::TimeBack { query, .. } => format!(in alloc; "time falls in query {query}"),
+        Refusal::NoQuery { query } => format!(in alloc; "no query {query}"),
+        Refusal::NoEventYet => "no event yet".to_string(alloc),
+        Refusal::CursorOpen { cursor } => format!(in alloc; "cursor {cursor} is open"),
+        Refusal::CursorNotOpen { cursor } => format!(in alloc; "cursor {cursor} is not open"),
+    }
+}
+
+fn end_words(alloc: Global, played: Result<(), RunFault>) -> Result<String, AllocError> {
+    match played {
+        Ok(()) => "played".to_string(alloc),
+        Err(RunFault::Refused(refusal)) => refusal_words(alloc, refusal),
+        Err(RunFault::WriteFault) => "write fault".to_string(alloc),
+        Err(RunFault::Memory) => "memory".to_string(alloc),
+    }
+}
+
+/// How the script ends.
+fn end_of(alloc: Global, script: &str) -> Result<String, AllocError> {
+    match sink(alloc, 100) {
+        Ok(sink) => {
+            let mut out = sink;
+            end_words(alloc, play_into(alloc, script, &mut out))
+        }
+        Err(_) => "no sink".to_string(alloc),
+    }
+}
+
+/// The first script of the table that ends otherwise than what stands behind it.
+fn first_wrong(alloc: Global, table: &str) -> Result<String, AllocError> {
+    for entry in table.split('\n') {
+        let Some((script, wanted)) = entry.split_once('|') else {
+            return entry.to_string(alloc);
+        };
+        let words = end_of(alloc, script)?;
+        if words.as_str() != wanted {
+            return format!(in alloc; "{script}: {}", words.as_str());
+        }
+    }
+    Ok(String::new(alloc))
+}
+
+const ENDS: &str = "open 3 1|no query 3\n\
+open 0 1|no query 0\n\
+open 2 1|no event yet\n\
+event A;open 2 1|played\n\
+event A;open 1 1;open 2 1|cursor 1 is open\n\
+event A;open 1 1;open 3 1|no query 3\n\
+pull 1 1|cursor 1 is not open\n\
+drop 1|cursor 1 is not open\n\
+event A;open 1 1;drop 2|cursor 2 is not open\n\
+event A;open 1 1;drop 1;pull 1 1|cursor 1 is not open\n\
+event A;open 1 1;drop 1;open 2 1;pull 1 1|played\n\
+compact|played";
+
+#[test]
+fn scripts_end_at_what_is_refused(rt: HostRuntime) -> Result<(), Fail> {
+    let alloc = rt.alloc();
+    let wrong = first_wrong(alloc, ENDS)?;
+    assert_eq!(rt; wrong.as_str(), "");
+    Ok(())
+}

@@ -10,7 +10,8 @@
 
 #[cfg(test)]
 mod formulas;
-pub mod making;
+#[cfg(test)]
+mod making;
 #[cfg(test)]
 mod runs;
 #[cfg(test)]

@@ -25,4 +25,3 @@ mod values;
 pub use faults::{QueryError, QueryFault};
 pub use parsing::parse;
 pub use terms::{AttrDecl, AttrDecls, KindDecl, NumberAt, Script, Select, Statement, Statements};
-

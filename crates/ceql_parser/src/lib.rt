@@ -31,4 +31,3 @@ pub use ceql_grammar::{
 };
 pub use checking::{Accepted, check, check_statements};
 pub use query_texts::read_queries;
-

@@ -3,8 +3,7 @@
 //! this crate. It stands on `arena_compact`, `tecs_rows` and `tecs_arena`.
 #![tactic(auto)]
 
+#[cfg(test)]
 mod rows;
 #[cfg(test)]
 mod tests;
-
-pub use rows::{Outcome, with_a_held_cursor, with_none_held};

@@ -1,4 +1,4 @@
-use super::{with_a_held_cursor, with_none_held};
+use super::rows::{with_a_held_cursor, with_none_held};
 use cer_base::Memory;
 use std::marker::Brand;
 use std::sync::ledger::Blank;

@@ -5,7 +5,9 @@
 //! chance with `rand_pcg`.
 #![tactic(auto)]
 
-pub mod held;
-pub mod rows;
+#[cfg(test)]
+mod held;
+#[cfg(test)]
+mod rows;
 #[cfg(test)]
 mod tests;

@@ -1,99 +1,29 @@
 //! The query `A+`, and the same with ANY 2, over three events.
 
-ghost use Rattle.std.specs.Prelude.{◌≡◌, ◌+◌, ◌^◌, ◌<◌, ◌≤◌, [], ◌∷◌, map, All, codes, IfOk, OnOk, IfSome};
-ghost use Rattle.cel_terms.specs.Checked.{IsChecked, IsCheckedFormula, IsStreamName, leaf_count};
+ghost use Rattle.std.specs.Prelude.{◌≡◌, ◌+◌, ◌^◌, ◌<◌, IfOk, OnOk};
 ghost use Rattle.query_engine.specs.Engine.{count_of};
-ghost use Rattle.stream_rows.specs.Rows.{one_type};
 
-use answer_blocks::*;
-use cel_terms::{Formula, Name, Names, Postfix, Query, Window};
+use answer_blocks::{push_blocks, write_blocks};
+use ceql_parser::read_queries;
 use cer_base::steps::Steps;
-use cer_base::{Listed, Memory, OrMemory, Place, Text};
+use cer_base::{Memory, OrMemory};
 use cer_outside::sinks::MemSink;
 use cer_outside::{Sink, WriteFault};
-use query_engine::{Engine, Queries};
+use event_reader::read_event;
+use query_engine::Engine;
 use std::alloc::Global;
 use std::marker::Brand;
 use std::sync::ledger::{Blank, Ledger};
 use std::test::Fail;
-use stream_schema::{Event, Schema, SchemaFault};
 
-const HERE: Place = Place { line: 1, col: 1 };
-
-/// `DECLARE EVENT A()` and `DECLARE STREAM S(A)`.
-fn schema(alloc: Global) -> Result<Schema, OrMemory<SchemaFault>>
-    ensures { IfOk result (λ s. s ≡ one_type) }
-{
-    let mut schema = Schema::new(alloc);
-    schema.declare_event("A", &Listed::of(Vec::new(alloc)))?;
-    let mut types = Vec::new(alloc);
-    types.push(Text::copy_of(alloc, "A")?)?;
-    schema.declare_stream("S", &Listed::of(types))?;
-    Ok(schema)
-}
-
-fn name(alloc: Global, text: &str) -> Result<Name, Memory>
-    ensures { IfOk result (λ n. n.text ≡ text.now) }
-{
-    Ok(Name {
-        text: Text::copy_of(alloc, text)?,
-        place: HERE,
-    })
-}
-
-/// S
-fn streams(alloc: Global) -> Result<Names, Memory>
-    ensures texts { IfOk result (λ ns. map (λ n. n.text) ns ≡ codes "S" ∷ []) }
-    ensures known { IfOk result (All (λ n. IsStreamName one_type.streams n.text)) }
-{
-    let mut list = Vec::new(alloc);
-    list.push(name(alloc, "S")?)?;
-    Ok(Listed::of(list))
-}
-
-/// A+
-fn formula(alloc: Global) -> Result<Formula, Memory>
-    ensures checked { IfOk result (IsCheckedFormula one_type.types) }
-    ensures leaves { IfOk result (λ f. leaf_count f ≡ 1) }
-{
-    let base = Formula::Of(name(alloc, "A")?);
-    let mut postfixes = Vec::new(alloc);
-    postfixes.push(Postfix::Plus)?;
-    Ok(Formula::Post(Box::new(alloc, base)?, postfixes))
-}
-
-/// `SELECT * FROM S WHERE A+`, or with ANY so many.
-fn query(alloc: Global, any: Option<u64>) -> Result<Query, Memory>
-    requires few { IfSome any (λ n. (1 ≤ n) × (n ≤ 4294967295)) }
-    ensures { IfOk result (IsChecked one_type) }
-{
-    Ok(Query {
-        select: None,
-        strict: false,
-        any,
-        streams: streams(alloc)?,
-        formula: formula(alloc)?,
-        partition: Listed::of(Vec::new(alloc)),
-        window: Window::Free,
-        place: HERE,
-    })
-}
-
-fn queries(alloc: Global) -> Result<Queries, Memory>
-    ensures { IfOk result (All (IsChecked one_type)) }
-{
-    let mut list = Vec::new(alloc);
-    list.push(query(alloc, None)?)?;
-    list.push(query(alloc, Some(2))?)?;
-    Ok(Listed::of(list))
-}
+const QUERIES: &str = "DECLARE EVENT A()\nDECLARE STREAM S(A)\n\
+SELECT * FROM S WHERE A+\nSELECT ANY 2 * FROM S WHERE A+\n";
 
 fn engine(alloc: Global) -> Result<Engine, Memory>
-    ensures schema { IfOk result (λ e. e.schema ≡ one_type) }
-    ensures count { IfOk result (λ e. count_of e ≡ 0) }
+    ensures { IfOk result (λ e. count_of e ≡ 0) }
 {
-    match schema(alloc) {
-        Ok(schema) => Engine::new(alloc, schema, queries(alloc)?),
+    match read_queries(alloc, QUERIES.as_bytes()) {
+        Ok(accepted) => Engine::new(alloc, accepted.schema, accepted.queries),
         Err(_) => Err(Memory),
     }
 }
@@ -104,14 +34,11 @@ fn see_one<L: Ledger>(
     engine: &mut Engine,
     steps: &mut Steps<L>,
 ) -> Result<(), Memory>
-    requires schema { engine.old.schema ≡ one_type }
     requires room { count_of engine.old + 1 < 2 ^ 64 }
-    ensures schema { engine.new.schema ≡ one_type }
-    ensures count { OnOk result (count_of engine.new ≡ count_of engine.old + 1) }
+    ensures { OnOk result (count_of engine.new ≡ count_of engine.old + 1) }
 {
-    let event = Event {
-        ty: 0,
-        values: Listed::of(Vec::new(alloc)),
+    let Ok(Some(event)) = read_event(alloc, engine.schema(), b"A".as_slice()) else {
+        return Err(Memory);
     };
     match engine.see(&event, steps) {
         Ok(_) => Ok(()),
@@ -125,8 +52,7 @@ fn push_three<L: Ledger>(
     text: &mut Vec<u8>,
     steps: &mut Steps<L>,
 ) -> Result<(), Memory>
-    requires schema { engine.old.schema ≡ one_type }
-    requires fresh { count_of engine.old ≡ 0 }
+    requires { count_of engine.old ≡ 0 }
 {
     for _k in 0..3u64 {
         see_one(alloc, engine, steps)?;
@@ -154,8 +80,7 @@ fn write_three<K: Sink, L: Ledger>(
     out: &mut K,
     steps: &mut Steps<L>,
 ) -> Result<(), OrMemory<WriteFault>>
-    requires schema { engine.old.schema ≡ one_type }
-    requires fresh { count_of engine.old ≡ 0 }
+    requires { count_of engine.old ≡ 0 }
 {
     let mut buffer = Vec::new(alloc);
     for _k in 0..3u64 {

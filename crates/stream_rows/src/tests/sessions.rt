@@ -1,146 +1,46 @@
 //! Scripts, played by a session over the queries `A` and `A+`.
 
-ghost use Rattle.std.specs.Prelude.{◌≡◌, ◌+◌, ◌^◌, ◌<◌, ◌≤◌, [], ◌∷◌, map, All, codes, IfOk, OnOk};
-ghost use Rattle.cel_terms.specs.Checked.{IsChecked, IsCheckedFormula, IsStreamName, leaf_count};
+ghost use Rattle.std.specs.Prelude.{◌≡◌, ◌+◌, ◌^◌, ◌<◌, ◌≤◌, IfOk};
 ghost use Rattle.query_engine.specs.Engine.{count_of};
-ghost use Rattle.stream_rows.specs.Rows.{one_type};
-ghost use Rattle.cursor_session.specs.Commands.{HasEventOf};
 
-use cel_terms::{Formula, Name, Names, Postfix, Query, Window};
+use ceql_parser::read_queries;
+use cer_base::Memory;
 use cer_base::steps::Steps;
-use cer_base::{Listed, Memory, OrMemory, Place, Text};
 use cer_outside::Sink;
 use cer_outside::sinks::MemSink;
-use cursor_session::{Command, Refusal, RunFault, Session, read_command};
-use query_engine::Queries;
+use cursor_session::{Refusal, RunFault, Session, read_command};
 use std::alloc::{AllocError, Global};
 use std::marker::Brand;
 use std::sync::ledger::{Blank, Ledger};
 use std::test::Fail;
-use stream_schema::{Schema, SchemaFault};
 
-const HERE: Place = Place { line: 1, col: 1 };
-
-/// `DECLARE EVENT A()` and `DECLARE STREAM S(A)`.
-fn schema(alloc: Global) -> Result<Schema, OrMemory<SchemaFault>>
-    ensures { IfOk result (λ s. s ≡ one_type) }
-{
-    let mut schema = Schema::new(alloc);
-    schema.declare_event("A", &Listed::of(Vec::new(alloc)))?;
-    let mut types = Vec::new(alloc);
-    types.push(Text::copy_of(alloc, "A")?)?;
-    schema.declare_stream("S", &Listed::of(types))?;
-    Ok(schema)
-}
-
-fn name(alloc: Global, text: &str) -> Result<Name, Memory>
-    ensures { IfOk result (λ n. n.text ≡ text.now) }
-{
-    Ok(Name {
-        text: Text::copy_of(alloc, text)?,
-        place: HERE,
-    })
-}
-
-/// S
-fn streams(alloc: Global) -> Result<Names, Memory>
-    ensures texts { IfOk result (λ ns. map (λ n. n.text) ns ≡ codes "S" ∷ []) }
-    ensures known { IfOk result (All (λ n. IsStreamName one_type.streams n.text)) }
-{
-    let mut list = Vec::new(alloc);
-    list.push(name(alloc, "S")?)?;
-    Ok(Listed::of(list))
-}
-
-/// A
-fn one(alloc: Global) -> Result<Formula, Memory>
-    ensures checked { IfOk result (IsCheckedFormula one_type.types) }
-    ensures leaves { IfOk result (λ f. leaf_count f ≡ 1) }
-{
-    Ok(Formula::Of(name(alloc, "A")?))
-}
-
-/// A+
-fn some(alloc: Global) -> Result<Formula, Memory>
-    ensures checked { IfOk result (IsCheckedFormula one_type.types) }
-    ensures leaves { IfOk result (λ f. leaf_count f ≡ 1) }
-{
-    let base = Formula::Of(name(alloc, "A")?);
-    let mut postfixes = Vec::new(alloc);
-    postfixes.push(Postfix::Plus)?;
-    Ok(Formula::Post(Box::new(alloc, base)?, postfixes))
-}
-
-/// `SELECT * FROM S WHERE` the formula.
-fn query(alloc: Global, formula: Formula) -> Result<Query, Memory>
-    requires checked { IsCheckedFormula one_type.types formula }
-    requires leaves { leaf_count formula ≡ 1 }
-    ensures { IfOk result (IsChecked one_type) }
-{
-    Ok(Query {
-        select: None,
-        strict: false,
-        any: None,
-        streams: streams(alloc)?,
-        formula,
-        partition: Listed::of(Vec::new(alloc)),
-        window: Window::Free,
-        place: HERE,
-    })
-}
-
-fn queries(alloc: Global) -> Result<Queries, Memory>
-    ensures { IfOk result (All (IsChecked one_type)) }
-{
-    let mut list = Vec::new(alloc);
-    list.push(query(alloc, one(alloc)?)?)?;
-    list.push(query(alloc, some(alloc)?)?)?;
-    Ok(Listed::of(list))
-}
+const QUERIES: &str = "DECLARE EVENT A()\nDECLARE STREAM S(A)\n\
+SELECT * FROM S WHERE A\nSELECT * FROM S WHERE A+\n";
 
 fn session(alloc: Global) -> Result<Session, Memory>
-    ensures schema { IfOk result (λ s. s.engine.schema ≡ one_type) }
-    ensures count { IfOk result (λ s. count_of s.engine ≡ 0) }
+    ensures { IfOk result (λ s. count_of s.engine ≡ 0) }
 {
-    match schema(alloc) {
-        Ok(schema) => Session::new(alloc, schema, queries(alloc)?),
-        Err(_) => Err(Memory),
-    }
-}
-
-/// The command that the line spells.
-fn command(alloc: Global, schema: &Schema, line: &str) -> Result<Command, Memory>
-    requires { schema.now ≡ one_type }
-    ensures { IfOk result (HasEventOf one_type) }
-{
-    let text = line.as_bytes();
-    if text.contains(&b'\n') {
-        return Err(Memory);
-    }
-    match read_command(alloc, schema, text) {
-        Ok(command) => Ok(command),
+    match read_queries(alloc, QUERIES.as_bytes()) {
+        Ok(accepted) => Session::new(alloc, accepted.schema, accepted.queries),
         Err(_) => Err(Memory),
     }
 }
 
 fn play_line<K: Sink, L: Ledger>(
     alloc: Global,
-    schema: &Schema,
     session: &mut Session,
     line: &str,
     out: &mut K,
     steps: &mut Steps<L>,
 ) -> Result<(), RunFault>
-    requires schema { schema.now ≡ one_type }
-    requires same { session.old.engine.schema ≡ one_type }
     requires room { count_of session.old.engine + 1 < 2 ^ 64 }
-    ensures same { session.new.engine.schema ≡ one_type }
-    ensures count { count_of session.new.engine ≤ count_of session.old.engine + 1 }
+    ensures { count_of session.new.engine ≤ count_of session.old.engine + 1 }
 {
-    if session.is_closed() {
+    let text = line.as_bytes();
+    if session.is_closed() || text.contains(&b'\n') {
         return Err(RunFault::Memory);
     }
-    match command(alloc, schema, line) {
+    match read_command(alloc, session.schema(), text) {
         Ok(command) => session.run(command, out, steps),
         Err(_) => Err(RunFault::Memory),
     }
@@ -149,15 +49,12 @@ fn play_line<K: Sink, L: Ledger>(
 /// Plays up to a thousand lines.
 fn play_lines<K: Sink, L: Ledger>(
     alloc: Global,
-    schema: &Schema,
     session: &mut Session,
     script: &str,
     out: &mut K,
     steps: &mut Steps<L>,
 ) -> Result<(), RunFault>
-    requires schema { schema.now ≡ one_type }
-    requires same { session.old.engine.schema ≡ one_type }
-    requires fresh { count_of session.old.engine ≡ 0 }
+    requires { count_of session.old.engine ≡ 0 }
 {
     let mut left = 1000u64;
     for line in script.split(';') {
@@ -165,30 +62,12 @@ fn play_lines<K: Sink, L: Ledger>(
             return Err(RunFault::Memory);
         }
         left -= 1;
-        match play_line(alloc, schema, session, line, out, steps) {
+        match play_line(alloc, session, line, out, steps) {
             Ok(()) => {}
             Err(fault) => return Err(fault),
         }
     }
     Ok(())
-}
-
-fn play_over<K: Sink, L: Ledger>(
-    alloc: Global,
-    schema: &Schema,
-    script: &str,
-    out: &mut K,
-    steps: &mut Steps<L>,
-) -> Result<(), RunFault>
-    requires { schema.now ≡ one_type }
-{
-    match session(alloc) {
-        Ok(session) => {
-            let mut session = session;
-            play_lines(alloc, schema, &mut session, script, out, steps)
-        }
-        Err(_) => Err(RunFault::Memory),
-    }
 }
 
 /// Plays the lines of the script, which `;` parts.
@@ -203,8 +82,8 @@ fn play<K: Sink, L: Ledger>(
     requires some { 0 < blank.parts }
 {
     let mut steps = Steps::<L>::start(blank);
-    match schema(alloc) {
-        Ok(schema) => play_over(alloc, &schema, script.as_str(), out, &mut steps),
+    match session(alloc) {
+        Ok(mut session) => play_lines(alloc, &mut session, script.as_str(), out, &mut steps),
         Err(_) => Err(RunFault::Memory),
     }
 }

@@ -28,7 +28,7 @@ use Rattle.checkpoint_text.proofs.WordLines.{position_told, told_position, count
 abbrev between : ℕ → ℕ → ℕ → List EventAt → Told
 between positions count least events = record { stand = record { awaited = Position; positions = positions; count = count; least = least }; events = events }
 
--- what the lines behind tell: these events
+-- what the lines after tell: these events
 record Tells (schema : Declared) (queries : List Query) (positions count least : ℕ) (before : List EventAt) (texts : List (List ℕ)) (events : List EventAt) : Type 0 where
   lines : AreEventLines schema events texts
   ascending : AreAscendingFrom least events
@@ -61,7 +61,7 @@ none_found schema queries n positions count least before end e whole =
       history = ap history_of (sym same) ∙ ap (λ es. record { positions = positions; events = es }) (sym (append-nil before));
     }
 
--- the line of the event at a position, and the lines behind
+-- the line of the event at a position, and the lines after
 event_found : (schema : Declared) (queries : List Query) (n positions count least p : ℕ) (before : List EventAt) (first second : List ℕ) (rest : List (List ℕ)) (end : Told) → first ≡ position_text p → least ≤ p → p < positions →
     (r : Result (Option Event) EventFault) → event_of_line schema second ≡ r →
     and_then (at_line n (with_event schema queries (record { stand = record { awaited = EventOf p; positions = positions; count = count; least = p + 1 }; events = before }) p r)) (λ next. told_on schema queries (n + 1) next rest) ≡ Ok end →
@@ -95,7 +95,7 @@ event_found schema queries n positions count least p before first second rest en
     by_fall true falls f = absurd cc
     by_fall false level f = with_rest level (onward (before ++ here ∷ []) f)
 
--- the line of a position alone, behind which a line is missing
+-- the line of a position alone, after which a line is missing
 one_found : (schema : Declared) (queries : List Query) (n positions count least : ℕ) (before : List EventAt) (first : List ℕ) (end : Told) (t : Bool) (o : Option ℕ) →
     and_then (at_line n (standing (between positions count least before) (cond t (Err fault.Extra) (placed (between positions count least before).stand o)))) (λ next. told_on schema queries (n + 1) next []) ≡ Ok end → is_whole end end.stand.awaited ≡ true →
     Found schema queries positions count least before (first ∷ []) end
@@ -114,7 +114,7 @@ one_found schema queries n positions count least before first end false (Some p)
         let clash : false ≡ true = ap (λ t. is_whole t t.stand.awaited) same ∙ whole in
         absurd cc
 
--- the two lines of an event, and the lines behind
+-- the two lines of an event, and the lines after
 two_found : (schema : Declared) (queries : List Query) (n positions count least : ℕ) (before : List EventAt) (first second : List ℕ) (rest : List (List ℕ)) (end : Told) (t : Bool) (o : Option ℕ) → position_of first ≡ o →
     and_then (at_line n (standing (between positions count least before) (cond t (Err fault.Extra) (placed (between positions count least before).stand o)))) (λ next. told_on schema queries (n + 1) next (second ∷ rest)) ≡ Ok end →
     ((p : ℕ) (later : List EventAt) → told_on schema queries (n + 1 + 1) (between positions count (p + 1) later) rest ≡ Ok end → Found schema queries positions count (p + 1) later rest end) →
@@ -142,7 +142,7 @@ lines_found schema queries n positions count least before (first ∷ second ∷ 
     two_found schema queries n positions count least before first second rest end (length before == count) (position_of first) refl e
     (λ p later f. lines_found schema queries (n + 1 + 1) positions count (p + 1) later rest end f whole)
 
--- the first two lines, and the lines behind
+-- the first two lines, and the lines after
 head_spelled : (schema : Declared) (queries : List Query) (first second : List ℕ) (rest : List (List ℕ)) (end : Told) (t : Bool) (o : Option (ℕ × ℕ)) → bytes_eq first (codes "core checkpoint 1") ≡ t → counts_of second ≡ o →
     and_then (at_line 1 (standing nothing (cond t (Ok (record start { awaited = Counts })) (Err fault.BadHeader))))
     (λ next. and_then (at_line 2 (standing next (counted next.stand o))) (λ next. told_on schema queries 3 next rest)) ≡ Ok end → is_whole end end.stand.awaited ≡ true →

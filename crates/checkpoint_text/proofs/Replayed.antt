@@ -36,7 +36,7 @@ use Rattle.checkpoint_text.proofs.Restarting.{from_zero, get_left, get_right, al
 -- STREAMS THAT GROW
 
 module _ (schema : Declared) where
-  -- a stream up to a position behind the last event ends in blank ones
+  -- a stream up to a position after the last event ends in blank ones
   ends_blank : (from to : ℕ) (es : List EventAt) (stream : List Event) → AreEventsFrom schema from to es stream →
       (events : List Event) × (blanks : List Event) × (stream ≡ events ++ blanks) × AreEventsFrom schema from (reached from es) es events × AreBlanks schema (reached from es) to blanks
   ends_blank from to [] stream are = ([], stream, refl, record { blank = (λ k d inside. absurd (omega arith)); count = omega arith }, are)
@@ -203,7 +203,7 @@ blanks_to schema from now old position blanks is ahead are = subst (λ n. AreBla
 met_too : (old new : State) (events : List Event) (most : ℕ → ℕ) → SameQueries old new → MeetMost old.schema old.queries events most → MeetMost new.schema new.queries events most
 met_too old new events most same meet = subst (λ s. MeetMost s new.queries events most) (sym same.0) (subst (λ qs. MeetMost old.schema qs events most) (sym same.1) meet)
 
--- the steps of an event that is taken behind blank ones
+-- the steps of an event that is taken after blank ones
 pub event_pays : (old mid new : State) (events : List Event) (most : ℕ → ℕ) (before after : ℕ) → SameQueries old mid → SameQueries mid new → StandsFor new events → MeetMost old.schema old.queries events most → after ≤ before + update_bounds new → after ≤ before + event_bound (length old.queries) most
 event_pays old mid new events most before after first second stands meet paid =
     let bounded = event_is_bounded new events most stands (met_too mid new events most second (met_too old mid events most first meet)) in
@@ -274,7 +274,7 @@ module _ (schema : Declared) (queries : List Query) (history : History) (well : 
   none_measured engine now = record { peaks = λ stream are k q at. inl (omega arith); steps = λ stream most are meet. omega arith }
 
   module _ (k : ℕ) (e : EventAt) (at : slice_get history.events k ≡ Some e) (engine : State) (r : Reached schema queries history.events k engine) where
-    -- the next event comes behind, and in time
+    -- the next event comes after, and in time
     pub next_ahead : count_of engine ≤ e.position
     next_ahead = let before = reached_before 0 history.events k e is.placed.ascending at in let c = r.count in omega (arith, before, c)
 

@@ -46,7 +46,7 @@ pub get_right : {A : Type 0} (xs ys : List A) (k : ℕ) → slice_get (xs ++ ys)
 get_right [] ys k = ap (slice_get ys) (from_zero k)
 get_right (x ∷ xs) ys k = let more : suc (length xs) + k ≡ suc (length xs + k) = omega arith in ap (slice_get (x ∷ (xs ++ ys))) more ∙ get_right xs ys k
 
--- behind lists that are as long as each other the same stands
+-- after lists that are as long as each other the same stands
 get_behind : {A : Type 0} (xs zs ys : List A) (k : ℕ) → length xs ≡ length zs → length xs ≤ k → slice_get (xs ++ ys) k ≡ slice_get (zs ++ ys) k
 get_behind xs zs ys k same past =
     let at : k ≡ length xs + (k - length xs) = omega arith in
@@ -272,7 +272,7 @@ module _ (schema : Declared) (queries : List Query) (came : List (Event × List 
         inr (there.1, ap (slice_get came) (sym place) ∙ there.3, sym there.4 ∙ h.event_is)
   ]
 
-  -- A window that reaches from a position to one behind all that came needs each event between that the query reads.
+  -- A window that reaches from a position to one after all that came needs each event between that the query reads.
   module _ (start end : ℕ) (from to : ℤ) (begins : HasClockAt schema q whole start from) (ends : HasClockAt schema q whole end to) (width : WithinWidth q.window from to) (behind : length came ≤ end) where
     needed_between : (p : ℕ) (x : Event × List ℕ) → start ≤ p → slice_get came p ≡ Some x → Reads schema q x.0 → test (line_at p x) ≡ true
     needed_between p x low at reads =

@@ -25,7 +25,7 @@ abbrev pub is_back : Option ℤ → Option ℤ → Bool
 is_back (Some before) (Some now) = int_lt now before
 is_back _ _ = false
 
--- the query's clock falls with the event behind the others
+-- the query's clock falls with the event after the others
 abbrev pub falls_with : Declared → List EventAt → EventAt → Query → Bool
 falls_with schema events e q = is_back (last_clock schema q events) (clock_at schema q e)
 
@@ -33,7 +33,7 @@ falls_with schema events e q = is_back (last_clock schema q events) (clock_at sc
 abbrev pub some_falls : Declared → List Query → List EventAt → EventAt → Bool
 some_falls schema queries events e = list_any (falls_with schema events e) queries
 
--- With none of the events does the clock of a query fall, behind these and those between.
+-- With none of the events does the clock of a query fall, after these and those between.
 abbrev pub NoneFallsBehind : Declared → List Query → List EventAt → List EventAt → Type 0
 NoneFallsBehind schema queries before [] = Unit {0}
 NoneFallsBehind schema queries before (e ∷ events) =

@@ -13,7 +13,7 @@ use Rattle.query_engine.specs.Clocks.{NeverFalls}
 use Rattle.checkpoint_text.specs.KeepLaws.{lines_of, kept_lines, told_stream}
 use Rattle.checkpoint_text.specs.Streams.{IsStreamOf, stream_of}
 
--- The output of the first events, and behind it that of the positions after them, where these events stand before that some window still needs.
+-- The output of the first events, and after it that of the positions after them, where these events stand before that some window still needs.
 pub record IsOutputInTurn (order : Order) (schema : Declared) (queries : List Query) (first kept more : List Event) (bytes : List ℕ) : Type 0 where
   pub before : List ℕ
   pub after : List ℕ
@@ -21,7 +21,7 @@ pub record IsOutputInTurn (order : Order) (schema : Declared) (queries : List Qu
   pub resumed : IsOutputFrom (length first) (length more) order schema queries (kept ++ more) after
   pub whole : bytes ≡ before ++ after
 
--- A run over all events writes what a run over the first writes, and behind it one that goes on from what is kept of them.
+-- A run over all events writes what a run over the first writes, and after it one that goes on from what is kept of them.
 abbrev pub RunsGoOn : Type 0
 RunsGoOn = (order : Order) (schema : Declared) (queries : List Query) (came : List (Event × List ℕ)) (kept more : List Event) (bytes : List ℕ) →
     IsWellDeclared schema → All (IsChecked schema) queries → All (IsOfSchema schema) (stream_of came) → All (λ q. NeverFalls schema q (stream_of came ++ more)) queries →

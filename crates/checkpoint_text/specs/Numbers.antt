@@ -17,11 +17,11 @@ number most digits = if is_numeral digits && nat_le (read_on 0 digits) most then
 abbrev pub is_blank : ℕ → Bool
 is_blank byte = byte == BLANK
 
--- what stands before the first blank and behind it, where there is one
+-- what stands before the first blank and after it, where there is one
 abbrev pub cut : List ℕ → Option (List ℕ × List ℕ)
 cut text = if nat_lt (position_or_len is_blank text) (length text) then Some (before_first is_blank text, after_first is_blank text) else None
 
--- what stands behind this word and a blank
+-- what stands after this word and a blank
 abbrev pub behind_in : List ℕ → List ℕ × List ℕ → Option (List ℕ)
 behind_in word parts = if bytes_eq parts.0 word then Some parts.1 else None
 

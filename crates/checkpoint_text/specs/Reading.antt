@@ -71,7 +71,7 @@ EndsAs wanted events (Err (Fault (Bad line fault))) = wanted ≡ Err (record { l
 EndsAs wanted events (Err (Fault ReadFault)) = ⊥
 EndsAs wanted events (Err Memory) = ⊥
 
--- why there is no history, where there is no further line behind so many
+-- why there is no history, where there is no further line after so many
 abbrev pub fault_of : ℕ → LineFault → HistoryFault
 fault_of lines line.ReadFault = ReadFault
 fault_of lines (line.LineTooLong number) = Bad number fault.LongLine

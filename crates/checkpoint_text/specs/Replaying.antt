@@ -25,7 +25,7 @@ abbrev pub reached : ℕ → List EventAt → ℕ
 reached from [] = from
 reached from (e ∷ events) = reached (e.position + 1) events
 
--- With the event at its position, behind blank ones, no clock falls.
+-- With the event at its position, after blank ones, no clock falls.
 pub record IsInTime (engine : State) (at : EventAt) : Type 0 where
   pub events : List Event
   pub blanks : List Event

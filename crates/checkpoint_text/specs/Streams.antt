@@ -17,7 +17,7 @@ use Rattle.checkpoint_text.specs.LastClocks.{any_back, first_back}
 use Rattle.checkpoint_text.specs.Keeping.{next_event}
 use Rattle.checkpoint_text.specs.KeepLaws.{keeping, lines_of, events_of, kept_lines, IsLineOf, told_stream}
 
--- these from one position up to another: blank ones before each event, and behind the last
+-- these from one position up to another: blank ones before each event, and after the last
 abbrev pub AreEventsFrom : Declared → ℕ → ℕ → List EventAt → List Event → Type 0
 AreEventsFrom schema from to [] events = AreBlanks schema from to events
 AreEventsFrom schema from to (e ∷ later) events = (blanks : List Event) × (rest : List Event) × (events ≡ blanks ++ e.event ∷ rest)

@@ -236,7 +236,7 @@ fn text_of(alloc: Global, positions: u64, lines: &[&KeptLine]) -> Result<Vec<u8>
     Ok(text)
 }
 
-/// Puts the lines of the events behind the text.
+/// Puts the lines of the events after the text.
 fn push_lines(text: &mut Vec<u8>, lines: &[&KeptLine]) -> Result<(), Memory>
     ensures { OnOk result (text.new.items
         ≡ text.old.items ++ flat_map line_text (map (λ line. line.now) lines.now)) }
@@ -274,7 +274,7 @@ fn without_return(text: &[u8]) -> &[u8]
     }
 }
 
-/// Puts the line of the counts behind the text.
+/// Puts the line of the counts after the text.
 fn push_counts(text: &mut Vec<u8>, positions: u64, count: u64) -> Result<(), Memory>
     ensures { OnOk result (text.new.items
         ≡ text.old.items ++ (counts_text positions count ++ feed.LINE_FEED ∷ [])) }
@@ -288,7 +288,7 @@ fn push_counts(text: &mut Vec<u8>, positions: u64, count: u64) -> Result<(), Mem
     Ok(())
 }
 
-/// Puts the two lines of an event behind the text.
+/// Puts the two lines of an event after the text.
 fn push_line(text: &mut Vec<u8>, line: &KeptLine) -> Result<(), Memory>
     ensures { OnOk result (text.new.items ≡ text.old.items ++ line_text line.now) }
 {

@@ -43,7 +43,7 @@ pub fn restarting_changes_no_answer()
     ensures { RestartingChangesNoAnswer }
 {}
 
-/// A run over all events writes what a run over the first writes, and behind it one that goes on from
+/// A run over all events writes what a run over the first writes, and after it one that goes on from
 /// what is kept of them.
 pub fn runs_go_on()
     ensures { RunsGoOn }

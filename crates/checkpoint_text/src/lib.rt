@@ -46,7 +46,7 @@ pub enum CheckpointFault {
     /// The text ends before this line, which is missing.
     #[error("missing line")]
     Short,
-    /// The line stands behind the last one.
+    /// The line stands after the last one.
     #[error("extra line")]
     Extra,
     /// This many lines and no end are in the bytes that may be read; the line is the next one.

@@ -41,7 +41,7 @@ pub fn position_of(text: &[u8]) -> Option<u64>
     number(MOST_POSITIONS, digits)
 }
 
-/// What stands behind this word and a blank.
+/// What stands after this word and a blank.
 fn behind<'t>(word: &[u8], text: &'t [u8]) -> Option<&'t [u8]>
     ensures { option_map (λ rest. rest.now) result ≡ behind word.now text.now }
 {
@@ -78,7 +78,7 @@ fn are_digits(bytes: &[u8]) -> bool
     bytes.iter().all(|byte| byte.is_ascii_digit())
 }
 
-/// What stands before the first blank and behind it, where there is one.
+/// What stands before the first blank and after it, where there is one.
 fn cut(text: &[u8]) -> Option<(&[u8], &[u8])>
     ensures { option_map (λ parts. (parts.0.now, parts.1.now)) result ≡ cut text.now }
 {

@@ -72,7 +72,7 @@ pub fn read_checkpoint<Q: Source>(
     }
 }
 
-/// Puts the events of all lines behind each other, and says how many positions there are.
+/// Puts the events of all lines one after the other, and says how many positions there are.
 fn read_on<Q: Source>(
     alloc: Global,
     schema: &Schema,
@@ -146,7 +146,7 @@ fn at_end(lines: u64, stand: &Stand, count: u64) -> Result<u64, OrMemory<History
     }
 }
 
-/// Why there is no further line behind so many.
+/// Why there is no further line after so many.
 fn fault_of(lines: u64, fault: LineFault) -> HistoryFault
     requires { lines ≤ bytes.MOST_BYTES }
     ensures { result ≡ fault_of lines fault }

@@ -195,7 +195,7 @@ fn take_event(
     }
 }
 
-/// Puts the event behind the others, if no clock falls with it.
+/// Puts the event after the others, if no clock falls with it.
 #[tactic(auto, using(crate::proofs::Falling::any_back_is, crate::proofs::Falling::next_are, crate::proofs::Falling::lasts_long))]
 fn add_event(
     alloc: Global,

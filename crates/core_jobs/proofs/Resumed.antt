@@ -1,4 +1,4 @@
--- What a checkpoint tells is one thing, and so is how the events behind it stop.
+-- What a checkpoint tells is one thing, and so is how the events after it stop.
 use Rattle.std.proofs.Common.{◌≡◌, ℕ, ◌+◌, ◌<◌, ◌≤◌, Bool, ◌||◌, ◌==◌, cond, List, [], ◌∷◌, ◌++◌, map, length, Option, Some, None, Result, Ok, Err, refl, sym, ◌∙◌, ap, ap₂, subst, fold, arith}
 use Rattle.std.specs.List.{AllByRecursion, list_any}
 use Rattle.stream_schema.specs.Types.{Declared}

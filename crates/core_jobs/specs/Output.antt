@@ -146,7 +146,7 @@ pub record OverHistory (content : List ℕ → Content) (r : ResumeWords) (Says 
   pub has_events : content r.events ≢ Missing
   pub over : (text kept : List ℕ) → content r.queries ≡ Holds text → content r.checkpoint ≡ Holds kept → SaysAfter text kept (λ schema queries history before. Says schema queries before)
 
--- All answers at the positions behind the history were written, over the events of the event file, which stop so.
+-- All answers at the positions after the history were written, over the events of the event file, which stop so.
 abbrev pub WroteAllResumed : (List ℕ → Content) → ResumeWords → Stop → Option (List ℕ) → Option (List ℕ) → Type 0
 WroteAllResumed content r stop before after =
     OverHistory content r (λ schema queries earlier. WroteAllAfter earlier (resume_asked_of r schema queries) (told_of (content r.events)) stop before after)
@@ -165,7 +165,7 @@ pub record IsGoodSoFar (content : List ℕ → Content) (r : ResumeWords) (left 
   pub good : (text kept : List ℕ) → content r.queries ≡ Holds text → content r.checkpoint ≡ Holds kept →
       (schema : Declared) × (queries : List Query) × Accepts text schema queries × AreGoodRead schema queries kept left
 
--- What the output has taken after a run that goes on from a checkpoint, by its cause: as after a run, cut to the positions behind the history; nothing after a fault of the checkpoint.
+-- What the output has taken after a run that goes on from a checkpoint, by its cause: as after a run, cut to the positions after the history; nothing after a fault of the checkpoint.
 abbrev pub WroteResumed : Cause → (List ℕ → Content) → ResumeWords → Option (List ℕ) → Option (List ℕ) → Option (List ℕ) → Type 0
 WroteResumed cause.Fine content r left before after = WroteAllResumed content r End before after
 WroteResumed (cause.Event line fault) content r left before after = WroteAllResumed content r (Event line fault) before after

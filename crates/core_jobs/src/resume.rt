@@ -181,7 +181,7 @@ fn history_of<S: Source + Drop>(
     }
 }
 
-/// Writes the answers of the engine's queries over the host's file, behind the history.
+/// Writes the answers of the engine's queries over the host's file, after the history.
 fn resume_file<H: Host, K: Sink, L: Ledger>(
     alloc: Global,
     engine: &mut Engine,
@@ -254,7 +254,7 @@ fn resume_file<H: Host, K: Sink, L: Ledger>(
     }
 }
 
-/// Writes the answers of the engine's queries over what the source has left, behind the history.
+/// Writes the answers of the engine's queries over what the source has left, after the history.
 fn resume_source<S: Source + Drop, K: Sink, L: Ledger>(
     alloc: Global,
     engine: &mut Engine,

@@ -4,7 +4,7 @@
 //! event file, each once, that of `reorder` the answers over its events in the order of their clocks,
 //! that of `explain` is why one of them is an answer, that of `session` the steps of a machine by the
 //! commands of its script, that of `save` a checkpoint of its events, and that of `resume` the answers
-//! of the checkpoint's events and then those of its event file, behind the former; any other status
+//! of the checkpoint's events and then those of its event file, after the former; any other status
 //! names its one cause. These are clauses of `core_main`, in the definitions of `core_jobs`.
 //! It stands on `command_words` for its words, `core_jobs` for what they ask for, and `fault_notes` for
 //! its notes.

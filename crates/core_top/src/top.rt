@@ -61,7 +61,7 @@ pub fn core_main<H: Host, K: Sink, N: Sink, L: Ledger>(
     // steps that a machine makes by the commands of the script, in their order, and `save` the
     // checkpoint of all events of the file; where these do not end well it has written nothing. A
     // run that goes on from a checkpoint has written the answers of the stream of its history and
-    // then the event file, at the positions behind the history; where the checkpoint is refused it
+    // then the event file, at the positions after the history; where the checkpoint is refused it
     // has written nothing.
     ensures wrote { (job : Job) → AsksJob (map string_bytes words.items) job
         → WroteBy result.cause (H.content host.old) job
@@ -146,7 +146,7 @@ pub fn core_main<H: Host, K: Sink, N: Sink, L: Ledger>(
         steps.old steps.new }
 
     // The engine of a run, over late events or not, is left with status 0, and with no other; it
-    // stands for exactly the events of the event file, behind those of a checkpoint where there is
+    // stands for exactly the events of the event file, after those of a checkpoint where there is
     // one. No other call leaves one.
     ensures left { (job : Job) → AsksJob (map string_bytes words.items) job
         → IsLeftBy result.cause (H.content host.old) job result.left }

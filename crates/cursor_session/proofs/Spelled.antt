@@ -106,7 +106,7 @@ one_refusal x y e = cc
 one_err : (x y : CommandFault) → (let r : Result Command CommandFault = Err x in r) ≡ Err y → x ≡ y
 one_err x y e = cc
 
--- a refusal of an event comes from the line behind the word alone
+-- a refusal of an event comes from the line after the word alone
 event_refused : (schema : Declared) (line text : List ℕ) (r : Result (Option Event) EventFault) (refusal : EventFault) → text ≡ codes "event " ++ line → event_of_line schema line ≡ r → event_command r ≡ Err (fault.Event refusal)
     → (line : List ℕ) × (text ≡ codes "event " ++ line) × (event_of_line schema line ≡ Err refusal)
 event_refused schema line text (Ok (Some event)) refusal is read e = absurd (search (rules, e))

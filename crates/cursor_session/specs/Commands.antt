@@ -27,7 +27,7 @@ pull_command words = option_and_then (λ cursor. option_map (λ n. command.Pull 
 abbrev pub drop_command : List ℕ → Option Command
 drop_command cursor = option_map (λ cursor. command.Drop cursor) (one_of MOST_CURSORS cursor)
 
--- the command of this word, which is no event's, and of what stands behind it
+-- the command of this word, which is no event's, and of what stands after it
 abbrev pub other_command : List ℕ → List ℕ → Option Command
 other_command word rest =
     if bytes_eq word (codes "open") then option_and_then open_command (cut rest)

@@ -8,7 +8,7 @@ use Rattle.cursor_session.specs.declared.numbers.TheConstants.{BLANK, MOST_DIGIT
 abbrev pub is_blank : ℕ → Bool
 is_blank byte = byte == BLANK
 
--- what stands before the first blank and behind it, where there is one
+-- what stands before the first blank and after it, where there is one
 abbrev pub cut : List ℕ → Option (List ℕ × List ℕ)
 cut text = if nat_lt (position_or_len is_blank text) (length text) then Some (before_first is_blank text, after_first is_blank text) else None
 

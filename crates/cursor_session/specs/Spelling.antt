@@ -33,7 +33,7 @@ Spells schema text command.Compact = text ≡ codes "compact"
 abbrev pub CommandsAreSpelled : Type 0
 CommandsAreSpelled = (schema : Declared) (text : List ℕ) (command : Command) → (command_of schema text ≡ Ok command) ↔ Spells schema text command
 
--- An event's refusal is that of the line behind `event`.
+-- An event's refusal is that of the line after `event`.
 abbrev pub RefusalsAreOfLines : Type 0
 RefusalsAreOfLines = (schema : Declared) (text : List ℕ) (refusal : EventFault) →
     (command_of schema text ≡ Err (fault.Event refusal)) ↔ ((line : List ℕ) × (text ≡ codes "event " ++ line) × (event_of_line schema line ≡ Err refusal))

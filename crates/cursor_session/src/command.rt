@@ -110,7 +110,7 @@ fn event_command(
     }
 }
 
-/// The command of this word, which is no event's, and of what stands behind it.
+/// The command of this word, which is no event's, and of what stands after it.
 fn other_command(word: &[u8], rest: &[u8]) -> Option<Command>
     ensures { result ≡ other_command word.now rest.now }
 {
@@ -150,7 +150,7 @@ fn drop_command(cursor: &[u8]) -> Option<Command>
     Some(Command::Drop { cursor })
 }
 
-/// What stands before the first blank and behind it, where there is one.
+/// What stands before the first blank and after it, where there is one.
 fn cut(text: &[u8]) -> Option<(&[u8], &[u8])>
     ensures { option_map (λ parts. (parts.0.now, parts.1.now)) result ≡ cut text.now }
 {

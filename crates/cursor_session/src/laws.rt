@@ -7,7 +7,7 @@ pub fn commands_are_spelled()
     ensures { CommandsAreSpelled }
 {}
 
-/// An event's refusal is that of the line behind `event`.
+/// An event's refusal is that of the line after `event`.
 pub fn refusals_are_of_lines()
     ensures { RefusalsAreOfLines }
 {}

@@ -26,7 +26,7 @@ use stream_schema::{Event, Schema};
 /// Why a command is refused. Where several hold, the first of these is the answer.
 #[derive(Drop, Debug, Clone, Copy, PartialEq, Eq)]
 pub enum Refusal {
-    /// With the event the clock `now` of the query, which is numbered from 1, would fall behind
+    /// With the event the clock `now` of the query, which is numbered from 1, would fall after
     /// that of an earlier event, which was `before`.
     TimeBack { query: u64, before: i128, now: i128 },
     /// There is no query of this number, which is from 1.

@@ -13,5 +13,5 @@ mod LineTaken
 mod RanOut
 -- the events of a file as a list
 mod Listed
--- the events of two files, one behind the other
+-- the events of two files, one after the other
 pub mod TwoFiles

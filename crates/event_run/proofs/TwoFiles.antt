@@ -1,4 +1,4 @@
--- The events of two files, one behind the other.
+-- The events of two files, one after the other.
 use Rattle.std.proofs.Common.{◌≡◌, ℕ, ◌+◌, ◌-◌, inl, inr, Bool, true, false, List, [], ◌∷◌, ◌++◌, length, Option, Some, None, Result, Ok, Err, refl, sym, ◌∙◌, ap, subst, append_assoc}
 use Rattle.std.specs.Prelude.{◌==◌, ◌&&◌, if◌then◌else◌, drop, nat_le, nat_eq}
 use Rattle.std.specs.List.{starts_with}

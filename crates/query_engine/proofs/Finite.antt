@@ -22,7 +22,7 @@ use Rattle.query_standing.specs.Bounds.{IsMet, MeetAtMost}
 
 -- LISTS WITHOUT REPEATS
 
--- what is in a list is its first or behind it
+-- what is in a list is its first or after it
 first_or_behind : {A : Type 0} (x y : A) (xs : List A) → Contains (x ∷ xs) y → (x ≡ y) ⊎ Contains xs y
 first_or_behind x y xs (zero, within, at) = inl at
 first_or_behind x y xs (suc k, within, at) = inr (k, omega arith, at)

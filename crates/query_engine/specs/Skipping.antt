@@ -28,7 +28,7 @@ pub record KeepsAll (old new : State) : Type 0 where
 abbrev pub BlanksAreUnread : Type 0
 BlanksAreUnread = (schema : Declared) (q : Query) (event : Event) → IsWellDeclared schema → IsBlank schema event → Reads schema q event → ⊥
 
--- Over events that are put behind, what bounds the nodes stays, where nothing is kept of them.
+-- Over events that are put after, what bounds the nodes stays, where nothing is kept of them.
 abbrev pub SkippingKeepsDense : Type 0
 SkippingKeepsDense = (old new : State) (events more : List Event) →
     SameQueries old new → KeepsAll old new → IsDense old events → IsDense new (events ++ more)

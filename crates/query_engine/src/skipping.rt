@@ -18,7 +18,7 @@ fn skip_all(parts: &mut [Part], count: Pos)
     }
 }
 
-/// Settles each part after so many events, and takes those behind them, so many in all, as ones that
+/// Settles each part after so many events, and takes those after them, so many in all, as ones that
 /// are not read.
 pub fn skip_parts(parts: &mut [Part], count: Pos, position: Pos)
     requires idle { All IsIdle parts.old }

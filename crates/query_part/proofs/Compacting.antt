@@ -7,7 +7,7 @@ use Rattle.cer_base.specs.Fields.{max_of}
 use Rattle.std.proofs.lemmas.Option.{slice_get-get_or}
 use Rattle.std.proofs.lemmas.List.{take_more}
 use Rattle.std.proofs.lemmas.List.Elements.{All-nil, All-cons, All-append}
-use Rattle.query_part.specs.declared.matches.Lists.{Lists}
+use Rattle.query_part.specs.declared.lists.Lists.{Lists}
 use Rattle.stream_schema.specs.Types.{Declared}
 use Rattle.stream_schema.specs.declared.Event.{Event}
 use Rattle.stream_schema.specs.declared.Value.{Value}

@@ -9,7 +9,7 @@ use Rattle.cer_base.specs.declared.node.Root.{Root}
 use Rattle.event_update.specs.Still.{IsAtRest, Rest}
 use Rattle.event_update.specs.Update.{Discovers}
 use Rattle.event_update.proofs.Resting.{resting_stay}
-use Rattle.query_part.specs.declared.matches.Lists.{Lists}
+use Rattle.query_part.specs.declared.lists.Lists.{Lists}
 use Rattle.query_standing.specs.Kept.{Rows}
 use Rattle.query_part.specs.Matches.{MayRest, AreStill, awake_in}
 

@@ -17,7 +17,7 @@ use Rattle.query_standing.specs.Kept.{Rows}
 use Rattle.event_update.specs.Still.{IsAtRest, Rest}
 use Rattle.partition_table.specs.Keys.{are_at}
 use Rattle.query_part.specs.declared.matches.Sizes.{Sizes}
-use Rattle.query_part.specs.declared.matches.Lists.{Lists}
+use Rattle.query_part.specs.declared.lists.Lists.{Lists}
 
 -- What contracts see of the open matches: the states, the nodes, and the keys with the lists of each.
 pub record Held : Type 0 where

@@ -8,6 +8,7 @@
 //! `predicate_bits` for the event, and `all_or_none` for the two phases.
 #![tactic(auto)]
 
+pub mod lists;
 pub mod machine;
 pub mod matches;
 pub mod part;

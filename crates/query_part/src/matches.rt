@@ -1,16 +1,14 @@
 //! The open matches of a query, key by key.
 
-ghost use Rattle.std.specs.Prelude.{◌≡◌, ℕ, ◌+◌, ◌-◌, ◌*◌, ◌<◌, ◌≤◌, ◌⊎◌, false, List, [], ◌∷◌, ◌++◌, length, map, get_or, All, Contains, Some, slice_get, slice_set, slice_index_or, IfOk, OnOk, OnErr, IfNone, MatchOption, IfSome, true};
+ghost use Rattle.std.specs.Prelude.{◌≡◌, ℕ, ◌+◌, ◌-◌, ◌*◌, ◌<◌, ◌≤◌, ◌⊎◌, false, List, [], ◌∷◌, ◌++◌, length, map, get_or, All, Some, slice_get, slice_set, slice_index_or, IfOk, OnOk, OnErr, IfNone, MatchOption, IfSome, true};
 ghost use Rattle.cer_base.specs.Bits.{room_for};
 ghost use Rattle.cer_base.specs.Nodes.{AreInStep, WellFormed};
-ghost use Rattle.cer_base.specs.declared.node.Node.{Node as NodeData};
 ghost use Rattle.cer_base.specs.declared.node.Node.TheVariants.{Bottom};
 ghost use Rattle.cea_determinise.specs.Cea.{IsWellFormed};
-ghost use Rattle.cea_determinise.specs.Det.{Table, IsSound};
+ghost use Rattle.cea_determinise.specs.Det.{IsSound};
 ghost use Rattle.stream_schema.specs.declared.Value.{Value as Datum};
 ghost use Rattle.event_update.specs.ActiveLists.{keys};
-ghost use Rattle.event_update.specs.Still.{IsQuiet, IsAtRest, Rest};
-ghost use Rattle.event_update.specs.declared.Staged.TheVariants.{Unchanged};
+ghost use Rattle.event_update.specs.Still.{IsQuiet, Rest};
 ghost use Rattle.query_standing.specs.Kept.{Rows};
 ghost use Rattle.event_update.specs.Update.{rows_after, work_bound};
 ghost use Rattle.tecs_enumerate.specs.Rest.{CursorState, rest, recent_of, Fits};
@@ -20,17 +18,18 @@ ghost use Rattle.arena_compact.specs.Compacted.{least_of, roots_of, Compacted, K
 ghost use Rattle.query_part.specs.Compacting.{HasStatesOnce};
 ghost use Rattle.query_part.specs.Matches.{Held, MayRest, awake_in, AreStill, HasKeyThere, HasBegun, none_open, cut, CanCut, AreSizes, TakesKey, CanTake, IsReady, HasWorked, CanList, entries_for};
 
-use arena_compact::{HasCursor, HasLists, Room, compact};
+use crate::lists::{Lists, look_over, note, put_lists, states_once};
+use arena_compact::{HasCursor, Room, compact};
 use cea_determinise::cea::Cea;
 use cea_determinise::det::Det;
-use cea_determinise::table::{Sizes as TableSizes, State};
+use cea_determinise::table::Sizes as TableSizes;
 use cer_base::Memory;
 use cer_base::bits::Bits;
 use cer_base::node::{Root, Stamp};
 use cer_base::steps::Steps;
 use cer_base::store::NodeStore;
 use event_update::still::some_accepts;
-use event_update::{Active, Stage, Staged, commit, prepare, roots};
+use event_update::{Stage, Staged, prepare, roots};
 use partition_table::{Key, Keys};
 use std::alloc::Global;
 use std::marker::Model;
@@ -53,14 +52,6 @@ pub struct Ready {
     pub sizes: Sizes,
     pub number: u64,
     pub staged: Staged,
-}
-
-/// The lists of a key.
-#[derive(Drop)]
-pub struct Lists {
-    pub active: Active,
-    /// Whether an event that no leaf can read is known to leave them as they are.
-    pub rests: bool,
 }
 
 /// The open matches of a query.
@@ -99,206 +90,6 @@ impl Model for Matches {
         × All (MayRest m.det) m.lists.items
         × (m.awake ≡ awake_in m.lists.items)
         × AreStill m.det m.still.items };
-}
-
-impl Lists {
-    /// Those of a new key, which are none.
-    fn none(alloc: Global) -> Lists
-        ensures none { result.active.entries ≡ [] }
-        ensures rests { (t : Table) → MayRest t result }
-        ensures known { result.rests ≡ true }
-    {
-        Lists {
-            active: Active::new(alloc),
-            rests: true,
-        }
-    }
-
-    /// Puts them in place. They rest where the event leaves them as they were and they rested, and
-    /// where their states are all known to be still.
-    fn put(&mut self, still: &[bool], stage: &mut Stage, staged: Staged)
-        ensures rows { self.new.active.entries ≡ rows_after self.old.active.entries staged }
-        ensures rests { (t : Table) → AreStill t still.now → MayRest t self.old → MayRest t self.new }
-    {
-        let stays = is_unchanged(&staged);
-        commit(&mut self.active, stage, staged);
-        if !stays {
-            self.rests = false;
-        }
-        self.look(still);
-    }
-
-    /// Notes that they rest, where their states are all known to be still.
-    fn look(&mut self, still: &[bool])
-        ensures rows { self.new.active.entries ≡ self.old.active.entries }
-        ensures rests { (t : Table) → AreStill t still.now → MayRest t self.old → MayRest t self.new }
-    {
-        if are_still(&self.active, still) {
-            self.rests = true;
-        }
-    }
-
-    /// Looks at them anew.
-    fn look_again(&mut self, still: &[bool])
-        ensures rows { self.new.active.entries ≡ self.old.active.entries }
-        ensures rests { (t : Table) → AreStill t still.now → MayRest t self.new }
-    {
-        self.rests = are_still(&self.active, still);
-    }
-}
-
-impl HasLists for Lists {
-    ghost rows = { λ l. l.active.entries };
-
-    fn lists(&self) -> &Active {
-        &self.active
-    }
-
-    fn take(&mut self) -> Active {
-        self.active.take()
-    }
-
-    fn put(&mut self, lists: Active) {
-        self.active = lists;
-    }
-}
-
-/// Whether no list changes.
-fn is_unchanged(staged: &Staged) -> bool
-    ensures { result ≡ true → staged.now ≡ Unchanged }
-{
-    matches!(staged, Staged::Unchanged)
-}
-
-/// Whether an event that no leaf can read is known to leave the state's list as it is.
-fn is_still(still: &[bool], state: State) -> bool
-    ensures { result ≡ slice_index_or still.now state false }
-{
-    match still.get(state as usize) {
-        Some(known) => *known,
-        None => false,
-    }
-}
-
-/// Whether the lists' states are all known to be still.
-fn are_still(active: &Active, still: &[bool]) -> bool
-    ensures { result ≡ true → All (λ n. slice_index_or still.now n false ≡ true) (keys active.now) }
-{
-    for k in 0..active.len() {
-        if !is_still(still, active.state(k)) {
-            return false;
-        }
-    }
-    true
-}
-
-/// Makes room for a number at the place, where there is memory.
-fn make_room(still: &mut Vec<bool>, place: usize)
-    ensures { (n : ℕ) → slice_index_or still.new.items n false
-        ≡ slice_index_or still.old.items n false }
-{
-    if place >= still.len() {
-        let _filled = still.resize(place.saturating_add(1), false);
-    }
-}
-
-/// Notes that the state is still, where there is memory.
-fn mark(still: &mut Vec<bool>, state: State)
-    ensures { (t : Table) → AreStill t still.old.items → IsAtRest t state
-        → AreStill t still.new.items }
-{
-    let place = state as usize;
-    make_room(still, place);
-    if place < still.len() {
-        still[place] = true;
-    }
-}
-
-/// Notes that the lists' states are still.
-fn mark_all(still: &mut Vec<bool>, active: &Active)
-    ensures { (t : Table) → AreStill t still.old.items → All (IsAtRest t) (keys active.now)
-        → AreStill t still.new.items }
-{
-    for k in 0..active.len() {
-        mark(still, active.state(k));
-    }
-}
-
-/// Notes that the states of a key's lists are still, where an event that no leaf can read leaves
-/// them as they are.
-fn note(still: &mut Vec<bool>, active: &Active, bits: &Bits, staged: &Staged)
-    ensures { (t : Table) → AreStill t still.old.items → (IsQuiet bits.now → staged.now ≡ Unchanged
-        → Rest t active.now.entries) → AreStill t still.new.items }
-{
-    if !is_unchanged(staged) || !bits.is_empty() {
-        return;
-    }
-    mark_all(still, active);
-}
-
-/// How many keys' lists are not known to rest, of so many, once it is looked at one of them again.
-fn recount(awake: u64, count: u64, rested: bool, rests: bool) -> u64
-    ensures same { rested ≡ rests → result ≡ awake }
-    ensures fewer { rested ≡ false → rests ≡ true → result ≡ awake - 1 }
-    ensures more { rested ≡ true → rests ≡ false → awake < count → result ≡ awake + 1 }
-{
-    if rested == rests {
-        return awake;
-    }
-    if rests {
-        return awake.saturating_sub(1);
-    }
-    if awake < count { awake + 1 } else { awake }
-}
-
-/// Puts a key's lists in place, and counts anew.
-fn put_lists(
-    lists: &mut [Lists],
-    awake: &mut u64,
-    still: &[bool],
-    stage: &mut Stage,
-    number: u64,
-    staged: Staged,
-)
-    requires inside { number < length lists.old }
-    requires awake { awake.old ≡ awake_in lists.old }
-    ensures rows { map (λ l. l.active.entries) lists.new
-        ≡ slice_set (map (λ l. l.active.entries) lists.old) number (rows_after
-        (slice_index_or (map (λ l. l.active.entries) lists.old) number []) staged) }
-    ensures rests { (t : Table) → AreStill t still.now → All (MayRest t) lists.old
-        → All (MayRest t) lists.new }
-    ensures awake { awake.new ≡ awake_in lists.new }
-{
-    let count = lists.len() as u64;
-    let own = &mut lists[number as usize];
-    let rested = own.rests;
-    own.put(still, stage, staged);
-    *awake = recount(*awake, count, rested, own.rests);
-}
-
-/// Looks at all lists anew. How many are not known to rest.
-fn look_over(lists: &mut [Lists], still: &[bool]) -> u64
-    ensures rows { map (λ l. l.active.entries) lists.new ≡ map (λ l. l.active.entries) lists.old }
-    ensures rests { (t : Table) → AreStill t still.now → All (MayRest t) lists.new }
-    ensures awake { result ≡ awake_in lists.new }
-{
-    let mut awake: u64 = 0;
-    for k in 0..lists.len() {
-        lists[k].look_again(still);
-        if !lists[k].rests {
-            awake += 1;
-        }
-    }
-    awake
-}
-
-/// No state stands twice in a key's lists.
-fn states_once(lists: &[Lists])
-    ensures { All (λ l. HasStatesOnce l.active.entries) lists.now }
-{
-    for k in 0..lists.len() {
-        let _states = lists[k].active.len();
-    }
 }
 
 impl Matches {

@@ -11,7 +11,7 @@ use Rattle.stream_answers.specs.Streams.{Asked, WroteStreamAfter, StandsForAllAf
 use Rattle.stream_answers.specs.Steps.{StepsOverAfter}
 use Rattle.stream_answers.specs.Windows.{is_due_after}
 
--- by how it ended: the answers behind the history over its events and then those of the source, or a part of them
+-- by how it ended: the answers after the history over its events and then those of the source, or a part of them
 abbrev pub WroteResumed : History → Asked → Option (List ℕ) → Option (List ℕ) → Option (List ℕ) → Option (List ℕ) → {T : Type 0} → Result T (OrMemory StreamFault) → Type 0
 WroteResumed history a source left before after result = (earlier : List Event) → IsStreamOf a.schema history earlier → WroteStreamAfter earlier a source left before after result
 
@@ -20,7 +20,7 @@ abbrev pub StandsForResumed : Option ℕ → (ℕ → ℕ) → History → Asked
 StandsForResumed every peaks history a lines engine = (earlier : List Event) → IsStreamOf a.schema history earlier →
     StandsForAllAfter (is_due_after every (length earlier)) peaks earlier a lines engine
 
--- The steps are bounded by the events of the history and of a file of these bytes, by the answers behind the history, and by the compactions.
+-- The steps are bounded by the events of the history and of a file of these bytes, by the answers after the history, and by the compactions.
 abbrev pub StepsResumed : Option ℕ → History → Asked → List ℕ → Option (List ℕ) → Option (List ℕ) → ℕ → ℕ → {T : Type 0} → Result T (OrMemory StreamFault) → Type 0
 StepsResumed every history a lines before after old now result = (earlier : List Event) → IsStreamOf a.schema history earlier →
     StepsOverAfter (is_due_after every (length earlier)) earlier a lines before after old now result

@@ -1,4 +1,4 @@
-//! A history, and the events of a source behind it.
+//! A history, and the events of a source after it.
 
 ghost use Rattle.std.specs.Prelude.{◌≡◌, ◌+◌, ◌^◌, ◌<◌, ℕ, List, [], Some, OnOk};
 ghost use Rattle.std.specs.List.{AllByRecursion};

@@ -205,7 +205,7 @@ module _ (due : ℕ → Bool) where
         bounded = bounded_all a events begun.more rows grown.0 before now bounded;
       }
 
-  -- no event was taken behind those before
+  -- no event was taken after those before
   pub counts_none : (earlier : List StreamEvent) (a : Asked) (lines : List ℕ) (first now : ℕ) → AreBoundedBy due a.schema a.queries earlier [] first now → CountsAfter due earlier a lines first now
   counts_none earlier a lines first now bounded = counts_whole earlier a lines earlier [] first now (omega arith) (begins_at_first earlier a lines) (rows_after_none (length earlier) a.order a.schema a.queries earlier refl) bounded
 

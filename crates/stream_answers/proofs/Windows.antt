@@ -48,7 +48,7 @@ pub due_behind : (every : Option ℕ) (first events : ℕ) (b : Bool) → (first
 due_behind every zero events b some is = absurd (some refl)
 due_behind every (suc n) events b some is = is
 
--- behind earlier events none is due up to the last of these
+-- after earlier events none is due up to the last of these
 not_less : (n m : ℕ) → n ≤ m → nat_lt m n ≡ false
 not_less n m le = elim (cases_Bool (nat_lt m n)) [
   | inl less ↦ absurd (let l : m < n = ltb-true m n less in omega arith)

@@ -48,7 +48,7 @@ AreBounded every schema queries events rows before now = AreBoundedBy (is_due ev
 -- WHAT COMES AFTER OTHER EVENTS
 -- `earlier` are events that came before; `events` are these and then those of the file, and all of them count.
 
--- The steps are bounded by the events, those before and those that the queries take of a file of these bytes, and by the rows of the output behind those before.
+-- The steps are bounded by the events, those before and those that the queries take of a file of these bytes, and by the rows of the output after those before.
 pub record CountsAllAfter (due : ℕ → Bool) (earlier : List StreamEvent) (a : Asked) (lines : List ℕ) (Stops : Stop → Type 0) (Took : List ℕ → Type 0) (before now : ℕ) : Type 0 where
   pub events : List StreamEvent
   pub stop : Stop

@@ -246,7 +246,7 @@ fn is_due_after(every: Option<u64>, first: u64, events: u64) -> bool
     first < events && is_due(every, events - first)
 }
 
-/// Compacts the engine where it has taken so many events behind the first that it is due. After
+/// Compacts the engine where it has taken so many events after the first that it is due. After
 /// `Memory` it is as it was.
 pub fn compact_if_due<L: Ledger>(
     every: Option<u64>,

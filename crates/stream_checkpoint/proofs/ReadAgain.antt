@@ -81,7 +81,7 @@ short_lines budget number line (byte ∷ bytes) room plain = by_room (room == 0)
     by_room true next more = none_full budget number line
     by_room false next more = by_feed (byte == LINE_FEED) refl next more
 
--- a text without line feeds has none behind its first bytes
+-- a text without line feeds has none after its first bytes
 plain_behind : (n : ℕ) (xs : List ℕ) → has_line_feed xs ≡ false → has_line_feed (drop n xs) ≡ false
 plain_behind zero xs plain = plain
 plain_behind (suc n) [] plain = plain

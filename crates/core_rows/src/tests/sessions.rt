@@ -115,7 +115,7 @@ fn lines_before_a_fault_are_played(rt: HostRuntime) -> Result<(), Fail> {
     Ok(())
 }
 
-/// An event, the part so often, and what stands behind it.
+/// An event, the part so often, and what stands after it.
 fn repeated(alloc: Global, part: &str, times: usize, behind: &str) -> Result<String, AllocError> {
     let mut text = "event A,1\n".to_string(alloc)?;
     for _ in 0..times {

@@ -92,7 +92,7 @@ pub fn words_of(
     }
 }
 
-// The first row of the table of which something else is read than what stands behind it.
+// The first row of the table of which something else is read than what stands after it.
 fn first_wrong(
     alloc: Global,
     schema: &Schema,

@@ -49,7 +49,7 @@ fn a_failed_read_is_told_after_the_lines_before(rt: HostRuntime) -> Result<(), F
     Ok(())
 }
 
-// The text, and behind it so many bytes of a line.
+// The text, and after it so many bytes of a line.
 fn with_line(alloc: Global, text: &str, len: usize) -> Result<Vec<u8>, AllocError> {
     let mut bytes = bytes_of(alloc, text)?;
     for _ in 0..len {

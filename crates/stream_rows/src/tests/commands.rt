@@ -51,7 +51,7 @@ fn words_of(alloc: Global, schema: &Schema, text: &[u8]) -> Result<String, Alloc
     }
 }
 
-// The first line of the table of which something else is read than what stands behind it.
+// The first line of the table of which something else is read than what stands after it.
 fn first_wrong(alloc: Global, schema: &Schema, table: &str) -> Result<String, AllocError> {
     for entry in table.split('\n') {
         let Some((line, wanted)) = entry.split_once('|') else {

@@ -212,7 +212,7 @@ fn end_of(alloc: Global, script: &str) -> Result<String, AllocError> {
     }
 }
 
-/// The first script of the table that ends otherwise than what stands behind it.
+/// The first script of the table that ends otherwise than what stands after it.
 fn first_wrong(alloc: Global, table: &str) -> Result<String, AllocError> {
     for entry in table.split('\n') {
         let Some((script, wanted)) = entry.split_once('|') else {

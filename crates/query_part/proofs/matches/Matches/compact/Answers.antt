@@ -5,7 +5,7 @@ use Rattle.std.proofs.lemmas.List.{with_items_is}
 use Rattle.cer_base.specs.declared.node.Node.{Node}
 use Rattle.query_standing.specs.Kept.{Rows}
 use Rattle.arena_compact.specs.Compacted.{least_of, roots_of, Compacted}
-use Rattle.query_part.specs.declared.matches.Lists.{Lists}
+use Rattle.query_part.specs.declared.lists.Lists.{Lists}
 use Rattle.query_part.specs.Matches.{Held, MayRest, awake_in, AreStill}
 use Rattle.query_part.proofs.matches.Matches.compact.Goals as goal
 

@@ -1,6 +1,6 @@
 use Rattle.std.proofs.Common.{All, subst}
 use Rattle.std.proofs.lemmas.List.Elements.{All-map}
-use Rattle.query_part.specs.declared.matches.Lists.{Lists}
+use Rattle.query_part.specs.declared.lists.Lists.{Lists}
 use Rattle.query_part.specs.Matches.{Held}
 use Rattle.query_part.specs.Compacting.{HasStatesOnce}
 use Rattle.query_part.proofs.matches.Matches.states_once.Goals as goal

@@ -2,7 +2,7 @@ use Rattle.std.proofs.Common.{◌≡◌, ◌<◌, ◌∙◌, sym, subst, refl, l
 use Rattle.std.proofs.lemmas.Option.{slice_get_within}
 use Rattle.event_update.specs.Update.{IsAdvancedBy, rows_after}
 use Rattle.event_update.proofs.Resting.{unchanged_rest}
-use Rattle.query_part.specs.declared.matches.Lists.{Lists}
+use Rattle.query_part.specs.declared.lists.Lists.{Lists}
 use Rattle.query_part.specs.Matches.{Held, TakesKey, CanTake}
 use Rattle.query_part.proofs.Resting.{rest_later, still_later}
 use Rattle.query_part.proofs.Cuts.{cut_back, can_cut, row_at, length_map, same_before, sound_mid, grown_from}

@@ -3,7 +3,7 @@ use Rattle.std.proofs.lemmas.List.{take_all}
 use Rattle.event_update.specs.ActiveLists.{keys}
 use Rattle.event_update.proofs.Known.{keys_length}
 use Rattle.query_part.proofs.Resting.{one_more}
-use Rattle.query_part.proofs.matches.are_still.Goals as goal
+use Rattle.query_part.proofs.lists.are_still.Goals as goal
 
 pub loop-k-preserved : goal.loop-k-preserved
 loop-k-preserved c =

@@ -3,8 +3,8 @@ use Rattle.std.specs.Prelude.{if◌then◌else◌}
 use Rattle.std.proofs.lemmas.List.{take_all}
 use Rattle.query_part.specs.Matches.{MayRest, awake_in}
 use Rattle.query_part.proofs.Resting.{rows_set, taken_set, awake_few, awake_next}
-use Rattle.query_part.proofs.matches.look_over.Goals.{then-not-lists-k, else-not-lists-k}
-use Rattle.query_part.proofs.matches.look_over.Goals as goal
+use Rattle.query_part.proofs.lists.look_over.Goals.{then-not-lists-k, else-not-lists-k}
+use Rattle.query_part.proofs.lists.look_over.Goals as goal
 
 pub overflow_add-awake : goal.overflow_add-awake
 overflow_add-awake c =

@@ -1,6 +1,6 @@
 use Rattle.std.proofs.Common.{◌≡◌, rules, true}
 use Rattle.query_part.proofs.Resting.{still_rest}
-use Rattle.query_part.proofs.matches.Lists.look.Goals as goal
+use Rattle.query_part.proofs.lists.Lists.look.Goals as goal
 
 pub returns-then-are_still-clause-rests : goal.returns-then-are_still-clause-rests
 returns-then-are_still-clause-rests c t still was known =

@@ -1,8 +1,8 @@
 use Rattle.std.proofs.Common.{◌≡◌, map, take, All}
 use Rattle.cea_determinise.specs.Det.{Table}
-use Rattle.query_part.specs.declared.matches.Lists.{Lists}
+use Rattle.query_part.specs.declared.lists.Lists.{Lists}
 use Rattle.query_part.specs.Matches.{MayRest, AreStill, awake_in}
-use Rattle.query_part.proofs.matches.look_over.Given as goal
+use Rattle.query_part.proofs.lists.look_over.Given as goal
 
 -- the lists are what they were, and the first k are looked at and counted
 abbrev pub invariant-loop-k : goal.invariant-loop-k

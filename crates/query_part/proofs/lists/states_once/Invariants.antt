@@ -1,7 +1,7 @@
 use Rattle.std.proofs.Common.{take, All}
-use Rattle.query_part.specs.declared.matches.Lists.{Lists}
+use Rattle.query_part.specs.declared.lists.Lists.{Lists}
 use Rattle.query_part.specs.Compacting.{HasStatesOnce}
-use Rattle.query_part.proofs.matches.states_once.Given as goal
+use Rattle.query_part.proofs.lists.states_once.Given as goal
 
 -- the first k keys' lists are so
 abbrev pub invariant-loop-k : goal.invariant-loop-k

@@ -1,6 +1,6 @@
 use Rattle.std.proofs.Common.{◌≡◌, rules, true}
 use Rattle.query_part.proofs.Resting.{rest_states}
-use Rattle.query_part.proofs.matches.note.Goals as goal
+use Rattle.query_part.proofs.lists.note.Goals as goal
 
 pub returns : goal.returns
 returns c t still made =

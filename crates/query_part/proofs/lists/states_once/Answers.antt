@@ -1,6 +1,6 @@
 use Rattle.std.proofs.lemmas.List.{take_all}
 use Rattle.query_part.proofs.Compacting.{one_more_once}
-use Rattle.query_part.proofs.matches.states_once.Goals as goal
+use Rattle.query_part.proofs.lists.states_once.Goals as goal
 
 pub loop-k-preserved : goal.loop-k-preserved
 loop-k-preserved c = one_more_once c.args.lists.now c.loop-k.k c.index-lists-k.result c.loop-k-test.true c.len-states.ensures.unique c.loop-k.invariant

@@ -1,10 +1,10 @@
 use Rattle.std.proofs.Common.{◌≡◌, refl, length, [], slice_index_or}
 use Rattle.event_update.specs.Update.{rows_after}
-use Rattle.query_part.specs.declared.matches.Lists.{Lists}
+use Rattle.query_part.specs.declared.lists.Lists.{Lists}
 use Rattle.query_part.specs.Matches.{MayRest}
 use Rattle.query_part.proofs.Cuts.{row_put}
 use Rattle.query_part.proofs.Resting.{noted_all, count_kept}
-use Rattle.query_part.proofs.matches.put_lists.Goals as goal
+use Rattle.query_part.proofs.lists.put_lists.Goals as goal
 
 pub returns-clause-rows : goal.returns-clause-rows
 returns-clause-rows c = row_put (λ (l : Lists). l.active.entries) (λ rows. rows_after rows c.args.staged) c.args.lists.now _ c.args.number c.put.new.self c.index-lists-number.result [] refl c.requires.inside c.put.ensures.rows

@@ -1,8 +1,7 @@
 //! The explanation over a source, written to a sink.
 
-ghost use Rattle.std.specs.Prelude.{◌≡◌, IfOk};
 ghost use Rattle.stream_answers.specs.Streams.{HasReadCause, HasWriteCause};
-ghost use Rattle.answer_explain.specs.Written.{Wrote, reading_fault};
+ghost use Rattle.answer_explain.specs.Written.{Wrote};
 
 use crate::Question;
 use crate::explanation::explanation;
@@ -10,9 +9,9 @@ use cel_terms::Query;
 use cer_base::{Memory, OrMemory};
 use cer_outside::writing::put_all;
 use cer_outside::{Sink, Source, WriteFault};
-use event_run::{RunFault, read_events};
+use event_run::read_events;
 use std::alloc::Global;
-use stream_answers::StreamFault;
+use stream_answers::{StreamFault, stream_fault};
 use stream_schema::Schema;
 
 /// So many bytes of events are too many.
@@ -43,7 +42,7 @@ pub fn write_explanation<Q: Source, K: Sink>(
 {
     let events = match read_events(alloc, schema, queries, MOST_BYTES, source) {
         Ok(events) => events,
-        Err(stop) => return Err(reading_fault(stop)),
+        Err(stop) => return Err(stream_fault(stop)),
     };
     let text = match explanation(alloc, schema, queries, events.as_slice(), question) {
         Ok(text) => text,
@@ -52,21 +51,5 @@ pub fn write_explanation<Q: Source, K: Sink>(
     match put_all(out, text.as_slice()) {
         Ok(()) => Ok(()),
         Err(WriteFault) => Err(OrMemory::Fault(StreamFault::WriteFault)),
-    }
-}
-
-/// Why the events were not read to their end.
-fn reading_fault(stop: OrMemory<RunFault>) -> OrMemory<StreamFault>
-    ensures { result ≡ reading_fault stop }
-{
-    match stop {
-        OrMemory::Memory => OrMemory::Memory,
-        OrMemory::Fault(RunFault::ReadFault) => OrMemory::Fault(StreamFault::ReadFault),
-        OrMemory::Fault(RunFault::Event { line, fault }) => {
-            OrMemory::Fault(StreamFault::Event { line, fault })
-        }
-        OrMemory::Fault(RunFault::InputTooLong { taken }) => {
-            OrMemory::Fault(StreamFault::InputTooLong { taken })
-        }
     }
 }

@@ -8,7 +8,9 @@ use Rattle.cel_terms.specs.declared.Query.{Query}
 use Rattle.event_run.specs.Runs.{Stop}
 use Rattle.event_run.specs.Runs as stop
 use Rattle.event_run.specs.Taking.{AreEventsRead}
-use Rattle.answer_explain.specs.Written.{Asked, StopsOver, IsExplanationOver}
+use Rattle.stream_answers.specs.AtEnd.{StopsOver}
+use Rattle.answer_explain.specs.declared.written.TheConstants.{MOST_BYTES as MOST_EXPLAINED}
+use Rattle.answer_explain.specs.Written.{Asked, IsExplanationOver}
 use Rattle.fault_notes.specs.declared.File.{File}
 use Rattle.fault_notes.specs.declared.File.TheVariants as file
 use Rattle.core_jobs.specs.declared.Cause.{Cause}
@@ -34,7 +36,7 @@ has_files o x schema queries source accepted opened = record { queries = text_no
 
 -- the events stopped so
 has_stopped : {S : Type 0} (o : Outside) (x : ExplainWords) (schema : Declared) (queries : List Query) (source : Option (List ℕ)) (was : Stop) (failed : Option S) → failed ≡ None →
-    OfOpened (o.content x.queries) (λ text. Accepts text schema queries) → HasOpened (o.content x.events) source → StopsOver (explain_asked x schema queries) source was → HasStopped o (explaining x) was failed
+    OfOpened (o.content x.queries) (λ text. Accepts text schema queries) → HasOpened (o.content x.events) source → StopsOver schema queries MOST_EXPLAINED source was → HasStopped o (explaining x) was failed
 has_stopped o x schema queries source was failed none accepted opened stops = record {
   none = none;
   taken = accepted_text (o.content x.queries) schema queries accepted;
@@ -51,7 +53,7 @@ has_stopped o x schema queries source was failed none accepted opened stops = re
 }
 
 -- the whole explanation goes with a stop at the end
-whole_stops : (a : Asked) (source : Option (List ℕ)) (bytes : List ℕ) → IsExplanationOver a source bytes → StopsOver a source stop.End
+whole_stops : (a : Asked) (source : Option (List ℕ)) (bytes : List ℕ) → IsExplanationOver a source bytes → StopsOver a.schema a.queries MOST_EXPLAINED source stop.End
 whole_stops a source bytes over lines same = let it = over lines same in (it.0, it.1)
 
 -- the bytes explain over the two files

@@ -8,7 +8,8 @@ use Rattle.event_run.specs.Runs.{Stop}
 use Rattle.event_run.specs.Runs as stop
 use Rattle.checkpoint_text.specs.Streams.{stream_of}
 use Rattle.stream_checkpoint.specs.declared.saving.TheConstants.{MOST_BYTES as MOST_SAVED}
-use Rattle.stream_checkpoint.specs.Saved.{Asked, StopsOver, IsCheckpointOver}
+use Rattle.stream_answers.specs.AtEnd.{StopsOver}
+use Rattle.stream_checkpoint.specs.Saved.{Asked, IsCheckpointOver}
 use Rattle.fault_notes.specs.declared.File.{File}
 use Rattle.fault_notes.specs.declared.File.TheVariants as file
 use Rattle.core_jobs.specs.declared.Cause.{Cause}
@@ -34,7 +35,7 @@ has_files o s schema queries source accepted opened = record { queries = text_no
 
 -- the events stopped so
 has_stopped : {S : Type 0} (o : Outside) (s : SaveWords) (schema : Declared) (queries : List Query) (source : Option (List ℕ)) (was : Stop) (failed : Option S) → failed ≡ None →
-    OfOpened (o.content s.queries) (λ text. Accepts text schema queries) → HasOpened (o.content s.events) source → StopsOver (save_asked s schema queries) source was → HasStopped o (saving s) was failed
+    OfOpened (o.content s.queries) (λ text. Accepts text schema queries) → HasOpened (o.content s.events) source → StopsOver schema queries MOST_SAVED source was → HasStopped o (saving s) was failed
 has_stopped o s schema queries source was failed none accepted opened stops = record {
   none = none;
   taken = accepted_text (o.content s.queries) schema queries accepted;
@@ -51,7 +52,7 @@ has_stopped o s schema queries source was failed none accepted opened stops = re
 }
 
 -- a checkpoint goes with a stop at the end
-whole_stops : (a : Asked) (source : Option (List ℕ)) (bytes : List ℕ) → IsCheckpointOver a source bytes → StopsOver a source stop.End
+whole_stops : (a : Asked) (source : Option (List ℕ)) (bytes : List ℕ) → IsCheckpointOver a source bytes → StopsOver a.schema a.queries a.most_bytes source stop.End
 whole_stops a source bytes over lines same = let it = over lines same in (stream_of it.came, it.runs)
 
 -- the bytes are the checkpoint of the two files

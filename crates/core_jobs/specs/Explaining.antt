@@ -6,7 +6,9 @@ use Rattle.cer_outside.specs.Content.{Content, HasOpened}
 use Rattle.cer_outside.specs.Bytes.{TookAll, TookPart}
 use Rattle.event_run.specs.Runs as stop
 use Rattle.event_run.specs.Taking.{AreEventsRead}
-use Rattle.answer_explain.specs.Written.{Asked, StopsOver, IsExplanationOver}
+use Rattle.stream_answers.specs.AtEnd.{StopsOver}
+use Rattle.answer_explain.specs.declared.written.TheConstants.{MOST_BYTES as MOST_EXPLAINED}
+use Rattle.answer_explain.specs.Written.{Asked, IsExplanationOver}
 use Rattle.fault_notes.specs.declared.File.TheVariants as file
 use Rattle.core_jobs.specs.declared.Cause.{Cause}
 use Rattle.core_jobs.specs.declared.Cause.TheVariants as cause
@@ -16,8 +18,8 @@ use Rattle.core_jobs.specs.Run.{Sources, left_by, ReadingStops, IsOpening}
 abbrev pub ExplanationStop : {S : Type 0} → Sources S → Asked → Option (List ℕ) → ℕ → ℕ → Option (List ℕ) → Option (List ℕ) → Cause → Option S → Type 0
 ExplanationStop sources a source out_old out_new before after cause.Fine failed =
     (failed ≡ None) × (bytes : List ℕ) × IsExplanationOver a source bytes × TookAll before after bytes
-ExplanationStop sources a source out_old out_new before after (cause.Event line fault) failed = (failed ≡ None) × (after ≡ before) × StopsOver a source (stop.Event line fault)
-ExplanationStop sources a source out_old out_new before after (cause.InputTooLong taken) failed = (failed ≡ None) × (after ≡ before) × StopsOver a source (stop.InputTooLong taken)
+ExplanationStop sources a source out_old out_new before after (cause.Event line fault) failed = (failed ≡ None) × (after ≡ before) × StopsOver a.schema a.queries MOST_EXPLAINED source (stop.Event line fault)
+ExplanationStop sources a source out_old out_new before after (cause.InputTooLong taken) failed = (failed ≡ None) × (after ≡ before) × StopsOver a.schema a.queries MOST_EXPLAINED source (stop.InputTooLong taken)
 ExplanationStop sources a source out_old out_new before after (cause.ReadFault read to) failed =
     (read ≡ file.Events) × IsSomeAnd failed (λ s. (sources.faults s ≡ to) × Rose 0 to) × (after ≡ before)
     × ((lines : List ℕ) → source ≡ Some lines → (events : List Event) × AreEventsRead a.schema a.queries lines (left_by sources failed) events)

@@ -6,7 +6,8 @@ use Rattle.cer_outside.specs.Content.{Content, HasOpened}
 use Rattle.cer_outside.specs.Bytes.{TookAll, TookPart}
 use Rattle.event_run.specs.Runs as stop
 use Rattle.event_run.specs.Taking.{AreEventsRead}
-use Rattle.stream_checkpoint.specs.Saved.{Asked, StopsOver, IsCheckpointOver}
+use Rattle.stream_answers.specs.AtEnd.{StopsOver}
+use Rattle.stream_checkpoint.specs.Saved.{Asked, IsCheckpointOver}
 use Rattle.fault_notes.specs.declared.File.TheVariants as file
 use Rattle.core_jobs.specs.declared.Cause.{Cause}
 use Rattle.core_jobs.specs.declared.Cause.TheVariants as cause
@@ -16,8 +17,8 @@ use Rattle.core_jobs.specs.Run.{Sources, left_by, ReadingStops, IsOpening}
 abbrev pub SavingStop : {S : Type 0} → Sources S → Asked → Option (List ℕ) → ℕ → ℕ → Option (List ℕ) → Option (List ℕ) → Cause → Option S → Type 0
 SavingStop sources a source out_old out_new before after cause.Fine failed =
     (failed ≡ None) × (bytes : List ℕ) × IsCheckpointOver a source bytes × TookAll before after bytes
-SavingStop sources a source out_old out_new before after (cause.Event line fault) failed = (failed ≡ None) × (after ≡ before) × StopsOver a source (stop.Event line fault)
-SavingStop sources a source out_old out_new before after (cause.InputTooLong taken) failed = (failed ≡ None) × (after ≡ before) × StopsOver a source (stop.InputTooLong taken)
+SavingStop sources a source out_old out_new before after (cause.Event line fault) failed = (failed ≡ None) × (after ≡ before) × StopsOver a.schema a.queries a.most_bytes source (stop.Event line fault)
+SavingStop sources a source out_old out_new before after (cause.InputTooLong taken) failed = (failed ≡ None) × (after ≡ before) × StopsOver a.schema a.queries a.most_bytes source (stop.InputTooLong taken)
 SavingStop sources a source out_old out_new before after (cause.ReadFault read to) failed =
     (read ≡ file.Events) × IsSomeAnd failed (λ s. (sources.faults s ≡ to) × Rose 0 to) × (after ≡ before)
     × ((lines : List ℕ) → source ≡ Some lines → (events : List Event) × AreEventsRead a.schema a.queries lines (left_by sources failed) events)

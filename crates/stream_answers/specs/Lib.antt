@@ -3,3 +3,4 @@ pub mod Streams
 pub mod Steps
 pub mod Gathering
 pub mod Counting
+pub mod AtEnd

@@ -30,7 +30,8 @@ use Rattle.checkpoint_text.specs.Keeping.{Keeper, with_event, checkpoint_text}
 use Rattle.checkpoint_text.specs.KeepLaws.{empty_keeper, KeepersKeep}
 use Rattle.checkpoint_text.specs.Streams.{stream_of}
 use Rattle.checkpoint_text.proofs.CameKeepers.{Keeps, none_kept, one_kept, one_level, one_falls, stream_more, all_of_schema}
-use Rattle.stream_checkpoint.specs.Saved.{came_of, came_in, IsCheckpointOf, Asked, Wrote, reading_fault}
+use Rattle.stream_answers.specs.Gathering.{stream_fault}
+use Rattle.stream_checkpoint.specs.Saved.{came_of, came_in, IsCheckpointOf, Asked, Wrote}
 use Rattle.stream_checkpoint.specs.Lines.{AddsLine, StopsLine, HasKept, HasKeptAll}
 
 -- the events with one line more
@@ -183,7 +184,7 @@ stays schema text old new (inr some) =
 
 -- the events were not read to their end, so nothing was written
 pub wrote_none : (T U : Type 0) (a : Asked) (source left taken : Option (List ℕ)) (stop : OrMemory RunFault) →
-    OnFault {T = T} (Err stop) (λ fault. (bytes : List ℕ) → source ≡ Some bytes → StopsBy a.schema a.queries a.most_bytes bytes left fault) → Wrote a source left taken taken {T = U} (Err (reading_fault stop))
+    OnFault {T = T} (Err stop) (λ fault. (bytes : List ℕ) → source ≡ Some bytes → StopsBy a.schema a.queries a.most_bytes bytes left fault) → Wrote a source left taken taken {T = U} (Err (stream_fault stop))
 wrote_none T U a source left taken Memory stops = refl
 wrote_none T U a source left taken (Fault run.ReadFault) stops = (refl, stops)
 wrote_none T U a source left taken (Fault (run.Event line refusal)) stops = (refl, stops)
@@ -208,7 +209,7 @@ module _ (schema : Declared) (queries : List Query) (most_bytes : ℕ) (reader :
 
   -- the events stopped
   pub stopped : (T U : Type 0) (left taken : Option (List ℕ)) (stop : OrMemory RunFault) → OnFault {T = T} (Err stop) (λ fault. (bytes : List ℕ) → HasKept schema keeper.queries reader bytes source keeper → StopsBy schema keeper.queries reader.budget bytes left fault) →
-      Wrote (record { schema = schema; queries = queries; most_bytes = most_bytes }) source left taken taken {T = U} (Err (reading_fault stop))
+      Wrote (record { schema = schema; queries = queries; most_bytes = most_bytes }) source left taken taken {T = U} (Err (stream_fault stop))
   stopped T U left taken Memory stops = refl
   stopped T U left taken (Fault fault) stops =
       wrote_none T U (record { schema = schema; queries = queries; most_bytes = most_bytes }) source left taken (Fault fault) (

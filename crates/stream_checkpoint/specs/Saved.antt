@@ -2,21 +2,16 @@
 use Rattle.std.specs.Prelude.{◌≡◌, ℕ, List, [], ◌∷◌, flat_map, length, Option, Some, None, Result, Ok, Err}
 use Rattle.std.specs.Str.Lines.{strip_carriage_return}
 use Rattle.cer_base.specs.declared.OrMemory.{OrMemory}
-use Rattle.cer_base.specs.declared.OrMemory.TheVariants.{Fault, Memory}
-use Rattle.cer_outside.specs.Bytes.{TookAll, TookPart}
 use Rattle.stream_schema.specs.Types.{Declared}
 use Rattle.stream_schema.specs.declared.Event.{Event as StreamEvent}
 use Rattle.cel_terms.specs.declared.Query.{Query}
 use Rattle.event_reader.specs.declared.EventFault.{EventFault}
 use Rattle.event_reader.specs.Events.{event_of_line}
 use Rattle.event_reader.specs.Lines.{file_lines}
-use Rattle.event_run.specs.declared.RunFault.{RunFault}
-use Rattle.event_run.specs.declared.RunFault.TheVariants as run
-use Rattle.event_run.specs.Runs.{Stop, RunsTo}
+use Rattle.event_run.specs.Runs.{RunsTo}
 use Rattle.event_run.specs.Runs as stop
-use Rattle.event_run.specs.Taking.{AreEventsRead}
 use Rattle.stream_answers.specs.declared.StreamFault.{StreamFault}
-use Rattle.stream_answers.specs.declared.StreamFault.TheVariants as fault
+use Rattle.stream_answers.specs.AtEnd.{WroteAtEnd}
 use Rattle.checkpoint_text.specs.Keeping.{checkpoint_text}
 use Rattle.checkpoint_text.specs.KeepLaws.{lines_of, kept_lines}
 use Rattle.checkpoint_text.specs.Streams.{stream_of}
@@ -44,27 +39,10 @@ pub record Asked : Type 0 where
   pub queries : List Query
   pub most_bytes : ℕ
 
--- The queries take some events of a source of these bytes, and stop so.
-abbrev pub StopsOver : Asked → Option (List ℕ) → Stop → Type 0
-StopsOver a source stop = (lines : List ℕ) → source ≡ Some lines → (events : List StreamEvent) × RunsTo a.schema a.queries a.most_bytes lines events stop
-
 -- The text is the checkpoint of all events of a source that is read to its end.
 abbrev pub IsCheckpointOver : Asked → Option (List ℕ) → List ℕ → Type 0
 IsCheckpointOver a source text = (lines : List ℕ) → source ≡ Some lines → IsCheckpointOf a.schema a.queries a.most_bytes lines text
 
 -- all of the checkpoint, or a proper part of it after a fault of the sink; else nothing
 abbrev pub Wrote : Asked → Option (List ℕ) → Option (List ℕ) → Option (List ℕ) → Option (List ℕ) → {T : Type 0} → Result T (OrMemory StreamFault) → Type 0
-Wrote a source left before after (Ok done) = (text : List ℕ) × IsCheckpointOver a source text × TookAll before after text
-Wrote a source left before after (Err (Fault fault.WriteFault)) = (text : List ℕ) × IsCheckpointOver a source text × TookPart before after text
-Wrote a source left before after (Err (Fault (fault.Event line refusal))) = (after ≡ before) × StopsOver a source (stop.Event line refusal)
-Wrote a source left before after (Err (Fault (fault.InputTooLong taken))) = (after ≡ before) × StopsOver a source (stop.InputTooLong taken)
-Wrote a source left before after (Err (Fault fault.ReadFault)) =
-    (after ≡ before) × ((lines : List ℕ) → source ≡ Some lines → (events : List StreamEvent) × AreEventsRead a.schema a.queries lines left events)
-Wrote a source left before after (Err Memory) = after ≡ before
-
--- why the events were not read to their end
-abbrev pub reading_fault : OrMemory RunFault → OrMemory StreamFault
-reading_fault Memory = Memory
-reading_fault (Fault run.ReadFault) = Fault fault.ReadFault
-reading_fault (Fault (run.Event line refusal)) = Fault (fault.Event line refusal)
-reading_fault (Fault (run.InputTooLong taken)) = Fault (fault.InputTooLong taken)
+Wrote a source left before after result = WroteAtEnd a.schema a.queries a.most_bytes (IsCheckpointOver a source) source left before after result

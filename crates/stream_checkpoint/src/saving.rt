@@ -8,7 +8,7 @@ ghost use Rattle.checkpoint_text.specs.declared.numbers.TheConstants as most;
 ghost use Rattle.event_run.specs.Taking.{HasSourceCause};
 ghost use Rattle.event_run.specs.Listing.{StopsBy};
 ghost use Rattle.stream_answers.specs.Streams.{HasReadCause, HasWriteCause};
-ghost use Rattle.stream_checkpoint.specs.Saved.{Wrote, reading_fault};
+ghost use Rattle.stream_checkpoint.specs.Saved.{Wrote};
 ghost use Rattle.stream_checkpoint.specs.Lines.{AddsEvent, FallsWith, AddsLine, StopsLine, HasKept, HasKeptAll};
 
 use cel_terms::Query;
@@ -19,7 +19,7 @@ use checkpoint_text::laws::keepers_keep;
 use event_reader::{EventFault, Lines, Next, read_event};
 use event_run::{RunFault, fault_of};
 use std::alloc::Global;
-use stream_answers::StreamFault;
+use stream_answers::{StreamFault, stream_fault};
 use stream_schema::{Event, Schema};
 
 /// So many bytes of events are too many for the command that saves them.
@@ -62,28 +62,12 @@ pub fn save_events<Q: Source, K: Sink>(
     };
     match keep_events(alloc, schema, &mut lines, source, &mut keep) {
         Ok(()) => {}
-        Err(stop) => return Err(reading_fault(stop)),
+        Err(stop) => return Err(stream_fault(stop)),
     }
     match keep.write(alloc, out) {
         Ok(()) => Ok(()),
         Err(OrMemory::Memory) => Err(OrMemory::Memory),
         Err(OrMemory::Fault(WriteFault)) => Err(OrMemory::Fault(StreamFault::WriteFault)),
-    }
-}
-
-/// Why the events were not read to their end.
-fn reading_fault(stop: OrMemory<RunFault>) -> OrMemory<StreamFault>
-    ensures { result ≡ reading_fault stop }
-{
-    match stop {
-        OrMemory::Memory => OrMemory::Memory,
-        OrMemory::Fault(RunFault::ReadFault) => OrMemory::Fault(StreamFault::ReadFault),
-        OrMemory::Fault(RunFault::Event { line, fault }) => {
-            OrMemory::Fault(StreamFault::Event { line, fault })
-        }
-        OrMemory::Fault(RunFault::InputTooLong { taken }) => {
-            OrMemory::Fault(StreamFault::InputTooLong { taken })
-        }
     }
 }
 

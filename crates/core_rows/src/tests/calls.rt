@@ -4,7 +4,6 @@ ghost use Rattle.std.specs.Prelude.{◌≡◌, ◌<◌};
 
 use cer_base::Text;
 use cer_base::steps::Steps;
-use cer_outside::Host;
 use cer_outside::files::{MemFile, SureFile};
 use cer_outside::hosts::{MemHost, SureHost};
 use cer_outside::sinks::MemSink;
@@ -43,10 +42,10 @@ pub struct Sinks {
 }
 
 /// What a call answers over the host: the status, a bar, the output, a bar, the note.
-fn answer<H: Host, L: Ledger>(
+fn answer<L: Ledger>(
     alloc: Global,
     words: Vec<String>,
-    host: &mut H,
+    host: &mut MemHost,
     sinks: Sinks,
     blank: Blank,
 ) -> Result<String, AllocError>
@@ -72,8 +71,8 @@ fn answer<H: Host, L: Ledger>(
     Ok(text)
 }
 
-/// What a call answers over a host whose calls may fail.
-pub fn over_faulty(
+/// What a call answers over the host.
+pub fn over_host(
     alloc: Global,
     words: Vec<String>,
     host: &mut MemHost,
@@ -81,19 +80,7 @@ pub fn over_faulty(
 ) -> Result<String, AllocError>
     requires piece { 0 < sinks.piece }
 {
-    answer::<MemHost, Brand>(alloc, words, host, sinks, Blank::new(1))
-}
-
-/// What a call answers over a host that never fails.
-pub fn over_sure(
-    alloc: Global,
-    words: Vec<String>,
-    host: &mut SureHost,
-    sinks: Sinks,
-) -> Result<String, AllocError>
-    requires piece { 0 < sinks.piece }
-{
-    answer::<SureHost, Brand>(alloc, words, host, sinks, Blank::new(1))
+    answer::<Brand>(alloc, words, host, sinks, Blank::new(1))
 }
 
 /// The host that has the query text as `q` and the events as `e`, each read in pieces of 4 bytes.
@@ -158,61 +145,37 @@ pub fn failing_resume_host(
     Ok(MemHost::new(files, Vec::from_slice(alloc, &[open])?))
 }
 
-/// The host that has these three files, and never fails.
-pub fn sure_resume_host(
-    alloc: Global,
-    queries: &[u8],
-    checkpoint: &[u8],
-    events: &[u8],
-) -> Result<SureHost, AllocError> {
-    let mut files = Vec::new(alloc);
-    for (name, bytes) in [("q", queries), ("c", checkpoint), ("e", events)] {
-        let Ok(name) = Text::copy_of(alloc, name) else {
-            return Err(AllocError);
-        };
-        let bytes = Vec::from_slice(alloc, bytes)?;
-        files.push(SureFile::new(name, bytes, 3))?;
-    }
-    Ok(SureHost::new(files))
-}
-
-/// What a call answers over both hosts that have a checkpoint, where all goes well outside.
-pub fn both_resume(
+/// What a call answers over a host that has a checkpoint, where all goes well outside.
+pub fn resumed_well(
     alloc: Global,
     words: &str,
     queries: &[u8],
     checkpoint: &[u8],
     events: &[u8],
-) -> Result<(String, String), AllocError> {
+) -> Result<String, AllocError> {
     let sinks = Sinks {
         room: AMPLE,
         piece: 7,
         write: 0,
         note: 0,
     };
-    let mut faulty = failing_resume_host(alloc, queries, checkpoint, events, 0, 0, 0)?;
-    let first = over_faulty(alloc, words_of(alloc, words)?, &mut faulty, sinks)?;
-    let mut sure = sure_resume_host(alloc, queries, checkpoint, events)?;
-    let second = over_sure(alloc, words_of(alloc, words)?, &mut sure, sinks)?;
-    Ok((first, second))
+    let mut host = failing_resume_host(alloc, queries, checkpoint, events, 0, 0, 0)?;
+    over_host(alloc, words_of(alloc, words)?, &mut host, sinks)
 }
 
-/// What a call answers over both hosts, where all goes well outside.
-pub fn both(
+/// What a call answers where all goes well outside.
+pub fn done_well(
     alloc: Global,
     words: &str,
     queries: &[u8],
     events: &[u8],
-) -> Result<(String, String), AllocError> {
+) -> Result<String, AllocError> {
     let sinks = Sinks {
         room: AMPLE,
         piece: 7,
         write: 0,
         note: 0,
     };
-    let mut faulty = failing_host(alloc, queries, events, 0, 0, 0)?;
-    let first = over_faulty(alloc, words_of(alloc, words)?, &mut faulty, sinks)?;
-    let mut sure = sure_host(alloc, queries, events)?;
-    let second = over_sure(alloc, words_of(alloc, words)?, &mut sure, sinks)?;
-    Ok((first, second))
+    let mut host = failing_host(alloc, queries, events, 0, 0, 0)?;
+    over_host(alloc, words_of(alloc, words)?, &mut host, sinks)
 }

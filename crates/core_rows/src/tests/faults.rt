@@ -3,7 +3,7 @@
 //! What is left standing is told by the calls that went well before: the sink took 5 bytes with each
 //! write, the notes 7, and each read gave 4 bytes.
 
-use super::calls::{AMPLE, Sinks, failing_host, over_faulty, words_of};
+use super::calls::{AMPLE, Sinks, failing_host, over_host, words_of};
 use super::rows::PLAIN;
 use std::alloc::{AllocError, Global};
 use std::process::Abort;
@@ -110,7 +110,7 @@ fn words_hold(
         write: failing.write,
         note: failing.note,
     };
-    let found = over_faulty(alloc, words_of(alloc, words)?, &mut host, sinks)?;
+    let found = over_host(alloc, words_of(alloc, words)?, &mut host, sinks)?;
     let wanted = format!(in alloc; "{status}|{output}|{note}")?;
     assert_eq!(rt; found.as_str(), wanted.as_str(), "{words}: {failing:?}");
     Ok(())
@@ -274,7 +274,7 @@ fn a_full_sink_keeps_a_first_part(rt: HostRuntime) -> Result<(), Fail> {
         write: 0,
         note: 0,
     };
-    let found = over_faulty(alloc, words_of(alloc, "run q e")?, &mut host, sinks)?;
+    let found = over_host(alloc, words_of(alloc, "run q e")?, &mut host, sinks)?;
     assert_eq!(rt;
         found.as_str(),
         "6|1 [0,0] {0}\n1 [0,1] |core: cannot write\n"

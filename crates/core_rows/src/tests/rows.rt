@@ -1,6 +1,6 @@
 //! Tables of rows: a line each for a whole call of the program.
 
-use super::calls::{both, both_resume};
+use super::calls::{done_well, resumed_well};
 use std::alloc::{AllocError, Global};
 use std::process::Abort;
 use std::test::*;
@@ -104,18 +104,18 @@ fn wanted_of(alloc: Global, row: Row<'_>) -> Result<String, AllocError> {
     Ok(text)
 }
 
-/// What the row's words answer over both hosts.
+/// What the row's words answer.
 fn answers_of(
     alloc: Global,
     row: Row<'_>,
     queries: &str,
     events: &str,
-) -> Result<(String, String), AllocError> {
+) -> Result<String, AllocError> {
     if row.checkpoint.is_none() {
-        return both(alloc, row.words, queries.as_bytes(), events.as_bytes());
+        return done_well(alloc, row.words, queries.as_bytes(), events.as_bytes());
     }
     let checkpoint = lines_of(alloc, row.checkpoint)?;
-    both_resume(
+    resumed_well(
         alloc,
         row.words,
         queries.as_bytes(),
@@ -124,7 +124,7 @@ fn answers_of(
     )
 }
 
-/// Holds the row against both hosts.
+/// Holds the row.
 fn row_holds(
     rt: &impl Abort,
     alloc: Global,
@@ -136,9 +136,8 @@ fn row_holds(
     let queries = queries_of(alloc, first, row)?;
     let events = lines_of(alloc, row.events)?;
     let wanted = wanted_of(alloc, row)?;
-    let (faulty, sure) = answers_of(alloc, row, queries.as_str(), events.as_str())?;
-    assert_eq!(rt; faulty.as_str(), wanted.as_str(), "{line}");
-    assert_eq!(rt; sure.as_str(), wanted.as_str(), "{line}");
+    let told = answers_of(alloc, row, queries.as_str(), events.as_str())?;
+    assert_eq!(rt; told.as_str(), wanted.as_str(), "{line}");
     Ok(())
 }
 

@@ -21,7 +21,7 @@ returns-clause-wrote g c = (
 
 pub returns-in-Err-keep_events-clause-wrote : goal.returns-in-Err-keep_events-clause-wrote
 returns-in-Err-keep_events-clause-wrote g c =
-    rw c.reading_fault.ensures (
+    rw c.stream_fault.ensures (
     stopped c.args.schema.now c.args.queries.now c.args.most_bytes c.in-Ok.lines (g.Q.Source.left c.args.source.now) c.in-Ok-new.keep c.in-Ok-new.ensures c.in-Ok.ensures.budget c.in-Ok.ensures.given
     (Unit {0}) (Unit {0}) (g.Q.Source.left c.keep_events.new.source) (g.K.Sink.taken c.args.out.now) c.in-Err-keep_events.stop c.in-Err-keep_events.ensures.stops)
 

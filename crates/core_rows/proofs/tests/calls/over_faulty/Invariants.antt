@@ -1,5 +1,0 @@
-use Rattle.core_rows.proofs.tests.calls.over_faulty.Given as goal
-
--- the call counts in the ledger that its blank opens
-abbrev pub ghosts-answer : goal.ghosts-answer
-ghosts-answer a = record { name = a.blank.name; parts = a.blank.parts }

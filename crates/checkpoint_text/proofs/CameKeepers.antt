@@ -18,7 +18,7 @@ use Rattle.query_engine.specs.Clocks.{NoneFallsBack, IsFirstToFall}
 use Rattle.checkpoint_text.specs.declared.clocks.Fall.{Fall}
 use Rattle.checkpoint_text.specs.declared.history.EventAt.{EventAt}
 use Rattle.checkpoint_text.specs.declared.keeping.KeptLine.{KeptLine}
-use Rattle.checkpoint_text.specs.Clocks.{some_falls, NoneFallsBehind, NoneFalls}
+use Rattle.checkpoint_text.specs.Clocks.{some_falls, NoneFallsAfter, NoneFalls}
 use Rattle.checkpoint_text.specs.LastClocks.{last_clocks, any_back, first_back}
 use Rattle.checkpoint_text.specs.Keeping.{Keeper, next_event, with_event}
 use Rattle.checkpoint_text.specs.KeepLaws.{empty_keeper, keeping, lines_from, lines_of, events_of, IsLineOf}
@@ -53,7 +53,7 @@ all_more : (P : KeptLine → Type 0) (lines : List KeptLine) (line : KeptLine) �
 all_more P [] line all one = (one, tt)
 all_more P (l ∷ lines) line all one = (all.0, all_more P lines line all.1 one)
 
-level_more : (schema : Declared) (queries : List Query) (before es : List EventAt) (e : EventAt) → NoneFallsBehind schema queries before es → some_falls schema queries (before ++ es) e ≡ false → NoneFallsBehind schema queries before (es ++ e ∷ [])
+level_more : (schema : Declared) (queries : List Query) (before es : List EventAt) (e : EventAt) → NoneFallsAfter schema queries before es → some_falls schema queries (before ++ es) e ≡ false → NoneFallsAfter schema queries before (es ++ e ∷ [])
 level_more schema queries before [] e level none = (ap (λ b. some_falls schema queries b e) (sym (append-nil before)) ∙ none, tt)
 level_more schema queries before (x ∷ es) e level none =
     (level.0, level_more schema queries (before ++ x ∷ []) es e level.1 (ap (λ b. some_falls schema queries b e) (append_assoc before (x ∷ []) es) ∙ none))

@@ -17,7 +17,7 @@ use Rattle.checkpoint_text.specs.declared.stand.Awaited.TheVariants.{Counts, Pos
 use Rattle.checkpoint_text.specs.declared.stand.Stand.{Stand}
 use Rattle.checkpoint_text.specs.declared.history.EventAt.{EventAt}
 use Rattle.checkpoint_text.specs.declared.history.History.{History}
-use Rattle.checkpoint_text.specs.Clocks.{some_falls, NoneFallsBehind}
+use Rattle.checkpoint_text.specs.Clocks.{some_falls, NoneFallsAfter}
 use Rattle.checkpoint_text.specs.Histories.{AreAscendingFrom}
 use Rattle.checkpoint_text.specs.Numbers.{position_of, counts_of}
 use Rattle.checkpoint_text.specs.Checkpoints.{Told, nothing, start, counted, placed, standing, with_event, Refusal, at_line, told_on, told_by, is_whole, history_of, at_stop, history_in}
@@ -33,7 +33,7 @@ record Tells (schema : Declared) (queries : List Query) (positions count least :
   lines : AreEventLines schema events texts
   ascending : AreAscendingFrom least events
   below : AllByRecursion (λ e. e.position < positions) events
-  level : NoneFallsBehind schema queries before events
+  level : NoneFallsAfter schema queries before events
   all : length before + length events ≡ count
 
 same_bytes : (xs ys : List ℕ) → bytes_eq xs ys ≡ true → xs ≡ ys

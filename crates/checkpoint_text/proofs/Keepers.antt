@@ -8,7 +8,7 @@ use Rattle.stream_schema.specs.declared.Event.{Event}
 use Rattle.cel_terms.specs.declared.Query.{Query}
 use Rattle.checkpoint_text.specs.declared.history.EventAt.{EventAt}
 use Rattle.checkpoint_text.specs.declared.keeping.KeptLine.{KeptLine}
-use Rattle.checkpoint_text.specs.Clocks.{some_falls, NoneFallsBehind, NoneFalls}
+use Rattle.checkpoint_text.specs.Clocks.{some_falls, NoneFallsAfter, NoneFalls}
 use Rattle.checkpoint_text.specs.LastClocks.{last_clocks, next_clocks}
 use Rattle.checkpoint_text.specs.Keeping.{Keeper, needed, with_event}
 use Rattle.checkpoint_text.specs.KeepLaws.{keeping, lines_from, lines_of, events_of, kept_lines}
@@ -44,7 +44,7 @@ one_more schema queries n before line at level =
     (needed_on schema queries lasts e before (this ∷ []) (any_back_is schema queries (events_of before) e ∙ quiet) ∙ ap (λ (l : KeptLine). needed schema queries (next_clocks schema queries lasts e) (before ++ l ∷ [])) is)
     ∙ ap (with_lasts schema queries (n + 1) (before ++ line ∷ [])) next
 
-pub keep_on : (schema : Declared) (queries : List Query) (n : ℕ) (before : List KeptLine) (came : List (Event × List ℕ)) → NoneFallsBehind schema queries (events_of before) (events_of (lines_from n came)) →
+pub keep_on : (schema : Declared) (queries : List Query) (n : ℕ) (before : List KeptLine) (came : List (Event × List ℕ)) → NoneFallsAfter schema queries (events_of before) (events_of (lines_from n came)) →
     fold (λ keeper e. with_event keeper e.0 e.1) (kept_of schema queries n before) came ≡ kept_of schema queries (n + length came) (before ++ lines_from n came)
 keep_on schema queries n before [] level =
     let now : n ≡ n + 0 = omega arith in
@@ -52,7 +52,7 @@ keep_on schema queries n before [] level =
 keep_on schema queries n before (e ∷ came) level =
     let line : KeptLine = record { at = record { position = n; event = e.0 }; text = e.1 } in
     let more : n + 1 + length came ≡ n + length (e ∷ came) = omega arith in
-    let P : List EventAt → Type 0 = λ es. NoneFallsBehind schema queries es (events_of (lines_from (n + 1) came)) in
+    let P : List EventAt → Type 0 = λ es. NoneFallsAfter schema queries es (events_of (lines_from (n + 1) came)) in
     ap (λ keeper. fold (λ keeper e. with_event keeper e.0 e.1) keeper came) (one_more schema queries n before line refl level.0)
     ∙ keep_on schema queries (n + 1) (before ++ line ∷ []) came (subst P (sym (map-append (λ (l : KeptLine). l.at) before (line ∷ []))) level.1)
     ∙ ap₂ (kept_of schema queries) more (append_assoc before (line ∷ []) (lines_from (n + 1) came))

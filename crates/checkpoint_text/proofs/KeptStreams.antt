@@ -8,7 +8,7 @@ use Rattle.stream_schema.specs.declared.Event.{Event}
 use Rattle.cel_terms.specs.declared.Query.{Query}
 use Rattle.checkpoint_text.specs.declared.history.EventAt.{EventAt}
 use Rattle.checkpoint_text.specs.declared.keeping.KeptLine.{KeptLine}
-use Rattle.checkpoint_text.specs.Clocks.{clock_at, later, last_clock, is_back, some_falls, NoneFallsBehind, NoneFalls}
+use Rattle.checkpoint_text.specs.Clocks.{clock_at, later, last_clock, is_back, some_falls, NoneFallsAfter, NoneFalls}
 use Rattle.checkpoint_text.specs.Histories.{AreAscendingFrom}
 use Rattle.checkpoint_text.specs.Spelling.{IsHistory}
 use Rattle.checkpoint_text.specs.Checkpoints.{checkpoint_of}
@@ -84,14 +84,14 @@ none_yet schema [] = tt
 none_yet schema (q ∷ queries) = (tt, none_yet schema queries)
 
 module _ (test : KeptLine → Bool) where
-  level_kept : (schema : Declared) (queries : List Query) (sub all : List EventAt) (lines : List KeptLine) → AreAtMost schema queries sub all → NoneFallsBehind schema queries all (events_of lines) →
-      NoneFallsBehind schema queries sub (events_of (filter test lines))
+  level_kept : (schema : Declared) (queries : List Query) (sub all : List EventAt) (lines : List KeptLine) → AreAtMost schema queries sub all → NoneFallsAfter schema queries all (events_of lines) →
+      NoneFallsAfter schema queries sub (events_of (filter test lines))
   level_kept schema queries sub all [] low level = tt
   level_kept schema queries sub all (line ∷ lines) low level =
       by_test (test line) (level_kept schema queries (sub ++ line.at ∷ []) (all ++ line.at ∷ []) lines (with_both schema queries sub all line.at low) level.1) (level_kept schema queries sub (all ++ line.at ∷ []) lines (with_one schema queries sub all line.at low level.0) level.1)
     where
-      by_test : (t : Bool) → NoneFallsBehind schema queries (sub ++ line.at ∷ []) (events_of (filter test lines)) → NoneFallsBehind schema queries sub (events_of (filter test lines)) →
-          NoneFallsBehind schema queries sub (events_of (cond t (line ∷ filter test lines) (filter test lines)))
+      by_test : (t : Bool) → NoneFallsAfter schema queries (sub ++ line.at ∷ []) (events_of (filter test lines)) → NoneFallsAfter schema queries sub (events_of (filter test lines)) →
+          NoneFallsAfter schema queries sub (events_of (cond t (line ∷ filter test lines) (filter test lines)))
       by_test true with_it without = (none_falls_in schema queries sub all line.at low level.0, with_it)
       by_test false with_it without = without
 

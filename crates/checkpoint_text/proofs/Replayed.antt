@@ -26,7 +26,7 @@ use Rattle.query_engine.proofs.DenseNodes.{peaks_skip}
 use Rattle.query_engine.proofs.Skipped.{blank_unread, blanks_between, some_blanks}
 use Rattle.checkpoint_text.specs.declared.history.EventAt.{EventAt}
 use Rattle.checkpoint_text.specs.declared.history.History.{History}
-use Rattle.checkpoint_text.specs.Clocks.{clock_at, later, last_clock, falls_with, some_falls, NoneFallsBehind}
+use Rattle.checkpoint_text.specs.Clocks.{clock_at, later, last_clock, falls_with, some_falls, NoneFallsAfter}
 use Rattle.checkpoint_text.specs.Histories.{AreAscendingFrom}
 use Rattle.checkpoint_text.specs.Spelling.{IsHistory}
 use Rattle.checkpoint_text.specs.Streams.{AreEventsFrom}
@@ -172,7 +172,7 @@ module _ (schema : Declared) (q : Query) (well : IsWellDeclared schema) where
       less_test a b less = grind (arith, ints)
 
 -- along a history none falls
-level_at : (schema : Declared) (queries : List Query) (before es : List EventAt) (k : ℕ) (e : EventAt) → NoneFallsBehind schema queries before es → slice_get es k ≡ Some e → some_falls schema queries (before ++ take k es) e ≡ false
+level_at : (schema : Declared) (queries : List Query) (before es : List EventAt) (k : ℕ) (e : EventAt) → NoneFallsAfter schema queries before es → slice_get es k ≡ Some e → some_falls schema queries (before ++ take k es) e ≡ false
 level_at schema queries before [] k e level at = absurd cc
 level_at schema queries before (x ∷ es) zero e level at =
     let same : x ≡ e = cc in
@@ -181,7 +181,7 @@ level_at schema queries before (x ∷ es) zero e level at =
 level_at schema queries before (x ∷ es) (suc k) e level at =
     ap (λ b. some_falls schema queries b e) (sym (append_assoc before (x ∷ []) (take k es))) ∙ level_at schema queries (before ++ x ∷ []) es k e level.1 at
 
-pub no_fall : (schema : Declared) (queries : List Query) (es : List EventAt) (k : ℕ) (e : EventAt) (stream : List Event) → IsWellDeclared schema → NoneFallsBehind schema queries [] es → slice_get es k ≡ Some e → AreEventsFrom schema 0 e.position (take k es) stream → NoneFallsBack schema queries stream e.event
+pub no_fall : (schema : Declared) (queries : List Query) (es : List EventAt) (k : ℕ) (e : EventAt) (stream : List Event) → IsWellDeclared schema → NoneFallsAfter schema queries [] es → slice_get es k ≡ Some e → AreEventsFrom schema 0 e.position (take k es) stream → NoneFallsBack schema queries stream e.event
 no_fall schema queries es k e stream well level at are j q before now query f =
     let falls = falls_too schema q well e.position (take k es) stream e before now are refl f in
     let some = any_from (falls_with schema (take k es) e) queries j q query falls in

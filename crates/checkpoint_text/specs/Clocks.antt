@@ -34,11 +34,11 @@ abbrev pub some_falls : Declared → List Query → List EventAt → EventAt →
 some_falls schema queries events e = list_any (falls_with schema events e) queries
 
 -- With none of the events does the clock of a query fall, after these and those between.
-abbrev pub NoneFallsBehind : Declared → List Query → List EventAt → List EventAt → Type 0
-NoneFallsBehind schema queries before [] = Unit {0}
-NoneFallsBehind schema queries before (e ∷ events) =
-    (some_falls schema queries before e ≡ false) × NoneFallsBehind schema queries (before ++ e ∷ []) events
+abbrev pub NoneFallsAfter : Declared → List Query → List EventAt → List EventAt → Type 0
+NoneFallsAfter schema queries before [] = Unit {0}
+NoneFallsAfter schema queries before (e ∷ events) =
+    (some_falls schema queries before e ≡ false) × NoneFallsAfter schema queries (before ++ e ∷ []) events
 
 -- No query's clock falls along the events.
 abbrev pub NoneFalls : Declared → List Query → List EventAt → Type 0
-NoneFalls schema queries events = NoneFallsBehind schema queries [] events
+NoneFalls schema queries events = NoneFallsAfter schema queries [] events

@@ -22,11 +22,11 @@ abbrev pub cut : List ℕ → Option (List ℕ × List ℕ)
 cut text = if nat_lt (position_or_len is_blank text) (length text) then Some (before_first is_blank text, after_first is_blank text) else None
 
 -- what stands after this word and a blank
-abbrev pub behind_in : List ℕ → List ℕ × List ℕ → Option (List ℕ)
-behind_in word parts = if bytes_eq parts.0 word then Some parts.1 else None
+abbrev pub after_word_in : List ℕ → List ℕ × List ℕ → Option (List ℕ)
+after_word_in word parts = if bytes_eq parts.0 word then Some parts.1 else None
 
-abbrev pub behind : List ℕ → List ℕ → Option (List ℕ)
-behind word text = option_and_then (behind_in word) (cut text)
+abbrev pub after_word : List ℕ → List ℕ → Option (List ℕ)
+after_word word text = option_and_then (after_word_in word) (cut text)
 
 -- two numbers: the first at most the most positions, the second at most the first
 abbrev pub two_numbers : List ℕ × List ℕ → Option (ℕ × ℕ)
@@ -34,8 +34,8 @@ two_numbers parts = option_and_then (λ positions. option_map (λ count. (positi
 
 -- how many positions and events a line tells
 abbrev pub counts_of : List ℕ → Option (ℕ × ℕ)
-counts_of text = option_and_then (λ words. option_and_then two_numbers (cut words)) (behind (codes "events") text)
+counts_of text = option_and_then (λ words. option_and_then two_numbers (cut words)) (after_word (codes "events") text)
 
 -- the position that a line tells
 abbrev pub position_of : List ℕ → Option ℕ
-position_of text = option_and_then (number MOST_POSITIONS) (behind (codes "at") text)
+position_of text = option_and_then (number MOST_POSITIONS) (after_word (codes "at") text)

@@ -3,7 +3,7 @@
 ghost use Rattle.std.specs.Prelude.{◌≡◌, ◌≤◌, length, option_map};
 ghost use Rattle.std.specs.Char.{is_ascii_digit};
 ghost use Rattle.std.specs.List.{list_all, position_or_len};
-ghost use Rattle.checkpoint_text.specs.Numbers.{is_numeral, number, is_blank, cut, behind, two_numbers, counts_of, position_of};
+ghost use Rattle.checkpoint_text.specs.Numbers.{is_numeral, number, is_blank, cut, after_word, two_numbers, counts_of, position_of};
 
 use cer_base::digits::with_digits;
 
@@ -20,7 +20,7 @@ pub const MOST_POSITIONS: u64 = 4611686018427387904;
 pub fn counts_of(text: &[u8]) -> Option<(u64, u64)>
     ensures { result ≡ counts_of text.now }
 {
-    let words = behind(b"events", text)?;
+    let words = after_word(b"events", text)?;
     let (positions, count) = cut(words)?;
     two_numbers(positions, count)
 }
@@ -37,13 +37,13 @@ fn two_numbers(positions: &[u8], count: &[u8]) -> Option<(u64, u64)>
 pub fn position_of(text: &[u8]) -> Option<u64>
     ensures { result ≡ position_of text.now }
 {
-    let digits = behind(b"at", text)?;
+    let digits = after_word(b"at", text)?;
     number(MOST_POSITIONS, digits)
 }
 
 /// What stands after this word and a blank.
-fn behind<'t>(word: &[u8], text: &'t [u8]) -> Option<&'t [u8]>
-    ensures { option_map (λ rest. rest.now) result ≡ behind word.now text.now }
+fn after_word<'t>(word: &[u8], text: &'t [u8]) -> Option<&'t [u8]>
+    ensures { option_map (λ rest. rest.now) result ≡ after_word word.now text.now }
 {
     match cut(text) {
         Some((first, rest)) => { if first == word { Some(rest) } else { None } }

@@ -3,61 +3,28 @@ use Rattle.std.proofs.Common.{◌≡◌, [], ◌∷◌, Some, None, codes, refl}
 use Rattle.answer_text.specs.declared.Order.TheVariants.{Walk, Sorted}
 use Rattle.clap.proofs.OnLiterals.{clap_on_literals}
 use Rattle.command_words.specs.CommandLine.{AsksFor, command_of}
-use Rattle.command_words.specs.declared.Command.TheVariants.{Run, Sample, Session, Reorder, Explain, Save, Resume}
+use Rattle.command_words.specs.declared.Command.TheVariants.{Run, Sample, Explain, Resume}
 
 pub options_stand_between : AsksFor (codes "run" ∷ codes "--order=walk" ∷ codes "q" ∷ codes "--max-bytes" ∷ codes "+05" ∷ codes "-" ∷ [])
     (Run (codes "q") (codes "-") Walk None 5)
 unfolding clap_on_literals
 options_stand_between = refl
 
-pub compactions_are_asked_for : AsksFor (codes "run" ∷ codes "q" ∷ codes "--compact-every" ∷ codes "1000" ∷ codes "e" ∷ [])
-    (Run (codes "q") (codes "e") Sorted (Some 1000) 1099511627776)
-unfolding clap_on_literals
-compactions_are_asked_for = refl
-
 pub numbers_have_zeros : AsksFor (codes "sample" ∷ codes "+7" ∷ codes "007" ∷ []) (Sample 7 7)
 unfolding clap_on_literals
 numbers_have_zeros = refl
-
-pub a_script_is_named : AsksFor (codes "session" ∷ codes "q" ∷ codes "s" ∷ []) (Session (codes "q") (codes "s"))
-unfolding clap_on_literals
-a_script_is_named = refl
-
-pub lateness_is_told : AsksFor (codes "reorder" ∷ codes "q" ∷ codes "e" ∷ codes "t" ∷ codes "--order=walk" ∷ codes "5" ∷ codes "--compact-every" ∷ codes "9" ∷ []) (Reorder (codes "q") (codes "e") (codes "t") 5 Walk (Some 9) 1099511627776)
-unfolding clap_on_literals
-lateness_is_told = refl
-
-pub lateness_is_needed : command_of (codes "reorder" ∷ codes "q" ∷ codes "e" ∷ codes "t" ∷ []) ≡ None
-unfolding clap_on_literals
-lateness_is_needed = refl
 
 pub positions_are_listed : AsksFor (codes "explain" ∷ codes "q" ∷ codes "e" ∷ codes "1" ∷ codes "2" ∷ codes "5" ∷ codes "5" ∷ codes "2" ∷ []) (Explain (codes "q") (codes "e") 1 2 5 (5 ∷ 2 ∷ []))
 unfolding clap_on_literals
 positions_are_listed = refl
 
-pub no_position_is_needed : AsksFor (codes "explain" ∷ codes "q" ∷ codes "e" ∷ codes "1" ∷ codes "2" ∷ codes "5" ∷ []) (Explain (codes "q") (codes "e") 1 2 5 [])
-unfolding clap_on_literals
-no_position_is_needed = refl
-
-pub a_checkpoint_is_asked_for : AsksFor (codes "save" ∷ codes "q" ∷ codes "e" ∷ []) (Save (codes "q") (codes "e"))
-unfolding clap_on_literals
-a_checkpoint_is_asked_for = refl
-
 pub a_checkpoint_is_named : AsksFor (codes "resume" ∷ codes "q" ∷ codes "--compact-every=9" ∷ codes "c" ∷ codes "e" ∷ codes "--order" ∷ codes "walk" ∷ []) (Resume (codes "q") (codes "c") (codes "e") Walk (Some 9) 1099511627776)
 unfolding clap_on_literals
 a_checkpoint_is_named = refl
 
-pub a_checkpoint_is_needed : command_of (codes "resume" ∷ codes "q" ∷ codes "e" ∷ []) ≡ None
-unfolding clap_on_literals
-a_checkpoint_is_needed = refl
-
 pub one_name_is_refused : command_of (codes "run" ∷ codes "q" ∷ []) ≡ None
 unfolding clap_on_literals
 one_name_is_refused = refl
-
-pub help_is_refused : command_of (codes "--help" ∷ []) ≡ None
-unfolding clap_on_literals
-help_is_refused = refl
 
 pub defaults_hold : AsksFor (codes "run" ∷ codes "q.core" ∷ codes "e.csv" ∷ []) (Run (codes "q.core") (codes "e.csv") Sorted None 1099511627776)
 unfolding clap_on_literals

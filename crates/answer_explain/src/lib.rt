@@ -16,7 +16,7 @@ mod written;
 pub use written::{MOST_BYTES, write_explanation};
 
 /// Which complex event of which query is asked for.
-#[derive(Drop, Debug)]
+#[derive(Drop)]
 pub struct Question {
     /// The query's number, from 1.
     pub query: u64,

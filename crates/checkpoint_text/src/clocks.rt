@@ -124,7 +124,7 @@ pub fn any_back(
 }
 
 /// How the clock of a query falls: the query's number, from 1, its last clock, and that of the event.
-#[derive(Drop, Debug, Clone, Copy, PartialEq, Eq)]
+#[derive(Drop, Clone, Copy, PartialEq, Eq)]
 pub struct Fall {
     pub query: u64,
     pub before: i128,

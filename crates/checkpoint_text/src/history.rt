@@ -4,7 +4,7 @@ use cer_base::{Listed, Pos};
 use stream_schema::Event;
 
 /// An event with its position in the stream, from 0.
-#[derive(Drop, Debug)]
+#[derive(Drop)]
 pub struct EventAt {
     pub position: Pos,
     pub event: Event,
@@ -12,7 +12,7 @@ pub struct EventAt {
 
 /// A stream of so many positions. These of its events are known, by ascending position; every other
 /// one is blank.
-#[derive(Drop, Debug)]
+#[derive(Drop)]
 pub struct History {
     pub positions: u64,
     pub events: Listed<EventAt>,

@@ -27,7 +27,7 @@ use std::marker::Model;
 use stream_schema::{Event, Schema, copy_event};
 
 /// An event that is kept, and the text of its line.
-#[derive(Drop, Debug)]
+#[derive(Drop)]
 pub struct KeptLine {
     pub at: EventAt,
     pub text: Listed<u8>,

@@ -19,7 +19,7 @@ use std::alloc::Global;
 use stream_schema::{Event, Schema};
 
 /// The line that must come next.
-#[derive(Drop, Debug, Clone, Copy, PartialEq, Eq)]
+#[derive(Drop, Clone, Copy, PartialEq, Eq)]
 pub enum Awaited {
     Header,
     Counts,
@@ -31,7 +31,7 @@ pub enum Awaited {
 
 /// Where the lines stand: what must come next, how many positions and events there are, and the
 /// least position that may come.
-#[derive(Drop, Debug, Clone, Copy, PartialEq, Eq)]
+#[derive(Drop, Clone, Copy, PartialEq, Eq)]
 pub struct Stand {
     pub awaited: Awaited,
     pub positions: u64,

@@ -21,7 +21,7 @@ use cer_base::{Listed, OrMemory, Text};
 use std::alloc::Global;
 
 /// What the words after the program's name ask for.
-#[derive(Drop, Debug)]
+#[derive(Drop)]
 pub enum Command {
     /// The answers to the queries of one file over the events of another.
     Run {
@@ -90,7 +90,7 @@ pub enum Command {
 }
 
 /// The words ask for nothing that the program does.
-#[derive(Debug, Clone, Copy, PartialEq, Eq)]
+#[derive(Clone, Copy, PartialEq, Eq)]
 pub struct Usage;
 
 /// What the words after the program's name ask for, or that they ask for nothing.

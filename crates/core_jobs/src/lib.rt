@@ -36,7 +36,7 @@ mod save;
 mod session;
 
 /// Why the program ended.
-#[derive(Drop, Debug)]
+#[derive(Drop)]
 pub enum Cause {
     /// All was read and all answers were written: status 0.
     Fine,

@@ -21,7 +21,7 @@ use stream_schema::Event;
 
 /// How many answers, and the sum of their starts, ends and marked positions, both modulo 2 to the
 /// power of 64.
-#[derive(Debug, Clone, Copy, PartialEq, Eq)]
+#[derive(Clone, Copy, PartialEq, Eq)]
 pub struct Tally {
     pub answers: u64,
     pub total: u64,

@@ -17,7 +17,7 @@ use std::alloc::Global;
 use stream_schema::{Event, Schema};
 
 /// What a line of a script asks for.
-#[derive(Drop, Debug)]
+#[derive(Drop)]
 pub enum Command {
     /// The event comes.
     Event(Event),

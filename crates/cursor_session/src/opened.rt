@@ -5,7 +5,7 @@ ghost use Rattle.std.specs.Prelude.{◌≡◌, ◌==◌, position};
 use cer_base::Pos;
 
 /// The number of an open cursor, from 1 to 64, and the position at which it was opened.
-#[derive(Drop, Debug, Clone, Copy)]
+#[derive(Drop, Clone, Copy)]
 pub struct Opened {
     pub number: u64,
     pub position: Pos,

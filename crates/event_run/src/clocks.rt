@@ -18,7 +18,7 @@ use event_reader::EventFault;
 use stream_schema::{Event, Schema, TypeId, Value};
 
 /// The clock would fall: the last one that was seen, and that of the event.
-#[derive(Drop, Debug, Clone, Copy)]
+#[derive(Drop, Clone, Copy)]
 pub struct Fallen {
     pub before: i128,
     pub now: i128,

@@ -14,7 +14,7 @@ use std::alloc::Global;
 
 /// The leaves that can finish over the events that are left, where they have read the event just
 /// before, and where an earlier one.
-#[derive(Drop, Debug)]
+#[derive(Drop)]
 pub struct Ahead {
     pub just: Bits,
     pub earlier: Bits,

@@ -25,7 +25,7 @@ pub use explanation::explain;
 pub type Positions = Listed<Pos>;
 
 /// A name, and the positions in its set.
-#[derive(Drop, Debug)]
+#[derive(Drop)]
 pub struct Binding {
     pub name: Text,
     pub positions: Positions,

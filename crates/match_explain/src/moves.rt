@@ -10,14 +10,14 @@ use cea_determinise::cea::Cea;
 use cer_base::bits::Bits;
 
 /// When a leaf has read: the event just before, or an earlier one.
-#[derive(Drop, Debug, Clone, Copy)]
+#[derive(Drop, Clone, Copy)]
 pub enum Age {
     Just,
     Earlier,
 }
 
 /// What has read last: nothing yet, or a leaf.
-#[derive(Drop, Debug, Clone, Copy)]
+#[derive(Drop, Clone, Copy)]
 pub enum Last {
     Start,
     Leaf(Age, usize),

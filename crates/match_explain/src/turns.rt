@@ -17,7 +17,7 @@ use std::alloc::Global;
 use stream_schema::Event;
 
 /// An event of the span.
-#[derive(Drop, Debug)]
+#[derive(Drop)]
 pub struct Turn {
     pub position: Pos,
     /// The leaves that can read it, and are marked where it is.

@@ -17,7 +17,7 @@ use std::alloc::Global;
 use std::marker::Model;
 
 /// A leaf has read the event at a position.
-#[derive(Drop, Debug)]
+#[derive(Drop)]
 pub struct Step {
     leaf: usize,
     position: Pos,

@@ -13,7 +13,7 @@ use stream_schema::Event;
 
 /// The number of the query, from 1, and how its clock would fall: the last clock, and that of the
 /// event.
-#[derive(Drop, Debug, Clone, Copy)]
+#[derive(Drop, Clone, Copy)]
 pub struct FallOf {
     pub query: u64,
     pub before: i128,

@@ -194,20 +194,23 @@ fn each_write_fails(rt: HostRuntime) -> Result<(), Fail> {
     holds(&rt, alloc, Failing { write, ..NONE }, 0, OUTPUT, "")
 }
 
+/// Words, which write fails, from 1, and what the output has taken.
+const WRITES: &[(&str, u64, &str)] = &[
+    ("reorder q e v 0", 4, "1 [0,0] {0}\n"),
+    ("reorder q e v 9", 2, "1 [0,"),
+    ("reorder --order walk q e v 9", 4, "1 [0,0] {0}\n"),
+    ("explain q e 1 0 1 0 1", 1, ""),
+    ("explain q e 1 0 1 0 1", 5, "1 [0,1] {0,1}\nA {0,1"),
+    ("save q e", 1, ""),
+    ("save q e", 3, "core check"),
+];
+
 /// Late events are answered as they go, or at the end; an explanation and a checkpoint are written at
 /// their end.
 #[test]
 fn a_write_fails_in_each_command(rt: HostRuntime) -> Result<(), Fail> {
     let alloc = rt.alloc();
-    for (words, write, output) in [
-        ("reorder q e v 0", 4, "1 [0,0] {0}\n"),
-        ("reorder q e v 9", 2, "1 [0,"),
-        ("reorder --order walk q e v 9", 4, "1 [0,0] {0}\n"),
-        ("explain q e 1 0 1 0 1", 1, ""),
-        ("explain q e 1 0 1 0 1", 5, "1 [0,1] {0,1}\nA {0,1"),
-        ("save q e", 1, ""),
-        ("save q e", 3, "core check"),
-    ] {
+    for &(words, write, output) in WRITES {
         let failing = Failing { write, ..NONE };
         words_hold(
             &rt,

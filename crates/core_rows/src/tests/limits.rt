@@ -43,23 +43,26 @@ fn repeated(
     Ok(text)
 }
 
+/// First parts of an event file, and what is answered over each.
+const FIRST_PARTS: &[(&str, &str)] = &[
+    ("", "0||"),
+    ("N", "4||core: events line 1: 0 fields where 1 is wanted\n"),
+    ("N,", "0||"),
+    ("N,\"", "4||core: events line 1: open quote\n"),
+    ("N,\"a", "4||core: events line 1: open quote\n"),
+    ("N,\"a,", "4||core: events line 1: open quote\n"),
+    ("N,\"a,\"", "0||"),
+    ("N,\"a,\"\"", "4||core: events line 1: open quote\n"),
+    ("N,\"a,\"\"b", "4||core: events line 1: open quote\n"),
+    ("N,\"a,\"\"b\"", "0|1 [0,0] {0}\n|"),
+    ("N,\"a,\"\"b\"\r", "0|1 [0,0] {0}\n|"),
+    ("N,\"a,\"\"b\"\r\n", "0|1 [0,0] {0}\n|"),
+];
+
 /// Each first part of an event file, from none of it to all of it.
 #[test]
 fn first_parts_of_a_quoted_line(rt: HostRuntime) -> Result<(), Fail> {
-    for (events, wanted) in [
-        ("", "0||"),
-        ("N", "4||core: events line 1: 0 fields where 1 is wanted\n"),
-        ("N,", "0||"),
-        ("N,\"", "4||core: events line 1: open quote\n"),
-        ("N,\"a", "4||core: events line 1: open quote\n"),
-        ("N,\"a,", "4||core: events line 1: open quote\n"),
-        ("N,\"a,\"", "0||"),
-        ("N,\"a,\"\"", "4||core: events line 1: open quote\n"),
-        ("N,\"a,\"\"b", "4||core: events line 1: open quote\n"),
-        ("N,\"a,\"\"b\"", "0|1 [0,0] {0}\n|"),
-        ("N,\"a,\"\"b\"\r", "0|1 [0,0] {0}\n|"),
-        ("N,\"a,\"\"b\"\r\n", "0|1 [0,0] {0}\n|"),
-    ] {
+    for &(events, wanted) in FIRST_PARTS {
         holds(&rt, rt.alloc(), ONE_TEXT, events, wanted)?;
     }
     Ok(())

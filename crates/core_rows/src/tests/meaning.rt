@@ -131,22 +131,25 @@ const TRANSFERS: &str = "\
 row | events | output
 two failed logins then one that works then a large transfer | Login,ann,DE,true,0 / Login,bob,FR,false,5 / Login,bob,FR,false,20 / Transfer,ann,19.90,30 / Login,bob,US,true,65 / Transfer,bob,250.00,80 / Login,eve,US,false,100 / Transfer,bob,4999.00,120 / Login,eve,US,true,130 / Transfer,eve,3000.00,140 / Transfer,bob,1200.00,700 | 1 [1,7] {1,2,4,7}";
 
+/// Tables of rows, each with the first lines of its query texts.
+const TABLES: &[(&str, &str)] = &[
+    (PLAIN, PATTERNS),
+    (PLAIN, FILTERS),
+    (PLAIN, ANSWERS),
+    (LOGINS, TICKS),
+    (PLAIN, WINDOWS),
+    (TIMED, TIMES),
+    (KEYED, PARTITIONS),
+    (APART, KEYS_OF_ONE),
+    (UNLIKE, ABSENT),
+    (TIMED_KEYS, TIMES_OF_KEYS),
+    (BANK, TRANSFERS),
+];
+
 #[test]
 fn queries_mean_what_they_say(rt: HostRuntime) -> Result<(), Fail> {
     let alloc = rt.alloc();
-    for (first, table) in [
-        (PLAIN, PATTERNS),
-        (PLAIN, FILTERS),
-        (PLAIN, ANSWERS),
-        (LOGINS, TICKS),
-        (PLAIN, WINDOWS),
-        (TIMED, TIMES),
-        (KEYED, PARTITIONS),
-        (APART, KEYS_OF_ONE),
-        (UNLIKE, ABSENT),
-        (TIMED_KEYS, TIMES_OF_KEYS),
-        (BANK, TRANSFERS),
-    ] {
+    for &(first, table) in TABLES {
         rows_hold(&rt, alloc, first, table)?;
     }
     Ok(())

@@ -116,22 +116,25 @@ fn outside_holds(
     Ok(())
 }
 
+/// Which calls fail, by their numbers from 1, and what is answered.
+const OUTSIDE: &[([u64; 4], &str)] = &[
+    ([1, 0, 0, 0], "5||core: cannot open queries\n"),
+    ([2, 0, 0, 0], "5||core: cannot open checkpoint\n"),
+    ([3, 0, 0, 0], "5||core: cannot open events\n"),
+    ([4, 0, 0, 0], "0|1 [2,2] {2}\n|"),
+    ([0, 1, 0, 0], "5||core: cannot read checkpoint\n"),
+    ([0, 9, 0, 0], "5||core: cannot read checkpoint\n"),
+    ([0, 10, 0, 0], "0|1 [2,2] {2}\n|"),
+    ([0, 0, 1, 0], "5||core: cannot read events\n"),
+    ([0, 0, 2, 0], "5|1 [2,2] {2}\n|core: cannot read events\n"),
+    ([0, 0, 0, 1], "6||core: cannot write\n"),
+    ([0, 0, 0, 2], "6|1 [2,|core: cannot write\n"),
+];
+
 #[test]
 fn the_outside_fails_in_turn(rt: HostRuntime) -> Result<(), Fail> {
     let alloc = rt.alloc();
-    for (fails, wanted) in [
-        ([1, 0, 0, 0], "5||core: cannot open queries\n"),
-        ([2, 0, 0, 0], "5||core: cannot open checkpoint\n"),
-        ([3, 0, 0, 0], "5||core: cannot open events\n"),
-        ([4, 0, 0, 0], "0|1 [2,2] {2}\n|"),
-        ([0, 1, 0, 0], "5||core: cannot read checkpoint\n"),
-        ([0, 9, 0, 0], "5||core: cannot read checkpoint\n"),
-        ([0, 10, 0, 0], "0|1 [2,2] {2}\n|"),
-        ([0, 0, 1, 0], "5||core: cannot read events\n"),
-        ([0, 0, 2, 0], "5|1 [2,2] {2}\n|core: cannot read events\n"),
-        ([0, 0, 0, 1], "6||core: cannot write\n"),
-        ([0, 0, 0, 2], "6|1 [2,|core: cannot write\n"),
-    ] {
+    for &(fails, wanted) in OUTSIDE {
         outside_holds(&rt, alloc, fails, wanted)?;
     }
     Ok(())

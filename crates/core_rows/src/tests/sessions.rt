@@ -90,25 +90,28 @@ fn short_words(alloc: Global, read: u64, write: u64) -> Result<String, AllocErro
     over_host(alloc, words_of(alloc, "session q e")?, &mut host, sinks)
 }
 
+/// Which read of the script fails and which write, from 1, and what is answered.
+const FAULTS: &[(u64, u64, &str)] = &[
+    (1, 0, "5||core: cannot read events\n"),
+    (3, 0, "5||core: cannot read events\n"),
+    (4, 0, "5|at 0\n|core: cannot read events\n"),
+    (7, 0, "5|at 0\n|core: cannot read events\n"),
+    (
+        8,
+        0,
+        "5|at 0\n1 [0,0] {0}\nend\n|core: cannot read events\n",
+    ),
+    (9, 0, "0|at 0\n1 [0,0] {0}\nend\n|"),
+    (0, 1, "6||core: cannot write\n"),
+    (0, 2, "6|at 0\n|core: cannot write\n"),
+    (0, 3, "6|at 0\n1 [0,0]|core: cannot write\n"),
+    (0, 4, "6|at 0\n1 [0,0] {0}\n|core: cannot write\n"),
+    (0, 5, "0|at 0\n1 [0,0] {0}\nend\n|"),
+];
+
 #[test]
 fn lines_before_a_fault_are_played(rt: HostRuntime) -> Result<(), Fail> {
-    for (read, write, wanted) in [
-        (1, 0, "5||core: cannot read events\n"),
-        (3, 0, "5||core: cannot read events\n"),
-        (4, 0, "5|at 0\n|core: cannot read events\n"),
-        (7, 0, "5|at 0\n|core: cannot read events\n"),
-        (
-            8,
-            0,
-            "5|at 0\n1 [0,0] {0}\nend\n|core: cannot read events\n",
-        ),
-        (9, 0, "0|at 0\n1 [0,0] {0}\nend\n|"),
-        (0, 1, "6||core: cannot write\n"),
-        (0, 2, "6|at 0\n|core: cannot write\n"),
-        (0, 3, "6|at 0\n1 [0,0]|core: cannot write\n"),
-        (0, 4, "6|at 0\n1 [0,0] {0}\n|core: cannot write\n"),
-        (0, 5, "0|at 0\n1 [0,0] {0}\nend\n|"),
-    ] {
+    for &(read, write, wanted) in FAULTS {
         let words = short_words(rt.alloc(), read, write)?;
         assert_eq!(rt; words.as_str(), wanted, "at {read}, {write}");
     }

@@ -251,24 +251,27 @@ fn cut_wrong(alloc: Global, from: usize, to: usize, wanted: &str) -> Result<Stri
     }
 }
 
+/// From which length of the text up to which one it is refused so.
+const CUTS: &[(usize, usize, &str)] = &[
+    (0, 1, "line 1: missing line"),
+    (1, 17, "line 1: bad header"),
+    (17, 19, "line 2: missing line"),
+    (19, 28, "line 2: bad count"),
+    (28, 30, "line 3: missing line"),
+    (30, 33, "line 3: bad position"),
+    (33, 35, "line 4: missing line"),
+    (35, 37, "line 4: bad event"),
+    (37, 39, "line 5: missing line"),
+    (39, 42, "line 5: bad position"),
+    (42, 44, "line 6: missing line"),
+    (44, 46, "line 6: bad event"),
+    (46, 48, "3: 1 2"),
+];
+
 #[test]
 fn a_text_is_cut_at_every_byte(rt: HostRuntime) -> Result<(), Fail> {
     let alloc = rt.alloc();
-    for (from, to, wanted) in [
-        (0, 1, "line 1: missing line"),
-        (1, 17, "line 1: bad header"),
-        (17, 19, "line 2: missing line"),
-        (19, 28, "line 2: bad count"),
-        (28, 30, "line 3: missing line"),
-        (30, 33, "line 3: bad position"),
-        (33, 35, "line 4: missing line"),
-        (35, 37, "line 4: bad event"),
-        (37, 39, "line 5: missing line"),
-        (39, 42, "line 5: bad position"),
-        (42, 44, "line 6: missing line"),
-        (44, 46, "line 6: bad event"),
-        (46, 48, "3: 1 2"),
-    ] {
+    for &(from, to, wanted) in CUTS {
         let wrong = cut_wrong(alloc, from, to, wanted)?;
         assert_eq!(rt; wrong.as_str(), "", "from {from}");
     }
@@ -383,48 +386,51 @@ fn kept(alloc: Global, window: &str, lines: &str) -> Result<String, AllocError> 
     kept_in(alloc, &schema, window, lines)
 }
 
+/// A window, lines of events, and the checkpoint.
+const KEPT: &[(&str, &str, &str)] = &[
+    (
+        "1 EVENTS",
+        "A,1;A,2;A,3",
+        "core checkpoint 1;events 3 2;at 1;A,2;at 2;A,3;",
+    ),
+    (
+        "0 EVENTS",
+        "A,1;A,2;A,3",
+        "core checkpoint 1;events 3 1;at 2;A,3;",
+    ),
+    (
+        "",
+        "A,1;A,2",
+        "core checkpoint 1;events 2 2;at 0;A,1;at 1;A,2;",
+    ),
+    ("", "A,1;B,2", "core checkpoint 1;events 2 1;at 0;A,1;"),
+    (
+        "1 EVENTS",
+        "A,1;B,2;B,3;B,4",
+        "core checkpoint 1;events 4 1;at 0;A,1;",
+    ),
+    (
+        "1 EVENTS",
+        "B,1;A,2\r",
+        "core checkpoint 1;events 2 1;at 1;A,2;",
+    ),
+    (
+        "5 [t]",
+        "A,1;A,3;A,4;B,99;A,9",
+        "core checkpoint 1;events 5 2;at 2;A,4;at 4;A,9;",
+    ),
+    ("5 [t]", "A,4;A,3", "no event"),
+    (
+        "1 EVENTS",
+        "A,4;A,3",
+        "core checkpoint 1;events 2 2;at 0;A,4;at 1;A,3;",
+    ),
+];
+
 #[test]
 fn windows_keep_what_they_need(rt: HostRuntime) -> Result<(), Fail> {
     let alloc = rt.alloc();
-    for (window, lines, wanted) in [
-        (
-            "1 EVENTS",
-            "A,1;A,2;A,3",
-            "core checkpoint 1;events 3 2;at 1;A,2;at 2;A,3;",
-        ),
-        (
-            "0 EVENTS",
-            "A,1;A,2;A,3",
-            "core checkpoint 1;events 3 1;at 2;A,3;",
-        ),
-        (
-            "",
-            "A,1;A,2",
-            "core checkpoint 1;events 2 2;at 0;A,1;at 1;A,2;",
-        ),
-        ("", "A,1;B,2", "core checkpoint 1;events 2 1;at 0;A,1;"),
-        (
-            "1 EVENTS",
-            "A,1;B,2;B,3;B,4",
-            "core checkpoint 1;events 4 1;at 0;A,1;",
-        ),
-        (
-            "1 EVENTS",
-            "B,1;A,2\r",
-            "core checkpoint 1;events 2 1;at 1;A,2;",
-        ),
-        (
-            "5 [t]",
-            "A,1;A,3;A,4;B,99;A,9",
-            "core checkpoint 1;events 5 2;at 2;A,4;at 4;A,9;",
-        ),
-        ("5 [t]", "A,4;A,3", "no event"),
-        (
-            "1 EVENTS",
-            "A,4;A,3",
-            "core checkpoint 1;events 2 2;at 0;A,4;at 1;A,3;",
-        ),
-    ] {
+    for &(window, lines, wanted) in KEPT {
         let words = kept(alloc, window, lines)?;
         assert_eq!(rt; words.as_str(), wanted, "at {lines}");
     }

@@ -1,6 +1,6 @@
 //! Small feeds, told by what was written and how they ended.
 
-ghost use Rattle.std.specs.Prelude.{◌≡◌, ◌<◌, [], true, IfOk};
+ghost use Rattle.std.specs.Prelude.{◌≡◌, ◌<◌, [], IfOk};
 ghost use Rattle.query_engine.specs.Engine.{StandsFor, count_of};
 ghost use Rattle.reorder_gate.specs.Clocks.{clock_fits};
 
@@ -132,121 +132,127 @@ fn feed_words(
     words_of(alloc, end, &out)
 }
 
+/// Queries, how late an event may come, an event file, and the answers.
+const BY_CLOCKS: &[(&str, u64, &str, &str)] = &[
+    // The A of clock 9 comes after the B of clock 14.
+    (
+        PAIRS,
+        5,
+        "A,10\nB,14\nA,9\nB,16\n",
+        "1 [0,2] {0,2}\n1 [1,2] {1,2}\n1 [0,3] {0,3}\n1 [1,3] {1,3}\nend",
+    ),
+    // Of one clock they go as they came.
+    (PAIRS, 9, "A,5\nB,5\n", "1 [0,1] {0,1}\nend"),
+    (PAIRS, 9, "B,5\nA,5\n", "end"),
+    (EACH, 0, "", "end"),
+    (EACH, 3, "\nA,1", "1 [0,0] {0}\nend"),
+    // At the bound, and one below it.
+    (EACH, 5, "A,10\nA,5\n", "1 [0,0] {0}\n1 [1,1] {1}\nend"),
+    (
+        EACH,
+        5,
+        "A,10\nA,4\n",
+        "line 2: time 4 comes too late after 10",
+    ),
+    (
+        EACH,
+        0,
+        "A,10\nA,9\n",
+        "1 [0,0] {0}\nline 2: time 9 comes too late after 10",
+    ),
+    (EACH, 2, "B,-3\nA,-5\n", "1 [0,0] {0}\nend"),
+    (
+        EACH,
+        2,
+        "B,-3\nA,-6\n",
+        "line 2: time -6 comes too late after -3",
+    ),
+    // The greatest clock counts, and not the last one.
+    (
+        EACH,
+        5,
+        "B,10\nB,6\nA,4\n",
+        "line 3: time 4 comes too late after 10",
+    ),
+    // The greatest bound, from 10 on.
+    (
+        EACH,
+        MOST,
+        "B,10\nA,-9223372036854775797\n",
+        "1 [0,0] {0}\nend",
+    ),
+    (
+        EACH,
+        MOST,
+        "B,10\nA,-9223372036854775798\n",
+        "line 2: time -9223372036854775798 comes too late after 10",
+    ),
+];
+
 #[test]
 fn events_are_answered_by_their_clocks(rt: HostRuntime) -> Result<(), Fail> {
     let alloc = rt.alloc();
-    for (queries, late, bytes, wanted) in [
-        // The A of clock 9 comes after the B of clock 14.
-        (
-            PAIRS,
-            5,
-            "A,10\nB,14\nA,9\nB,16\n",
-            "1 [0,2] {0,2}\n1 [1,2] {1,2}\n1 [0,3] {0,3}\n1 [1,3] {1,3}\nend",
-        ),
-        // Of one clock they go as they came.
-        (PAIRS, 9, "A,5\nB,5\n", "1 [0,1] {0,1}\nend"),
-        (PAIRS, 9, "B,5\nA,5\n", "end"),
-        (EACH, 0, "", "end"),
-        (EACH, 3, "\nA,1", "1 [0,0] {0}\nend"),
-        // At the bound, and one below it.
-        (EACH, 5, "A,10\nA,5\n", "1 [0,0] {0}\n1 [1,1] {1}\nend"),
-        (
-            EACH,
-            5,
-            "A,10\nA,4\n",
-            "line 2: time 4 comes too late after 10",
-        ),
-        (
-            EACH,
-            0,
-            "A,10\nA,9\n",
-            "1 [0,0] {0}\nline 2: time 9 comes too late after 10",
-        ),
-        (EACH, 2, "B,-3\nA,-5\n", "1 [0,0] {0}\nend"),
-        (
-            EACH,
-            2,
-            "B,-3\nA,-6\n",
-            "line 2: time -6 comes too late after -3",
-        ),
-        // The greatest clock counts, and not the last one.
-        (
-            EACH,
-            5,
-            "B,10\nB,6\nA,4\n",
-            "line 3: time 4 comes too late after 10",
-        ),
-        // The greatest bound, from 10 on.
-        (
-            EACH,
-            MOST,
-            "B,10\nA,-9223372036854775797\n",
-            "1 [0,0] {0}\nend",
-        ),
-        (
-            EACH,
-            MOST,
-            "B,10\nA,-9223372036854775798\n",
-            "line 2: time -9223372036854775798 comes too late after 10",
-        ),
-    ] {
+    for &(queries, late, bytes, wanted) in BY_CLOCKS {
         let words = feed_words(alloc, Order::Sorted, queries, late, AMPLE, bytes, (0, 0))?;
         assert_eq!(rt; words.as_str(), wanted, "{bytes} late by {late}");
     }
     Ok(())
 }
 
+/// Runs that end before the file does: queries, how late an event may come, how many bytes are too many, an event file, which read and which write fails, and the answers.
+const CUT_OFF: &[(&str, u64, u64, &str, (u64, u64), &str)] = &[
+    // A refused line, too many bytes and a read that fails: what waits is not answered.
+    (
+        EACH,
+        1,
+        AMPLE,
+        "A,10\nA,11\nC,12\n",
+        (0, 0),
+        "1 [0,0] {0}\nline 3: unknown type",
+    ),
+    (
+        EACH,
+        0,
+        5,
+        "A,10\nA,11\n",
+        (0, 0),
+        "1 [0,0] {0}\nlonger than 5",
+    ),
+    (EACH, 1, 5, "A,10\nA,11\n", (0, 0), "longer than 5"),
+    (
+        EACH,
+        0,
+        AMPLE,
+        "A,10\nA,11\n",
+        (2, 0),
+        "1 [0,0] {0}\ncannot read",
+    ),
+    (EACH, 1, AMPLE, "A,10\nA,11\n", (2, 0), "cannot read"),
+    // The query's own clock falls from 2 to 1 along the feed's: at the line of that event.
+    (
+        TWO_CLOCKS,
+        5,
+        AMPLE,
+        "A,10,1\nA,9,2\n",
+        (0, 0),
+        "1 [0,0] {0}\nline 1: time falls from 2 to 1 in query 1",
+    ),
+    // It falls before the next line is read.
+    (
+        TWO_CLOCKS,
+        5,
+        AMPLE,
+        "A,10,1\nA,9,2\nA,15,3\nC\n",
+        (0, 0),
+        "1 [0,0] {0}\nline 1: time falls from 2 to 1 in query 1",
+    ),
+    (EACH, 5, AMPLE, "A,10\nA,9\n", (0, 1), "cannot write"),
+];
+
 #[test]
 fn only_the_end_lets_all_events_go(rt: HostRuntime) -> Result<(), Fail> {
     let alloc = rt.alloc();
-    for (queries, late, most_bytes, bytes, fails, wanted) in [
-        // A refused line, too many bytes and a read that fails: what waits is not answered.
-        (
-            EACH,
-            1,
-            AMPLE,
-            "A,10\nA,11\nC,12\n",
-            (0, 0),
-            "1 [0,0] {0}\nline 3: unknown type",
-        ),
-        (
-            EACH,
-            0,
-            5,
-            "A,10\nA,11\n",
-            (0, 0),
-            "1 [0,0] {0}\nlonger than 5",
-        ),
-        (EACH, 1, 5, "A,10\nA,11\n", (0, 0), "longer than 5"),
-        (
-            EACH,
-            0,
-            AMPLE,
-            "A,10\nA,11\n",
-            (2, 0),
-            "1 [0,0] {0}\ncannot read",
-        ),
-        (EACH, 1, AMPLE, "A,10\nA,11\n", (2, 0), "cannot read"),
-        // The query's own clock falls from 2 to 1 along the feed's: at the line of that event.
-        (
-            TWO_CLOCKS,
-            5,
-            AMPLE,
-            "A,10,1\nA,9,2\n",
-            (0, 0),
-            "1 [0,0] {0}\nline 1: time falls from 2 to 1 in query 1",
-        ),
-        // It falls before the next line is read.
-        (
-            TWO_CLOCKS,
-            5,
-            AMPLE,
-            "A,10,1\nA,9,2\nA,15,3\nC\n",
-            (0, 0),
-            "1 [0,0] {0}\nline 1: time falls from 2 to 1 in query 1",
-        ),
-        (EACH, 5, AMPLE, "A,10\nA,9\n", (0, 1), "cannot write"),
-    ] {
+    for &(queries, late, most_bytes, bytes, fails, wanted) in CUT_OFF {
         for order in [Order::Sorted, Order::Walk] {
             let words = feed_words(alloc, order, queries, late, most_bytes, bytes, fails)?;
             assert_eq!(rt; words.as_str(), wanted, "{bytes} late by {late}");

@@ -28,21 +28,24 @@ fn read(alloc: Global, bytes: Vec<u8>, fails: u64) -> Result<String, AllocError>
     }
 }
 
+/// A checkpoint, which read fails, from 1, and what is answered.
+const READS: &[(&str, u64, &str)] = &[
+    ("core checkpoint 1;events 1 1;at 0;A,2;", 1, "cannot read"),
+    ("core checkpoint 1;events 1 1;at 0;A,2;", 6, "cannot read"),
+    ("core checkpoint 1;events 1 1;at 0;A,2;", 7, "cannot read"),
+    ("core checkpoint 1;events 1 1;at 0;A,2;", 8, "1: 0"),
+    ("core checkpoint 2;events 1 1;at 0;A,2;", 3, "cannot read"),
+    (
+        "core checkpoint 2;events 1 1;at 0;A,2;",
+        4,
+        "line 1: bad header",
+    ),
+];
+
 #[test]
 fn a_failed_read_is_told_after_the_lines_before(rt: HostRuntime) -> Result<(), Fail> {
     let alloc = rt.alloc();
-    for (text, fails, wanted) in [
-        ("core checkpoint 1;events 1 1;at 0;A,2;", 1, "cannot read"),
-        ("core checkpoint 1;events 1 1;at 0;A,2;", 6, "cannot read"),
-        ("core checkpoint 1;events 1 1;at 0;A,2;", 7, "cannot read"),
-        ("core checkpoint 1;events 1 1;at 0;A,2;", 8, "1: 0"),
-        ("core checkpoint 2;events 1 1;at 0;A,2;", 3, "cannot read"),
-        (
-            "core checkpoint 2;events 1 1;at 0;A,2;",
-            4,
-            "line 1: bad header",
-        ),
-    ] {
+    for &(text, fails, wanted) in READS {
         let words = read(alloc, bytes_of(alloc, text)?, fails)?;
         assert_eq!(rt; words.as_str(), wanted, "{text} at {fails}");
     }
@@ -105,22 +108,25 @@ fn taken_of(alloc: Global, schema: &Schema, room: usize, fails: u64) -> Result<S
     }
 }
 
+/// How much room the sink has, which write fails, from 1, and what it has taken.
+const WRITES: &[(usize, u64, &str)] = &[
+    (38, 0, "core checkpoint 1;events 1 1;at 0;A,7;"),
+    (37, 0, "core checkpoint 1;events 1 1;at 0;A,7/"),
+    (20, 0, "core checkpoint 1;ev/"),
+    (0, 0, "/"),
+    (99, 1, "/"),
+    (99, 3, "core check/"),
+    (99, 8, "core checkpoint 1;events 1 1;at 0;A/"),
+    (99, 9, "core checkpoint 1;events 1 1;at 0;A,7;"),
+];
+
 #[test]
 fn a_failed_write_leaves_a_first_part(rt: HostRuntime) -> Result<(), Fail> {
     let alloc = rt.alloc();
     let Ok(schema) = two_types(alloc) else {
         return Err(Fail::from(AllocError));
     };
-    for (room, fails, wanted) in [
-        (38, 0, "core checkpoint 1;events 1 1;at 0;A,7;"),
-        (37, 0, "core checkpoint 1;events 1 1;at 0;A,7/"),
-        (20, 0, "core checkpoint 1;ev/"),
-        (0, 0, "/"),
-        (99, 1, "/"),
-        (99, 3, "core check/"),
-        (99, 8, "core checkpoint 1;events 1 1;at 0;A/"),
-        (99, 9, "core checkpoint 1;events 1 1;at 0;A,7;"),
-    ] {
+    for &(room, fails, wanted) in WRITES {
         let words = taken_of(alloc, &schema, room, fails)?;
         assert_eq!(rt; words.as_str(), wanted, "{room} at {fails}");
     }

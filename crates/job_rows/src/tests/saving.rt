@@ -1,6 +1,6 @@
 //! Small event files, saved: what is written, or why nothing is.
 
-ghost use Rattle.std.specs.Prelude.{◌≡◌, ◌<◌, ◌≤◌};
+ghost use Rattle.std.specs.Prelude.{◌<◌, ◌≤◌};
 ghost use Rattle.checkpoint_text.specs.declared.numbers.TheConstants as most;
 
 use ceql_parser::read_queries;
@@ -84,10 +84,9 @@ fn saved_words(
     most_bytes: u64,
     read_fails: u64,
     write_fails: u64,
-) -> Result<String, AllocError>
-    requires { most_bytes ≤ most.MOST_POSITIONS }
-{
+) -> Result<String, AllocError> {
     let text = format!(in alloc; "{FIRST}{queries}")?;
+    let most_bytes = most_bytes.min(AMPLE);
     let read_fails = Vec::from_slice(alloc, &[read_fails])?;
     let write_fails = Vec::from_slice(alloc, &[write_fails])?;
     let bytes = Vec::from_slice(alloc, bytes.as_bytes())?;
@@ -99,25 +98,28 @@ fn saved_words(
     words_of(alloc, end, &out)
 }
 
+/// Queries, an event file, and its checkpoint after the first line.
+const SAVED: &[(&str, &str, &str)] = &[
+    (
+        EVENTS,
+        "A,1\nA,2\nA,3\n",
+        "events 3 2\nat 1\nA,2\nat 2\nA,3\n",
+    ),
+    (
+        CLOCK,
+        "A,4\nA,5\nB,10",
+        "events 3 2\nat 1\nA,5\nat 2\nB,10\n",
+    ),
+    (FREE, "A,1\n\nB,2\r\n", "events 2 2\nat 0\nA,1\nat 1\nB,2\n"),
+    (FREE, "\u{feff}A,\"1\"\n", "events 1 1\nat 0\nA,\"1\"\n"),
+    (OTHER, "A,1\nB,2\nB,3\n", "events 3 1\nat 0\nA,1\n"),
+    (FREE, "", "events 0 0\n"),
+];
+
 #[test]
 fn what_the_windows_need_is_written(rt: HostRuntime) -> Result<(), Fail> {
     let alloc = rt.alloc();
-    for (queries, bytes, wanted) in [
-        (
-            EVENTS,
-            "A,1\nA,2\nA,3\n",
-            "events 3 2\nat 1\nA,2\nat 2\nA,3\n",
-        ),
-        (
-            CLOCK,
-            "A,4\nA,5\nB,10",
-            "events 3 2\nat 1\nA,5\nat 2\nB,10\n",
-        ),
-        (FREE, "A,1\n\nB,2\r\n", "events 2 2\nat 0\nA,1\nat 1\nB,2\n"),
-        (FREE, "\u{feff}A,\"1\"\n", "events 1 1\nat 0\nA,\"1\"\n"),
-        (OTHER, "A,1\nB,2\nB,3\n", "events 3 1\nat 0\nA,1\n"),
-        (FREE, "", "events 0 0\n"),
-    ] {
+    for &(queries, bytes, wanted) in SAVED {
         let words = saved_words(alloc, queries, bytes, AMPLE, 0, 0)?;
         let wanted = format!(in alloc; "end: core checkpoint 1\n{wanted}")?;
         assert_eq!(rt; words.as_str(), wanted.as_str(), "at {bytes}");
@@ -125,46 +127,49 @@ fn what_the_windows_need_is_written(rt: HostRuntime) -> Result<(), Fail> {
     Ok(())
 }
 
+/// Queries, an event file, how many bytes are too many, which read and which write fails, and what is answered and written.
+const STOPPED: &[(&str, &str, u64, u64, u64, &str)] = &[
+    (
+        FREE,
+        "A,1\nA,x\n",
+        AMPLE,
+        0,
+        0,
+        "line 2: field 1 is of another kind: ",
+    ),
+    (
+        TWO,
+        "A,1\n\nA,9\nB,8\n",
+        AMPLE,
+        0,
+        0,
+        "line 4: time falls from 9 to 8 in query 2: ",
+    ),
+    (FREE, "A,1\nA,2\n", 8, 0, 0, "8 bytes are too many: "),
+    (
+        FREE,
+        "A,1\nA,2\n",
+        9,
+        0,
+        0,
+        "end: core checkpoint 1\nevents 2 2\nat 0\nA,1\nat 1\nA,2\n",
+    ),
+    (FREE, "A,1\nA,2\n", AMPLE, 2, 0, "cannot read: "),
+    (FREE, "A,1\nA,2\n", AMPLE, 0, 1, "cannot write: "),
+    (
+        FREE,
+        "A,1\nA,2\n",
+        AMPLE,
+        0,
+        2,
+        "cannot write: core checkpoint 1\nev",
+    ),
+];
+
 #[test]
 fn a_fault_leaves_nothing_or_a_first_part(rt: HostRuntime) -> Result<(), Fail> {
     let alloc = rt.alloc();
-    for (queries, bytes, most_bytes, read_fails, write_fails, wanted) in [
-        (
-            FREE,
-            "A,1\nA,x\n",
-            AMPLE,
-            0,
-            0,
-            "line 2: field 1 is of another kind: ",
-        ),
-        (
-            TWO,
-            "A,1\n\nA,9\nB,8\n",
-            AMPLE,
-            0,
-            0,
-            "line 4: time falls from 9 to 8 in query 2: ",
-        ),
-        (FREE, "A,1\nA,2\n", 8, 0, 0, "8 bytes are too many: "),
-        (
-            FREE,
-            "A,1\nA,2\n",
-            9,
-            0,
-            0,
-            "end: core checkpoint 1\nevents 2 2\nat 0\nA,1\nat 1\nA,2\n",
-        ),
-        (FREE, "A,1\nA,2\n", AMPLE, 2, 0, "cannot read: "),
-        (FREE, "A,1\nA,2\n", AMPLE, 0, 1, "cannot write: "),
-        (
-            FREE,
-            "A,1\nA,2\n",
-            AMPLE,
-            0,
-            2,
-            "cannot write: core checkpoint 1\nev",
-        ),
-    ] {
+    for &(queries, bytes, most_bytes, read_fails, write_fails, wanted) in STOPPED {
         let words = saved_words(alloc, queries, bytes, most_bytes, read_fails, write_fails)?;
         assert_eq!(rt;
             words.as_str(),

@@ -1,5 +1,5 @@
 use cer_base::OrMemory;
-use command_words::*;
+use command_words::{Command, Usage, read_command};
 use std::alloc::Global;
 use std::process::Abort;
 use std::test::Fail;

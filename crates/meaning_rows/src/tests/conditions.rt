@@ -58,71 +58,74 @@ fn shown(
     Ok(shown)
 }
 
+/// How many leaves there are, which ask for 1, from which leaf on is shown, an event by its type and its number, and which leaves are in the set.
+const SETS: &[(usize, [usize; 2], usize, u64, i64, [bool; 8])] = &[
+    (
+        4,
+        [0, 3],
+        0,
+        0,
+        1,
+        [true, false, true, false, false, false, false, false],
+    ),
+    (
+        4,
+        [0, 3],
+        0,
+        0,
+        2,
+        [false, false, true, false, false, false, false, false],
+    ),
+    (
+        4,
+        [0, 3],
+        0,
+        1,
+        2,
+        [false, true, false, false, false, false, false, false],
+    ),
+    (
+        4,
+        [0, 3],
+        0,
+        1,
+        1,
+        [false, true, false, true, false, false, false, false],
+    ),
+    (4, [0, 3], 0, 2, 1, [false; 8]),
+    (
+        66,
+        [64, 65],
+        62,
+        0,
+        1,
+        [true, false, true, false, false, false, false, false],
+    ),
+    (
+        66,
+        [64, 65],
+        62,
+        0,
+        2,
+        [true, false, false, false, false, false, false, false],
+    ),
+    (
+        66,
+        [64, 65],
+        62,
+        1,
+        1,
+        [false, true, false, true, false, false, false, false],
+    ),
+];
+
 /// Leaves A, B, A, B, of which the first asks for 1, and the last too: `A,1` can be read by the
 /// first and the third, `A,2` by the third alone, `B,2` by the second alone. Past 64 leaves the next
 /// word tells. An event of a third type can be read by none.
 #[test]
 fn leaves_read_events_of_their_type_that_meet_their_tests(rt: HostRuntime) -> Result<(), Memory> {
     let alloc = rt.alloc();
-    for (count, asks, from, ty, number, wanted) in [
-        (
-            4,
-            [0, 3],
-            0,
-            0,
-            1,
-            [true, false, true, false, false, false, false, false],
-        ),
-        (
-            4,
-            [0, 3],
-            0,
-            0,
-            2,
-            [false, false, true, false, false, false, false, false],
-        ),
-        (
-            4,
-            [0, 3],
-            0,
-            1,
-            2,
-            [false, true, false, false, false, false, false, false],
-        ),
-        (
-            4,
-            [0, 3],
-            0,
-            1,
-            1,
-            [false, true, false, true, false, false, false, false],
-        ),
-        (4, [0, 3], 0, 2, 1, [false; 8]),
-        (
-            66,
-            [64, 65],
-            62,
-            0,
-            1,
-            [true, false, true, false, false, false, false, false],
-        ),
-        (
-            66,
-            [64, 65],
-            62,
-            0,
-            2,
-            [true, false, false, false, false, false, false, false],
-        ),
-        (
-            66,
-            [64, 65],
-            62,
-            1,
-            1,
-            [false, true, false, true, false, false, false, false],
-        ),
-    ] {
+    for &(count, asks, from, ty, number, wanted) in SETS {
         let conditions = conditions(alloc, count, &asks)?;
         let event = event(alloc, ty, number)?;
         assert_eq!(rt; shown(alloc, &conditions, from, &event)?, wanted);

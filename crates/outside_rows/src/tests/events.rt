@@ -60,63 +60,66 @@ fn words_of(
     Ok(words)
 }
 
+/// Lines, and the event that each is, by the number of its type and its values, or its refusal.
+const LINES: &[(&str, &str)] = &[
+    ("", "none"),
+    ("\r", "none"),
+    ("\r\r", "carriage return or byte order mark in the line"),
+    ("A,1\r", "0 1"),
+    ("A,1\r\r", "carriage return or byte order mark in the line"),
+    (
+        "\u{feff}A,1",
+        "carriage return or byte order mark in the line",
+    ),
+    ("\rC,\"", "carriage return or byte order mark in the line"),
+    ("C,\"", "open quote"),
+    ("C,1,2", "unknown type"),
+    ("A,x,2", "2 fields where 1 is wanted"),
+    ("A,\"1", "open quote"),
+    ("\"A\",1", "0 1"),
+    ("A,x", "field 1 is of another kind"),
+    ("A,+1", "0 1"),
+    ("A,-0", "0 0"),
+    ("A,9223372036854775807", "0 9223372036854775807"),
+    ("A,9223372036854775808", "field 1 is of another kind"),
+    ("A,-9223372036854775808", "0 -9223372036854775808"),
+    ("A,18446744073709551617", "field 1 is of another kind"),
+    ("A,1.0", "field 1 is of another kind"),
+    ("A,+-1", "field 1 is of another kind"),
+    ("F,TRUE", "2 true"),
+    ("F,fAlse", "2 false"),
+    ("F,tru", "field 1 is of another kind"),
+    ("D,1", "3 100/2"),
+    ("D,1.5", "3 150/2"),
+    ("D,-1.49", "3 -149/2"),
+    ("D,1.505", "field 1 is of another kind"),
+    ("D,1.", "field 1 is of another kind"),
+    ("D,.5", "field 1 is of another kind"),
+    ("D,92233720368547758.08", "field 1 is of another kind"),
+    ("Z,7", "4 7/0"),
+    ("Z,7.0", "field 1 is of another kind"),
+    ("N", "0 fields where 1 is wanted"),
+    ("N,", "1 "),
+    ("N,\"", "open quote"),
+    ("N,\"a", "open quote"),
+    ("N,\"a,", "open quote"),
+    ("N,\"a,\"", "1 a,"),
+    ("N,\"a,\"\"", "open quote"),
+    ("N,\"a,\"\"b", "open quote"),
+    ("N,\"a,\"\"b\"\r", "1 a,\"b"),
+    ("N,\"a\"\"b\"c", "1 a\"bc"),
+    ("N,a\"b", "1 a\"b"),
+];
+
 #[test]
 fn lines_become_events_or_refusals(rt: HostRuntime) -> Result<(), Fail> {
     let alloc = rt.alloc();
     let Ok(schema) = five_types(alloc) else {
         return Err(Fail::new("five types"));
     };
-    for (line, wanted) in [
-        ("", "none"),
-        ("\r", "none"),
-        ("\r\r", "carriage return or byte order mark in the line"),
-        ("A,1\r", "0 1"),
-        ("A,1\r\r", "carriage return or byte order mark in the line"),
-        (
-            "\u{feff}A,1",
-            "carriage return or byte order mark in the line",
-        ),
-        ("\rC,\"", "carriage return or byte order mark in the line"),
-        ("C,\"", "open quote"),
-        ("C,1,2", "unknown type"),
-        ("A,x,2", "2 fields where 1 is wanted"),
-        ("A,\"1", "open quote"),
-        ("\"A\",1", "0 1"),
-        ("A,x", "field 1 is of another kind"),
-        ("A,+1", "0 1"),
-        ("A,-0", "0 0"),
-        ("A,9223372036854775807", "0 9223372036854775807"),
-        ("A,9223372036854775808", "field 1 is of another kind"),
-        ("A,-9223372036854775808", "0 -9223372036854775808"),
-        ("A,18446744073709551617", "field 1 is of another kind"),
-        ("A,1.0", "field 1 is of another kind"),
-        ("A,+-1", "field 1 is of another kind"),
-        ("F,TRUE", "2 true"),
-        ("F,fAlse", "2 false"),
-        ("F,tru", "field 1 is of another kind"),
-        ("D,1", "3 100/2"),
-        ("D,1.5", "3 150/2"),
-        ("D,-1.49", "3 -149/2"),
-        ("D,1.505", "field 1 is of another kind"),
-        ("D,1.", "field 1 is of another kind"),
-        ("D,.5", "field 1 is of another kind"),
-        ("D,92233720368547758.08", "field 1 is of another kind"),
-        ("Z,7", "4 7/0"),
-        ("Z,7.0", "field 1 is of another kind"),
-        ("N", "0 fields where 1 is wanted"),
-        ("N,", "1 "),
-        ("N,\"", "open quote"),
-        ("N,\"a", "open quote"),
-        ("N,\"a,", "open quote"),
-        ("N,\"a,\"", "1 a,"),
-        ("N,\"a,\"\"", "open quote"),
-        ("N,\"a,\"\"b", "open quote"),
-        ("N,\"a,\"\"b\"\r", "1 a,\"b"),
-        ("N,\"a\"\"b\"c", "1 a\"bc"),
-        ("N,a\"b", "1 a\"b"),
-    ] {
+    for (line, wanted) in LINES {
         let words = answer(alloc, &schema, line.as_bytes())?;
-        assert_eq!(rt; words.as_str(), wanted, "at {line}");
+        assert_eq!(rt; words.as_str(), *wanted, "at {line}");
     }
     let words = answer(alloc, &schema, b"N,\xff")?;
     assert_eq!(rt; words.as_str(), "field 1 is of another kind");

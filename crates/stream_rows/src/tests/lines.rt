@@ -1,6 +1,6 @@
 use answer_text::answer::order;
 use answer_text::{Answer, line, none, push_binding, push_line};
-use cer_base::{Memory, Pos};
+use cer_base::Pos;
 use std::cmp::Ordering;
 use std::test::Fail;
 

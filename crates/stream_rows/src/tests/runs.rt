@@ -1,6 +1,6 @@
 //! Small event files, taken event by event: how many events a run takes, and why it stops.
 
-ghost use Rattle.std.specs.Prelude.{◌≡◌, ◌+◌, ◌^◌, ◌<◌, ◌≤◌, false, IfOk};
+ghost use Rattle.std.specs.Prelude.{◌≡◌, ◌+◌, ◌^◌, ◌<◌, false, IfOk};
 ghost use Rattle.query_engine.specs.Engine.{count_of};
 
 use ceql_parser::read_queries;
@@ -128,61 +128,64 @@ fn run_words(
     run_over::<Brand>(alloc, &mut engine, &mut source, most_bytes, Blank::new(1))
 }
 
+/// Queries, an event file, how many bytes are too many, and how many events are taken and why no more.
+const STOPS: &[(&str, &str, u64, &str)] = &[
+    (BY_POSITION, "", AMPLE, "0, end"),
+    (BY_POSITION, "\n\r\n", AMPLE, "0, end"),
+    (BY_POSITION, "A,1\nA,2", AMPLE, "2, end"),
+    (BY_POSITION, "A,2\n\nB,1\n", AMPLE, "2, end"),
+    (
+        BY_POSITION,
+        "A,1,2\n",
+        AMPLE,
+        "0, line 1: 2 fields where 1 is wanted",
+    ),
+    (BY_POSITION, "A,\"1\n", AMPLE, "0, line 1: open quote"),
+    (
+        BY_POSITION,
+        "A,1\n\nA,x\n",
+        AMPLE,
+        "1, line 3: field 1 is of another kind",
+    ),
+    (
+        BY_POSITION,
+        "A,1\nC,1\nA,2\n",
+        AMPLE,
+        "1, line 2: unknown type",
+    ),
+    (BY_POSITION, "A,1\n", 4, "1, 4 bytes are too many"),
+    (
+        BY_POSITION,
+        "A,1\nA,x\n",
+        8,
+        "1, line 2: field 1 is of another kind",
+    ),
+    (BY_POSITION, "A,1\n", 5, "1, end"),
+    (
+        BY_TIME,
+        "A,10\nA,9\n",
+        AMPLE,
+        "1, line 2: time falls from 10 to 9 in query 1",
+    ),
+    (BY_TIME, "A,10\nB,10\n", AMPLE, "2, end"),
+    (
+        BY_TIME,
+        "A,10\nB,11\n\nA,10\nC,1\n",
+        AMPLE,
+        "2, line 4: time falls from 11 to 10 in query 1",
+    ),
+    (
+        THREE,
+        "A,3\nB,4\nA,2\n",
+        AMPLE,
+        "2, line 3: time falls from 4 to 2 in query 2",
+    ),
+];
+
 #[test]
 fn events_are_taken_up_to_the_stop(rt: HostRuntime) -> Result<(), Fail> {
     let alloc = rt.alloc();
-    for (queries, bytes, most_bytes, wanted) in [
-        (BY_POSITION, "", AMPLE, "0, end"),
-        (BY_POSITION, "\n\r\n", AMPLE, "0, end"),
-        (BY_POSITION, "A,1\nA,2", AMPLE, "2, end"),
-        (BY_POSITION, "A,2\n\nB,1\n", AMPLE, "2, end"),
-        (
-            BY_POSITION,
-            "A,1,2\n",
-            AMPLE,
-            "0, line 1: 2 fields where 1 is wanted",
-        ),
-        (BY_POSITION, "A,\"1\n", AMPLE, "0, line 1: open quote"),
-        (
-            BY_POSITION,
-            "A,1\n\nA,x\n",
-            AMPLE,
-            "1, line 3: field 1 is of another kind",
-        ),
-        (
-            BY_POSITION,
-            "A,1\nC,1\nA,2\n",
-            AMPLE,
-            "1, line 2: unknown type",
-        ),
-        (BY_POSITION, "A,1\n", 4, "1, 4 bytes are too many"),
-        (
-            BY_POSITION,
-            "A,1\nA,x\n",
-            8,
-            "1, line 2: field 1 is of another kind",
-        ),
-        (BY_POSITION, "A,1\n", 5, "1, end"),
-        (
-            BY_TIME,
-            "A,10\nA,9\n",
-            AMPLE,
-            "1, line 2: time falls from 10 to 9 in query 1",
-        ),
-        (BY_TIME, "A,10\nB,10\n", AMPLE, "2, end"),
-        (
-            BY_TIME,
-            "A,10\nB,11\n\nA,10\nC,1\n",
-            AMPLE,
-            "2, line 4: time falls from 11 to 10 in query 1",
-        ),
-        (
-            THREE,
-            "A,3\nB,4\nA,2\n",
-            AMPLE,
-            "2, line 3: time falls from 4 to 2 in query 2",
-        ),
-    ] {
+    for &(queries, bytes, most_bytes, wanted) in STOPS {
         for piece in [1, 4] {
             let words = run_words(alloc, queries, bytes.as_bytes(), most_bytes, piece, 0)?;
             assert_eq!(rt; words.as_str(), wanted, "at {bytes} in pieces of {piece}");
@@ -191,25 +194,28 @@ fn events_are_taken_up_to_the_stop(rt: HostRuntime) -> Result<(), Fail> {
     Ok(())
 }
 
+/// A length of the line, and how many events are taken of its first part and why no more.
+const FIRST_PARTS: &[(usize, &str)] = &[
+    (0, "0, end"),
+    (1, "0, line 1: 0 fields where 1 is wanted"),
+    (2, "1, end"),
+    (3, "0, line 1: open quote"),
+    (4, "0, line 1: open quote"),
+    (5, "0, line 1: open quote"),
+    (6, "1, end"),
+    (7, "0, line 1: open quote"),
+    (8, "0, line 1: open quote"),
+    (9, "1, end"),
+    (10, "1, end"),
+    (11, "1, end"),
+];
+
 #[test]
 fn first_parts_of_a_quoted_line_are_events_or_open(rt: HostRuntime) -> Result<(), Fail> {
     let alloc = rt.alloc();
     let line = b"N,\"a,\"\"b\"\r\n";
-    for (end, wanted) in [
-        (0, "0, end"),
-        (1, "0, line 1: 0 fields where 1 is wanted"),
-        (2, "1, end"),
-        (3, "0, line 1: open quote"),
-        (4, "0, line 1: open quote"),
-        (5, "0, line 1: open quote"),
-        (6, "1, end"),
-        (7, "0, line 1: open quote"),
-        (8, "0, line 1: open quote"),
-        (9, "1, end"),
-        (10, "1, end"),
-        (11, "1, end"),
-    ] {
-        let words = run_words(alloc, TEXTS, &line[..end], AMPLE, 4, 0)?;
+    for &(end, wanted) in FIRST_PARTS {
+        let words = run_words(alloc, TEXTS, &line[..end.min(line.len())], AMPLE, 4, 0)?;
         assert_eq!(rt; words.as_str(), wanted, "at {end}");
     }
     Ok(())
@@ -269,36 +275,39 @@ fn listed_words(
     }
 }
 
+/// Queries, an event file, how many bytes are too many, which read fails, and how many events are listed or why none.
+const LISTED: &[(&str, &str, u64, u64, &str)] = &[
+    (BY_POSITION, "A,2\n\nB,1\n", AMPLE, 0, "2, end"),
+    (BY_POSITION, "A,2\n", 4, 0, "0, 4 bytes are too many"),
+    (BY_POSITION, "A,2\nB,1\n", AMPLE, 2, "0, cannot read"),
+    (
+        BY_POSITION,
+        "A,1\n\nA,x\n",
+        AMPLE,
+        0,
+        "0, line 3: field 1 is of another kind",
+    ),
+    (
+        BY_TIME,
+        "A,10\nB,11\n\nA,10\nC,1\n",
+        AMPLE,
+        0,
+        "0, line 4: time falls from 11 to 10 in query 1",
+    ),
+    (
+        THREE,
+        "A,3\nB,4\nA,2\n",
+        AMPLE,
+        0,
+        "0, line 3: time falls from 4 to 2 in query 2",
+    ),
+    (THREE, "A,3\nB,4\nA,4\n", AMPLE, 0, "3, end"),
+];
+
 #[test]
 fn events_are_listed_as_they_are_taken(rt: HostRuntime) -> Result<(), Fail> {
     let alloc = rt.alloc();
-    for (queries, bytes, most_bytes, fails, wanted) in [
-        (BY_POSITION, "A,2\n\nB,1\n", AMPLE, 0, "2, end"),
-        (BY_POSITION, "A,2\n", 4, 0, "0, 4 bytes are too many"),
-        (BY_POSITION, "A,2\nB,1\n", AMPLE, 2, "0, cannot read"),
-        (
-            BY_POSITION,
-            "A,1\n\nA,x\n",
-            AMPLE,
-            0,
-            "0, line 3: field 1 is of another kind",
-        ),
-        (
-            BY_TIME,
-            "A,10\nB,11\n\nA,10\nC,1\n",
-            AMPLE,
-            0,
-            "0, line 4: time falls from 11 to 10 in query 1",
-        ),
-        (
-            THREE,
-            "A,3\nB,4\nA,2\n",
-            AMPLE,
-            0,
-            "0, line 3: time falls from 4 to 2 in query 2",
-        ),
-        (THREE, "A,3\nB,4\nA,4\n", AMPLE, 0, "3, end"),
-    ] {
+    for &(queries, bytes, most_bytes, fails, wanted) in LISTED {
         let words = listed_words(alloc, queries, bytes.as_bytes(), most_bytes, fails)?;
         assert_eq!(rt; words.as_str(), wanted, "at {bytes}");
     }

@@ -118,9 +118,9 @@ pub fn sure_host(alloc: Global, queries: &[u8], events: &[u8]) -> Result<SureHos
     Ok(SureHost::new(files))
 }
 
-/// The host that has a checkpoint as `c` beside the query text and the events, each read in pieces of 4
-/// bytes. The open of the first number fails, of the checkpoint the read of the second, of the event
-/// file that of the third.
+/// The host that has a checkpoint as `c` beside the query text and the events, each read in pieces
+/// of 4 bytes. The open of the first number fails, of the checkpoint the read of the second, of the
+/// event file that of the third.
 pub fn failing_resume_host(
     alloc: Global,
     queries: &[u8],

@@ -16,8 +16,8 @@ const USAGE: &str =
     "usage: core_cli run QUERIES EVENTS [--order walk|sorted] [--compact-every N] [--max-bytes N], core_cli sample SEED COUNT, core_cli session QUERIES SCRIPT, core_cli reorder QUERIES EVENTS CLOCK LATE [--order walk|sorted] [--compact-every N] [--max-bytes N], core_cli explain QUERIES EVENTS QUERY START END [POSITION]..., core_cli save QUERIES EVENTS, core_cli resume QUERIES CHECKPOINT EVENTS [--order walk|sorted] [--compact-every N] [--max-bytes N]";
 
 /// What a row says: the words, the lines after the query text's first ones, the formula of a query
-/// that marks all, the lines of the checkpoint, those of the event file, the status, the lines of the
-/// output, and the note.
+/// that marks all, the lines of the checkpoint, those of the event file, the status, the lines of
+/// the output, and the note.
 #[derive(Clone, Copy)]
 struct Row<'a> {
     words: &'a str,
@@ -30,8 +30,8 @@ struct Row<'a> {
     note: &'a str,
 }
 
-/// The row of the line, whose cells are those of the columns. Where it has no such cell, the words run
-/// both files, the status is 0, and there are no lines.
+/// The row of the line, whose cells are those of the columns. Where it has no such cell, the words
+/// run both files, the status is 0, and there are no lines.
 fn row_of<'a>(columns: &str, line: &'a str) -> Row<'a> {
     let mut row = Row {
         words: RUN,

@@ -199,7 +199,8 @@ fn events_are_answered_by_their_clocks(rt: HostRuntime) -> Result<(), Fail> {
     Ok(())
 }
 
-/// Runs that end before the file does: queries, how late an event may come, how many bytes are too many, an event file, which read and which write fails, and the answers.
+/// Runs that end before the file does: queries, how late an event may come, how many bytes are too
+/// many, an event file, which read and which write fails, and the answers.
 const CUT_OFF: &[(&str, u64, u64, &str, (u64, u64), &str)] = &[
     // A refused line, too many bytes and a read that fails: what waits is not answered.
     (

@@ -127,7 +127,8 @@ fn what_the_windows_need_is_written(rt: HostRuntime) -> Result<(), Fail> {
     Ok(())
 }
 
-/// Queries, an event file, how many bytes are too many, which read and which write fails, and what is answered and written.
+/// Queries, an event file, how many bytes are too many, which read and which write fails, and what
+/// is answered and written.
 const STOPPED: &[(&str, &str, u64, u64, u64, &str)] = &[
     (
         FREE,

@@ -58,7 +58,8 @@ fn shown(
     Ok(shown)
 }
 
-/// How many leaves there are, which ask for 1, from which leaf on is shown, an event by its type and its number, and which leaves are in the set.
+/// How many leaves there are, which ask for 1, from which leaf on is shown, an event by its type
+/// and its number, and which leaves are in the set.
 const SETS: &[(usize, [usize; 2], usize, u64, i64, [bool; 8])] = &[
     (
         4,

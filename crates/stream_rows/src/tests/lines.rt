@@ -18,7 +18,8 @@ fn lines_are_laid_out(rt: HostRuntime) -> Result<(), Fail> {
     Ok(())
 }
 
-/// With eight positions, the most that are few, with the greatest numbers that there are, and with nine.
+/// With eight positions, the most that are few, with the greatest numbers that there are, and with
+/// nine.
 #[test]
 fn lines_of_few_and_of_many_positions_are_laid_out(rt: HostRuntime) -> Result<(), Fail> {
     let rows: [(u64, Pos, Pos, &[Pos], &str); 3] = [

@@ -128,7 +128,8 @@ fn run_words(
     run_over::<Brand>(alloc, &mut engine, &mut source, most_bytes, Blank::new(1))
 }
 
-/// Queries, an event file, how many bytes are too many, and how many events are taken and why no more.
+/// Queries, an event file, how many bytes are too many, and how many events are taken and why no
+/// more.
 const STOPS: &[(&str, &str, u64, &str)] = &[
     (BY_POSITION, "", AMPLE, "0, end"),
     (BY_POSITION, "\n\r\n", AMPLE, "0, end"),
@@ -275,7 +276,8 @@ fn listed_words(
     }
 }
 
-/// Queries, an event file, how many bytes are too many, which read fails, and how many events are listed or why none.
+/// Queries, an event file, how many bytes are too many, which read fails, and how many events are
+/// listed or why none.
 const LISTED: &[(&str, &str, u64, u64, &str)] = &[
     (BY_POSITION, "A,2\n\nB,1\n", AMPLE, 0, "2, end"),
     (BY_POSITION, "A,2\n", 4, 0, "0, 4 bytes are too many"),

@@ -85,16 +85,14 @@ fn run_words(
     piece: usize,
     read_fails: u64,
     write_fails: u64,
-) -> Result<String, AllocError>
-    requires { 0 < piece }
-{
+) -> Result<String, AllocError> {
     let Ok(mut engine) = engine_of(alloc) else {
         return Err(AllocError);
     };
     let read_fails = Vec::from_slice(alloc, &[read_fails])?;
     let write_fails = Vec::from_slice(alloc, &[write_fails])?;
     let bytes = Vec::from_slice(alloc, bytes.as_bytes())?;
-    let mut source = MemSource::new(bytes, piece, read_fails);
+    let mut source = MemSource::new(bytes, piece.max(1), read_fails);
     let Ok(mut out) = MemSink::new(alloc, 4096, 4096, write_fails) else {
         return Err(AllocError);
     };
@@ -109,33 +107,41 @@ fn run_words(
     words_of(alloc, end, &source, &out)
 }
 
+/// The answer at the first event.
+const FIRST: &str = "1 [0,0] {0}\n";
+
+/// The answers at both.
+const BOTH: &str = "1 [0,0] {0}\n1 [1,1] {1}\n";
+
+/// An event file, how many bytes a read brings, which read and which write fails, how it ends, and the
+/// lines that are written.
+const WAITING: &[(&str, usize, u64, u64, &str, &str)] = &[
+    // A read brings one line: each is answered before the next is asked for.
+    ("A,1\nA,2\n", 4, 0, 0, "end, 0", BOTH),
+    ("A,1\nA,2\n", 4, 0, 1, "cannot write, 0", ""),
+    ("A,1\nA,2\n", 4, 0, 2, "cannot write, 0", FIRST),
+    ("A,1\nA,2\n", 4, 0, 3, "end, 0", BOTH),
+    // The write comes before the read that fails.
+    ("A,1\nA,2\n", 4, 2, 0, "cannot read, 1", FIRST),
+    ("A,1\nA,2\n", 4, 2, 1, "cannot write, 0", ""),
+    // A read brings both lines: they are written at once, before the next read.
+    ("A,1\nA,2\n", 99, 0, 2, "end, 0", BOTH),
+    ("A,1\nA,2\n", 99, 2, 0, "cannot read, 1", BOTH),
+    ("A,1\nA,2\n", 99, 2, 1, "cannot write, 0", ""),
+    // A line without answers is at hand, and then none.
+    ("A,1\nB,2\n", 99, 2, 1, "cannot write, 0", ""),
+    // A part of the next line is at hand.
+    ("A,1\nA,2\n", 6, 2, 1, "cannot write, 0", ""),
+    ("A,1\nA,2", 99, 2, 1, "cannot write, 0", ""),
+    // An empty line is at hand, after which the source would be asked.
+    ("A,1\n\nA,2\n", 5, 2, 1, "cannot write, 0", ""),
+    ("A,1\n\r\nA,2\n", 6, 2, 1, "cannot write, 0", ""),
+];
+
 #[test]
 fn lines_wait_only_while_the_next_line_is_at_hand(rt: HostRuntime) -> Result<(), Fail> {
     let alloc = rt.alloc();
-    let first = "1 [0,0] {0}\n";
-    let both = "1 [0,0] {0}\n1 [1,1] {1}\n";
-    for (bytes, piece, read_fails, write_fails, end, lines) in [
-        // A read brings one line: each is answered before the next is asked for.
-        ("A,1\nA,2\n", 4, 0, 0, "end, 0", both),
-        ("A,1\nA,2\n", 4, 0, 1, "cannot write, 0", ""),
-        ("A,1\nA,2\n", 4, 0, 2, "cannot write, 0", first),
-        ("A,1\nA,2\n", 4, 0, 3, "end, 0", both),
-        // The write comes before the read that fails.
-        ("A,1\nA,2\n", 4, 2, 0, "cannot read, 1", first),
-        ("A,1\nA,2\n", 4, 2, 1, "cannot write, 0", ""),
-        // A read brings both lines: they are written at once, before the next read.
-        ("A,1\nA,2\n", 99, 0, 2, "end, 0", both),
-        ("A,1\nA,2\n", 99, 2, 0, "cannot read, 1", both),
-        ("A,1\nA,2\n", 99, 2, 1, "cannot write, 0", ""),
-        // A line without answers is at hand, and then none.
-        ("A,1\nB,2\n", 99, 2, 1, "cannot write, 0", ""),
-        // A part of the next line is at hand.
-        ("A,1\nA,2\n", 6, 2, 1, "cannot write, 0", ""),
-        ("A,1\nA,2", 99, 2, 1, "cannot write, 0", ""),
-        // An empty line is at hand, after which the source would be asked.
-        ("A,1\n\nA,2\n", 5, 2, 1, "cannot write, 0", ""),
-        ("A,1\n\r\nA,2\n", 6, 2, 1, "cannot write, 0", ""),
-    ] {
+    for &(bytes, piece, read_fails, write_fails, end, lines) in WAITING {
         let words = run_words(alloc, Order::Sorted, bytes, piece, read_fails, write_fails)?;
         let wanted = format!(in alloc; "{end}: {lines}")?;
         assert_eq!(rt;

@@ -89,7 +89,7 @@ fn most_bytes<'a>(alloc: Global) -> Arg<'a>
     ensures rule { rule_of result ≡ most_bytes }
     ensures local { result.global ≡ false }
 {
-    let numbers = value_parser!(u64).range(1..).range(..=4611686018427387904);
+    let numbers = value_parser!(u64).range(1..=4611686018427387904);
     option(alloc, "max-bytes").value_parser(numbers)
 }
 

@@ -62,8 +62,8 @@ fn some_stream_has(schema: &Schema, names: &[Name], ty: TypeId) -> bool
     names.iter().any(|name| stream_has(schema, name, ty))
 }
 
-/// Whether one of the streams has the event's type.
-fn query_reads(schema: &Schema, query: &Query, event: &Event) -> bool
+/// Whether one of the query's streams has the event's type.
+pub fn query_reads(schema: &Schema, query: &Query, event: &Event) -> bool
     ensures { result ≡ query_reads schema.now query.now event.now }
 {
     some_stream_has(schema, query.streams.as_slice(), event.ty)

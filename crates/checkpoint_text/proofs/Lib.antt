@@ -5,8 +5,6 @@ mod Spelled
 mod Falling
 -- what the windows need
 mod Needs
--- a text cut at its first blank
-mod Words
 -- decimals
 mod Decimals
 -- the lines that are no event's

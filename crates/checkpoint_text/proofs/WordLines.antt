@@ -2,9 +2,10 @@
 use Rattle.std.proofs.Common.{◌≡◌, ℕ, ◌≤◌, ◌∷◌, ◌++◌, Bool, true, false, cond, List, refl, sym, ap, ◌∙◌, Option, Some, None, arith, rules}
 use Rattle.std.specs.Prelude.{bytes_eq, codes, decimal, option_and_then, option_map}
 use Rattle.std.specs.List.{list_any}
-use Rattle.checkpoint_text.specs.Numbers.{is_blank, number, cut, after_word, after_word_in, two_numbers, counts_of, position_of}
+use Rattle.checkpoint_text.specs.Numbers.{number, after_word, after_word_in, two_numbers, counts_of, position_of}
 use Rattle.checkpoint_text.specs.Spelling.{counts_text, position_text}
-use Rattle.checkpoint_text.proofs.Words.{cut_is, parts_join, parts_of, mapped_some}
+use Rattle.event_reader.specs.Words.{is_blank, cut}
+use Rattle.event_reader.proofs.FirstBlank.{cut_is, parts_join, parts_of, mapped_some}
 use Rattle.checkpoint_text.proofs.Decimals.{number_text, text_number, decimal_without}
 
 same_bytes : (xs ys : List ℕ) → bytes_eq xs ys ≡ true → xs ≡ ys

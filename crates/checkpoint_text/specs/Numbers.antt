@@ -1,9 +1,10 @@
 -- The words and numbers of a line.
-use Rattle.std.specs.Prelude.{ℕ, ◌==◌, Bool, false, not, ◌&&◌, ◌||◌, if◌then◌else◌, nat_lt, nat_le, List, [], ◌∷◌, length, Option, Some, None, bytes_eq, codes, option_and_then, option_map}
+use Rattle.std.specs.Prelude.{ℕ, ◌==◌, Bool, false, not, ◌&&◌, ◌||◌, if◌then◌else◌, nat_le, List, [], ◌∷◌, length, Option, Some, None, bytes_eq, codes, option_and_then, option_map}
 use Rattle.std.specs.Char.{is_ascii_digit}
-use Rattle.std.specs.List.{list_all, after_first, before_first, position_or_len}
+use Rattle.std.specs.List.{list_all}
 use Rattle.cer_base.specs.Digits.{read_on}
-use Rattle.checkpoint_text.specs.declared.numbers.TheConstants.{BLANK, ZERO, MOST_POSITIONS}
+use Rattle.event_reader.specs.Words.{cut}
+use Rattle.checkpoint_text.specs.declared.numbers.TheConstants.{ZERO, MOST_POSITIONS}
 
 -- some digits, the first of several not being 0
 abbrev pub is_numeral : List ℕ → Bool
@@ -13,13 +14,6 @@ is_numeral (d ∷ ds) = (length ds == 0 || not (d == ZERO)) && list_all is_ascii
 -- the number that they write, where it is at most so much
 abbrev pub number : ℕ → List ℕ → Option ℕ
 number most digits = if is_numeral digits && nat_le (read_on 0 digits) most then Some (read_on 0 digits) else None
-
-abbrev pub is_blank : ℕ → Bool
-is_blank byte = byte == BLANK
-
--- what stands before the first blank and after it, where there is one
-abbrev pub cut : List ℕ → Option (List ℕ × List ℕ)
-cut text = if nat_lt (position_or_len is_blank text) (length text) then Some (before_first is_blank text, after_first is_blank text) else None
 
 -- what stands after this word and a blank
 abbrev pub after_word_in : List ℕ → List ℕ × List ℕ → Option (List ℕ)

@@ -4,7 +4,8 @@ use Rattle.stream_schema.specs.Types.{Declared}
 use Rattle.cel_terms.specs.declared.Query.{Query}
 use Rattle.event_reader.specs.Events.{event_of_line}
 use Rattle.event_reader.specs.Lines.{FileLines}
-use Rattle.checkpoint_text.specs.declared.numbers.TheConstants.{BLANK, MOST_POSITIONS}
+use Rattle.event_reader.specs.declared.words.TheConstants.{BLANK}
+use Rattle.checkpoint_text.specs.declared.numbers.TheConstants.{MOST_POSITIONS}
 use Rattle.checkpoint_text.specs.declared.history.EventAt.{EventAt}
 use Rattle.checkpoint_text.specs.declared.history.History.{History}
 use Rattle.checkpoint_text.specs.Clocks.{NoneFalls}

@@ -1,83 +1,24 @@
 //! The clocks of the queries along events.
 
-ghost use Rattle.std.specs.Prelude.{◌≡◌, ◌==◌, ◌+ℤ◌, int_lt, length, map, false, Some, None, IfOk, IfNone};
-ghost use Rattle.std.specs.List.{list_any};
-ghost use Rattle.cel_terms.specs.Answers.{types_of_stream};
-ghost use Rattle.cel_plain.specs.Below.{query_reads};
-ghost use Rattle.window_clock.specs.Clocks.{int_of, clock_of};
+ghost use Rattle.std.specs.Prelude.{◌≡◌, ◌+ℤ◌, int_lt, length, map, false, Some, None, IfOk, IfNone};
 ghost use Rattle.checkpoint_text.specs.Clocks.{clock_at, later, is_back};
 ghost use Rattle.checkpoint_text.specs.LastClocks.{any_back, fall_of, first_back, next_clocks};
 ghost use Rattle.checkpoint_text.specs.Keeping.{is_within, are_within, any_needs};
 
 use crate::EventAt;
-use cel_plain::predicate::value_of;
-use cel_terms::{Name, Query, Window};
+use cel_plain::substream::query_reads;
+use cel_terms::{Query, Window};
 use cer_base::{Memory, Pos};
 use std::alloc::Global;
-use stream_schema::{Event, Schema, TypeId, Value};
-
-fn has_number(types: &[TypeId], ty: TypeId) -> bool
-    ensures { result ≡ list_any (λ t. t == ty) types.now }
-{
-    types.iter().any(|t| *t == ty)
-}
-
-/// Whether the stream of this name has the type.
-fn stream_has(schema: &Schema, name: &Name, ty: TypeId) -> bool
-    ensures { result ≡ list_any (λ t. t == ty)
-        (types_of_stream schema.now.streams name.now.text) }
-{
-    match schema.streams(name.text.as_str()) {
-        Some(types) => has_number(types.as_slice(), ty),
-        None => false,
-    }
-}
-
-/// Whether some of the streams has the type.
-fn some_stream_has(schema: &Schema, names: &[Name], ty: TypeId) -> bool
-    ensures { result ≡ list_any (λ n. list_any (λ t. t == ty)
-        (types_of_stream schema.now.streams n.text)) names.now }
-{
-    names.iter().any(|name| stream_has(schema, name, ty))
-}
-
-/// Whether one of the query's streams has the event's type.
-fn reads(schema: &Schema, query: &Query, event: &Event) -> bool
-    ensures { result ≡ query_reads schema.now query.now event.now }
-{
-    some_stream_has(schema, query.streams.as_slice(), event.ty)
-}
-
-/// The value as a whole number, where it is one.
-fn int_of(value: &Value) -> Option<i128>
-    ensures { result ≡ int_of (Some value.now) }
-{
-    match value {
-        Value::Int(n) => Some(i128::from(*n)),
-        _ => None,
-    }
-}
-
-/// The event's clock at the position, where it has one.
-fn clock_of(schema: &Schema, window: &Window, event: &Event, position: Pos) -> Option<i128>
-    ensures { result ≡ clock_of schema.now window.now event.now position }
-{
-    match window {
-        Window::Free => Some(i128::from(position)),
-        Window::Events(_) => Some(i128::from(position)),
-        Window::Clock(name, _) => match value_of(schema, event, name.text.as_str()) {
-            Some(value) => int_of(value),
-            None => None,
-        },
-    }
-}
+use stream_schema::{Event, Schema};
+use window_clock::plain::clock_of;
 
 /// The event's clock, where the query reads it.
 fn clock_at(schema: &Schema, query: &Query, event: &Event, position: Pos) -> Option<i128>
     ensures { result ≡ clock_at schema.now query.now
         (record { position = position; event = event.now }) }
 {
-    if reads(schema, query, event) {
+    if query_reads(schema, query, event) {
         clock_of(schema, &query.window, event, position)
     } else {
         None

@@ -15,12 +15,12 @@ ghost use Rattle.checkpoint_text.specs.Keeping.{is_within, are_within, any_needs
 
 use crate::EventAt;
 use crate::clocks::{Fall, any_needs, first_back, next_clocks, no_clocks};
-use crate::numbers::BLANK;
 use cel_terms::Query;
 use cer_base::bytes::{CARRIAGE_RETURN, LINE_FEED};
 use cer_base::{Listed, Memory, OrMemory, Pos};
 use cer_outside::writing::put_all;
 use cer_outside::{Sink, WriteFault};
+use event_reader::words::BLANK;
 use itoa::Buffer;
 use std::alloc::Global;
 use std::marker::Model;

@@ -1,14 +1,12 @@
 //! The words and numbers of a line.
 
-ghost use Rattle.std.specs.Prelude.{◌≡◌, ◌≤◌, length, option_map};
+ghost use Rattle.std.specs.Prelude.{◌≡◌, option_map};
 ghost use Rattle.std.specs.Char.{is_ascii_digit};
-ghost use Rattle.std.specs.List.{list_all, position_or_len};
-ghost use Rattle.checkpoint_text.specs.Numbers.{is_numeral, number, is_blank, cut, after_word, two_numbers, counts_of, position_of};
+ghost use Rattle.std.specs.List.{list_all};
+ghost use Rattle.checkpoint_text.specs.Numbers.{is_numeral, number, after_word, two_numbers, counts_of, position_of};
 
 use cer_base::digits::with_digits;
-
-/// Stands between the words of a line.
-pub const BLANK: u8 = b' ';
+use event_reader::words::cut;
 
 /// No number of several digits begins with it.
 pub const ZERO: u8 = b'0';
@@ -76,29 +74,4 @@ fn are_digits(bytes: &[u8]) -> bool
     ensures { result ≡ list_all is_ascii_digit bytes.now }
 {
     bytes.iter().all(|byte| byte.is_ascii_digit())
-}
-
-/// What stands before the first blank and after it, where there is one.
-fn cut(text: &[u8]) -> Option<(&[u8], &[u8])>
-    ensures { option_map (λ parts. (parts.0.now, parts.1.now)) result ≡ cut text.now }
-{
-    let at = blank_at(text);
-    if at < text.len() {
-        Some((&text[..at], &text[at + 1..]))
-    } else {
-        None
-    }
-}
-
-/// The place of the first blank, or the text's length.
-fn blank_at(text: &[u8]) -> usize
-    ensures place { result ≡ position_or_len is_blank text.now }
-    ensures bound { result ≤ length text.now }
-{
-    for (i, byte) in text.iter().enumerate() {
-        if *byte == BLANK {
-            return i;
-        }
-    }
-    text.len()
 }

@@ -8,7 +8,8 @@ use Rattle.std.specs.Str.{all_ascii_digits}
 use Rattle.std.specs.Str.Parse.{digits_value}
 use Rattle.std.proofs.lemmas.Bool.{and_parts, and_from, leb-true, le-leb, eqb-true, lt-ltb}
 use Rattle.std.proofs.lemmas.Str.Parse.{digits_value_short, numerals_by_value, tells_all_ascii_digits}
-use Rattle.cursor_session.specs.Numbers.{is_blank, is_number, number, one_of}
+use Rattle.event_reader.specs.Words.{is_blank}
+use Rattle.cursor_session.specs.Numbers.{is_number, number, one_of}
 use Rattle.cursor_session.specs.Spelling.{Writes, WritesOneOf}
 
 pub below_ten_digits : (digits : List ℕ) → length digits ≤ 10 → all_ascii_digits digits ≡ true → digits_value 10 digits < 2 ^ 64

@@ -1,4 +1,3 @@
-mod Words
 mod Digits
 mod Spelled
 mod Seen

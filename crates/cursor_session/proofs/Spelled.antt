@@ -9,10 +9,11 @@ use Rattle.cursor_session.specs.declared.command.Command.{Command}
 use Rattle.cursor_session.specs.declared.command.Command.TheVariants as command
 use Rattle.cursor_session.specs.declared.command.CommandFault.{CommandFault}
 use Rattle.cursor_session.specs.declared.command.CommandFault.TheVariants as fault
-use Rattle.cursor_session.specs.Numbers.{cut, number, one_of}
+use Rattle.event_reader.specs.Words.{cut}
+use Rattle.cursor_session.specs.Numbers.{number, one_of}
 use Rattle.cursor_session.specs.Commands.{event_command, open_command, pull_command, drop_command, other_command, known, command_in, command_of}
 use Rattle.cursor_session.specs.Spelling.{Spells}
-use Rattle.cursor_session.proofs.Words.{parts, cut_is, parts_join, parts_of, mapped_some}
+use Rattle.event_reader.proofs.FirstBlank.{parts, cut_is, parts_join, parts_of, mapped_some}
 use Rattle.cursor_session.proofs.Digits.{and_then_some, number_writes, writes_number, one_writes, writes_one, writes_unblank}
 
 one_ok : {F : Type 0} (x y : Command) → (let r : Result Command F = Ok x in r) ≡ Ok y → x ≡ y

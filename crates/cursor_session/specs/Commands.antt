@@ -10,7 +10,8 @@ use Rattle.cursor_session.specs.declared.command.Command.{Command}
 use Rattle.cursor_session.specs.declared.command.Command.TheVariants as command
 use Rattle.cursor_session.specs.declared.command.CommandFault.{CommandFault}
 use Rattle.cursor_session.specs.declared.command.CommandFault.TheVariants as fault
-use Rattle.cursor_session.specs.Numbers.{cut, number, one_of}
+use Rattle.event_reader.specs.Words.{cut}
+use Rattle.cursor_session.specs.Numbers.{number, one_of}
 
 -- the command of an event, where the line gives one
 abbrev pub event_command : Result (Option Event) EventFault → Result Command CommandFault

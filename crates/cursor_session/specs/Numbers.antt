@@ -1,16 +1,8 @@
--- The words and numbers of a command.
-use Rattle.std.specs.Prelude.{ℕ, ◌==◌, Bool, ◌&&◌, if◌then◌else◌, nat_le, nat_lt, List, length, Option, Some, None, option_and_then}
-use Rattle.std.specs.List.{after_first, before_first, position_or_len}
+-- The numbers of a command.
+use Rattle.std.specs.Prelude.{ℕ, Bool, ◌&&◌, if◌then◌else◌, nat_le, nat_lt, List, length, Option, Some, None, option_and_then}
 use Rattle.std.specs.Str.{all_ascii_digits}
 use Rattle.std.specs.Str.Parse.{digits_value}
-use Rattle.cursor_session.specs.declared.numbers.TheConstants.{BLANK, MOST_DIGITS}
-
-abbrev pub is_blank : ℕ → Bool
-is_blank byte = byte == BLANK
-
--- what stands before the first blank and after it, where there is one
-abbrev pub cut : List ℕ → Option (List ℕ × List ℕ)
-cut text = if nat_lt (position_or_len is_blank text) (length text) then Some (before_first is_blank text, after_first is_blank text) else None
+use Rattle.cursor_session.specs.declared.numbers.TheConstants.{MOST_DIGITS}
 
 -- one to ten digits
 abbrev pub is_number : List ℕ → Bool

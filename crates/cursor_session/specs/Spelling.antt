@@ -4,7 +4,8 @@ use Rattle.std.specs.Str.Parse.{digits_value}
 use Rattle.stream_schema.specs.Types.{Declared}
 use Rattle.event_reader.specs.declared.EventFault.{EventFault}
 use Rattle.event_reader.specs.Events.{event_of_line}
-use Rattle.cursor_session.specs.declared.numbers.TheConstants.{BLANK, MOST_CURSORS, MOST_PULLED}
+use Rattle.event_reader.specs.declared.words.TheConstants.{BLANK}
+use Rattle.cursor_session.specs.declared.numbers.TheConstants.{MOST_CURSORS, MOST_PULLED}
 use Rattle.cursor_session.specs.declared.command.Command.{Command}
 use Rattle.cursor_session.specs.declared.command.Command.TheVariants as command
 use Rattle.cursor_session.specs.declared.command.CommandFault.TheVariants as fault

@@ -1,17 +1,16 @@
 //! The command that a line spells.
 
 ghost use Rattle.std.specs.Prelude.{◌≡◌, ◌≤◌, false, IfOk, length, option_map};
-ghost use Rattle.std.specs.List.{position_or_len};
 ghost use Rattle.std.specs.Str.Lines.{strip_carriage_return};
 ghost use Rattle.cer_base.specs.Answers.{Gives};
 ghost use Rattle.event_reader.specs.Lines.{has_line_feed};
 ghost use Rattle.event_reader.specs.Events.{event_of_line};
-ghost use Rattle.cursor_session.specs.Numbers.{is_blank, cut};
 ghost use Rattle.cursor_session.specs.Commands.{command_of, event_command, other_command, open_command, pull_command, drop_command, HasEventOf};
 
-use crate::numbers::{BLANK, MOST_CURSORS, MOST_PULLED, number, one_of};
+use crate::numbers::{MOST_CURSORS, MOST_PULLED, number, one_of};
 use cer_base::OrMemory;
 use cer_base::bytes::CARRIAGE_RETURN;
+use event_reader::words::cut;
 use event_reader::{EventFault, read_event};
 use std::alloc::Global;
 use stream_schema::{Event, Schema};
@@ -148,29 +147,4 @@ fn drop_command(cursor: &[u8]) -> Option<Command>
 {
     let cursor = one_of(MOST_CURSORS, cursor)?;
     Some(Command::Drop { cursor })
-}
-
-/// What stands before the first blank and after it, where there is one.
-fn cut(text: &[u8]) -> Option<(&[u8], &[u8])>
-    ensures { option_map (λ parts. (parts.0.now, parts.1.now)) result ≡ cut text.now }
-{
-    let at = blank_at(text);
-    if at < text.len() {
-        Some((&text[..at], &text[at + 1..]))
-    } else {
-        None
-    }
-}
-
-/// The place of the first blank, or the text's length.
-fn blank_at(text: &[u8]) -> usize
-    ensures place { result ≡ position_or_len is_blank text.now }
-    ensures bound { result ≤ length text.now }
-{
-    for (i, byte) in text.iter().enumerate() {
-        if *byte == BLANK {
-            return i;
-        }
-    }
-    text.len()
 }

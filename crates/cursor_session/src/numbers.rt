@@ -6,9 +6,6 @@ ghost use Rattle.std.specs.Str.{all_ascii_digits};
 ghost use Rattle.std.specs.Str.Parse.{digits_value};
 ghost use Rattle.cursor_session.specs.Numbers.{number, one_of};
 
-/// Stands between the words of a command.
-pub const BLANK: u8 = b' ';
-
 /// A number has at most so many digits.
 pub const MOST_DIGITS: usize = 10;
 

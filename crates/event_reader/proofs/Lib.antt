@@ -25,3 +25,5 @@ pub mod OfSchema
 pub mod CommonNumbers
 -- the fields of a line that is read in one pass
 pub mod CommonFields
+-- a text cut at its first blank; for callers
+pub mod FirstBlank

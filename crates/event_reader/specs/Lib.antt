@@ -8,3 +8,4 @@ pub mod LineBuffers
 pub mod Reading
 pub mod CommonLines
 pub mod Rows
+pub mod Words

@@ -21,6 +21,7 @@ mod reader;
 mod row;
 mod types;
 mod values;
+pub mod words;
 
 pub use events::read_event;
 pub use reader::{Lines, Next};

@@ -1,9 +1,9 @@
--- A text cut at its first blank.
+-- A text cut at its first blank; for callers.
 use Rattle.std.proofs.Common.{◌≡◌, ℕ, suc, ◌+◌, ◌||◌, Bool, true, false, not, cond, List, [], ◌∷◌, ◌++◌, length, take, drop, refl, ap, ◌∙◌, Option, Some, None, arith, rules}
 use Rattle.std.specs.Prelude.{nat_lt, option_map}
 use Rattle.std.specs.List.{list_any, position_or_len}
 use Rattle.std.proofs.lemmas.Bool.{eqb-true, lt-ltb}
-use Rattle.cursor_session.specs.Numbers.{is_blank, cut}
+use Rattle.event_reader.specs.Words.{is_blank, cut}
 
 -- the same by recursion
 abbrev pub parts : List ℕ → Option (List ℕ × List ℕ)

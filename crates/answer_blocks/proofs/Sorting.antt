@@ -1,20 +1,14 @@
 -- Answers put into order, as lists.
-use Rattle.std.proofs.Common.{Ordering, ◌≡◌, ℕ, ◌<◌, length, Some, zero, suc, ◌⊎◌, inl, inr, Bool, true, false, List, [], ◌∷◌, get_or, ◌↔◌, IsPermutation, Contains, refl, sym, subst, arith}
+use Rattle.std.proofs.Common.{Ordering, ◌≡◌, ℕ, ◌<◌, length, Some, zero, suc, ◌⊎◌, inl, inr, Bool, true, false, List, [], ◌∷◌, get_or, IsPermutation, Contains, refl, sym, subst, arith}
 use Rattle.std.specs.Prelude.{if◌then◌else◌, slice_get}
-use Rattle.std.specs.Cmp.{IsStrictWeakOrder}
-use Rattle.std.specs.Fn.{Called, ComparesAs}
-use denote.Param.Members.{Mut}
-use denote.Ref.{Bor}
 use Rattle.std.specs.declared.cmp.Ordering.TheVariants.{Less, Equal, Greater}
 use Rattle.std.specs.Ordering.{is_lt}
-use Rattle.std.proofs.lemmas.List.Sorted.{IsPermutation-refl, IsPermutation-cons, IsPermutation-trans, IsPermutation-middle, IsPermutation-sym, Contains-permutation, ranks_by, sorted_far, answers_always}
-use Rattle.std.proofs.lemmas.Cmp.{nat_list_cmp_total}
-use Rattle.std.specs.List.Sorted.{IsSortedBy}
+use Rattle.std.proofs.lemmas.List.Sorted.{IsPermutation-refl, IsPermutation-cons, IsPermutation-trans, IsPermutation-middle, IsPermutation-sym, Contains-permutation}
 use Rattle.std.proofs.lemmas.Option.{slice_get_within, get_or_from_slice_get}
 use Rattle.cel_terms.specs.Answers.{Answer}
 use Rattle.cer_base.specs.Repeats.{HasNoRepeats}
 use Rattle.answer_text.specs.Output.{ComesBefore, EachBeforeNext}
-use Rattle.answer_text.proofs.Ordered.{key, compared, is_less, is_equal, is_greater, before_chain}
+use Rattle.answer_text.proofs.Ordered.{compared, is_less, is_equal, is_greater, before_chain}
 
 -- with the one where the test says so, and else with the others
 abbrev put_if : Bool → Answer → List Answer → List Answer → List Answer
@@ -93,54 +87,3 @@ before_next (x ∷ xs) h (suc i) (suc j) a b less p q = before_next xs h.1 i j a
 -- They are in order.
 pub in_order_is : (xs : List Answer) → HasNoRepeats xs → EachBeforeNext (in_order xs)
 in_order_is xs h = before_next (in_order xs) (in_order_rises xs h)
-
-apart : (xs : List Answer) → HasNoRepeats xs → (i j : ℕ) (a : Answer) → i < j → slice_get xs i ≡ Some a → slice_get xs j ≡ Some a → ⊥
-apart [] h i j a less p q = cc
-apart (x ∷ xs) h i zero a less p q = absurd (omega arith)
-apart (x ∷ xs) h zero (suc j) a less p q =
-    let first : a ≡ x = cc in
-    h.0 (subst (Contains xs) first (j, slice_get_within xs j a q, get_or_from_slice_get xs j a a q))
-apart (x ∷ xs) h (suc i) (suc j) a less p q = apart xs h.1 i j a (omega arith) p q
-
--- whether the one comes before the other
-abbrev pub is_before : Answer → Answer → Bool
-is_before a b = is_lt (compared a b)
-
-not_behind : (a b : Answer) (o : Ordering) → o ≡ compared b a → is_lt o ≡ false → (b ≡ a → ⊥) → ComesBefore a b
-not_behind a b Less e low apart = absurd (let no : true ≡ false = low in cc)
-not_behind a b Equal e low apart = absurd (apart ((is_equal b a Equal e).0 refl))
-not_behind a b Greater e low apart = (is_greater b a Greater e).0 refl
-
--- What a sort leaves is in order, where no answer stands twice.
-pub sorted_is : (xs : List Answer) → IsSortedBy is_before xs → HasNoRepeats xs → EachBeforeNext xs
-sorted_is xs up h i j a b less p q =
-    let within : j < length xs = slice_get_within xs j b q in
-    let first : get_or xs i a ≡ a = get_or_from_slice_get xs i a a p in
-    let second : get_or xs j a ≡ b = get_or_from_slice_get xs j b a q in
-    let low : is_before (get_or xs j a) (get_or xs i a) ≡ false = sorted_far is_before (ranks_by nat_list_cmp_total key) xs up i j a (omega arith) within in
-    let low_here : is_lt (compared b a) ≡ false = subst (λ (y : Answer). is_before y a ≡ false) second (subst (λ (x : Answer). is_before (get_or xs j a) x ≡ false) first low) in
-    not_behind a b (compared b a) refl low_here (λ same. apart xs h i j a less p (subst (λ (y : Answer). slice_get xs j ≡ Some y) same q))
-
--- What tells the order tells the test.
-pub tells_before : (a b : Answer) (r : Ordering) → ((r ≡ Less) ↔ ComesBefore a b) → is_lt r ≡ is_before a b
-tells_before a b r h = told a b r (compared a b) refl h
-  where
-    told : (a b : Answer) (r o : Ordering) → o ≡ compared a b → ((r ≡ Less) ↔ ComesBefore a b) → is_lt r ≡ is_lt o
-    told a b Less Less e h = refl
-    told a b Less Equal e h = absurd (let no = (is_less a b Equal e).1 (h.0 refl) in cc)
-    told a b Less Greater e h = absurd (let no = (is_less a b Greater e).1 (h.0 refl) in cc)
-    told a b Equal Less e h = absurd (let no = h.1 ((is_less a b Less e).0 refl) in cc)
-    told a b Equal Equal e h = refl
-    told a b Equal Greater e h = refl
-    told a b Greater Less e h = absurd (let no = h.1 ((is_less a b Less e).0 refl) in cc)
-    told a b Greater Equal e h = refl
-    told a b Greater Greater e h = refl
-
--- What `sort_unstable_by` leaves, where each call answers by the order.
-pub sorted_by_order : {F : Type 0} {g : Mut F (Bor Answer × (Bor Answer × Unit {0})) Ordering} {f : F} (xs : List Answer) →
-    ((lt : Answer → Answer → Bool) → IsStrictWeakOrder lt → ComparesAs g lt f → IsSortedBy lt xs) →
-    ((f : F) (a : Bor Answer × (Bor Answer × Unit {0})) (r : Ordering) (f' : F) → Called g f a r f' → (r ≡ Less) ↔ ComesBefore a.0.now a.1.0.now) →
-    HasNoRepeats xs → EachBeforeNext xs
-sorted_by_order {F} {g} {f} xs sorted calls =
-    sorted_is xs (sorted is_before (ranks_by nat_list_cmp_total key)
-    (answers_always g (λ a r. is_lt r ≡ is_before a.0.now a.1.0.now) f (λ f a r f' called. tells_before a.0.now a.1.0.now r (calls f a r f' called))))

@@ -1,13 +1,11 @@
 //! The blocks of a position, each in order.
 
-ghost use Rattle.std.specs.Prelude.{◌≡◌, ℕ, ◌+◌, ◌-◌, ◌<◌, ◌≤◌, List, ◌∷◌, ◌++◌, length, take, reverse, flat_map, OnOk, OnErr};
-ghost use Rattle.std.specs.List.Sorted.{IsPermutation};
+ghost use Rattle.std.specs.Prelude.{◌≡◌, ℕ, ◌+◌, ◌-◌, ◌<◌, ◌≤◌, List, ◌∷◌, ◌++◌, length, reverse, OnOk, OnErr};
 ghost use Rattle.stream_schema.specs.declared.Event.{Event};
-ghost use Rattle.cer_base.specs.Repeats.{HasNoRepeats};
 ghost use Rattle.query_engine.specs.Counts.{cursor_bound, cursor_bounds};
 ghost use Rattle.query_engine.specs.Engine.{StandsFor, count_of, Fits, IsNumber};
 ghost use Rattle.answer_text.specs.declared.Order.TheVariants.{Sorted};
-ghost use Rattle.answer_text.specs.Output.{line, EachBeforeNext, AreBlocks};
+ghost use Rattle.answer_text.specs.Output.{AreBlocks};
 ghost use Rattle.answer_text.specs.Rows.{lines_of};
 ghost use Rattle.answer_text.specs.Texts.{StartsWith};
 ghost use Rattle.answer_blocks.specs.Wanted.{to_give};
@@ -15,8 +13,7 @@ ghost use Rattle.answer_blocks.specs.Blocks.{HasBlock, HasBlocks, HasPut};
 ghost use Rattle.answer_blocks.specs.Counted.{delays, row_delays, HasRows, HasRowsAt};
 
 use crate::pulling::Pulling;
-use answer_text::answer::order;
-use answer_text::{Answer, push_line};
+use answer_text::{Answers, push_line};
 use cer_base::steps::Steps;
 use cer_base::{Memory, Pos};
 use query_engine::Engine;
@@ -25,38 +22,19 @@ use std::sync::ledger::Ledger;
 
 /// Puts all that are still wanted after the answers.
 fn pull_all<L: Ledger>(
-    alloc: Global,
     engine: &Engine,
     pulling: &mut Pulling,
-    found: &mut Vec<Answer>,
+    found: &mut Answers,
     steps: &mut Steps<L>,
 ) -> Result<(), Memory>
     requires fits { Fits engine.now pulling.old.cursor }
-    ensures all { OnOk result (found.new.items
-        ≡ found.old.items ++ to_give engine.now pulling.old.left pulling.old.cursor) }
+    ensures all { OnOk result (found.new
+        ≡ found.old ++ to_give engine.now pulling.old.left pulling.old.cursor) }
     ensures steps { steps.new ≤ steps.old + 1
         + delays (to_give engine.now pulling.old.left pulling.old.cursor) }
 {
     while let Some(start) = pulling.next(engine, steps) {
-        found.push(Answer::new(alloc, start, pulling.positions())?)?;
-    }
-    Ok(())
-}
-
-fn sort(answers: &mut Vec<Answer>)
-    ensures moved { IsPermutation answers.old.items answers.new.items }
-    ensures ordered { HasNoRepeats answers.old.items → EachBeforeNext answers.new.items }
-{
-    answers.sort_unstable_by(|a, b| order(a, b));
-}
-
-fn push_lines(text: &mut Vec<u8>, query: u64, end: Pos, answers: &[Answer]) -> Result<(), Memory>
-    ensures lines { OnOk result (text.new.items
-        ≡ text.old.items ++ flat_map (line query end) answers.now) }
-    ensures kept { OnErr result (StartsWith text.old.items text.new.items) }
-{
-    for answer in answers {
-        answer.push_line(text, query, end)?;
+        found.push(start, pulling.positions())?;
     }
     Ok(())
 }
@@ -80,11 +58,11 @@ fn push_several<L: Ledger>(
     ensures steps { steps.new ≤ steps.old + 1
         + delays (to_give engine.now pulling.old.left pulling.old.cursor) }
 {
-    let mut answers = Vec::new(alloc);
-    answers.push(Answer::new(alloc, start, pulling.positions())?)?;
-    pull_all(alloc, engine, pulling, &mut answers, steps)?;
-    sort(&mut answers);
-    push_lines(text, query, end, answers.as_slice())
+    let mut answers = Answers::new(alloc);
+    answers.push(start, pulling.positions())?;
+    pull_all(engine, pulling, &mut answers, steps)?;
+    answers.sort();
+    answers.push_lines(text, query, end)
 }
 
 /// The lines of all that are wanted, in order. The line of one alone is put without keeping it.

@@ -6,3 +6,7 @@ mod ShortLines
 pub mod Ordered
 -- rows and their lines; for callers
 pub mod RowLists
+-- the positions of spans as more come
+mod Spans
+-- what a sort leaves is in order
+mod SortedSpans

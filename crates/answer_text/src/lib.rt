@@ -3,7 +3,7 @@
 //!
 //! Promised: `push_line` puts exactly the bytes after a text that `specs/Output` defines, or memory
 //! ran out and the text is as it was; `order` tells which of two comes before the other, and takes
-//! no memory. It stands on `itoa` for the digits.
+//! no memory; `Answers` puts those of a position in order. It stands on `itoa` for the digits.
 #![tactic(auto)]
 
 ghost use Rattle.std.specs.Prelude.{◌≡◌, reverse, IfOk};
@@ -13,11 +13,12 @@ use cer_base::{Memory, Pos};
 use std::alloc::Global;
 
 pub mod answer;
+mod answers;
 mod explaining;
 mod short;
 pub mod writing;
 
-pub use answer::Answer;
+pub use answers::Answers;
 pub use explaining::{none, push_binding};
 pub use writing::push_line;
 

@@ -1,5 +1,5 @@
 use answer_text::answer::order;
-use answer_text::{Answer, line, none, push_binding, push_line};
+use answer_text::{line, none, push_binding, push_line};
 use cer_base::Pos;
 use std::cmp::Ordering;
 use std::test::Fail;
@@ -90,9 +90,7 @@ fn answers_are_ordered(rt: HostRuntime) -> Result<(), Fail> {
         (0, &[2, 0], 0, &[2, 0], Ordering::Equal),
     ];
     for (start, falling, other_start, other_falling, want) in rows {
-        let one = Answer::new(rt.alloc(), start, falling)?;
-        let other = Answer::new(rt.alloc(), other_start, other_falling)?;
-        assert_eq!(rt; order(&one, &other), want);
+        assert_eq!(rt; order(start, falling, other_start, other_falling), want);
     }
     Ok(())
 }

@@ -8,7 +8,7 @@ use Rattle.answer_blocks.proofs.sorted.pull_all.Given as goal
 abbrev pub invariant-loop-start : goal.invariant-loop-start
 invariant-loop-start g l = record {
   fits : Fits l.engine l.pulling.cursor;
-  given : l.fn.found.items ++ to_give l.engine l.fn.pulling.left l.fn.pulling.cursor ≡ l.found.items ++ to_give l.engine l.pulling.left l.pulling.cursor;
+  given : l.fn.found ++ to_give l.engine l.fn.pulling.left l.fn.pulling.cursor ≡ l.found ++ to_give l.engine l.pulling.left l.pulling.cursor;
   counted : l.steps + delays (to_give l.engine l.pulling.left l.pulling.cursor) ≤ l.fn.steps + delays (to_give l.engine l.fn.pulling.left l.fn.pulling.cursor);
 }
 

@@ -1,14 +1,14 @@
 //! Declarations of types and streams.
 
-ghost use Rattle.ceql_grammar.specs.ReadResults.{ReadsAs, Stays};
+ghost use Rattle.ceql_grammar.specs.ReadResults.{ReadsAs, Stays, StopsAs};
 ghost use Rattle.ceql_grammar.specs.PartlyRead.{with_front};
 ghost use Rattle.ceql_grammar.specs.Reading.{attr, attr_kind, attrs_closed, decimal_kind, declaration, ended, event_declared, more_attrs, some_attrs, stream_declared};
 ghost use Rattle.ceql_grammar.specs.Statements.{statement_tree};
-ghost use Rattle.std.specs.Prelude.{◌≡◌, ◌<◌, ◌≤◌, IfOk, length};
+ghost use Rattle.std.specs.Prelude.{◌≡◌, ◌<◌, ◌≤◌, IfErr, IfOk, Ok, length};
 
-use crate::names::names;
+use crate::names::names_within;
 use crate::terms::{AttrDecl, AttrDecls, KindDecl, Statement};
-use crate::tokens::{Read, expect, is, name, skip};
+use crate::tokens::{Read, closed, expect, is, name, skip};
 use crate::values::whole_number;
 use ceql_lexer::Token;
 use cer_base::{Listed, OrMemory};
@@ -16,7 +16,7 @@ use std::alloc::Global;
 
 /// Nothing, where a statement may end: before DECLARE, before SELECT and at the end.
 #[tactic(auto, unfolding(crate::specs::Reading::ended))]
-pub fn ended<'a>(tokens: &'a [Token]) -> Result<(), OrMemory<&'a [Token]>>
+fn ended<'a>(tokens: &'a [Token]) -> Result<(), OrMemory<&'a [Token]>>
     ensures { Stays tokens.now result (ended tokens.now) }
 {
     match tokens.split_first() {
@@ -31,6 +31,16 @@ pub fn ended<'a>(tokens: &'a [Token]) -> Result<(), OrMemory<&'a [Token]>>
     }
 }
 
+/// The statement, where one may end.
+pub fn ending<'a>(statement: Statement, tokens: &'a [Token]) -> Read<'a, Statement>
+    ensures value { IfOk result (λ p. (p.0 ≡ statement) × (ended tokens.now ≡ Ok (tt, p.1.now))) }
+    ensures stops { IfErr result (λ e. StopsAs e (ended tokens.now)) }
+    ensures no_longer { IfOk result (λ p. length p.1.now ≤ length tokens.now) }
+{
+    ended(tokens)?;
+    Ok((statement, tokens))
+}
+
 /// The number of a DECIMAL, in parentheses.
 #[tactic(auto, unfolding(crate::specs::Reading::decimal_kind))]
 fn decimal_kind<'a>(tokens: &'a [Token]) -> Read<'a, KindDecl>
@@ -39,8 +49,7 @@ fn decimal_kind<'a>(tokens: &'a [Token]) -> Read<'a, KindDecl>
 {
     let inside = expect(tokens, b"(")?;
     let (places, rest) = whole_number(inside)?;
-    let rest = expect(rest, b")")?;
-    Ok((KindDecl::Dec(places), rest))
+    closed(KindDecl::Dec(places), rest, b")")
 }
 
 /// What an attribute is declared to hold.
@@ -115,8 +124,7 @@ fn attrs_closed<'a>(alloc: Global, tokens: &'a [Token]) -> Read<'a, AttrDecls>
         Some(rest) => Ok((Listed::of(Vec::new(alloc)), rest)),
         None => {
             let (attrs, rest) = some_attrs(alloc, tokens)?;
-            let rest = expect(rest, b")")?;
-            Ok((attrs, rest))
+            closed(attrs, rest, b")")
         }
     }
 }
@@ -130,8 +138,7 @@ fn event<'a>(alloc: Global, tokens: &'a [Token]) -> Read<'a, Statement>
     let (name, rest) = name(alloc, tokens)?;
     let inside = expect(rest, b"(")?;
     let (attrs, rest) = attrs_closed(alloc, inside)?;
-    ended(rest)?;
-    Ok((Statement::Event(name, attrs), rest))
+    ending(Statement::Event(name, attrs), rest)
 }
 
 /// The name and the types of a stream.
@@ -141,11 +148,8 @@ fn stream<'a>(alloc: Global, tokens: &'a [Token]) -> Read<'a, Statement>
     ensures shorter { IfOk result (λ p. length p.1.now < length tokens.now) }
 {
     let (name, rest) = name(alloc, tokens)?;
-    let inside = expect(rest, b"(")?;
-    let (types, rest) = names(alloc, inside)?;
-    let rest = expect(rest, b")")?;
-    ended(rest)?;
-    Ok((Statement::Stream(name, types), rest))
+    let (types, rest) = names_within(alloc, rest, b"(", b")")?;
+    ending(Statement::Stream(name, types), rest)
 }
 
 /// What stands after DECLARE.

@@ -8,7 +8,7 @@ ghost use Rattle.ceql_grammar.specs.Trees.{filter_tree};
 ghost use Rattle.std.specs.Prelude.{◌≡◌, ◌<◌, ◌≤◌, IfOk, length, map};
 
 use crate::predicates::predicate;
-use crate::tokens::{Read, expect, name, skip};
+use crate::tokens::{Read, closed, expect, name, skip};
 use cel_terms::Filter;
 use ceql_lexer::Token;
 use std::alloc::Global;
@@ -52,8 +52,7 @@ fn on_name<'a>(alloc: Global, tokens: &'a [Token]) -> Read<'a, Filter>
     let (name, rest) = name(alloc, tokens)?;
     let inside = expect(rest, b"[")?;
     let (pred, rest) = predicate(alloc, inside)?;
-    let rest = expect(rest, b"]")?;
-    Ok((Filter::On(name, pred), rest))
+    closed(Filter::On(name, pred), rest, b"]")
 }
 
 /// A predicate on a name, or a parenthesis.
@@ -66,8 +65,7 @@ fn unit<'a>(alloc: Global, tokens: &'a [Token]) -> Read<'a, Filter>
     match skip(tokens, b"(") {
         Some(inside) => {
             let (filter, rest) = filter(alloc, inside)?;
-            let rest = expect(rest, b")")?;
-            Ok((filter, rest))
+            closed(filter, rest, b")")
         }
         None => on_name(alloc, tokens),
     }

@@ -13,7 +13,7 @@ ghost use Rattle.std.specs.Prelude.{◌≡◌, ◌<◌, ◌≤◌, ◌∷◌, If
 
 use crate::filters::filters;
 use crate::names::bracketed_names;
-use crate::tokens::{Read, expect, is, name, skip};
+use crate::tokens::{Read, closed, expect, is, name, skip};
 use cel_terms::{Filter, Formula, Link, Postfix};
 use ceql_lexer::Token;
 use cer_base::Memory;
@@ -176,8 +176,7 @@ fn base<'a>(alloc: Global, tokens: &'a [Token]) -> Read<'a, Formula>
     match skip(tokens, b"(") {
         Some(inside) => {
             let (formula, rest) = formula(alloc, inside)?;
-            let rest = expect(rest, b")")?;
-            Ok((formula, rest))
+            closed(formula, rest, b")")
         }
         None => {
             let (name, rest) = name(alloc, tokens)?;

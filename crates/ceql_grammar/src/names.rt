@@ -1,10 +1,10 @@
 //! Lists of names.
 
 ghost use Rattle.ceql_grammar.specs.ReadResults.{ReadsAs};
-ghost use Rattle.ceql_grammar.specs.Reading.{bracketed_names, names};
+ghost use Rattle.ceql_grammar.specs.Reading.{bracketed_names, closed, led, names};
 ghost use Rattle.std.specs.Prelude.{◌≡◌, ◌<◌, IfOk, length};
 
-use crate::tokens::{Read, expect, name, skip};
+use crate::tokens::{Read, closed, expect, name, skip};
 use cel_terms::Names;
 use ceql_lexer::Token;
 use cer_base::Listed;
@@ -28,14 +28,26 @@ pub fn names<'a>(alloc: Global, tokens: &'a [Token]) -> Read<'a, Names>
     Ok((Listed::of(names), rest))
 }
 
+/// Names with commas between them, and a sign before them and after them.
+pub fn names_within<'a>(
+    alloc: Global,
+    tokens: &'a [Token],
+    open: &[u8],
+    close: &[u8],
+) -> Read<'a, Names>
+    ensures value { ReadsAs (λ ns. ns) result (led open.now (closed close.now names) tokens.now) }
+    ensures shorter { IfOk result (λ p. length p.1.now < length tokens.now) }
+{
+    let inside = expect(tokens, open)?;
+    let (names, rest) = names(alloc, inside)?;
+    closed(names, rest, close)
+}
+
 /// Names with commas between them, in brackets.
 #[tactic(auto, unfolding(crate::specs::Reading::bracketed_names))]
 pub fn bracketed_names<'a>(alloc: Global, tokens: &'a [Token]) -> Read<'a, Names>
     ensures value { ReadsAs (λ ns. ns) result (bracketed_names tokens.now) }
     ensures shorter { IfOk result (λ p. length p.1.now < length tokens.now) }
 {
-    let inside = expect(tokens, b"[")?;
-    let (names, rest) = names(alloc, inside)?;
-    let rest = expect(rest, b"]")?;
-    Ok((names, rest))
+    names_within(alloc, tokens, b"[", b"]")
 }

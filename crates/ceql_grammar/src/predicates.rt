@@ -7,7 +7,7 @@ ghost use Rattle.ceql_grammar.specs.Reading.{atom, comparison, conjunction, more
 ghost use Rattle.ceql_grammar.specs.Trees.{pred_tree};
 ghost use Rattle.std.specs.Prelude.{◌≡◌, ◌<◌, ◌≤◌, IfOk, length, map};
 
-use crate::tokens::{Read, expect, name, skip};
+use crate::tokens::{Read, closed, name, skip};
 use crate::values::{literal, op};
 use cel_terms::Pred;
 use ceql_lexer::Token;
@@ -65,8 +65,7 @@ fn atom<'a>(alloc: Global, tokens: &'a [Token]) -> Read<'a, Pred>
     match skip(tokens, b"(") {
         Some(inside) => {
             let (pred, rest) = predicate(alloc, inside)?;
-            let rest = expect(rest, b")")?;
-            Ok((pred, rest))
+            closed(pred, rest, b")")
         }
         None => comparison(alloc, tokens),
     }

@@ -7,11 +7,11 @@ ghost use Rattle.ceql_grammar.specs.Statements.{is_events, statement_tree};
 ghost use Rattle.ceql_grammar.specs.Trees.{formula_tree};
 ghost use Rattle.std.specs.Prelude.{◌≡◌, ◌<◌, ◌≤◌, ◌^◌, IfOk, IfSome, length};
 
-use crate::declarations::ended;
+use crate::declarations::ending;
 use crate::formulas::formula;
 use crate::names::{bracketed_names, names};
 use crate::terms::{NumberAt, Select, Statement};
-use crate::tokens::{Read, expect, is, name, skip};
+use crate::tokens::{Read, closed, expect, is, name, skip};
 use crate::values::{count, unit, whole_number};
 use cel_terms::{Formula, Names, Query, Window};
 use ceql_lexer::Token;
@@ -117,9 +117,8 @@ fn clock<'a>(alloc: Global, number: u64, tokens: &'a [Token]) -> Read<'a, Window
     let (seconds, rest) = unit_or_none(tokens);
     let inside = expect(rest, b"[")?;
     let (name, rest) = name(alloc, inside)?;
-    let rest = expect(rest, b"]")?;
     let length = i128::from(number) * i128::from(seconds);
-    Ok((Window::Clock(name, length), rest))
+    closed(Window::Clock(name, length), rest, b"]")
 }
 
 /// Whether EVENT or EVENTS stands here, and the tokens after it.
@@ -176,7 +175,6 @@ fn scope<'a>(
     let (formula, rest) = condition(alloc, tokens)?;
     let (partition, rest) = partition(alloc, rest)?;
     let (window, rest) = within(alloc, rest)?;
-    ended(rest)?;
     let query = Query {
         select,
         strict,
@@ -187,7 +185,7 @@ fn scope<'a>(
         window,
         place,
     };
-    Ok((Statement::Select(Select { query, any: number }), rest))
+    ending(Statement::Select(Select { query, any: number }), rest)
 }
 
 /// What stands after the SELECT at the place.

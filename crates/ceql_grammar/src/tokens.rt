@@ -1,10 +1,10 @@
 //! Single tokens: words, signs and names.
 
-ghost use Rattle.ceql_grammar.specs.ReadResults.{ReadsAs, ReadsPast, Skips};
+ghost use Rattle.ceql_grammar.specs.ReadResults.{ReadsAs, ReadsPast, Skips, StopsAs};
 ghost use Rattle.ceql_grammar.specs.WordsAndSigns.{among, is, is_name_token, token_name, spelled};
 ghost use Rattle.ceql_grammar.specs.Reading.{name, no_value, mark_token};
 ghost use Rattle.ceql_grammar.specs.RuleForms.{first_token};
-ghost use Rattle.std.specs.Prelude.{◌≡◌, ◌<◌, IfOk, IfSome, bytes_eq, length};
+ghost use Rattle.std.specs.Prelude.{◌≡◌, ◌<◌, IfOk, IfSome, Ok, IfErr, bytes_eq, length};
 
 use cel_terms::Name;
 use ceql_lexer::{Token, TokenKind, in_capitals_is};
@@ -108,4 +108,15 @@ pub fn name<'a>(alloc: Global, tokens: &'a [Token]) -> Read<'a, Name>
         }
         None => Err(OrMemory::Fault(tokens)),
     }
+}
+
+/// What was read, and the tokens after this word or sign, which has to stand after it.
+pub fn closed<'a, X: Drop>(read: X, tokens: &'a [Token], mark: &[u8]) -> Read<'a, X>
+    ensures value { IfOk result (λ p. (p.0 ≡ read)
+        × (mark_token mark.now tokens.now ≡ Ok (tt, p.1.now))) }
+    ensures stops { IfErr result (λ e. StopsAs e (mark_token mark.now tokens.now)) }
+    ensures shorter { IfOk result (λ p. length p.1.now < length tokens.now) }
+{
+    let rest = expect(tokens, mark)?;
+    Ok((read, rest))
 }

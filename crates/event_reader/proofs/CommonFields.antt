@@ -127,7 +127,7 @@ whole_line schema line end event some first feed cell begins plain is =
     rw (not_empty (length line) some, bad, closed, parts, is) refl
 
 -- the part from a place on, as a slice writes it
-slice_is : (end : ℕ) (line : List ℕ) → take (length line - end) (drop end line) ≡ drop end line
+pub slice_is : (end : ℕ) (line : List ℕ) → take (length line - end) (drop end line) ≡ drop end line
 slice_is end line = take_all (length line - end) (drop end line) (omega (arith, length-drop end line))
 
 -- the same where a type was found, of whose event these are the values

@@ -1,8 +1,10 @@
 -- The whole numbers that a line read in one pass spells.
-use Rattle.std.proofs.Common.{◌≡◌, ℕ, ◌+◌, ◌*◌, ◌<◌, ◌-◌, ◌==◌, List, [], ◌∷◌, ◌++◌, length, take, drop, get_or, Bool, true, false, ◌&&◌, Some, None, refl, sym, ◌∙◌, ap, arith, cond}
+use Rattle.std.proofs.Common.{◌≡◌, ℕ, zero, suc, ◌+◌, ◌*◌, ◌^◌, ◌<◌, ◌≤◌, ◌-◌, ◌==◌, List, [], ◌∷◌, ◌++◌, length, take, drop, get_or, Bool, true, false, ◌&&◌, Some, None, refl, sym, ◌∙◌, ap, arith, cond, subst, inl, inr, pow-suc}
 use Rattle.std.specs.Prelude.{ℤ, if◌then◌else◌, nat_lt, option_map}
+use Rattle.std.proofs.lemmas.Bool.{cases_Bool, ltb-true, ltb-false}
 use Rattle.std.proofs.lemmas.Bool.Decides.{nat_tests}
-use Rattle.std.proofs.lemmas.List.{append-nil, take_all, drop_all, take_more, length-append}
+use Rattle.std.proofs.lemmas.Grind.{pow_more}
+use Rattle.std.proofs.lemmas.List.{append-nil, take_all, drop_all, take_more, take-append-drop, length-take}
 use Rattle.std.specs.Char.{is_ascii_digit, digit_value}
 use Rattle.std.specs.List.{list_any, position_or_len, before_first, after_first}
 use Rattle.std.specs.Str.{all_ascii_digits}
@@ -11,7 +13,7 @@ use Rattle.stream_schema.specs.declared.Kind.TheVariants as kind
 use Rattle.stream_schema.specs.declared.Value.TheVariants as value
 use Rattle.event_reader.specs.Cells.{is_comma}
 use Rattle.event_reader.specs.Values.{is_point, has_point, is_decimal, digits_of, scaled_by, scaled, signed}
-use Rattle.event_reader.specs.CommonLines.{is_odd, IsNumeral, HasField}
+use Rattle.event_reader.specs.CommonLines.{is_odd, IsNumeralUpTo, HasField, IsFieldUpTo}
 use Rattle.event_reader.proofs.Digits.{value_append}
 
 pub both : (a b : Bool) → (a && b) ≡ true → (a ≡ true) × (b ≡ true)
@@ -37,6 +39,24 @@ spells_more text i size within d e =
     let whole : digits_value 10 (take (i + 1) text) ≡ digits_value_after 10 (digits_value 10 (take i text)) (b ∷ []) = ap (digits_value 10) (take_more text i 0 within) ∙ value_append 0 (take i text) (b ∷ []) in
     let is : digit_value b ≡ b - 48 = digit_is b d in
     sym (whole ∙ ap (λ n. n * 10 + digit_value b) (sym e) ∙ ap (λ n. size * 10 + n) is)
+
+-- so many digits spell no more than their number allows
+pub still_small : (byte i size : ℕ) → is_ascii_digit byte ≡ true → size < 10 ^ i → size * 10 + (byte - 48) < 10 ^ (i + 1)
+still_small byte i size d small =
+    let nine : byte - 48 ≤ 9 = grind (arith, nat_tests, d) in
+    omega (arith, pow_more 10 i)
+
+below_power : (m i : ℕ) → i ≤ m → 10 ^ i ≤ 10 ^ m
+below_power zero i h = let none : i ≡ 0 = omega arith in rw none (omega arith)
+below_power (suc m) i h = elim (cases_Bool (nat_lt i (suc m))) [
+  | inl less ↦ omega (arith, below_power m i (omega (arith, ltb-true i (suc m) less)), pow-suc 10 m)
+  | inr more ↦ let all : i ≡ suc m = omega (arith, ltb-false i (suc m) more) in rw all (omega arith)
+]
+
+pub room_for_more : (i size : ℕ) → i < 18 → size < 10 ^ i → size < 100000000000000000
+room_for_more i size few small =
+    let most : 10 ^ i ≤ 100000000000000000 = below_power 17 i (omega arith) in
+    omega arith
 
 -- digits are no points, commas or odd bytes
 not_point : (d : ℕ) → is_ascii_digit d ≡ true → (d == 46) ≡ false
@@ -114,11 +134,50 @@ by_sign c rest (d ∷ ds) after n false false m p e a some s =
       value_is = ap (option_map (λ n. value.Int n)) (let is : scaled 0 (d ∷ ds) ≡ Some n = rw (no_minus, no_plus) (scaled_is false (d ∷ ds) a some ∙ s) in is);
     }
 
-some_digits : (text digits after : List ℕ) → text ≡ digits ++ after → length after < length text → 0 < length digits
-some_digits text digits after e h = omega (arith, ap length e, length-append digits after)
+-- where digits begin, no sign does
+first_digit : (c end : ℕ) (rest : List ℕ) → 0 < end → all_ascii_digits (take end (c ∷ rest)) ≡ true → is_ascii_digit c ≡ true
+first_digit c zero rest some a = absurd (omega arith)
+first_digit c (suc end) rest some a = (both (is_ascii_digit c) (all_ascii_digits (take end rest)) a).0
 
-pub int_field : (text : List ℕ) (size : ℕ) (after : List ℕ) (n : ℤ) → IsNumeral (without_leading_sign text) size after → length after < length (without_leading_sign text) → signed (starts_with_minus text) size ≡ Some n → HasField kind.Int text (value.Int n) after
-int_field [] size after n i h s = absurd (omega arith)
-int_field (c ∷ rest) size after n i h s =
-    by_sign c rest i.digits after n (c == 45) (c == 43) refl refl i.cut i.are_digits (some_digits (without_leading_sign (c ∷ rest)) i.digits after i.cut h)
-    (ap (signed (c == 45)) (sym i.spells) ∙ s)
+not_minus : (d : ℕ) → is_ascii_digit d ≡ true → (d == 45) ≡ false
+not_minus d e = grind (arith, nat_tests)
+
+not_plus : (d : ℕ) → is_ascii_digit d ≡ true → (d == 43) ≡ false
+not_plus d e = grind (arith, nat_tests)
+
+some_digits : (text : List ℕ) (end : ℕ) → 0 < end → end ≤ length text → 0 < length (take end text)
+some_digits text end some within = omega (arith, length-take end text)
+
+pub plain_field : (text : List ℕ) (size end : ℕ) (n : ℤ) → IsNumeralUpTo text size end → signed false size ≡ Some n → IsFieldUpTo kind.Int text (value.Int n) end
+plain_field [] size end n i s = absurd (omega (arith, i.some, i.within))
+plain_field (c ∷ rest) size end n i s =
+    let d = first_digit c end rest i.some i.are_digits in
+    record {
+      within = i.within;
+      field = by_sign c rest (take end (c ∷ rest)) (drop end (c ∷ rest)) n false false (not_minus c d) (not_plus c d) (sym (take-append-drop end (c ∷ rest))) i.are_digits (some_digits (c ∷ rest) end i.some i.within)
+          (ap (signed false) (sym i.spells) ∙ s);
+    }
+
+-- what follows a number of any sign, or none
+behind_sign : (c end : ℕ) (rest : List ℕ) (minus plus : Bool) → end ≤ length (cond minus rest (drop (cond plus 1 0) (c ∷ rest))) → (length (c ∷ rest) - length (cond minus rest (drop (cond plus 1 0) (c ∷ rest))) + end ≤ length (c ∷ rest)) × (drop (length (c ∷ rest) - length (cond minus rest (drop (cond plus 1 0) (c ∷ rest))) + end) (c ∷ rest) ≡ drop end (cond minus rest (drop (cond plus 1 0) (c ∷ rest))))
+behind_sign c end rest true plus h =
+    let k : length (c ∷ rest) - length rest + end ≡ suc end = omega arith in
+    (omega arith, ap (λ k. drop k (c ∷ rest)) k)
+behind_sign c end rest false true h =
+    let k : length (c ∷ rest) - length rest + end ≡ suc end = omega arith in
+    (omega arith, ap (λ k. drop k (c ∷ rest)) k)
+behind_sign c end rest false false h =
+    let k : length (c ∷ rest) - length (c ∷ rest) + end ≡ end = omega arith in
+    (omega arith, ap (λ k. drop k (c ∷ rest)) k)
+
+pub signed_field : (text : List ℕ) (size end : ℕ) (n : ℤ) → IsNumeralUpTo (without_leading_sign text) size end → signed (starts_with_minus text) size ≡ Some n → IsFieldUpTo kind.Int text (value.Int n) (length text - length (without_leading_sign text) + end)
+signed_field [] size end n i s = absurd (omega (arith, i.some, i.within))
+signed_field (c ∷ rest) size end n i s =
+    let digits : List ℕ = without_leading_sign (c ∷ rest) in
+    let behind = behind_sign c end rest (c == 45) (c == 43) i.within in
+    record {
+      within = behind.0;
+      field = subst (HasField kind.Int (c ∷ rest) (value.Int n)) (sym behind.1)
+          (by_sign c rest (take end digits) (drop end digits) n (c == 45) (c == 43) refl refl (sym (take-append-drop end digits)) i.are_digits (some_digits digits end i.some i.within)
+          (ap (signed (c == 45)) (sym i.spells) ∙ s));
+    }

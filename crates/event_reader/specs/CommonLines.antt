@@ -1,5 +1,5 @@
 -- A line that is read in one pass, field by field. Private clauses alone cite these.
-use Rattle.std.specs.Prelude.{◌≡◌, ℕ, ◌==◌, Bool, true, false, ◌||◌, List, [], ◌∷◌, ◌++◌, length, Some, Ok}
+use Rattle.std.specs.Prelude.{◌≡◌, ℕ, ◌==◌, Bool, true, false, ◌||◌, List, [], ◌∷◌, ◌++◌, ◌<◌, ◌≤◌, length, take, drop, Some, Ok}
 use Rattle.std.specs.List.{list_any, slice_split}
 use Rattle.std.specs.Str.{all_ascii_digits}
 use Rattle.std.specs.Str.Parse.{digits_value}
@@ -29,19 +29,24 @@ pub record IsCell (cell : List ℕ) : Type 0 where
   pub plain : list_any is_odd cell ≡ false
   pub whole : list_any is_comma cell ≡ false
 
--- The text begins with digits that spell this number, and then these bytes follow.
-pub record IsNumeral (text : List ℕ) (size : ℕ) (after : List ℕ) : Type 0 where
-  pub digits : List ℕ
-  pub cut : text ≡ digits ++ after
-  pub are_digits : all_ascii_digits digits ≡ true
-  pub spells : size ≡ digits_value 10 digits
-
 -- The text begins with a field of the kind and of this value, and then these bytes follow.
 pub record HasField (kind : Kind) (text : List ℕ) (value : Value) (after : List ℕ) : Type 0 where
   pub cell : List ℕ
   pub cut : text ≡ cell ++ after
   pub is_cell : IsCell cell
   pub value_is : value_of kind cell ≡ Some value
+
+-- The text begins with so many digits, at least one, that spell this number.
+pub record IsNumeralUpTo (text : List ℕ) (size end : ℕ) : Type 0 where
+  pub some : 0 < end
+  pub within : end ≤ length text
+  pub are_digits : all_ascii_digits (take end text) ≡ true
+  pub spells : size ≡ digits_value 10 (take end text)
+
+-- The text begins with a field of the kind and of this value, which has so many bytes.
+pub record IsFieldUpTo (kind : Kind) (text : List ℕ) (value : Value) (end : ℕ) : Type 0 where
+  pub within : end ≤ length text
+  pub field : HasField kind text value (drop end text)
 
 -- From the text on, where a field begins or the text ends, the fields of these kinds give these values.
 pub record HasFields (kinds : List Kind) (text : List ℕ) (values : List Value) : Type 0 where

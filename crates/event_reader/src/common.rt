@@ -2,12 +2,14 @@
 //! as many fields as are wanted, each of its kind, and whole numbers of few digits. Of any other
 //! line these functions say nothing.
 
-ghost use Rattle.std.specs.Prelude.{◌≡◌, ◌∷◌, ◌<◌, ◌≤◌, ◌^◌, [], true, false, length, take, drop, get_or, IfSome, Ok, Some};
+ghost use Rattle.std.specs.Prelude.{◌≡◌, ◌∷◌, ◌<◌, ◌≤◌, [], true, false, length, take, drop, get_or, IfSome, Ok, Some};
 ghost use Rattle.std.specs.List.{list_any};
+ghost use Rattle.std.specs.Str.Parse.{starts_with_minus};
 ghost use Rattle.stream_schema.specs.declared.Kind.TheVariants as kind;
+ghost use Rattle.stream_schema.specs.declared.Value.TheVariants.{Int};
 ghost use Rattle.event_reader.specs.Lines.{has_line_feed};
 ghost use Rattle.event_reader.specs.Events.{event_of, event_of_text};
-ghost use Rattle.event_reader.specs.CommonLines.{IsCell, IsNumeral, HasField, HasFields, BeginsNext, following, is_odd};
+ghost use Rattle.event_reader.specs.CommonLines.{IsCell, IsNumeralUpTo, IsFieldUpTo, HasFields, BeginsNext, following, is_odd};
 
 use crate::numbers::{signed, without_sign};
 use crate::types::Guesses;
@@ -16,8 +18,8 @@ use cer_base::bytes::{CARRIAGE_RETURN, COMMA, QUOTE};
 use std::alloc::Global;
 use stream_schema::{Kind, Schema, TypeId, Value};
 
-/// A number below this may take one digit more.
-const MANY: u64 = 100_000_000_000_000_000;
+/// A number of so many digits is below 2 to the 63.
+const DIGITS: usize = 18;
 
 /// The type of the line's event, whose values are then the list's. Where it answers `None`, nothing is
 /// said of the line or of the values.
@@ -141,78 +143,111 @@ fn read_fields(alloc: Global, kinds: &[Kind], fields: &[u8], values: &mut Vec<Va
         if *first != COMMA {
             return false;
         }
-        let Some((value, after)) = read_field(alloc, *kind, text) else {
+        let Some(end) = read_field(alloc, *kind, text, &mut values[i]) else {
             return false;
         };
-        values[i] = value;
-        rest = after;
+        rest = &text[end..];
     }
     rest.is_empty()
 }
 
-/// The value of the field at the beginning, and what follows.
-#[inline]
-fn read_field(alloc: Global, kind: Kind, text: &[u8]) -> Option<(Value, &[u8])>
-    ensures { IfSome result (λ found. HasField kind text.now found.0 found.1.now) }
+/// Makes it the value of the field at the beginning, and answers how many bytes the field has.
+#[inline(always)]
+fn read_field(alloc: Global, kind: Kind, text: &[u8], value: &mut Value) -> Option<usize>
+    ensures { IfSome result (λ end. IsFieldUpTo kind text.now value.new end) }
 {
     if kind == Kind::Int {
-        read_number(text)
+        read_number(text, value)
     } else {
-        read_other(alloc, kind, text)
+        read_other(alloc, kind, text, value)
     }
 }
 
-/// The whole number at the beginning, and what follows.
-#[inline]
-#[tactic(auto, using(crate::proofs::CommonNumbers::int_field))]
-fn read_number(text: &[u8]) -> Option<(Value, &[u8])>
-    ensures { IfSome result (λ found. HasField kind.Int text.now found.0 found.1.now) }
+/// The same of a whole number.
+#[inline(always)]
+fn read_number(text: &[u8], value: &mut Value) -> Option<usize>
+    ensures { IfSome result (λ end. IsFieldUpTo kind.Int text.now value.new end) }
 {
-    let minus = matches!(text.first(), Some(b'-'));
-    let Some((size, after)) = read_digits(without_sign(text)) else {
-        return None;
+    let Some((size, end)) = read_digits(text) else {
+        return read_signed(text, value);
     };
-    match signed(minus, size) {
-        Some(number) => Some((Value::Int(number), after)),
+    match signed(false, size) {
+        Some(number) => {
+            put_number(value, number);
+            Some(end)
+        }
         None => None,
     }
 }
 
-/// The number that the digits at the beginning spell, at least one of them, and what follows.
-#[inline]
-#[tactic(auto, using(crate::proofs::CommonNumbers::all_digits_more, crate::proofs::CommonNumbers::spells_more))]
-fn read_digits(text: &[u8]) -> Option<(u64, &[u8])>
-    ensures numeral { IfSome result (λ found. IsNumeral text.now found.0 found.1.now) }
-    ensures some { IfSome result (λ found. length found.1.now < length text.now) }
+/// The same of a whole number that may have a sign.
+#[inline(never)]
+fn read_signed(text: &[u8], value: &mut Value) -> Option<usize>
+    ensures { IfSome result (λ end. IsFieldUpTo kind.Int text.now value.new end) }
 {
-    let mut size: u64 = 0;
-    for (i, byte) in text.iter().enumerate() {
-        if !byte.is_ascii_digit() || size >= MANY {
-            return if i == 0 {
-                None
-            } else {
-                Some((size, &text[i..]))
-            };
+    let digits = without_sign(text);
+    let Some((size, end)) = read_digits(digits) else {
+        return None;
+    };
+    match signed(has_minus(text), size) {
+        Some(number) => {
+            put_number(value, number);
+            Some(text.len() - digits.len() + end)
         }
-        size = size * 10 + (*byte - b'0') as u64;
+        None => None,
     }
-    if text.is_empty() {
-        None
+}
+
+/// Whether the text begins with a minus sign.
+fn has_minus(text: &[u8]) -> bool
+    ensures { result ≡ starts_with_minus text.now }
+{
+    matches!(text.first(), Some(b'-'))
+}
+
+/// Makes it this number. Mostly it was a number before, and then nothing else is written.
+#[inline(always)]
+fn put_number(value: &mut Value, number: i64)
+    ensures { value.new ≡ Int number }
+{
+    if let Value::Int(held) = value {
+        *held = number;
     } else {
-        Some((size, &text[text.len()..]))
+        *value = Value::Int(number);
     }
+}
+
+/// The number that the digits at the beginning spell, at least one of them, and how many they are.
+#[inline(always)]
+#[tactic(auto, using(crate::proofs::CommonNumbers::all_digits_more, crate::proofs::CommonNumbers::spells_more, crate::proofs::CommonNumbers::still_small, crate::proofs::CommonNumbers::room_for_more))]
+fn read_digits(text: &[u8]) -> Option<(u64, usize)>
+    ensures { IfSome result (λ found. IsNumeralUpTo text.now found.0 found.1) }
+{
+    let most = text.len().min(DIGITS);
+    let mut size: u64 = 0;
+    for i in 0..most {
+        let byte = text[i];
+        if !byte.is_ascii_digit() {
+            return if i == 0 { None } else { Some((size, i)) };
+        }
+        size = size * 10 + (byte as u64 - b'0' as u64);
+    }
+    if most == 0 { None } else { Some((size, most)) }
 }
 
 /// The same of a field that is no whole number.
 #[inline(never)]
-fn read_other(alloc: Global, kind: Kind, text: &[u8]) -> Option<(Value, &[u8])>
-    ensures { IfSome result (λ found. HasField kind text.now found.0 found.1.now) }
+fn read_other(alloc: Global, kind: Kind, text: &[u8], value: &mut Value) -> Option<usize>
+    ensures { IfSome result (λ end. IsFieldUpTo kind text.now value.new end) }
 {
     let Some(end) = cell_end(text) else {
         return None;
     };
     match read_value(alloc, kind, &text[..end]) {
-        Ok(Some(value)) => Some((value, &text[end..])),
+        Ok(Some(found)) => {
+            *value = found;
+            Some(end)
+        }
         Ok(None) | Err(_) => None,
     }
 }

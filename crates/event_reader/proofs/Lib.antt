@@ -17,6 +17,8 @@ pub mod LineWalks
 pub mod GivenLines
 -- the parts of a window's buffer
 pub mod LineBufferParts
+-- line feeds that are marked by the bits of a number
+pub mod LineMarks
 -- what each answer of a reader says, where the source tells its bytes
 pub mod NextLines
 -- an event that is read is of its schema

@@ -1,9 +1,10 @@
 //! The bytes that a reader of lines has taken from its source and still holds.
 
-ghost use Rattle.std.specs.Prelude.{◌≡◌, ◌+◌, ◌-◌, ◌<◌, ◌≤◌, ℕ, List, [], true, false, length, take, drop, vec_len, IfOk, IfErr, OnErr, MatchOption};
+ghost use Rattle.std.specs.Prelude.{◌≡◌, ◌+◌, ◌-◌, ◌<◌, ◌≤◌, ℕ, List, [], true, false, length, map, take, drop, vec_len, IfOk, IfErr, OnErr, MatchOption};
 ghost use Rattle.cer_outside.specs.Bytes.{ReadsOn, IsAtEnd};
 ghost use Rattle.cer_outside.specs.Causes.{HasCause};
-ghost use Rattle.memchr.specs.Find.{IsFirstByte, is_byte};
+ghost use Rattle.memchr.specs.Find.{IsFirstByte, Nowhere, Passes, is_byte};
+ghost use Rattle.std.specs.Simd.Lanes.{mask_l};
 ghost use Rattle.event_reader.specs.Lines.{has_line_feed, begins_with_end};
 ghost use Rattle.event_reader.specs.LineBuffers.{bytes_between, IsFirstLineFeed, IsShort, IsStop};
 
@@ -14,12 +15,13 @@ use cer_outside::{Failed, Source};
 use memchr::memchr;
 use std::alloc::Global;
 use std::marker::Model;
+use std::simd::prelude::*;
 
 /// How many bytes the buffer has room for. A line that is too long is seen before it is full.
 const CAPACITY: usize = 131_072;
 
-/// How many bytes of a line are looked at one by one, before a search for long texts goes on.
-const NEAR: usize = 32;
+/// How many bytes of a line are looked at in one step, before a search for long texts goes on.
+const NEAR: usize = 16;
 
 /// Why reading stopped.
 #[derive(Debug, Clone, Copy, PartialEq, Eq)]
@@ -120,6 +122,7 @@ impl LineBuffer {
     }
 
     /// The place of the first line feed. No byte is looked at twice.
+    #[inline(always)]
     fn find(&mut self) -> Option<usize>
         ensures kept { self.new ≡ self.old }
         ensures found { MatchOption result (has_line_feed self.old.pending ≡ false)
@@ -219,24 +222,44 @@ impl LineBuffer {
     }
 }
 
-/// The place of the first line feed. Most lines are short, so the first bytes are looked at one by
-/// one.
+/// The place of the first line feed. Most lines are short, so the first bytes are looked at in one
+/// step.
 #[inline(always)]
 fn line_feed_in(bytes: &[u8]) -> Option<usize>
     ensures { IsFirstByte (is_byte LINE_FEED) bytes.now result }
 {
-    for (i, byte) in bytes.iter().enumerate() {
-        if i == NEAR {
-            return match memchr(LINE_FEED, &bytes[i..]) {
-                Some(place) => Some(i + place),
-                None => None,
-            };
-        }
-        if *byte == LINE_FEED {
-            return Some(i);
-        }
+    if bytes.len() < NEAR {
+        return line_feed_from(bytes, 0);
     }
-    None
+    let marks = line_feeds(bytes);
+    if marks == 0 {
+        return line_feed_from(bytes, NEAR);
+    }
+    Some(marks.trailing_zeros() as usize)
+}
+
+/// The line feeds among the first bytes, each as a bit, the lowest bit for the first byte.
+#[inline(always)]
+fn line_feeds(bytes: &[u8]) -> u64
+    requires { NEAR ≤ length bytes.now }
+    ensures { result ≡ mask_l (map (is_byte LINE_FEED) (take NEAR bytes.now)) }
+{
+    u8x16::from_slice(bytes)
+        .simd_eq(u8x16::splat(LINE_FEED))
+        .to_bitmask()
+}
+
+/// The place of the first line feed, where none is among the first bytes.
+#[inline(never)]
+fn line_feed_from(bytes: &[u8], from: usize) -> Option<usize>
+    requires within { from ≤ length bytes.now }
+    requires none { Nowhere (Passes (is_byte LINE_FEED) bytes.now) 0 from }
+    ensures { IsFirstByte (is_byte LINE_FEED) bytes.now result }
+{
+    match memchr(LINE_FEED, &bytes[from..]) {
+        Some(place) => Some(from + place),
+        None => None,
+    }
 }
 
 /// A buffer of so many bytes.

@@ -1,9 +1,12 @@
 use Rattle.std.proofs.Common.{arith}
-use Rattle.event_reader.proofs.LineBufferParts.{found_further, none_further}
+use Rattle.event_reader.proofs.LineMarks.{none_marked, first_marked}
 use Rattle.event_reader.proofs.line_buffer.line_feed_in.Goals as goal
 
-pub returns-in-Some : goal.returns-in-Some
-returns-in-Some c = found_further c.args.bytes.now c.loop-i.i c.in-Some.place (omega arith) c.loop-i.invariant c.in-Some.ensures
+pub line_feed_from-requires-clause-none : goal.line_feed_from-requires-clause-none
+line_feed_from-requires-clause-none c = λ k low high p. omega arith
 
-pub returns-in-None : goal.returns-in-None
-returns-in-None c = none_further c.args.bytes.now c.loop-i.i (omega arith) c.loop-i.invariant c.in-None.ensures
+pub line_feed_from-requires-then-marks-eq0-clause-none : goal.line_feed_from-requires-then-marks-eq0-clause-none
+line_feed_from-requires-then-marks-eq0-clause-none c = none_marked c.args.bytes.now c.line_feeds-marks.result c.line_feeds-marks.ensures c.if-marks-eq0.true
+
+pub returns : goal.returns
+returns c = first_marked c.args.bytes.now c.line_feeds-marks.result c.if-bytes-lt-NEAR.false c.line_feeds-marks.ensures (omega (arith, c.if-marks-eq0.false)) c.line_feeds-marks.type_inv

@@ -1,6 +1,6 @@
 -- The whole numbers that a line read in one pass spells.
-use Rattle.std.proofs.Common.{◌≡◌, ℕ, zero, suc, ◌+◌, ◌*◌, ◌^◌, ◌<◌, ◌≤◌, ◌-◌, ◌==◌, List, [], ◌∷◌, ◌++◌, length, take, drop, get_or, Bool, true, false, ◌&&◌, Some, None, refl, sym, ◌∙◌, ap, arith, cond, subst, inl, inr, pow-suc}
-use Rattle.std.specs.Prelude.{ℤ, if◌then◌else◌, nat_lt, option_map}
+use Rattle.std.proofs.Common.{◌≡◌, ℕ, zero, suc, ◌+◌, ◌*◌, ◌^◌, ◌<◌, ◌≤◌, ◌-◌, ◌%◌, ◌==◌, List, [], ◌∷◌, ◌++◌, length, take, drop, get_or, Bool, true, false, ◌&&◌, Some, None, refl, sym, ◌∙◌, ap, arith, cond, subst, inl, inr, pow-suc}
+use Rattle.std.specs.Prelude.{ℤ, pos, nat_le, if◌then◌else◌, nat_lt, option_map}
 use Rattle.std.proofs.lemmas.Bool.{cases_Bool, ltb-true, ltb-false}
 use Rattle.std.proofs.lemmas.Bool.Decides.{nat_tests}
 use Rattle.std.proofs.lemmas.Grind.{pow_more}
@@ -40,6 +40,13 @@ spells_more text i size within d e =
     let is : digit_value b ≡ b - 48 = digit_is b d in
     sym (whole ∙ ap (λ n. n * 10 + digit_value b) (sym e) ∙ ap (λ n. size * 10 + n) is)
 
+-- what is at most 9 once 48 was taken away is a digit
+pub digit_told : (byte : ℕ) → byte < 256 → (byte + 18446744073709551568) % 18446744073709551616 ≤ 9 → (is_ascii_digit byte ≡ true) × ((byte + 18446744073709551568) % 18446744073709551616 ≡ byte - 48)
+digit_told byte fits few =
+    let low : 48 ≤ byte = omega arith in
+    let high : byte ≤ 57 = omega arith in
+    (grind (arith, nat_tests, low, high), omega (arith, low, high))
+
 -- so many digits spell no more than their number allows
 pub still_small : (byte i size : ℕ) → is_ascii_digit byte ≡ true → size < 10 ^ i → size * 10 + (byte - 48) < 10 ^ (i + 1)
 still_small byte i size d small =
@@ -52,6 +59,11 @@ below_power (suc m) i h = elim (cases_Bool (nat_lt i (suc m))) [
   | inl less ↦ omega (arith, below_power m i (omega (arith, ltb-true i (suc m) less)), pow-suc 10 m)
   | inr more ↦ let all : i ≡ suc m = omega (arith, ltb-false i (suc m) more) in rw all (omega arith)
 ]
+
+pub room_for_all : (i size : ℕ) → i ≤ 18 → size < 10 ^ i → size < 9223372036854775808
+room_for_all i size few small =
+    let most : 10 ^ i ≤ 1000000000000000000 = below_power 18 i few in
+    omega arith
 
 pub room_for_more : (i size : ℕ) → i < 18 → size < 10 ^ i → size < 100000000000000000
 room_for_more i size few small =
@@ -148,14 +160,19 @@ not_plus d e = grind (arith, nat_tests)
 some_digits : (text : List ℕ) (end : ℕ) → 0 < end → end ≤ length text → 0 < length (take end text)
 some_digits text end some within = omega (arith, length-take end text)
 
-pub plain_field : (text : List ℕ) (size end : ℕ) (n : ℤ) → IsNumeralUpTo text size end → signed false size ≡ Some n → IsFieldUpTo kind.Int text (value.Int n) end
-plain_field [] size end n i s = absurd (omega (arith, i.some, i.within))
-plain_field (c ∷ rest) size end n i s =
+small_signed : (size : ℕ) → size < 9223372036854775808 → signed false size ≡ Some (pos size)
+small_signed size small =
+    let test : nat_le size 9223372036854775807 ≡ true = grind (arith, nat_tests) in
+    rw test refl
+
+pub plain_field : (text : List ℕ) (size end : ℕ) → IsNumeralUpTo text size end → IsFieldUpTo kind.Int text (value.Int (pos size)) end
+plain_field [] size end i = absurd (omega (arith, i.some, i.within))
+plain_field (c ∷ rest) size end i =
     let d = first_digit c end rest i.some i.are_digits in
     record {
       within = i.within;
-      field = by_sign c rest (take end (c ∷ rest)) (drop end (c ∷ rest)) n false false (not_minus c d) (not_plus c d) (sym (take-append-drop end (c ∷ rest))) i.are_digits (some_digits (c ∷ rest) end i.some i.within)
-          (ap (signed false) (sym i.spells) ∙ s);
+      field = by_sign c rest (take end (c ∷ rest)) (drop end (c ∷ rest)) (pos size) false false (not_minus c d) (not_plus c d) (sym (take-append-drop end (c ∷ rest))) i.are_digits (some_digits (c ∷ rest) end i.some i.within)
+          (ap (signed false) (sym i.spells) ∙ small_signed size i.small);
     }
 
 -- what follows a number of any sign, or none

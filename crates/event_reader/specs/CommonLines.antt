@@ -36,12 +36,13 @@ pub record HasField (kind : Kind) (text : List ℕ) (value : Value) (after : Lis
   pub is_cell : IsCell cell
   pub value_is : value_of kind cell ≡ Some value
 
--- The text begins with so many digits, at least one, that spell this number.
+-- The text begins with so many digits, at least one, that spell this number, which is below 2 to the 63.
 pub record IsNumeralUpTo (text : List ℕ) (size end : ℕ) : Type 0 where
   pub some : 0 < end
   pub within : end ≤ length text
   pub are_digits : all_ascii_digits (take end text) ≡ true
   pub spells : size ≡ digits_value 10 (take end text)
+  pub small : size < 9223372036854775808
 
 -- The text begins with a field of the kind and of this value, which has so many bytes.
 pub record IsFieldUpTo (kind : Kind) (text : List ℕ) (value : Value) (end : ℕ) : Type 0 where

@@ -62,6 +62,9 @@ fn cell_end(text: &[u8]) -> Option<usize>
     ensures cell { IfSome result (λ end. IsCell (take end text.now)) }
 {
     for (i, byte) in text.iter().enumerate() {
+        if *byte > COMMA {
+            continue;
+        }
         if *byte == COMMA {
             return Some(i);
         }
@@ -171,13 +174,8 @@ fn read_number(text: &[u8], value: &mut Value) -> Option<usize>
     let Some((size, end)) = read_digits(text) else {
         return read_signed(text, value);
     };
-    match signed(false, size) {
-        Some(number) => {
-            put_number(value, number);
-            Some(end)
-        }
-        None => None,
-    }
+    put_number(value, size as i64);
+    Some(end)
 }
 
 /// The same of a whole number that may have a sign.
@@ -219,18 +217,18 @@ fn put_number(value: &mut Value, number: i64)
 
 /// The number that the digits at the beginning spell, at least one of them, and how many they are.
 #[inline(always)]
-#[tactic(auto, using(crate::proofs::CommonNumbers::all_digits_more, crate::proofs::CommonNumbers::spells_more, crate::proofs::CommonNumbers::still_small, crate::proofs::CommonNumbers::room_for_more))]
+#[tactic(auto, using(crate::proofs::CommonNumbers::all_digits_more, crate::proofs::CommonNumbers::spells_more, crate::proofs::CommonNumbers::still_small))]
 fn read_digits(text: &[u8]) -> Option<(u64, usize)>
     ensures { IfSome result (λ found. IsNumeralUpTo text.now found.0 found.1) }
 {
     let most = text.len().min(DIGITS);
     let mut size: u64 = 0;
     for i in 0..most {
-        let byte = text[i];
-        if !byte.is_ascii_digit() {
+        let digit = (text[i] as u64).wrapping_sub(b'0' as u64);
+        if digit > 9 {
             return if i == 0 { None } else { Some((size, i)) };
         }
-        size = size * 10 + (byte as u64 - b'0' as u64);
+        size = size * 10 + digit;
     }
     if most == 0 { None } else { Some((size, most)) }
 }

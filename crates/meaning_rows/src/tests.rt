@@ -2,3 +2,4 @@ mod answers;
 mod conditions;
 mod explaining;
 mod leaves;
+mod terms;

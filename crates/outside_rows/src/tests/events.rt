@@ -1,5 +1,6 @@
+use crate::tests::same;
 use cer_base::{Listed, Memory, OrMemory, Text};
-use event_reader::{EventFault, read_event};
+use event_reader::read_event;
 use std::alloc::{AllocError, Global};
 use std::test::Fail;
 use stream_schema::{Attr, Event, Kind, Schema, SchemaFault, Value};
@@ -29,35 +30,48 @@ pub fn five_types(alloc: Global) -> Result<Schema, OrMemory<SchemaFault>> {
     Ok(schema)
 }
 
-// What a line answers: the type's number and the values, or the words of the fault.
-pub fn answer(alloc: Global, schema: &Schema, line: &[u8]) -> Result<String, AllocError> {
+// What a line of the five types answers: the type's number and the values, or the words of the fault.
+pub fn answer(alloc: Global, line: &[u8]) -> Result<String, AllocError> {
+    match five_types(alloc) {
+        Ok(schema) => answer_under(alloc, &schema, line),
+        Err(_) => "five types".to_string(alloc),
+    }
+}
+
+fn answer_under(alloc: Global, schema: &Schema, line: &[u8]) -> Result<String, AllocError> {
     if line.contains(&b'\n') {
         return "line feed".to_string(alloc);
     }
-    words_of(alloc, read_event(alloc, schema, line))
+    match read_event(alloc, schema, line) {
+        Ok(Some(event)) => event_words(alloc, &event),
+        Ok(None) => "none".to_string(alloc),
+        Err(OrMemory::Fault(fault)) => format!(in alloc; "{fault}"),
+        Err(OrMemory::Memory) => "memory".to_string(alloc),
+    }
 }
 
-fn words_of(
-    alloc: Global,
-    given: Result<Option<Event>, OrMemory<EventFault>>,
-) -> Result<String, AllocError> {
-    let event = match given {
-        Ok(Some(event)) => event,
-        Ok(None) => return "none".to_string(alloc),
-        Err(OrMemory::Fault(fault)) => return format!(in alloc; "{fault}"),
-        Err(OrMemory::Memory) => return "memory".to_string(alloc),
-    };
+// The type's number, and the values, each after a blank.
+pub fn event_words(alloc: Global, event: &Event) -> Result<String, AllocError> {
     let mut words = format!(in alloc; "{}", event.ty)?;
+    push_values(alloc, &mut words, event)?;
+    Ok(words)
+}
+
+pub fn push_values(alloc: Global, words: &mut String, event: &Event) -> Result<(), AllocError> {
     for value in event.values.as_slice() {
-        let word = match value {
-            Value::Int(number) => format!(in alloc; " {number}")?,
-            Value::Text(text) => format!(in alloc; " {}", text.as_str())?,
-            Value::Flag(truth) => format!(in alloc; " {truth}")?,
-            Value::Dec { scaled, places } => format!(in alloc; " {scaled}/{places}")?,
-        };
+        let word = value_words(alloc, value)?;
         words.push_str(word.as_str())?;
     }
-    Ok(words)
+    Ok(())
+}
+
+fn value_words(alloc: Global, value: &Value) -> Result<String, AllocError> {
+    match value {
+        Value::Int(number) => format!(in alloc; " {number}"),
+        Value::Text(text) => format!(in alloc; " {}", text.as_str()),
+        Value::Flag(truth) => format!(in alloc; " {truth}"),
+        Value::Dec { scaled, places } => format!(in alloc; " {scaled}/{places}"),
+    }
 }
 
 /// Lines, and the event that each is, by the number of its type and its values, or its refusal.
@@ -111,17 +125,22 @@ const LINES: &[(&str, &str)] = &[
     ("N,a\"b", "1 a\"b"),
 ];
 
+/// A field that is no text.
+const NO_UTF8: &[u8] = b"N,\xff";
+
 #[test]
 fn lines_become_events_or_refusals(rt: HostRuntime) -> Result<(), Fail> {
     let alloc = rt.alloc();
-    let Ok(schema) = five_types(alloc) else {
-        return Err(Fail::new("five types"));
-    };
-    for (line, wanted) in LINES {
-        let words = answer(alloc, &schema, line.as_bytes())?;
-        assert_eq!(rt; words.as_str(), *wanted, "at {line}");
+    for &(line, wanted) in LINES {
+        let words = answer(alloc, line.as_bytes())?;
+        same(&rt, words.as_str(), wanted, line);
     }
-    let words = answer(alloc, &schema, b"N,\xff")?;
-    assert_eq!(rt; words.as_str(), "field 1 is of another kind");
+    let words = answer(alloc, NO_UTF8)?;
+    same(
+        &rt,
+        words.as_str(),
+        "field 1 is of another kind",
+        "of no text",
+    );
     Ok(())
 }

@@ -2,6 +2,7 @@ ghost use Rattle.std.specs.Prelude.{ℕ};
 ghost use Rattle.stream_schema.specs.declared.Event.{Event};
 ghost use Rattle.reorder_gate.specs.Laws.{SortingKeepsParts, ReleasedIsFinal};
 
+use crate::tests::same;
 use cer_base::{Listed, OrMemory, Text};
 use reorder_gate::laws::{released_is_final, sorting_keeps_parts};
 use reorder_gate::{Gate, TooLate, clock_fits};
@@ -27,16 +28,9 @@ fn declare(
 }
 
 // A(t INT) and B(v STRING, t INT).
-fn two_types(alloc: Global) -> Result<Schema, OrMemory<SchemaFault>> {
-    let mut schema = Schema::new(alloc);
-    declare(alloc, &mut schema, "A", &[("t", Kind::Int)])?;
-    declare(
-        alloc,
-        &mut schema,
-        "B",
-        &[("v", Kind::Text), ("t", Kind::Int)],
-    )?;
-    Ok(schema)
+fn declare_two(alloc: Global, schema: &mut Schema) -> Result<(), OrMemory<SchemaFault>> {
+    declare(alloc, schema, "A", &[("t", Kind::Int)])?;
+    declare(alloc, schema, "B", &[("v", Kind::Text), ("t", Kind::Int)])
 }
 
 // `A` and a clock, or `B` and a clock.
@@ -141,9 +135,10 @@ fn first_wrong(alloc: Global, schema: &Schema, table: &str) -> Result<String, Al
 }
 
 fn played_wrong(alloc: Global, table: &str) -> Result<String, AllocError> {
-    let Ok(schema) = two_types(alloc) else {
+    let mut schema = Schema::new(alloc);
+    if declare_two(alloc, &mut schema).is_err() {
         return "two types".to_string(alloc);
-    };
+    }
     first_wrong(alloc, &schema, table)
 }
 
@@ -167,41 +162,47 @@ const GATES: &str =
 fn events_go_in_their_order(rt: HostRuntime) -> Result<(), Fail> {
     let alloc = rt.alloc();
     let wrong = played_wrong(alloc, GATES)?;
-    assert_eq!(rt; wrong.as_str(), "");
+    same(&rt, wrong.as_str(), "", "the first wrong row");
     Ok(())
 }
 
-// Which of the names is the clock of all types.
-fn fitting(alloc: Global, schema: &Schema) -> Result<String, AllocError> {
-    let mut words = String::new(alloc);
-    for name in "t v x T".split(' ') {
+/// Attributes of both types, of one, of none, and of none in this case.
+const NAMES: &[&str] = &["t", "v", "x", "T"];
+
+// Adds which of the names is the clock of all types.
+fn push_fitting(words: &mut String, schema: &Schema, names: &[&str]) -> Result<(), AllocError> {
+    for name in names {
         if clock_fits(schema, name) {
             words.push_str(name)?;
         }
     }
-    Ok(words)
+    Ok(())
 }
 
 // With no type, the two types, and a third one whose attribute is no whole number.
-fn fitting_in_turn(alloc: Global) -> Result<String, OrMemory<SchemaFault>> {
-    let mut words = fitting(alloc, &Schema::new(alloc))?;
-    let mut schema = two_types(alloc)?;
-    words.push_str(" ")?;
-    words.push_str(fitting(alloc, &schema)?.as_str())?;
-    declare(alloc, &mut schema, "C", &[("t", Kind::Dec(0))])?;
-    words.push_str(" ")?;
-    words.push_str(fitting(alloc, &schema)?.as_str())?;
-    Ok(words)
+fn push_fitting_in_turn(
+    alloc: Global,
+    words: &mut String,
+    schema: &mut Schema,
+    names: &[&str],
+) -> Result<(), OrMemory<SchemaFault>> {
+    push_fitting(words, schema, names)?;
+    words.push(' ')?;
+    declare_two(alloc, schema)?;
+    push_fitting(words, schema, names)?;
+    words.push(' ')?;
+    declare(alloc, schema, "C", &[("t", Kind::Dec(0))])?;
+    push_fitting(words, schema, names)?;
+    Ok(())
 }
 
 #[test]
 fn a_clock_is_a_whole_number_of_every_type(rt: HostRuntime) -> Result<(), Fail> {
     let alloc = rt.alloc();
-    let words = match fitting_in_turn(alloc) {
-        Ok(words) => words,
-        Err(_) => String::new(alloc),
-    };
-    assert_eq!(rt; words.as_str(), "tvxT t ");
+    let mut words = String::new(alloc);
+    let done = push_fitting_in_turn(alloc, &mut words, &mut Schema::new(alloc), NAMES);
+    same(&rt, words.as_str(), "tvxT t ", "the names");
+    assert!(rt; done.is_ok());
     Ok(())
 }
 

@@ -1,7 +1,8 @@
 ghost use Rattle.std.specs.Prelude.{◌≡◌, ◌<◌, ℕ, List, map, Some, IfOk};
 ghost use Rattle.event_reader.specs.Reading.{HasTold};
 
-use crate::tests::events::{answer, five_types};
+use crate::tests::events::answer;
+use crate::tests::same;
 use cer_base::Memory;
 use cer_outside::Source;
 use cer_outside::sources::MemSource;
@@ -102,17 +103,22 @@ const FILES: &[(&str, u64, &str)] = &[
     ("\u{feff}", 3, "input longer than 3 bytes"),
 ];
 
+/// How many bytes a read brings.
+const PIECES: &[usize] = &[1, 2, 3, 7, 100];
+
 #[test]
 fn lines_are_the_same_in_any_pieces(rt: HostRuntime) -> Result<(), Fail> {
     let alloc = rt.alloc();
     for &(bytes, budget, wanted) in FILES {
-        for piece in [1, 2, 3, 7, 100] {
+        for &piece in PIECES {
             let words = lines_of(alloc, bytes.as_bytes(), piece, 0, budget)?;
-            assert_eq!(rt; words.as_str(), wanted, "at {bytes} in pieces of {piece}");
+            same(&rt, words.as_str(), wanted, bytes);
         }
     }
     Ok(())
 }
+
+const THREE_LINES: &[u8] = b"A,1\nA,2\nA,3";
 
 /// How many bytes a read brings, which read fails, from 1, and the lines with how they end.
 const FAILING_READS: &[(usize, u64, &str)] = &[
@@ -136,8 +142,8 @@ const FAILING_READS: &[(usize, u64, &str)] = &[
 fn each_read_fails_in_turn(rt: HostRuntime) -> Result<(), Fail> {
     let alloc = rt.alloc();
     for &(piece, fails, wanted) in FAILING_READS {
-        let words = lines_of(alloc, b"A,1\nA,2\nA,3", piece, fails, 99)?;
-        assert_eq!(rt; words.as_str(), wanted, "read {fails} in pieces of {piece}");
+        let words = lines_of(alloc, THREE_LINES, piece, fails, 99)?;
+        same(&rt, words.as_str(), wanted, "a failing read");
     }
     Ok(())
 }
@@ -161,40 +167,68 @@ const LONG_LINES: &[(&str, usize, &str)] = &[
     ("A,1\n", 65_537, "line 2 is longer than 65536 bytes"),
 ];
 
+/// What stands behind such a line, and how many bytes a read brings.
+const ENDS: &[(&str, usize)] = &[
+    ("", 100_000),
+    ("\n", 100_000),
+    ("\nB", 100_000),
+    ("\n", 1_000),
+];
+
+// How the lines end of a file with such a line.
+fn end_of_long(
+    alloc: Global,
+    front: &str,
+    count: usize,
+    end: &str,
+    piece: usize,
+) -> Result<String, AllocError> {
+    let mut bytes = with_xs(alloc, front.as_bytes(), count)?;
+    bytes.extend_from_slice(end.as_bytes())?;
+    let words = lines_of(alloc, bytes.as_slice(), piece, 0, 1 << 40)?;
+    last_part(alloc, words.as_str())
+}
+
+// What stands behind the last bar.
+fn last_part(alloc: Global, words: &str) -> Result<String, AllocError> {
+    match words.rsplit_once('|') {
+        Some((_, last)) => last.to_string(alloc),
+        None => words.to_string(alloc),
+    }
+}
+
 #[test]
 fn longest_line_has_65536_bytes(rt: HostRuntime) -> Result<(), Fail> {
     let alloc = rt.alloc();
     for &(front, count, fault) in LONG_LINES {
-        for (end, piece) in [
-            ("", 100_000),
-            ("\n", 100_000),
-            ("\nB", 100_000),
-            ("\n", 1_000),
-        ] {
-            let mut bytes = with_xs(alloc, front.as_bytes(), count)?;
-            bytes.extend_from_slice(end.as_bytes())?;
-            let words = lines_of(alloc, bytes.as_slice(), piece, 0, 1 << 40)?;
-            let last = words.as_str().rsplit('|').next();
-            assert_eq!(rt; last, Some(fault), "at {count} after {front} before {end}");
+        for &(end, piece) in ENDS {
+            let words = end_of_long(alloc, front, count, end, piece)?;
+            same(&rt, words.as_str(), fault, front);
         }
     }
     Ok(())
 }
 
+/// A budget, and how a line of 70,000 bytes ends under it.
+const BUDGETS: &[(u64, &str)] = &[
+    (65_536, "input longer than 65536 bytes"),
+    (65_537, "line 1 is longer than 65536 bytes"),
+    (70_000, "line 1 is longer than 65536 bytes"),
+];
+
 #[test]
 fn too_long_line_is_seen_before_the_budget(rt: HostRuntime) -> Result<(), Fail> {
     let alloc = rt.alloc();
-    let bytes = with_xs(alloc, b"", 70_000)?;
-    for (budget, wanted) in [
-        (65_536, "input longer than 65536 bytes"),
-        (65_537, "line 1 is longer than 65536 bytes"),
-        (70_000, "line 1 is longer than 65536 bytes"),
-    ] {
+    let bytes = with_xs(alloc, &[], 70_000)?;
+    for &(budget, wanted) in BUDGETS {
         let words = lines_of(alloc, bytes.as_slice(), 100, 0, budget)?;
-        assert_eq!(rt; words.as_str(), wanted, "at {budget}");
+        same(&rt, words.as_str(), wanted, "a budget");
     }
     Ok(())
 }
+
+/// A line with two quotes in its field.
+const QUOTED: &[u8] = b"N,\"a,\"\"b\"\r\n";
 
 /// A length of the line, and the event of its first part, or why it is none.
 const PREFIXES: &[(usize, &str)] = &[
@@ -212,49 +246,71 @@ const PREFIXES: &[(usize, &str)] = &[
     (11, "1 a,\"b|"),
 ];
 
+// What each line answers, and a bar where the lines end without a fault.
+fn answers_of(alloc: Global, told: &Told) -> Result<String, AllocError> {
+    let mut words = String::new(alloc);
+    for text in &told.texts {
+        words.push_str(answer(alloc, text.as_slice())?.as_str())?;
+    }
+    if told.fault.is_none() {
+        words.push('|')?;
+    }
+    Ok(words)
+}
+
+// The same of the first bytes of a file.
+fn prefix_words(alloc: Global, file: &[u8], len: usize) -> Result<String, AllocError> {
+    let bytes = Vec::from_slice(alloc, &file[..len.min(file.len())])?;
+    let mut source = MemSource::new(bytes, 3, Vec::new(alloc));
+    match read_lines(alloc, 99, &mut source) {
+        Ok(told) => answers_of(alloc, &told),
+        Err(Memory) => "memory".to_string(alloc),
+    }
+}
+
 #[test]
 fn prefixes_of_a_quoted_line(rt: HostRuntime) -> Result<(), Fail> {
     let alloc = rt.alloc();
-    let Ok(schema) = five_types(alloc) else {
-        return Err(Fail::new("five types"));
-    };
-    let file = b"N,\"a,\"\"b\"\r\n";
     for &(len, wanted) in PREFIXES {
-        let bytes = Vec::from_slice(alloc, &file[..len.min(file.len())])?;
-        let mut source = MemSource::new(bytes, 3, Vec::new(alloc));
-        let Ok(told) = read_lines(alloc, 99, &mut source) else {
-            return Err(Fail::new("lines"));
-        };
-        let mut words = String::new(alloc);
-        for text in &told.texts {
-            words.push_str(answer(alloc, &schema, text.as_slice())?.as_str())?;
-        }
-        words.push('|')?;
-        assert_eq!(rt; words.as_str(), wanted, "of {len} bytes");
-        assert_eq!(rt; told.fault, None, "of {len} bytes");
+        let words = prefix_words(alloc, QUOTED, len)?;
+        same(&rt, words.as_str(), wanted, "a prefix");
     }
     Ok(())
 }
 
+// What the next line is, its number, and whether the lines are closed after it.
+fn step_words<Q: Source>(
+    alloc: Global,
+    lines: &mut Lines,
+    source: &mut Q,
+) -> Result<String, AllocError> {
+    if lines.is_closed() {
+        return "closed".to_string(alloc);
+    }
+    let told = match lines.next(source) {
+        Ok(Next::Line) => "line",
+        Ok(Next::End) => "end",
+        Err(_) => "fault",
+    };
+    format!(in alloc; "{told} {} {}", lines.number(), lines.is_closed())
+}
+
+const TWO_LINES: &[u8] = b"A\nB";
+
+/// What each step tells of the lines `A` and `B`.
+const STEPS: &[&str] = &["line 1 false", "line 2 false", "end 2 true", "closed"];
+
 #[test]
 fn numbers_and_the_end_are_told(rt: HostRuntime) -> Result<(), Fail> {
     let alloc = rt.alloc();
-    let mut source = MemSource::new(Vec::from_slice(alloc, b"A\nB")?, 1, Vec::new(alloc));
+    let mut source = MemSource::new(Vec::from_slice(alloc, TWO_LINES)?, 1, Vec::new(alloc));
     let Ok(mut lines) = Lines::new(alloc, 9) else {
         return Err(Fail::new("memory"));
     };
-    assert_eq!(rt; lines.number(), 0);
-    assert_eq!(rt; lines.next(&mut source), Ok(Next::Line));
-    assert_eq!(rt; lines.number(), 1);
-    assert_eq!(rt; lines.is_closed(), false);
-    if !lines.is_closed() {
-        assert_eq!(rt; lines.next(&mut source), Ok(Next::Line));
-        assert_eq!(rt; lines.number(), 2);
-    }
-    if !lines.is_closed() {
-        assert_eq!(rt; lines.next(&mut source), Ok(Next::End));
-        assert_eq!(rt; lines.number(), 2);
-        assert_eq!(rt; lines.is_closed(), true);
+    assert!(rt; lines.number() == 0);
+    for &wanted in STEPS {
+        let words = step_words(alloc, &mut lines, &mut source)?;
+        same(&rt, words.as_str(), wanted, "a step");
     }
     Ok(())
 }

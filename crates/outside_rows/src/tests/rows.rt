@@ -1,9 +1,9 @@
-use crate::tests::events::five_types;
+use crate::tests::events::{event_words, five_types, push_values};
 use cer_base::{Listed, OrMemory, Text};
 use event_reader::Row;
 use std::alloc::{AllocError, Global};
 use std::test::Fail;
-use stream_schema::{Attr, Kind, Schema, SchemaFault, Value};
+use stream_schema::{Attr, Event, Kind, Schema, SchemaFault};
 
 // The five types, and two of more attributes: `P` of three whole numbers, `M` of each kind.
 fn seven_types(alloc: Global) -> Result<Schema, OrMemory<SchemaFault>> {
@@ -43,31 +43,19 @@ fn words_of(
         return "line feed".to_string(alloc);
     }
     match row.read(alloc, schema, line) {
-        Ok(true) => event_words(alloc, row),
-        Ok(false) => format!(in alloc; "none{}", value_words(alloc, row)?.as_str()),
+        Ok(true) => event_words(alloc, row.event()),
+        Ok(false) => before_values(alloc, "none".to_string(alloc)?, row.event()),
         Err(OrMemory::Fault(fault)) => {
-            format!(in alloc; "{fault}{}", value_words(alloc, row)?.as_str())
+            before_values(alloc, format!(in alloc; "{fault}")?, row.event())
         }
         Err(OrMemory::Memory) => "memory".to_string(alloc),
     }
 }
 
-fn event_words(alloc: Global, row: &Row) -> Result<String, AllocError> {
-    format!(in alloc; "{}{}", row.event().ty, value_words(alloc, row)?.as_str())
-}
-
-// The values, each after a blank.
-fn value_words(alloc: Global, row: &Row) -> Result<String, AllocError> {
-    let mut words = String::new(alloc);
-    for value in row.event().values.as_slice() {
-        let word = match value {
-            Value::Int(number) => format!(in alloc; " {number}")?,
-            Value::Text(text) => format!(in alloc; " {}", text.as_str())?,
-            Value::Flag(truth) => format!(in alloc; " {truth}")?,
-            Value::Dec { scaled, places } => format!(in alloc; " {scaled}/{places}")?,
-        };
-        words.push_str(word.as_str())?;
-    }
+// The word, and the values that the event holds.
+fn before_values(alloc: Global, word: String, event: &Event) -> Result<String, AllocError> {
+    let mut words = word;
+    push_values(alloc, &mut words, event)?;
     Ok(words)
 }
 

@@ -64,35 +64,68 @@ fn tell(rt: &HostRuntime, what: &str, quote: &str, start: Instant) -> Result<(),
     Ok(())
 }
 
-#[test]
-fn lines_are_read(rt: HostRuntime) -> Result<(), Fail> {
-    let alloc = rt.alloc();
-    let text = event_lines(alloc, EVENTS, "")?;
-    let start = Instant::now(&rt)?;
-    let feeds = memchr_iter(b'\n', text.as_bytes()).count();
-    tell(&rt, "line feeds", "", start)?;
-    assert_eq!(rt; feeds, EVENTS);
-    let mut source = source_of(alloc, text.as_str())?;
-    let start = Instant::now(&rt)?;
-    let count = count_lines(alloc, &mut source);
-    tell(&rt, "lines", "", start)?;
-    assert_eq!(rt; count, Ok(EVENTS as u64));
-    Ok(())
+fn count_feeds(text: &str) -> usize {
+    memchr_iter(b'\n', text.as_bytes()).count()
+}
+
+// Counts the line feeds of the text, and prints how fast.
+fn timed_feeds(rt: &HostRuntime, text: &str) -> Result<usize, Fail> {
+    let start = Instant::now(rt)?;
+    let count = count_feeds(text);
+    tell(rt, "line feeds", "", start)?;
+    Ok(count)
+}
+
+// Counts the lines of the source, and prints how fast; none where memory is out.
+fn timed_lines(rt: &HostRuntime, source: &mut SureSource) -> Result<Option<u64>, Fail> {
+    let start = Instant::now(rt)?;
+    let count = count_lines(rt.alloc(), source);
+    tell(rt, "lines", "", start)?;
+    Ok(count.ok())
+}
+
+// Counts the events of the source, and prints how fast; none where memory is out.
+fn timed_events(
+    rt: &HostRuntime,
+    schema: &Schema,
+    source: &mut SureSource,
+    quote: &str,
+) -> Result<Option<u64>, Fail> {
+    let start = Instant::now(rt)?;
+    let count = count_events(rt.alloc(), schema, source);
+    tell(rt, "events", quote, start)?;
+    Ok(count.ok())
+}
+
+// How many events there are in as many lines.
+fn events_of(rt: &HostRuntime, schema: &Schema, quote: &str) -> Result<Option<u64>, Fail> {
+    let text = event_lines(rt.alloc(), EVENTS, quote)?;
+    let mut source = source_of(rt.alloc(), text.as_str())?;
+    timed_events(rt, schema, &mut source, quote)
 }
 
 #[test]
+fn lines_are_read(rt: HostRuntime) -> Result<(), Fail> {
+    let text = event_lines(rt.alloc(), EVENTS, "")?;
+    let feeds = timed_feeds(&rt, text.as_str())?;
+    assert!(rt; feeds == EVENTS);
+    let mut source = source_of(rt.alloc(), text.as_str())?;
+    let count = timed_lines(&rt, &mut source)?;
+    assert!(rt; count == Some(EVENTS as u64));
+    Ok(())
+}
+
+/// What stands around each number.
+const QUOTES: &[&str] = &["", "\""];
+
+#[test]
 fn events_are_read(rt: HostRuntime) -> Result<(), Fail> {
-    let alloc = rt.alloc();
-    let Ok(schema) = five_types(alloc) else {
+    let Ok(schema) = five_types(rt.alloc()) else {
         return Err(Fail::new("five types"));
     };
-    for quote in ["", "\""] {
-        let text = event_lines(alloc, EVENTS, quote)?;
-        let mut source = source_of(alloc, text.as_str())?;
-        let start = Instant::now(&rt)?;
-        let count = count_events(alloc, &schema, &mut source);
-        tell(&rt, "events", quote, start)?;
-        assert_eq!(rt; count, Ok(EVENTS as u64));
+    for &quote in QUOTES {
+        let count = events_of(&rt, &schema, quote)?;
+        assert!(rt; count == Some(EVENTS as u64));
     }
     Ok(())
 }

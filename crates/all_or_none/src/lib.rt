@@ -1,15 +1,15 @@
 //! One event over what is kept of several queries: all take it, or none does.
 //!
-//! What is kept of one query is a part, given as a trait: it tells whether the event may pass it by,
-//! or it makes ready what the event changes, which may run out of memory, and then either puts it in
-//! or gives it up, which may not. A part that an event passes by is not touched: what it is follows
+//! What is kept of one query is a part, given as a trait: it makes ready what the event changes,
+//! which may run out of memory, and then either puts it in or gives it up, which may not; or it tells
+//! that the event passes it by. A part that an event passes by stays as it was: what it is follows
 //! from how many events there were. Promised: the event is taken by all parts or by none, and what
 //! stood for the events stands for one more; after a refusal each part is exactly as it was; the
 //! steps are bounded by the states that were found, and after a refusal by those that any run meets.
 //! It stands on `query_standing`.
 #![tactic(auto)]
 
-ghost use Rattle.std.specs.Prelude.{◌≡◌, ℕ, ◌+◌, ◌^◌, ◌<◌, ◌≤◌, true, false, List, [], ◌∷◌, ◌++◌, length, map, sum_by, All, Some, slice_get, IfSome, IfNone, OnOk, OnErr};
+ghost use Rattle.std.specs.Prelude.{◌≡◌, ℕ, ◌+◌, ◌^◌, ◌<◌, ◌≤◌, true, false, List, [], ◌∷◌, ◌++◌, length, map, sum_by, All, Some, slice_get, IfSome, IfNone, IfOk, OnOk, OnErr};
 ghost use Rattle.std.specs.List.{AllZip};
 ghost use Rattle.cer_base.specs.Bits.{has};
 ghost use Rattle.stream_schema.specs.declared.Event.{Event};
@@ -29,28 +29,25 @@ pub trait Keeps {
     /// What it is after so many events.
     ghost phase: { ℕ → Self → Phase };
 
-    /// Whether the event may pass it by: it is then left as it is.
-    fn passes(&self, event: &Event, position: Pos) -> bool
-        requires idle { IsIdle (phase position self.now) }
-        requires can { CanPrepare event.now position (phase position self.now) }
-        ensures passed { result ≡ true → HasPassed event.now position (phase position self.now)
-            (phase (position + 1) self.now) };
-
     /// Whether it is known to rest: each later event that no leaf of its query reads passes it by.
     fn rests(&self) -> bool
         ensures { result ≡ true → Rests (λ n. phase n self.now) };
 
-    /// Makes ready what the event changes. After `Memory` it is as it was.
+    /// Makes ready what the event changes, or tells that the event passes it by: it is then as it
+    /// was, and takes the event by being left so. After `Memory` it is as it was.
     fn prepare<L: Ledger>(
         &mut self,
         event: &Event,
         position: Pos,
         steps: &mut Steps<L>,
-    ) -> Result<(), Memory>
+    ) -> Result<bool, Memory>
         requires idle { IsIdle (phase position self.old) }
         requires can { CanPrepare event.now position (phase position self.old) }
         ensures kept { back (phase position self.new) ≡ back (phase position self.old) }
-        ensures ready { OnOk result (IsPrepared event.now position (phase position self.new)) }
+        ensures passed { IfOk result (λ by. by ≡ true → HasPassed event.now position
+            (phase position self.new) (phase (position + 1) self.new)) }
+        ensures ready { IfOk result (λ by. by ≡ false → IsPrepared event.now position
+            (phase position self.new)) }
         ensures refused { OnErr result (IsIdle (phase position self.new)) }
         ensures steps { OnOk result (steps.new
             ≤ steps.old + ready_bound (phase position self.new)) }
@@ -70,7 +67,7 @@ pub trait Keeps {
         ensures { (count : ℕ) → phase count self.new ≡ back (phase count self.old) };
 }
 
-/// The part prepares, where the event may not pass it by, and its number is put in last.
+/// The part prepares, and its number is put in last, where the event does not pass it by.
 fn prepare_one<P: Keeps, L: Ledger>(
     part: &mut P,
     number: u64,
@@ -89,11 +86,10 @@ fn prepare_one<P: Keeps, L: Ledger>(
     ensures within { IsWithin event.now position (P.phase position part.old)
         steps.old steps.new }
 {
-    if part.passes(event, position) {
-        return Ok(());
+    if !part.prepare(event, position, steps)? {
+        touched.push(number)?;
     }
-    touched.push(number)?;
-    part.prepare(event, position, steps)
+    Ok(())
 }
 
 /// The first marked number from this one on, where it is below the end.
@@ -109,7 +105,7 @@ fn find(marked: &Bits, from: usize, end: usize) -> Option<usize>
     }
 }
 
-/// Each marked part prepares that the event may not pass by, up to the first that cannot. The others
+/// Each marked part prepares that the event does not pass by, up to the first that cannot. The others
 /// rest, and no leaf of theirs reads the event. The numbers of the prepared ones, from 1, are left in
 /// `touched`.
 fn prepare_all<P: Keeps, L: Ledger>(

@@ -14,3 +14,4 @@ mod Compacting
 -- for callers too
 pub mod Fresh
 mod Sleeping
+mod OwnKey

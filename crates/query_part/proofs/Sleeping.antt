@@ -1,7 +1,7 @@
 -- What a part is that the last events passed by.
-use Rattle.std.proofs.Common.{◌≡◌, ℕ, ◌+◌, ◌-◌, ◌<◌, ◌≤◌, ◌==◌, ℤ, pos, Bool, true, false, not, List, [], length, refl, sym, ap, subst, ◌∙◌, All, Option, Some, None, slice_get, slice_index_or, arith}
+use Rattle.std.proofs.Common.{◌≡◌, ℕ, ◌+◌, ◌-◌, ◌<◌, ◌≤◌, ◌==◌, ℤ, pos, Bool, true, false, ◌||◌, List, [], length, refl, sym, ap, subst, ◌∙◌, All, Option, Some, None, slice_get, slice_index_or, arith}
 use Rattle.std.specs.Prelude.{IsSomeAnd, if◌then◌else◌, ◌≤ℤ◌}
-use Rattle.std.proofs.lemmas.Bool.{eqb-true, false≢true}
+use Rattle.std.proofs.lemmas.Bool.{eqb-true}
 use Rattle.std.proofs.lemmas.Option.{slice_get_within}
 use Rattle.std.proofs.lemmas.Int.{ints}
 use Rattle.stream_schema.specs.Types.{Declared, DeclaredType}
@@ -9,8 +9,6 @@ use Rattle.stream_schema.specs.Events.{IsOfSchema}
 use Rattle.stream_schema.specs.declared.Event.{Event}
 use Rattle.cel_terms.specs.declared.Query.{Query}
 use Rattle.cer_base.specs.Bits.{has}
-use Rattle.query_leaves.specs.declared.Leaf.{Leaf}
-use Rattle.query_leaves.specs.Conditions.{leaf_conditions}
 use Rattle.cea_determinise.specs.Runs.{LeafSet}
 use Rattle.event_update.specs.Still.{IsQuiet, Rest}
 use Rattle.window_clock.specs.declared.Source.{Source}
@@ -60,9 +58,15 @@ in_schema schema event of = go _ (slice_get schema.types event.ty) refl of
 pub reads_all : (schema : Declared) (q : Query) (source : Source) (types : List Bool) (event : Event) → Floats schema q source types → IsOfSchema schema event → slice_index_or types event.ty false ≡ true
 reads_all schema q source types event f of = f.all event.ty (in_schema schema event of)
 
-pub not_floats : (schema : Declared) (q : Query) (source : Source) (types : List Bool) (floats : Bool) (event : Event) → MayFloat schema q source types floats → IsOfSchema schema event → slice_index_or types event.ty false ≡ false → floats ≡ false
-not_floats schema q source types false event may of told = refl
-not_floats schema q source types true event may of told = absurd (false≢true (sym told ∙ reads_all schema q source types event (may refl) of))
+-- so it is where its type is marked
+pub may_reads : (schema : Declared) (q : Query) (source : Source) (types : List Bool) (floats : Bool) (event : Event) → MayFloat schema q source types floats → AreTypesRead schema q types → IsOfSchema schema event → (floats || slice_index_or types event.ty false) ≡ true → Reads schema q event
+may_reads schema q source types true event may are of told = does_read schema q types event are of (reads_all schema q source types event (may refl) of)
+may_reads schema q source types false event may are of told = does_read schema q types event are of told
+
+-- and where neither is so, its type is not read
+pub neither : (a b : Bool) → (a || b) ≡ false → (a ≡ false) × (b ≡ false)
+neither false b e = (refl, e)
+neither true b e = absurd cc
 
 -- a position does not fall
 pub never_back : (schema : Declared) (q : Query) (source : Source) (types : List Bool) (events : List Event) (event : Event) (before now : ℤ) → IsOf schema q.window source → Floats schema q source types → FallsBack schema q events event before now → ⊥
@@ -73,14 +77,6 @@ never_back schema q source types events event before now of f falls =
     let second = clock_is_one schema q.window event (length events) now (pos (length events)) falls.now_is (now_is schema q.window source event (length events) (pos (length events)) (pos (length events)) of (f.clock event (length events)) refl) in
     let less = falls.falls in
     omega (arith, ints)
-
-pub not_true : (b : Bool) → not b ≡ true → b ≡ false
-not_true false e = refl
-not_true true e = absurd (false≢true e)
-
--- no leaf reads the event, where no condition does
-pub unread_of : (listed : List Leaf) (event : Event) (reading : LeafSet) → leaf_conditions listed event ≡ reading → ((k : ℕ) → leaf_conditions listed event k ≡ false) → (k : ℕ) → reading k ≡ false
-unread_of listed event reading same none k = sym (ap (λ (f : LeafSet). f k) same) ∙ none k
 
 -- no leaf reads it, where none is in the set
 pub unread_bits : (bits : List Bool) (reading : LeafSet) → has bits ≡ reading → IsQuiet bits → (k : ℕ) → reading k ≡ false
@@ -103,9 +99,9 @@ passes_unread schema q event position h c n upto floats is le unread =
       step = subst (λ (m : Option ℕ). IsStep schema q event position (part_of h c (here_at upto position n)) (part_of h c m)) (sym (later_none upto position n le)) (unread_step schema q event position h c (here_at upto position n) unread);
     })
 
--- An event that no leaf can read passes by, where the clock floats and the lists of each key rest.
-pub passes_resting : (schema : Declared) (q : Query) (source : Source) (types : List Bool) (event : Event) (position : ℕ) (h : Held) (c : Option ℤ) (n : Option ℕ) (upto : ℕ) (floats : Bool) → floats ≡ true → MayFloat schema q source types floats → AreTypesRead schema q types → IsOf schema q.window source → IsOfSchema schema event → upto ≤ position → All (Rest h.table) h.rows → ((k : ℕ) → leaves_reading schema q event k ≡ false) → HasPassed event position (seen position (sleeper schema q h c n upto floats)) (seen (position + 1) (sleeper schema q h c n upto floats))
-passes_resting schema q source types event position h c n upto floats is may are of of_schema le all unread =
+-- An event that the part takes by its clock alone passes by, where the clock floats.
+pub passes_step : (schema : Declared) (q : Query) (event : Event) (position : ℕ) (h : Held) (c : Option ℤ) (n : Option ℕ) (upto : ℕ) (floats : Bool) → floats ≡ true → upto ≤ position → IsStep schema q event position (part_of h (clock_at true upto position c) (here_at upto position n)) (part_of h (Some (pos position)) None) → HasPassed event position (seen position (sleeper schema q h c n upto floats)) (seen (position + 1) (sleeper schema q h c n upto floats))
+passes_step schema q event position h c n upto floats is le step =
     subst (λ (f : Bool). HasPassed event position (seen position (sleeper schema q h c n upto f)) (seen (position + 1) (sleeper schema q h c n upto f))) (sym is) (record {
       schema = refl;
       query = refl;
@@ -116,6 +112,10 @@ passes_resting schema q source types event position h c n upto floats is may are
       step = subst (λ (m : Option ℕ). IsStep schema q event position (part_of h (clock_at true upto position c) (here_at upto position n)) (part_of h (clock_at true upto (position + 1) c) m)) (sym (later_none upto position n le))
           (subst (λ (d : Option ℤ). IsStep schema q event position (part_of h (clock_at true upto position c) (here_at upto position n)) (part_of h d None)) (sym (later_clock upto position c le)) step);
     })
+
+-- So does one that no leaf can read, where the lists of each key rest.
+pub passes_resting : (schema : Declared) (q : Query) (source : Source) (types : List Bool) (event : Event) (position : ℕ) (h : Held) (c : Option ℤ) (n : Option ℕ) (upto : ℕ) (floats : Bool) → floats ≡ true → MayFloat schema q source types floats → AreTypesRead schema q types → IsOf schema q.window source → IsOfSchema schema event → upto ≤ position → All (Rest h.table) h.rows → ((k : ℕ) → leaves_reading schema q event k ≡ false) → HasPassed event position (seen position (sleeper schema q h c n upto floats)) (seen (position + 1) (sleeper schema q h c n upto floats))
+passes_resting schema q source types event position h c n upto floats is may are of of_schema le all unread = passes_step schema q event position h c n upto floats is le step
   where
     f : Floats schema q source types
     f = may is

@@ -5,6 +5,7 @@ use Rattle.stream_schema.specs.declared.Value.{Value}
 use Rattle.cer_base.specs.declared.node.Stamp.{Stamp}
 use Rattle.cer_base.specs.declared.node.Root.{Root}
 use Rattle.cer_base.specs.declared.node.Node.{Node}
+use Rattle.cer_base.specs.Repeats.{HasNoRepeats}
 use Rattle.cea_determinise.specs.declared.cea.Cea.{Cea}
 use Rattle.cea_determinise.specs.Det.{Table, StaysWithin, IsSound}
 use Rattle.cea_determinise.specs.Cea.{HasLeavesBelow}
@@ -14,7 +15,7 @@ use Rattle.event_update.specs.Reach.{Seen}
 use Rattle.event_update.specs.Stands.{seen, IsLater, Stands, CanAdvance}
 use Rattle.event_update.specs.Update.{Discovers, GrowsBy, rows_after, work_bound, IsWithinWork, accepted_entries}
 use Rattle.query_standing.specs.Kept.{Rows}
-use Rattle.event_update.specs.Still.{IsAtRest, Rest}
+use Rattle.event_update.specs.Still.{IsQuiet, IsAtRest, Rest}
 use Rattle.partition_table.specs.Keys.{are_at}
 use Rattle.query_part.specs.declared.matches.Sizes.{Sizes}
 use Rattle.query_part.specs.declared.lists.Lists.{Lists}
@@ -45,6 +46,15 @@ pub record HasKeyThere (h : Held) (places : List ℕ) (values : List Value) (num
   pub numbered : slice_get h.keys number ≡ Some key
   pub has : are_at key places values ≡ true
   pub inside : number < length h.rows
+
+-- No leaf can read the event, and the lists of its key rest, where the key is there.
+pub record OwnRest (h : Held) (own : Option (List Value)) (bits : List Bool) : Type 0 where
+  pub quiet : IsQuiet bits
+  pub rest : HasNoRepeats h.keys → (key : List Value) (number : ℕ) (rows : Rows) → own ≡ Some key → slice_get h.keys number ≡ Some key → slice_get h.rows number ≡ Some rows → Rest h.table rows
+
+-- The event leaves all lists as they are.
+abbrev pub Stays : Held → Option (List Value) → List Bool → Type 0
+Stays h own bits = (own ≡ None) ⊎ OwnRest h own bits
 
 -- no open match, and no state met
 abbrev pub none_open : Cea → Held
@@ -126,6 +136,13 @@ pub record HasWorked (bits : List Bool) (key : List Value) (old : Held) (before 
   pub states : List ℕ
   pub states_are : states ≡ 0 ∷ map (λ (r : ℕ × List Root). r.0) rows
   pub work : IsWithinWork mid.table states bits before after
+
+-- the same for the event's own key
+abbrev pub IsOwnReady : Stamp → List Bool → Option (List Value) → ℕ → Staged → Held → Held → Type 0
+IsOwnReady stamp bits own number staged old new = (key : List Value) × (own ≡ Some key) × IsReady stamp bits key number staged old new
+
+abbrev pub HasOwnWorked : List Bool → Option (List Value) → Held → ℕ → ℕ → Type 0
+HasOwnWorked bits own old before after = (key : List Value) × (own ≡ Some key) × HasWorked bits key old before after
 
 -- The key's lists stand for some events.
 pub record HasLists (h : Held) (number : ℕ) : Type 0 where

@@ -11,6 +11,7 @@
 pub mod lists;
 pub mod machine;
 pub mod matches;
+mod own;
 pub mod part;
 mod reading;
 mod types;

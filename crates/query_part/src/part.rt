@@ -1,6 +1,6 @@
 //! What is kept of one query, and what an event makes of it in two phases.
 
-ghost use Rattle.std.specs.Prelude.{◌≡◌, ◌≢◌, ℕ, ◌+◌, ◌*◌, ◌≤◌, false, true, List, [], ◌∷◌, length, map, All, Some, None, slice_index_or, IfOk, IfSome, IfNone, MatchOption, OnOk, OnErr};
+ghost use Rattle.std.specs.Prelude.{◌≡◌, ◌≢◌, ℕ, ◌+◌, ◌*◌, ◌≤◌, false, true, List, [], ◌∷◌, length, map, All, Some, None, IfOk, IfSome, IfNone, MatchOption, OnOk, OnErr};
 ghost use Rattle.stream_schema.specs.declared.Event.{Event as EventData};
 ghost use Rattle.stream_schema.specs.Events.{IsOfSchema};
 ghost use Rattle.cel_terms.specs.Checked.{IsChecked};
@@ -11,14 +11,14 @@ ghost use Rattle.query_standing.specs.Kept.{PartStands, low_at, roots_at};
 ghost use Rattle.all_or_none.specs.Phases.{IsPrepared, IsIdle, IsQuiet, back, IsCommitted, CanPrepare, StandsAt, InTime, part_bound};
 ghost use Rattle.window_clock.specs.Places.{IsNear, IsOf, HasWidth, clock_in};
 ghost use Rattle.query_part.specs.KeyPlaces.{AreKeyPlaces};
-ghost use Rattle.query_part.specs.Matches.{HasKeyThere};
 ghost use Rattle.query_part.specs.Parts.{AreTypesRead, IsMachineOf, HaveClocks, MayFloat, HasEvents, seen, woken, skipped};
 ghost use Rattle.query_part.specs.Compacting.{HasStatesOnce, PartCompacted};
 ghost use Rattle.arena_compact.specs.Roots.{places};
 
 use crate::machine::{Machine, Reading};
 use crate::matches::{Matches, Ready};
-use crate::reading::{Places, is_read, key_of, places_of};
+use crate::own::advance_own;
+use crate::reading::{Places, is_read, may_read};
 use all_or_none::Keeps;
 use arena_compact::{HasCursor, Room};
 use cel_terms::Query;
@@ -330,33 +330,8 @@ impl Part {
     }
 }
 
-/// The number of the event's key, where it is found without a search.
-fn known(matches: &Matches, table: &[Option<Places>], event: &Event) -> Option<u64>
-    ensures { IfSome result (λ n. (places : List ℕ)
-        × (slice_index_or table.now event.now.ty None ≡ Some places)
-        × HasKeyThere matches.now places event.now.values n) }
-{
-    match places_of(table, event.ty) {
-        Some(places) => matches.find(places, event.values.as_slice()),
-        None => None,
-    }
-}
-
 impl Keeps for Part {
     ghost phase = { λ n p. seen n p };
-
-    fn passes(&self, event: &Event, position: Pos) -> bool {
-        if self.upto > position {
-            return false;
-        }
-        if !self.floats {
-            return !is_read(self.types.as_slice(), event.ty);
-        }
-        if !self.matches.all_rest() {
-            return false;
-        }
-        self.conditions.read_none(event)
-    }
 
     fn rests(&self) -> bool {
         self.floats && self.matches.all_rest()
@@ -367,46 +342,36 @@ impl Keeps for Part {
         event: &Event,
         position: Pos,
         steps: &mut Steps<L>,
-    ) -> Result<(), Memory> {
-        if !is_read(self.types.as_slice(), event.ty) {
+    ) -> Result<bool, Memory> {
+        if !may_read(self.floats, self.types.as_slice(), event.ty) {
+            if self.upto <= position {
+                return Ok(true);
+            }
             self.step = Some(Step::Unread);
-            return Ok(());
+            return Ok(false);
         }
         let clock = self.clock.now(event, position);
-        self.conditions.fill(event, &mut self.bits);
-        if self.matches.all_rest() {
-            if self.bits.is_empty() {
-                self.step = Some(Step::NoChange(clock));
-                return Ok(());
-            }
-        }
         let stamp = Stamp {
             pos: position,
             clock,
         };
-        match known(&self.matches, self.keys.as_slice(), event) {
-            Some(number) => {
-                if self.matches.resting(number, &self.bits) {
-                    self.step = Some(Step::NoChange(clock));
-                    return Ok(());
+        self.conditions.fill(event, &mut self.bits);
+        let table = self.keys.as_slice();
+        let matches = &mut self.matches;
+        match advance_own(matches, self.alloc, table, event, &self.bits, stamp, steps) {
+            Err(refused) => Err(refused),
+            Ok(None) => {
+                if self.floats && self.upto <= position {
+                    return Ok(true);
                 }
-                let ready = self.matches.advance_at(number, &self.bits, stamp, steps)?;
+                self.step = Some(Step::NoChange(clock));
+                Ok(false)
+            }
+            Ok(Some(ready)) => {
                 self.ready = Some(ready);
                 self.step = Some(Step::Keyed(clock));
-                Ok(())
+                Ok(false)
             }
-            None => match key_of(self.alloc, self.keys.as_slice(), event)? {
-                None => {
-                    self.step = Some(Step::NoChange(clock));
-                    Ok(())
-                }
-                Some(key) => {
-                    let ready = self.matches.advance(&key, &self.bits, stamp, steps)?;
-                    self.ready = Some(ready);
-                    self.step = Some(Step::Keyed(clock));
-                    Ok(())
-                }
-            },
         }
     }
 

@@ -1,6 +1,6 @@
 //! Which events a query reads, and their keys.
 
-ghost use Rattle.std.specs.Prelude.{◌≡◌, ℕ, ℤ, pos, ◌-ℤ◌, ◌≤ℤ◌, ◌<◌, ◌++◌, false, true, Some, None, option_map, option_and_then, take, drop, slice_get, slice_index_or, IfOk, length};
+ghost use Rattle.std.specs.Prelude.{◌≡◌, ℕ, ℤ, pos, ◌-ℤ◌, ◌≤ℤ◌, ◌<◌, ◌++◌, ◌||◌, false, true, Some, None, option_map, option_and_then, take, drop, slice_get, slice_index_or, IfOk, length};
 ghost use Rattle.std.specs.Option.{option_copied};
 ghost use Rattle.window_clock.specs.Clocks.{least};
 ghost use Rattle.query_part.specs.KeyPlaces.{places_in, values_there, key_there, AreKeyPlaces};
@@ -23,6 +23,13 @@ pub fn is_read(table: &[bool], ty: TypeId) -> bool
         Some(read) => *read,
         None => false,
     }
+}
+
+/// The same, where each type of the schema is read if the clock floats.
+pub fn may_read(floats: bool, table: &[bool], ty: TypeId) -> bool
+    ensures { result ≡ (floats || slice_index_or table.now ty false) }
+{
+    floats || is_read(table, ty)
 }
 
 /// Whether each type of the schema is read.

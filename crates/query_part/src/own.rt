@@ -1,0 +1,80 @@
+//! The lists of the key that an event has.
+
+ghost use Rattle.std.specs.Prelude.{◌≡◌, ◌+◌, ◌≤◌, ◌⊎◌, List, [], ◌∷◌, ◌++◌, length, Some, None, slice_index_or, IfOk, IfSome, IfNone, OnOk, OnErr, ℕ};
+ghost use Rattle.cer_base.specs.Bits.{room_for};
+ghost use Rattle.cer_base.specs.Nodes.{AreInStep, WellFormed};
+ghost use Rattle.cer_base.specs.declared.node.Node.TheVariants.{Bottom};
+ghost use Rattle.event_update.specs.Update.{work_bound};
+ghost use Rattle.query_part.specs.KeyPlaces.{key_there};
+ghost use Rattle.query_part.specs.Matches.{HasKeyThere, CanTake, cut, CanCut, Stays, IsOwnReady, HasOwnWorked};
+
+use crate::matches::{Matches, Ready};
+use crate::reading::{Places, key_of, places_of};
+use cer_base::Memory;
+use cer_base::bits::Bits;
+use cer_base::node::Stamp;
+use cer_base::steps::Steps;
+use std::alloc::Global;
+use std::sync::ledger::Ledger;
+use stream_schema::Event;
+
+/// The number of the event's key, where it is found without a search.
+fn known(matches: &Matches, table: &[Option<Places>], event: &Event) -> Option<u64>
+    ensures { IfSome result (λ n. (places : List ℕ)
+        × (slice_index_or table.now event.now.ty None ≡ Some places)
+        × HasKeyThere matches.now places event.now.values n) }
+{
+    match places_of(table, event.ty) {
+        Some(places) => matches.find(places, event.values.as_slice()),
+        None => None,
+    }
+}
+
+/// Works out the lists of the event's key, by the set of the leaves that can read the event. `None`
+/// where no list changes: where it has no key, and where no leaf can read it and its key's lists are
+/// known to rest. After `Memory` nothing has changed.
+#[inline(always)]
+pub fn advance_own<L: Ledger>(
+    matches: &mut Matches,
+    alloc: Global,
+    table: &[Option<Places>],
+    event: &Event,
+    bits: &Bits,
+    stamp: Stamp,
+    steps: &mut Steps<L>,
+) -> Result<Option<Ready>, Memory>
+    requires well_formed { WellFormed matches.old.nodes }
+    requires in_step { AreInStep (matches.old.nodes ++ Bottom stamp ∷ []) }
+    requires bits { length bits.now ≡ room_for matches.old.table.cea.size }
+    requires can { CanTake stamp matches.old }
+    ensures stays { IfOk result (λ o. IfNone o ((matches.new ≡ matches.old)
+        × (steps.new ≡ steps.old)
+        × Stays matches.old (key_there table.now event.now) bits.now)) }
+    ensures ready { IfOk result (λ o. IfSome o (λ r. IsOwnReady stamp bits.now
+        (key_there table.now event.now) r.number r.staged matches.old matches.new)) }
+    ensures sizes { IfOk result (λ o. IfSome o (λ r. (cut r.sizes matches.new ≡ matches.old)
+        × CanCut r.sizes matches.new)) }
+    ensures refused { OnErr result (matches.new ≡ matches.old) }
+    ensures steps { OnOk result (steps.new
+        ≤ steps.old + work_bound (length matches.new.table.states)) }
+    ensures worked { (steps.new ≡ steps.old) ⊎ HasOwnWorked bits.now
+        (key_there table.now event.now) matches.old steps.old steps.new }
+{
+    if bits.is_empty() && matches.all_rest() {
+        return Ok(None);
+    }
+    if let Some(number) = known(matches, table, event) {
+        if matches.resting(number, bits) {
+            return Ok(None);
+        }
+        let ready = matches.advance_at(number, bits, stamp, steps)?;
+        return Ok(Some(ready));
+    }
+    match key_of(alloc, table, event)? {
+        None => Ok(None),
+        Some(key) => {
+            let ready = matches.advance(&key, bits, stamp, steps)?;
+            Ok(Some(ready))
+        }
+    }
+}

@@ -96,21 +96,6 @@ impl Conditions {
             );
         }
     }
-
-    /// Whether no leaf can read the event.
-    pub fn read_none(&self, event: &Event) -> bool
-        ensures { result ≡ true → (k : ℕ) → leaf_conditions self.now event.now k ≡ false }
-    {
-        match group_of(self.groups.as_slice(), event.ty) {
-            Some(numbers) => {
-                let list = self.list.as_slice();
-                let ranges = self.ranges.as_slice();
-                let settled = self.settled.as_slice();
-                hold_none(list, ranges, settled, numbers.as_slice(), event)
-            }
-            None => true,
-        }
-    }
 }
 
 /// Takes all numbers out. Most events leave none, so that is tested first.
@@ -144,28 +129,6 @@ fn holds_at(list: &[Leaf], ranges: &[Range], settled: &[bool], number: usize, ev
         Some(holds) => holds,
         None => each_holds(list[number].tests.as_slice(), event),
     }
-}
-
-/// Whether the tests of none of the leaves of these numbers, which are of the event's type, hold of the
-/// event.
-fn hold_none(
-    list: &[Leaf],
-    ranges: &[Range],
-    settled: &[bool],
-    numbers: &[usize],
-    event: &Event,
-) -> bool
-    requires ranges { AreRangesOf list.now ranges.now }
-    requires settled { AreSettled list.now ranges.now settled.now }
-    requires group { IsGroup list.now event.now.ty numbers.now }
-    ensures { result ≡ true → (k : ℕ) → leaf_conditions list.now event.now k ≡ false }
-{
-    for number in numbers {
-        if holds_at(list, ranges, settled, *number, event) {
-            return false;
-        }
-    }
-    true
 }
 
 /// Puts in those of the numbers, which are of the event's type, whose tests hold of the event.

@@ -3,3 +3,4 @@ mod Spelled
 mod Seen
 mod Pulled
 mod Stepping
+mod EngineTalk

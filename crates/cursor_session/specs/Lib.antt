@@ -3,3 +3,4 @@ pub mod Commands
 pub mod Spelling
 pub mod Machine
 pub mod Sessions
+pub mod EngineSteps

@@ -5,7 +5,7 @@ use cel_plain::answers::{ComplexEvent, answers};
 use cel_terms::{Filter, Formula, Link, Name, Names, Op, Postfix, Pred, Query, Window};
 use cer_base::{Listed, Memory, Place, Text};
 use std::alloc::Global;
-use stream_schema::{Attr, Event, Kind, Schema, Value};
+use stream_schema::{Attr, Attrs, Event, Kind, Schema, Texts, Value};
 
 const HERE: Place = Place { line: 1, col: 1 };
 
@@ -24,27 +24,37 @@ fn names(alloc: Global, texts: &[&str]) -> Result<Names, Memory> {
     Ok(Listed::of(list))
 }
 
-/// The two types, and the stream S of both.
-fn schema(alloc: Global) -> Result<Option<Schema>, Memory> {
-    let mut schema = Schema::new(alloc);
-    for ty in ["A", "B"] {
-        let mut attrs = Vec::new(alloc);
-        attrs.push(Attr {
-            name: Text::copy_of(alloc, "v")?,
-            kind: Kind::Int,
-        })?;
-        if schema.declare_event(ty, &Listed::of(attrs)).is_err() {
-            return Ok(None);
+/// The attribute v INT, which both types have.
+fn attributes(alloc: Global) -> Result<Attrs, Memory> {
+    let mut attrs = Vec::new(alloc);
+    attrs.push(Attr {
+        name: Text::copy_of(alloc, "v")?,
+        kind: Kind::Int,
+    })?;
+    Ok(Listed::of(attrs))
+}
+
+fn texts(alloc: Global, given: &[&str]) -> Result<Texts, Memory> {
+    let mut list = Vec::new(alloc);
+    for text in given {
+        list.push(Text::copy_of(alloc, text)?)?;
+    }
+    Ok(Listed::of(list))
+}
+
+/// Declares the types, and the stream S of all.
+fn declare(alloc: Global, schema: &mut Schema, types: &[&str]) -> Result<bool, Memory> {
+    let attrs = attributes(alloc)?;
+    for ty in types {
+        if schema.declare_event(ty, &attrs).is_err() {
+            return Ok(false);
         }
     }
-    let mut types = Vec::new(alloc);
-    types.push(Text::copy_of(alloc, "A")?)?;
-    types.push(Text::copy_of(alloc, "B")?)?;
-    if schema.declare_stream("S", &Listed::of(types)).is_err() {
-        return Ok(None);
-    }
-    Ok(Some(schema))
+    let names = texts(alloc, types)?;
+    Ok(schema.declare_stream("S", &names).is_ok())
 }
+
+const TYPES: &[&str] = &["A", "B"];
 
 /// An event of type A (0) or B (1) with this value.
 pub fn event(alloc: Global, ty: u64, v: i64) -> Result<Event, Memory> {
@@ -92,6 +102,12 @@ fn then(alloc: Global, first: Formula, tight: bool, next: Formula) -> Result<For
     Ok(Formula::Linked(Box::new(alloc, first)?, links))
 }
 
+/// A ; B, or A : B.
+fn sequence(alloc: Global, tight: bool) -> Result<Formula, Memory> {
+    let next = of(alloc, "B")?;
+    then(alloc, of(alloc, "A")?, tight, next)
+}
+
 fn chain(alloc: Global, count: usize) -> Result<Formula, Memory> {
     let mut parts = Vec::new(alloc);
     for _ in 0..count {
@@ -107,22 +123,31 @@ fn choice(alloc: Global) -> Result<Formula, Memory> {
     Ok(Formula::Either(choices))
 }
 
+/// variable[v = 1]
+fn is_one(alloc: Global, variable: &str) -> Result<Filter, Memory> {
+    let pred = Pred::Cmp(name(alloc, "v")?, Op::Eq, Value::Int(1));
+    Ok(Filter::On(name(alloc, variable)?, pred))
+}
+
+/// x[v = 1] OR y[v = 1]
+fn one_of_two(alloc: Global) -> Result<Filter, Memory> {
+    let mut choices = Vec::new(alloc);
+    choices.push(is_one(alloc, "x")?)?;
+    choices.push(is_one(alloc, "y")?)?;
+    Ok(Filter::Any(choices))
+}
+
+fn under(alloc: Global, base: Formula, filter: Filter) -> Result<Formula, Memory> {
+    let mut filters = Vec::new(alloc);
+    filters.push(filter)?;
+    Ok(Formula::Under(Box::new(alloc, base)?, filters))
+}
+
 /// (A AS x ; B AS y) FILTER x[v = 1] OR y[v = 1]
 fn filtered(alloc: Global) -> Result<Formula, Memory> {
-    let both = then(
-        alloc,
-        named(alloc, "A", "x")?,
-        false,
-        named(alloc, "B", "y")?,
-    )?;
-    let mut choices = Vec::new(alloc);
-    for variable in ["x", "y"] {
-        let pred = Pred::Cmp(name(alloc, "v")?, Op::Eq, Value::Int(1));
-        choices.push(Filter::On(name(alloc, variable)?, pred))?;
-    }
-    let mut filters = Vec::new(alloc);
-    filters.push(Filter::Any(choices))?;
-    Ok(Formula::Under(Box::new(alloc, both)?, filters))
+    let next = named(alloc, "B", "y")?;
+    let both = then(alloc, named(alloc, "A", "x")?, false, next)?;
+    under(alloc, both, one_of_two(alloc)?)
 }
 
 #[derive(Clone, Copy)]
@@ -155,13 +180,13 @@ pub enum Sample {
 
 fn formula(alloc: Global, sample: Sample) -> Result<Formula, Memory> {
     match sample {
-        Sample::Sequence | Sample::Strict => then(alloc, of(alloc, "A")?, false, of(alloc, "B")?),
+        Sample::Sequence | Sample::Strict => sequence(alloc, false),
         Sample::Repeated => post(alloc, of(alloc, "A")?, Postfix::Plus),
         Sample::RepeatedTwice => twice(alloc, Postfix::Plus, Postfix::Plus),
         Sample::RepeatedThenNext => twice(alloc, Postfix::Plus, Postfix::NextPlus),
         Sample::NextThenRepeated => twice(alloc, Postfix::NextPlus, Postfix::Plus),
         Sample::NextRepeatedTwice => twice(alloc, Postfix::NextPlus, Postfix::NextPlus),
-        Sample::Next => then(alloc, of(alloc, "A")?, true, of(alloc, "B")?),
+        Sample::Next => sequence(alloc, true),
         Sample::NextRepeated => post(alloc, of(alloc, "A")?, Postfix::NextPlus),
         Sample::ChoiceOfOneName => choice(alloc),
         Sample::FilterOfEither => filtered(alloc),
@@ -169,13 +194,16 @@ fn formula(alloc: Global, sample: Sample) -> Result<Formula, Memory> {
     }
 }
 
+fn selected(alloc: Global, sample: Sample) -> Result<Option<Names>, Memory> {
+    match sample {
+        Sample::ChoiceOfOneName => Ok(Some(names(alloc, &["b"])?)),
+        _ => Ok(None),
+    }
+}
+
 fn query(alloc: Global, sample: Sample) -> Result<Query, Memory> {
-    let select = match sample {
-        Sample::ChoiceOfOneName => Some(names(alloc, &["b"])?),
-        _ => None,
-    };
     Ok(Query {
-        select,
+        select: selected(alloc, sample)?,
         strict: matches!(sample, Sample::Strict),
         any: None,
         streams: names(alloc, &["S"])?,
@@ -188,10 +216,12 @@ fn query(alloc: Global, sample: Sample) -> Result<Query, Memory> {
 
 /// The machine of the sample.
 pub fn machine(alloc: Global, sample: Sample) -> Result<Option<Machine>, Memory> {
-    match schema(alloc)? {
-        Some(schema) => Ok(Some(Machine::of(alloc, &schema, &query(alloc, sample)?)?)),
-        None => Ok(None),
+    let mut schema = Schema::new(alloc);
+    if !declare(alloc, &mut schema, TYPES)? {
+        return Ok(None);
     }
+    let query = query(alloc, sample)?;
+    Ok(Some(Machine::of(alloc, &schema, &query)?))
 }
 
 /// The sample's answers at the end, as the plain evaluator lists them.
@@ -201,8 +231,10 @@ pub fn answers_at(
     events: &[Event],
     end: u64,
 ) -> Result<Vec<ComplexEvent>, Memory> {
-    match schema(alloc)? {
-        Some(schema) => answers(alloc, &schema, &query(alloc, sample)?, events, end),
-        None => Ok(Vec::new(alloc)),
+    let mut schema = Schema::new(alloc);
+    if !declare(alloc, &mut schema, TYPES)? {
+        return Ok(Vec::new(alloc));
     }
+    let query = query(alloc, sample)?;
+    answers(alloc, &schema, &query, events, end)
 }

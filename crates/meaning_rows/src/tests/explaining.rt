@@ -73,34 +73,15 @@ fn formula(alloc: Global, case: Case) -> Result<Formula, Memory> {
     }
 }
 
-fn selected(case: Case) -> &'static [&'static str] {
-    match case {
-        Case::Three | Case::Either => &["b"],
-        _ => &[],
-    }
-}
-
-fn key(case: Case) -> &'static [&'static str] {
-    match case {
-        Case::Next => &["v"],
-        _ => &[],
-    }
-}
-
 fn query(alloc: Global, case: Case) -> Result<Query, Memory> {
-    let strict = matches!(case, Case::Strict);
-    let window = match case {
-        Case::Within => Window::Events(1),
-        _ => Window::Free,
-    };
-    query_of(
-        alloc,
-        selected(case),
-        strict,
-        formula(alloc, case)?,
-        key(case),
-        window,
-    )
+    let formula = formula(alloc, case)?;
+    match case {
+        Case::Three | Case::Either => query_of(alloc, &["b"], false, formula, &[], Window::Free),
+        Case::Strict => query_of(alloc, &[], true, formula, &[], Window::Free),
+        Case::Within => query_of(alloc, &[], false, formula, &[], Window::Events(1)),
+        Case::Next => query_of(alloc, &[], false, formula, &["v"], Window::Free),
+        _ => query_of(alloc, &[], false, formula, &[], Window::Free),
+    }
 }
 
 /// Writes the names with their positions.

@@ -29,12 +29,27 @@ enum Row {
     Repeated,
 }
 
+/// variable[attribute = 1] OR variable[other = 2]
+fn one_or_two(
+    alloc: Global,
+    variable: &str,
+    attribute: &str,
+    other: &str,
+) -> Result<Filter, Memory> {
+    let second = equals(alloc, variable, other, 2)?;
+    either_filter(alloc, equals(alloc, variable, attribute, 1)?, second)
+}
+
+/// (x[v = 1] OR x[v = 2]) AND x[u = 3]
+fn filter_in_turn(alloc: Global) -> Result<Filter, Memory> {
+    let third = equals(alloc, "x", "u", 3)?;
+    Ok(Filter::All(two(alloc, one_or_two(alloc, "x", "v", "v")?, third)?))
+}
+
 /// A AS x FILTER (x[v = 1] OR x[v = 2]) AND x[u = 3]
 fn all_in_turn(alloc: Global) -> Result<Formula, Memory> {
-    let other = equals(alloc, "x", "v", 2)?;
-    let either = either_filter(alloc, equals(alloc, "x", "v", 1)?, other)?;
-    let both = two(alloc, either, equals(alloc, "x", "u", 3)?)?;
-    under(alloc, named(alloc, "A", "x")?, Filter::All(both))
+    let filter = filter_in_turn(alloc)?;
+    under(alloc, named(alloc, "A", "x")?, filter)
 }
 
 /// A AS x : B AS y
@@ -208,8 +223,7 @@ fn leaves_of_the_rows(rt: HostRuntime) -> Result<(), Fail> {
 fn filtered(alloc: Global, count: u64) -> Result<Formula, Memory> {
     let mut list = Vec::new(alloc);
     for _ in 0..count {
-        let other = equals(alloc, "A", "u", 2)?;
-        list.push(either_filter(alloc, equals(alloc, "A", "v", 1)?, other)?)?;
+        list.push(one_or_two(alloc, "A", "v", "u")?)?;
     }
     Ok(Formula::Under(Box::new(alloc, of(alloc, "A")?)?, list))
 }

@@ -54,25 +54,27 @@ module _ (queries events : Text) (first : strip_byte 45 queries ≡ None) (secon
   one_is = name_walked below.rules nothing_held 1 queries first
 
   two_is : walk below.rules [] nothing_held (queries ∷ events ∷ []) ≡ two
+  unfolding program
   two_is = ap (λ w. walked below.rules [] w events) one_is ∙ name_walked below.rules one.held 2 events second
 
   walk_is : walk_fault below [] (walk_from nothing_held) (queries ∷ events ∷ []) ≡ []
-  unfolding walk_fault
+  unfolding walk_fault program
   walk_is = ap₂ or_else (name_turn below nothing_held 1 queries first)
       (ap₂ or_else (ap (λ w. turn_fault below [] w events) one_is ∙ name_turn below one.held 2 events second) refl)
 
   level_is : level_fault below [] nothing_held (queries ∷ events ∷ []) false [] ≡ []
-  unfolding defaults_fault
+  unfolding defaults_fault program
   level_is = ap₂ (λ (kinds : Kinds) (w : Walk). or_else kinds (or_else [] (or_else (settle_fault below.rules below.args_override_self w.held)
       (or_else (defaults_fault (settled below.rules w.held).rows below.rules) (check_fault below (finished below.rules w.held) false))))) walk_is two_is
 
   fault_is : fault_of program (codes "run" ∷ queries ∷ events ∷ []) ≡ []
-  unfolding walked walk_fault defaults_fault
+  unfolding walked walk_fault defaults_fault program
   fault_is = ap (λ (kinds : Kinds). or_else kinds []) level_is
 
   found_is : subcommand_of program (codes "run" ∷ queries ∷ events ∷ []) ≡ Some (codes "run", finished below.rules two.held)
-  unfolding walked
+  unfolding walked program
   found_is = ap (λ (w : Walk). Some (codes "run", finished below.rules w.held)) two_is
 
   pub names_alone : AsksFor (codes "run" ∷ queries ∷ events ∷ []) (Run queries events Sorted None 1099511627776)
+  unfolding program
   names_alone = rw (ap is_none fault_is) (ap command_at found_is)

@@ -66,6 +66,7 @@ abbrev pub IsOfCommand : Option (Text × List Row) → Type 0
 IsOfCommand found = IsOneOf (codes "run" ∷ codes "sample" ∷ codes "session" ∷ codes "reorder" ∷ codes "explain" ∷ codes "save" ∷ codes "resume" ∷ []) found
 
 entered_one : (stop : Option (Text × List Text)) → is_some (entered (built program) stop) ≡ true → IsOfCommand (entered (built program) stop)
+unfolding program
 entered_one None some = absurd (true≢false (sym some))
 entered_one (Some p) some =
     one_of_seven (answers_to p.0 (codes "run", [])) (answers_to p.0 (codes "sample", [])) (answers_to p.0 (codes "session", [])) (answers_to p.0 (codes "reorder", [])) (answers_to p.0 (codes "explain", [])) (answers_to p.0 (codes "save", [])) (answers_to p.0 (codes "resume", []))
@@ -73,6 +74,7 @@ entered_one (Some p) some =
 
 -- clap found one of the commands in words that it takes
 pub taken_is_found : (words : List Text) → is_taken words ≡ true → IsOfCommand (subcommand_of program words)
+unfolding program
 taken_is_found words taken =
     let stop = stop_after (built program).top.rules (names_of (built program)) words in
     entered_one stop (level_has (built program).top (names_of (built program)) words (is_some (entered (built program) stop))

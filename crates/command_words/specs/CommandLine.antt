@@ -90,14 +90,18 @@ resume_with rows order = Resume (text_in (codes "queries") rows)
 abbrev pub resume_in : List Row → Option Command
 resume_in rows = option_map (resume_with rows) (order_in rows)
 
+-- the command of one of the last three names, with what was found after it
+abbrev pub other_named : Text → List Row → Option Command
+other_named name rows = if bytes_eq name (codes "explain") then Some (explain_in rows)
+    else (if bytes_eq name (codes "save") then Some (save_in rows)
+    else (if bytes_eq name (codes "resume") then resume_in rows else None))
+
+-- the command of a name, with what was found after it
 abbrev pub command_named : Text → List Row → Option Command
 command_named name rows = if bytes_eq name (codes "run") then run_in rows
     else (if bytes_eq name (codes "sample") then Some (sample_in rows)
     else (if bytes_eq name (codes "session") then Some (session_in rows)
-    else (if bytes_eq name (codes "reorder") then reorder_in rows
-    else (if bytes_eq name (codes "explain") then Some (explain_in rows)
-    else (if bytes_eq name (codes "save") then Some (save_in rows)
-    else (if bytes_eq name (codes "resume") then resume_in rows else None))))))
+    else (if bytes_eq name (codes "reorder") then reorder_in rows else other_named name rows)))
 
 -- the command of a subcommand and what was found after it
 abbrev pub command_at : Option (Text × List Row) → Option Command

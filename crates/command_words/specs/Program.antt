@@ -54,11 +54,13 @@ abbrev pub reorder : App
 reorder = with_run_options (with_rule (with_rule (over_files (codes "reorder"))
     (name (codes "clock"))) late)
 
+-- how many events a sample has
+abbrev pub count : Rule
+count = numbered 0 10000000 (name (codes "count"))
+
 -- sample SEED COUNT
 abbrev pub sample : App
-sample = with_rule (with_rule (new_app (codes "sample"))
-    (whole (name (codes "seed"))))
-    (numbered 0 10000000 (name (codes "count")))
+sample = with_rule (with_rule (new_app (codes "sample")) (whole (name (codes "seed")))) count
 
 -- session QUERIES SCRIPT
 abbrev pub session : App
@@ -91,8 +93,12 @@ bare top = record top {
   subcommand_required = true;
 }
 
-abbrev pub program : App
+-- the program with no command yet
+abbrev pub no_commands : App
+no_commands = record { top = bare (new_app (codes "core_cli")).top; subs = [] }
+
+-- the program with its commands: a large term, so that a proof unfolds it only where it has to
+unfoldable pub program : App
 program = with_subcommand (with_subcommand (with_subcommand (with_subcommand (with_subcommand
-    (with_subcommand (with_subcommand
-    (record { top = bare (new_app (codes "core_cli")).top; subs = [] }) run.top) sample.top)
-    session.top) reorder.top) explain.top) save.top) resume.top
+    (with_subcommand (with_subcommand no_commands run.top) sample.top) session.top) reorder.top)
+    explain.top) save.top) resume.top

@@ -1,10 +1,10 @@
 //! The program's command, as `clap` is told it, and its parse.
 ghost use Rattle.std.specs.Prelude.{◌≡◌, ◌↔◌, IfOk, map, string_bytes, true, false};
-ghost use Rattle.clap.specs.Words.{app_of, kind_of, rule_of, subcommand_of, subcommand_rows_of};
+ghost use Rattle.clap.specs.Words.{App, Rule, app_of, kind_of, rule_of, subcommand_of, subcommand_rows_of, with_rule, with_subcommand};
 ghost use Rattle.cer_base.specs.Answers.{OnFault};
 ghost use Rattle.cer_base.specs.declared.OrMemory.TheVariants.{Memory};
 ghost use Rattle.command_words.specs.CommandLine.{is_taken};
-ghost use Rattle.command_words.specs.Program.{compact_every, explain, late, most_bytes, name, option, over_files, program, reorder, repeated};
+ghost use Rattle.command_words.specs.Program.{compact_every, count, explain, late, most_bytes, name, no_commands, option, over_files, program, reorder, repeated};
 ghost use Rattle.command_words.specs.Program.{resume, run, sample, save, session, whole, with_run_options};
 
 use crate::Usage;
@@ -101,79 +101,89 @@ fn late<'a>(alloc: Global) -> Arg<'a>
     name(alloc, "late").value_parser(value_parser!(u64).range(..=9223372036854775807))
 }
 
+/// The command with one more argument, where there was memory for it so far.
+fn with_argument<'a>(
+    command: Result<clap::Command<'a>, AllocError>,
+    argument: Arg<'a>,
+) -> Result<clap::Command<'a>, AllocError>
+    requires { argument.global ≡ false }
+    ensures { (app : App) (rule : Rule) → IfOk command.entry (λ c. app_of c ≡ app)
+        → rule_of argument.entry ≡ rule → IfOk result (λ c. app_of c ≡ with_rule app rule) }
+{
+    command?.arg(argument)
+}
+
 /// A command of this name, after which stand the names of a query file and an event file.
 fn over_files<'a>(alloc: Global, id: &'a str) -> Result<clap::Command<'a>, AllocError>
     ensures { IfOk result (λ c. app_of c ≡ over_files id.entry.now) }
 {
-    let queries = name(alloc, "queries");
-    let events = name(alloc, "events");
-    clap::Command::new(alloc, id).arg(queries)?.arg(events)
+    let command = Ok(clap::Command::new(alloc, id));
+    let with_queries = with_argument(command, name(alloc, "queries"));
+    with_argument(with_queries, name(alloc, "events"))
 }
 
 /// The command with `[--order walk|sorted] [--compact-every N] [--max-bytes N]`.
 fn with_run_options<'a>(
     alloc: Global,
-    command: clap::Command<'a>,
+    command: Result<clap::Command<'a>, AllocError>,
 ) -> Result<clap::Command<'a>, AllocError>
-    ensures { IfOk result (λ c. app_of c ≡ with_run_options (app_of command.entry)) }
+    ensures { (app : App) → IfOk command.entry (λ c. app_of c ≡ app)
+        → IfOk result (λ c. app_of c ≡ with_run_options app) }
 {
-    let order = option(alloc, "order");
-    let compact_every = compact_every(alloc);
-    let most_bytes = most_bytes(alloc);
-    command.arg(order)?.arg(compact_every)?.arg(most_bytes)
+    let with_order = with_argument(command, option(alloc, "order"));
+    let with_compaction = with_argument(with_order, compact_every(alloc));
+    with_argument(with_compaction, most_bytes(alloc))
 }
 
 /// `run QUERIES EVENTS [--order walk|sorted] [--compact-every N] [--max-bytes N]`
 fn run<'a>(alloc: Global) -> Result<clap::Command<'a>, AllocError>
     ensures { IfOk result (λ c. app_of c ≡ run) }
 {
-    let files = over_files(alloc, "run")?;
-    with_run_options(alloc, files)
+    with_run_options(alloc, over_files(alloc, "run"))
 }
 
 /// `reorder QUERIES EVENTS CLOCK LATE`, with the options of a run.
 fn reorder<'a>(alloc: Global) -> Result<clap::Command<'a>, AllocError>
     ensures { IfOk result (λ c. app_of c ≡ reorder) }
 {
-    let clock = name(alloc, "clock");
-    let late = late(alloc);
-    let words = over_files(alloc, "reorder")?.arg(clock)?.arg(late)?;
-    with_run_options(alloc, words)
+    let with_clock = with_argument(over_files(alloc, "reorder"), name(alloc, "clock"));
+    with_run_options(alloc, with_argument(with_clock, late(alloc)))
+}
+
+/// How many events a sample has, at most 10000000.
+fn count<'a>(alloc: Global) -> Arg<'a>
+    ensures rule { rule_of result ≡ count }
+    ensures local { result.global ≡ false }
+{
+    name(alloc, "count").value_parser(value_parser!(u64).range(..=10000000))
 }
 
 /// `sample SEED COUNT`
 fn sample<'a>(alloc: Global) -> Result<clap::Command<'a>, AllocError>
     ensures { IfOk result (λ c. app_of c ≡ sample) }
 {
-    let seed = name(alloc, "seed").value_parser(value_parser!(u64));
-    let count = name(alloc, "count").value_parser(value_parser!(u64).range(..=10000000));
-    clap::Command::new(alloc, "sample").arg(seed)?.arg(count)
+    let command = Ok(clap::Command::new(alloc, "sample"));
+    let with_seed = with_argument(command, number(alloc, "seed"));
+    with_argument(with_seed, count(alloc))
 }
 
 /// `session QUERIES SCRIPT`
 fn session<'a>(alloc: Global) -> Result<clap::Command<'a>, AllocError>
     ensures { IfOk result (λ c. app_of c ≡ session) }
 {
-    let queries = name(alloc, "queries");
-    let script = name(alloc, "script");
-    clap::Command::new(alloc, "session")
-        .arg(queries)?
-        .arg(script)
+    let command = Ok(clap::Command::new(alloc, "session"));
+    let with_queries = with_argument(command, name(alloc, "queries"));
+    with_argument(with_queries, name(alloc, "script"))
 }
 
 /// `explain QUERIES EVENTS QUERY START END [POSITION]...`
 fn explain<'a>(alloc: Global) -> Result<clap::Command<'a>, AllocError>
     ensures { IfOk result (λ c. app_of c ≡ explain) }
 {
-    let query = number(alloc, "query");
-    let start = number(alloc, "start");
-    let end = number(alloc, "end");
-    let positions = numbers(alloc, "positions");
-    over_files(alloc, "explain")?
-        .arg(query)?
-        .arg(start)?
-        .arg(end)?
-        .arg(positions)
+    let with_query = with_argument(over_files(alloc, "explain"), number(alloc, "query"));
+    let with_start = with_argument(with_query, number(alloc, "start"));
+    let with_end = with_argument(with_start, number(alloc, "end"));
+    with_argument(with_end, numbers(alloc, "positions"))
 }
 
 /// `save QUERIES EVENTS`
@@ -187,38 +197,47 @@ fn save<'a>(alloc: Global) -> Result<clap::Command<'a>, AllocError>
 fn resume<'a>(alloc: Global) -> Result<clap::Command<'a>, AllocError>
     ensures { IfOk result (λ c. app_of c ≡ resume) }
 {
-    let queries = name(alloc, "queries");
-    let checkpoint = name(alloc, "checkpoint");
-    let events = name(alloc, "events");
-    let files = clap::Command::new(alloc, "resume")
-        .arg(queries)?
-        .arg(checkpoint)?
-        .arg(events)?;
-    with_run_options(alloc, files)
+    let command = Ok(clap::Command::new(alloc, "resume"));
+    let with_queries = with_argument(command, name(alloc, "queries"));
+    let with_checkpoint = with_argument(with_queries, name(alloc, "checkpoint"));
+    let with_events = with_argument(with_checkpoint, name(alloc, "events"));
+    with_run_options(alloc, with_events)
 }
 
-/// The command that has one of these as its subcommand, and no help and no version.
-fn program<'a>(alloc: Global) -> Result<clap::Command<'a>, AllocError>
-    ensures { IfOk result (λ c. app_of c ≡ program) }
+/// The program with one more command, where there was memory for both.
+fn with_command<'a>(
+    program: Result<clap::Command<'a>, AllocError>,
+    command: Result<clap::Command<'a>, AllocError>,
+) -> Result<clap::Command<'a>, AllocError>
+    requires { IfOk command (λ c. (app_of c).top.is_plain ≡ true) }
+    ensures { (above below : App) → IfOk program.entry (λ c. app_of c ≡ above)
+        → IfOk command.entry (λ c. app_of c ≡ below)
+        → IfOk result (λ c. app_of c ≡ with_subcommand above below.top) }
 {
-    let run = run(alloc)?;
-    let sample = sample(alloc)?;
-    let session = session(alloc)?;
-    let reorder = reorder(alloc)?;
-    let explain = explain(alloc)?;
-    let save = save(alloc)?;
-    let resume = resume(alloc)?;
+    program?.subcommand(command?)
+}
+
+/// A command with none below it yet, no help and no version.
+fn no_commands<'a>(alloc: Global) -> clap::Command<'a>
+    ensures { app_of result ≡ no_commands }
+{
     clap::Command::new(alloc, "core_cli")
         .no_binary_name(true)
         .disable_help_flag(true)
         .disable_help_subcommand(true)
         .disable_version_flag(true)
         .subcommand_required(true)
-        .subcommand(run)?
-        .subcommand(sample)?
-        .subcommand(session)?
-        .subcommand(reorder)?
-        .subcommand(explain)?
-        .subcommand(save)?
-        .subcommand(resume)
+}
+
+/// The command that has one of these as its subcommand, and no help and no version.
+fn program<'a>(alloc: Global) -> Result<clap::Command<'a>, AllocError>
+    ensures { IfOk result (λ c. app_of c ≡ program) }
+{
+    let with_run = with_command(Ok(no_commands(alloc)), run(alloc));
+    let with_sample = with_command(with_run, sample(alloc));
+    let with_session = with_command(with_sample, session(alloc));
+    let with_reorder = with_command(with_session, reorder(alloc));
+    let with_explain = with_command(with_reorder, explain(alloc));
+    let with_save = with_command(with_explain, save(alloc));
+    with_command(with_save, resume(alloc))
 }

@@ -3,7 +3,7 @@ ghost use Rattle.std.specs.Prelude.{◌≡◌, ◌++◌, [], IfOk, OnOk, Some, N
 ghost use Rattle.std.specs.List.{cons_option, filter_map};
 ghost use Rattle.clap.specs.Words.{found_of, rows_of, subcommand_rows_of};
 ghost use Rattle.cer_base.specs.Answers.{OnFault};
-ghost use Rattle.command_words.specs.CommandLine.{command_at, number_at, number_in, number_of, numbers_in};
+ghost use Rattle.command_words.specs.CommandLine.{command_at, command_named, number_at, number_in, number_of, numbers_in, other_named};
 ghost use Rattle.command_words.specs.CommandLine.{explain_in, order_in, order_of, reorder_in, resume_in, run_in, sample_in, save_in, session_in, text_in};
 
 use crate::{Command, Usage};
@@ -28,6 +28,20 @@ pub(crate) fn command_in(
     let Some((name, found)) = matches.subcommand() else {
         return Err(OrMemory::Fault(Usage));
     };
+    command_named(alloc, name, found)
+}
+
+/// The command of this name in what was found after it.
+fn command_named(
+    alloc: Global,
+    name: &str,
+    found: &ArgMatches<'_>,
+) -> Result<Command, OrMemory<Usage>>
+    ensures read { IfOk result (λ c. command_named name.now (rows_of (found_of found.now))
+        ≡ Some c) }
+    ensures none { OnFault result (λ u. command_named name.now (rows_of (found_of found.now))
+        ≡ None) }
+{
     if name == "run" {
         return run_in(alloc, found);
     }
@@ -40,6 +54,20 @@ pub(crate) fn command_in(
     if name == "reorder" {
         return reorder_in(alloc, found);
     }
+    other_named(alloc, name, found)
+}
+
+/// The same of the names that are not a run's, a sample's or a session's.
+fn other_named(
+    alloc: Global,
+    name: &str,
+    found: &ArgMatches<'_>,
+) -> Result<Command, OrMemory<Usage>>
+    ensures read { IfOk result (λ c. other_named name.now (rows_of (found_of found.now))
+        ≡ Some c) }
+    ensures none { OnFault result (λ u. other_named name.now (rows_of (found_of found.now))
+        ≡ None) }
+{
     if name == "explain" {
         return explain_in(alloc, found);
     }

@@ -76,7 +76,7 @@ fn cell_end(text: &[u8]) -> Option<usize>
 }
 
 /// The type of this name, with the values of the fields that follow.
-#[inline]
+#[inline(always)]
 #[tactic(auto, using(crate::proofs::CommonFields::typed))]
 fn read_typed(
     alloc: Global,

@@ -189,8 +189,29 @@ impl LineBuffer {
     }
 
     /// Reads on until it is decided how the first line ends. At most `room` bytes are then in no
-    /// line yet.
+    /// line yet. Mostly the line is at hand, and nothing is read.
+    #[inline(always)]
     pub fn seek<Q: Source>(&mut self, source: &mut Q, room: u64) -> Result<Stop, Failed>
+        requires { length self.old.pending ≤ room }
+        ensures bytes { ReadsOn (Q.left source.old)
+            (Q.left source.new) self.old.pending self.new.pending }
+        ensures room { length self.new.pending ≤ room }
+        ensures stop { IsStop room self.new.pending (Q.left source.new) result }
+        ensures cause { HasCause (Q.faults source.old) (Q.faults source.new) result }
+        ensures quiet { has_line_feed self.old.pending ≡ true → source.new ≡ source.old }
+    {
+        if let Some(place) = self.find() {
+            if place > LONGEST_LINE {
+                return Ok(Stop::Long);
+            }
+            return Ok(Stop::LineFeed(place));
+        }
+        self.seek_on(source, room)
+    }
+
+    /// The same, in as many steps as it takes.
+    #[inline(never)]
+    fn seek_on<Q: Source>(&mut self, source: &mut Q, room: u64) -> Result<Stop, Failed>
         requires { length self.old.pending ≤ room }
         ensures bytes { ReadsOn (Q.left source.old)
             (Q.left source.new) self.old.pending self.new.pending }

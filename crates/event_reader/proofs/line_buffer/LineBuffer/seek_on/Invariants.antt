@@ -2,7 +2,7 @@ use Rattle.cer_outside.specs.Bytes.{ReadsOn}
 -- What was taken and what is left stay the same, and no read has failed.
 use Rattle.std.proofs.Common.{◌≡◌, ◌-◌, ◌≤◌, true, length}
 use Rattle.event_reader.specs.Lines.{has_line_feed}
-use Rattle.event_reader.proofs.line_buffer.LineBuffer.seek.Given as goal
+use Rattle.event_reader.proofs.line_buffer.LineBuffer.seek_on.Given as goal
 
 abbrev pub invariant-loop-place : goal.invariant-loop-place
 invariant-loop-place g l = record {

@@ -132,7 +132,7 @@ fn refill(values: &mut Vec<Value>, len: usize) -> bool
 }
 
 /// Puts the values of the fields into the list, and says whether they are all and of these kinds.
-#[inline]
+#[inline(always)]
 #[tactic(auto, using(crate::proofs::CommonFields::at_first, crate::proofs::CommonFields::at_end))]
 fn read_fields(alloc: Global, kinds: &[Kind], fields: &[u8], values: &mut Vec<Value>) -> bool
     requires { length values.old.items ≡ length kinds.now }

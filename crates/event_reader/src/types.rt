@@ -24,7 +24,7 @@ impl Guesses {
     }
 
     /// The number of the schema's type of this name, or `None` where no type has it.
-    #[inline]
+    #[inline(always)]
     #[tactic(auto, using(crate::proofs::OfSchema::number_within))]
     pub fn type_of(&mut self, schema: &Schema, name: &[u8]) -> Option<TypeId>
         ensures place { result ≡ type_number schema.now.types name.now }

@@ -1,3 +1,10 @@
 mod grammar;
 mod parser;
 mod schema;
+
+use std::process::Abort;
+
+/// Holds what is shown against what is wanted of the row.
+pub fn same(rt: &impl Abort, shown: &str, wanted: &str, row: &str) {
+    assert_eq!(rt; shown, wanted, "{row}");
+}

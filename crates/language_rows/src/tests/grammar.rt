@@ -4,6 +4,7 @@ mod refused;
 mod shown;
 
 use crate::tests::grammar::shown::{answer, rows_hold};
+use crate::tests::same;
 use std::alloc::Global;
 use std::process::Abort;
 use std::test::*;
@@ -96,13 +97,24 @@ const FORMULAS: &[(&str, &str, &str)] = &[
     ),
 ];
 
+fn formula_holds(
+    rt: &impl Abort,
+    alloc: Global,
+    name: &str,
+    formula: &str,
+    read: &str,
+) -> Result<(), Fail> {
+    let text = format!(in alloc; "SELECT * FROM S WHERE {formula}")?;
+    let end = text.len() + 1;
+    let shown = answer(alloc, text.as_bytes())?;
+    let wanted = format!(in alloc; "1:1 select * from S where {read}\nend 1:{end}")?;
+    same(rt, shown.as_str(), wanted.as_str(), name);
+    Ok(())
+}
+
 fn formulas_hold(rt: &impl Abort, alloc: Global, rows: &[(&str, &str, &str)]) -> Result<(), Fail> {
     for (name, formula, read) in rows {
-        let text = format!(in alloc; "SELECT * FROM S WHERE {formula}")?;
-        let shown = answer(alloc, text.as_bytes())?;
-        let end = text.len() + 1;
-        let wanted = format!(in alloc; "1:1 select * from S where {read}\nend 1:{end}")?;
-        assert_eq!(rt; shown.as_str(), wanted.as_str(), "{name}");
+        formula_holds(rt, alloc, name, formula, read)?;
     }
     Ok(())
 }

@@ -4,6 +4,7 @@ mod limits;
 mod rows;
 
 use crate::tests::parser::rows::{BASE, answer, texts_hold};
+use crate::tests::same;
 use std::test::*;
 
 /// Queries after the base: the query, and its fault or what the text declares.
@@ -332,10 +333,12 @@ fn whole_texts(rt: HostRuntime) -> Result<(), Fail> {
     texts_hold(&rt, rt.alloc(), "", "", TEXTS)
 }
 
+/// A string with a byte that is no text.
+const NO_UTF8: &[u8] = b"SELECT * FROM S WHERE A FILTER A[s = '\xFF']";
+
 #[test]
 fn a_string_has_to_be_utf8(rt: HostRuntime) -> Result<(), Fail> {
-    let text: &[u8] = b"SELECT * FROM S WHERE A FILTER A[s = '\xFF']";
-    let shown = answer(rt.alloc(), text)?;
-    assert_eq!(rt; shown.as_str(), "1:38 string is not UTF-8");
+    let shown = answer(rt.alloc(), NO_UTF8)?;
+    same(&rt, shown.as_str(), "1:38 string is not UTF-8", "a string");
     Ok(())
 }

@@ -1,5 +1,6 @@
 use cer_base::{Listed, Memory, OrMemory, Text};
 use std::alloc::Global;
+use std::process::Abort;
 use std::test::Fail;
 use stream_schema::{Attr, AttrAt, Attrs, Kind, Schema, SchemaFault, Texts, TypeId};
 
@@ -42,56 +43,117 @@ fn declare_stream(
     schema.declare_stream(name, &given)
 }
 
+/// What a row shows, a type's name, its attributes, and how its declaration ends.
+const EVENTS: &[(&str, &str, [&str; 2], Result<TypeId, OrMemory<SchemaFault>>)] = &[
+    ("the first type has the number 0", "A", ["v", "w"], Ok(0)),
+    (
+        "an attribute stands twice",
+        "B",
+        ["v", "v"],
+        Err(OrMemory::Fault(SchemaFault::AttrTwice)),
+    ),
+    (
+        "a type's name is taken, which is told first",
+        "A",
+        ["v", "v"],
+        Err(OrMemory::Fault(SchemaFault::NameTaken)),
+    ),
+    ("the second type has the number 1", "B", ["w", "v"], Ok(1)),
+];
+
 /// The first type whose declaration ends in another way.
 fn wrong_event(alloc: Global, schema: &mut Schema) -> Option<&'static str> {
-    for (row, name, names, wanted) in [
-        ("the first type has the number 0", "A", ["v", "w"], Ok(0)),
-        (
-            "an attribute stands twice",
-            "B",
-            ["v", "v"],
-            Err(OrMemory::Fault(SchemaFault::AttrTwice)),
-        ),
-        (
-            "a type's name is taken, which is told first",
-            "A",
-            ["v", "v"],
-            Err(OrMemory::Fault(SchemaFault::NameTaken)),
-        ),
-        ("the second type has the number 1", "B", ["w", "v"], Ok(1)),
-    ] {
-        if declare_event(alloc, schema, name, &names) != wanted {
+    for (row, name, names, wanted) in EVENTS {
+        if declare_event(alloc, schema, name, names) != *wanted {
+            return Some(*row);
+        }
+    }
+    None
+}
+
+/// What a row shows, a stream's name, its types, and how its declaration ends.
+const STREAMS: &[(&str, &str, [&str; 2], Result<(), OrMemory<SchemaFault>>)] = &[
+    (
+        "a name is no type's",
+        "S",
+        ["B", "C"],
+        Err(OrMemory::Fault(SchemaFault::UnknownType)),
+    ),
+    (
+        "a type's name is taken, which is told first",
+        "A",
+        ["B", "C"],
+        Err(OrMemory::Fault(SchemaFault::NameTaken)),
+    ),
+    ("a type may be named twice", "S", ["B", "B"], Ok(())),
+    (
+        "a stream's name is taken",
+        "S",
+        ["A", "B"],
+        Err(OrMemory::Fault(SchemaFault::NameTaken)),
+    ),
+    ("a second stream", "T", ["B", "A"], Ok(())),
+];
+
+/// The first stream whose declaration ends in another way.
+fn wrong_stream(alloc: Global, schema: &mut Schema) -> Option<&'static str> {
+    for (row, name, names, wanted) in STREAMS {
+        if declare_stream(alloc, schema, name, names) != *wanted {
+            return Some(*row);
+        }
+    }
+    None
+}
+
+/// What a row shows, a name, and the type that it is.
+const TYPES: &[(&str, &str, Option<TypeId>)] = &[
+    ("type B", "B", Some(1)),
+    ("a stream is no type", "S", None),
+];
+
+fn wrong_type(schema: &Schema) -> Option<&'static str> {
+    for &(row, name, wanted) in TYPES {
+        if schema.type_of(name) != wanted {
             return Some(row);
         }
     }
     None
 }
 
-/// The first stream whose declaration ends in another way.
-fn wrong_stream(alloc: Global, schema: &mut Schema) -> Option<&'static str> {
-    for (row, name, names, wanted) in [
-        (
-            "a name is no type's",
-            "S",
-            ["B", "C"],
-            Err(OrMemory::Fault(SchemaFault::UnknownType)),
-        ),
-        (
-            "a type's name is taken, which is told first",
-            "A",
-            ["B", "C"],
-            Err(OrMemory::Fault(SchemaFault::NameTaken)),
-        ),
-        ("a type may be named twice", "S", ["B", "B"], Ok(())),
-        (
-            "a stream's name is taken",
-            "S",
-            ["A", "B"],
-            Err(OrMemory::Fault(SchemaFault::NameTaken)),
-        ),
-        ("a second stream", "T", ["B", "A"], Ok(())),
-    ] {
-        if declare_stream(alloc, schema, name, &names) != wanted {
+/// What a row shows, a name, and how many types the stream has that it is.
+const COUNTS: &[(&str, &str, Option<usize>)] = &[
+    ("B counts once in S", "S", Some(1)),
+    ("T has both types", "T", Some(2)),
+    ("a type is no stream", "A", None),
+];
+
+fn wrong_count(schema: &Schema) -> Option<&'static str> {
+    for &(row, name, wanted) in COUNTS {
+        if count(schema, name) != wanted {
+            return Some(row);
+        }
+    }
+    None
+}
+
+/// What a row shows, a type, a name, and the attribute that it is.
+const ATTRIBUTES: &[(&str, TypeId, &str, Option<AttrAt>)] = &[
+    (
+        "v of B",
+        1,
+        "v",
+        Some(AttrAt {
+            index: 1,
+            kind: Kind::Dec(2),
+        }),
+    ),
+    ("no x in B", 1, "x", None),
+    ("no third type", 2, "v", None),
+];
+
+fn wrong_attribute(schema: &Schema) -> Option<&'static str> {
+    for &(row, ty, name, wanted) in ATTRIBUTES {
+        if schema.attr(ty, name) != wanted {
             return Some(row);
         }
     }
@@ -100,27 +162,15 @@ fn wrong_stream(alloc: Global, schema: &mut Schema) -> Option<&'static str> {
 
 /// The first look-up that answers otherwise.
 fn wrong_look_up(schema: &Schema) -> Option<&'static str> {
-    let second = AttrAt {
-        index: 1,
-        kind: Kind::Dec(2),
-    };
-    for (row, agrees) in [
-        ("two types", schema.types() == 2),
-        ("type B", schema.type_of("B") == Some(1)),
-        ("a stream is no type", schema.type_of("S") == None),
-        ("B counts once in S", count(schema, "S") == Some(1)),
-        ("T has both types", count(schema, "T") == Some(2)),
-        ("a type is no stream", count(schema, "A") == None),
-        ("the kinds of B", kinds(schema, 1) == 2),
-        ("v of B", schema.attr(1, "v") == Some(second)),
-        ("no x in B", schema.attr(1, "x") == None),
-        ("no third type", schema.attr(2, "v") == None),
-    ] {
-        if !agrees {
-            return Some(row);
-        }
+    if schema.types() != 2 {
+        return Some("two types");
     }
-    None
+    if kinds(schema, 1) != 2 {
+        return Some("the kinds of B");
+    }
+    wrong_type(schema)
+        .or(wrong_count(schema))
+        .or(wrong_attribute(schema))
 }
 
 /// How many kinds the type has, 0 where it is not declared.
@@ -147,14 +197,18 @@ fn wrong_in_a_copy(alloc: Global, schema: &Schema) -> Option<&'static str> {
     }
 }
 
+fn none_is_wrong(rt: &impl Abort, row: Option<&'static str>) {
+    assert_eq!(rt; row, None);
+}
+
 /// The types A(v, w) and B(w, v) and the streams S(B) and T(B, A), with wrong declarations between.
 #[test]
 fn declarations_in_turn(rt: HostRuntime) -> Result<(), Fail> {
     let alloc = rt.alloc();
     let mut schema = Schema::new(alloc);
-    assert_eq!(rt; wrong_event(alloc, &mut schema), None);
-    assert_eq!(rt; wrong_stream(alloc, &mut schema), None);
-    assert_eq!(rt; wrong_look_up(&schema), None);
-    assert_eq!(rt; wrong_in_a_copy(alloc, &schema), None);
+    none_is_wrong(&rt, wrong_event(alloc, &mut schema));
+    none_is_wrong(&rt, wrong_stream(alloc, &mut schema));
+    none_is_wrong(&rt, wrong_look_up(&schema));
+    none_is_wrong(&rt, wrong_in_a_copy(alloc, &schema));
     Ok(())
 }

@@ -1,6 +1,7 @@
 //! Texts that are refused, and how deeply parentheses may nest.
 
 use crate::tests::grammar::shown::{answer, rows_hold};
+use crate::tests::same;
 use std::alloc::{AllocError, Global};
 use std::process::Abort;
 use std::test::*;
@@ -357,7 +358,7 @@ fn nested_hold(rt: &impl Abort, alloc: Global, rows: &[NestedText]) -> Result<()
     for row in rows {
         let text = text_of(alloc, row)?;
         let shown = answer(alloc, text.as_bytes())?;
-        assert_eq!(rt; shown.as_str(), row.wanted, "{}", row.name);
+        same(rt, shown.as_str(), row.wanted, row.name);
     }
     Ok(())
 }

@@ -1,8 +1,9 @@
 //! Statements and faults as texts.
 
-use cel_terms::{Filter, Formula, Link, Name, Op, Postfix, Pred, Window};
-use ceql_grammar::{KindDecl, NumberAt, QueryError, Select, Statement, parse};
-use ceql_lexer::lex;
+use crate::tests::same;
+use cel_terms::{Filter, Formula, Link, Name, Op, Postfix, Pred, Query, Window};
+use ceql_grammar::{AttrDecl, KindDecl, NumberAt, QueryError, Script, Select, Statement, parse};
+use ceql_lexer::{Tokens, lex};
 use cer_base::OrMemory;
 use std::alloc::{AllocError, Global};
 use std::process::Abort;
@@ -226,11 +227,9 @@ fn push_window(alloc: Global, out: &mut String, window: &Window) -> Result<(), A
     }
 }
 
-fn push_select(alloc: Global, out: &mut String, select: &Select) -> Result<(), AllocError> {
-    let query = &select.query;
-    let place = format!(in alloc; "{}:{} select ", query.place.line, query.place.col)?;
-    out.push_str(place.as_str())?;
-    if query.strict {
+/// What stands between `select` and the names.
+fn push_modes(alloc: Global, out: &mut String, select: &Select) -> Result<(), AllocError> {
+    if select.query.strict {
         out.push_str("strict ")?;
     }
     if let Some(number) = select.any {
@@ -238,19 +237,60 @@ fn push_select(alloc: Global, out: &mut String, select: &Select) -> Result<(), A
         push_number(alloc, out, number)?;
         out.push_str(" ")?;
     }
+    Ok(())
+}
+
+fn push_selected(out: &mut String, query: &Query) -> Result<(), AllocError> {
     match &query.select {
         None => out.push_str("*")?,
         Some(names) => push_names(out, names.as_slice())?,
     }
     out.push_str(" from ")?;
-    push_names(out, query.streams.as_slice())?;
+    push_names(out, query.streams.as_slice())
+}
+
+fn push_partition(out: &mut String, names: &[Name]) -> Result<(), AllocError> {
+    if names.is_empty() {
+        return Ok(());
+    }
+    out.push_str(" by ")?;
+    push_names(out, names)
+}
+
+/// What stands behind `where`.
+fn push_query(alloc: Global, out: &mut String, query: &Query) -> Result<(), AllocError> {
     out.push_str(" where ")?;
     push_formula(alloc, out, &query.formula)?;
-    if !query.partition.as_slice().is_empty() {
-        out.push_str(" by ")?;
-        push_names(out, query.partition.as_slice())?;
-    }
+    push_partition(out, query.partition.as_slice())?;
     push_window(alloc, out, &query.window)
+}
+
+fn push_select(alloc: Global, out: &mut String, select: &Select) -> Result<(), AllocError> {
+    let place = select.query.place;
+    let place = format!(in alloc; "{}:{} select ", place.line, place.col)?;
+    out.push_str(place.as_str())?;
+    push_modes(alloc, out, select)?;
+    push_selected(out, &select.query)?;
+    push_query(alloc, out, &select.query)
+}
+
+fn push_attributes(alloc: Global, out: &mut String, attrs: &[AttrDecl]) -> Result<(), AllocError> {
+    let mut comma = "";
+    for attr in attrs {
+        out.push_str(comma)?;
+        out.push_str(attr.name.text.as_str())?;
+        out.push_str(" ")?;
+        push_kind(alloc, out, attr.kind)?;
+        comma = ",";
+    }
+    Ok(())
+}
+
+/// What is declared, with its name.
+fn push_declared(out: &mut String, what: &str, name: &Name) -> Result<(), AllocError> {
+    out.push_str(what)?;
+    out.push_str(name.text.as_str())?;
+    out.push_str("(")
 }
 
 fn push_statement(
@@ -260,26 +300,12 @@ fn push_statement(
 ) -> Result<(), AllocError> {
     match statement {
         Statement::Event(name, attrs) => {
-            out.push_str("event ")?;
-            out.push_str(name.text.as_str())?;
-            let mut before = "(";
-            for attr in attrs.as_slice() {
-                out.push_str(before)?;
-                out.push_str(attr.name.text.as_str())?;
-                out.push_str(" ")?;
-                push_kind(alloc, out, attr.kind)?;
-                before = ",";
-            }
-            out.push_str(if attrs.as_slice().is_empty() {
-                "()"
-            } else {
-                ")"
-            })
+            push_declared(out, "event ", name)?;
+            push_attributes(alloc, out, attrs.as_slice())?;
+            out.push_str(")")
         }
         Statement::Stream(name, types) => {
-            out.push_str("stream ")?;
-            out.push_str(name.text.as_str())?;
-            out.push_str("(")?;
+            push_declared(out, "stream ", name)?;
             push_names(out, types.as_slice())?;
             out.push_str(")")
         }
@@ -287,33 +313,39 @@ fn push_statement(
     }
 }
 
+/// The statements, each on a line of its own, and their end.
+fn script_text(alloc: Global, script: &Script) -> Result<String, AllocError> {
+    let mut out = String::new(alloc);
+    for statement in script.statements.as_slice() {
+        push_statement(alloc, &mut out, statement)?;
+        out.push_str("\n")?;
+    }
+    let end = format!(in alloc; "end {}:{}", script.end.line, script.end.col)?;
+    out.push_str(end.as_str())?;
+    Ok(out)
+}
+
 /// The place of the fault, and its words.
 fn fault_text(alloc: Global, error: &QueryError) -> Result<String, AllocError> {
     format!(in alloc; "{}:{} {}", error.place.line, error.place.col, error.fault)
 }
 
-/// The statements of the text, each on a line of its own, and its end; or its fault and the place.
-pub fn answer(alloc: Global, text: &[u8]) -> Result<String, AllocError> {
-    let tokens = match lex(alloc, text) {
-        Ok(tokens) => tokens,
-        Err(_) => return format!(in alloc; "no tokens"),
-    };
+fn parsed(alloc: Global, tokens: &Tokens) -> Result<String, AllocError> {
     if tokens.as_slice().is_empty() {
-        return format!(in alloc; "no tokens");
+        return "no tokens".to_string(alloc);
     }
-    match parse(alloc, &tokens) {
-        Ok(script) => {
-            let mut out = String::new(alloc);
-            for statement in script.statements.as_slice() {
-                push_statement(alloc, &mut out, statement)?;
-                out.push_str("\n")?;
-            }
-            let end = format!(in alloc; "end {}:{}", script.end.line, script.end.col)?;
-            out.push_str(end.as_str())?;
-            Ok(out)
-        }
+    match parse(alloc, tokens) {
+        Ok(script) => script_text(alloc, &script),
         Err(OrMemory::Fault(error)) => fault_text(alloc, &error),
         Err(OrMemory::Memory) => Err(AllocError),
+    }
+}
+
+/// The statements of the text, each on a line of its own, and its end; or its fault and the place.
+pub fn answer(alloc: Global, text: &[u8]) -> Result<String, AllocError> {
+    match lex(alloc, text) {
+        Ok(tokens) => parsed(alloc, &tokens),
+        Err(_) => "no tokens".to_string(alloc),
     }
 }
 
@@ -321,7 +353,7 @@ pub fn answer(alloc: Global, text: &[u8]) -> Result<String, AllocError> {
 pub fn rows_hold(rt: &impl Abort, alloc: Global, rows: &[(&str, &str, &str)]) -> Result<(), Fail> {
     for (name, text, wanted) in rows {
         let shown = answer(alloc, text.as_bytes())?;
-        assert_eq!(rt; shown.as_str(), *wanted, "{name}");
+        same(rt, shown.as_str(), wanted, name);
     }
     Ok(())
 }

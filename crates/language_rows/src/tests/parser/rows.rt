@@ -1,10 +1,12 @@
 //! What a text has, as tests show it, and rows of texts that are held against it.
 
+use crate::tests::same;
 use ceql_parser::{QueryError, read_queries};
 use cer_base::OrMemory;
 use std::alloc::{AllocError, Global};
 use std::process::Abort;
 use std::test::*;
+use stream_schema::Schema;
 
 /// Declarations that most texts begin with.
 pub const BASE: &str = "DECLARE EVENT A(v INT)\nDECLARE EVENT B(v INT)\nDECLARE STREAM S(A, B)\n";
@@ -14,18 +16,24 @@ fn told(alloc: Global, error: &QueryError) -> Result<String, AllocError> {
     format!(in alloc; "{}:{} {}", error.place.line, error.place.col, error.fault)
 }
 
+/// How many types the stream S has.
+fn types_of_s(schema: &Schema) -> usize {
+    match schema.streams("S") {
+        Some(types) => types.as_slice().len(),
+        None => 0,
+    }
+}
+
+fn counts(alloc: Global, schema: &Schema, queries: usize) -> Result<String, AllocError> {
+    let types = schema.types();
+    let of_stream = types_of_s(schema);
+    format!(in alloc; "{types} types, {of_stream} in S, {queries} queries")
+}
+
 /// The first fault of the text, or how many types it has, how many the stream S, and how many queries.
 pub fn answer(alloc: Global, text: &[u8]) -> Result<String, AllocError> {
     match read_queries(alloc, text) {
-        Ok(accepted) => {
-            let types = accepted.schema.types();
-            let of_stream = accepted
-                .schema
-                .streams("S")
-                .map_or(0, |types| types.as_slice().len());
-            let queries = accepted.queries.as_slice().len();
-            format!(in alloc; "{types} types, {of_stream} in S, {queries} queries")
-        }
+        Ok(accepted) => counts(alloc, &accepted.schema, accepted.queries.as_slice().len()),
         Err(OrMemory::Fault(error)) => told(alloc, &error),
         Err(OrMemory::Memory) => Err(AllocError),
     }
@@ -42,7 +50,7 @@ pub fn texts_hold(
     for (row, wanted) in rows {
         let text = format!(in alloc; "{before}{row}{after}")?;
         let shown = answer(alloc, text.as_bytes())?;
-        assert_eq!(rt; shown.as_str(), *wanted, "{row}");
+        same(rt, shown.as_str(), wanted, row);
     }
     Ok(())
 }
@@ -71,13 +79,8 @@ pub fn long_texts_hold(rt: &impl Abort, alloc: Global, rows: &[LongText]) -> Res
     for row in rows {
         let text = long_text(alloc, row)?;
         let shown = answer(alloc, text.as_bytes())?;
-        assert_eq!(rt;
-            shown.as_str(),
-            row.wanted,
-            "{} times {}",
-            row.times,
-            row.part
-        );
+        let name = format!(in alloc; "{} times {}", row.times, row.part)?;
+        same(rt, shown.as_str(), row.wanted, name.as_str());
     }
     Ok(())
 }

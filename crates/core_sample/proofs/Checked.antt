@@ -1,6 +1,6 @@
 -- The two queries are checked for the schema.
-use Rattle.std.proofs.Common.{◌≡◌, ℕ, zero, suc, ◌+◌, ◌*◌, ◌<◌, ◌≤◌, List, [], ◌∷◌, ◌++◌, length, sym, ◌∙◌, ap, ap₂, refl, subst, arith, codes, pos, rules}
-use Rattle.std.specs.Prelude.{◌≢◌, slice_index_or, All, Any, Contains, IfSome, slice_get}
+use Rattle.std.proofs.Common.{◌≡◌, ℕ, zero, suc, ◌+◌, ◌*◌, ◌<◌, ◌≤◌, List, [], ◌∷◌, ◌++◌, sym, ◌∙◌, ap, ap₂, refl, subst, arith, codes, pos}
+use Rattle.std.specs.Prelude.{◌≢◌, slice_index_or, All, Contains, IfSome, slice_get}
 use Rattle.std.specs.List.{filter_map}
 use Rattle.std.proofs.lemmas.List.Elements.{All-nil, All-cons}
 use Rattle.cer_base.specs.declared.limits.TheConstants.{MOST_LEAVES}

@@ -1,6 +1,6 @@
 -- A round of the count: an event more is taken, and its answers are added.
-use Rattle.std.proofs.Common.{◌≡◌, ℕ, zero, suc, ◌+◌, ◌-◌, ◌*◌, ◌/◌, ◌%◌, ◌^◌, ◌<◌, ◌≤◌, List, [], ◌∷◌, ◌++◌, length, Some, slice_get, sym, ◌∙◌, ap, refl, subst, arith, add-one}
-use Rattle.std.specs.Prelude.{IsSomeAnd, pos}
+use Rattle.std.proofs.Common.{◌≡◌, ℕ, zero, suc, ◌+◌, ◌-◌, ◌/◌, ◌%◌, ◌^◌, ◌<◌, List, [], ◌∷◌, ◌++◌, length, Some, slice_get, sym, ◌∙◌, ap, refl, subst, arith, add-one}
+use Rattle.std.specs.Prelude.{pos}
 use Rattle.std.proofs.lemmas.List.{length_push}
 use Rattle.stream_schema.specs.Types.{Declared}
 use Rattle.stream_schema.specs.declared.Event.{Event}
@@ -9,24 +9,11 @@ use Rattle.stream_schema.specs.Events.{IsOfSchema}
 use Rattle.cel_terms.specs.declared.Query.{Query}
 use Rattle.query_engine.specs.Engine.{State, StandsFor, count_of}
 use Rattle.core_sample.specs.Generator.{event_of, next_value, value_after, generated}
-use Rattle.core_sample.specs.Queries.{sample_schema, IsFirstQuery, IsSecondQuery, AreQueries}
-use Rattle.core_sample.specs.Tallies.{IsTally, IsTallyAt}
+use Rattle.core_sample.specs.Queries.{sample_schema, AreQueries}
+use Rattle.core_sample.specs.Tallies.{IsTallyAt}
 use Rattle.core_sample.specs.Summary.{IsToldOf, AreToldOf}
+use Rattle.core_sample.specs.Progress.{IsAt}
 use Rattle.core_sample.proofs.Sums.{added_mod}
-
--- So many events were taken, and all answers up to there are added.
-pub record IsAt (seed n : ℕ) (engine : State) (x a t b u : ℕ) : Type 0 where
-  pub first : Query
-  pub second : Query
-  pub first_is : IsFirstQuery first
-  pub second_is : IsSecondQuery second
-  pub schema : engine.schema ≡ sample_schema
-  pub queries : engine.queries ≡ first ∷ second ∷ []
-  pub stands : StandsFor engine (generated seed n)
-  pub count : count_of engine ≡ n
-  pub value : x ≡ value_after seed n
-  pub first_told : IsToldOf seed n first a t
-  pub second_told : IsToldOf seed n second b u
 
 of_type : (ty v : ℕ) → ty < 2 → IsOfSchema sample_schema (record { ty = ty; values = Int (pos v) ∷ [] })
 of_type zero v below = (tt, tt)

@@ -2,3 +2,4 @@ pub mod Generator
 pub mod Queries
 pub mod Tallies
 pub mod Summary
+pub mod Progress

@@ -1,5 +1,5 @@
 -- The schema and the two queries of the sample, as the terms of their text.
-use Rattle.std.specs.Prelude.{◌≡◌, ℕ, ◌⊎◌, pos, false, List, [], ◌∷◌, None, codes}
+use Rattle.std.specs.Prelude.{◌≡◌, ℕ, pos, false, List, [], ◌∷◌, None, codes}
 use Rattle.stream_schema.specs.Types.{Declared}
 use Rattle.stream_schema.specs.declared.Attr.{Attr}
 use Rattle.stream_schema.specs.declared.Kind.TheVariants as kind
@@ -57,13 +57,22 @@ abbrev pub AreAllOf : List Filter → List Filter → Type 0
 AreAllOf parts (filter.All' s row ∷ []) = AreFilters parts row
 AreAllOf parts _ = ⊥
 
+-- A AS a, B AS b
+abbrev pub first_parts : List (Formula → Type 0)
+first_parts =
+    IsPostOf (Of (name_at (codes "A") 4 23)) (Named (name_at (codes "a") 4 28) ∷ [])
+    ∷ IsPostOf (Of (name_at (codes "B") 4 32)) (Named (name_at (codes "b") 4 37) ∷ []) ∷ []
+
+-- a[v < 64], b[v < 64]
+abbrev pub first_filters : List Filter
+first_filters =
+    On (name_at (codes "a") 4 46) (Cmp (name_at (codes "v") 4 48) Lt (Int (pos 64)))
+    ∷ On (name_at (codes "b") 4 60) (Cmp (name_at (codes "v") 4 62) Lt (Int (pos 64))) ∷ []
+
 -- A AS a ; B AS b FILTER a[v < 64] AND b[v < 64]
 abbrev pub IsFirstFormula : Formula → Type 0
 IsFirstFormula (Under' p f filters) =
-    IsChainOf (IsPostOf (Of (name_at (codes "A") 4 23)) (Named (name_at (codes "a") 4 28) ∷ [])
-    ∷ IsPostOf (Of (name_at (codes "B") 4 32)) (Named (name_at (codes "b") 4 37) ∷ []) ∷ []) f
-    × AreAllOf (On (name_at (codes "a") 4 46) (Cmp (name_at (codes "v") 4 48) Lt (Int (pos 64)))
-    ∷ On (name_at (codes "b") 4 60) (Cmp (name_at (codes "v") 4 62) Lt (Int (pos 64))) ∷ []) filters.items
+    IsChainOf first_parts f × AreAllOf first_filters filters.items
 IsFirstFormula _ = ⊥
 
 -- A+ ; B

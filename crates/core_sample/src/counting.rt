@@ -9,6 +9,7 @@ ghost use Rattle.query_engine.specs.Holding.{answer_of};
 ghost use Rattle.core_sample.specs.Queries.{sample_schema, AreQueries};
 ghost use Rattle.core_sample.specs.Tallies.{weight_of, IsTallyAt};
 ghost use Rattle.core_sample.specs.Summary.{AreToldOf};
+ghost use Rattle.core_sample.specs.Progress.{IsAt};
 
 use crate::generator::sample_event;
 use crate::queries::{sample_queries, sample_schema};
@@ -112,6 +113,57 @@ fn take<L: Ledger>(engine: &mut Engine, event: &Event, steps: &mut Steps<L>) -> 
     }
 }
 
+/// One event more, made after the value `x`: the value that made it, and the tallies with its answers.
+fn round<L: Ledger>(
+    alloc: Global,
+    engine: &mut Engine,
+    x: u64,
+    first: Tally,
+    second: Tally,
+    steps: &mut Steps<L>,
+) -> Result<(u64, Tally, Tally), Memory>
+    requires schema { engine.old.schema ≡ sample_schema }
+    requires queries { AreQueries engine.old.queries }
+    requires room { count_of engine.old + 1 < 2 ^ 64 }
+    ensures { IfOk result (λ told. (seed n : ℕ)
+        → IsAt seed n engine.old x first.answers first.total second.answers second.total
+        → IsAt seed (n + 1) engine.new told.0 told.1.answers told.1.total
+        told.2.answers told.2.total) }
+{
+    let (next, event) = sample_event(alloc, x)?;
+    take(engine, &event, steps)?;
+    let one = tally_at(engine, 1, steps)?;
+    let two = tally_at(engine, 2, steps)?;
+    Ok((next, joined(first, one), joined(second, two)))
+}
+
+/// The tallies of both queries, after so many events that the seed makes.
+fn rounds<L: Ledger>(
+    alloc: Global,
+    engine: &mut Engine,
+    seed: u64,
+    count: u64,
+    steps: &mut Steps<L>,
+) -> Result<(Tally, Tally), Memory>
+    requires schema { engine.old.schema ≡ sample_schema }
+    requires queries { AreQueries engine.old.queries }
+    requires stands { StandsFor engine.old [] }
+    requires fresh { count_of engine.old ≡ 0 }
+    ensures { IfOk result (λ told. AreToldOf seed count told.0.answers told.0.total
+        told.1.answers told.1.total) }
+{
+    let mut x = seed;
+    let mut first = nothing();
+    let mut second = nothing();
+    for i in 0..count {
+        let (next, one, two) = round(alloc, engine, x, first, second, steps)?;
+        x = next;
+        first = one;
+        second = two;
+    }
+    Ok((first, second))
+}
+
 /// The tallies of both queries over so many events that the seed makes.
 pub fn counted<L: Ledger>(
     alloc: Global,
@@ -123,15 +175,5 @@ pub fn counted<L: Ledger>(
         told.1.answers told.1.total) }
 {
     let mut engine = sample_engine(alloc)?;
-    let mut x = seed;
-    let mut first = nothing();
-    let mut second = nothing();
-    for i in 0..count {
-        let (next, event) = sample_event(alloc, x)?;
-        x = next;
-        take(&mut engine, &event, steps)?;
-        first = joined(first, tally_at(&engine, 1, steps)?);
-        second = joined(second, tally_at(&engine, 2, steps)?);
-    }
-    Ok((first, second))
+    rounds(alloc, &mut engine, seed, count, steps)
 }

@@ -1,13 +1,14 @@
 //! The schema and the queries of the sample, built as terms.
 
-ghost use Rattle.std.specs.Prelude.{◌≡◌, [], ◌∷◌, IfOk};
+ghost use Rattle.std.specs.Prelude.{◌≡◌, [], ◌∷◌, IfOk, OnOk};
 ghost use Rattle.cel_terms.specs.declared.Formula.{Formula, Of};
 ghost use Rattle.cel_terms.specs.declared.Pred.{Cmp};
 ghost use Rattle.cel_terms.specs.declared.Filter.{On};
 ghost use Rattle.stream_schema.specs.declared.Op.TheVariants.{Lt};
+ghost use Rattle.cel_terms.specs.declared.Postfix.TheVariants.{Named};
 ghost use Rattle.stream_schema.specs.declared.Value.TheVariants.{Int};
 ghost use Rattle.std.specs.Prelude.{pos, codes, ◌+◌, ◌<◌, ◌^◌};
-ghost use Rattle.core_sample.specs.Queries.{sample_schema, sample_attrs, name_at, IsPostOf, IsFirstFormula, IsSecondFormula, AreQueries, IsOfStream};
+ghost use Rattle.core_sample.specs.Queries.{sample_schema, sample_attrs, name_at, IsPostOf, IsChainOf, AreAllOf, first_parts, first_filters, IsFirstFormula, IsSecondFormula, AreQueries, IsOfStream};
 
 use cel_terms::{Filter, Formula, Name, Postfix, Pred, Query, Window};
 use cer_base::{Listed, Memory, OrMemory, Place, Text};
@@ -30,22 +31,40 @@ fn attrs(alloc: Global) -> Result<Attrs, Memory>
     Ok(Listed::of(vec![in alloc; v]?))
 }
 
-/// The schema with its two types and its stream.
-pub fn sample_schema(alloc: Global) -> Result<Schema, Memory>
-    ensures { IfOk result (λ schema. schema ≡ sample_schema) }
+/// The names of the types.
+fn type_names(alloc: Global) -> Result<Listed<Text>, Memory>
+    ensures { IfOk result (λ names. names ≡ codes "A" ∷ codes "B" ∷ []) }
+{
+    let a = Text::copy_of(alloc, "A")?;
+    let b = Text::copy_of(alloc, "B")?;
+    Ok(Listed::of(vec![in alloc; a, b]?))
+}
+
+/// Declares the two types and the stream.
+fn declare_all(alloc: Global, schema: &mut Schema) -> Result<(), Memory>
+    requires { schema.old ≡ record { types = []; streams = [] } }
+    ensures { OnOk result (schema.new ≡ sample_schema) }
 {
     let attrs = attrs(alloc)?;
-    let names = Listed::of(vec![in alloc; Text::copy_of(alloc, "A")?, Text::copy_of(alloc, "B")?]?);
-    let mut schema = Schema::new(alloc);
+    let names = type_names(alloc)?;
     if let Err(stop) = schema.declare_event("A", &attrs) {
         return Err(memory_of(stop));
     }
     if let Err(stop) = schema.declare_event("B", &attrs) {
         return Err(memory_of(stop));
     }
-    if let Err(stop) = schema.declare_stream("S", &names) {
-        return Err(memory_of(stop));
+    match schema.declare_stream("S", &names) {
+        Ok(_) => Ok(()),
+        Err(stop) => Err(memory_of(stop)),
     }
+}
+
+/// The schema with its two types and its stream.
+pub fn sample_schema(alloc: Global) -> Result<Schema, Memory>
+    ensures { IfOk result (λ schema. schema ≡ sample_schema) }
+{
+    let mut schema = Schema::new(alloc);
+    declare_all(alloc, &mut schema)?;
     Ok(schema)
 }
 
@@ -77,22 +96,40 @@ fn is_small(alloc: Global, name: &str, col: u64) -> Result<Filter, Memory>
     ))
 }
 
+/// A type of the fourth line with a name after it, each at its column.
+fn named(alloc: Global, ty: &str, ty_col: u64, name: &str, col: u64) -> Result<Formula, Memory>
+    ensures { IfOk result (IsPostOf (Of (name_at ty.now 4 ty_col))
+        (Named (name_at name.now 4 col) ∷ [])) }
+{
+    let ty = name_at(alloc, ty, 4, ty_col)?;
+    let name = name_at(alloc, name, 4, col)?;
+    post(alloc, ty, Postfix::Named(name))
+}
+
+/// A AS a ; B AS b
+fn first_chain(alloc: Global) -> Result<Formula, Memory>
+    ensures { IfOk result (IsChainOf first_parts) }
+{
+    let a = named(alloc, "A", 23, "a", 28)?;
+    let b = named(alloc, "B", 32, "b", 37)?;
+    Ok(Formula::Chain(vec![in alloc; a, b]?))
+}
+
+/// Both values are small.
+fn both_small(alloc: Global) -> Result<Filter, Memory>
+    ensures { IfOk result (λ both. AreAllOf first_filters (both ∷ [])) }
+{
+    let a = is_small(alloc, "a", 46)?;
+    let b = is_small(alloc, "b", 60)?;
+    Ok(Filter::All(vec![in alloc; a, b]?))
+}
+
 fn first_formula(alloc: Global) -> Result<Formula, Memory>
     ensures { IfOk result IsFirstFormula }
 {
-    let a = post(
-        alloc,
-        name_at(alloc, "A", 4, 23)?,
-        Postfix::Named(name_at(alloc, "a", 4, 28)?),
-    )?;
-    let b = post(
-        alloc,
-        name_at(alloc, "B", 4, 32)?,
-        Postfix::Named(name_at(alloc, "b", 4, 37)?),
-    )?;
-    let small = vec![in alloc; is_small(alloc, "a", 46)?, is_small(alloc, "b", 60)?]?;
-    let chain = Formula::Chain(vec![in alloc; a, b]?);
-    Ok(Formula::Under(Box::new(alloc, chain)?, vec![in alloc; Filter::All(small)]?))
+    let chain = Box::new(alloc, first_chain(alloc)?)?;
+    let small = both_small(alloc)?;
+    Ok(Formula::Under(chain, vec![in alloc; small]?))
 }
 
 fn second_formula(alloc: Global) -> Result<Formula, Memory>

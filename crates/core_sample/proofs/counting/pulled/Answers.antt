@@ -1,5 +1,5 @@
 -- A member more is counted and added.
-use Rattle.std.proofs.Common.{◌++◌, [], ◌∷◌, refl}
+use Rattle.std.proofs.Common.{◌++◌, [], ◌∷◌}
 use Rattle.cer_base.specs.Members.{Member}
 use Rattle.query_engine.specs.Engine.{rest}
 use Rattle.core_sample.proofs.Sums.{given_more, counted_more, added_more}

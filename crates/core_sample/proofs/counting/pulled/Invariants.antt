@@ -1,5 +1,5 @@
 -- The members that were given are counted and added up, and with those still to be given they are all.
-use Rattle.std.proofs.Common.{◌≡◌, ◌+◌, ◌%◌, ◌^◌, ◌++◌, List, length, map, sum_by}
+use Rattle.std.proofs.Common.{◌≡◌, ◌%◌, ◌^◌, ◌++◌, List, length, map, sum_by}
 use Rattle.cer_base.specs.Members.{Member}
 use Rattle.query_engine.specs.Engine.{Fits, rest}
 use Rattle.query_engine.specs.Holding.{answer_of}

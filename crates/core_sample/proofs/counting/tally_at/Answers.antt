@@ -1,8 +1,6 @@
 -- What was pulled is all that the query has there.
-use Rattle.std.proofs.Common.{◌≡◌, ◌∙◌, ◌-◌, ℕ, ap, map, length, refl, subst, ◌%◌, ◌^◌}
+use Rattle.std.proofs.Common.{◌≡◌, ◌∙◌, ◌-◌, ℕ, ap, map, length, refl, ◌%◌, ◌^◌}
 use Rattle.std.specs.Prelude.{sum_by}
-use Rattle.cer_base.specs.Members.{Member}
-use Rattle.cel_terms.specs.Answers.{Answer}
 use Rattle.query_engine.specs.Engine.{rest}
 use Rattle.query_engine.specs.Holding.{answer_of}
 use Rattle.core_sample.specs.Tallies.{weight_of}

@@ -1,6 +1,6 @@
 -- The chain of its two parts.
-use Rattle.std.proofs.Common.{◌≡◌, [], ◌∷◌, codes, rules, subst, ap}
-use Rattle.cel_terms.specs.declared.Formula.{Formula, Of}
+use Rattle.std.proofs.Common.{◌≡◌, [], ◌∷◌, codes, subst, ap}
+use Rattle.cel_terms.specs.declared.Formula.{Of}
 use Rattle.cel_terms.specs.declared.Postfix.TheVariants.{Plus}
 use Rattle.core_sample.specs.Queries.{name_at, IsPostOf}
 use Rattle.core_sample.proofs.Formulas.{chain_of_two}

@@ -52,15 +52,23 @@ fn is_accepted<L: Ledger>(
     Ok(machine.accepts(state))
 }
 
+fn is_odd(number: u64) -> bool {
+    number % 2 == 1
+}
+
+fn half(number: u64) -> u64 {
+    number / 2
+}
+
 /// The positions of the span whose bits are set, the first position's lowest.
-fn marks_of(alloc: Global, span: (usize, usize), mask: u32) -> Result<Vec<u64>, Memory> {
+fn marks_of(alloc: Global, span: (usize, usize), mask: u64) -> Result<Vec<u64>, Memory> {
     let mut marks = Vec::new(alloc);
     let mut left = mask;
     for p in span.0..=span.1.min(1_000) {
-        if left % 2 == 1 {
+        if is_odd(left) {
             marks.push(p as u64)?;
         }
-        left /= 2;
+        left = half(left);
     }
     Ok(marks)
 }
@@ -166,7 +174,7 @@ pub fn runs_are_answers(
     agree::<Brand>(alloc, sample, events.as_slice(), Blank::new(1))
 }
 
-fn count<L: Ledger>(
+fn count_on<L: Ledger>(
     alloc: Global,
     machine: &mut Machine,
     event: &Event,
@@ -186,17 +194,33 @@ fn count<L: Ledger>(
     Ok((100, accepting))
 }
 
+fn count<L: Ledger>(
+    alloc: Global,
+    machine: &mut Machine,
+    steps: &mut Steps<L>,
+) -> Result<(u64, u64), Memory> {
+    let event = event(alloc, 0, 1)?;
+    count_on(alloc, machine, &event, steps)
+}
+
+fn count_in<L: Ledger>(
+    alloc: Global,
+    sample: Sample,
+    steps: &mut Steps<L>,
+) -> Result<(u64, u64), Memory> {
+    match machine(alloc, sample)? {
+        Some(mut machine) => count(alloc, &mut machine, steps),
+        None => Ok((0, 0)),
+    }
+}
+
 fn counted<L: Ledger>(alloc: Global, sample: Sample, blank: Blank) -> Result<(u64, u64), Memory>
     requires name { blank.name ≡ L.name }
     requires parts { blank.parts ≡ L.parts }
     requires some { 0 < blank.parts }
 {
     let mut steps = Steps::<L>::start(blank);
-    let event = event(alloc, 0, 1)?;
-    match machine(alloc, sample)? {
-        Some(mut machine) => count(alloc, &mut machine, &event, &mut steps),
-        None => Ok((0, 0)),
-    }
+    count_in(alloc, sample, &mut steps)
 }
 
 /// How many events of type A are taken as marked, each at the state before, at most 100, and how many

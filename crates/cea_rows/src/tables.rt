@@ -63,6 +63,20 @@ fn agree<L: Ledger>(
     Ok(right && accept_alone(machine, accepting) && machine.found() == found)
 }
 
+fn agrees_in<L: Ledger>(
+    alloc: Global,
+    sample: Sample,
+    looks: &[Look],
+    accepting: &[State],
+    found: u64,
+    steps: &mut Steps<L>,
+) -> Result<bool, Memory> {
+    match machine(alloc, sample)? {
+        Some(mut machine) => agree(alloc, &mut machine, looks, accepting, found, steps),
+        None => Ok(false),
+    }
+}
+
 fn agrees<L: Ledger>(
     alloc: Global,
     sample: Sample,
@@ -76,10 +90,7 @@ fn agrees<L: Ledger>(
     requires some { 0 < blank.parts }
 {
     let mut steps = Steps::<L>::start(blank);
-    match machine(alloc, sample)? {
-        Some(mut machine) => agree(alloc, &mut machine, looks, accepting, found, &mut steps),
-        None => Ok(false),
-    }
+    agrees_in(alloc, sample, looks, accepting, found, &mut steps)
 }
 
 /// Whether the sample has exactly these successors, these accepting states, and so many states.

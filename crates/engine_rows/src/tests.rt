@@ -2,7 +2,9 @@ mod beside;
 mod compactions;
 mod generator;
 
-use super::rows::{answers_after_each, engine_of, states_found};
+use super::rows::{RowFault, answers_after_each, engine_of, states_found};
+use query_engine::Engine;
+use std::alloc::Global;
 use std::marker::Brand;
 use std::sync::ledger::Blank;
 use std::test::*;
@@ -65,20 +67,30 @@ const ROWS: &[(&str, &str, &str)] = &[
     ),
 ];
 
+/// The answers after each of the lines, and the number of states found.
+fn found(alloc: Global, engine: &mut Engine, lines: &[u8]) -> Result<String, RowFault> {
+    let mut text = answers_after_each::<Brand>(alloc, engine, lines, Blank::new(1))?;
+    text.push_str(states_found(alloc, engine)?.as_str())?;
+    Ok(text)
+}
+
+/// The engine of the query after these declarations.
+pub fn engine_after(alloc: Global, declarations: &str, query: &str) -> Result<Engine, RowFault> {
+    let text = format!(in alloc; "{declarations}{query}")?;
+    engine_of(alloc, text.as_str())
+}
+
+/// What the engine of the query finds.
+fn answer(alloc: Global, query: &str, lines: &[u8]) -> Result<String, RowFault> {
+    let mut engine = engine_after(alloc, BASE, query)?;
+    found(alloc, &mut engine, lines)
+}
+
 #[test]
 fn answers_are_those_worked_out_by_hand(rt: HostRuntime) -> Result<(), Fail> {
-    for (query, lines, expected) in ROWS {
-        let text = format!(in rt.alloc(); "{BASE}{query}")?;
-        let mut engine = engine_of(rt.alloc(), text.as_str())?;
-        let found = answers_after_each::<Brand>(
-            rt.alloc(),
-            &mut engine,
-            lines.as_bytes(),
-            Blank::new(1),
-        )?;
-        let states = states_found(rt.alloc(), &engine)?;
-        let found = format!(in rt.alloc(); "{found}{states}")?;
-        assert_eq!(rt; found.as_str(), *expected);
+    for &(query, lines, expected) in ROWS {
+        let found = answer(rt.alloc(), query, lines.as_bytes())?;
+        assert_eq!(rt; found.as_str(), expected);
     }
     Ok(())
 }

@@ -1,7 +1,10 @@
 //! Compactions beside what was worked out by hand.
 
 use crate::held::{held_over_a_compaction, most_after_compactions};
-use crate::rows::engine_of;
+use crate::rows::{RowFault, engine_of};
+use crate::tests::engine_after;
+use query_engine::Engine;
+use std::alloc::Global;
 use std::marker::Brand;
 use std::sync::ledger::Blank;
 use std::test::*;
@@ -12,16 +15,23 @@ const TEXT: &str = "DECLARE EVENT A(v INT)\nDECLARE STREAM S(A)\nSELECT * FROM S
 /// The answers of the third event, however they are ordered: each set of positions that has it.
 const ANSWERS: &[&str] = &["2{2} ", "1{2,1} ", "0{2,0} ", "0{2,1,0} "];
 
+const FIRST: &[u8] = b"A,1;A,2;A,3";
+
+const NEXT: &[u8] = b"A,4";
+
+fn held(alloc: Global, engine: &mut Engine) -> Result<String, RowFault> {
+    held_over_a_compaction::<Brand>(alloc, engine, FIRST, NEXT, Blank::new(1))
+}
+
+/// What a cursor gives of the third event, of which it gave one answer before the compaction.
+fn held_answers(alloc: Global) -> Result<String, RowFault> {
+    let mut engine = engine_of(alloc, TEXT)?;
+    held(alloc, &mut engine)
+}
+
 #[test]
 fn a_cursor_gives_the_same_over_a_compaction_that_holds_it(rt: HostRuntime) -> Result<(), Fail> {
-    let mut engine = engine_of(rt.alloc(), TEXT)?;
-    let text = held_over_a_compaction::<Brand>(
-        rt.alloc(),
-        &mut engine,
-        b"A,1;A,2;A,3",
-        b"A,4",
-        Blank::new(1),
-    )?;
+    let text = held_answers(rt.alloc())?;
     for answer in ANSWERS {
         assert!(rt; text.as_str().contains(*answer), "{text}");
     }
@@ -29,11 +39,21 @@ fn a_cursor_gives_the_same_over_a_compaction_that_holds_it(rt: HostRuntime) -> R
     Ok(())
 }
 
+const LINE: &[u8] = b"A,1";
+
+fn most(alloc: Global, engine: &mut Engine) -> Result<u64, RowFault> {
+    most_after_compactions::<Brand>(alloc, engine, LINE, Blank::new(1))
+}
+
+/// The most nodes under a window of one event.
+fn most_in_a_window(alloc: Global) -> Result<u64, RowFault> {
+    let mut engine = engine_after(alloc, TEXT, " WITHIN 1 EVENTS")?;
+    most(alloc, &mut engine)
+}
+
 #[test]
 fn a_window_bounds_the_nodes_after_compactions(rt: HostRuntime) -> Result<(), Fail> {
-    let text = format!(in rt.alloc(); "{TEXT} WITHIN 1 EVENTS")?;
-    let mut engine = engine_of(rt.alloc(), text.as_str())?;
-    let most = most_after_compactions::<Brand>(rt.alloc(), &mut engine, b"A,1", Blank::new(1))?;
+    let most = most_in_a_window(rt.alloc())?;
     // The window has two events, and two states were found: 16 * (2 + 2)^2 nodes for each event.
     assert!(rt; most <= 512, "{most} nodes");
     Ok(())

@@ -59,13 +59,16 @@ fn leaf(alloc: Global, random: &mut Pcg32, types: &[&'static str]) -> Result<Par
     })
 }
 
+/// A sequence is made most often.
+const SIGNS: &[&str] = &[";", ";", ";", ":", "OR"];
+
 fn joined(
     alloc: Global,
     random: &mut Pcg32,
     first: Part,
     second: Part,
 ) -> Result<Part, AllocError> {
-    let sign = one_of(random, &[";", ";", ";", ":", "OR"]);
+    let sign = one_of(random, SIGNS);
     let text = format!(in alloc; "({} {sign} {})", first.text, second.text)?;
     let mut names = first.names;
     names.extend_from_slice(second.names.as_slice())?;
@@ -76,8 +79,10 @@ fn joined(
     })
 }
 
+const VARIABLES: &[&str] = &["x", "y"];
+
 fn named(alloc: Global, random: &mut Pcg32, part: Part) -> Result<Part, AllocError> {
-    let name = one_of(random, &["x", "y"]);
+    let name = one_of(random, VARIABLES);
     let text = format!(in alloc; "{} AS {name}", part.text)?;
     let mut names = part.names;
     names.push(name)?;
@@ -97,24 +102,27 @@ fn kept(alloc: Global, random: &mut Pcg32, part: Part) -> Result<Part, AllocErro
     })
 }
 
-fn filtered(alloc: Global, random: &mut Pcg32, part: Part) -> Result<Part, AllocError> {
-    let name = one_of(random, part.names.as_slice());
-    let other = one_of(random, part.names.as_slice());
+/// A condition on one of the names, or on two.
+fn condition(
+    alloc: Global,
+    random: &mut Pcg32,
+    names: &[&'static str],
+) -> Result<String, AllocError> {
+    let name = one_of(random, names);
+    let other = one_of(random, names);
     let first = one_of(random, PREDICATES);
     let second = one_of(random, PREDICATES);
-    let text = match below(random, 4) {
-        0 => format!(in alloc;
-            "({} FILTER {name}[{first}] OR {other}[{second}])",
-            part.text
-        )?,
-        1 => format!(in alloc;
-            "({} FILTER {name}[{first}] AND {other}[{second}])",
-            part.text
-        )?,
-        _ => format!(in alloc; "({} FILTER {name}[{first}])", part.text)?,
-    };
+    match below(random, 4) {
+        0 => format!(in alloc; "{name}[{first}] OR {other}[{second}]"),
+        1 => format!(in alloc; "{name}[{first}] AND {other}[{second}]"),
+        _ => format!(in alloc; "{name}[{first}]"),
+    }
+}
+
+fn filtered(alloc: Global, random: &mut Pcg32, part: Part) -> Result<Part, AllocError> {
+    let condition = condition(alloc, random, part.names.as_slice())?;
     Ok(Part {
-        text,
+        text: format!(in alloc; "({} FILTER {condition})", part.text)?,
         names: part.names,
         choices: part.choices,
     })
@@ -144,19 +152,47 @@ fn changed(alloc: Global, random: &mut Pcg32, part: Part) -> Result<Part, AllocE
     }
 }
 
+/// A type with or without a postfix or a filter.
+fn changed_leaf(
+    alloc: Global,
+    random: &mut Pcg32,
+    types: &[&'static str],
+) -> Result<Part, AllocError> {
+    let part = leaf(alloc, random, types)?;
+    changed(alloc, random, part)
+}
+
+/// The two parts in one of the orders.
+fn in_some_order(
+    alloc: Global,
+    random: &mut Pcg32,
+    whole: Part,
+    other: Part,
+) -> Result<Part, AllocError> {
+    if below(random, 3) == 0 {
+        joined(alloc, random, other, whole)
+    } else {
+        joined(alloc, random, whole, other)
+    }
+}
+
+/// The whole, joined with one more leaf.
+fn longer(
+    alloc: Global,
+    random: &mut Pcg32,
+    types: &[&'static str],
+    whole: Part,
+) -> Result<Part, AllocError> {
+    let other = changed_leaf(alloc, random, types)?;
+    let both = in_some_order(alloc, random, whole, other)?;
+    changed(alloc, random, both)
+}
+
 /// A formula of at most five leaves.
 fn formula(alloc: Global, random: &mut Pcg32, types: &[&'static str]) -> Result<Part, AllocError> {
-    let mut whole = leaf(alloc, random, types)?;
-    whole = changed(alloc, random, whole)?;
+    let mut whole = changed_leaf(alloc, random, types)?;
     for _ in 0..below(random, 5) {
-        let other = leaf(alloc, random, types)?;
-        let other = changed(alloc, random, other)?;
-        whole = if below(random, 3) == 0 {
-            joined(alloc, random, other, whole)?
-        } else {
-            joined(alloc, random, whole, other)?
-        };
-        whole = changed(alloc, random, whole)?;
+        whole = longer(alloc, random, types, whole)?;
     }
     Ok(whole)
 }
@@ -170,28 +206,56 @@ fn window(alloc: Global, random: &mut Pcg32) -> Result<String, AllocError> {
     }
 }
 
-/// A query over one of the streams.
-pub fn query(alloc: Global, random: &mut Pcg32) -> Result<String, AllocError> {
-    let (stream, types): (&str, &[&'static str]) = if below(random, 3) == 0 {
-        ("T", &["A", "B"])
-    } else {
-        ("S", &["A", "A", "B", "B", "C"])
-    };
-    let part = formula(alloc, random, types)?;
-    let strict = one_of(random, &["", "", "", "STRICT "]);
+const STRICT: &[&str] = &["", "", "", "STRICT "];
+
+const PARTITIONS: &[&str] = &["", "", " PARTITION BY [k]", " PARTITION BY [v, k]"];
+
+/// The query of the formula over the stream.
+fn query_over(
+    alloc: Global,
+    random: &mut Pcg32,
+    stream: &str,
+    part: &Part,
+) -> Result<String, AllocError> {
+    let strict = one_of(random, STRICT);
     let select = match below(random, 3) {
         0 => one_of(random, part.names.as_slice()),
         _ => "*",
     };
-    let partition = one_of(
-        random,
-        &["", "", " PARTITION BY [k]", " PARTITION BY [v, k]"],
-    );
+    let partition = one_of(random, PARTITIONS);
     let window = window(alloc, random)?;
     format!(in alloc;
         "SELECT {strict}{select} FROM {stream} WHERE {}{partition}{window}",
         part.text
     )
+}
+
+/// The types of the two streams, the first two most often.
+const OF_T: &[&str] = &["A", "B"];
+
+const OF_S: &[&str] = &["A", "A", "B", "B", "C"];
+
+/// A query over one of the streams.
+pub fn query(alloc: Global, random: &mut Pcg32) -> Result<String, AllocError> {
+    if below(random, 3) == 0 {
+        let part = formula(alloc, random, OF_T)?;
+        query_over(alloc, random, "T", &part)
+    } else {
+        let part = formula(alloc, random, OF_S)?;
+        query_over(alloc, random, "S", &part)
+    }
+}
+
+/// Adds the line of an event at the time.
+fn push_line(text: &mut String, random: &mut Pcg32, time: u64) -> Result<(), AllocError> {
+    let value = below(random, 3);
+    let key = below(random, 2);
+    let ty = one_of(random, OF_S);
+    if ty == "C" {
+        write!(text, "C,{value},{time}")
+    } else {
+        write!(text, "{ty},{value},{key},{time}")
+    }
 }
 
 /// The lines of at most ten events, which a semicolon parts. Their time does not fall.
@@ -203,12 +267,7 @@ pub fn lines(alloc: Global, random: &mut Pcg32) -> Result<String, AllocError> {
             text.push(';')?;
         }
         time = time.saturating_add(below(random, 2) as u64);
-        let value = below(random, 3);
-        let key = below(random, 2);
-        match one_of(random, &["A", "A", "B", "B", "C"]) {
-            "C" => write!(text, "C,{value},{time}")?,
-            ty => write!(text, "{ty},{value},{key},{time}")?,
-        }
+        push_line(&mut text, random, time)?;
     }
     Ok(text)
 }

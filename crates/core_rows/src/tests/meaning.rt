@@ -1,6 +1,6 @@
 //! What queries mean, worked out by hand.
 
-use super::rows::{PLAIN, rows_hold};
+use super::rows::{PLAIN, rows_hold, rows_hold_in_parts};
 use std::test::*;
 
 const PATTERNS: &str = "\
@@ -151,6 +151,30 @@ fn queries_mean_what_they_say(rt: HostRuntime) -> Result<(), Fail> {
     let alloc = rt.alloc();
     for &(first, table) in TABLES {
         rows_hold(&rt, alloc, first, table)?;
+    }
+    Ok(())
+}
+
+/// Those of runs that end well.
+const ENDING_WELL: &[(&str, &str)] = &[
+    (PLAIN, PATTERNS),
+    (PLAIN, FILTERS),
+    (PLAIN, ANSWERS),
+    (LOGINS, TICKS),
+    (PLAIN, WINDOWS),
+    (KEYED, PARTITIONS),
+    (APART, KEYS_OF_ONE),
+    (UNLIKE, ABSENT),
+    (BANK, TRANSFERS),
+];
+
+/// What a run over all events writes, two runs write wherever the events are cut, of which the second
+/// goes on from the checkpoint of the first.
+#[test]
+fn queries_mean_the_same_in_two_parts(rt: HostRuntime) -> Result<(), Fail> {
+    let alloc = rt.alloc();
+    for &(first, table) in ENDING_WELL {
+        rows_hold_in_parts(&rt, alloc, first, table)?;
     }
     Ok(())
 }

@@ -152,3 +152,116 @@ pub fn rows_hold(rt: &impl Abort, alloc: Global, first: &str, table: &str) -> Re
     }
     Ok(())
 }
+
+/// The output of a call that ended well and told no note, of which else nothing is given.
+fn output_of(told: &str) -> Option<&str> {
+    let rest = told.strip_prefix("0|")?;
+    rest.strip_suffix('|')
+}
+
+/// The lines of the cell from this number on, and before that one.
+fn some_lines(alloc: Global, cell: &str, from: usize, to: usize) -> Result<String, AllocError> {
+    let mut text = String::new(alloc);
+    for (number, line) in cell.split(" / ").enumerate() {
+        if from <= number && number < to {
+            text.push_str(line)?;
+            text.push('\n')?;
+        }
+    }
+    Ok(text)
+}
+
+/// What a run over the first events writes, and then what one writes over the others that goes on
+/// from what `save` kept of the first.
+fn in_two_parts(
+    alloc: Global,
+    queries: &str,
+    first: &str,
+    second: &str,
+) -> Result<Option<String>, AllocError> {
+    let queries = queries.as_bytes();
+    let before = done_well(alloc, RUN, queries, first.as_bytes())?;
+    let kept = done_well(alloc, "save q e", queries, first.as_bytes())?;
+    let Some(checkpoint) = output_of(kept.as_str()) else {
+        return Ok(None);
+    };
+    let after = resumed_well(
+        alloc,
+        "resume q c e",
+        queries,
+        checkpoint.as_bytes(),
+        second.as_bytes(),
+    )?;
+    joined(alloc, before.as_str(), after.as_str())
+}
+
+/// The outputs of two calls, one after the other, where both ended well.
+fn joined(alloc: Global, before: &str, after: &str) -> Result<Option<String>, AllocError> {
+    let (Some(before), Some(after)) = (output_of(before), output_of(after)) else {
+        return Ok(None);
+    };
+    let mut text = before.to_string(alloc)?;
+    text.push_str(after)?;
+    Ok(Some(text))
+}
+
+/// Holds the row where its events are cut in two after so many.
+fn cut_holds(
+    rt: &impl Abort,
+    alloc: Global,
+    queries: &str,
+    events: &str,
+    at: usize,
+    output: &str,
+) -> Result<(), Fail> {
+    let first = some_lines(alloc, events, 0, at)?;
+    let second = some_lines(alloc, events, at, usize::MAX)?;
+    let told = in_two_parts(alloc, queries, first.as_str(), second.as_str())?;
+    let is_told = match told {
+        Some(told) => told.as_str() == output,
+        None => false,
+    };
+    assert!(rt; is_told, "{events} after {at}");
+    Ok(())
+}
+
+/// Holds the row wherever its events are cut in two.
+fn cuts_hold(
+    rt: &impl Abort,
+    alloc: Global,
+    first: &str,
+    columns: &str,
+    line: &str,
+) -> Result<(), Fail> {
+    let row = row_of(columns, line);
+    let Some(events) = row.events else {
+        return Ok(());
+    };
+    let queries = queries_of(alloc, first, row)?;
+    let output = match row.output {
+        "" => String::new(alloc),
+        lines => lines_of(alloc, Some(lines))?,
+    };
+    for at in 0..events.split(" / ").count() + 1 {
+        cut_holds(rt, alloc, queries.as_str(), events, at, output.as_str())?;
+    }
+    Ok(())
+}
+
+/// Holds each row of the table, of which each is a run that ends well, wherever its events are cut in
+/// two: what a run over the first events writes, and then what one writes that goes on from their
+/// checkpoint, is the row's output.
+pub fn rows_hold_in_parts(
+    rt: &impl Abort,
+    alloc: Global,
+    first: &str,
+    table: &str,
+) -> Result<(), Fail> {
+    let Some((columns, lines)) = table.split_once('\n') else {
+        return Err(Fail::new("a table has no row"));
+    };
+    for line in lines.split('\n') {
+        cuts_hold(rt, alloc, first, columns, line)?;
+    }
+    Ok(())
+}

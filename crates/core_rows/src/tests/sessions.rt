@@ -163,3 +163,47 @@ fn sixty_four_cursors_are_open(rt: HostRuntime) -> Result<(), Fail> {
     assert_eq!(rt; told.as_str(), wanted);
     Ok(())
 }
+
+/// How many times the script takes an event, opens a cursor, pulls its answer and drops it: ten
+/// thousand commands.
+const TIMES: u64 = 2_500;
+
+fn long_script(alloc: Global) -> Result<String, AllocError> {
+    let mut text = String::new(alloc);
+    for i in 0..TIMES {
+        write!(text, "event A,{i}\nopen 1 7\npull 7 1\ndrop 7\n")?;
+    }
+    Ok(text)
+}
+
+/// Each event is the start, the end and the only position of one answer.
+fn long_output(alloc: Global) -> Result<String, AllocError> {
+    let mut text = "0|".to_string(alloc)?;
+    for i in 0..TIMES {
+        write!(text, "at {i}\n1 [{i},{i}] {{{i}}}\nend\n")?;
+    }
+    text.push('|')?;
+    Ok(text)
+}
+
+fn long_answer(alloc: Global, queries: &str, script: &str) -> Result<String, AllocError> {
+    let sinks = Sinks {
+        room: 200_000,
+        piece: 1_000,
+        write: 0,
+        note: 0,
+    };
+    let mut host = failing_host(alloc, queries.as_bytes(), script.as_bytes(), 0, 0, 0)?;
+    over_host(alloc, words_of(alloc, "session q e")?, &mut host, sinks)
+}
+
+#[test]
+fn a_script_has_ten_thousand_commands(rt: HostRuntime) -> Result<(), Fail> {
+    let alloc = rt.alloc();
+    let queries = format!(in alloc; "{PLAIN}SELECT * FROM S WHERE A\n")?;
+    let script = long_script(alloc)?;
+    let wanted = long_output(alloc)?;
+    let told = long_answer(alloc, queries.as_str(), script.as_str())?;
+    assert!(rt; told.as_str() == wanted.as_str());
+    Ok(())
+}

@@ -155,25 +155,12 @@ fn queries_mean_what_they_say(rt: HostRuntime) -> Result<(), Fail> {
     Ok(())
 }
 
-/// Those of runs that end well.
-const ENDING_WELL: &[(&str, &str)] = &[
-    (PLAIN, PATTERNS),
-    (PLAIN, FILTERS),
-    (PLAIN, ANSWERS),
-    (LOGINS, TICKS),
-    (PLAIN, WINDOWS),
-    (KEYED, PARTITIONS),
-    (APART, KEYS_OF_ONE),
-    (UNLIKE, ABSENT),
-    (BANK, TRANSFERS),
-];
-
 /// What a run over all events writes, two runs write wherever the events are cut, of which the second
 /// goes on from the checkpoint of the first.
 #[test]
 fn queries_mean_the_same_in_two_parts(rt: HostRuntime) -> Result<(), Fail> {
     let alloc = rt.alloc();
-    for &(first, table) in ENDING_WELL {
+    for &(first, table) in TABLES {
         rows_hold_in_parts(&rt, alloc, first, table)?;
     }
     Ok(())

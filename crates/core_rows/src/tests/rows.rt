@@ -225,7 +225,7 @@ fn cut_holds(
     Ok(())
 }
 
-/// Holds the row wherever its events are cut in two.
+/// Holds the row wherever its events are cut in two, where it is that of a run that ends well.
 fn cuts_hold(
     rt: &impl Abort,
     alloc: Global,
@@ -234,6 +234,9 @@ fn cuts_hold(
     line: &str,
 ) -> Result<(), Fail> {
     let row = row_of(columns, line);
+    if row.status != "0" {
+        return Ok(());
+    }
     let Some(events) = row.events else {
         return Ok(());
     };
@@ -248,8 +251,8 @@ fn cuts_hold(
     Ok(())
 }
 
-/// Holds each row of the table, of which each is a run that ends well, wherever its events are cut in
-/// two: what a run over the first events writes, and then what one writes that goes on from their
+/// Holds each row of the table that is of a run that ends well, wherever its events are cut in two:
+/// what a run over the first events writes, and then what one writes that goes on from their
 /// checkpoint, is the row's output.
 pub fn rows_hold_in_parts(
     rt: &impl Abort,

@@ -5,3 +5,4 @@ pub mod Fields
 pub mod Nodes
 pub mod Bits
 pub mod Digits
+pub mod Halves

@@ -1,6 +1,6 @@
 //! What every crate of the engine speaks of: positions in a stream, places in a text, running
-//! out of memory, the small types that contracts see as a text, a list or a count, and the nodes of
-//! enumerable compact sets with the store that keeps them.
+//! out of memory, the small types that contracts see as a text, a list, a count or a whole number,
+//! and the nodes of enumerable compact sets with the store that keeps them.
 //!
 //! Promised: each of the small types is exactly its value; nothing else of it can be seen. What a
 //! node means, and when a store is well-formed, is defined in `specs/Members` and `specs/Nodes`.
@@ -22,6 +22,7 @@ pub mod steps;
 pub mod store;
 #[cfg(test)]
 mod tests;
+pub mod time;
 mod words;
 
 /// A position in the whole stream, from 0.

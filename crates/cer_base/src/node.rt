@@ -2,6 +2,7 @@ ghost use Rattle.std.specs.Prelude.{◌≡◌};
 ghost use Rattle.cer_base.specs.Fields.{max_of, need_of};
 
 use super::Pos;
+use super::time::Time;
 
 /// The place of a node in its store, from 0.
 pub type Id = u64;
@@ -11,7 +12,7 @@ pub type Id = u64;
 #[derive(Drop, Debug, Default, Clone, Copy, PartialEq, Eq)]
 pub struct Stamp {
     pub pos: Pos,
-    pub clock: i128,
+    pub clock: Time,
 }
 
 /// A node of an enumerable compact set: it stands for a set of complex events that all end at the
@@ -74,3 +75,12 @@ pub struct Root {
     pub max: Stamp,
     pub need: u64,
 }
+
+// Lists and stores hold many of these.
+const _: () = prove!(size_of::<Stamp>() == 24);
+
+const _: () = prove!(size_of::<Root>() == 40);
+
+const _: () = prove!(size_of::<Node>() == 80);
+
+const _: () = prove!(align_of::<Node>() == 8);

@@ -7,7 +7,7 @@ ghost use Rattle.union_lists.specs.Lists.{IsUnionList};
 
 use arena_compact::{Room, compact};
 use cer_base::Memory;
-use cer_base::node::{Root, Stamp};
+use cer_base::node::Root;
 use cer_base::steps::Steps;
 use cer_base::store::NodeStore;
 use event_update::Active;
@@ -54,13 +54,13 @@ fn three_events<S: NodeStore, L: Ledger>(
     ensures root { IfOk result (IsRoot (S.nodes store.new)) }
 {
     let parts = [
-        Part::Start(Stamp { pos: 0, clock: 0 }),
+        Part::Start(0, 0),
         Part::Extend(0, 0),
-        Part::Start(Stamp { pos: 1, clock: 1 }),
+        Part::Start(1, 1),
         Part::Extend(2, 1),
         Part::Extend(1, 1),
         Part::Join(3, 4),
-        Part::Start(Stamp { pos: 2, clock: 2 }),
+        Part::Start(2, 2),
         Part::Extend(6, 2),
         Part::Extend(5, 2),
         Part::Join(7, 8),

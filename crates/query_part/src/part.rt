@@ -25,6 +25,7 @@ use cel_terms::Query;
 use cer_base::bits::Bits;
 use cer_base::node::Stamp;
 use cer_base::steps::Steps;
+use cer_base::time::Time;
 use cer_base::{Memory, Pos};
 use predicate_bits::Conditions;
 use std::alloc::Global;
@@ -353,7 +354,7 @@ impl Keeps for Part {
         let clock = self.clock.now(event, position);
         let stamp = Stamp {
             pos: position,
-            clock,
+            clock: Time::of(clock),
         };
         self.conditions.fill(event, &mut self.bits);
         let table = self.keys.as_slice();

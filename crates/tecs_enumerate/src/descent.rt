@@ -57,7 +57,7 @@ pub struct Pending {
 pub fn is_recent(low: i128, stamp: Stamp) -> bool
     ensures { result ≡ int_le low stamp.clock }
 {
-    low <= stamp.clock
+    low <= stamp.clock.get()
 }
 
 /// Walks from a node to its first recent member and gives its start, the path being its positions.

@@ -2,16 +2,17 @@
 use Rattle.std.proofs.Common.{◌≡◌, ℕ, zero, suc, eq-eqb, ◌<◌, ◌≤◌, ℤ, true, false, not, ◌&&◌, Bool, List, [], ◌∷◌, ◌++◌, length, get_or, refl, sym, ap, subst, ◌∙◌, ◌⊎◌, inl, inr, arith, length-append, Result, Ok, Err, IfOk, OnOk, All, Contains, nat_le, nat_lt}
 use Rattle.std.specs.Prelude.{◌≤ℤ◌, int_le, ◌==◌}
 use Rattle.std.proofs.lemmas.Int.{ints}
-use Rattle.std.proofs.lemmas.List.{map-append, length-map}
-use Rattle.std.proofs.lemmas.List.Elements.{All-head, All-tail, All-cons, All-nil, All-append, All-contains, All-weaker, Contains-push_cases, Contains-append_left, Contains-push}
+use Rattle.std.proofs.lemmas.List.{map-append, length-map, get_or_default}
+use Rattle.std.proofs.lemmas.List.Elements.{All-head, All-tail, All-cons, All-nil, All-append, All-contains, All-weaker, All-push, Contains-push_cases, Contains-append_left, Contains-push}
 use Rattle.std.proofs.lemmas.Bool.{leb-true, ltb-true, eqb-true}
 use Rattle.std.proofs.lemmas.Slice.Eq.{bytes_eq-Decides}
 use Rattle.cer_base.specs.declared.node.Stamp.{Stamp}
+use Rattle.cer_base.specs.declared.node.Root.{Root}
 use Rattle.cer_base.specs.declared.node.Node.{Node}
 use Rattle.cer_base.specs.declared.node.Node.TheVariants.{Bottom}
 use Rattle.cer_base.specs.Repeats.{HasNoRepeats}
 use Rattle.cer_base.specs.Members.{Member, SetTree, Start, Extended, United, members, newest, depth, ComesAfter, CanJoin, IsSafe}
-use Rattle.cer_base.specs.Nodes.{tree, WellFormed, AreInStep, HasNode, Grows}
+use Rattle.cer_base.specs.Nodes.{tree, WellFormed, AreInStep, HasNode, Grows, IsRoot}
 use Rattle.cer_base.proofs.Trees.{in_step-bottom, tree-append, tree-grows, length-grows}
 use Rattle.cer_base.proofs.Walks.{test_tells}
 use Rattle.tecs_nodes.specs.Unite.{CanUnite, united}
@@ -86,7 +87,18 @@ at_is nodes [] k h = absurd (omega arith)
 at_is nodes (i ∷ is) zero h = refl
 at_is nodes (i ∷ is) (suc k) h = at_is nodes is k (omega arith)
 
-pub can_start : (nodes : List Node) (ids : List ℕ) (part : Part) (stamp : Stamp) → part ≡ kind_of_part.Start stamp → AreNodes nodes ids → can_make (trees_at nodes ids) part ≡ true → AreInStep (nodes ++ Bottom stamp ∷ [])
+-- one root more
+pub roots_more : (nodes : List Node) (before after : List Root) (r : Root) → after ≡ before ++ r ∷ [] → All (IsRoot nodes) before → IsRoot nodes r → All (IsRoot nodes) after
+roots_more nodes before after r e all one = subst (λ (rs : List Root). All (IsRoot nodes) rs) (sym e) (All-push (IsRoot nodes) before r all one)
+
+-- the tree of the node whose id stands at a place
+pub tree_there : (nodes : List Node) (ids : List ℕ) (trees : List SetTree) (k id root : ℕ) → trees_at nodes ids ≡ trees → k < length trees → id ≡ get_or ids k id → root ≡ id → tree nodes root ≡ at trees k
+tree_there nodes ids trees k id root are less there is =
+    let within : k < length ids = omega (arith, ap length are, length-map ids (tree nodes)) in
+    let same : id ≡ get_or ids k 0 = there ∙ get_or_default ids k id 0 within in
+    ap (tree nodes) (is ∙ same) ∙ (sym (at_is nodes ids k within) ∙ ap (λ ts. at ts k) are)
+
+pub can_start : (nodes : List Node) (ids : List ℕ) (part : Part) (stamp : Stamp) → part ≡ kind_of_part.Start stamp.pos stamp.clock → AreNodes nodes ids → can_make (trees_at nodes ids) part ≡ true → AreInStep (nodes ++ Bottom stamp ∷ [])
 can_start nodes ids part stamp is are can =
     let before : all_pass (is_before stamp) (trees_at nodes ids) ≡ true = subst (λ (p : Part). can_make (trees_at nodes ids) p ≡ true) is can in
     let all = all_tells (is_before stamp) (λ t. is_before stamp t ≡ true) (λ t e. e) (trees_at nodes ids) before in
@@ -125,7 +137,7 @@ can_unite nodes ids part a b is can =
     rw (← at_is nodes ids a h.0, ← at_is nodes ids b h.1) (unite_tells _ _ h.2)
 
 -- the trees of the parts
-pub made_start : (nodes : List Node) (ids : List ℕ) (part : Part) (stamp : Stamp) → part ≡ kind_of_part.Start stamp → made (trees_at nodes ids) part ≡ Start stamp
+pub made_start : (nodes : List Node) (ids : List ℕ) (part : Part) (stamp : Stamp) → part ≡ kind_of_part.Start stamp.pos stamp.clock → made (trees_at nodes ids) part ≡ Start stamp
 made_start nodes ids part stamp is = ap (made (trees_at nodes ids)) is
 
 pub made_extend : (nodes : List Node) (ids : List ℕ) (part : Part) (k p : ℕ) → part ≡ kind_of_part.Extend k p → k < length ids → made (trees_at nodes ids) part ≡ Extended p (tree nodes (get_or ids k 0))

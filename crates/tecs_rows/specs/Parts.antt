@@ -16,7 +16,7 @@ at trees k = get_or trees k (Start (record { pos = 0; clock = pos 0 }))
 
 -- the tree of a part that is made of earlier ones
 abbrev pub made : List SetTree → Part → SetTree
-made trees (kind_of_part.Start stamp) = Start stamp
+made trees (kind_of_part.Start p clock) = Start (record { pos = p; clock = clock })
 made trees (kind_of_part.Extend k p) = Extended p (at trees k)
 made trees (kind_of_part.Join l r) = United (at trees l) (at trees r)
 made trees (kind_of_part.Unite a b) = united (at trees a) (at trees b)
@@ -58,7 +58,7 @@ is_safe (United l r) = (depth l == 0) && nat_le (depth r) 2
 
 -- the part can be made of the trees
 abbrev pub can_make : List SetTree → Part → Bool
-can_make trees (kind_of_part.Start stamp) = all_pass (is_before stamp) trees
+can_make trees (kind_of_part.Start p clock) = all_pass (is_before (record { pos = p; clock = clock })) trees
 can_make trees (kind_of_part.Extend k p) = nat_lt k (length trees) && all_pass (is_after p) (members (at trees k))
 can_make trees (kind_of_part.Join l r) = nat_lt l (length trees) && (nat_lt r (length trees) && (nat_le (newest (at trees r)).pos (newest (at trees l)).pos && (all_differ (members (at trees l) ++ members (at trees r)) && nat_le (depth (at trees l)) 2)))
 can_make trees (kind_of_part.Unite a b) = nat_lt a (length trees) && (nat_lt b (length trees) && (is_safe (at trees a) && (is_safe (at trees b) && (((newest (at trees a)).pos == (newest (at trees b)).pos) && (int_le (newest (at trees a)).clock (newest (at trees b)).clock && (int_le (newest (at trees b)).clock (newest (at trees a)).clock && all_differ (members (at trees a) ++ members (at trees b))))))))

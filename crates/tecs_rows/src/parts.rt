@@ -7,6 +7,7 @@ ghost use Rattle.tecs_rows.specs.Parts.{made, trees_of, can_make, can_make_all, 
 use cer_base::node::{Id, Root, Stamp};
 use cer_base::steps::Steps;
 use cer_base::store::NodeStore;
+use cer_base::time::Time;
 use cer_base::{Memory, Pos};
 use std::alloc::Global;
 use std::sync::ledger::Ledger;
@@ -15,8 +16,8 @@ use tecs_nodes::{bottom, extend, join, union};
 /// A node that is made of earlier ones, which are named by their places in the list, from 0.
 #[derive(Drop, Debug, Clone, Copy, PartialEq, Eq)]
 pub enum Part {
-    /// A bottom.
-    Start(Stamp),
+    /// A bottom, by the position where it starts and the clock there.
+    Start(Pos, i128),
     /// The part at the place, extended by the position.
     Extend(usize, Pos),
     /// The parts at the two places joined, the first at the left.
@@ -40,7 +41,10 @@ fn make<S: NodeStore, L: Ledger>(
         []) }
 {
     match part {
-        Part::Start(stamp) => bottom(store, stamp, steps),
+        Part::Start(pos, clock) => {
+            let clock = Time::of(clock);
+            bottom(store, Stamp { pos, clock }, steps)
+        }
         Part::Extend(place, pos) => extend(store, ids[place], pos, steps),
         Part::Join(left, right) => join(store, ids[left], ids[right], steps),
         Part::Unite(a, b) => union(store, ids[a], ids[b], steps),

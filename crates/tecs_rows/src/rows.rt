@@ -8,7 +8,7 @@ ghost use Rattle.tecs_rows.specs.Parts.{can_make_all, AreNodes};
 ghost use Rattle.tecs_rows.specs.Ledgers.{Opens};
 
 use crate::parts::{Part, make_all, root_of};
-use cer_base::node::{Id, Root, Stamp};
+use cer_base::node::{Id, Root};
 use cer_base::steps::Steps;
 use cer_base::store::NodeStore;
 use cer_base::{Memory, Pos};
@@ -17,11 +17,13 @@ use std::sync::ledger::{Blank, Ledger};
 use tecs_arena::Arena;
 use tecs_enumerate::Cursor;
 
-/// Whether the next answer starts at the stamp and has these positions, greatest first.
+/// Whether the next answer starts at the position and the clock, and has these positions, greatest
+/// first.
 pub fn next_is<S: NodeStore, L: Ledger>(
     cursor: &mut Cursor,
     store: &S,
-    start: Stamp,
+    pos: Pos,
+    clock: i128,
     positions: &[Pos],
     steps: &mut Steps<L>,
 ) -> bool
@@ -29,14 +31,17 @@ pub fn next_is<S: NodeStore, L: Ledger>(
     requires fits { Fits cursor.old (S.nodes store.now) }
     ensures fits { Fits cursor.new (S.nodes store.now) }
     ensures gives { (more : List Member) → rest cursor.old (S.nodes store.now)
-        ≡ record { start = start; positions = positions.now } ∷ more → IsTrue result
+        ≡ record { start = record { pos = pos; clock = clock }; positions = positions.now } ∷ more
+        → IsTrue result
         × (rest cursor.new (S.nodes store.now) ≡ more) }
     ensures delay { (more : List Member) → rest cursor.old (S.nodes store.now)
-        ≡ record { start = start; positions = positions.now } ∷ more → steps.new
-        ≤ steps.old + 4 * (length positions.now + 1) }
+        ≡ record { start = record { pos = pos; clock = clock }; positions = positions.now } ∷ more
+        → steps.new ≤ steps.old + 4 * (length positions.now + 1) }
 {
     match cursor.next(store, steps) {
-        Some(given) => given == start && cursor.positions() == positions,
+        Some(given) => {
+            given.pos == pos && given.clock.get() == clock && cursor.positions() == positions
+        }
         None => false,
     }
 }
@@ -56,9 +61,9 @@ pub fn join_of_two<S: NodeStore, L: Ledger>(
         (Extended 1 (Extended 0 (Start (record { pos = 0; clock = pos 0 }))))) }
 {
     let parts = [
-        Part::Start(Stamp { pos: 0, clock: 0 }),
+        Part::Start(0, 0),
         Part::Extend(0, 0),
-        Part::Start(Stamp { pos: 1, clock: 1 }),
+        Part::Start(1, 1),
         Part::Extend(2, 1),
         Part::Extend(1, 1),
         Part::Join(3, 4),
@@ -86,14 +91,8 @@ pub fn gives_two<S: NodeStore, Making: Ledger, First: Ledger, Second: Ledger, Th
 {
     let root = join_of_two(alloc, store, making)?;
     let mut cursor = Cursor::begin(alloc, store, 1, &[root], 0, making)?;
-    let later = next_is(&mut cursor, store, Stamp { pos: 1, clock: 1 }, &[1], first);
-    let earlier = next_is(
-        &mut cursor,
-        store,
-        Stamp { pos: 0, clock: 0 },
-        &[1, 0],
-        second,
-    );
+    let later = next_is(&mut cursor, store, 1, 1, &[1], first);
+    let earlier = next_is(&mut cursor, store, 0, 0, &[1, 0], second);
     let done = cursor.next(store, third).is_none();
     Ok(later && earlier && done)
 }
@@ -114,7 +113,7 @@ pub fn gives_one<S: NodeStore, Making: Ledger, First: Ledger, Second: Ledger>(
 {
     let root = join_of_two(alloc, store, making)?;
     let mut cursor = Cursor::begin(alloc, store, 1, &[root], 1, making)?;
-    let later = next_is(&mut cursor, store, Stamp { pos: 1, clock: 1 }, &[1], first);
+    let later = next_is(&mut cursor, store, 1, 1, &[1], first);
     let done = cursor.next(store, second).is_none();
     Ok(later && done)
 }

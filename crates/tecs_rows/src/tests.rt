@@ -1,7 +1,6 @@
 use super::parts::Part;
 use super::rows::{join_of_two_is_listed, listing};
 use cer_base::Memory;
-use cer_base::node::Stamp;
 use std::marker::Brand;
 use std::sync::ledger::Blank;
 use std::test::*;
@@ -20,11 +19,9 @@ fn a_join_gives_the_later_start_first_and_the_window_cuts_the_earlier(rt: HostRu
 
 #[test]
 fn each_union_lists_its_members_and_shares_a_node(rt: HostRuntime) -> Result<(), Memory> {
-    let early = Stamp { pos: 1, clock: 10 };
-    let late = Stamp { pos: 2, clock: 20 };
     let parts = [
-        Part::Start(early),
-        Part::Start(late),
+        Part::Start(1, 10),
+        Part::Start(2, 20),
         Part::Extend(0, 2),
         Part::Extend(1, 2),
         Part::Extend(1, 3),

@@ -11,6 +11,7 @@ use cea_determinise::table::State;
 use cer_base::bits::Bits;
 use cer_base::node::Stamp;
 use cer_base::steps::Steps;
+use cer_base::time::Time;
 use cer_base::{Memory, Pos};
 use event_update::{Active, Stage, commit, prepare};
 use std::alloc::Global;
@@ -89,7 +90,10 @@ impl OpenMatches {
             Some(next) => next,
             None => return Err(Memory),
         };
-        let stamp = Stamp { pos, clock: 0 };
+        let stamp = Stamp {
+            pos,
+            clock: Time::of(0),
+        };
         let staged = prepare(
             &self.active,
             &mut self.stage,

@@ -1,11 +1,14 @@
 use Rattle.std.proofs.Common.{inr}
 use Rattle.std.proofs.lemmas.Result.{IfOk-weaker, on_err_weaker}
 use Rattle.query_part.specs.Matches.{HasBegun}
-use Rattle.query_part.proofs.Cuts.{can_mid}
+use Rattle.query_part.proofs.Cuts.{can_mid, mid_nodes}
 use Rattle.query_part.proofs.matches.Matches.advance.Goals as goal
 
 pub work-requires-clause-begun : goal.work-requires-clause-begun
 work-requires-clause-begun g c = record { before = c.args.self.now; key = c.args.key.now; are = c.sizes-sizes.ensures.are; sound = c.sizes-sizes.ensures.sound; takes = c.in_ok-number.ensures.taken; numbered = c.in_ok-number.ensures.number }
+
+pub work-requires-clause-in_step : goal.work-requires-clause-in_step
+work-requires-clause-in_step g c = rw (mid_nodes c.args.self.now c.number.new.self c.args.key.now c.in_ok-number.ensures.taken) c.requires.in_step
 
 pub work-requires-clause-can : goal.work-requires-clause-can
 work-requires-clause-can g c = can_mid c.args.stamp c.args.self.now c.number.new.self c.args.key.now c.in_ok-number.ensures.taken c.requires.can

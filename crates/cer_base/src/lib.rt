@@ -7,7 +7,7 @@
 //! It stands on std alone.
 #![tactic(auto)]
 
-ghost use Rattle.std.specs.Prelude.{◌≡◌, List, ℕ, string_bytes, IfOk};
+ghost use Rattle.std.specs.Prelude.{◌≡◌, List, ℕ, string_bytes, IfOk, OnOk};
 ghost use Rattle.cer_base.specs.declared.OrMemory.TheVariants as wanted;
 
 use std::alloc::{AllocError, AllocFailed, Global};
@@ -109,6 +109,16 @@ impl Text {
         Ok(Text {
             string: text.to_string(alloc)?,
         })
+    }
+
+    /// Makes it a copy of the text, in the memory that it has where this suffices. After `Memory` it
+    /// is some text.
+    pub fn copy_from(&mut self, text: &str) -> Result<(), Memory>
+        ensures { OnOk result (self.new ≡ text.now) }
+    {
+        self.string.clear();
+        self.string.push_str(text)?;
+        Ok(())
     }
 
     /// The text's bytes, which are UTF-8.

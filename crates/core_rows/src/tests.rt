@@ -1,10 +1,7 @@
 //! The rows, by what they show.
 
-mod calls;
 mod compactions;
 mod explaining;
-mod faults;
-mod limits;
 mod meaning;
 mod refusals;
 mod reordering;

@@ -13,7 +13,7 @@ ghost use Rattle.event_reader.specs.CommonLines.{IsCell, IsNumeralUpTo, IsFieldU
 
 use crate::numbers::{signed, without_sign};
 use crate::types::Guesses;
-use crate::values::read_value;
+use crate::values::{put_text, read_value};
 use cer_base::bytes::{CARRIAGE_RETURN, COMMA, QUOTE};
 use std::alloc::Global;
 use stream_schema::{Kind, Schema, TypeId, Value};
@@ -161,6 +161,8 @@ fn read_field(alloc: Global, kind: Kind, text: &[u8], value: &mut Value) -> Opti
 {
     if kind == Kind::Int {
         read_number(text, value)
+    } else if kind == Kind::Text {
+        read_text(alloc, text, value)
     } else {
         read_other(alloc, kind, text, value)
     }
@@ -233,7 +235,22 @@ fn read_digits(text: &[u8]) -> Option<(u64, usize)>
     if most == 0 { None } else { Some((size, most)) }
 }
 
-/// The same of a field that is no whole number.
+/// The same of a text.
+#[inline(never)]
+fn read_text(alloc: Global, text: &[u8], value: &mut Value) -> Option<usize>
+    ensures { IfSome result (λ end. IsFieldUpTo kind.Text text.now value.new end) }
+{
+    let Some(end) = cell_end(text) else {
+        return None;
+    };
+    if put_text(alloc, &text[..end], value) {
+        Some(end)
+    } else {
+        None
+    }
+}
+
+/// The same of a field of any kind.
 #[inline(never)]
 fn read_other(alloc: Global, kind: Kind, text: &[u8], value: &mut Value) -> Option<usize>
     ensures { IfSome result (λ end. IsFieldUpTo kind text.now value.new end) }

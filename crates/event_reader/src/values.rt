@@ -1,7 +1,9 @@
 //! The value of a field.
 
-ghost use Rattle.std.specs.Prelude.{◌≡◌, map, IfOk};
+ghost use Rattle.std.specs.Prelude.{◌≡◌, true, map, Some, IfOk};
 ghost use Rattle.std.specs.Char.{to_ascii_lowercase};
+ghost use Rattle.stream_schema.specs.declared.Kind.TheVariants as kind;
+ghost use Rattle.stream_schema.specs.declared.Value.TheVariants as value;
 ghost use Rattle.event_reader.specs.Values.{value_of, flag};
 
 use crate::numbers::scaled;
@@ -31,6 +33,34 @@ pub fn read_value(alloc: Global, kind: Kind, field: &[u8]) -> Result<Option<Valu
             Ok(text) => Ok(Some(Value::Text(Text::copy_of(alloc, text)?))),
             Err(_) => Ok(None),
         },
+    }
+}
+
+/// Makes it the value of a field that is a text, in the memory of the text that it was, if it was one.
+/// `false` where the bytes are no text, or memory runs out.
+#[tactic(auto, using(crate::proofs::Texts::utf8_is))]
+pub fn put_text(alloc: Global, field: &[u8], held: &mut Value) -> bool
+    ensures { result ≡ true → value_of kind.Text field.now ≡ Some held.new }
+{
+    match str::from_utf8(field) {
+        Ok(text) => put_copy(alloc, text, held),
+        Err(_) => false,
+    }
+}
+
+/// Makes it a copy of the text, in the same way.
+fn put_copy(alloc: Global, text: &str, held: &mut Value) -> bool
+    ensures { result ≡ true → held.new ≡ value.Text text.now }
+{
+    if let Value::Text(before) = held {
+        return before.copy_from(text).is_ok();
+    }
+    match Text::copy_of(alloc, text) {
+        Ok(copy) => {
+            *held = Value::Text(copy);
+            true
+        }
+        Err(_) => false,
     }
 }
 

@@ -1,6 +1,7 @@
 //! Why an answer is one, worked out by hand.
 
-use super::rows::{PLAIN, rows_hold};
+use super::rows::rows_hold;
+use crate::calls::PLAIN;
 use std::test::*;
 
 const ANSWERS: &str = "\

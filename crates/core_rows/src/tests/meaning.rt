@@ -1,6 +1,7 @@
 //! What queries mean, worked out by hand.
 
-use super::rows::{PLAIN, rows_hold, rows_hold_in_parts};
+use super::rows::{rows_hold, rows_hold_in_parts};
+use crate::calls::PLAIN;
 use std::test::*;
 
 const PATTERNS: &str = "\

@@ -1,6 +1,7 @@
 //! What is saved of the events, worked out by hand.
 
-use super::rows::{PLAIN, rows_hold};
+use super::rows::rows_hold;
+use crate::calls::PLAIN;
 use std::test::*;
 
 const CHECKPOINTS: &str = "\

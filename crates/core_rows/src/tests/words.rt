@@ -1,6 +1,7 @@
 //! What the words ask for.
 
-use super::rows::{PLAIN, rows_hold};
+use super::rows::rows_hold;
+use crate::calls::PLAIN;
 use std::test::*;
 
 /// Each event of the first type is an answer.

@@ -1,0 +1,5 @@
+//! The rows, by what fails.
+
+mod checkpoints;
+mod faults;
+mod limits;

@@ -48,7 +48,12 @@ pub fn clear(words: &mut [u64])
     ensures room { length (bits_of_words words.new) ≡ length (bits_of_words words.old) }
     ensures members { (k : ℕ) → has (bits_of_words words.new) k ≡ false }
 {
-    for i in 0..words.len() {
+    if words.is_empty() {
+        return;
+    }
+    // Mostly there is one word, which takes no loop.
+    words[0] = 0;
+    for i in 1..words.len() {
         words[i] = 0;
     }
 }

@@ -6,10 +6,10 @@ use Rattle.cel_terms.specs.Answers.{HasMarks, IsBoundAt, is_bound}
 use Rattle.query_leaves.specs.LeafTree.{LeafTree}
 use Rattle.query_leaves.specs.Expand.{Occurrence}
 use Rattle.query_leaves.specs.Leaves.{occurrences, numbered, names_in, leaf_is_marked}
-use Rattle.cea_determinise.specs.Runs.{LeafSet, Automaton, start, Entry, run, accepted_run}
+use Rattle.cea_determinise.specs.Runs.{LeafSet, Automaton, start, Entry, run, accepted_run, has_mark}
 use Rattle.cea_compile.specs.Paths.{Step, Reading, tree_meaning, reading, valuation}
 use Rattle.cea_compile.specs.Positions.{Steps, done, step, Walk, walk, HasFollower, IsAutomatonOf}
-use Rattle.cea_compile.specs.Covers.{Cover, MarkedAt, is_listed, AreWithin}
+use Rattle.cea_compile.specs.Covers.{Cover, MarkedAt, AreWithin}
 use Rattle.cel_terms.specs.Meaning.{Stream, Meaning}
 use Rattle.cea_compile.proofs.Glushkov.{path_iff_walk}
 use Rattle.cea_compile.proofs.Skips.{ReadsWithin, steps_rise}
@@ -30,15 +30,15 @@ Contains-cases y x xs h = go h.0 h.1 h.2
     go zero l e = inl e
     go (suc k) l e = inr (k, omega arith, e)
 
-pub listed_is : (marks : List ℕ) (p : ℕ) → Decides (is_listed marks p) (Contains marks p)
+pub listed_is : (marks : List ℕ) (p : ℕ) → Decides (has_mark marks p) (Contains marks p)
 listed_is [] p = (λ h. absurd (false≢true h), λ h. absurd (let l = h.1 in omega arith))
 listed_is (m ∷ ms) p = (λ h. to (listed_is ms p) (or_cases (eqb p m) (list_any (eqb p) ms) h), λ h. back (listed_is ms p) (Contains-cases m p ms h))
   where
-    to : Decides (is_listed ms p) (Contains ms p) → (eqb p m ≡ true) ⊎ (list_any (eqb p) ms ≡ true) → Contains (m ∷ ms) p
+    to : Decides (has_mark ms p) (Contains ms p) → (eqb p m ≡ true) ⊎ (list_any (eqb p) ms ≡ true) → Contains (m ∷ ms) p
     to rest (inl e) = subst (λ x. Contains (x ∷ ms) p) (eqb-true p m e) (Contains-first p ms)
     to rest (inr h) = Contains-more m p ms (rest.0 h)
 
-    back : Decides (is_listed ms p) (Contains ms p) → (m ≡ p) ⊎ Contains ms p → is_listed (m ∷ ms) p ≡ true
+    back : Decides (has_mark ms p) (Contains ms p) → (m ≡ p) ⊎ Contains ms p → has_mark (m ∷ ms) p ≡ true
     back rest (inl e) = or_left (eqb p m) (list_any (eqb p) ms) (eq-eqb p m (sym e))
     back rest (inr h) = or_right (eqb p m) (list_any (eqb p) ms) (rest.1 h)
 
@@ -81,7 +81,7 @@ marked_same m n f (s ∷ w) p (inl h) = inl (h.0, sym (f s.leaf) ∙ h.1)
 marked_same m n f (s ∷ w) p (inr h) = inr (marked_same m n f w p h)
 
 module _ (stream : Stream) (t : LeafTree Occurrence) (part : Meaning) (means : Same part (tree_meaning stream t)) (a : Automaton) (of_tree : IsLeafAutomaton t a) (from end : ℕ) (marks : List ℕ) where
-  path_of_marks : HasMarks part from end marks → HasPath (reading stream (occurrences t)) (numbered 0 t) a.marked (is_listed marks) from end
+  path_of_marks : HasMarks part from end marks → HasPath (reading stream (occurrences t)) (numbered 0 t) a.marked (has_mark marks) from end
   path_of_marks h =
       let b = (binds_iff stream t from end h.valuation).0 (means.to from end h.valuation h.means) in
       record {
@@ -101,7 +101,7 @@ module _ (stream : Stream) (t : LeafTree Occurrence) (part : Meaning) (means : S
         within = λ p c. walk_within (reading stream (occurrences t)) (numbered 0 t) (leaf_is_marked (occurrences t)) from end p b.path (reads_within stream (occurrences t)) ((path_iff_walk (reading stream (occurrences t)) (numbered 0 t) (numbered_linear t 0) from end b.path).0 b.through) (marked_from_bound (occurrences t) b.path p (subst (λ v. IsBoundAt v p) b.bound ((h.are_marks.bound p).0 c)));
       }
 
-  marks_of_path : AreWithin stream from end marks → HasPath (reading stream (occurrences t)) (numbered 0 t) a.marked (is_listed marks) from end → HasMarks part from end marks
+  marks_of_path : AreWithin stream from end marks → HasPath (reading stream (occurrences t)) (numbered 0 t) a.marked (has_mark marks) from end → HasMarks part from end marks
   marks_of_path within p =
       let through = (path_iff_walk (reading stream (occurrences t)) (numbered 0 t) (numbered_linear t 0) from end p.path).0 p.through in
       record {
@@ -120,7 +120,7 @@ module _ (stream : Stream) (t : LeafTree Occurrence) (part : Meaning) (means : S
       }
 
   -- Some valuation from the start to the end has exactly these marks where the determinised run that takes them accepts.
-  pub marks_iff_run : (xs : List Entry) → Cover (reading stream (occurrences t)) a.size from xs end → HasMarks part from end marks ↔ (AreWithin stream from end marks × (accepted_run a (run a (is_listed marks) start xs) ≡ true))
+  pub marks_iff_run : (xs : List Entry) → Cover (reading stream (occurrences t)) a.size from xs end → HasMarks part from end marks ↔ (AreWithin stream from end marks × (accepted_run a (run a (has_mark marks) start xs) ≡ true))
   marks_iff_run xs cover =
-      let iff = path_iff_run (reading stream (occurrences t)) (numbered 0 t) a (numbered_linear t 0) of_tree.pairs (reads_within stream (occurrences t)) (is_listed marks) from end xs cover in
+      let iff = path_iff_run (reading stream (occurrences t)) (numbered 0 t) a (numbered_linear t 0) of_tree.pairs (reads_within stream (occurrences t)) (has_mark marks) from end xs cover in
       (λ h. (within_of_marks h, iff.0 (path_of_marks h)), λ h. marks_of_path h.0 (iff.1 h.1))

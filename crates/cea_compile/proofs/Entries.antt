@@ -12,20 +12,21 @@ use Rattle.cel_terms.specs.Meaning.{Stream, event_type_name}
 use Rattle.cel_terms.specs.Answers.{IsAscending, substream}
 use Rattle.query_leaves.specs.Expand.{Occurrence, tree_of}
 use Rattle.query_leaves.specs.Leaves.{occurrences, is_typed, all_hold, occurrence_reads}
+use Rattle.cea_determinise.specs.Runs.{has_mark}
 use Rattle.cea_compile.specs.Paths.{Reading, reading, AllTestsHold}
-use Rattle.cea_compile.specs.Covers.{IsEntry, Cover, CoverAfter, is_listed}
+use Rattle.cea_compile.specs.Covers.{IsEntry, Cover, CoverAfter}
 use Rattle.cea_compile.specs.DeterminisedRuns.{reads_at, entry_at}
 
 -- each number is above those before it
 abbrev pub Ascends : List ℕ → Type 0
 Ascends [] = Unit {0}
-Ascends (x ∷ xs) = ((y : ℕ) → is_listed xs y ≡ true → x < y) × Ascends xs
+Ascends (x ∷ xs) = ((y : ℕ) → has_mark xs y ≡ true → x < y) × Ascends xs
 
-listed_at : (xs : List ℕ) (y : ℕ) → is_listed xs y ≡ true → (i : ℕ) × (slice_get xs i ≡ Some y)
+listed_at : (xs : List ℕ) (y : ℕ) → has_mark xs y ≡ true → (i : ℕ) × (slice_get xs i ≡ Some y)
 listed_at [] y h = absurd (false≢true h)
-listed_at (x ∷ xs) y h = go (λ l. listed_at xs y l) (or_cases (eqb y x) (is_listed xs y) h)
+listed_at (x ∷ xs) y h = go (λ l. listed_at xs y l) (or_cases (eqb y x) (has_mark xs y) h)
   where
-    go : (is_listed xs y ≡ true → (i : ℕ) × (slice_get xs i ≡ Some y)) → (eqb y x ≡ true) ⊎ (is_listed xs y ≡ true) → (i : ℕ) × (slice_get (x ∷ xs) i ≡ Some y)
+    go : (has_mark xs y ≡ true → (i : ℕ) × (slice_get xs i ≡ Some y)) → (eqb y x ≡ true) ⊎ (has_mark xs y ≡ true) → (i : ℕ) × (slice_get (x ∷ xs) i ≡ Some y)
     go later (inl e) = (zero, ap Some (sym (eqb-true y x e)))
     go later (inr l) = let r = later l in (suc r.0, r.1)
 
@@ -37,8 +38,8 @@ ascends (x ∷ xs) up = (
 )
 
 -- one more number in front of those that pass
-listed_cons : (b e l u : Bool) → (e ≡ true → b ≡ u) → (y x : ℕ) (zs : List ℕ) → eqb y x ≡ e → is_listed zs y ≡ (l && u) → is_listed (cond b (x ∷ zs) zs) y ≡ ((e || l) && u)
-listed_cons true true l true same y x zs q h = or_left (eqb y x) (is_listed zs y) q
+listed_cons : (b e l u : Bool) → (e ≡ true → b ≡ u) → (y x : ℕ) (zs : List ℕ) → eqb y x ≡ e → has_mark zs y ≡ (l && u) → has_mark (cond b (x ∷ zs) zs) y ≡ ((e || l) && u)
+listed_cons true true l true same y x zs q h = or_left (eqb y x) (has_mark zs y) q
 listed_cons true true l false same y x zs q h = absurd (false≢true (sym (same refl)))
 listed_cons true false l u same y x zs q h = cc
 listed_cons false true l true same y x zs q h = absurd (false≢true (same refl))
@@ -47,14 +48,14 @@ listed_cons false true false false same y x zs q h = h
 listed_cons false false l u same y x zs q h = cc
 
 -- what is listed of the numbers that pass
-pub listed_filter : (t : ℕ → Bool) (xs : List ℕ) (y : ℕ) → is_listed (filter t xs) y ≡ (is_listed xs y && t y)
+pub listed_filter : (t : ℕ → Bool) (xs : List ℕ) (y : ℕ) → has_mark (filter t xs) y ≡ (has_mark xs y && t y)
 listed_filter t [] y = refl
-listed_filter t (x ∷ xs) y = listed_cons (t x) (eqb y x) (is_listed xs y) (t y) (λ e. ap t (sym (eqb-true y x e))) y x (filter t xs) refl (listed_filter t xs y)
+listed_filter t (x ∷ xs) y = listed_cons (t x) (eqb y x) (has_mark xs y) (t y) (λ e. ap t (sym (eqb-true y x e))) y x (filter t xs) refl (listed_filter t xs y)
 
-listed_within : (t : ℕ → Bool) (xs : List ℕ) (y : ℕ) → is_listed (filter t xs) y ≡ true → is_listed xs y ≡ true
-listed_within t xs y h = (and_parts (is_listed xs y) (t y) (sym (listed_filter t xs y) ∙ h)).0
+listed_within : (t : ℕ → Bool) (xs : List ℕ) (y : ℕ) → has_mark (filter t xs) y ≡ true → has_mark xs y ≡ true
+listed_within t xs y h = (and_parts (has_mark xs y) (t y) (sym (listed_filter t xs y) ∙ h)).0
 
-ascends_cons : (b : Bool) (x : ℕ) (zs : List ℕ) → ((y : ℕ) → is_listed zs y ≡ true → x < y) → Ascends zs → Ascends (cond b (x ∷ zs) zs)
+ascends_cons : (b : Bool) (x : ℕ) (zs : List ℕ) → ((y : ℕ) → has_mark zs y ≡ true → x < y) → Ascends zs → Ascends (cond b (x ∷ zs) zs)
 ascends_cons true x zs f a = (f, a)
 ascends_cons false x zs f a = a
 
@@ -64,24 +65,24 @@ ascends_filter t (x ∷ xs) a = ascends_cons (t x) x (filter t xs) (λ y h. a.0 
 
 -- the numbers list what the reading has after a position up to the end
 abbrev pub ListsAfter : Reading → ℕ → ℕ → List ℕ → Type 0
-ListsAfter r p end xs = (q : ℕ) → (is_listed xs q ≡ true) ↔ (r.Has q × (p < q) × (q ≤ end))
+ListsAfter r p end xs = (q : ℕ) → (has_mark xs q ≡ true) ↔ (r.Has q × (p < q) × (q ≤ end))
 
 module _ (r : Reading) (size : ℕ) (schema : Declared) (q : Query) (events : List Event) (is_entry : (p : ℕ) → r.Has p → IsEntry r size (entry_at schema q events p)) (end : ℕ) (has_end : r.Has end) where
-  head_listed : (x : ℕ) (xs : List ℕ) → is_listed (x ∷ xs) x ≡ true
-  head_listed x xs = or_left (eqb x x) (is_listed xs x) (eq-eqb x x refl)
+  head_listed : (x : ℕ) (xs : List ℕ) → has_mark (x ∷ xs) x ≡ true
+  head_listed x xs = or_left (eqb x x) (has_mark xs x) (eq-eqb x x refl)
 
   -- a listed number is the first or after it
-  first_least : (x : ℕ) (xs : List ℕ) → Ascends (x ∷ xs) → (y : ℕ) → is_listed (x ∷ xs) y ≡ true → x ≤ y
-  first_least x xs a y h = go (or_cases (eqb y x) (is_listed xs y) h)
+  first_least : (x : ℕ) (xs : List ℕ) → Ascends (x ∷ xs) → (y : ℕ) → has_mark (x ∷ xs) y ≡ true → x ≤ y
+  first_least x xs a y h = go (or_cases (eqb y x) (has_mark xs y) h)
     where
-      go : (eqb y x ≡ true) ⊎ (is_listed xs y ≡ true) → x ≤ y
+      go : (eqb y x ≡ true) ⊎ (has_mark xs y ≡ true) → x ≤ y
       go (inl e) = let s = eqb-true y x e in omega arith
       go (inr l) = let s = a.0 y l in omega arith
 
-  later_listed : (x : ℕ) (xs : List ℕ) (y : ℕ) → x < y → is_listed (x ∷ xs) y ≡ true → is_listed xs y ≡ true
-  later_listed x xs y less h = go (or_cases (eqb y x) (is_listed xs y) h)
+  later_listed : (x : ℕ) (xs : List ℕ) (y : ℕ) → x < y → has_mark (x ∷ xs) y ≡ true → has_mark xs y ≡ true
+  later_listed x xs y less h = go (or_cases (eqb y x) (has_mark xs y) h)
     where
-      go : (eqb y x ≡ true) ⊎ (is_listed xs y ≡ true) → is_listed xs y ≡ true
+      go : (eqb y x ≡ true) ⊎ (has_mark xs y ≡ true) → has_mark xs y ≡ true
       go (inl e) = absurd (let s = eqb-true y x e in omega arith)
       go (inr l) = l
 
@@ -104,13 +105,13 @@ module _ (r : Reading) (size : ℕ) (schema : Declared) (q : Query) (events : Li
         },
         is_entry x here.0,
         cover_after x xs high a.1 (λ y. (
-          λ h. (let l = (lists y).0 (or_right (eqb y x) (is_listed xs y) h) in (l.0, a.0 y h, l.2)),
+          λ h. (let l = (lists y).0 (or_right (eqb y x) (has_mark xs y) h) in (l.0, a.0 y h, l.2)),
           λ h. (let more = h.1 in let up = h.2 in let low' : p < y = omega arith in later_listed x xs y more ((lists y).1 (h.0, low', up))),
         )),
       )
 
   -- the listed positions from a start to the end cover the events there
-  pub cover_from : (start : ℕ) (xs : List ℕ) → r.Has start → start ≤ end → Ascends xs → ((y : ℕ) → (is_listed xs y ≡ true) ↔ (r.Has y × (start ≤ y) × (y ≤ end))) → Cover r size start (map (entry_at schema q events) xs) end
+  pub cover_from : (start : ℕ) (xs : List ℕ) → r.Has start → start ≤ end → Ascends xs → ((y : ℕ) → (has_mark xs y ≡ true) ↔ (r.Has y × (start ≤ y) × (y ≤ end))) → Cover r size start (map (entry_at schema q events) xs) end
   cover_from start [] has le a lists = let same : start ≤ start = omega arith in false≢true ((lists start).1 (has, same, le))
   cover_from start (x ∷ xs) has le a lists =
       let same : start ≤ start = omega arith in
@@ -121,7 +122,7 @@ module _ (r : Reading) (size : ℕ) (schema : Declared) (q : Query) (events : Li
         omega arith,
         is_entry x here.0,
         cover_after x xs high a.1 (λ y. (
-          λ h. (let l = (lists y).0 (or_right (eqb y x) (is_listed xs y) h) in (l.0, a.0 y h, l.2)),
+          λ h. (let l = (lists y).0 (or_right (eqb y x) (has_mark xs y) h) in (l.0, a.0 y h, l.2)),
           λ h. (let more = h.1 in let up = h.2 in let low' : start ≤ y = omega arith in later_listed x xs y more ((lists y).1 (h.0, low', up))),
         )),
       )

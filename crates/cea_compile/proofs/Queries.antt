@@ -8,10 +8,10 @@ use Rattle.cel_terms.specs.Answers.{IsInWindow, Answer, IsAnswer, selected, subs
 use Rattle.query_leaves.specs.LeafTree.{LeafTree}
 use Rattle.query_leaves.specs.Expand.{Occurrence, expand, selected_tree, tree_of}
 use Rattle.query_leaves.specs.Leaves.{occurrences}
-use Rattle.cea_determinise.specs.Runs.{Automaton, Entry}
+use Rattle.cea_determinise.specs.Runs.{Automaton, Entry, has_mark}
 use Rattle.cea_determinise.specs.Strict.{Standing, begin, next_standing, run_standing, accepted_standing}
 use Rattle.cea_compile.specs.Paths.{Reading, MayComeAfter, tree_meaning, reading}
-use Rattle.cea_compile.specs.Covers.{IsEntry, Cover, CoverAfter, AreWithin, is_listed}
+use Rattle.cea_compile.specs.Covers.{IsEntry, Cover, CoverAfter, AreWithin}
 use Rattle.cea_compile.specs.Compiled.{automaton_of}
 use Rattle.cel_terms.specs.Meaning.{Stream, Meaning, meaning, only_names}
 use Rattle.cea_compile.proofs.Expand.{Same, Same_trans, renamed_same, renamed_tree, expanded}
@@ -26,7 +26,7 @@ pub query_expanded : (stream : Stream) (q : Query) → Same (selected q.select (
 query_expanded stream q = selected_expanded stream q.select (meaning stream q.formula) (expand q.formula) (expanded stream q.formula)
 
 -- The query has the answer at the end exactly where its marks lie there, the determinised run that takes them accepts, and it is in the window.
-pub answer_iff : (schema : Declared) (q : Query) (events : List Event) (end : ℕ) (answer : Answer) (xs : List Entry) → Cover (reading (substream schema q events end) (occurrences (tree_of q))) (automaton_of (tree_of q)).size answer.start xs end → IsAnswer schema q events end answer ↔ (AreWithin (substream schema q events end) answer.start end answer.marks × (accepted_standing (automaton_of (tree_of q)) (run_standing (automaton_of (tree_of q)) q.strict (is_listed answer.marks) begin xs) ≡ true) × IsInWindow schema q events answer.start end)
+pub answer_iff : (schema : Declared) (q : Query) (events : List Event) (end : ℕ) (answer : Answer) (xs : List Entry) → Cover (reading (substream schema q events end) (occurrences (tree_of q))) (automaton_of (tree_of q)).size answer.start xs end → IsAnswer schema q events end answer ↔ (AreWithin (substream schema q events end) answer.start end answer.marks × (accepted_standing (automaton_of (tree_of q)) (run_standing (automaton_of (tree_of q)) q.strict (has_mark answer.marks) begin xs) ≡ true) × IsInWindow schema q events answer.start end)
 answer_iff schema q events end answer xs cover =
     let s = substream schema q events end in
     let iff = marks_iff_standing s (tree_of q) (selected q.select (meaning s q.formula)) (query_expanded s q) (automaton_of (tree_of q)) (automaton_is (tree_of q)) answer.start end answer.marks q.strict xs cover in (

@@ -2,9 +2,8 @@
 use Rattle.std.proofs.Common.{◌≡◌, refl, ℕ, Bool, true, false, List, [], ◌∷◌, eqb}
 use Rattle.query_leaves.specs.LeafTree.{LeafTree, leaf, sequence, plus}
 use Rattle.query_leaves.specs.Expand.{Occurrence}
-use Rattle.cea_determinise.specs.Runs.{Entry}
+use Rattle.cea_determinise.specs.Runs.{Entry, has_mark}
 use Rattle.cea_determinise.specs.Strict.{begin, run_standing, accepted_standing}
-use Rattle.cea_compile.specs.Covers.{is_listed}
 use Rattle.cea_compile.specs.Compiled.{automaton_of}
 
 abbrev named : List ℕ → Occurrence
@@ -18,7 +17,7 @@ abbrev event : ℕ → ℕ → Entry
 event p k = record { position = p; bits = eqb k }
 
 abbrev answers : LeafTree Occurrence → Bool → List ℕ → List Entry → Bool
-answers t strict marks xs = accepted_standing (automaton_of t) (run_standing (automaton_of t) strict (is_listed marks) begin xs)
+answers t strict marks xs = accepted_standing (automaton_of t) (run_standing (automaton_of t) strict (has_mark marks) begin xs)
 
 loose_from_0 : answers (a_then_b false) false (0 ∷ 2 ∷ []) (event 0 0 ∷ event 1 0 ∷ event 2 1 ∷ []) ≡ true
 loose_from_0 = refl

@@ -5,12 +5,12 @@ use Rattle.cel_terms.specs.Answers.{AreContiguous, WhereStrict, HasMarks}
 use Rattle.query_leaves.specs.LeafTree.{LeafTree}
 use Rattle.query_leaves.specs.Expand.{Occurrence}
 use Rattle.query_leaves.specs.Leaves.{occurrences}
-use Rattle.cea_determinise.specs.Runs.{Automaton, State, start, next, Entry, run, accepted_run}
+use Rattle.cea_determinise.specs.Runs.{Automaton, State, start, next, Entry, run, accepted_run, has_mark}
 use Rattle.cea_determinise.specs.declared.cea.Phase.{Phase}
 use Rattle.cea_determinise.specs.declared.cea.Phase.TheVariants.{Before, Within, After}
 use Rattle.cea_determinise.specs.Strict.{phase_after, begin, run_standing, accepted_standing}
 use Rattle.cea_compile.specs.Paths.{Reading, MayComeAfter, tree_meaning, reading}
-use Rattle.cea_compile.specs.Covers.{IsEntry, Cover, CoverAfter, AreWithin, is_listed}
+use Rattle.cea_compile.specs.Covers.{IsEntry, Cover, CoverAfter, AreWithin}
 use Rattle.cel_terms.specs.Meaning.{Stream, Meaning}
 use Rattle.cea_compile.proofs.Expand.{Same}
 use Rattle.cea_compile.proofs.Answers.{IsLeafAutomaton, listed_is, marks_iff_run}
@@ -131,7 +131,7 @@ alive_loose : (m : ℕ → Bool) (xs : List Entry) (p : Phase) → alive false m
 alive_loose m [] p = refl
 alive_loose m (x ∷ xs) p = alive_loose m xs p
 
-contiguous_is : (stream : Stream) (from e : ℕ) (marks : List ℕ) → AreWithin stream from e marks → Asks stream.Has (is_listed marks) e Before from ↔ AreContiguous stream.Has marks
+contiguous_is : (stream : Stream) (from e : ℕ) (marks : List ℕ) → AreWithin stream from e marks → Asks stream.Has (has_mark marks) e Before from ↔ AreContiguous stream.Has marks
 contiguous_is stream from e marks w = (
   λ h x y z hx hz l l' hy. (
       let a = w.within x hx in
@@ -140,22 +140,22 @@ contiguous_is stream from e marks w = (
   λ h x y z hx hy hz a l l' b t t'. (listed_is marks y).1 (h x y z ((listed_is marks x).0 t) ((listed_is marks z).0 t') l l' hy),
 )
 
-strict_is : (stream : Stream) (ls : List Occurrence) (size from e : ℕ) (strict : Bool) (marks : List ℕ) (xs : List Entry) → Cover (reading stream ls) size from xs e → AreWithin stream from e marks → (alive strict (is_listed marks) xs Before ≡ true) ↔ WhereStrict strict (AreContiguous stream.Has marks)
-strict_is stream ls size from e true marks xs c w = iff_trans (alive_from (reading stream ls) size from e (is_listed marks) xs c) (contiguous_is stream from e marks w)
-strict_is stream ls size from e false marks xs c w = (λ h. tt, λ h. alive_loose (is_listed marks) xs Before)
+strict_is : (stream : Stream) (ls : List Occurrence) (size from e : ℕ) (strict : Bool) (marks : List ℕ) (xs : List Entry) → Cover (reading stream ls) size from xs e → AreWithin stream from e marks → (alive strict (has_mark marks) xs Before ≡ true) ↔ WhereStrict strict (AreContiguous stream.Has marks)
+strict_is stream ls size from e true marks xs c w = iff_trans (alive_from (reading stream ls) size from e (has_mark marks) xs c) (contiguous_is stream from e marks w)
+strict_is stream ls size from e false marks xs c w = (λ h. tt, λ h. alive_loose (has_mark marks) xs Before)
 
 -- Some valuation from the start to the end has exactly these marks, and where it is asked they are contiguous: so exactly where the run that watches the phase accepts.
-pub marks_iff_standing : (stream : Stream) (t : LeafTree Occurrence) (part : Meaning) (means : Same part (tree_meaning stream t)) (a : Automaton) (of_tree : IsLeafAutomaton t a) (from end : ℕ) (marks : List ℕ) (strict : Bool) (xs : List Entry) → Cover (reading stream (occurrences t)) a.size from xs end → (HasMarks part from end marks × WhereStrict strict (AreContiguous stream.Has marks)) ↔ (AreWithin stream from end marks × (accepted_standing a (run_standing a strict (is_listed marks) begin xs) ≡ true))
+pub marks_iff_standing : (stream : Stream) (t : LeafTree Occurrence) (part : Meaning) (means : Same part (tree_meaning stream t)) (a : Automaton) (of_tree : IsLeafAutomaton t a) (from end : ℕ) (marks : List ℕ) (strict : Bool) (xs : List Entry) → Cover (reading stream (occurrences t)) a.size from xs end → (HasMarks part from end marks × WhereStrict strict (AreContiguous stream.Has marks)) ↔ (AreWithin stream from end marks × (accepted_standing a (run_standing a strict (has_mark marks) begin xs) ≡ true))
 marks_iff_standing stream t part means a of_tree from end marks strict xs cover = (to, back)
   where
-    plain : HasMarks part from end marks ↔ (AreWithin stream from end marks × (accepted_run a (run a (is_listed marks) start xs) ≡ true))
+    plain : HasMarks part from end marks ↔ (AreWithin stream from end marks × (accepted_run a (run a (has_mark marks) start xs) ≡ true))
     plain = marks_iff_run stream t part means a of_tree from end marks xs cover
 
-    both : (accepted_standing a (run_standing a strict (is_listed marks) begin xs) ≡ true) ↔ ((accepted_run a (run a (is_listed marks) start xs) ≡ true) × (alive strict (is_listed marks) xs Before ≡ true))
-    both = product a strict (is_listed marks) xs start Before
+    both : (accepted_standing a (run_standing a strict (has_mark marks) begin xs) ≡ true) ↔ ((accepted_run a (run a (has_mark marks) start xs) ≡ true) × (alive strict (has_mark marks) xs Before ≡ true))
+    both = product a strict (has_mark marks) xs start Before
 
-    to : HasMarks part from end marks × WhereStrict strict (AreContiguous stream.Has marks) → AreWithin stream from end marks × (accepted_standing a (run_standing a strict (is_listed marks) begin xs) ≡ true)
+    to : HasMarks part from end marks × WhereStrict strict (AreContiguous stream.Has marks) → AreWithin stream from end marks × (accepted_standing a (run_standing a strict (has_mark marks) begin xs) ≡ true)
     to h = let p = plain.0 h.0 in (p.0, both.1 (p.1, (strict_is stream (occurrences t) a.size from end strict marks xs cover p.0).1 h.1))
 
-    back : AreWithin stream from end marks × (accepted_standing a (run_standing a strict (is_listed marks) begin xs) ≡ true) → HasMarks part from end marks × WhereStrict strict (AreContiguous stream.Has marks)
+    back : AreWithin stream from end marks × (accepted_standing a (run_standing a strict (has_mark marks) begin xs) ≡ true) → HasMarks part from end marks × WhereStrict strict (AreContiguous stream.Has marks)
     back h = let p = both.0 h.1 in (plain.1 (h.0, p.0), (strict_is stream (occurrences t) a.size from end strict marks xs cover h.0).0 p.1)

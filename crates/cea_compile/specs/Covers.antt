@@ -1,6 +1,5 @@
 -- The entries of a determinised run tell the events of a substream, and its marks are those of an answer.
-use Rattle.std.specs.Prelude.{◌≡◌, ℕ, ◌<◌, ◌≤◌, ◌⊎◌, ◌↔◌, Bool, true, List, [], ◌∷◌, Contains, eqb}
-use Rattle.std.specs.List.{list_any}
+use Rattle.std.specs.Prelude.{◌≡◌, ℕ, ◌<◌, ◌≤◌, ◌⊎◌, ◌↔◌, Bool, true, List, [], ◌∷◌, Contains}
 use Rattle.cel_terms.specs.Meaning.{Stream}
 use Rattle.cel_terms.specs.Answers.{IsAscending}
 use Rattle.cea_determinise.specs.Runs.{LeafSet, Entry}
@@ -25,10 +24,6 @@ Cover r size from (x ∷ xs) end = (x.position ≡ from) × IsEntry r size x × 
 abbrev pub MarkedAt : LeafSet → List Step → ℕ → Type 0
 MarkedAt marked [] x = ⊥
 MarkedAt marked (s ∷ w) x = ((s.position ≡ x) × (marked s.leaf ≡ true)) ⊎ MarkedAt marked w x
-
--- the number is in the list
-abbrev pub is_listed : List ℕ → ℕ → Bool
-is_listed marks p = list_any (eqb p) marks
 
 -- Marks that a valuation from the start to the end may have: ascending positions of the substream there.
 pub record AreWithin (stream : Stream) (start end : ℕ) (marks : List ℕ) : Type 0 where

@@ -7,9 +7,8 @@ use Rattle.cel_terms.specs.declared.Query.{Query}
 use Rattle.cel_terms.specs.Answers.{Answer, IsAnswer, IsAscending, IsInWindow, IsOfSubstream}
 use Rattle.query_leaves.specs.Expand.{Occurrence, tree_of}
 use Rattle.query_leaves.specs.Leaves.{occurrences, occurrence_reads}
-use Rattle.cea_determinise.specs.Runs.{Entry}
+use Rattle.cea_determinise.specs.Runs.{Entry, has_mark}
 use Rattle.cea_determinise.specs.Strict.{Standing, begin, run_standing, accepted_standing}
-use Rattle.cea_compile.specs.Covers.{is_listed}
 use Rattle.cea_compile.specs.Compiled.{automaton_of}
 
 -- The positions of the substream that the event at the end is in, ascending.
@@ -36,7 +35,7 @@ entry_at schema q events p =
 abbrev pub determinised_run : Declared → Query → List Event → List ℕ → ℕ → ℕ → List ℕ → Option Standing
 determinised_run schema q events positions start end marks =
     let span = from_to start end positions in
-    if is_listed span start && (is_listed span end && list_all (is_listed span) marks) then run_standing (automaton_of (tree_of q)) q.strict (is_listed marks) begin (map (entry_at schema q events) span) else None
+    if has_mark span start && (has_mark span end && list_all (has_mark span) marks) then run_standing (automaton_of (tree_of q)) q.strict (has_mark marks) begin (map (entry_at schema q events) span) else None
 
 -- the determinised run of the answer's marks accepts
 abbrev pub IsAcceptedRun : Declared → Query → List Event → List ℕ → ℕ → Answer → Type 0

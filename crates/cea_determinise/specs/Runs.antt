@@ -2,7 +2,8 @@
 -- Position automata are Glushkov's; that a waiting leaf lets events pass is "CORE: a Complex Event
 -- Recognition Engine" (PVLDB 2022). A leaf to which the next event is like any later one waits at once,
 -- so that runs which differ in that alone meet in one state.
-use Rattle.std.specs.Prelude.{ℕ, zero, suc, Bool, true, false, not, ◌&&◌, ◌||◌, cond, List, [], ◌∷◌, Option, Some, None, option_and_then}
+use Rattle.std.specs.Prelude.{ℕ, zero, suc, Bool, true, false, not, ◌&&◌, ◌||◌, cond, List, [], ◌∷◌, Option, Some, None, option_and_then, eqb}
+use Rattle.std.specs.List.{list_any}
 
 -- A set of leaf numbers, by its test.
 abbrev pub LeafSet : Type 0
@@ -74,6 +75,10 @@ next a s bits mark = let t = successor a s bits mark in cond (has_leaf a t) (Som
 pub record Entry : Type 0 where
   pub position : ℕ
   pub bits : LeafSet
+
+-- the position is marked
+abbrev pub has_mark : List ℕ → ℕ → Bool
+has_mark marks p = list_any (eqb p) marks
 
 -- The state after the entries, of which the positions in the set are marked.
 abbrev pub run : Automaton → (ℕ → Bool) → State → List Entry → Option State

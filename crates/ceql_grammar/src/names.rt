@@ -32,15 +32,15 @@ pub fn names<'a>(alloc: Global, tokens: &'a [Token]) -> Read<'a, Names>
 pub fn names_within<'a>(
     alloc: Global,
     tokens: &'a [Token],
-    open: &[u8],
-    close: &[u8],
+    opening: &[u8],
+    closing: &[u8],
 ) -> Read<'a, Names>
-    ensures value { ReadsAs (λ ns. ns) result (led open.now (closed close.now names) tokens.now) }
+    ensures value { ReadsAs (λ ns. ns) result (led opening.now (closed closing.now names) tokens.now) }
     ensures shorter { IfOk result (λ p. length p.1.now < length tokens.now) }
 {
-    let inside = expect(tokens, open)?;
+    let inside = expect(tokens, opening)?;
     let (names, rest) = names(alloc, inside)?;
-    closed(names, rest, close)
+    closed(names, rest, closing)
 }
 
 /// Names with commas between them, in brackets.

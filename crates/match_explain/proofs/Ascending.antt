@@ -10,7 +10,7 @@ use Rattle.std.proofs.lemmas.List.Sorted.{searched}
 use Rattle.std.proofs.lemmas.Option.{get_or_from_slice_get, slice_get-get_or, slice_get_within}
 use Rattle.std.proofs.lemmas.Map.Keys.{sorted_from_strictly_increasing, below_from_sorted}
 use Rattle.cel_terms.specs.Answers.{IsAscending}
-use Rattle.cea_compile.specs.Covers.{is_listed}
+use Rattle.cea_determinise.specs.Runs.{has_mark}
 use Rattle.cea_compile.proofs.Answers.{listed_is}
 
 pub ascending_from : (xs : List ℕ) → IsStrictlyIncreasing xs → IsAscending xs
@@ -37,7 +37,7 @@ in_order xs up i j le less = go (cases_order i j)
     go (inr (inl lt)) = let first : i < length xs = omega arith in let h = up i j (get_or xs i 0) (get_or xs j 0) lt (slice_get-get_or xs i 0 first) (slice_get-get_or xs j 0 less) in omega arith
     go (inr (inr gt)) = absurd (omega arith)
 
-pub search_is : (xs : List ℕ) (x : ℕ) (r : Result ℕ ℕ) → IsBinarySearchResult (λ y. nat_cmp y x) xs r → IsAscending xs → is_ok r ≡ is_listed xs x
+pub search_is : (xs : List ℕ) (x : ℕ) (r : Result ℕ ℕ) → IsBinarySearchResult (λ y. nat_cmp y x) xs r → IsAscending xs → is_ok r ≡ has_mark xs x
 search_is xs x r found up = go r (searched xs x r found (in_order xs up))
   where
     none : (k : ℕ) → ((j : ℕ) → j < k → get_or xs j 0 < x) → ((j : ℕ) → k ≤ j → j < length xs → x < get_or xs j 0) → Contains xs x → ⊥
@@ -50,9 +50,9 @@ search_is xs x r found up = go r (searched xs x r found (in_order xs up))
         at (inl less) = let e = same in let l = low h.0 less in omega arith
         at (inr le) = let e = same in let l = high h.0 le h.1 in omega arith
 
-    go : (r : Result ℕ ℕ) → MatchResult r (λ i. (i < length xs) × (get_or xs i 0 ≡ x)) (λ i. (i ≤ length xs) × ((k : ℕ) → k < i → get_or xs k 0 < x) × ((k : ℕ) → i ≤ k → k < length xs → x < get_or xs k 0)) → is_ok r ≡ is_listed xs x
+    go : (r : Result ℕ ℕ) → MatchResult r (λ i. (i < length xs) × (get_or xs i 0 ≡ x)) (λ i. (i ≤ length xs) × ((k : ℕ) → k < i → get_or xs k 0 < x) × ((k : ℕ) → i ≤ k → k < length xs → x < get_or xs k 0)) → is_ok r ≡ has_mark xs x
     go (Ok i) h = sym ((listed_is xs x).1 (i, h.0, get_or_default xs i x 0 h.0 ∙ h.1))
-    go (Err i) h = sym (false_from_ne_true (is_listed xs x) (λ l. none i h.1 h.2 ((listed_is xs x).0 l)))
+    go (Err i) h = sym (false_from_ne_true (has_mark xs x) (λ l. none i h.1 h.2 ((listed_is xs x).0 l)))
 
 pub zip_push : {A B : Type 0} (R : A → B → Type 0) (xs : List A) (ys : List B) (x : A) (y : B) → AllZip R xs ys → R x y → AllZip R (xs ++ x ∷ []) (ys ++ y ∷ [])
 zip_push R [] [] x y h r = (r, tt)

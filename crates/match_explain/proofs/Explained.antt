@@ -12,9 +12,9 @@ use Rattle.cel_plain.proofs.Members.{Among, contains_from, among_from, among_fil
 use Rattle.cel_plain.proofs.Naming.{listed_is as names_listed_is}
 use Rattle.query_leaves.specs.Expand.{Occurrence, tree_of, expand}
 use Rattle.query_leaves.specs.Leaves.{occurrences, numbered, names_in, leaf_is_marked}
-use Rattle.cea_determinise.specs.Runs.{Automaton, Entry}
+use Rattle.cea_determinise.specs.Runs.{Automaton, Entry, has_mark}
 use Rattle.cea_compile.specs.Paths.{Step, reading, valuation}
-use Rattle.cea_compile.specs.Covers.{Cover, MarkedAt, is_listed}
+use Rattle.cea_compile.specs.Covers.{Cover, MarkedAt}
 use Rattle.cea_compile.specs.Compiled.{automaton_of}
 use Rattle.cea_compile.specs.DeterminisedRuns.{entry_at}
 use Rattle.cea_compile.proofs.Answers.{listed_is, marks_iff_run}
@@ -45,12 +45,12 @@ turn_marked a marks [] (t ∷ ts) p are h = absurd are
 turn_marked a marks (x ∷ xs) (t ∷ ts) p are (inl h) = ap marks (sym h.0 ∙ are.0.position) ∙ (sym are.0.marked ∙ h.1)
 turn_marked a marks (x ∷ xs) (t ∷ ts) p are (inr h) = turn_marked a marks xs ts p are.1 h
 
-marked_turn : (schema : Declared) (q : Query) (events : List Event) (a : Automaton) (marks : ℕ → Bool) (span : List ℕ) (ts : List Turn) (p : ℕ) → AreTurnsOf a marks (map (entry_at schema q events) span) ts → is_listed span p ≡ true → marks p ≡ true → IsMarkedTurn ts p
+marked_turn : (schema : Declared) (q : Query) (events : List Event) (a : Automaton) (marks : ℕ → Bool) (span : List ℕ) (ts : List Turn) (p : ℕ) → AreTurnsOf a marks (map (entry_at schema q events) span) ts → has_mark span p ≡ true → marks p ≡ true → IsMarkedTurn ts p
 marked_turn schema q events a marks [] ts p are l m = absurd (false≢true l)
 marked_turn schema q events a marks (x ∷ span) [] p are l m = absurd are
-marked_turn schema q events a marks (x ∷ span) (t ∷ ts) p are l m = go (marked_turn schema q events a marks span ts p are.1) (or_cases (eqb p x) (is_listed span p) l)
+marked_turn schema q events a marks (x ∷ span) (t ∷ ts) p are l m = go (marked_turn schema q events a marks span ts p are.1) (or_cases (eqb p x) (has_mark span p) l)
   where
-    go : (is_listed span p ≡ true → marks p ≡ true → IsMarkedTurn ts p) → (eqb p x ≡ true) ⊎ (is_listed span p ≡ true) → IsMarkedTurn (t ∷ ts) p
+    go : (has_mark span p ≡ true → marks p ≡ true → IsMarkedTurn ts p) → (eqb p x ≡ true) ⊎ (has_mark span p ≡ true) → IsMarkedTurn (t ∷ ts) p
     go rest (inl e) = let same = eqb-true p x e in inl (are.0.position ∙ sym same, are.0.marked ∙ (ap marks (sym same) ∙ m))
     go rest (inr k) = inr (rest k m)
 
@@ -115,13 +115,13 @@ module _ (schema : Declared) (q : Query) (events : List Event) (first end : ℕ)
   cover : Cover (reading (substream schema q events end) (occurrences (tree_of q))) (automaton_of (tree_of q)).size first (map (entry_at schema q events) (span_of schema q events first end)) end
   cover = span_covers schema q events first end m.begins m.ends
 
-  within : (p : ℕ) → is_listed marks p ≡ true → is_listed (span_of schema q events first end) p ≡ true
+  within : (p : ℕ) → has_mark marks p ≡ true → has_mark (span_of schema q events first end) p ≡ true
   within = listed_all schema q events first end marks m.within
 
   -- The bindings of a run explain it.
   pub explained : (steps : List Step) → IsRun schema q events (span_of schema q events first end) marks steps → Explains schema q events first end marks (bindings_of (leaf_names q.formula) steps)
   explained steps r =
-      let w = walk_of (reading (substream schema q events end) (occurrences (tree_of q))) (numbered 0 (tree_of q)) (automaton_of (tree_of q)) (is_listed marks) first end (map (entry_at schema q events) (span_of schema q events first end)) r.turns steps (automaton_is (tree_of q)).pairs r.told cover r.goes in
+      let w = walk_of (reading (substream schema q events end) (occurrences (tree_of q))) (numbered 0 (tree_of q)) (automaton_of (tree_of q)) (has_mark marks) first end (map (entry_at schema q events) (span_of schema q events first end)) r.turns steps (automaton_is (tree_of q)).pairs r.told cover r.goes in
       let path = (path_iff_walk (reading (substream schema q events end) (occurrences (tree_of q))) (numbered 0 (tree_of q)) (numbered_linear (tree_of q) 0) first end steps).1 w in
       let are : leaf_names q.formula ≡ map (λ (o : Occurrence). o.names) (occurrences (expand q.formula)) = sym (expand_names q.formula) in
       record {
@@ -131,13 +131,13 @@ module _ (schema : Declared) (q : Query) (events : List Event) (first end : ℕ)
         marked = λ p. (
           λ c. (
               let l = (listed_is marks p).1 c in
-              let t = marked_turn schema q events (automaton_of (tree_of q)) (is_listed marks) (span_of schema q events first end) r.turns p r.told (within p l) l in
-              let s = marked_step (occurrences (expand q.formula)) (occurrences (tree_of q)) q.select steps p (names_kept q.select (expand q.formula)) (marked_to (automaton_of (tree_of q)) (is_listed marks) Start (map (entry_at schema q events) (span_of schema q events first end)) r.turns steps p r.told r.goes t) in
+              let t = marked_turn schema q events (automaton_of (tree_of q)) (has_mark marks) (span_of schema q events first end) r.turns p r.told (within p l) l in
+              let s = marked_step (occurrences (expand q.formula)) (occurrences (tree_of q)) q.select steps p (names_kept q.select (expand q.formula)) (marked_to (automaton_of (tree_of q)) (has_mark marks) Start (map (entry_at schema q events) (span_of schema q events first end)) r.turns steps p r.told r.goes t) in
               by_from (occurrences (expand q.formula)) (leaf_names q.formula) are q.select steps p s.0 s.1 s.2),
           λ b. (
               let s = by_to (occurrences (expand q.formula)) (leaf_names q.formula) are q.select steps p b in
-              let t = marked_from (automaton_of (tree_of q)) (is_listed marks) Start (map (entry_at schema q events) (span_of schema q events first end)) r.turns steps p r.told r.goes (step_marked (occurrences (expand q.formula)) (occurrences (tree_of q)) q.select steps p (names_kept q.select (expand q.formula)) s.0 s.1 s.2) in
-              (listed_is marks p).0 (turn_marked (automaton_of (tree_of q)) (is_listed marks) (map (entry_at schema q events) (span_of schema q events first end)) r.turns p r.told t)),
+              let t = marked_from (automaton_of (tree_of q)) (has_mark marks) Start (map (entry_at schema q events) (span_of schema q events first end)) r.turns steps p r.told r.goes (step_marked (occurrences (expand q.formula)) (occurrences (tree_of q)) q.select steps p (names_kept q.select (expand q.formula)) s.0 s.1 s.2) in
+              (listed_is marks p).0 (turn_marked (automaton_of (tree_of q)) (has_mark marks) (map (entry_at schema q events) (span_of schema q events first end)) r.turns p r.told t)),
         );
         strict = strict_from q.strict (IsOfSubstream schema q events end) (span_of schema q events first end) marks m.ascending within first end (span_lists schema q events first end) m.strict;
         window = window_from schema q events first end m.window;
@@ -148,7 +148,7 @@ module _ (schema : Declared) (q : Query) (events : List Event) (first end : ℕ)
   no_answer n a =
       let s = substream schema q events end in
       let iff = marks_iff_run s (tree_of q) (selected q.select (meaning s q.formula)) (query_expanded s q) (automaton_of (tree_of q)) (automaton_is (tree_of q)) first end marks (map (entry_at schema q events) (span_of schema q events first end)) cover in
-      let can = begins (reading s (occurrences (tree_of q))) (automaton_of (tree_of q)) (is_listed marks) first end (map (entry_at schema q events) (span_of schema q events first end)) n.turns cover n.told (iff.0 a.marks).1 in
+      let can = begins (reading s (occurrences (tree_of q))) (automaton_of (tree_of q)) (has_mark marks) first end (map (entry_at schema q events) (span_of schema q events first end)) n.turns cover n.told (iff.0 a.marks).1 in
       false≢true (sym n.stuck ∙ can)
 
 -- the valuation that SELECT leaves

@@ -16,8 +16,9 @@ use Rattle.cel_plain.proofs.Keys.{positions_from, positions_to}
 use Rattle.cel_plain.proofs.Windows.{window_to}
 use Rattle.query_leaves.specs.Expand.{tree_of}
 use Rattle.query_leaves.specs.Leaves.{occurrences}
+use Rattle.cea_determinise.specs.Runs.{has_mark}
 use Rattle.cea_compile.specs.Paths.{reading}
-use Rattle.cea_compile.specs.Covers.{Cover, is_listed}
+use Rattle.cea_compile.specs.Covers.{Cover}
 use Rattle.cea_compile.specs.Compiled.{automaton_of}
 use Rattle.cea_compile.specs.DeterminisedRuns.{from_to, entry_at}
 use Rattle.cea_compile.proofs.Answers.{listed_is}
@@ -25,7 +26,7 @@ use Rattle.cea_compile.proofs.Entries.{Ascends, ascends, ascends_filter, listed_
 use Rattle.match_explain.specs.Spans.{lies_between, is_strict_enough, MayBe}
 use Rattle.match_explain.proofs.Ascending.{in_order}
 
-listed_get : (xs : List ℕ) (i y : ℕ) → slice_get xs i ≡ Some y → is_listed xs y ≡ true
+listed_get : (xs : List ℕ) (i y : ℕ) → slice_get xs i ≡ Some y → has_mark xs y ≡ true
 listed_get xs i y e =
     let less = slice_get_within xs i y e in
     (listed_is xs y).1 (i, less, get_or_from_slice_get xs i y y e)
@@ -60,14 +61,14 @@ module _ (schema : Declared) (q : Query) (events : List Event) (start end : ℕ)
   pub span_ascends : IsAscending the_span
   span_ascends = is_ascending the_span rising
 
-  pub span_lists : (p : ℕ) → (is_listed the_span p ≡ true) ↔ (IsOfSubstream schema q events end p × (start ≤ p) × (p ≤ end))
+  pub span_lists : (p : ℕ) → (has_mark the_span p ≡ true) ↔ (IsOfSubstream schema q events end p × (start ≤ p) × (p ≤ end))
   span_lists p = (
     λ h. (
-        let both = and_parts (is_listed positions p) (nat_le start p && nat_le p end) (sym (listed_filter (λ x. nat_le start x && nat_le x end) positions p) ∙ h) in
+        let both = and_parts (has_mark positions p) (nat_le start p && nat_le p end) (sym (listed_filter (λ x. nat_le start x && nat_le x end) positions p) ∙ h) in
         let range = and_parts (nat_le start p) (nat_le p end) both.1 in
         (positions_from schema q events end p ((listed_is positions p).0 both.0), leb-true start p range.0, leb-true p end range.1)),
     λ h. (listed_filter (λ x. nat_le start x && nat_le x end) positions p ∙
-        and_from (is_listed positions p) (nat_le start p && nat_le p end) ((listed_is positions p).1 (positions_to schema q events end p h.0))
+        and_from (has_mark positions p) (nat_le start p && nat_le p end) ((listed_is positions p).1 (positions_to schema q events end p h.0))
         (and_from (nat_le start p) (nat_le p end) (le-leb start p h.1) (le-leb p end h.2))),
   )
 
@@ -76,26 +77,26 @@ module _ (schema : Declared) (q : Query) (events : List Event) (start end : ℕ)
       let h = (span_lists (get_or the_span k d)).0 ((listed_is the_span (get_or the_span k d)).1 (k, less, get_or_default the_span k (get_or the_span k d) d less)) in
       slice_get_within events (get_or the_span k d) h.0.here h.0.here_is
 
-  pub span_covers : is_listed the_span start ≡ true → is_listed the_span end ≡ true → Cover (reading (substream schema q events end) (occurrences (tree_of q))) (automaton_of (tree_of q)).size start (map (entry_at schema q events) the_span) end
+  pub span_covers : has_mark the_span start ≡ true → has_mark the_span end ≡ true → Cover (reading (substream schema q events end) (occurrences (tree_of q))) (automaton_of (tree_of q)).size start (map (entry_at schema q events) the_span) end
   span_covers b e =
       let begins = (span_lists start).0 b in
       let ends = (span_lists end).0 e in
       cover_from (reading (substream schema q events end) (occurrences (tree_of q))) (length (occurrences (tree_of q))) schema q events (is_entry schema q events end) end ends.0 start the_span begins.0 begins.2 rising span_lists
 
-  all_listed : (marks : List ℕ) → ((p : ℕ) → is_listed marks p ≡ true → is_listed the_span p ≡ true) → list_all (is_listed the_span) marks ≡ true
+  all_listed : (marks : List ℕ) → ((p : ℕ) → has_mark marks p ≡ true → has_mark the_span p ≡ true) → list_all (has_mark the_span) marks ≡ true
   all_listed [] f = refl
   all_listed (m ∷ ms) f =
-      and_from (is_listed the_span m) (list_all (is_listed the_span) ms) (f m (listed_get (m ∷ ms) 0 m refl))
-      (all_listed ms (λ p l. f p (or_right (eqb p m) (is_listed ms p) l)))
+      and_from (has_mark the_span m) (list_all (has_mark the_span) ms) (f m (listed_get (m ∷ ms) 0 m refl))
+      (all_listed ms (λ p l. f p (or_right (eqb p m) (has_mark ms p) l)))
 
-  pub listed_all : (marks : List ℕ) → list_all (is_listed the_span) marks ≡ true → (p : ℕ) → is_listed marks p ≡ true → is_listed the_span p ≡ true
+  pub listed_all : (marks : List ℕ) → list_all (has_mark the_span) marks ≡ true → (p : ℕ) → has_mark marks p ≡ true → has_mark the_span p ≡ true
   listed_all [] h p l = absurd (false≢true l)
   listed_all (m ∷ ms) h p l =
-      let parts = and_parts (is_listed the_span m) (list_all (is_listed the_span) ms) h in
-      go parts.0 (listed_all ms parts.1 p) (or_cases (eqb p m) (is_listed ms p) l)
+      let parts = and_parts (has_mark the_span m) (list_all (has_mark the_span) ms) h in
+      go parts.0 (listed_all ms parts.1 p) (or_cases (eqb p m) (has_mark ms p) l)
     where
-      go : is_listed the_span m ≡ true → (is_listed ms p ≡ true → is_listed the_span p ≡ true) → (eqb p m ≡ true) ⊎ (is_listed ms p ≡ true) → is_listed the_span p ≡ true
-      go here rest (inl e) = subst (λ n. is_listed the_span n ≡ true) (sym (eqb-true p m e)) here
+      go : has_mark the_span m ≡ true → (has_mark ms p ≡ true → has_mark the_span p ≡ true) → (eqb p m ≡ true) ⊎ (has_mark ms p ≡ true) → has_mark the_span p ≡ true
+      go here rest (inl e) = subst (λ n. has_mark the_span n ≡ true) (sym (eqb-true p m e)) here
       go here rest (inr k) = rest k
 
 -- contiguous marks
@@ -118,24 +119,24 @@ last_high marks up high p c less =
     let last : get_or marks (length marks - 1) p ≡ get_or marks (length marks - 1) 0 = get_or_default marks (length marks - 1) p 0 end in
     lt-ltb p (get_or marks (length marks - 1) p) (omega arith)
 
-each_passes : (f : ℕ → Bool) (xs : List ℕ) → list_all f xs ≡ true → (p : ℕ) → is_listed xs p ≡ true → f p ≡ true
+each_passes : (f : ℕ → Bool) (xs : List ℕ) → list_all f xs ≡ true → (p : ℕ) → has_mark xs p ≡ true → f p ≡ true
 each_passes f [] h p l = absurd (false≢true l)
 each_passes f (x ∷ xs) h p l =
     let parts = and_parts (f x) (list_all f xs) h in
-    go parts.0 (each_passes f xs parts.1 p) (or_cases (eqb p x) (is_listed xs p) l)
+    go parts.0 (each_passes f xs parts.1 p) (or_cases (eqb p x) (has_mark xs p) l)
   where
-    go : f x ≡ true → (is_listed xs p ≡ true → f p ≡ true) → (eqb p x ≡ true) ⊎ (is_listed xs p ≡ true) → f p ≡ true
+    go : f x ≡ true → (has_mark xs p ≡ true → f p ≡ true) → (eqb p x ≡ true) ⊎ (has_mark xs p ≡ true) → f p ≡ true
     go here rest (inl e) = subst (λ n. f n ≡ true) (sym (eqb-true p x e)) here
     go here rest (inr k) = rest k
 
-all_pass : (f : ℕ → Bool) (xs : List ℕ) → ((p : ℕ) → is_listed xs p ≡ true → f p ≡ true) → list_all f xs ≡ true
+all_pass : (f : ℕ → Bool) (xs : List ℕ) → ((p : ℕ) → has_mark xs p ≡ true → f p ≡ true) → list_all f xs ≡ true
 all_pass f [] g = refl
-all_pass f (x ∷ xs) g = and_from (f x) (list_all f xs) (g x (listed_get (x ∷ xs) 0 x refl)) (all_pass f xs (λ p l. g p (or_right (eqb p x) (is_listed xs p) l)))
+all_pass f (x ∷ xs) g = and_from (f x) (list_all f xs) (g x (listed_get (x ∷ xs) 0 x refl)) (all_pass f xs (λ p l. g p (or_right (eqb p x) (has_mark xs p) l)))
 
 abbrev passes : List ℕ → ℕ → Bool
-passes marks p = not (lies_between marks p) || is_listed marks p
+passes marks p = not (lies_between marks p) || has_mark marks p
 
-contiguous_from : (Has : ℕ → Type 0) (span marks : List ℕ) → IsAscending marks → ((p : ℕ) → is_listed marks p ≡ true → is_listed span p ≡ true) → (start end : ℕ) → ((p : ℕ) → (is_listed span p ≡ true) ↔ (Has p × (start ≤ p) × (p ≤ end))) → list_all (passes marks) span ≡ true → AreContiguous Has marks
+contiguous_from : (Has : ℕ → Type 0) (span marks : List ℕ) → IsAscending marks → ((p : ℕ) → has_mark marks p ≡ true → has_mark span p ≡ true) → (start end : ℕ) → ((p : ℕ) → (has_mark span p ≡ true) ↔ (Has p × (start ≤ p) × (p ≤ end))) → list_all (passes marks) span ≡ true → AreContiguous Has marks
 contiguous_from Has span marks up within start end lists h low p high cl ch less more has =
     let l = (lists low).0 (within low ((listed_is marks low).1 cl)) in
     let u = (lists high).0 (within high ((listed_is marks high).1 ch)) in
@@ -143,9 +144,9 @@ contiguous_from Has span marks up within start end lists h low p high cl ch less
     let to = u.2 in
     let there = (lists p).1 (has, omega arith, omega arith) in
     let between = and_from (nat_lt (get_or marks 0 p) p) (nat_lt p (get_or marks (length marks - 1) p)) (first_low marks up low p cl less) (last_high marks up high p ch more) in
-    (listed_is marks p).0 (go between (or_cases (not (lies_between marks p)) (is_listed marks p) (each_passes (passes marks) span h p there)))
+    (listed_is marks p).0 (go between (or_cases (not (lies_between marks p)) (has_mark marks p) (each_passes (passes marks) span h p there)))
   where
-    go : lies_between marks p ≡ true → (not (lies_between marks p) ≡ true) ⊎ (is_listed marks p ≡ true) → is_listed marks p ≡ true
+    go : lies_between marks p ≡ true → (not (lies_between marks p) ≡ true) ⊎ (has_mark marks p ≡ true) → has_mark marks p ≡ true
     go b (inl n) = absurd (false≢true (sym (not-true (lies_between marks p) n) ∙ b))
     go b (inr m) = m
 
@@ -153,24 +154,24 @@ first_there : (marks : List ℕ) (p : ℕ) → nat_lt (get_or marks 0 p) p ≡ t
 first_there [] p h = absurd (let l = ltb-true p p h in omega arith)
 first_there (m ∷ ms) p h = omega arith
 
-contiguous_to : (Has : ℕ → Type 0) (span marks : List ℕ) → (start end : ℕ) → ((p : ℕ) → (is_listed span p ≡ true) ↔ (Has p × (start ≤ p) × (p ≤ end))) → AreContiguous Has marks → list_all (passes marks) span ≡ true
+contiguous_to : (Has : ℕ → Type 0) (span marks : List ℕ) → (start end : ℕ) → ((p : ℕ) → (has_mark span p ≡ true) ↔ (Has p × (start ≤ p) × (p ≤ end))) → AreContiguous Has marks → list_all (passes marks) span ≡ true
 contiguous_to Has span marks start end lists contiguous = all_pass (passes marks) span (λ p l. go p ((lists p).0 l).0 (lies_between marks p) refl)
   where
     go : (p : ℕ) → Has p → (b : Bool) → lies_between marks p ≡ b → passes marks p ≡ true
-    go p has false e = or_left (not (lies_between marks p)) (is_listed marks p) (not_from_false (lies_between marks p) e)
+    go p has false e = or_left (not (lies_between marks p)) (has_mark marks p) (not_from_false (lies_between marks p) e)
     go p has true e =
         let both = and_parts (nat_lt (get_or marks 0 p) p) (nat_lt p (get_or marks (length marks - 1) p)) e in
         let some = first_there marks p both.0 in
         let end : length marks - 1 < length marks = omega arith in
-        or_right (not (lies_between marks p)) (is_listed marks p) ((listed_is marks p).1
+        or_right (not (lies_between marks p)) (has_mark marks p) ((listed_is marks p).1
         (contiguous (get_or marks 0 p) p (get_or marks (length marks - 1) p) (0, some, get_or_default marks 0 (get_or marks 0 p) p some) (length marks - 1, end, get_or_default marks (length marks - 1) (get_or marks (length marks - 1) p) p end)
         (ltb-true (get_or marks 0 p) p both.0) (ltb-true p (get_or marks (length marks - 1) p) both.1) has))
 
-pub strict_from : (strict : Bool) (Has : ℕ → Type 0) (span marks : List ℕ) → IsAscending marks → ((p : ℕ) → is_listed marks p ≡ true → is_listed span p ≡ true) → (start end : ℕ) → ((p : ℕ) → (is_listed span p ≡ true) ↔ (Has p × (start ≤ p) × (p ≤ end))) → is_strict_enough strict span marks ≡ true → WhereStrict strict (AreContiguous Has marks)
+pub strict_from : (strict : Bool) (Has : ℕ → Type 0) (span marks : List ℕ) → IsAscending marks → ((p : ℕ) → has_mark marks p ≡ true → has_mark span p ≡ true) → (start end : ℕ) → ((p : ℕ) → (has_mark span p ≡ true) ↔ (Has p × (start ≤ p) × (p ≤ end))) → is_strict_enough strict span marks ≡ true → WhereStrict strict (AreContiguous Has marks)
 strict_from true Has span marks up within start end lists h = contiguous_from Has span marks up within start end lists h
 strict_from false Has span marks up within start end lists h = tt
 
-strict_to : (strict : Bool) (Has : ℕ → Type 0) (span marks : List ℕ) → (start end : ℕ) → ((p : ℕ) → (is_listed span p ≡ true) ↔ (Has p × (start ≤ p) × (p ≤ end))) → WhereStrict strict (AreContiguous Has marks) → is_strict_enough strict span marks ≡ true
+strict_to : (strict : Bool) (Has : ℕ → Type 0) (span marks : List ℕ) → (start end : ℕ) → ((p : ℕ) → (has_mark span p ≡ true) ↔ (Has p × (start ≤ p) × (p ≤ end))) → WhereStrict strict (AreContiguous Has marks) → is_strict_enough strict span marks ≡ true
 strict_to true Has span marks start end lists h = contiguous_to Has span marks start end lists h
 strict_to false Has span marks start end lists h = refl
 

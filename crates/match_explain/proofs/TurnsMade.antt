@@ -14,10 +14,9 @@ use Rattle.query_leaves.specs.Shapes.{tree_of_shape, AreLeavesOf}
 use Rattle.query_leaves.specs.Conditions.{leaf_conditions}
 use Rattle.cer_base.specs.Bits.{has}
 use Rattle.cea_determinise.specs.declared.cea.Cea.{Cea}
-use Rattle.cea_determinise.specs.Runs.{LeafSet, Automaton, agrees}
+use Rattle.cea_determinise.specs.Runs.{LeafSet, Automaton, agrees, has_mark}
 use Rattle.cea_determinise.specs.Cea.{automaton_of_cea, IsSet}
 use Rattle.cea_compile.specs.Compiled.{automaton_of}
-use Rattle.cea_compile.specs.Covers.{is_listed}
 use Rattle.cea_compile.specs.DeterminisedRuns.{entry_at}
 use Rattle.cea_compile.specs.LeafAutomaton.{automaton_of_leaves, TellQuery}
 use Rattle.cea_compile.proofs.LeafAutomaton.{leaves_tell}
@@ -40,7 +39,7 @@ there : (events : List Event) (p : ℕ) → p < length events → (event : Event
 there [] p less = absurd (omega arith)
 there (e ∷ es) p less = (get_or (e ∷ es) p e, slice_get-get_or (e ∷ es) p e less)
 
-turn_told : (schema : Declared) (q : Query) (events : List Event) (marks : List ℕ) (leaves : List Leaf) (a : Automaton) (size p : ℕ) (t : Turn) → ((p : ℕ) (event : Event) → slice_get events p ≡ Some event → leaf_conditions leaves event ≡ (entry_at schema q events p).bits) → p < length events → IsTurnAt leaves a.marked size events marks p t → IsTurnOf a (is_listed marks) (entry_at schema q events p) t
+turn_told : (schema : Declared) (q : Query) (events : List Event) (marks : List ℕ) (leaves : List Leaf) (a : Automaton) (size p : ℕ) (t : Turn) → ((p : ℕ) (event : Event) → slice_get events p ≡ Some event → leaf_conditions leaves event ≡ (entry_at schema q events p).bits) → p < length events → IsTurnAt leaves a.marked size events marks p t → IsTurnOf a (has_mark marks) (entry_at schema q events p) t
 turn_told schema q events marks leaves a size p t bits less h =
     let e = there events p less in record {
       position = h.position;
@@ -48,7 +47,7 @@ turn_told schema q events marks leaves a size p t bits less h =
       readers = λ k. h.readers e.0 e.1 k ∙ ap (λ (s : LeafSet). s k && agrees t.marked (a.marked k)) (bits p e.0 e.1);
     }
 
-turns_told : (schema : Declared) (q : Query) (events : List Event) (marks : List ℕ) (leaves : List Leaf) (a : Automaton) (size : ℕ) (span : List ℕ) (turns : List Turn) → ((p : ℕ) (event : Event) → slice_get events p ≡ Some event → leaf_conditions leaves event ≡ (entry_at schema q events p).bits) → All (λ p. p < length events) span → AllZip (IsTurnAt leaves a.marked size events marks) span turns → AreTurnsOf a (is_listed marks) (map (entry_at schema q events) span) turns
+turns_told : (schema : Declared) (q : Query) (events : List Event) (marks : List ℕ) (leaves : List Leaf) (a : Automaton) (size : ℕ) (span : List ℕ) (turns : List Turn) → ((p : ℕ) (event : Event) → slice_get events p ≡ Some event → leaf_conditions leaves event ≡ (entry_at schema q events p).bits) → All (λ p. p < length events) span → AllZip (IsTurnAt leaves a.marked size events marks) span turns → AreTurnsOf a (has_mark marks) (map (entry_at schema q events) span) turns
 turns_told schema q events marks leaves a size [] [] bits all h = tt
 turns_told schema q events marks leaves a size [] (t ∷ ts) bits all h = absurd h
 turns_told schema q events marks leaves a size (p ∷ ps) [] bits all h = absurd h
@@ -72,13 +71,13 @@ module _ (schema : Declared) (q : Query) (events : List Event) (span marks : Lis
   same : automaton_of_cea cea ≡ automaton_of (tree_of q)
   same = m.automaton ∙ tells.automaton
 
-  told_here : AreTurnsOf (automaton_of_cea cea) (is_listed marks) (map (entry_at schema q events) span) turns
+  told_here : AreTurnsOf (automaton_of_cea cea) (has_mark marks) (map (entry_at schema q events) span) turns
   told_here = turns_told schema q events marks list (automaton_of_cea cea) (length list) span turns
       (λ p event h. ap (λ (ls : List Leaf). leaf_conditions ls event) m.listed ∙ tells.bits events p event h)
       m.there m.zipped
 
-  told : AreTurnsOf (automaton_of (tree_of q)) (is_listed marks) (map (entry_at schema q events) span) turns
-  told = subst (λ (a : Automaton). AreTurnsOf a (is_listed marks) (map (entry_at schema q events) span) turns) same told_here
+  told : AreTurnsOf (automaton_of (tree_of q)) (has_mark marks) (map (entry_at schema q events) span) turns
+  told = subst (λ (a : Automaton). AreTurnsOf a (has_mark marks) (map (entry_at schema q events) span) turns) same told_here
 
   pub size_is : cea.size ≡ length list
   size_is = ap (λ (a : Automaton). a.size) m.automaton ∙ sym (ap length m.listed)

@@ -10,10 +10,9 @@ use Rattle.cea_compile.specs.DeterminisedRuns.{entry_at}
 use Rattle.query_leaves.specs.declared.Leaf.{Leaf}
 use Rattle.query_leaves.specs.Conditions.{leaf_conditions}
 use Rattle.cer_base.specs.Bits.{has}
-use Rattle.cea_determinise.specs.Runs.{LeafSet, Automaton, some_below, agrees, Entry}
+use Rattle.cea_determinise.specs.Runs.{LeafSet, Automaton, some_below, agrees, Entry, has_mark}
 use Rattle.cea_determinise.specs.Cea.{IsSet}
 use Rattle.cea_compile.specs.Paths.{Step}
-use Rattle.cea_compile.specs.Covers.{is_listed}
 use Rattle.match_explain.specs.declared.turns.Turn.{Turn}
 use Rattle.match_explain.specs.declared.moves.Last.{Last}
 use Rattle.match_explain.specs.declared.moves.Last.TheVariants.{Start, Leaf as At}
@@ -24,7 +23,7 @@ use Rattle.match_explain.specs.declared.finishing.Ahead.{Ahead}
 -- The turn is that of the event at the position: the leaves that can read it and are marked where it is.
 pub record IsTurnAt (leaves : List Leaf) (marked_leaves : LeafSet) (size : ℕ) (events : List Event) (marks : List ℕ) (place : ℕ) (turn : Turn) : Type 0 where
   pub position : turn.position ≡ place
-  pub marked : turn.marked ≡ is_listed marks place
+  pub marked : turn.marked ≡ has_mark marks place
   pub set : IsSet size turn.readers
   pub readers : (event : Event) → slice_get events place ≡ Some event → (k : ℕ) → has turn.readers k ≡ (leaf_conditions leaves event k && agrees turn.marked (marked_leaves k))
 
@@ -101,11 +100,11 @@ AreTurnsOf a marks (x ∷ xs) (t ∷ ts) = IsTurnOf a marks x t × AreTurnsOf a 
 -- The steps are those of a run over the events of the span.
 pub record IsRun (schema : Declared) (q : Query) (events : List Event) (span marks : List ℕ) (steps : List Step) : Type 0 where
   pub turns : List Turn
-  pub told : AreTurnsOf (automaton_of (tree_of q)) (is_listed marks) (map (entry_at schema q events) span) turns
+  pub told : AreTurnsOf (automaton_of (tree_of q)) (has_mark marks) (map (entry_at schema q events) span) turns
   pub goes : Goes (automaton_of (tree_of q)) Start turns steps
 
 -- There is no run over the events of the span.
 pub record HasNoRun (schema : Declared) (q : Query) (events : List Event) (span marks : List ℕ) : Type 0 where
   pub turns : List Turn
-  pub told : AreTurnsOf (automaton_of (tree_of q)) (is_listed marks) (map (entry_at schema q events) span) turns
+  pub told : AreTurnsOf (automaton_of (tree_of q)) (has_mark marks) (map (entry_at schema q events) span) turns
   pub stuck : can_finish (automaton_of (tree_of q)) Start turns ≡ false

@@ -2,8 +2,8 @@
 
 ghost use Rattle.std.specs.Prelude.{◌≡◌, ◌<◌, ◌&&◌, ◌↔◌, All, IfOk, IfSome, IfNone, IsTrue, length, is_some, true};
 ghost use Rattle.std.specs.List.{list_all};
-ghost use Rattle.cea_compile.specs.Covers.{is_listed};
 ghost use Rattle.cel_terms.specs.Answers.{IsAnswer, IsAscending};
+ghost use Rattle.cea_determinise.specs.Runs.{has_mark};
 ghost use Rattle.match_explain.specs.Explains.{Explains};
 ghost use Rattle.match_explain.specs.Spans.{MayBe};
 ghost use Rattle.match_explain.specs.Searching.{IsRun, HasNoRun};
@@ -27,8 +27,8 @@ use stream_schema::{Event, Schema};
 /// Whether the ends and the marks are of the span.
 fn lies_within(span: &[Pos], start: Pos, end: Pos, marks: &[Pos]) -> bool
     requires { IsAscending span.now }
-    ensures { result ≡ (is_listed span.now start
-        && (is_listed span.now end && list_all (is_listed span.now) marks.now)) }
+    ensures { result ≡ (has_mark span.now start
+        && (has_mark span.now end && list_all (has_mark span.now) marks.now)) }
 {
     lists(span, start) && lists(span, end) && lists_all(span, marks)
 }

@@ -3,7 +3,7 @@
 ghost use Rattle.std.specs.Prelude.{◌≡◌, ◌||◌, not, true, IfOk};
 ghost use Rattle.std.specs.List.{list_all};
 ghost use Rattle.cel_terms.specs.Answers.{IsAscending};
-ghost use Rattle.cea_compile.specs.Covers.{is_listed};
+ghost use Rattle.cea_determinise.specs.Runs.{has_mark};
 ghost use Rattle.cea_compile.specs.DeterminisedRuns.{from_to};
 ghost use Rattle.match_explain.specs.Spans.{lies_between, is_strict_enough};
 
@@ -26,7 +26,7 @@ pub fn ascends(positions: &[Pos]) -> bool
 /// Whether the position is one of the positions, which ascend.
 pub fn lists(positions: &[Pos], position: Pos) -> bool
     requires { IsAscending positions.now }
-    ensures { result ≡ is_listed positions.now position }
+    ensures { result ≡ has_mark positions.now position }
 {
     positions.binary_search(&position).is_ok()
 }
@@ -34,7 +34,7 @@ pub fn lists(positions: &[Pos], position: Pos) -> bool
 /// Whether each of the others is one of the positions, which ascend.
 pub fn lists_all(positions: &[Pos], others: &[Pos]) -> bool
     requires { IsAscending positions.now }
-    ensures { result ≡ list_all (is_listed positions.now) others.now }
+    ensures { result ≡ list_all (has_mark positions.now) others.now }
 {
     for other in others {
         if !lists(positions, *other) {
@@ -71,7 +71,7 @@ fn lies_between(marks: &[Pos], position: Pos) -> bool
 fn is_contiguous(span: &[Pos], marks: &[Pos]) -> bool
     requires { IsAscending marks.now }
     ensures { result ≡ list_all (λ p. not (lies_between marks.now p)
-        || is_listed marks.now p) span.now }
+        || has_mark marks.now p) span.now }
 {
     for position in span {
         if lies_between(marks, *position) && !lists(marks, *position) {

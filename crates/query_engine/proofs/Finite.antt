@@ -13,10 +13,9 @@ use Rattle.query_leaves.specs.Expand.{Occurrence, tree_of}
 use Rattle.query_leaves.specs.Leaves.{occurrences}
 use Rattle.cea_determinise.specs.declared.cea.Phase.{Phase}
 use Rattle.cea_determinise.specs.declared.cea.Phase.TheVariants.{Before, Within, After}
-use Rattle.cea_determinise.specs.Runs.{LeafSet, Automaton, State, start, pair, some_below, candidates, patient, agrees, readers, minds_next, waits_at_once, successor, has_leaf, next}
+use Rattle.cea_determinise.specs.Runs.{LeafSet, Automaton, State, start, pair, some_below, candidates, patient, agrees, readers, minds_next, waits_at_once, successor, has_leaf, next, has_mark}
 use Rattle.cea_determinise.specs.Strict.{Standing, begin, phase_after, next_standing, run_standing}
 use Rattle.cea_compile.specs.Compiled.{automaton_of}
-use Rattle.cea_compile.specs.Covers.{is_listed}
 use Rattle.cea_compile.specs.DeterminisedRuns.{from_to, reads_at, entry_at}
 use Rattle.query_standing.specs.Bounds.{IsMet, MeetAtMost}
 
@@ -231,8 +230,8 @@ from_if false o x e = absurd (cc)
 met_below : (schema : Declared) (q : Query) (events : List Event) (s : Standing) → IsMet schema q events s → IsBelow (length (occurrences (tree_of q))) s.sets
 met_below schema q events s h =
     let span = from_to h.start h.end h.positions in
-    run_below schema q h.first (automaton_of (tree_of q)) q.strict (is_listed h.marks) span begin s tt
-    (from_if (is_listed span h.start && (is_listed span h.end && list_all (is_listed span) h.marks)) (run_standing (automaton_of (tree_of q)) q.strict (is_listed h.marks) begin (map (entry_at schema q h.first) span)) s h.leads)
+    run_below schema q h.first (automaton_of (tree_of q)) q.strict (has_mark h.marks) span begin s tt
+    (from_if (has_mark span h.start && (has_mark span h.end && list_all (has_mark span) h.marks)) (run_standing (automaton_of (tree_of q)) q.strict (has_mark h.marks) begin (map (entry_at schema q h.first) span)) s h.leads)
 
 -- The runs of a query meet no more than so many states, whatever the events.
 pub some_number_is_most : (schema : Declared) (q : Query) → (n : ℕ) × ((events : List Event) → MeetAtMost schema q events n)

@@ -15,14 +15,14 @@ use Rattle.cel_terms.specs.declared.Query.{Query}
 use Rattle.cel_terms.specs.Answers.{HasKey, HasClock}
 use Rattle.query_leaves.specs.Expand.{tree_of}
 use Rattle.cea_determinise.specs.declared.cea.StateSets.{StateSets}
-use Rattle.cea_determinise.specs.Runs.{LeafSet, Automaton}
+use Rattle.cea_determinise.specs.Runs.{LeafSet, Automaton, has_mark}
 use Rattle.cea_determinise.specs.Strict.{Standing, begin, next_standing, run_standing}
 use Rattle.cea_determinise.specs.Cea.{standing_of}
 use Rattle.cea_determinise.specs.Cea as stored
 use Rattle.cea_determinise.specs.Det.{Table, standing_at, standing_after}
 use Rattle.cea_compile.specs.Compiled.{automaton_of}
 use Rattle.union_lists.specs.Lists.{IsUnionList, IsList, trees, members_of}
-use Rattle.event_update.specs.Reach.{Seen, has_mark, RunsTo, Reaches, Has}
+use Rattle.event_update.specs.Reach.{Seen, RunsTo, Reaches, Has}
 use Rattle.event_update.specs.Stands.{member_rows}
 use Rattle.event_update.specs.Update.{Discovers}
 use Rattle.event_update.proofs.Reach.{runs_past, runs_marked}

@@ -18,16 +18,15 @@ use Rattle.cel_terms.specs.declared.Query.{Query}
 use Rattle.cel_terms.specs.Answers.{Answer, IsAnswer, IsAscending, IsInWindow, IsOfSubstream, HasKey, HasClock}
 use Rattle.query_leaves.specs.Expand.{tree_of}
 use Rattle.query_leaves.specs.Leaves.{occurrences}
-use Rattle.cea_determinise.specs.Runs.{Automaton, Entry, accepts}
+use Rattle.cea_determinise.specs.Runs.{Automaton, Entry, accepts, has_mark}
 use Rattle.cea_determinise.specs.Strict.{Standing, begin, run_standing, accepted_standing}
 use Rattle.cea_compile.specs.Compiled.{automaton_of}
-use Rattle.cea_compile.specs.Covers.{is_listed}
 use Rattle.cea_compile.specs.DeterminisedRuns.{ListsSubstream, from_to, reads_at, entry_at, IsAcceptedRun}
 use Rattle.cea_compile.proofs.Answers.{listed_is}
 use Rattle.cea_compile.proofs.Accepted.{answers_are_accepted}
 use Rattle.cel_plain.specs.Valuations.{AreAnswersAt}
 use Rattle.cer_base.specs.Repeats as plain
-use Rattle.event_update.specs.Reach.{Seen, entry, has_mark, RunsTo, Reaches, Has, all_of}
+use Rattle.event_update.specs.Reach.{Seen, entry, RunsTo, Reaches, Has, all_of}
 use Rattle.query_standing.specs.Clocks.{low_of}
 use Rattle.query_standing.specs.Bounds.{IsMet}
 use Rattle.query_standing.specs.Keys.{HasKeyAt, IsSeen, positions, IsGiven}
@@ -91,13 +90,13 @@ All-back : {X : Type 0} (P : X → Type 0) (xs ys : List X) → All P (xs ++ ys)
 All-back P [] ys h = h
 All-back P (x ∷ xs) ys h = All-back P xs ys (All-tail P x (xs ++ ys) h)
 
-all_listed : (span marks : List ℕ) → All (Contains span) marks → list_all (is_listed span) marks ≡ true
+all_listed : (span marks : List ℕ) → All (Contains span) marks → list_all (has_mark span) marks ≡ true
 all_listed span [] h = refl
-all_listed span (m ∷ ms) h = and_from (is_listed span m) (list_all (is_listed span) ms) ((listed_is span m).1 (All-head (Contains span) m ms h)) (all_listed span ms (All-tail (Contains span) m ms h))
+all_listed span (m ∷ ms) h = and_from (has_mark span m) (list_all (has_mark span) ms) ((listed_is span m).1 (All-head (Contains span) m ms h)) (all_listed span ms (All-tail (Contains span) m ms h))
 
-listed_all : (span marks : List ℕ) → list_all (is_listed span) marks ≡ true → All (Contains span) marks
+listed_all : (span marks : List ℕ) → list_all (has_mark span) marks ≡ true → All (Contains span) marks
 listed_all span [] h = All-nil (Contains span)
-listed_all span (m ∷ ms) h = let p = and_parts (is_listed span m) (list_all (is_listed span) ms) h in All-cons (Contains span) m ms ((listed_is span m).0 p.0) (listed_all span ms p.1)
+listed_all span (m ∷ ms) h = let p = and_parts (has_mark span m) (list_all (has_mark span) ms) h in All-cons (Contains span) m ms ((listed_is span m).0 p.0) (listed_all span ms p.1)
 
 -- a run that accepts is there, and its state does
 some_accepts : (a : Automaton) (o : Option Standing) → accepted_standing a o ≡ true → (s : Standing) × (o ≡ Some s) × (accepts a s.sets ≡ true)
@@ -113,7 +112,7 @@ is_taken a o true h = (refl, h)
 is_taken a o false h = absurd (false≢true h)
 
 -- marks in the other order are the same marks
-marks_same : (ms : List ℕ) → is_listed (reverse ms) ≡ has_mark ms
+marks_same : (ms : List ℕ) → has_mark (reverse ms) ≡ has_mark ms
 marks_same ms i p = any_reverse (eqb p) ms i
 
 -- the members of accepting states' lists
@@ -206,7 +205,7 @@ module _ (schema : Declared) (q : Query) (events : List Event) (end : ℕ) (key 
   seen_from before x others whole = All-back (IsSeen schema q events) before (x ∷ others) (subst (All (IsSeen schema q events)) whole given.seen.seen)
 
   -- the determinised run of the definition is the run over what is seen
-  run_is : (before : List Seen) (x : Seen) (others : List Seen) (ms : List ℕ) → xs ≡ before ++ x ∷ others → run_standing a q.strict (is_listed (reverse ms)) begin (map (entry_at schema q events) (from_to x.stamp.pos end (positions xs))) ≡ run_standing a q.strict (has_mark ms) begin (map entry (x ∷ others))
+  run_is : (before : List Seen) (x : Seen) (others : List Seen) (ms : List ℕ) → xs ≡ before ++ x ∷ others → run_standing a q.strict (has_mark (reverse ms)) begin (map (entry_at schema q events) (from_to x.stamp.pos end (positions xs))) ≡ run_standing a q.strict (has_mark ms) begin (map entry (x ∷ others))
   run_is before x others ms whole =
       ap (λ f. run_standing a q.strict f begin (map (entry_at schema q events) (from_to x.stamp.pos end (positions xs)))) (marks_same ms)
       ∙ ap (λ es. run_standing a q.strict (has_mark ms) begin es) (ap (map (entry_at schema q events)) (span before x others whole) ∙ entries_are schema q events (x ∷ others) (seen_from before x others whole))
@@ -227,11 +226,11 @@ module _ (schema : Declared) (q : Query) (events : List Event) (end : ℕ) (key 
   accepted_at before x others ms s whole r acc =
       let ps = from_to x.stamp.pos end (positions xs) in
       let sp : positions (x ∷ others) ≡ ps = sym (span before x others whole) in
-      let first : is_listed ps x.stamp.pos ≡ true = (listed_is ps x.stamp.pos).1 (subst (λ zs. Contains zs x.stamp.pos) sp (here x.stamp.pos (positions others))) in
-      let last : is_listed ps end ≡ true = (listed_is ps end).1 (subst (λ zs. Contains zs end) sp (end_is_after before x others whole)) in
-      let marks : list_all (is_listed ps) (reverse ms) ≡ true = all_listed ps (reverse ms) (all_reverse (Contains ps) ms (subst (λ zs. All (Contains zs) ms) sp r.inside)) in
-      taken a (run_standing a q.strict (is_listed (reverse ms)) begin (map (entry_at schema q events) ps)) (is_listed ps x.stamp.pos && (is_listed ps end && list_all (is_listed ps) (reverse ms)))
-      (and_from (is_listed ps x.stamp.pos) (is_listed ps end && list_all (is_listed ps) (reverse ms)) first (and_from (is_listed ps end) (list_all (is_listed ps) (reverse ms)) last marks))
+      let first : has_mark ps x.stamp.pos ≡ true = (listed_is ps x.stamp.pos).1 (subst (λ zs. Contains zs x.stamp.pos) sp (here x.stamp.pos (positions others))) in
+      let last : has_mark ps end ≡ true = (listed_is ps end).1 (subst (λ zs. Contains zs end) sp (end_is_after before x others whole)) in
+      let marks : list_all (has_mark ps) (reverse ms) ≡ true = all_listed ps (reverse ms) (all_reverse (Contains ps) ms (subst (λ zs. All (Contains zs) ms) sp r.inside)) in
+      taken a (run_standing a q.strict (has_mark (reverse ms)) begin (map (entry_at schema q events) ps)) (has_mark ps x.stamp.pos && (has_mark ps end && list_all (has_mark ps) (reverse ms)))
+      (and_from (has_mark ps x.stamp.pos) (has_mark ps end && list_all (has_mark ps) (reverse ms)) first (and_from (has_mark ps end) (list_all (has_mark ps) (reverse ms)) last marks))
       (ap (accepted_standing a) (run_is before x others ms whole ∙ r.run) ∙ acc)
 
   -- a state that a member reaches is one that a run meets
@@ -241,9 +240,9 @@ module _ (schema : Declared) (q : Query) (events : List Event) (end : ℕ) (key 
       let x = f.first in
       let ps = from_to x.stamp.pos end (positions xs) in
       let sp : positions (x ∷ f.others) ≡ ps = sym (span f.before x f.others f.whole) in
-      let first : is_listed ps x.stamp.pos ≡ true = (listed_is ps x.stamp.pos).1 (subst (λ zs. Contains zs x.stamp.pos) sp (here x.stamp.pos (positions f.others))) in
-      let last : is_listed ps end ≡ true = (listed_is ps end).1 (subst (λ zs. Contains zs end) sp (end_is_after f.before x f.others f.whole)) in
-      let marks : list_all (is_listed ps) (reverse m.positions) ≡ true = all_listed ps (reverse m.positions) (all_reverse (Contains ps) m.positions (subst (λ zs. All (Contains zs) m.positions) sp f.runs.inside)) in
+      let first : has_mark ps x.stamp.pos ≡ true = (listed_is ps x.stamp.pos).1 (subst (λ zs. Contains zs x.stamp.pos) sp (here x.stamp.pos (positions f.others))) in
+      let last : has_mark ps end ≡ true = (listed_is ps end).1 (subst (λ zs. Contains zs end) sp (end_is_after f.before x f.others f.whole)) in
+      let marks : list_all (has_mark ps) (reverse m.positions) ≡ true = all_listed ps (reverse m.positions) (all_reverse (Contains ps) m.positions (subst (λ zs. All (Contains zs) m.positions) sp f.runs.inside)) in
       record {
         first = events;
         later = [];
@@ -253,8 +252,8 @@ module _ (schema : Declared) (q : Query) (events : List Event) (end : ℕ) (key 
         lists = lists;
         start = x.stamp.pos;
         marks = reverse m.positions;
-        leads = there_is (run_standing a q.strict (is_listed (reverse m.positions)) begin (map (entry_at schema q events) ps)) (is_listed ps x.stamp.pos && (is_listed ps end && list_all (is_listed ps) (reverse m.positions))) s
-            (and_from (is_listed ps x.stamp.pos) (is_listed ps end && list_all (is_listed ps) (reverse m.positions)) first (and_from (is_listed ps end) (list_all (is_listed ps) (reverse m.positions)) last marks))
+        leads = there_is (run_standing a q.strict (has_mark (reverse m.positions)) begin (map (entry_at schema q events) ps)) (has_mark ps x.stamp.pos && (has_mark ps end && list_all (has_mark ps) (reverse m.positions))) s
+            (and_from (has_mark ps x.stamp.pos) (has_mark ps end && list_all (has_mark ps) (reverse m.positions)) first (and_from (has_mark ps end) (list_all (has_mark ps) (reverse m.positions)) last marks))
             (run_is f.before x f.others m.positions f.whole ∙ f.runs.run);
       }
     where
@@ -275,13 +274,13 @@ module _ (schema : Declared) (q : Query) (events : List Event) (end : ℕ) (key 
   accepted_back : (before : List Seen) (x : Seen) (others : List Seen) (ms : List ℕ) → xs ≡ before ++ x ∷ others → IsAscending ms → IsAcceptedRun schema q events (positions xs) end (record { start = x.stamp.pos; marks = ms }) → (s : Standing) × (accepts a s.sets ≡ true) × RunsTo a q.strict (x ∷ others) s (reverse ms)
   accepted_back before x others ms whole up h =
       let ps = from_to x.stamp.pos end (positions xs) in
-      let o = run_standing a q.strict (is_listed ms) begin (map (entry_at schema q events) ps) in
-      let tk = is_taken a o (is_listed ps x.stamp.pos && (is_listed ps end && list_all (is_listed ps) ms)) h in
-      let one = and_parts (is_listed ps x.stamp.pos) (is_listed ps end && list_all (is_listed ps) ms) tk.0 in
-      let two = and_parts (is_listed ps end) (list_all (is_listed ps) ms) one.1 in
+      let o = run_standing a q.strict (has_mark ms) begin (map (entry_at schema q events) ps) in
+      let tk = is_taken a o (has_mark ps x.stamp.pos && (has_mark ps end && list_all (has_mark ps) ms)) h in
+      let one = and_parts (has_mark ps x.stamp.pos) (has_mark ps end && list_all (has_mark ps) ms) tk.0 in
+      let two = and_parts (has_mark ps end) (list_all (has_mark ps) ms) one.1 in
       let inside = subst (λ zs. All (Contains zs) ms) (span before x others whole) (listed_all ps ms two.1) in
       let acc = some_accepts a o tk.1 in
-      let same = ap (λ zs. run_standing a q.strict (is_listed zs) begin (map (entry_at schema q events) ps)) (reverse-reverse ms) in (
+      let same = ap (λ zs. run_standing a q.strict (has_mark zs) begin (map (entry_at schema q events) ps)) (reverse-reverse ms) in (
         acc.0,
         acc.2,
         record {
@@ -294,9 +293,9 @@ module _ (schema : Declared) (q : Query) (events : List Event) (end : ℕ) (key 
   accepted_to : (answer : Answer) → IsAscending answer.marks → IsAcceptedRun schema q events (positions xs) end answer → (s : Standing) × (m : Member) × Reaches a q.strict xs s m × (accepts a s.sets ≡ true) × (answer_of m ≡ answer)
   accepted_to answer up h =
       let ps = from_to answer.start end (positions xs) in
-      let o = run_standing a q.strict (is_listed answer.marks) begin (map (entry_at schema q events) ps) in
-      let tk = is_taken a o (is_listed ps answer.start && (is_listed ps end && list_all (is_listed ps) answer.marks)) h in
-      let one = and_parts (is_listed ps answer.start) (is_listed ps end && list_all (is_listed ps) answer.marks) tk.0 in
+      let o = run_standing a q.strict (has_mark answer.marks) begin (map (entry_at schema q events) ps) in
+      let tk = is_taken a o (has_mark ps answer.start && (has_mark ps end && list_all (has_mark ps) answer.marks)) h in
+      let one = and_parts (has_mark ps answer.start) (has_mark ps end && list_all (has_mark ps) answer.marks) tk.0 in
       let c = (kept_is (between answer.start end) (positions xs) answer.start ((listed_is ps answer.start).0 one.0)).0 in
       let sp = splits xs answer.start c in
       let b = accepted_back sp.before sp.at sp.others answer.marks sp.whole up (subst (λ p. IsAcceptedRun schema q events (positions xs) end (record { start = p; marks = answer.marks })) (sym sp.is) h) in

@@ -35,7 +35,8 @@ pub fn names_within<'a>(
     opening: &[u8],
     closing: &[u8],
 ) -> Read<'a, Names>
-    ensures value { ReadsAs (λ ns. ns) result (led opening.now (closed closing.now names) tokens.now) }
+    ensures value { ReadsAs (λ ns. ns) result
+        (led opening.now (closed closing.now names) tokens.now) }
     ensures shorter { IfOk result (λ p. length p.1.now < length tokens.now) }
 {
     let inside = expect(tokens, opening)?;

@@ -8,11 +8,11 @@ use Rattle.ceql_lexer.specs.declared.LexFault.{LexFault}
 use Rattle.ceql_lexer.specs.declared.LexError.{LexError}
 use Rattle.ceql_lexer.specs.declared.Token.{Token}
 use Rattle.ceql_lexer.specs.Fronts.{HasSize, piece_at}
-use Rattle.ceql_lexer.specs.Tokens.{Part, with_part, end_token, first_place, next_place, parts_from, place_after, token_of, tokens_in, with_end}
+use Rattle.ceql_lexer.specs.Tokens.{TextPart, with_part, end_token, first_place, next_place, parts_from, place_after, token_of, tokens_in, with_end}
 use Rattle.ceql_lexer.proofs.Places.{place_split}
 
 -- the tokens of the parts, with others in front
-abbrev pub in_front : List Token → Result (List Part) LexError → Result (List Token) LexError
+abbrev pub in_front : List Token → Result (List TextPart) LexError → Result (List Token) LexError
 in_front tokens (Ok parts) = Ok (tokens ++ tokens_in parts)
 in_front tokens (Err error) = Err error
 
@@ -31,12 +31,12 @@ passes zero place bytes = refl
 passes (suc k) place [] = refl
 passes (suc k) place (byte ∷ bytes) = passes k (next_place place byte) bytes
 
-pushed : (tokens : List Token) (part : Part) (later : Result (List Part) LexError) → in_front tokens (with_part part later) ≡ in_front (tokens ++ token_of part part.kind) later
+pushed : (tokens : List Token) (part : TextPart) (later : Result (List TextPart) LexError) → in_front tokens (with_part part later) ≡ in_front (tokens ++ token_of part part.kind) later
 pushed tokens part (Ok parts) = ap (λ (ts : List Token). Ok ts) (simp append_assoc)
 pushed tokens part (Err error) = refl
 
 -- the part of a piece at the front
-abbrev pub part_at : Piece → List ℕ → Place → Part
+abbrev pub part_at : Piece → List ℕ → Place → TextPart
 part_at piece bytes place = record { kind = piece.kind; text = bytes; place = place }
 
 parts_step : (k : ℕ) (place : Place) (byte : ℕ) (bytes : List ℕ) (piece : Piece) → piece_at byte bytes ≡ Ok piece → piece.size ≡ suc k
@@ -74,7 +74,7 @@ cuts_more text tokens place rest piece front back now more cuts some is size is_
       read = rw is_more (sym (pushed tokens (part_at piece front place) (parts_from 0 now back)) ∙ ap (in_front tokens) (sym whole) ∙ cuts.read);
     }
 
-failed : (text : List ℕ) (read : Result (List Part) LexError) (error : LexError) → in_front [] read ≡ Err error → with_end text read ≡ Err error
+failed : (text : List ℕ) (read : Result (List TextPart) LexError) (error : LexError) → in_front [] read ≡ Err error → with_end text read ≡ Err error
 failed text (Ok parts) error e = absurd (cc)
 failed text (Err other) error e = cc
 
@@ -84,7 +84,7 @@ cuts_fault text tokens place rest byte bytes fault cuts e is =
     let stops : parts_from 0 place rest ≡ Err (record { fault = fault; place = place }) = rw (e, is) refl in
     failed text (parts_from 0 first_place text) _ (sym cuts.read ∙ ap (in_front tokens) stops)
 
-ended : (text : List ℕ) (read : Result (List Part) LexError) (tokens : List Token) → in_front [] read ≡ Ok tokens → with_end text read ≡ Ok (tokens ++ end_token (place_after first_place text) ∷ [])
+ended : (text : List ℕ) (read : Result (List TextPart) LexError) (tokens : List Token) → in_front [] read ≡ Ok tokens → with_end text read ≡ Ok (tokens ++ end_token (place_after first_place text) ∷ [])
 ended text (Ok parts) tokens e = let same : tokens_in parts ≡ tokens = cc in rw same refl
 ended text (Err other) tokens e = absurd (cc)
 

@@ -11,7 +11,7 @@ use Rattle.ceql_lexer.specs.declared.TokenKind.{TokenKind}
 use Rattle.ceql_lexer.specs.declared.TokenKind.TheVariants as kind
 use Rattle.ceql_lexer.specs.declared.LexFault.{LexFault}
 use Rattle.ceql_lexer.specs.declared.LexFault.TheVariants as fault
-use Rattle.ceql_lexer.specs.Letters.{begins_word, continues_word, is_blank, is_in_line, sign_len}
+use Rattle.ceql_lexer.specs.Letters.{begins_word, continues_word, is_white_space, is_in_line, sign_len}
 use Rattle.ceql_lexer.specs.Numerals.{decimals_at, digits_at}
 use Rattle.ceql_lexer.specs.Fronts.{dash_at, gap, is_quote, number_at, number_of, piece_at, sign_at, string_at, string_of, token, word_at}
 use Rattle.ceql_lexer.specs.Whole.{EndsBefore, StopsAt}
@@ -112,7 +112,7 @@ sign_ends byte text bytes piece e = other_case (eqb (sign_len text) 0) (token ki
 pub piece_ends : (byte : ℕ) (bytes : List ℕ) (piece : Piece) → piece_at byte bytes ≡ Ok piece → EndsBefore piece.kind piece.size (drop (piece.size - 1) bytes)
 unfolding piece_at string_at
 piece_ends byte bytes piece e =
-    piece_cases (is_blank byte) (begins_word byte) (is_ascii_digit byte) (eqb byte 45) (is_quote byte) (gap 1) (word_at (byte ∷ bytes)) (number_at 0 (byte ∷ bytes)) (dash_at bytes) (string_at byte bytes) (sign_at byte (byte ∷ bytes)) piece
+    piece_cases (is_white_space byte) (begins_word byte) (is_ascii_digit byte) (eqb byte 45) (is_quote byte) (gap 1) (word_at (byte ∷ bytes)) (number_at 0 (byte ∷ bytes)) (dash_at bytes) (string_at byte bytes) (sign_at byte (byte ∷ bytes)) piece
     (λ p. EndsBefore p.kind p.size (drop (p.size - 1) bytes)) e
     (λ more. absurd (omega arith))
     (word_ends byte bytes)

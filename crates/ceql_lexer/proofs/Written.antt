@@ -15,7 +15,7 @@ use Rattle.ceql_lexer.specs.declared.TokenKind.{TokenKind}
 use Rattle.ceql_lexer.specs.declared.TokenKind.TheVariants as kind
 use Rattle.ceql_lexer.specs.declared.LexFault.{LexFault}
 use Rattle.ceql_lexer.specs.declared.LexFault.TheVariants as fault
-use Rattle.ceql_lexer.specs.Letters.{continues_word, is_blank, begins_word, sign_len, long_signs, short_signs}
+use Rattle.ceql_lexer.specs.Letters.{continues_word, is_white_space, begins_word, sign_len, long_signs, short_signs}
 use Rattle.ceql_lexer.specs.Numerals.{digits_at, decimals_at}
 use Rattle.ceql_lexer.specs.Fronts.{IsTokenText, token, gap, piece_at, word_at, number_at, number_of, dash_at, string_at, string_of, sign_at, is_quote}
 
@@ -190,7 +190,7 @@ word_is_text bytes = front_is_utf8 (prefix_len continues_word bytes) bytes (λ i
 pub piece_is_text : (byte : ℕ) (bytes : List ℕ) (piece : Piece) → piece_at byte bytes ≡ Ok piece → IsTokenText piece.kind (take piece.size (byte ∷ bytes))
 unfolding piece_at string_at
 piece_is_text byte bytes piece e =
-    piece_cases (is_blank byte) (begins_word byte) (is_ascii_digit byte) (eqb byte 45) (is_quote byte) (gap 1) (word_at (byte ∷ bytes)) (number_at 0 (byte ∷ bytes)) (dash_at bytes) (string_at byte bytes) (sign_at byte (byte ∷ bytes)) piece
+    piece_cases (is_white_space byte) (begins_word byte) (is_ascii_digit byte) (eqb byte 45) (is_quote byte) (gap 1) (word_at (byte ∷ bytes)) (number_at 0 (byte ∷ bytes)) (dash_at bytes) (string_at byte bytes) (sign_at byte (byte ∷ bytes)) piece
     (λ p. IsTokenText p.kind (take p.size (byte ∷ bytes))) e
     tt
     (λ begins. word_is_text (byte ∷ bytes))

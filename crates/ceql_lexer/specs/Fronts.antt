@@ -11,7 +11,7 @@ use Rattle.ceql_lexer.specs.declared.LexFault.{LexFault}
 use Rattle.ceql_lexer.specs.declared.LexFault.TheVariants as fault
 use Rattle.ceql_lexer.specs.declared.TokenKind.{TokenKind}
 use Rattle.ceql_lexer.specs.declared.TokenKind.TheVariants as kind
-use Rattle.ceql_lexer.specs.Letters.{is_blank, is_in_line, begins_word, continues_word, is_keyword, sign_len}
+use Rattle.ceql_lexer.specs.Letters.{is_white_space, is_in_line, begins_word, continues_word, is_keyword, sign_len}
 use Rattle.ceql_lexer.specs.Numerals.{digits_at, decimals_at}
 
 -- so many bytes that are a token of this kind
@@ -89,7 +89,7 @@ is_quote byte = (byte == 39) || (byte == 34)
 -- what stands at the front: a byte, and the bytes after it
 unfoldable pub piece_at : ℕ → List ℕ → Result Piece LexFault
 piece_at byte bytes =
-    if is_blank byte then Ok (gap 1)
+    if is_white_space byte then Ok (gap 1)
     else (if begins_word byte then Ok (word_at (byte ∷ bytes))
     else (if is_ascii_digit byte then number_at 0 (byte ∷ bytes)
     else (if byte == 45 then dash_at bytes

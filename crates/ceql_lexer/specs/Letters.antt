@@ -6,8 +6,8 @@ use Rattle.std.specs.Str.{str_to_ascii_uppercase}
 use Rattle.std.specs.List.{list_any}
 
 -- a space, a tab, a carriage return or a line feed
-abbrev pub is_blank : ℕ → Bool
-is_blank byte = (byte == 32) || (byte == 9) || (byte == 13) || (byte == 10)
+abbrev pub is_white_space : ℕ → Bool
+is_white_space byte = (byte == 32) || (byte == 9) || (byte == 13) || (byte == 10)
 
 -- any byte but a line feed
 abbrev pub is_in_line : ℕ → Bool

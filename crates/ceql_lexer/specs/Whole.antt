@@ -8,15 +8,15 @@ use Rattle.ceql_lexer.specs.declared.TokenKind.{TokenKind}
 use Rattle.ceql_lexer.specs.declared.TokenKind.TheVariants.{Name, Keyword, Number, Decimal, Quoted, Sign, End}
 use Rattle.ceql_lexer.specs.Letters.{continues_word, is_in_line}
 use Rattle.ceql_lexer.specs.Numerals.{decimals_at}
-use Rattle.ceql_lexer.specs.Tokens.{Part, end_token, first_place, place_after, tokens_in}
+use Rattle.ceql_lexer.specs.Tokens.{TextPart, end_token, first_place, place_after, tokens_in}
 
 -- the bytes of the parts, one part after the other
-abbrev pub text_of_parts : List Part → List ℕ
+abbrev pub text_of_parts : List TextPart → List ℕ
 text_of_parts [] = []
 text_of_parts (part ∷ parts) = part.text ++ text_of_parts parts
 
 -- each part stands where the bytes of the parts before it end
-abbrev pub AreAtPlaces : Place → List Part → Type 0
+abbrev pub AreAtPlaces : Place → List TextPart → Type 0
 AreAtPlaces place [] = Unit {0}
 AreAtPlaces place (part ∷ parts) = (part.place ≡ place) × AreAtPlaces (place_after place part.text) parts
 
@@ -39,18 +39,18 @@ EndsBefore (Some End) size bytes = Unit {0}
 EndsBefore None size bytes = 1 < size → StopsAt is_in_line bytes
 
 -- no part could go on
-abbrev pub AreLongest : List Part → Type 0
+abbrev pub AreLongest : List TextPart → Type 0
 AreLongest [] = Unit {0}
 AreLongest (part ∷ parts) = EndsBefore part.kind (length part.text) (text_of_parts parts) × AreLongest parts
 
 -- The parts are the whole text, each at its place and as long as it may be.
-pub record AreWhole (text : List ℕ) (parts : List Part) : Type 0 where
+pub record AreWhole (text : List ℕ) (parts : List TextPart) : Type 0 where
   pub nothing_lost : text_of_parts parts ≡ text
   pub placed : AreAtPlaces first_place parts
   pub longest : AreLongest parts
 
 -- The tokens are those of the text's parts, and then the end at the place after the last byte.
 pub record IsCut (text : List ℕ) (tokens : List Token) : Type 0 where
-  pub parts : List Part
+  pub parts : List TextPart
   pub whole : AreWhole text parts
   pub those : tokens ≡ tokens_in parts ++ end_token (place_after first_place text) ∷ []

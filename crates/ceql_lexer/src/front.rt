@@ -6,7 +6,7 @@ ghost use Rattle.std.specs.Prelude.{◌≡◌, ◌+◌, ◌∷◌, IfOk, length}
 use crate::numbers::number_at;
 use crate::quotes::string_at;
 use crate::signs::sign_at;
-use crate::words::{is_blank, line_len, may_begin, word_at};
+use crate::words::{is_white_space, line_len, may_begin, word_at};
 use crate::{LexFault, TokenKind};
 
 /// The piece at the front of a text: a token where it has a kind, else a blank or a comment.
@@ -57,7 +57,7 @@ pub fn piece_at(text: &[u8], first: u8, behind: &[u8]) -> Result<Piece, LexFault
     ensures value { result ≡ piece_at first behind.now }
     ensures within { IfOk result (λ piece. HasSize piece text.now) }
 {
-    if is_blank(first) {
+    if is_white_space(first) {
         Ok(Piece::gap(1))
     } else if may_begin(first) {
         Ok(word_at(text))

@@ -1,7 +1,7 @@
 //! Blanks, names and keywords.
 
 ghost use Rattle.ceql_lexer.specs.Fronts.{HasSize, word_at};
-ghost use Rattle.ceql_lexer.specs.Letters.{begins_word, continues_word, is_blank, is_in_line, is_keyword};
+ghost use Rattle.ceql_lexer.specs.Letters.{begins_word, continues_word, is_white_space, is_in_line, is_keyword};
 ghost use Rattle.std.specs.Char.{to_ascii_uppercase};
 ghost use Rattle.std.specs.List.{list_any, prefix_len};
 ghost use Rattle.std.specs.Str.{str_to_ascii_uppercase};
@@ -11,8 +11,8 @@ use crate::TokenKind;
 use crate::front::Piece;
 
 /// Whether the byte is a blank.
-pub fn is_blank(byte: u8) -> bool
-    ensures { result ≡ is_blank byte }
+pub fn is_white_space(byte: u8) -> bool
+    ensures { result ≡ is_white_space byte }
 {
     byte == b' ' || byte == b'\t' || byte == b'\r' || byte == b'\n'
 }

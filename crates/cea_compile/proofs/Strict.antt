@@ -5,7 +5,7 @@ use Rattle.cel_terms.specs.Answers.{AreContiguous, WhereStrict, HasMarks}
 use Rattle.query_leaves.specs.LeafTree.{LeafTree}
 use Rattle.query_leaves.specs.Expand.{Occurrence}
 use Rattle.query_leaves.specs.Leaves.{occurrences}
-use Rattle.cea_determinise.specs.Runs.{Automaton, State, start, next, Entry, run, accepted_run, has_mark}
+use Rattle.cea_determinise.specs.Runs.{Automaton, RunState, start, next, Entry, run, accepted_run, has_mark}
 use Rattle.cea_determinise.specs.declared.cea.Phase.{Phase}
 use Rattle.cea_determinise.specs.declared.cea.Phase.TheVariants.{Before, Within, After}
 use Rattle.cea_determinise.specs.Strict.{phase_after, begin, run_standing, accepted_standing}
@@ -25,12 +25,12 @@ alive strict marks [] p = true
 alive strict marks (x ∷ xs) p = alive_after (alive strict marks xs) (phase_after strict p (marks x.position))
 
 -- both components go on, or neither answer counts
-product_step : (a : Automaton) (strict : Bool) (marks : ℕ → Bool) (xs : List Entry) → ((s : State) (p : Phase) → (accepted_standing a (run_standing a strict marks (record { sets = s; phase = p }) xs) ≡ true) ↔ ((accepted_run a (run a marks s xs) ≡ true) × (alive strict marks xs p ≡ true))) → (o : Option State) (q : Option Phase) → (accepted_standing a (option_and_then (λ t. run_standing a strict marks t xs) (option_and_then (λ p. option_map (λ t. record { sets = t; phase = p }) o) q)) ≡ true) ↔ ((accepted_run a (option_and_then (λ t. run a marks t xs) o) ≡ true) × (alive_after (alive strict marks xs) q ≡ true))
+product_step : (a : Automaton) (strict : Bool) (marks : ℕ → Bool) (xs : List Entry) → ((s : RunState) (p : Phase) → (accepted_standing a (run_standing a strict marks (record { sets = s; phase = p }) xs) ≡ true) ↔ ((accepted_run a (run a marks s xs) ≡ true) × (alive strict marks xs p ≡ true))) → (o : Option RunState) (q : Option Phase) → (accepted_standing a (option_and_then (λ t. run_standing a strict marks t xs) (option_and_then (λ p. option_map (λ t. record { sets = t; phase = p }) o) q)) ≡ true) ↔ ((accepted_run a (option_and_then (λ t. run a marks t xs) o) ≡ true) × (alive_after (alive strict marks xs) q ≡ true))
 product_step a strict marks xs f o None = (λ h. absurd (false≢true h), λ h. absurd (false≢true h.1))
 product_step a strict marks xs f None (Some p) = (λ h. absurd (false≢true h), λ h. absurd (false≢true h.0))
 product_step a strict marks xs f (Some s) (Some p) = f s p
 
-product : (a : Automaton) (strict : Bool) (marks : ℕ → Bool) (xs : List Entry) (s : State) (p : Phase) → (accepted_standing a (run_standing a strict marks (record { sets = s; phase = p }) xs) ≡ true) ↔ ((accepted_run a (run a marks s xs) ≡ true) × (alive strict marks xs p ≡ true))
+product : (a : Automaton) (strict : Bool) (marks : ℕ → Bool) (xs : List Entry) (s : RunState) (p : Phase) → (accepted_standing a (run_standing a strict marks (record { sets = s; phase = p }) xs) ≡ true) ↔ ((accepted_run a (run a marks s xs) ≡ true) × (alive strict marks xs p ≡ true))
 product a strict marks [] s p = (λ h. (h, refl), λ h. h.0)
 product a strict marks (x ∷ xs) s p = product_step a strict marks xs (product a strict marks xs) (next a s x.bits (marks x.position)) (phase_after strict p (marks x.position))
 

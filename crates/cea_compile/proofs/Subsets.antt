@@ -2,7 +2,7 @@
 use Rattle.std.proofs.Common.{◌≡◌, refl, sym, ◌∙◌, ℕ, ◌<◌, ◌⊎◌, inl, inr, Bool, true, false, not, ◌&&◌, ◌||◌, cond, List, [], ◌∷◌, Option, Some, None, option_and_then, Decides}
 use Rattle.std.proofs.lemmas.Bool.{and_parts, and_from, or_cases, or_left, or_right, not-true, not_from_false, false≢true}
 use Rattle.std.proofs.lemmas.Bool.Decides.{Decides-below_or}
-use Rattle.cea_determinise.specs.Runs.{LeafSet, some_below, Automaton, follow, State, pair, candidates, patient, agrees, readers, minds_next, waits_at_once, has_leaf, Entry, run, accepted_run}
+use Rattle.cea_determinise.specs.Runs.{LeafSet, some_below, Automaton, follow, RunState, pair, candidates, patient, agrees, readers, minds_next, waits_at_once, has_leaf, Entry, run, accepted_run}
 
 some_below_is : (p : LeafSet) (n : ℕ) → Decides (some_below n p) ((k : ℕ) × (k < n) × (p k ≡ true))
 some_below_is p = Decides-below_or p (λ k. p k ≡ true) (λ n. some_below n p) (λ k. (λ h. h, λ h. h)) refl (λ n. refl)
@@ -96,44 +96,44 @@ candidate_is a fresh waiting k = (λ h. from ((some_below_is test a.size).0 h), 
     to : (j : ℕ) × (j < a.size) × HasMove a fresh waiting k j → (j : ℕ) × (j < a.size) × (test j ≡ true)
     to h = (h.0, h.1, back h.0 h.2)
 
-pub kept_accepts : (a : Automaton) (g : State → Option State) (t : State) (b : Bool) → accepted_run a (option_and_then g (cond b (Some t) None)) ≡ true → accepted_run a (g t) ≡ true
+pub kept_accepts : (a : Automaton) (g : RunState → Option RunState) (t : RunState) (b : Bool) → accepted_run a (option_and_then g (cond b (Some t) None)) ≡ true → accepted_run a (g t) ≡ true
 kept_accepts a g t true h = h
 kept_accepts a g t false h = absurd (false≢true h)
 
-pub accepts_kept : (a : Automaton) (g : State → Option State) (t : State) (b : Bool) → b ≡ true → accepted_run a (g t) ≡ true → accepted_run a (option_and_then g (cond b (Some t) None)) ≡ true
+pub accepts_kept : (a : Automaton) (g : RunState → Option RunState) (t : RunState) (b : Bool) → b ≡ true → accepted_run a (g t) ≡ true → accepted_run a (option_and_then g (cond b (Some t) None)) ≡ true
 accepts_kept a g t true e h = h
 accepts_kept a g t false e h = absurd (false≢true e)
 
 -- the leaves that read one more entry, and the sets after it
-abbrev pub read_at : Automaton → (ℕ → Bool) → State → Entry → LeafSet
+abbrev pub read_at : Automaton → (ℕ → Bool) → RunState → Entry → LeafSet
 read_at a marks s x k = readers a s x.bits (marks x.position) k
 
-abbrev pub fresh_after : Automaton → (ℕ → Bool) → State → Entry → LeafSet
+abbrev pub fresh_after : Automaton → (ℕ → Bool) → RunState → Entry → LeafSet
 fresh_after a marks s x k = read_at a marks s x k && minds_next a k
 
-abbrev pub waiting_after : Automaton → (ℕ → Bool) → State → Entry → LeafSet
+abbrev pub waiting_after : Automaton → (ℕ → Bool) → RunState → Entry → LeafSet
 waiting_after a marks s x k = not (marks x.position) && patient a s k || read_at a marks s x k && waits_at_once a k
 
-pub read_parts : (a : Automaton) (marks : ℕ → Bool) (s : State) (x : Entry) (k : ℕ) → read_at a marks s x k ≡ true → (candidates a s k ≡ true) × (x.bits k ≡ true) × (agrees (marks x.position) (a.marked k) ≡ true)
+pub read_parts : (a : Automaton) (marks : ℕ → Bool) (s : RunState) (x : Entry) (k : ℕ) → read_at a marks s x k ≡ true → (candidates a s k ≡ true) × (x.bits k ≡ true) × (agrees (marks x.position) (a.marked k) ≡ true)
 read_parts a marks s x k h =
     let p = and_parts (candidates a s k) (x.bits k && agrees (marks x.position) (a.marked k)) h in
     let q = and_parts (x.bits k) (agrees (marks x.position) (a.marked k)) p.1 in
     (p.0, q.0, q.1)
 
-pub read_from : (a : Automaton) (marks : ℕ → Bool) (s : State) (x : Entry) (k : ℕ) → candidates a s k ≡ true → x.bits k ≡ true → agrees (marks x.position) (a.marked k) ≡ true → read_at a marks s x k ≡ true
+pub read_from : (a : Automaton) (marks : ℕ → Bool) (s : RunState) (x : Entry) (k : ℕ) → candidates a s k ≡ true → x.bits k ≡ true → agrees (marks x.position) (a.marked k) ≡ true → read_at a marks s x k ≡ true
 read_from a marks s x k c b g = and_from (candidates a s k) (x.bits k && agrees (marks x.position) (a.marked k)) c (and_from (x.bits k) (agrees (marks x.position) (a.marked k)) b g)
 
 -- a leaf of the sets after the entry leads on: one that read it, or that let it pass
-abbrev pub WasRead : Automaton → (ℕ → Bool) → State → Entry → List Entry → ℕ → Type 0
+abbrev pub WasRead : Automaton → (ℕ → Bool) → RunState → Entry → List Entry → ℕ → Type 0
 WasRead a marks s x xs k = (read_at a marks s x k ≡ true) × Leads a marks true k xs
 
-abbrev pub Passed : Automaton → (ℕ → Bool) → State → Entry → List Entry → ℕ → Type 0
+abbrev pub Passed : Automaton → (ℕ → Bool) → RunState → Entry → List Entry → ℕ → Type 0
 Passed a marks s x xs k = (marks x.position ≡ false) × (patient a s k ≡ true) × Leads a marks false k xs
 
 abbrev pub LeadsFrom : Automaton → (ℕ → Bool) → LeafSet → LeafSet → List Entry → ℕ → Type 0
 LeadsFrom a marks fresh waiting xs k = ((fresh k ≡ true) × Leads a marks true k xs) ⊎ ((waiting k ≡ true) × Leads a marks false k xs)
 
-pub came : (a : Automaton) (marks : ℕ → Bool) (s : State) (x : Entry) (xs : List Entry) (k : ℕ) →
+pub came : (a : Automaton) (marks : ℕ → Bool) (s : RunState) (x : Entry) (xs : List Entry) (k : ℕ) →
     LeadsFrom a marks (fresh_after a marks s x) (waiting_after a marks s x) xs k → WasRead a marks s x xs k ⊎ Passed a marks s x xs k
 came a marks s x xs k (inl h) = inl ((and_parts (read_at a marks s x k) (minds_next a k) h.0).0, h.1)
 came a marks s x xs k (inr h) = elim (or_cases (not (marks x.position) && patient a s k) (read_at a marks s x k && waits_at_once a k) h.0) [
@@ -141,7 +141,7 @@ came a marks s x xs k (inr h) = elim (or_cases (not (marks x.position) && patien
   | inr now ↦ inl ((and_parts (read_at a marks s x k) (waits_at_once a k) now).0, fresher a h.1 refl)
 ]
 
-pub goes : (a : Automaton) (marks : ℕ → Bool) (s : State) (x : Entry) (xs : List Entry) (k : ℕ) → read_at a marks s x k ≡ true → Leads a marks true k xs →
+pub goes : (a : Automaton) (marks : ℕ → Bool) (s : RunState) (x : Entry) (xs : List Entry) (k : ℕ) → read_at a marks s x k ≡ true → Leads a marks true k xs →
     LeadsFrom a marks (fresh_after a marks s x) (waiting_after a marks s x) xs k
 goes a marks s x xs k read leads = by (minds_next a k) refl
   where

@@ -3,7 +3,7 @@ use Rattle.std.proofs.Common.{◌≡◌, ◌≢◌, length, ℕ, zero, suc, ◌+
 use Rattle.std.specs.Prelude.{not, eqb, slice_index_or}
 use Rattle.std.proofs.lemmas.Bool.{cases_eq, cases_lt, eq-eqb, ne_eqb, and_parts, or_cases, false≢true, false_from_ne_true}
 use Rattle.cer_base.specs.Bits.{has, room_for}
-use Rattle.cea_determinise.specs.Runs.{LeafSet, Automaton, State, start, some_below, patient, pair, candidates}
+use Rattle.cea_determinise.specs.Runs.{LeafSet, Automaton, RunState, start, some_below, patient, pair, candidates}
 use Rattle.cea_determinise.specs.Cea.{IsSet, AreRows, IsWellFormed, row, automaton_of_cea}
 use Rattle.cea_determinise.specs.declared.cea.Cea.{Cea}
 use Rattle.cea_determinise.proofs.SomeLeaf.{none_below, found_below, some_either}
@@ -93,7 +93,7 @@ row_below : (size : ℕ) (rows : List (List Bool)) → AreRows size rows → (j 
 row_below size rows are j k h e = (are.sets j [] (omega (arith, h, are.count))).below k e
 
 -- no leaf from the size on may read
-pub candidates_below : (c : Cea) (s : State) → IsWellFormed c → (k : ℕ) → candidates (automaton_of_cea c) s k ≡ true → k < c.size
+pub candidates_below : (c : Cea) (s : RunState) → IsWellFormed c → (k : ℕ) → candidates (automaton_of_cea c) s k ≡ true → k < c.size
 candidates_below c start wf k e = wf.first.below k e
 candidates_below c (pair fresh waiting) wf k e =
     let near = row c.near.items in
@@ -109,7 +109,7 @@ candidates_below c (pair fresh waiting) wf k e =
     ]
 
 -- what may read, and can
-pub readers_are : (c : Cea) (s : State) (can : LeafSet) (leaves : List Bool) → IsWellFormed c → length leaves ≡ room_for c.size → ((k : ℕ) → has leaves k ≡ candidates (automaton_of_cea c) s k && can k) → IsSet c.size leaves
+pub readers_are : (c : Cea) (s : RunState) (can : LeafSet) (leaves : List Bool) → IsWellFormed c → length leaves ≡ room_for c.size → ((k : ℕ) → has leaves k ≡ candidates (automaton_of_cea c) s k && can k) → IsSet c.size leaves
 readers_are c s can leaves wf room are = record {
   room = room;
   below = λ k e. candidates_below c s wf k (and_parts (candidates (automaton_of_cea c) s k) (can k) (sym (are k) ∙ e)).0;

@@ -28,17 +28,17 @@ follow a true j = a.near j
 follow a false j = a.far j
 
 -- A state of the subset construction: the leaves that read the last event and mind what the next one is, and those that wait for a far follower, having read an earlier event, or the last one and not minding the next.
-pub data State : Type 0 where
-  start : State
-  pair : LeafSet → LeafSet → State
+pub data RunState : Type 0 where
+  start : RunState
+  pair : LeafSet → LeafSet → RunState
 
 -- the leaves that may read the next event
-abbrev pub candidates : Automaton → State → LeafSet
+abbrev pub candidates : Automaton → RunState → LeafSet
 candidates a start k = a.first k
 candidates a (pair fresh waiting) k = some_below a.size (λ j. fresh j && (a.near j k || a.far j k) || waiting j && a.far j k)
 
 -- the leaves that may let the next event pass
-abbrev pub patient : Automaton → State → LeafSet
+abbrev pub patient : Automaton → RunState → LeafSet
 patient a start k = false
 patient a (pair fresh waiting) k = (fresh k || waiting k) && some_below a.size (a.far k)
 
@@ -48,7 +48,7 @@ agrees true m = m
 agrees false m = not m
 
 -- the leaves that read the event
-abbrev pub readers : Automaton → State → LeafSet → Bool → LeafSet
+abbrev pub readers : Automaton → RunState → LeafSet → Bool → LeafSet
 readers a s bits mark k = candidates a s k && (bits k && agrees mark (a.marked k))
 
 -- the leaf minds what the very next event is: it may have read the last one of a match, or has a near follower
@@ -59,16 +59,16 @@ minds_next a k = a.last k || some_below a.size (a.near k)
 abbrev pub waits_at_once : Automaton → LeafSet
 waits_at_once a k = not (minds_next a k) && some_below a.size (a.far k)
 
-abbrev pub successor : Automaton → State → LeafSet → Bool → State
+abbrev pub successor : Automaton → RunState → LeafSet → Bool → RunState
 successor a s bits mark = pair (λ k. readers a s bits mark k && minds_next a k)
     (λ k. not mark && patient a s k || readers a s bits mark k && waits_at_once a k)
 
-abbrev pub has_leaf : Automaton → State → Bool
+abbrev pub has_leaf : Automaton → RunState → Bool
 has_leaf a start = false
 has_leaf a (pair fresh waiting) = some_below a.size (λ k. fresh k || waiting k)
 
 -- a successor with no leaf is none
-abbrev pub next : Automaton → State → LeafSet → Bool → Option State
+abbrev pub next : Automaton → RunState → LeafSet → Bool → Option RunState
 next a s bits mark = let t = successor a s bits mark in cond (has_leaf a t) (Some t) None
 
 -- An event of the substream: its position, and the leaves that can read it.
@@ -81,14 +81,14 @@ abbrev pub has_mark : List ℕ → ℕ → Bool
 has_mark marks p = list_any (eqb p) marks
 
 -- The state after the entries, of which the positions in the set are marked.
-abbrev pub run : Automaton → (ℕ → Bool) → State → List Entry → Option State
+abbrev pub run : Automaton → (ℕ → Bool) → RunState → List Entry → Option RunState
 run a marks s [] = Some s
 run a marks s (x ∷ xs) = option_and_then (λ t. run a marks t xs) (next a s x.bits (marks x.position))
 
-abbrev pub accepts : Automaton → State → Bool
+abbrev pub accepts : Automaton → RunState → Bool
 accepts a start = false
 accepts a (pair fresh waiting) = some_below a.size (λ k. fresh k && a.last k)
 
-abbrev pub accepted_run : Automaton → Option State → Bool
+abbrev pub accepted_run : Automaton → Option RunState → Bool
 accepted_run a None = false
 accepted_run a (Some s) = accepts a s

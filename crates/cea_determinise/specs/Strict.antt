@@ -2,7 +2,7 @@
 use Rattle.std.specs.Prelude.{ℕ, Bool, true, false, List, [], ◌∷◌, Option, Some, None, option_and_then, option_map}
 use Rattle.cea_determinise.specs.declared.cea.Phase.{Phase}
 use Rattle.cea_determinise.specs.declared.cea.Phase.TheVariants.{Before, Within, After}
-use Rattle.cea_determinise.specs.Runs.{LeafSet, Automaton, State, start, next, Entry, accepts}
+use Rattle.cea_determinise.specs.Runs.{LeafSet, Automaton, RunState, start, next, Entry, accepts}
 
 -- Where marks need not be contiguous the phase stays.
 abbrev pub phase_after : Bool → Phase → Bool → Option Phase
@@ -15,7 +15,7 @@ phase_after true After true = None
 phase_after true After false = Some After
 
 pub record Standing : Type 0 where
-  pub sets : State
+  pub sets : RunState
   pub phase : Phase
 
 abbrev pub begin : Standing

@@ -18,7 +18,7 @@ use Rattle.cea_determinise.specs.declared.cea.Cea.{Cea}
 use Rattle.cea_determinise.specs.declared.cea.Phase.{Phase}
 use Rattle.cea_determinise.specs.declared.table.TransitionKey.{TransitionKey}
 use Rattle.cea_determinise.specs.declared.table.Successors.{Successors}
-use Rattle.cea_determinise.specs.Runs.{LeafSet, Automaton, State, start, candidates, patient, agrees, readers, minds_next, waits_at_once, has_leaf, successor, next, accepts}
+use Rattle.cea_determinise.specs.Runs.{LeafSet, Automaton, RunState, start, candidates, patient, agrees, readers, minds_next, waits_at_once, has_leaf, successor, next, accepts}
 use Rattle.cea_determinise.specs.Strict.{Standing, begin, next_standing, phase_after}
 use Rattle.cea_determinise.specs.Cea.{automaton_of_cea, standing}
 use Rattle.cea_determinise.specs.Det.{Table, class_at, standing_at, AreSuccessors, IsSound}
@@ -41,11 +41,11 @@ use Rattle.event_update.proofs.Known.{number_later}
 ReadsNone : LeafSet → Type 0
 ReadsNone bits = (k : ℕ) → bits k ≡ false
 
-none_fresh : (a : Automaton) (s : State) (bits : LeafSet) (mark : Bool) (k : ℕ) → bits k ≡ false → readers a s bits mark k ≡ false
+none_fresh : (a : Automaton) (s : RunState) (bits : LeafSet) (mark : Bool) (k : ℕ) → bits k ≡ false → readers a s bits mark k ≡ false
 none_fresh a s bits mark k none = ap (λ b. candidates a s k && (b && agrees mark (a.marked k))) none ∙ and-false (candidates a s k)
 
 -- it has a successor only through leaves that wait
-no_next : (a : Automaton) (s : State) (bits : LeafSet) (mark : Bool) → ((k : ℕ) → bits k ≡ false) → ((k : ℕ) → not mark && patient a s k ≡ false) → next a s bits mark ≡ None
+no_next : (a : Automaton) (s : RunState) (bits : LeafSet) (mark : Bool) → ((k : ℕ) → bits k ≡ false) → ((k : ℕ) → not mark && patient a s k ≡ false) → next a s bits mark ≡ None
 no_next a s bits mark quiet none = ap (λ b. cond b (Some (successor a s bits mark)) None) (none_below a.size (λ k. readers a s bits mark k && minds_next a k || (not mark && patient a s k || readers a s bits mark k && waits_at_once a k)) (λ k. rw (none_fresh a s bits mark k (quiet k), none k) refl))
 
 no_standing : (a : Automaton) (strict : Bool) (s t : Standing) (bits : LeafSet) (mark : Bool) → next a s.sets bits mark ≡ None → next_standing a strict s bits mark ≡ Some t → ⊥
@@ -72,7 +72,7 @@ not_accepting a strict s t bits mark quiet goes = by (phase_after strict s.phase
     none : accepts a (successor a s.sets bits mark) ≡ false
     none = none_below a.size (λ k. (readers a s.sets bits mark k && minds_next a k) && a.last k) (λ k. ap (λ b. (b && minds_next a k) && a.last k) (none_fresh a s.sets bits mark k (quiet k)))
 
-    some_case : (b : Bool) (p : Phase) → option_map (λ (q : State). let r : Standing = record { sets = q; phase = p } in r) (cond b (Some (successor a s.sets bits mark)) None) ≡ Some t → accepts a t.sets ≡ false
+    some_case : (b : Bool) (p : Phase) → option_map (λ (q : RunState). let r : Standing = record { sets = q; phase = p } in r) (cond b (Some (successor a s.sets bits mark)) None) ≡ Some t → accepts a t.sets ≡ false
     some_case true p e = sym (ap of e) ∙ none
     some_case false p e = absurd cc
 

@@ -13,7 +13,7 @@ use Rattle.query_leaves.specs.Expand.{Occurrence, tree_of}
 use Rattle.query_leaves.specs.Leaves.{occurrences}
 use Rattle.cea_determinise.specs.declared.cea.Phase.{Phase}
 use Rattle.cea_determinise.specs.declared.cea.Phase.TheVariants.{Before, Within, After}
-use Rattle.cea_determinise.specs.Runs.{LeafSet, Automaton, State, start, pair, some_below, candidates, patient, agrees, readers, minds_next, waits_at_once, successor, has_leaf, next, has_mark}
+use Rattle.cea_determinise.specs.Runs.{LeafSet, Automaton, RunState, start, pair, some_below, candidates, patient, agrees, readers, minds_next, waits_at_once, successor, has_leaf, next, has_mark}
 use Rattle.cea_determinise.specs.Strict.{Standing, begin, phase_after, next_standing, run_standing}
 use Rattle.cea_compile.specs.Compiled.{automaton_of}
 use Rattle.cea_compile.specs.DeterminisedRuns.{from_to, reads_at, entry_at}
@@ -111,17 +111,17 @@ set_there (suc m) f below =
 
 -- STATES OF SUCH SETS
 
-abbrev IsBelow : ℕ → State → Type 0
+abbrev IsBelow : ℕ → RunState → Type 0
 IsBelow m start = Unit {0}
 IsBelow m (pair fresh waiting) = AllBelow m fresh × AllBelow m waiting
 
-abbrev states_below : ℕ → List State
+abbrev states_below : ℕ → List RunState
 states_below m = start ∷ each_with pair (sets_below m) (sets_below m)
 
 abbrev phases : List Phase
 phases = Before ∷ Within ∷ After ∷ []
 
-abbrev stand : State → Phase → Standing
+abbrev stand : RunState → Phase → Standing
 stand s p = record { sets = s; phase = p }
 
 abbrev standings_below : ℕ → List Standing
@@ -132,7 +132,7 @@ phase_there Before = (0, omega arith, refl)
 phase_there Within = (1, omega arith, refl)
 phase_there After = (2, omega arith, refl)
 
-state_there : (m : ℕ) (s : State) → IsBelow m s → Contains (states_below m) s
+state_there : (m : ℕ) (s : RunState) → IsBelow m s → Contains (states_below m) s
 state_there m start below = (0, omega arith, refl)
 state_there m (pair f w) below =
     Contains-append_right (start ∷ []) (each_with pair (sets_below m) (sets_below m)) (pair f w) (with_each pair (sets_below m) (sets_below m) f w (set_there m f below.0) (set_there m w below.1))
@@ -166,11 +166,11 @@ either true y z e = inl refl
 either false true z e = inr refl
 either false false z e = inl e
 
-patient_below : (a : Automaton) (m : ℕ) (s : State) (k : ℕ) → IsBelow m s → patient a s k ≡ true → k < m
+patient_below : (a : Automaton) (m : ℕ) (s : RunState) (k : ℕ) → IsBelow m s → patient a s k ≡ true → k < m
 patient_below a m start k below is = absurd (let no : false ≡ true = is in cc)
 patient_below a m (pair f w) k below is = elim (either (f k) (w k) (some_below a.size (a.far k)) is) [ inl e ↦ below.0 k e | inr e ↦ below.1 k e ]
 
-successor_below : (a : Automaton) (m : ℕ) (s : State) (bits : LeafSet) (mark : Bool) → IsBelow m s → AllBelow m bits → IsBelow m (successor a s bits mark)
+successor_below : (a : Automaton) (m : ℕ) (s : RunState) (bits : LeafSet) (mark : Bool) → IsBelow m s → AllBelow m bits → IsBelow m (successor a s bits mark)
 successor_below a m s bits mark below read = (
   λ k is. reader k (and_front (readers a s bits mark k) (minds_next a k) is),
   λ k is. elim (one_of (not mark && patient a s k) (readers a s bits mark k && waits_at_once a k) is) [
@@ -186,11 +186,11 @@ from_cond : {A : Type 0} (b : Bool) (x y : A) → (cond b (Some x) None) ≡ Som
 from_cond true x y e = cc
 from_cond false x y e = absurd (cc)
 
-next_below : (a : Automaton) (m : ℕ) (s t : State) (bits : LeafSet) (mark : Bool) → IsBelow m s → AllBelow m bits → next a s bits mark ≡ Some t → IsBelow m t
+next_below : (a : Automaton) (m : ℕ) (s t : RunState) (bits : LeafSet) (mark : Bool) → IsBelow m s → AllBelow m bits → next a s bits mark ≡ Some t → IsBelow m t
 next_below a m s t bits mark below read is =
     subst (IsBelow m) (from_cond (has_leaf a (successor a s bits mark)) (successor a s bits mark) t is) (successor_below a m s bits mark below read)
 
-next_with : (a : Automaton) (m : ℕ) (s : State) (t : Standing) (bits : LeafSet) (mark : Bool) (p : Option Phase) (o : Option State) → o ≡ next a s bits mark → IsBelow m s → AllBelow m bits →
+next_with : (a : Automaton) (m : ℕ) (s : RunState) (t : Standing) (bits : LeafSet) (mark : Bool) (p : Option Phase) (o : Option RunState) → o ≡ next a s bits mark → IsBelow m s → AllBelow m bits →
     option_and_then (λ p. option_map (λ u. record { sets = u; phase = p }) o) p ≡ Some t → IsBelow m t.sets
 next_with a m s t bits mark None o from below read is = absurd (cc)
 next_with a m s t bits mark (Some p) None from below read is = absurd (cc)
@@ -198,7 +198,7 @@ next_with a m s t bits mark (Some p) (Some u) from below read is =
     let same : u ≡ t.sets = ap (λ (o : Option Standing). sets_or u o) is in
     subst (IsBelow m) same (next_below a m s u bits mark below read (sym from))
   where
-    sets_or : State → Option Standing → State
+    sets_or : RunState → Option Standing → RunState
     sets_or v None = v
     sets_or v (Some w) = w.sets
 

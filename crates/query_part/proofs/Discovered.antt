@@ -22,7 +22,7 @@ use Rattle.cea_determinise.specs.Cea as stored
 use Rattle.cea_determinise.specs.Det.{Table, standing_at, standing_after}
 use Rattle.cea_compile.specs.Compiled.{automaton_of}
 use Rattle.union_lists.specs.Lists.{IsUnionList, IsList, trees, members_of}
-use Rattle.event_update.specs.Reach.{Seen, RunsTo, Reaches, Has}
+use Rattle.event_update.specs.Reach.{Seen, RunEndsIn, Reaches, Has}
 use Rattle.event_update.specs.Stands.{member_rows}
 use Rattle.event_update.specs.Update.{Discovers}
 use Rattle.event_update.proofs.Reach.{runs_past, runs_marked}
@@ -55,7 +55,7 @@ All-back : {X : Type 0} (P : X → Type 0) (xs ys : List X) → All P (xs ++ ys)
 All-back P [] ys h = h
 All-back P (x ∷ xs) ys h = All-back P xs ys (All-tail P x (xs ++ ys) h)
 
-begin_run : (a : Automaton) (strict : Bool) (x : Seen) (t : Standing) (mark : Bool) → next_standing a strict begin x.bits mark ≡ Some t → (marks : List ℕ) × RunsTo a strict (x ∷ []) t marks
+begin_run : (a : Automaton) (strict : Bool) (x : Seen) (t : Standing) (mark : Bool) → next_standing a strict begin x.bits mark ≡ Some t → (marks : List ℕ) × RunEndsIn a strict (x ∷ []) t marks
 begin_run a strict x t false goes = ([], record { falls = tt; inside = All-nil _; run = ap (λ o. option_and_then (λ u. run_standing a strict (has_mark []) u []) o) goes })
 begin_run a strict x t true goes = (
   x.stamp.pos ∷ [],
@@ -66,7 +66,7 @@ begin_run a strict x t true goes = (
   },
 )
 
-goes_on : (a : Automaton) (strict : Bool) (xs : List Seen) (x : Seen) (s t : Standing) (marks : List ℕ) (mark : Bool) → All (λ (y : Seen). y.stamp.pos < x.stamp.pos) xs → RunsTo a strict xs s marks → next_standing a strict s x.bits mark ≡ Some t → (more : List ℕ) × RunsTo a strict (xs ++ x ∷ []) t more
+goes_on : (a : Automaton) (strict : Bool) (xs : List Seen) (x : Seen) (s t : Standing) (marks : List ℕ) (mark : Bool) → All (λ (y : Seen). y.stamp.pos < x.stamp.pos) xs → RunEndsIn a strict xs s marks → next_standing a strict s x.bits mark ≡ Some t → (more : List ℕ) × RunEndsIn a strict (xs ++ x ∷ []) t more
 goes_on a strict xs x s t marks true later r goes = (x.stamp.pos ∷ marks, runs_marked a strict xs x s t marks later r goes)
 goes_on a strict xs x s t marks false later r goes = (marks, runs_past a strict xs x s t marks later r goes)
 

@@ -26,7 +26,7 @@ use Rattle.cea_compile.proofs.Answers.{listed_is}
 use Rattle.cea_compile.proofs.Accepted.{answers_are_accepted}
 use Rattle.cel_plain.specs.Valuations.{AreAnswersAt}
 use Rattle.cer_base.specs.Repeats as plain
-use Rattle.event_update.specs.Reach.{Seen, entry, RunsTo, Reaches, Has, all_of}
+use Rattle.event_update.specs.Reach.{Seen, entry, RunEndsIn, Reaches, Has, all_of}
 use Rattle.query_standing.specs.Clocks.{low_of}
 use Rattle.query_standing.specs.Bounds.{IsMet}
 use Rattle.query_standing.specs.Keys.{HasKeyAt, IsSeen, positions, IsGiven}
@@ -41,7 +41,7 @@ pub record RunsFrom (a : Automaton) (strict : Bool) (xs : List Seen) (s : Standi
   pub others : List Seen
   pub whole : xs ≡ before ++ first ∷ others
   pub start : m.start ≡ first.stamp
-  pub runs : RunsTo a strict (first ∷ others) s m.positions
+  pub runs : RunEndsIn a strict (first ∷ others) s m.positions
 
 pub runs_from : (a : Automaton) (strict : Bool) (xs : List Seen) (s : Standing) (m : Member) → Reaches a strict xs s m → RunsFrom a strict xs s m
 runs_from a strict [] s m h = absurd h
@@ -50,7 +50,7 @@ runs_from a strict (x ∷ xs) s m (inr h) =
     let r = runs_from a strict xs s m h in
     record { before = x ∷ r.before; first = r.first; others = r.others; whole = ap (λ ys. x ∷ ys) r.whole; start = r.start; runs = r.runs }
 
-pub reaches : (a : Automaton) (strict : Bool) (before : List Seen) (x : Seen) (others : List Seen) (s : Standing) (m : Member) → m.start ≡ x.stamp → RunsTo a strict (x ∷ others) s m.positions → Reaches a strict (before ++ x ∷ others) s m
+pub reaches : (a : Automaton) (strict : Bool) (before : List Seen) (x : Seen) (others : List Seen) (s : Standing) (m : Member) → m.start ≡ x.stamp → RunEndsIn a strict (x ∷ others) s m.positions → Reaches a strict (before ++ x ∷ others) s m
 reaches a strict [] x others s m e r = inl (e, r)
 reaches a strict (y ∷ ys) x others s m e r = inr (reaches a strict ys x others s m e r)
 
@@ -222,7 +222,7 @@ module _ (schema : Declared) (q : Query) (events : List Event) (end : ℕ) (key 
       let in_ : between x.stamp.pos end end ≡ true = and_from (nat_le x.stamp.pos end) (nat_le end end) (le-leb x.stamp.pos end le) (le-leb end end same) in
       subst (λ ps. Contains ps end) (span before x others whole) (is_kept (between x.stamp.pos end) (positions xs) end has_end in_)
 
-  accepted_at : (before : List Seen) (x : Seen) (others : List Seen) (ms : List ℕ) (s : Standing) → xs ≡ before ++ x ∷ others → RunsTo a q.strict (x ∷ others) s ms → accepts a s.sets ≡ true → IsAcceptedRun schema q events (positions xs) end (record { start = x.stamp.pos; marks = reverse ms })
+  accepted_at : (before : List Seen) (x : Seen) (others : List Seen) (ms : List ℕ) (s : Standing) → xs ≡ before ++ x ∷ others → RunEndsIn a q.strict (x ∷ others) s ms → accepts a s.sets ≡ true → IsAcceptedRun schema q events (positions xs) end (record { start = x.stamp.pos; marks = reverse ms })
   accepted_at before x others ms s whole r acc =
       let ps = from_to x.stamp.pos end (positions xs) in
       let sp : positions (x ∷ others) ≡ ps = sym (span before x others whole) in
@@ -271,7 +271,7 @@ module _ (schema : Declared) (q : Query) (events : List Event) (end : ℕ) (key 
       let e : f.first.stamp.pos ≡ m.start.pos = ap (λ (t : Stamp). t.pos) (sym f.start) in
       subst (λ p. IsAcceptedRun schema q events (positions xs) end (record { start = p; marks = reverse m.positions })) e (accepted_at f.before f.first f.others m.positions s f.whole f.runs acc)
 
-  accepted_back : (before : List Seen) (x : Seen) (others : List Seen) (ms : List ℕ) → xs ≡ before ++ x ∷ others → IsAscending ms → IsAcceptedRun schema q events (positions xs) end (record { start = x.stamp.pos; marks = ms }) → (s : Standing) × (accepts a s.sets ≡ true) × RunsTo a q.strict (x ∷ others) s (reverse ms)
+  accepted_back : (before : List Seen) (x : Seen) (others : List Seen) (ms : List ℕ) → xs ≡ before ++ x ∷ others → IsAscending ms → IsAcceptedRun schema q events (positions xs) end (record { start = x.stamp.pos; marks = ms }) → (s : Standing) × (accepts a s.sets ≡ true) × RunEndsIn a q.strict (x ∷ others) s (reverse ms)
   accepted_back before x others ms whole up h =
       let ps = from_to x.stamp.pos end (positions xs) in
       let o = run_standing a q.strict (has_mark ms) begin (map (entry_at schema q events) ps) in

@@ -23,7 +23,7 @@ use Rattle.reorder_gate.specs.Releasing.{greatest, IsInTime, released, BeginsWit
 use Rattle.reorder_gate.specs.Gates.{Held, clock_at, lateness, with_event, StandsFor}
 use Rattle.reorder_gate.proofs.ForCallers.{gone_goes_first, one_more, placed_length, all_with}
 use Rattle.stream_answers.specs.Gathering.{stream_fault}
-use Rattle.late_answers.specs.Late.{Numbered, Feed, Fed, when, unless_late, after_line, fed_from, fed, let_go, AreFed}
+use Rattle.late_answers.specs.Late.{Numbered, Feed, Fed, when, unless_late, fed_after_line, fed_from, fed, let_go, AreFed}
 use Rattle.late_answers.specs.Flowing.{Sits, AreOfSchema, HasFed, HasFedOf, AreFedRead, Feeds, AfterPut, AfterText, GoFirst}
 
 not_end : (put before : List Numbered) (number : ℕ) (refusal : EventFault) → ◌≡◌ {A = Fed} (record { put = before; stop = stop.Event number refusal }) (record { put = put; stop = stop.End }) → ⊥
@@ -52,10 +52,10 @@ fed_then a number before (text ∷ done) later why put all good rest =
     late (Some f) e good go = absurd (not_end put before number (event.TooLate f.high f.now) good)
 
     over : (line : Result (Option StreamEvent) EventFault) →
-        after_line a number before (fed_from a (number + 1) before done None) (λ e. fed_from a (number + 1) (before ++ e ∷ []) done None) line ≡ record { put = put; stop = stop.End } →
+        fed_after_line a number before (fed_from a (number + 1) before done None) (λ e. fed_from a (number + 1) (before ++ e ∷ []) done None) line ≡ record { put = put; stop = stop.End } →
         (fed_from a (number + 1) before done None ≡ record { put = put; stop = stop.End } → fed_from a (number + 1) before (done ++ later) why ≡ all) →
         ((e : Numbered) → fed_from a (number + 1) (before ++ e ∷ []) done None ≡ record { put = put; stop = stop.End } → fed_from a (number + 1) (before ++ e ∷ []) (done ++ later) why ≡ all) →
-        after_line a number before (fed_from a (number + 1) before (done ++ later) why) (λ e. fed_from a (number + 1) (before ++ e ∷ []) (done ++ later) why) line ≡ all
+        fed_after_line a number before (fed_from a (number + 1) before (done ++ later) why) (λ e. fed_from a (number + 1) (before ++ e ∷ []) (done ++ later) why) line ≡ all
     over (Ok None) good skip go = skip good
     over (Ok (Some next)) good skip go = late (lateness (greatest (when a) before) a.late (when a (number, next))) (number, next) good (go (number, next))
     over (Err refusal) good skip go = absurd (not_end put before number refusal good)
@@ -81,7 +81,7 @@ grows a number before (text ∷ texts) why in_time =
 
     over : (line : Result (Option StreamEvent) EventFault) → GrowsTo a before (fed_from a (number + 1) before texts why) →
         ((e : Numbered) → IsInTime (when a) a.late (before ++ e ∷ []) → GrowsTo a (before ++ e ∷ []) (fed_from a (number + 1) (before ++ e ∷ []) texts why)) →
-        GrowsTo a before (after_line a number before (fed_from a (number + 1) before texts why) (λ e. fed_from a (number + 1) (before ++ e ∷ []) texts why) line)
+        GrowsTo a before (fed_after_line a number before (fed_from a (number + 1) before texts why) (λ e. fed_from a (number + 1) (before ++ e ∷ []) texts why) line)
     over (Ok None) skip go = skip
     over (Ok (Some next)) skip go = late (number, next) (lateness (greatest (when a) before) a.late (when a (number, next))) refl (go (number, next))
     over (Err refusal) skip go = record { more = []; put_is = sym (append-nil before); in_time = in_time }
@@ -167,7 +167,7 @@ line_feeds : (a : Feed) (g : Held) (number : ℕ) (next : StreamEvent) (text : L
     fed_from a number put (text ∷ later) why ≡ unless_late number put (fed_from a (number + 1) (put ++ (number, next) ∷ []) later why) l
 line_feeds a g number next text put gone later why l sits stands is late =
     let more = fed_from a (number + 1) (put ++ (number, next) ∷ []) later why in
-    ap (λ line. after_line a number put (fed_from a (number + 1) put later why) (λ e. fed_from a (number + 1) (put ++ e ∷ []) later why) line) is
+    ap (λ line. fed_after_line a number put (fed_from a (number + 1) put later why) (λ e. fed_from a (number + 1) (put ++ e ∷ []) later why) line) is
     ∙ ap (λ o. unless_late number put more o) (lateness_is a g put gone (number, next) sits stands ∙ late)
 
 none_late : {T : Type 0} (o : Option TooLate) (done : T) → IfSome o (λ late. ◌≡◌ {A = Result T (OrMemory TooLate)} (Ok done) (Err (Fault late))) → o ≡ None

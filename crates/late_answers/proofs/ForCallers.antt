@@ -14,7 +14,7 @@ use Rattle.event_run.proofs.Alike.{none_as, first_as}
 use Rattle.reorder_gate.specs.declared.gate.TooLate.{TooLate}
 use Rattle.reorder_gate.specs.Releasing.{greatest}
 use Rattle.reorder_gate.specs.Gates.{lateness}
-use Rattle.late_answers.specs.Late.{Numbered, Feed, Fed, when, after_line, unless_late, fed_from, fed, let_go, TakesOn, RunsLate}
+use Rattle.late_answers.specs.Late.{Numbered, Feed, Fed, when, fed_after_line, unless_late, fed_from, fed, let_go, TakesOn, RunsLate}
 use Rattle.late_answers.proofs.Takings.{one_takes}
 
 -- queries take what others take that say the same
@@ -34,7 +34,7 @@ module _ (order : Order) (schema : Declared) (clock : List ℕ) (late most : ℕ
   late_or_not number before x y fault same = ap (λ (f : Fed). unless_late number before f fault) same
 
   after_same : (ps qs : List Query) (number : ℕ) (before : List Numbered) (x y : Fed) (more less : Numbered → Fed) (line : Result (Option StreamEvent) EventFault) → x ≡ y → ((e : Numbered) → more e ≡ less e) →
-      after_line (asking ps) number before x more line ≡ after_line (asking qs) number before y less line
+      fed_after_line (asking ps) number before x more line ≡ fed_after_line (asking qs) number before y less line
   after_same ps qs number before x y more less (Ok None) skip go = skip
   after_same ps qs number before x y more less (Ok (Some next)) skip go =
       late_or_not number before (more (number, next)) (less (number, next)) (lateness (greatest (when (asking ps)) before) late (when (asking ps) (number, next))) (go (number, next))

@@ -13,7 +13,7 @@ use Rattle.query_engine.specs.Clocks.{NoneFallsBack}
 use Rattle.event_run.specs.Runs.{Stop, stop_of, StopsInTime}
 use Rattle.event_run.specs.Runs as stop
 use Rattle.reorder_gate.specs.declared.gate.TooLate.{TooLate}
-use Rattle.reorder_gate.specs.Clocks.{clock_of}
+use Rattle.reorder_gate.specs.Clocks.{attribute_clock}
 use Rattle.reorder_gate.specs.Sorting.{sorted}
 use Rattle.reorder_gate.specs.Releasing.{greatest, released}
 use Rattle.reorder_gate.specs.Gates.{lateness}
@@ -33,7 +33,7 @@ pub record Feed : Type 0 where
 
 -- the clock of an event
 abbrev pub when : Feed → Numbered → ℤ
-when a e = clock_of a.schema a.clock e.1
+when a e = attribute_clock a.schema a.clock e.1
 
 -- The events that come in time, in the order of their lines, and why there are no more.
 pub record Fed : Type 0 where
@@ -46,17 +46,17 @@ unless_late number before more None = more
 unless_late number before more (Some f) = record { put = before; stop = stop.Event number (event.TooLate f.high f.now) }
 
 -- what follows from a line of this number with this event, none, or a refusal
-abbrev pub after_line : Feed → ℕ → List Numbered → Fed → (Numbered → Fed) → Result (Option StreamEvent) EventFault → Fed
-after_line a number before skip more (Ok None) = skip
-after_line a number before skip more (Ok (Some next)) =
+abbrev pub fed_after_line : Feed → ℕ → List Numbered → Fed → (Numbered → Fed) → Result (Option StreamEvent) EventFault → Fed
+fed_after_line a number before skip more (Ok None) = skip
+fed_after_line a number before skip more (Ok (Some next)) =
     unless_late number before (more (number, next)) (lateness (greatest (when a) before) a.late (when a (number, next)))
-after_line a number before skip more (Err refusal) = record { put = before; stop = stop.Event number refusal }
+fed_after_line a number before skip more (Err refusal) = record { put = before; stop = stop.Event number refusal }
 
 -- after these events come these lines, the first of which has this number, and then this fault
 abbrev pub fed_from : Feed → ℕ → List Numbered → List (List ℕ) → Option LineFault → Fed
 fed_from a number before [] fault = record { put = before; stop = stop_of fault }
 fed_from a number before (text ∷ texts) fault =
-    after_line a number before (fed_from a (number + 1) before texts fault) (λ e. fed_from a (number + 1) (before ++ e ∷ []) texts fault) (event_of_line a.schema text)
+    fed_after_line a number before (fed_from a (number + 1) before texts fault) (λ e. fed_from a (number + 1) (before ++ e ∷ []) texts fault) (event_of_line a.schema text)
 
 -- what a file of these bytes feeds
 abbrev pub fed : Feed → List ℕ → Fed

@@ -12,7 +12,7 @@ use Rattle.stream_schema.specs.declared.Kind.{Kind}
 use Rattle.stream_schema.specs.declared.Kind.TheVariants as kind
 use Rattle.stream_schema.specs.declared.Value.{Value}
 use Rattle.stream_schema.specs.declared.Value.TheVariants as value
-use Rattle.reorder_gate.specs.Clocks.{is_int, is_some_int, has_clock, clock_fits, clock_value, whole, clock_of}
+use Rattle.reorder_gate.specs.Clocks.{is_int, is_some_int, has_clock, clock_fits, clock_value, whole, attribute_clock}
 
 -- a value of a whole number's kind is one
 whole_of_kind : (k : Kind) (v : Value) → is_int k ≡ true → IsOfKind k v → Some v ≡ Some (value.Int (whole (Some v)))
@@ -44,5 +44,5 @@ of_types name [] ty values all of = absurd of
 of_types name (t ∷ types) zero values all of = at_some_place t.attrs values (attr_index name t.attrs) of (and_parts (has_clock name t) (list_all (has_clock name) types) all).0
 of_types name (t ∷ types) (suc ty) values all of = of_types name types ty values (and_parts (has_clock name t) (list_all (has_clock name) types) all).1 of
 
-pub told : (schema : Declared) (name : List ℕ) (event : Event) → clock_fits schema name ≡ true → IsOfSchema schema event → clock_value schema name event ≡ Some (value.Int (clock_of schema name event))
+pub told : (schema : Declared) (name : List ℕ) (event : Event) → clock_fits schema name ≡ true → IsOfSchema schema event → clock_value schema name event ≡ Some (value.Int (attribute_clock schema name event))
 told schema name event fits of = of_types name schema.types event.ty event.values fits of

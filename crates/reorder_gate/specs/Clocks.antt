@@ -37,8 +37,8 @@ whole (Some (value.Int n)) = n
 whole _ = pos 0
 
 -- The event's clock. An event of a schema that the attribute fits has it.
-abbrev pub clock_of : Declared → List ℕ → Event → ℤ
-clock_of schema name event = whole (clock_value schema name event)
+abbrev pub attribute_clock : Declared → List ℕ → Event → ℤ
+attribute_clock schema name event = whole (clock_value schema name event)
 
 -- the same by a table: where the attribute stands among those of each type
 abbrev pub value_in : List (Option ℕ) → Event → Option Value
@@ -49,4 +49,4 @@ clock_in places event = whole (value_in places event)
 
 -- The table tells the clock of every event.
 pub record IsClock (schema : Declared) (name : List ℕ) (places : List (Option ℕ)) : Type 0 where
-  pub clock : clock_in places ≡ clock_of schema name
+  pub clock : clock_in places ≡ attribute_clock schema name

@@ -5,7 +5,7 @@ use Rattle.stream_schema.specs.Types.{Declared}
 use Rattle.stream_schema.specs.Events.{IsOfSchema}
 use Rattle.stream_schema.specs.declared.Event.{Event}
 use Rattle.stream_schema.specs.declared.Value.TheVariants as value
-use Rattle.reorder_gate.specs.Clocks.{clock_fits, clock_value, clock_of}
+use Rattle.reorder_gate.specs.Clocks.{clock_fits, clock_value, attribute_clock}
 use Rattle.reorder_gate.specs.Gates.{Held, clock_at, StandsFor}
 use Rattle.reorder_gate.specs.Sorting.{placed, sorted, IsInOrder}
 use Rattle.reorder_gate.specs.Releasing.{is_late, greatest, IsInTime, released, BeginsWith}
@@ -58,7 +58,7 @@ ReleasedGrows A = (clock : A → ℤ) (late : ℕ) (list more : List A) → IsIn
 -- An event of a schema that the attribute fits has its clock as the attribute's value.
 abbrev pub FittingClocksAreTold : Type 0
 FittingClocksAreTold = (schema : Declared) (name : List ℕ) (event : Event) → clock_fits schema name ≡ true → IsOfSchema schema event →
-    clock_value schema name event ≡ Some (value.Int (clock_of schema name event))
+    clock_value schema name event ≡ Some (value.Int (attribute_clock schema name event))
 
 -- What has gone before the end stays first, whatever comes that is not too late: of what is released then, and of all sorted.
 abbrev pub GoneIsFinal : Type 0

@@ -9,7 +9,7 @@ use Rattle.std.specs.Str.Parse.{digits_value}
 use Rattle.std.proofs.lemmas.Bool.{and_parts, and_from, leb-true, le-leb, eqb-true, lt-ltb}
 use Rattle.std.proofs.lemmas.Str.Parse.{digits_value_short, numerals_by_value, tells_all_ascii_digits}
 use Rattle.event_reader.specs.Words.{is_blank}
-use Rattle.cursor_session.specs.Numbers.{is_number, number, one_of}
+use Rattle.cursor_session.specs.Numbers.{is_command_number, command_number, one_of}
 use Rattle.cursor_session.specs.Spelling.{Writes, WritesOneOf}
 
 pub below_ten_digits : (digits : List ℕ) → length digits ≤ 10 → all_ascii_digits digits ≡ true → digits_value 10 digits < 2 ^ 64
@@ -18,19 +18,19 @@ below_ten_digits digits few all =
     omega arith
 
 -- what the test of a number tests
-number_tests : (digits : List ℕ) → is_number digits ≡ true → (nat_lt 0 (length digits) ≡ true) × (nat_le (length digits) 10 ≡ true) × (all_ascii_digits digits ≡ true)
+number_tests : (digits : List ℕ) → is_command_number digits ≡ true → (nat_lt 0 (length digits) ≡ true) × (nat_le (length digits) 10 ≡ true) × (all_ascii_digits digits ≡ true)
 number_tests digits e =
     let both = and_parts (nat_lt 0 (length digits) && nat_le (length digits) 10) (all_ascii_digits digits) e in
     let first = and_parts (nat_lt 0 (length digits)) (nat_le (length digits) 10) both.0 in
     (first.0, first.1, both.1)
 
 -- what digits write is the number, where there are from one to ten bytes
-pub numbered : (digits : List ℕ) (r : Option ℕ) → 0 < length digits → length digits ≤ 10 → SomeIff r ((all_ascii_digits digits ≡ true) × (digits_value 10 digits < 2 ^ 64)) (digits_value 10 digits) → r ≡ number digits
+pub numbered : (digits : List ℕ) (r : Option ℕ) → 0 < length digits → length digits ≤ 10 → SomeIff r ((all_ascii_digits digits ≡ true) × (digits_value 10 digits < 2 ^ 64)) (digits_value 10 digits) → r ≡ command_number digits
 numbered digits (Some n) some few told =
     rw (and_from (nat_lt 0 (length digits) && nat_le (length digits) 10) (all_ascii_digits digits) (and_from (nat_lt 0 (length digits)) (nat_le (length digits) 10) (lt-ltb 0 (length digits) some) (le-leb (length digits) 10 few)) told.0.0) (ap (λ m. Some m) told.1)
-numbered digits None some few told = by_test (is_number digits) refl
+numbered digits None some few told = by_test (is_command_number digits) refl
   where
-    by_test : (t : Bool) → is_number digits ≡ t → None ≡ cond t (Some (digits_value 10 digits)) None
+    by_test : (t : Bool) → is_command_number digits ≡ t → None ≡ cond t (Some (digits_value 10 digits)) None
     by_test true e =
         let all = (number_tests digits e).2 in
         absurd (told (all, below_ten_digits digits few all))
@@ -44,15 +44,15 @@ pub and_then_some : {X Y : Type 0} (f : X → Option Y) (o : Option X) (y : Y) �
 and_then_some f None y e = absurd (search (rules, e))
 and_then_some f (Some x) y e = (x, refl, e)
 
-pub number_writes : (digits : List ℕ) (n : ℕ) → number digits ≡ Some n → Writes digits n
-number_writes digits n e = chosen_some (is_number digits) (digits_value 10 digits) n e
+pub number_writes : (digits : List ℕ) (n : ℕ) → command_number digits ≡ Some n → Writes digits n
+number_writes digits n e = chosen_some (is_command_number digits) (digits_value 10 digits) n e
 
-pub writes_number : (digits : List ℕ) (n : ℕ) → Writes digits n → number digits ≡ Some n
+pub writes_number : (digits : List ℕ) (n : ℕ) → Writes digits n → command_number digits ≡ Some n
 writes_number digits n writes = rw writes.0 (ap (λ m. Some m) writes.1)
 
 pub one_writes : (most : ℕ) (digits : List ℕ) (n : ℕ) → one_of most digits ≡ Some n → WritesOneOf most digits n
 one_writes most digits n e =
-    let found = and_then_some (λ m. cond (nat_le 1 m && nat_le m most) (Some m) None) (number digits) n e in
+    let found = and_then_some (λ m. cond (nat_le 1 m && nat_le m most) (Some m) None) (command_number digits) n e in
     let parts = chosen_some (nat_le 1 found.0 && nat_le found.0 most) found.0 n found.2 in
     let tests = and_parts (nat_le 1 found.0) (nat_le found.0 most) parts.0 in
     let least : 1 ≤ found.0 = leb-true 1 found.0 tests.0 in

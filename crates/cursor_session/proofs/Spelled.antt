@@ -10,7 +10,7 @@ use Rattle.cursor_session.specs.declared.command.Command.TheVariants as command
 use Rattle.cursor_session.specs.declared.command.CommandFault.{CommandFault}
 use Rattle.cursor_session.specs.declared.command.CommandFault.TheVariants as fault
 use Rattle.event_reader.specs.Words.{cut}
-use Rattle.cursor_session.specs.Numbers.{number, one_of}
+use Rattle.cursor_session.specs.Numbers.{command_number, one_of}
 use Rattle.cursor_session.specs.Commands.{event_command, open_command, pull_command, drop_command, other_command, known, command_in, command_of}
 use Rattle.cursor_session.specs.Spelling.{Spells}
 use Rattle.event_reader.proofs.FirstBlank.{parts, cut_is, parts_join, parts_of, mapped_some}
@@ -38,7 +38,7 @@ event_spelled schema line text (Err refusal) c is read e = absurd (search (rules
 open_spelled : (schema : Declared) (rest text : List ℕ) (c : Command) → text ≡ codes "open " ++ rest → option_and_then open_command (cut rest) ≡ Some c → Spells schema text c
 open_spelled schema rest text c is e =
     let words = and_then_some open_command (cut rest) c e in
-    let query = and_then_some (λ q. option_map (λ n. command.OpenAt q n) (one_of 64 words.0.1)) (number words.0.0) c words.2 in
+    let query = and_then_some (λ q. option_map (λ n. command.OpenAt q n) (one_of 64 words.0.1)) (command_number words.0.0) c words.2 in
     let cursor = mapped_some (λ n. command.OpenAt query.0 n) (one_of 64 words.0.1) c query.2 in
     subst (Spells schema text) cursor.2 (words.0.0, words.0.1, is ∙ ap (λ l. codes "open " ++ l) (cut_joins rest words.0.0 words.0.1 words.1), number_writes words.0.0 query.0 query.1, one_writes 64 words.0.1 cursor.0 cursor.1)
 

@@ -25,7 +25,7 @@ use Rattle.cursor_session.specs.declared.command.Command.TheVariants as command
 use Rattle.cursor_session.specs.declared.session.RunFault.{RunFault}
 use Rattle.cursor_session.specs.declared.session.RunFault.TheVariants.{Memory}
 use Rattle.cursor_session.specs.declared.opened.Opened.{Opened}
-use Rattle.cursor_session.specs.Machine.{Machine, OpenCursor, IsStep, place_of, at_line, has_number, pull_text, EventStep, PullStep}
+use Rattle.cursor_session.specs.Machine.{Machine, OpenCursor, IsStep, cursor_place, position_line, has_number, pull_text, EventStep, PullStep}
 use Rattle.cursor_session.specs.Sessions.{Session, Stands, Ended, Broke, Writes, IsUnchanged, IsKept, as_run_fault, pull_bound, cursor_seen, cursors_seen, left_of}
 use Rattle.cursor_session.proofs.Seen.{fits_kept, seen_kept, fits_held, seen_held, place_seen, seen_at, seen_set, seen_more, seen_fewer}
 
@@ -68,23 +68,23 @@ fell e f os cs d s machine event number before now taken view engine falls stand
 
 pub event_step : (s : Session) (machine : Machine) (event : Event) (place : ℕ) → Stands s machine → place ≡ count_of s.engine →
     ((events : List Event) → StandsFor s.engine events → NoneFallsBack s.engine.schema s.engine.queries events event) →
-    EventStep s.engine.schema s.engine.queries event machine (record machine { events = machine.events ++ event ∷ [] }) (at_line place)
+    EventStep s.engine.schema s.engine.queries event machine (record machine { events = machine.events ++ event ∷ [] }) (position_line place)
 event_step s machine event place stands is in_time = record {
   in_time = in_time machine.events stands.events;
   after = refl;
-  written = ap at_line (is ∙ stands_count s.engine machine.events stands.events);
+  written = ap position_line (is ∙ stands_count s.engine machine.events stands.events);
 }
 
 pub went_event : (e f : State) (os : List Opened) (cs : List Open) (d : Bool) (s : Session) (machine : Machine) (event : Event) (place : ℕ) (before after : Option (List ℕ)) →
     session e os cs d ≡ s → IsKept e os cs → s.closed ≡ false → place ≡ count_of e →
     ((events : List Event) → StandsFor e events → StandsFor f (events ++ event ∷ [])) → KeepsCursors e f →
-    ((events : List Event) → StandsFor e events → NoneFallsBack e.schema e.queries events event) → TookAll before after (at_line place) →
+    ((events : List Event) → StandsFor e events → NoneFallsBack e.schema e.queries events event) → TookAll before after (position_line place) →
     Stands s machine → Ended (command.Event event) s machine (session f os cs d) before after (Ok tt)
 went_event e f os cs d s machine event place before after view kept going is stood keeps in_time took stands =
     let P : Session → Type 0 = λ t. t.closed ≡ false → Stands t machine → Ended (command.Event event) t machine (session f os cs d) before after (Ok tt) in
     subst P view (λ going stands. record {
       next = record machine { events = machine.events ++ event ∷ [] };
-      bytes = at_line place;
+      bytes = position_line place;
       step = event_step (session e os cs d) machine event place stands is in_time;
       stands = record {
         events = stood machine.events stands.events;
@@ -96,12 +96,12 @@ went_event e f os cs d s machine event place before after view kept going is sto
 
 pub broke_event : (e : State) (os : List Opened) (cs : List Open) (d : Bool) (s new : Session) (machine : Machine) (event : Event) (place : ℕ) (before after : Option (List ℕ)) (stop : OrMemory Failure) (fault : RunFault) →
     session e os cs d ≡ s → new.closed ≡ true → place ≡ count_of e → fault ≡ as_run_fault stop →
-    ((events : List Event) → StandsFor e events → NoneFallsBack e.schema e.queries events event) → TookBy {T = Unit {0}} before after (at_line place) (Err stop) →
+    ((events : List Event) → StandsFor e events → NoneFallsBack e.schema e.queries events event) → TookBy {T = Unit {0}} before after (position_line place) (Err stop) →
     Stands s machine → Ended (command.Event event) s machine new before after (Err fault)
 broke_event e os cs d s new machine event place before after stop fault view closed is fault_is in_time took stands =
     let P : Session → Type 0 = λ t. Stands t machine → Ended (command.Event event) t machine new before after (Err fault) in
     subst P view (λ stands.
-    broke (command.Event event) (session e os cs d) machine (record machine { events = machine.events ++ event ∷ [] }) new before after (at_line place) stop fault tt inr fault_is
+    broke (command.Event event) (session e os cs d) machine (record machine { events = machine.events ++ event ∷ [] }) new before after (position_line place) stop fault tt inr fault_is
     (event_step (session e os cs d) machine event place stands is in_time) closed took) stands
 
 -- the cursors after an event
@@ -168,7 +168,7 @@ kept_open e os os2 cs cs2 o c kept fits opened cursors =
 
 -- the place of a number among the cursors of the machine
 place_is : (e : State) (os : List Opened) (cs : List Open) (machine : Machine) (number : ℕ) (place : Option ℕ) → machine.cursors ≡ cursors_seen e os cs → length os ≡ length cs →
-    place ≡ position (λ (o : Opened). o.number == number) os → place_of number machine ≡ place
+    place ≡ position (λ (o : Opened). o.number == number) os → cursor_place number machine ≡ place
 place_is e os cs machine number place seen long found = ap (position (has_number number)) seen ∙ (place_seen e number os cs long ∙ sym found)
 
 pub went_drop : (e : State) (os os2 : List Opened) (cs cs2 : List Open) (d : Bool) (s : Session) (machine : Machine) (number k : ℕ) (taken : Option (List ℕ)) →
@@ -190,9 +190,9 @@ went_drop e os os2 cs cs2 d s machine number k taken view kept going found insid
     }) going stands
 
 pub not_open : (e : State) (os : List Opened) (cs : List Open) (d : Bool) (s : Session) (machine : Machine) (number : ℕ) →
-    session e os cs d ≡ s → IsKept e os cs → None ≡ position (λ (o : Opened). o.number == number) os → Stands s machine → place_of number machine ≡ None
+    session e os cs d ≡ s → IsKept e os cs → None ≡ position (λ (o : Opened). o.number == number) os → Stands s machine → cursor_place number machine ≡ None
 not_open e os cs d s machine number view kept found stands =
-    let P : Session → Type 0 = λ t. Stands t machine → place_of number machine ≡ None in
+    let P : Session → Type 0 = λ t. Stands t machine → cursor_place number machine ≡ None in
     subst P view (λ stands. place_is e os cs machine number None stands.cursors kept.count found) stands
 
 -- PULLS
@@ -252,7 +252,7 @@ broke_pull e os cs d s new machine number n k o c before after stop fault view k
 pub within_pull : (e : State) (os : List Opened) (cs : List Open) (d : Bool) (s : Session) (machine : Machine) (number n k before after : ℕ) (o : Opened) (c : Open) →
     session e os cs d ≡ s → IsKept e os cs → Some k ≡ position (λ (x : Opened). x.number == number) os → slice_get os k ≡ Some o → slice_get cs k ≡ Some c →
     after ≤ before + (delays (take n (left_of e c)) + 1) → Stands s machine →
-    (place : ℕ) (one : OpenCursor) → place_of number machine ≡ Some place → slice_get machine.cursors place ≡ Some one → after ≤ before + pull_bound n one
+    (place : ℕ) (one : OpenCursor) → cursor_place number machine ≡ Some place → slice_get machine.cursors place ≡ Some one → after ≤ before + pull_bound n one
 within_pull e os cs d s machine number n k before after o c view kept found here there within stands place one at is =
     let P : Session → Type 0 = λ t. Stands t machine → after ≤ before + pull_bound n one in
     subst P view (λ stands.
@@ -307,9 +307,9 @@ place_within os number k found = (position-Some (λ (o : Opened). o.number == nu
 
 pub is_open : (e : State) (os : List Opened) (cs : List Open) (d : Bool) (s : Session) (machine : Machine) (query number : ℕ) (found : Option ℕ) (taken : Option (List ℕ)) →
     session e os cs d ≡ s → IsKept e os cs → 1 ≤ query → query ≤ length e.queries → 0 < count_of e → found ≡ position (λ (o : Opened). o.number == number) os → true ≡ is_some found → Stands s machine →
-    ((number ≡ number) × (1 ≤ query) × (query ≤ length s.engine.queries) × (0 < length machine.events) × ((place_of number machine ≡ None) → ⊥)) × IsUnchanged s s taken taken
+    ((number ≡ number) × (1 ≤ query) × (query ≤ length s.engine.queries) × (0 < length machine.events) × ((cursor_place number machine ≡ None) → ⊥)) × IsUnchanged s s taken taken
 is_open e os cs d s machine query number found taken view kept one most some at here stands =
-    let P : Session → Type 0 = λ t. Stands t machine → (query ≤ length t.engine.queries) × (0 < length machine.events) × ((place_of number machine ≡ None) → ⊥) in
+    let P : Session → Type 0 = λ t. Stands t machine → (query ≤ length t.engine.queries) × (0 < length machine.events) × ((cursor_place number machine ≡ None) → ⊥) in
     let p = subst P view (λ stands. (
       most,
       omega (arith, some, stands_count e machine.events stands.events),

@@ -11,7 +11,7 @@ use Rattle.cursor_session.specs.declared.command.Command.TheVariants as command
 use Rattle.cursor_session.specs.declared.command.CommandFault.{CommandFault}
 use Rattle.cursor_session.specs.declared.command.CommandFault.TheVariants as fault
 use Rattle.event_reader.specs.Words.{cut}
-use Rattle.cursor_session.specs.Numbers.{number, one_of}
+use Rattle.cursor_session.specs.Numbers.{command_number, one_of}
 
 -- the command of an event, where the line gives one
 abbrev pub event_command : Result (Option Event) EventFault → Result Command CommandFault
@@ -20,7 +20,7 @@ event_command (Ok None) = Err fault.UnknownCommand
 event_command (Err refusal) = Err (fault.Event refusal)
 
 abbrev pub open_command : List ℕ × List ℕ → Option Command
-open_command words = option_and_then (λ query. option_map (λ cursor. command.OpenAt query cursor) (one_of MOST_CURSORS words.1)) (number words.0)
+open_command words = option_and_then (λ query. option_map (λ cursor. command.OpenAt query cursor) (one_of MOST_CURSORS words.1)) (command_number words.0)
 
 abbrev pub pull_command : List ℕ × List ℕ → Option Command
 pull_command words = option_and_then (λ cursor. option_map (λ n. command.Pull cursor n) (one_of MOST_PULLED words.1)) (one_of MOST_CURSORS words.0)

@@ -5,7 +5,7 @@ use Rattle.cel_terms.specs.declared.Query.{Query}
 use Rattle.query_engine.specs.Machine as engine
 use Rattle.cursor_session.specs.declared.command.Command.{Command}
 use Rattle.cursor_session.specs.declared.command.Command.TheVariants as command
-use Rattle.cursor_session.specs.Machine.{Machine, OpenCursor, IsStep, place_of}
+use Rattle.cursor_session.specs.Machine.{Machine, OpenCursor, IsStep, cursor_place}
 
 -- a cursor without its number, and a machine of such cursors
 abbrev pub unnumbered : OpenCursor → engine.OpenCursor
@@ -22,9 +22,9 @@ Talk = List (engine.Command × engine.Reply)
 abbrev pub IsTalk : Command → Machine → Talk → Type 0
 IsTalk (command.Event event) old talk = talk ≡ (engine.Take event, engine.Done) ∷ []
 IsTalk (command.OpenAt query cursor) old talk = talk ≡ (engine.Begin query, engine.Done) ∷ []
-IsTalk (command.Pull number n) old talk = (k : ℕ) × (cursor : OpenCursor) × (place_of number old ≡ Some k) × (slice_get old.cursors k ≡ Some cursor)
+IsTalk (command.Pull number n) old talk = (k : ℕ) × (cursor : OpenCursor) × (cursor_place number old ≡ Some k) × (slice_get old.cursors k ≡ Some cursor)
     × (talk ≡ map (λ answer. (engine.Pull k, engine.Gives answer)) (take n cursor.left))
-IsTalk (command.Drop number) old talk = (k : ℕ) × (place_of number old ≡ Some k) × (talk ≡ (engine.Drop k, engine.Done) ∷ [])
+IsTalk (command.Drop number) old talk = (k : ℕ) × (cursor_place number old ≡ Some k) × (talk ≡ (engine.Drop k, engine.Done) ∷ [])
 IsTalk command.Compact old talk = talk ≡ (engine.Compact, engine.Done) ∷ []
 
 -- The commands are steps of the engine's machine, one after the other, with these answers.

@@ -31,12 +31,12 @@ abbrev pub has_number : ℕ → OpenCursor → Bool
 has_number number cursor = cursor.number == number
 
 -- where the open cursor of this number stands, if there is one
-abbrev pub place_of : ℕ → Machine → Option ℕ
-place_of number machine = position (has_number number) machine.cursors
+abbrev pub cursor_place : ℕ → Machine → Option ℕ
+cursor_place number machine = position (has_number number) machine.cursors
 
 -- at 3
-abbrev pub at_line : ℕ → List ℕ
-at_line position = codes "at " ++ decimal position ++ LINE_FEED ∷ []
+abbrev pub position_line : ℕ → List ℕ
+position_line position = codes "at " ++ decimal position ++ LINE_FEED ∷ []
 
 abbrev pub end_line : List ℕ
 end_line = codes "end" ++ LINE_FEED ∷ []
@@ -56,7 +56,7 @@ pull_text query position n left = flat_map (line query position) (take n left) +
 pub record EventStep (schema : Declared) (queries : List Query) (event : Event) (old new : Machine) (bytes : List ℕ) : Type 0 where
   pub in_time : NoneFallsBack schema queries old.events event
   pub after : new ≡ record old { events = old.events ++ event ∷ [] }
-  pub written : bytes ≡ at_line (length old.events)
+  pub written : bytes ≡ position_line (length old.events)
 
 -- A cursor comes, which is to give each answer of the query at the last position once.
 pub record OpenStep (schema : Declared) (queries : List Query) (query cursor : ℕ) (old new : Machine) (bytes : List ℕ) : Type 0 where
@@ -64,7 +64,7 @@ pub record OpenStep (schema : Declared) (queries : List Query) (query cursor : �
   pub q : Query
   pub numbered : slice_get queries (query - 1) ≡ Some q
   pub seen : 0 < length old.events
-  pub free : place_of cursor old ≡ None
+  pub free : cursor_place cursor old ≡ None
   pub answers : List Answer
   pub are : AreAnswersAt schema q old.events (length old.events - 1) answers
   pub after : new ≡ record old { cursors = old.cursors ++ record { number = cursor; query = query; position = length old.events - 1; left = answers } ∷ [] }
@@ -73,7 +73,7 @@ pub record OpenStep (schema : Declared) (queries : List Query) (query cursor : �
 -- The cursor gives so many of its answers, or all that it has left.
 pub record PullStep (number n : ℕ) (old new : Machine) (bytes : List ℕ) : Type 0 where
   pub place : ℕ
-  pub here : place_of number old ≡ Some place
+  pub here : cursor_place number old ≡ Some place
   pub cursor : OpenCursor
   pub at : slice_get old.cursors place ≡ Some cursor
   pub after : new ≡ record old { cursors = slice_set old.cursors place (record cursor { left = drop n cursor.left }) }
@@ -82,7 +82,7 @@ pub record PullStep (number n : ℕ) (old new : Machine) (bytes : List ℕ) : Ty
 -- The cursor goes.
 pub record DropStep (number : ℕ) (old new : Machine) (bytes : List ℕ) : Type 0 where
   pub place : ℕ
-  pub here : place_of number old ≡ Some place
+  pub here : cursor_place number old ≡ Some place
   pub after : new ≡ record old { cursors = remove old.cursors place }
   pub written : bytes ≡ []
 
@@ -99,12 +99,12 @@ abbrev pub OpenRefused : List Query → ℕ → ℕ → Machine → Refusal → 
 OpenRefused queries query cursor old (refusal.NoQuery q) = (q ≡ query) × ((1 ≤ query) × (query ≤ length queries) → ⊥)
 OpenRefused queries query cursor old refusal.NoEventYet = (1 ≤ query) × (query ≤ length queries) × (old.events ≡ [])
 OpenRefused queries query cursor old (refusal.CursorOpen c) =
-    (c ≡ cursor) × (1 ≤ query) × (query ≤ length queries) × (0 < length old.events) × ((place_of cursor old ≡ None) → ⊥)
+    (c ≡ cursor) × (1 ≤ query) × (query ≤ length queries) × (0 < length old.events) × ((cursor_place cursor old ≡ None) → ⊥)
 OpenRefused queries query cursor old _ = ⊥
 
 -- Why a pull or a drop is refused: the cursor is not open.
 abbrev pub CursorRefused : ℕ → Machine → Refusal → Type 0
-CursorRefused cursor old (refusal.CursorNotOpen c) = (c ≡ cursor) × (place_of cursor old ≡ None)
+CursorRefused cursor old (refusal.CursorNotOpen c) = (c ≡ cursor) × (cursor_place cursor old ≡ None)
 CursorRefused cursor old _ = ⊥
 
 -- Why an event is refused: time falls for a query.

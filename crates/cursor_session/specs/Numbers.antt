@@ -5,13 +5,13 @@ use Rattle.std.specs.Str.Parse.{digits_value}
 use Rattle.cursor_session.specs.declared.numbers.TheConstants.{MOST_DIGITS}
 
 -- one to ten digits
-abbrev pub is_number : List ℕ → Bool
-is_number digits = nat_lt 0 (length digits) && nat_le (length digits) MOST_DIGITS && all_ascii_digits digits
+abbrev pub is_command_number : List ℕ → Bool
+is_command_number digits = nat_lt 0 (length digits) && nat_le (length digits) MOST_DIGITS && all_ascii_digits digits
 
 -- the number that they write
-abbrev pub number : List ℕ → Option ℕ
-number digits = if is_number digits then Some (digits_value 10 digits) else None
+abbrev pub command_number : List ℕ → Option ℕ
+command_number digits = if is_command_number digits then Some (digits_value 10 digits) else None
 
 -- the same, where it is from 1 to so many
 abbrev pub one_of : ℕ → List ℕ → Option ℕ
-one_of most digits = option_and_then (λ n. if nat_le 1 n && nat_le n most then Some n else None) (number digits)
+one_of most digits = option_and_then (λ n. if nat_le 1 n && nat_le n most then Some n else None) (command_number digits)

@@ -19,7 +19,7 @@ use Rattle.cursor_session.specs.declared.command.Command.TheVariants as command
 use Rattle.cursor_session.specs.declared.session.RunFault.{RunFault}
 use Rattle.cursor_session.specs.declared.session.RunFault.TheVariants.{Refused, WriteFault, Memory}
 use Rattle.cursor_session.specs.declared.opened.Opened.{Opened}
-use Rattle.cursor_session.specs.Machine.{Machine, OpenCursor, IsStep, IsRefused, place_of}
+use Rattle.cursor_session.specs.Machine.{Machine, OpenCursor, IsStep, IsRefused, cursor_place}
 
 -- What contracts see of a session: its engine, the numbers of its open cursors with the positions at which they were opened, the cursors in the same order, and whether it is closed.
 pub record Session : Type 0 where
@@ -118,7 +118,7 @@ abbrev pub IsWithin : Command → Session → Machine → Session → ℕ → �
 IsWithin (command.Event event) old machine new before after result = EventIsWithin new before after result
 IsWithin (command.OpenAt query cursor) old machine new before after result = after ≤ before + update_bound (found_of old.engine query)
 IsWithin (command.Pull cursor n) old machine new before after result =
-    (place : ℕ) (one : OpenCursor) → place_of cursor machine ≡ Some place → slice_get machine.cursors place ≡ Some one → after ≤ before + pull_bound n one
+    (place : ℕ) (one : OpenCursor) → cursor_place cursor machine ≡ Some place → slice_get machine.cursors place ≡ Some one → after ≤ before + pull_bound n one
 IsWithin (command.Drop cursor) old machine new before after result = after ≡ before
 IsWithin command.Compact old machine new before after result = after ≤ before + compact_bounds old.engine
 

@@ -9,12 +9,12 @@ use Rattle.cursor_session.specs.declared.numbers.TheConstants.{MOST_CURSORS, MOS
 use Rattle.cursor_session.specs.declared.command.Command.{Command}
 use Rattle.cursor_session.specs.declared.command.Command.TheVariants as command
 use Rattle.cursor_session.specs.declared.command.CommandFault.TheVariants as fault
-use Rattle.cursor_session.specs.Numbers.{is_number}
+use Rattle.cursor_session.specs.Numbers.{is_command_number}
 use Rattle.cursor_session.specs.Commands.{command_of}
 
 -- one to ten digits write the number
 abbrev pub Writes : List ℕ → ℕ → Type 0
-Writes digits n = (is_number digits ≡ true) × (digits_value 10 digits ≡ n)
+Writes digits n = (is_command_number digits ≡ true) × (digits_value 10 digits ≡ n)
 
 -- and it is from 1 to so many
 abbrev pub WritesOneOf : ℕ → List ℕ → ℕ → Type 0

@@ -7,7 +7,7 @@ ghost use Rattle.event_reader.specs.Lines.{has_line_feed};
 ghost use Rattle.event_reader.specs.Events.{event_of_line};
 ghost use Rattle.cursor_session.specs.Commands.{command_of, event_command, other_command, open_command, pull_command, drop_command, HasEventOf};
 
-use crate::numbers::{MOST_CURSORS, MOST_PULLED, number, one_of};
+use crate::numbers::{MOST_CURSORS, MOST_PULLED, command_number, one_of};
 use cer_base::OrMemory;
 use cer_base::bytes::CARRIAGE_RETURN;
 use event_reader::words::cut;
@@ -129,7 +129,7 @@ fn other_command(word: &[u8], rest: &[u8]) -> Option<Command>
 fn open_command(query: &[u8], cursor: &[u8]) -> Option<Command>
     ensures { result ≡ open_command (query.now, cursor.now) }
 {
-    let query = number(query)?;
+    let query = command_number(query)?;
     let cursor = one_of(MOST_CURSORS, cursor)?;
     Some(Command::OpenAt { query, cursor })
 }

@@ -4,7 +4,7 @@ ghost use Rattle.std.specs.Prelude.{◌≡◌, ◌<◌, ◌≤◌, ◌^◌, leng
 ghost use Rattle.std.specs.Option.{SomeIff};
 ghost use Rattle.std.specs.Str.{all_ascii_digits};
 ghost use Rattle.std.specs.Str.Parse.{digits_value};
-ghost use Rattle.cursor_session.specs.Numbers.{number, one_of};
+ghost use Rattle.cursor_session.specs.Numbers.{command_number, one_of};
 
 /// A number has at most so many digits.
 pub const MOST_DIGITS: usize = 10;
@@ -17,8 +17,8 @@ pub const MOST_PULLED: u64 = 4294967295;
 
 /// The number that one to ten digits write.
 #[tactic(auto, using(crate::proofs::Digits::numbered))]
-pub fn number(digits: &[u8]) -> Option<u64>
-    ensures { result ≡ number digits.now }
+pub fn command_number(digits: &[u8]) -> Option<u64>
+    ensures { result ≡ command_number digits.now }
 {
     if digits.is_empty() || digits.len() > MOST_DIGITS {
         return None;
@@ -30,7 +30,7 @@ pub fn number(digits: &[u8]) -> Option<u64>
 pub fn one_of(most: u64, digits: &[u8]) -> Option<u64>
     ensures { result ≡ one_of most digits.now }
 {
-    match number(digits) {
+    match command_number(digits) {
         Some(n) => { if 1 <= n && n <= most { Some(n) } else { None } }
         None => None,
     }

@@ -6,7 +6,7 @@ ghost use Rattle.query_engine.specs.Engine.{Fits};
 ghost use Rattle.answer_text.specs.Output.{line};
 ghost use Rattle.answer_blocks.specs.Counted.{delays};
 ghost use Rattle.answer_blocks.specs.Taken.{TookBy};
-ghost use Rattle.cursor_session.specs.Machine.{at_line, end_line, more_line, pull_text};
+ghost use Rattle.cursor_session.specs.Machine.{position_line, end_line, more_line, pull_text};
 ghost use Rattle.cursor_session.specs.Sessions.{left_of};
 
 use answer_blocks::walk::write_line;
@@ -20,7 +20,7 @@ use std::sync::ledger::Ledger;
 
 /// Puts `at P` after the text.
 fn push_at(text: &mut Vec<u8>, position: Pos) -> Result<(), Memory>
-    ensures { OnOk result (text.new.items ≡ text.old.items ++ at_line position) }
+    ensures { OnOk result (text.new.items ≡ text.old.items ++ position_line position) }
 {
     let mut digits = Buffer::new();
     text.extend_from_slice(b"at ")?;
@@ -35,7 +35,7 @@ pub fn write_at<K: Sink>(
     buffer: &mut Vec<u8>,
     position: Pos,
 ) -> Result<(), OrMemory<WriteFault>>
-    ensures took { TookBy (K.taken out.old) (K.taken out.new) (at_line position) result }
+    ensures took { TookBy (K.taken out.old) (K.taken out.new) (position_line position) result }
     ensures cause { HasCauseOrMemory (K.faults out.old) (K.faults out.new) result }
 {
     buffer.clear();

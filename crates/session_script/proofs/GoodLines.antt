@@ -12,19 +12,19 @@ use Rattle.event_run.specs.Runs as stop
 use Rattle.event_run.proofs.Given.{first_given, numbered}
 use Rattle.cursor_session.specs.declared.command.Command.{Command}
 use Rattle.cursor_session.specs.Machine.{Machine, at_first, IsStep}
-use Rattle.session_script.specs.Scripts.{asked_by, AfterLine, PlaysOn, PlaysTo, AfterGood, ArePlayed, Writes, BeginsPlay, WritesRead}
+use Rattle.session_script.specs.Scripts.{asked_by, AfterCommand, PlaysOn, PlaysTo, AfterGoodCommand, ArePlayed, Writes, BeginsPlay, WritesRead}
 use Rattle.session_script.specs.Playing.{IsGood, IsBad, HasPlayed}
 
 -- a script over a line with this command, none or a refusal, and those after it
 abbrev PlaysOver : Declared → List Query → ℕ → Machine → List ℕ → List (List ℕ) → Option LineFault → List ℕ → Stop → Result (Option Command) EventFault → Type 0
 PlaysOver schema queries number old before texts why bytes halt line =
-    AfterLine schema queries number old before bytes halt (PlaysOn schema queries (number + 1) old before texts why bytes halt)
+    AfterCommand schema queries number old before bytes halt (PlaysOn schema queries (number + 1) old before texts why bytes halt)
     (λ next own. PlaysOn schema queries (number + 1) next (before ++ own) texts why bytes halt) line
 
 -- good lines, the first of which has this command or none
 abbrev ArePlayedOver : Declared → List Query → Machine → List ℕ → List (List ℕ) → Machine → List ℕ → Result (Option Command) EventFault → Type 0
 ArePlayedOver schema queries old before texts new bytes line =
-    AfterGood schema queries old (ArePlayed schema queries old before texts new bytes) (λ next own. ArePlayed schema queries next (before ++ own) texts new bytes) line
+    AfterGoodCommand schema queries old (ArePlayed schema queries old before texts new bytes) (λ next own. ArePlayed schema queries next (before ++ own) texts new bytes) line
 
 -- good lines, and then the script over those after them
 goes_on : (schema : Declared) (queries : List Query) (number : ℕ) (old : Machine) (before : List ℕ) (done texts : List (List ℕ)) (why : Option LineFault) (new : Machine) (written bytes : List ℕ) (halt : Stop) →

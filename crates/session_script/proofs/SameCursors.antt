@@ -7,7 +7,7 @@ use Rattle.stream_schema.specs.declared.Event.{Event}
 use Rattle.cel_terms.specs.declared.Query.{Query}
 use Rattle.cursor_session.specs.declared.command.Command.{Command}
 use Rattle.cursor_session.specs.declared.command.Command.TheVariants as command
-use Rattle.cursor_session.specs.Machine.{Machine, OpenCursor, IsStep, place_of, has_number}
+use Rattle.cursor_session.specs.Machine.{Machine, OpenCursor, IsStep, cursor_place, has_number}
 
 abbrev pub number_of : OpenCursor → ℕ
 number_of cursor = cursor.number
@@ -36,7 +36,7 @@ first_place number (c ∷ cursors) = ap (λ (n : ℕ). cond (not (c.number == nu
 place_among : (number : ℕ) (cursors : List OpenCursor) → position (has_number number) cursors ≡ position (λ (n : ℕ). n == number) (numbers_of cursors)
 place_among number cursors = ap₂ (λ (i n : ℕ). cond (nat_lt i n) (Some i) None) (first_place number cursors) (sym (numbers_long cursors))
 
-pub same_place : (number : ℕ) (a b : Machine) → AreAlike a b → place_of number a ≡ place_of number b
+pub same_place : (number : ℕ) (a b : Machine) → AreAlike a b → cursor_place number a ≡ cursor_place number b
 same_place number a b alike =
     place_among number a.cursors ∙ ap (position (λ (n : ℕ). n == number)) alike.numbers ∙ sym (place_among number b.cursors)
 
@@ -58,7 +58,7 @@ numbers_fewer [] k inside = absurd (omega (arith, inside))
 numbers_fewer (x ∷ cursors) zero inside = refl
 numbers_fewer (x ∷ cursors) (suc k) inside = ap (λ (t : List ℕ). x.number ∷ t) (numbers_fewer cursors k (omega (arith, inside)))
 
-place_within : (number k : ℕ) (m : Machine) → place_of number m ≡ Some k → k < length m.cursors
+place_within : (number k : ℕ) (m : Machine) → cursor_place number m ≡ Some k → k < length m.cursors
 place_within number k m found = (position-Some (has_number number) m.cursors k (record { number = 0; query = 0; position = 0; left = [] }) found).0
 
 -- AFTER A COMMAND
@@ -69,7 +69,7 @@ alike_as a b c d one other alike =
     let Q : Machine → Type 0 = λ m. AreAlike a m in
     subst P (sym one) (subst Q (sym other) alike)
 
-same_dropped : (a b : Machine) (number p q : ℕ) → AreAlike a b → place_of number a ≡ Some p → place_of number b ≡ Some q → numbers_of (remove a.cursors p) ≡ numbers_of (remove b.cursors q)
+same_dropped : (a b : Machine) (number p q : ℕ) → AreAlike a b → cursor_place number a ≡ Some p → cursor_place number b ≡ Some q → numbers_of (remove a.cursors p) ≡ numbers_of (remove b.cursors q)
 same_dropped a b number p q alike here there =
     let place = same_place number a b alike in
     let same : p ≡ q = cc in

@@ -13,7 +13,7 @@ use Rattle.cursor_session.specs.declared.command.Command.{Command}
 use Rattle.cursor_session.specs.declared.command.Command.TheVariants as command
 use Rattle.cursor_session.specs.declared.session.Refusal.{Refusal}
 use Rattle.cursor_session.specs.declared.session.Refusal.TheVariants as refusal
-use Rattle.cursor_session.specs.Machine.{Machine, IsStep, OpenStep, IsRefused, OpenRefused, CursorRefused, EventRefused, place_of}
+use Rattle.cursor_session.specs.Machine.{Machine, IsStep, OpenStep, IsRefused, OpenRefused, CursorRefused, EventRefused, cursor_place}
 use Rattle.session_script.specs.Scripts.{refusal_fault}
 use Rattle.session_script.proofs.SameCursors.{AreAlike, same_place}
 
@@ -80,7 +80,7 @@ one_open qs query cursor b (refusal.TimeBack p from to) why one two = absurd one
 
 -- A CURSOR IS ASKED FOR THAT IS NOT OPEN
 
-cursor_or_not : (cursor place : ℕ) (a b : Machine) (why : Refusal) → AreAlike a b → place_of cursor a ≡ Some place → CursorRefused cursor b why → ⊥
+cursor_or_not : (cursor place : ℕ) (a b : Machine) (why : Refusal) → AreAlike a b → cursor_place cursor a ≡ Some place → CursorRefused cursor b why → ⊥
 cursor_or_not cursor place a b (refusal.CursorNotOpen c) alike here refused = let clash : Some place ≡ None = sym here ∙ same_place cursor a b alike ∙ refused.1 in cc
 cursor_or_not cursor place a b (refusal.NoQuery q) alike here refused = refused
 cursor_or_not cursor place a b refusal.NoEventYet alike here refused = refused

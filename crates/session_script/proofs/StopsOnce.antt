@@ -10,14 +10,14 @@ use Rattle.event_run.specs.Runs.{Stop}
 use Rattle.event_run.specs.Runs as stop
 use Rattle.cursor_session.specs.declared.command.Command.{Command}
 use Rattle.cursor_session.specs.Machine.{Machine, at_first}
-use Rattle.session_script.specs.Scripts.{asked_by, AfterLine, PlaysOn, PlaysTo, AfterGood, ArePlayed, BeginsPlay}
+use Rattle.session_script.specs.Scripts.{asked_by, AfterCommand, PlaysOn, PlaysTo, AfterGoodCommand, ArePlayed, BeginsPlay}
 use Rattle.session_script.proofs.SameCursors.{AreAlike, turned, step_alike}
 use Rattle.session_script.proofs.SameRefusals.{step_or_refused, one_reason}
 
 -- a script over a line with this command, none or a refusal, and those after it
 abbrev PlaysOver : Declared → List Query → ℕ → Machine → List ℕ → List (List ℕ) → Option LineFault → List ℕ → Stop → Result (Option Command) EventFault → Type 0
 PlaysOver schema queries number old before texts why bytes halt line =
-    AfterLine schema queries number old before bytes halt (PlaysOn schema queries (number + 1) old before texts why bytes halt)
+    AfterCommand schema queries number old before bytes halt (PlaysOn schema queries (number + 1) old before texts why bytes halt)
     (λ next own. PlaysOn schema queries (number + 1) next (before ++ own) texts why bytes halt) line
 
 one_end : (schema : Declared) (ps qs : List Query) → map query_tree ps ≡ map query_tree qs → (number : ℕ) (a b : Machine) (x y : List ℕ) (texts : List (List ℕ)) (why : Option LineFault) (bytes again : List ℕ) (halt end : Stop) →
@@ -49,7 +49,7 @@ stops_once schema ps qs most script bytes again halt end same one other =
 -- good lines, the first of which has this command or none
 abbrev ArePlayedOver : Declared → List Query → Machine → List ℕ → List (List ℕ) → Machine → List ℕ → Result (Option Command) EventFault → Type 0
 ArePlayedOver schema queries old before texts new bytes line =
-    AfterGood schema queries old (ArePlayed schema queries old before texts new bytes) (λ next own. ArePlayed schema queries next (before ++ own) texts new bytes) line
+    AfterGoodCommand schema queries old (ArePlayed schema queries old before texts new bytes) (λ next own. ArePlayed schema queries next (before ++ own) texts new bytes) line
 
 -- The first of the lines are good, and write these bytes in all.
 record HasGoodFront (schema : Declared) (queries : List Query) (old : Machine) (before : List ℕ) (texts : List (List ℕ)) (bytes : List ℕ) : Type 0 where

@@ -43,12 +43,12 @@ found_command (Ok command) = Ok (Some command)
 found_command (Err refused) = Err (command_fault refused)
 
 -- the command of a line's text: none where it is empty
-abbrev pub command_in : Declared → List ℕ → Result (Option Command) EventFault
-command_in schema text = if length text == 0 then Ok None else found_command (command_of schema text)
+abbrev pub command_of_line : Declared → List ℕ → Result (Option Command) EventFault
+command_of_line schema text = if length text == 0 then Ok None else found_command (command_of schema text)
 
 -- What a line asks for; one carriage return at its end does not count.
 abbrev pub asked_by : Declared → List ℕ → Result (Option Command) EventFault
-asked_by schema line = command_in schema (strip_carriage_return line)
+asked_by schema line = command_of_line schema (strip_carriage_return line)
 
 -- The command is refused, which stops the script at the line of this number.
 pub record StopsAt (schema : Declared) (queries : List Query) (asked : Command) (old : Machine) (number : ℕ) (halt : Stop) : Type 0 where
@@ -64,17 +64,17 @@ pub record StepsOn (schema : Declared) (queries : List Query) (asked : Command) 
   pub follows : Follows next own
 
 -- What follows from a line with this command, none, or a refusal, where these bytes were written before it.
-abbrev pub AfterLine : Declared → List Query → ℕ → Machine → List ℕ → List ℕ → Stop → Type 0 → (Machine → List ℕ → Type 0) → Result (Option Command) EventFault → Type 0
-AfterLine schema queries number old before bytes halt skip go (Ok None) = skip
-AfterLine schema queries number old before bytes halt skip go (Ok (Some asked)) =
+abbrev pub AfterCommand : Declared → List Query → ℕ → Machine → List ℕ → List ℕ → Stop → Type 0 → (Machine → List ℕ → Type 0) → Result (Option Command) EventFault → Type 0
+AfterCommand schema queries number old before bytes halt skip go (Ok None) = skip
+AfterCommand schema queries number old before bytes halt skip go (Ok (Some asked)) =
     StepsOn schema queries asked old go ⊎ ((bytes ≡ before) × StopsAt schema queries asked old number halt)
-AfterLine schema queries number old before bytes halt skip go (Err refused) = (bytes ≡ before) × (halt ≡ stop.Event number refused)
+AfterCommand schema queries number old before bytes halt skip go (Err refused) = (bytes ≡ before) × (halt ≡ stop.Event number refused)
 
 -- After these bytes were written come these lines, the first of which has this number, and then this fault: the machine writes these bytes in all and stops so.
 abbrev pub PlaysOn : Declared → List Query → ℕ → Machine → List ℕ → List (List ℕ) → Option LineFault → List ℕ → Stop → Type 0
 PlaysOn schema queries number old before [] why bytes halt = (bytes ≡ before) × (halt ≡ stop_of why)
 PlaysOn schema queries number old before (text ∷ texts) why bytes halt =
-    AfterLine schema queries number old before bytes halt (PlaysOn schema queries (number + 1) old before texts why bytes halt)
+    AfterCommand schema queries number old before bytes halt (PlaysOn schema queries (number + 1) old before texts why bytes halt)
     (λ next own. PlaysOn schema queries (number + 1) next (before ++ own) texts why bytes halt) (asked_by schema text)
 
 -- A script of these bytes, of which so many are too many, writes these bytes and stops so.
@@ -83,16 +83,16 @@ PlaysTo schema queries most_bytes script bytes halt =
     PlaysOn schema queries 1 at_first [] (file_lines most_bytes script).texts (file_lines most_bytes script).fault bytes halt
 
 -- What follows from a line that is good: it has no command, or one that is carried out.
-abbrev pub AfterGood : Declared → List Query → Machine → Type 0 → (Machine → List ℕ → Type 0) → Result (Option Command) EventFault → Type 0
-AfterGood schema queries old skip go (Ok None) = skip
-AfterGood schema queries old skip go (Ok (Some asked)) = StepsOn schema queries asked old go
-AfterGood schema queries old skip go (Err refused) = ⊥
+abbrev pub AfterGoodCommand : Declared → List Query → Machine → Type 0 → (Machine → List ℕ → Type 0) → Result (Option Command) EventFault → Type 0
+AfterGoodCommand schema queries old skip go (Ok None) = skip
+AfterGoodCommand schema queries old skip go (Ok (Some asked)) = StepsOn schema queries asked old go
+AfterGoodCommand schema queries old skip go (Err refused) = ⊥
 
 -- All of these lines are good: they make this machine of the old one, and these are the bytes that are then written in all.
 abbrev pub ArePlayed : Declared → List Query → Machine → List ℕ → List (List ℕ) → Machine → List ℕ → Type 0
 ArePlayed schema queries old before [] new bytes = (new ≡ old) × (bytes ≡ before)
 ArePlayed schema queries old before (text ∷ texts) new bytes =
-    AfterGood schema queries old (ArePlayed schema queries old before texts new bytes)
+    AfterGoodCommand schema queries old (ArePlayed schema queries old before texts new bytes)
     (λ next own. ArePlayed schema queries next (before ++ own) texts new bytes) (asked_by schema text)
 
 -- The lines, all good, write these bytes from the beginning.

@@ -2,7 +2,7 @@
 use Rattle.std.proofs.Common.{◌≡◌, [], ◌∷◌, Some, None, codes, refl}
 use Rattle.answer_text.specs.declared.Order.TheVariants.{Walk, Sorted}
 use Rattle.clap.proofs.OnLiterals.{clap_on_literals}
-use Rattle.command_words.specs.CommandLine.{AsksFor, command_of}
+use Rattle.command_words.specs.CommandLine.{AsksFor, command_asked}
 use Rattle.command_words.specs.Program.{program}
 use Rattle.command_words.specs.declared.Command.TheVariants.{Run, Sample, Explain, Resume}
 
@@ -23,7 +23,7 @@ pub a_checkpoint_is_named : AsksFor (codes "resume" ∷ codes "q" ∷ codes "--c
 unfolding clap_on_literals program
 a_checkpoint_is_named = refl
 
-pub one_name_is_refused : command_of (codes "run" ∷ codes "q" ∷ []) ≡ None
+pub one_name_is_refused : command_asked (codes "run" ∷ codes "q" ∷ []) ≡ None
 unfolding clap_on_literals program
 one_name_is_refused = refl
 

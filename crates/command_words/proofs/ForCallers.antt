@@ -4,7 +4,7 @@ use Rattle.std.specs.Prelude.{option_map, unwrap_or}
 use Rattle.std.specs.Str.{bytes_eq}
 use Rattle.answer_text.specs.declared.Order.{Order}
 use Rattle.clap.specs.Words.{Row, Text, subcommand_of}
-use Rattle.command_words.specs.CommandLine.{AskNothing, AsksFor, bytes_in, command_at, command_of, is_taken, explain_in, order_in, reorder_with, resume_with, run_with, sample_in, save_in, session_in}
+use Rattle.command_words.specs.CommandLine.{AskNothing, AsksFor, bytes_in, command_at, command_asked, clap_takes, explain_in, order_in, reorder_with, resume_with, run_with, sample_in, save_in, session_in}
 use Rattle.command_words.specs.Program.{program}
 use Rattle.command_words.specs.declared.Command.{Command}
 use Rattle.command_words.specs.declared.Command.TheVariants.{Resume}
@@ -38,31 +38,31 @@ HasNoOrderBehind name words = (rows : List Row) × (subcommand_of program words 
 abbrev pub HasNoOrder : List (List ℕ) → Type 0
 HasNoOrder words = HasNoOrderBehind (codes "run") words ⊎ (HasNoOrderBehind (codes "reorder") words ⊎ HasNoOrderBehind (codes "resume") words)
 
-asked_is : (words : List (List ℕ)) → is_taken words ≡ true → command_of words ≡ command_at (subcommand_of program words)
+asked_is : (words : List (List ℕ)) → clap_takes words ≡ true → command_asked words ≡ command_at (subcommand_of program words)
 asked_is words taken = rw taken refl
 
-run_refused : (words : List (List ℕ)) (rows : List Row) (order : Option Order) → AskNothing words → is_taken words ≡ true
+run_refused : (words : List (List ℕ)) (rows : List Row) (order : Option Order) → AskNothing words → clap_takes words ≡ true
     → subcommand_of program words ≡ Some (codes "run", rows) → order_in rows ≡ order → HasNoOrderBehind (codes "run") words
 run_refused words rows None nothing taken is none = (rows, is, none)
 run_refused words rows (Some order) nothing taken is some =
     absurd (nothing (run_with rows order) (asked_is words taken ∙ rw (is, some) refl))
 
-reorder_refused : (words : List (List ℕ)) (rows : List Row) (order : Option Order) → AskNothing words → is_taken words ≡ true
+reorder_refused : (words : List (List ℕ)) (rows : List Row) (order : Option Order) → AskNothing words → clap_takes words ≡ true
     → subcommand_of program words ≡ Some (codes "reorder", rows) → order_in rows ≡ order → HasNoOrderBehind (codes "reorder") words
 reorder_refused words rows None nothing taken is none = (rows, is, none)
 reorder_refused words rows (Some order) nothing taken is some =
     absurd (nothing (reorder_with rows order) (asked_is words taken ∙ rw (is, some) refl))
 
-resume_refused : (words : List (List ℕ)) (rows : List Row) (order : Option Order) → AskNothing words → is_taken words ≡ true
+resume_refused : (words : List (List ℕ)) (rows : List Row) (order : Option Order) → AskNothing words → clap_takes words ≡ true
     → subcommand_of program words ≡ Some (codes "resume", rows) → order_in rows ≡ order → HasNoOrderBehind (codes "resume") words
 resume_refused words rows None nothing taken is none = (rows, is, none)
 resume_refused words rows (Some order) nothing taken is some =
     absurd (nothing (resume_with rows order) (asked_is words taken ∙ rw (is, some) refl))
 
-pub nothing_is_refused : (words : List (List ℕ)) → AskNothing words → (is_taken words ≡ false) ⊎ HasNoOrder words
-nothing_is_refused words nothing = go (is_taken words) refl
+pub nothing_is_refused : (words : List (List ℕ)) → AskNothing words → (clap_takes words ≡ false) ⊎ HasNoOrder words
+nothing_is_refused words nothing = go (clap_takes words) refl
   where
-    go : (taken : Bool) → is_taken words ≡ taken → (is_taken words ≡ false) ⊎ HasNoOrder words
+    go : (taken : Bool) → clap_takes words ≡ taken → (clap_takes words ≡ false) ⊎ HasNoOrder words
     go false refused = inl refused
     go true taken = elim (taken_is_found words taken) [
       | inl run ↦ inr (inl (run_refused words run.0 (order_in run.0) nothing taken run.1 refl))
@@ -84,8 +84,8 @@ resume_found (Some p) queries checkpoint events order every most e =
 
 -- the bytes of a run that goes on from a checkpoint have a bound
 pub resume_has_bound : (words : List (List ℕ)) (queries checkpoint events : List ℕ) (order : Order) (every : Option ℕ) (most : ℕ) → AsksFor words (Resume queries checkpoint events order every most) → most ≤ 4611686018427387904
-resume_has_bound words queries checkpoint events order every most asked = go (is_taken words) refl asked
+resume_has_bound words queries checkpoint events order every most asked = go (clap_takes words) refl asked
   where
-    go : (taken : Bool) → is_taken words ≡ taken → cond taken (command_at (subcommand_of program words)) None ≡ Some (Resume queries checkpoint events order every most) → most ≤ 4611686018427387904
+    go : (taken : Bool) → clap_takes words ≡ taken → cond taken (command_at (subcommand_of program words)) None ≡ Some (Resume queries checkpoint events order every most) → most ≤ 4611686018427387904
     go true is e = resume_found (subcommand_of program words) queries checkpoint events order every most e
     go false is e = absurd cc

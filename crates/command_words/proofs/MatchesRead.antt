@@ -9,7 +9,7 @@ use Rattle.clap.specs.Matches.{ReadsOne}
 use Rattle.clap.specs.ValueTests.{is_unsigned_in}
 use Rattle.clap.specs.declared.builder.value_parser.ValueParser.TheVariants.{Unsigned}
 use Rattle.clap.proofs.ValueTestLemmas.{Accepts-accepts, accepts-Accepts}
-use Rattle.command_words.specs.CommandLine.{number_of}
+use Rattle.command_words.specs.CommandLine.{parsed_number}
 
 -- a text that is read, or else another one
 pub text_or : (found : Option (Bor Text)) (other : Bor Text) → (unwrap_or found other).now ≡ unwrap_or (option_map (λ s. s.now) found) other.now
@@ -18,7 +18,7 @@ text_or (Some text) other = refl
 
 -- the number that the program's reader of numbers gives
 pub number_read : {E : Type 0} (gives : Text → Result ℕ E → Type 0) → ((t : Text) (r : Result ℕ E) → gives t r → ParsesUnsigned 64 10 t r)
-    → (text : Text) (one : Option ℕ) → ReadsOne gives text one → one ≡ number_of text
+    → (text : Text) (one : Option ℕ) → ReadsOne gives text one → one ≡ parsed_number text
 number_read gives parses text (Some n) h =
     let read = parses text (Ok n) h in
     let fits : is_unsigned_in 0 18446744073709551615 text ≡ true =
@@ -26,21 +26,21 @@ number_read gives parses text (Some n) h =
     rw fits (ap (λ k. Some k) read.1)
 number_read gives parses text None h = go (is_unsigned_in 0 18446744073709551615 text) refl
   where
-    go : (b : Bool) → is_unsigned_in 0 18446744073709551615 text ≡ b → None ≡ number_of text
+    go : (b : Bool) → is_unsigned_in 0 18446744073709551615 text ≡ b → None ≡ parsed_number text
     go false e = rw e refl
     go true e =
         let fits = accepts-Accepts false (Unsigned 0 18446744073709551615) text e in
         absurd (parses text (Err h.0) h.1 (fits.0, fits.1))
 
-pub number_found : (text : Option Text) (one : Option ℕ) → (text ≡ None → one ≡ None) → ((t : Text) → text ≡ Some t → one ≡ number_of t)
-    → one ≡ option_and_then number_of text
+pub number_found : (text : Option Text) (one : Option ℕ) → (text ≡ None → one ≡ None) → ((t : Text) → text ≡ Some t → one ≡ parsed_number t)
+    → one ≡ option_and_then parsed_number text
 number_found None one none some = none refl
 number_found (Some t) one none some = some t refl
 
 -- the numbers of the texts after references
-pub read_of_each : (texts : List (Bor Text)) → filter_map number_of (map (λ text. text.now) texts) ≡ filter_map (λ text. number_of text.now) texts
+pub read_of_each : (texts : List (Bor Text)) → filter_map parsed_number (map (λ text. text.now) texts) ≡ filter_map (λ text. parsed_number text.now) texts
 read_of_each [] = refl
-read_of_each (text ∷ texts) = ap (cons_option (number_of text.now)) (read_of_each texts)
+read_of_each (text ∷ texts) = ap (cons_option (parsed_number text.now)) (read_of_each texts)
 
 -- a name and what was found after it, together
 pub names_fused : {X A B : Type 0} (g : X → A × B) (o : Option X) → option_map (λ x. (g x).0) o ≡ option_map (λ p. p.0) (option_map g o)

@@ -9,7 +9,7 @@ use Rattle.std.specs.Prelude.{option_and_then}
 use Rattle.clap.specs.Simple.{built_leaf, inherited}
 use Rattle.clap.specs.Walk.{Held, Walk, arg_by_index, finished, idle, nothing_held, settled, to_positional, value, walk, walk_from, walked}
 use Rattle.clap.specs.Words.{Kinds, Rule, Shape, Text, fault_of, subcommand_of}
-use Rattle.command_words.specs.CommandLine.{AsksFor, command_at, is_none}
+use Rattle.command_words.specs.CommandLine.{AsksFor, command_at, has_no_kind}
 use Rattle.command_words.specs.Program.{program, run}
 use Rattle.command_words.specs.declared.Command.TheVariants.{Run}
 
@@ -77,4 +77,4 @@ module _ (queries events : Text) (first : strip_byte 45 queries ≡ None) (secon
 
   pub names_alone : AsksFor (codes "run" ∷ queries ∷ events ∷ []) (Run queries events Sorted None 1099511627776)
   unfolding program
-  names_alone = rw (ap is_none fault_is) (ap command_at found_is)
+  names_alone = rw (ap has_no_kind fault_is) (ap command_at found_is)

@@ -6,25 +6,25 @@ use Rattle.clap.specs.Kinds.{check_kinds, or_else}
 use Rattle.clap.specs.Simple.{built, entered, names_of, rows_at}
 use Rattle.clap.specs.Walk.{Held, Names, answers_to, finished, nothing_held, settled, stop_after, walk, walk_from}
 use Rattle.clap.specs.Words.{Kinds, Row, Shape, Text, subcommand_of}
-use Rattle.command_words.specs.CommandLine.{is_none, is_taken}
+use Rattle.command_words.specs.CommandLine.{has_no_kind, clap_takes}
 use Rattle.command_words.specs.Program.{program}
 
-last_none : (a b : Kinds) → is_none (or_else a b) ≡ true → is_none b ≡ true
+last_none : (a b : Kinds) → has_no_kind (or_else a b) ≡ true → has_no_kind b ≡ true
 last_none [] b e = e
 last_none (k ∷ ks) b e = absurd (true≢false (sym e))
 
-missing : (help subcommand argument : Bool) → subcommand ≡ true → is_none (check_kinds help subcommand argument) ≡ true → ⊥
+missing : (help subcommand argument : Bool) → subcommand ≡ true → has_no_kind (check_kinds help subcommand argument) ≡ true → ⊥
 missing true subcommand argument wants e = true≢false (sym e)
 missing false true argument wants e = true≢false (sym e)
 missing false false argument wants e = true≢false (sym wants)
 
 -- a level that asks for a subcommand and fails by nothing has one
-has_one : (s : Shape) (rows : List Row) (has : Bool) → s.subcommand_required ≡ true → is_none (check_fault s rows has) ≡ true → has ≡ true
+has_one : (s : Shape) (rows : List Row) (has : Bool) → s.subcommand_required ≡ true → has_no_kind (check_fault s rows has) ≡ true → has ≡ true
 has_one s rows true asks e = refl
 has_one s rows false asks e = absurd (missing _ s.subcommand_required _ asks e)
 
 level_has : (s : Shape) (names : Names) (words : List Text) (has : Bool) (below : Kinds) → s.subcommand_required ≡ true
-    → is_none (level_fault s names nothing_held words has below) ≡ true → has ≡ true
+    → has_no_kind (level_fault s names nothing_held words has below) ≡ true → has ≡ true
 level_has s names words has below asks e =
     let end : Held = (walk s.rules names nothing_held words).held in
     let checks = check_fault s (finished s.rules end) has in
@@ -73,7 +73,7 @@ entered_one (Some p) some =
     _ _ _ _ _ _ _ p.1 some
 
 -- clap found one of the commands in words that it takes
-pub taken_is_found : (words : List Text) → is_taken words ≡ true → IsOfCommand (subcommand_of program words)
+pub taken_is_found : (words : List Text) → clap_takes words ≡ true → IsOfCommand (subcommand_of program words)
 unfolding program
 taken_is_found words taken =
     let stop = stop_after (built program).top.rules (names_of (built program)) words in

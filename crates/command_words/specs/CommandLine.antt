@@ -18,21 +18,21 @@ abbrev pub text_in : Text → List Row → Text
 text_in id rows = unwrap_or (first_of id rows) []
 
 -- the whole number below 2 ^ 64 that the text has in decimal digits, after a plus or not
-abbrev pub number_of : Text → Option ℕ
-number_of text = if is_unsigned_in 0 18446744073709551615 text
+abbrev pub parsed_number : Text → Option ℕ
+parsed_number text = if is_unsigned_in 0 18446744073709551615 text
     then Some (digits_value 10 (without_leading_plus text)) else None
 
 -- the number under an id, where one is given
-abbrev pub number_at : Text → List Row → Option ℕ
-number_at id rows = option_and_then number_of (one_of id rows)
+abbrev pub number_under : Text → List Row → Option ℕ
+number_under id rows = option_and_then parsed_number (one_of id rows)
 
 -- the number under an id, or the one that holds where none is given
 abbrev pub number_in : ℕ → Text → List Row → ℕ
-number_in default id rows = unwrap_or (number_at id rows) default
+number_in default id rows = unwrap_or (number_under id rows) default
 
 -- the numbers under an id, as they come
 abbrev pub numbers_in : Text → List Row → List ℕ
-numbers_in id rows = filter_map number_of (unwrap_or (all_of id rows) [])
+numbers_in id rows = filter_map parsed_number (unwrap_or (all_of id rows) [])
 
 abbrev pub order_of : Text → Option Order
 order_of text = if bytes_eq text (codes "walk") then Some Walk
@@ -44,7 +44,7 @@ order_in rows = option_map_or order_of (first_of (codes "order") rows) (Some Sor
 
 abbrev pub run_with : List Row → Order → Command
 run_with rows order = Run (text_in (codes "queries") rows) (text_in (codes "events") rows) order
-    (number_at (codes "compact-every") rows) (number_in 1099511627776 (codes "max-bytes") rows)
+    (number_under (codes "compact-every") rows) (number_in 1099511627776 (codes "max-bytes") rows)
 
 -- what was found after `run`, as a run; none where the order is of neither name
 abbrev pub run_in : List Row → Option Command
@@ -61,7 +61,7 @@ session_in rows = Session (text_in (codes "queries") rows) (text_in (codes "scri
 abbrev pub reorder_with : List Row → Order → Command
 reorder_with rows order = Reorder (text_in (codes "queries") rows) (text_in (codes "events") rows)
     (text_in (codes "clock") rows) (number_in 0 (codes "late") rows) order
-    (number_at (codes "compact-every") rows) (number_in 1099511627776 (codes "max-bytes") rows)
+    (number_under (codes "compact-every") rows) (number_in 1099511627776 (codes "max-bytes") rows)
 
 -- what was found after `reorder`; none where the order is of neither name
 abbrev pub reorder_in : List Row → Option Command
@@ -84,7 +84,7 @@ bytes_in rows = min (number_in 1099511627776 (codes "max-bytes") rows) 461168601
 abbrev pub resume_with : List Row → Order → Command
 resume_with rows order = Resume (text_in (codes "queries") rows)
     (text_in (codes "checkpoint") rows) (text_in (codes "events") rows) order
-    (number_at (codes "compact-every") rows) (bytes_in rows)
+    (number_under (codes "compact-every") rows) (bytes_in rows)
 
 -- what was found after `resume`; none where the order is of neither name
 abbrev pub resume_in : List Row → Option Command
@@ -107,21 +107,21 @@ command_named name rows = if bytes_eq name (codes "run") then run_in rows
 abbrev pub command_at : Option (Text × List Row) → Option Command
 command_at = option_and_then (λ found. command_named found.0 found.1)
 
-abbrev pub is_none : Kinds → Bool
-is_none [] = true
-is_none (kind ∷ rest) = false
+abbrev pub has_no_kind : Kinds → Bool
+has_no_kind [] = true
+has_no_kind (kind ∷ rest) = false
 
 -- clap takes the words: there is no kind of error that a parse of them may have but for memory
-abbrev pub is_taken : List Text → Bool
-is_taken words = is_none (fault_of program words)
+abbrev pub clap_takes : List Text → Bool
+clap_takes words = has_no_kind (fault_of program words)
 
 -- the command that the words ask for, where clap takes them
-abbrev pub command_of : List Text → Option Command
-command_of words = if is_taken words then command_at (subcommand_of program words) else None
+abbrev pub command_asked : List Text → Option Command
+command_asked words = if clap_takes words then command_at (subcommand_of program words) else None
 
 -- the words ask for this command
 abbrev pub AsksFor : List (List ℕ) → Command → Type 0
-AsksFor words command = command_of words ≡ Some command
+AsksFor words command = command_asked words ≡ Some command
 
 -- the words ask for no command
 abbrev pub AskNothing : List (List ℕ) → Type 0

@@ -3,7 +3,7 @@ ghost use Rattle.std.specs.Prelude.{◌≡◌, ◌↔◌, IfOk, map, string_byte
 ghost use Rattle.clap.specs.Words.{App, Rule, app_of, kind_of, rule_of, subcommand_of, subcommand_rows_of, with_rule, with_subcommand};
 ghost use Rattle.cer_base.specs.Answers.{OnFault};
 ghost use Rattle.cer_base.specs.declared.OrMemory.TheVariants.{Memory};
-ghost use Rattle.command_words.specs.CommandLine.{is_taken};
+ghost use Rattle.command_words.specs.CommandLine.{clap_takes};
 ghost use Rattle.command_words.specs.Program.{compact_every, count, explain, late, most_bytes, name, no_commands, option, over_files, program, reorder, repeated};
 ghost use Rattle.command_words.specs.Program.{resume, run, sample, save, session, whole, with_run_options};
 
@@ -18,11 +18,11 @@ pub(crate) fn matches<'a>(
     alloc: Global,
     words: &'a [String],
 ) -> Result<ArgMatches<'a>, OrMemory<Usage>>
-    ensures taken { IfOk result (λ m. is_taken (map string_bytes words.entry.now) ≡ true) }
+    ensures taken { IfOk result (λ m. clap_takes (map string_bytes words.entry.now) ≡ true) }
     ensures found { IfOk result (λ m. subcommand_rows_of m
         ≡ subcommand_of program (map string_bytes words.entry.now)) }
     ensures refused { OnFault result (λ usage.
-        is_taken (map string_bytes words.entry.now) ≡ false) }
+        clap_takes (map string_bytes words.entry.now) ≡ false) }
 {
     let program = program(alloc)?;
     match program.try_get_matches_from(words) {

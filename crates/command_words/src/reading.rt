@@ -3,7 +3,7 @@ ghost use Rattle.std.specs.Prelude.{◌≡◌, ◌++◌, [], IfOk, OnOk, Some, N
 ghost use Rattle.std.specs.List.{cons_option, filter_map};
 ghost use Rattle.clap.specs.Words.{found_of, rows_of, subcommand_rows_of};
 ghost use Rattle.cer_base.specs.Answers.{OnFault};
-ghost use Rattle.command_words.specs.CommandLine.{command_at, command_named, number_at, number_in, number_of, numbers_in, other_named};
+ghost use Rattle.command_words.specs.CommandLine.{command_at, command_named, number_under, number_in, parsed_number, numbers_in, other_named};
 ghost use Rattle.command_words.specs.CommandLine.{explain_in, order_in, order_of, reorder_in, resume_in, run_in, sample_in, save_in, session_in, text_in};
 
 use crate::{Command, Usage};
@@ -90,7 +90,7 @@ fn run_in(alloc: Global, matches: &ArgMatches<'_>) -> Result<Command, OrMemory<U
     };
     let queries = text_in(alloc, matches, "queries")?;
     let events = text_in(alloc, matches, "events")?;
-    let compact_every = number_at(matches, "compact-every");
+    let compact_every = number_under(matches, "compact-every");
     let most_bytes = number_in(matches, "max-bytes", MOST_BYTES);
     Ok(Command::Run {
         queries,
@@ -135,7 +135,7 @@ fn reorder_in(alloc: Global, matches: &ArgMatches<'_>) -> Result<Command, OrMemo
         clock: text_in(alloc, matches, "clock")?,
         late: number_in(matches, "late", 0),
         order,
-        compact_every: number_at(matches, "compact-every"),
+        compact_every: number_under(matches, "compact-every"),
         most_bytes: number_in(matches, "max-bytes", MOST_BYTES),
     })
 }
@@ -179,7 +179,7 @@ fn resume_in(alloc: Global, matches: &ArgMatches<'_>) -> Result<Command, OrMemor
         checkpoint: text_in(alloc, matches, "checkpoint")?,
         events: text_in(alloc, matches, "events")?,
         order,
-        compact_every: number_at(matches, "compact-every"),
+        compact_every: number_under(matches, "compact-every"),
         most_bytes: number_in(matches, "max-bytes", MOST_BYTES).min(GREATEST_BYTES),
     })
 }
@@ -190,8 +190,8 @@ fn text_in(alloc: Global, matches: &ArgMatches<'_>, id: &str) -> Result<Text, Me
     Text::copy_of(alloc, matches.get_str(id).unwrap_or(""))
 }
 
-fn number_at(matches: &ArgMatches<'_>, id: &str) -> Option<u64>
-    ensures { result ≡ number_at id.now (rows_of (found_of matches.now)) }
+fn number_under(matches: &ArgMatches<'_>, id: &str) -> Option<u64>
+    ensures { result ≡ number_under id.now (rows_of (found_of matches.now)) }
 {
     matches.get_one::<u64>(id)
 }
@@ -199,7 +199,7 @@ fn number_at(matches: &ArgMatches<'_>, id: &str) -> Option<u64>
 fn number_in(matches: &ArgMatches<'_>, id: &str, default: u64) -> u64
     ensures { result ≡ number_in default id.now (rows_of (found_of matches.now)) }
 {
-    number_at(matches, id).unwrap_or(default)
+    number_under(matches, id).unwrap_or(default)
 }
 
 fn numbers_in(alloc: Global, matches: &ArgMatches<'_>, id: &str) -> Result<Listed<u64>, Memory>
@@ -215,11 +215,11 @@ fn numbers_in(alloc: Global, matches: &ArgMatches<'_>, id: &str) -> Result<Liste
 /// The numbers that the texts have in decimal digits.
 fn numbers_of(alloc: Global, texts: &[&str]) -> Result<Vec<u64>, Memory>
     ensures { IfOk result (λ numbers. numbers.items
-        ≡ filter_map (λ text. number_of text.now) texts.now) }
+        ≡ filter_map (λ text. parsed_number text.now) texts.now) }
 {
     let mut numbers = Vec::new(alloc);
     for text in texts {
-        add_number(&mut numbers, number_of(text))?;
+        add_number(&mut numbers, parsed_number(text))?;
     }
     Ok(numbers)
 }
@@ -237,8 +237,8 @@ fn add_number(numbers: &mut Vec<u64>, number: Option<u64>) -> Result<(), Memory>
     }
 }
 
-fn number_of(text: &str) -> Option<u64>
-    ensures { result ≡ number_of text.now }
+fn parsed_number(text: &str) -> Option<u64>
+    ensures { result ≡ parsed_number text.now }
 {
     match text.parse::<u64>() {
         Ok(number) => Some(number),

@@ -8,7 +8,7 @@ use Rattle.stream_schema.specs.declared.Value.TheVariants.{Int}
 use Rattle.stream_schema.specs.Events.{IsOfSchema}
 use Rattle.cel_terms.specs.declared.Query.{Query}
 use Rattle.query_engine.specs.Engine.{State, StandsFor, count_of}
-use Rattle.core_sample.specs.Generator.{event_of, next_value, value_after, generated}
+use Rattle.core_sample.specs.Generator.{generated_event, next_value, value_after, generated}
 use Rattle.core_sample.specs.Queries.{sample_schema, AreQueries}
 use Rattle.core_sample.specs.Tallies.{IsTallyAt}
 use Rattle.core_sample.specs.Summary.{IsToldOf, AreToldOf}
@@ -20,12 +20,12 @@ of_type zero v below = (tt, tt)
 of_type (suc zero) v below = (tt, tt)
 of_type (suc (suc n)) v below = absurd (omega (arith, below))
 
-pub made_of_schema : (x : ℕ) → IsOfSchema sample_schema (event_of (next_value x))
+pub made_of_schema : (x : ℕ) → IsOfSchema sample_schema (generated_event (next_value x))
 made_of_schema x = of_type (next_value x / 2 ^ 63) (next_value x / 2 ^ 56 % 128) (omega arith)
 
 pub length_generated : (seed n : ℕ) → length (generated seed n) ≡ n
 length_generated seed zero = refl
-length_generated seed (suc n) = length_push (generated seed n) (event_of (value_after seed (suc n))) ∙ omega (arith, length_generated seed n)
+length_generated seed (suc n) = length_push (generated seed n) (generated_event (value_after seed (suc n))) ∙ omega (arith, length_generated seed n)
 
 -- what is told of a position
 abbrev pub IsToldAt : Query → List Event → ℕ → ℕ → ℕ → Type 0
@@ -81,12 +81,12 @@ told_here seed n number engine q b u schema stands at h =
 
 -- An event more was taken.
 pub round : (seed n : ℕ) (old new : State) (event : Event) (x next a t b u a' t' b' u' fa ft sa st : ℕ) → IsAt seed n old x a t b u →
-    next ≡ next_value x → event ≡ event_of (next_value x) → ((events : List Event) → StandsFor old events → StandsFor new (events ++ event ∷ [])) → count_of new ≡ count_of old + 1 →
+    next ≡ next_value x → event ≡ generated_event (next_value x) → ((events : List Event) → StandsFor old events → StandsFor new (events ++ event ∷ [])) → count_of new ≡ count_of old + 1 →
     new.schema ≡ old.schema → new.queries ≡ old.queries → Tells new 1 a' t' → Tells new 2 b' u' →
     fa ≡ (a + a') % 2 ^ 64 → ft ≡ (t + t') % 2 ^ 64 → sa ≡ (b + b') % 2 ^ 64 → st ≡ (u + u') % 2 ^ 64 → IsAt seed (n + 1) new next fa ft sa st
 round seed n old new event x next a t b u a' t' b' u' fa ft sa st h value made stands count schema queries one two ha ht hb hu =
     let value' : next ≡ value_after seed (suc n) = value ∙ ap next_value h.value in
-    let event' : event ≡ event_of (value_after seed (suc n)) = made ∙ ap (λ y. event_of (next_value y)) h.value in
+    let event' : event ≡ generated_event (value_after seed (suc n)) = made ∙ ap (λ y. generated_event (next_value y)) h.value in
     let stands' : StandsFor new (generated seed (suc n)) = subst (λ (e : Event). StandsFor new (generated seed n ++ e ∷ [])) event' (stands (generated seed n) h.stands) in
     let all : new.queries ≡ h.first ∷ h.second ∷ [] = queries ∙ h.queries in
     let same : new.schema ≡ sample_schema = schema ∙ h.schema in

@@ -1,7 +1,7 @@
 //! The generated events.
 
 ghost use Rattle.std.specs.Prelude.{◌≡◌, IfOk};
-ghost use Rattle.core_sample.specs.Generator.{next_value, event_of};
+ghost use Rattle.core_sample.specs.Generator.{next_value, generated_event};
 
 use cer_base::{Listed, Memory};
 use std::alloc::Global;
@@ -14,8 +14,8 @@ fn next_value(x: u64) -> u64
         .wrapping_add(1442695040888963407)
 }
 
-fn event_of(alloc: Global, x: u64) -> Result<Event, Memory>
-    ensures { IfOk result (λ event. event ≡ event_of x) }
+fn generated_event(alloc: Global, x: u64) -> Result<Event, Memory>
+    ensures { IfOk result (λ event. event ≡ generated_event x) }
 {
     Ok(Event {
         ty: x >> 63,
@@ -25,8 +25,9 @@ fn event_of(alloc: Global, x: u64) -> Result<Event, Memory>
 
 /// The generator's value after `x`, and the event that it makes.
 pub fn sample_event(alloc: Global, x: u64) -> Result<(u64, Event), Memory>
-    ensures { IfOk result (λ made. (made.0 ≡ next_value x) × (made.1 ≡ event_of (next_value x))) }
+    ensures { IfOk result (λ made. (made.0 ≡ next_value x)
+        × (made.1 ≡ generated_event (next_value x))) }
 {
     let next = next_value(x);
-    Ok((next, event_of(alloc, next)?))
+    Ok((next, generated_event(alloc, next)?))
 }

@@ -1,7 +1,7 @@
 use Rattle.std.proofs.Common.{ap, map, string_bytes, subst, sym, ◌≡◌, ◌∙◌}
 use Rattle.clap.specs.Words.{App, HasKind, Kinds, app_of, fault_of, is_simple, is_simple_and_free, subcommand_of}
 use Rattle.clap.specs.declared.ArgMatches.{ArgMatches}
-use Rattle.command_words.specs.CommandLine.{is_none}
+use Rattle.command_words.specs.CommandLine.{has_no_kind}
 use Rattle.command_words.specs.Program.{program}
 use Rattle.command_words.proofs.Building.{program_is_free, program_is_simple}
 use Rattle.command_words.proofs.Refusals.{refused_for_cause}
@@ -12,7 +12,7 @@ returns-in-Ok-clause-taken c =
     let words = map string_bytes c.args.words.now in
     let is_program : app_of c.in_ok-program.program ≡ program = c.in_ok-program.ensures in
     let none = c.in-Ok.ensures.kinds (ap is_simple_and_free is_program ∙ program_is_free) in
-    ap is_none (sym (ap (λ (a : App). fault_of a words) is_program) ∙ none)
+    ap has_no_kind (sym (ap (λ (a : App). fault_of a words) is_program) ∙ none)
 
 pub returns-in-Ok-clause-found : goal.returns-in-Ok-clause-found
 returns-in-Ok-clause-found c =

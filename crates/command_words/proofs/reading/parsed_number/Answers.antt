@@ -1,7 +1,7 @@
 use Rattle.std.proofs.Common.{Some, None}
 use Rattle.std.specs.Str.Parse.{ExplainsUnsignedError, HasUnsignedDigitsIfOk, ParsesUnsigned}
 use Rattle.command_words.proofs.MatchesRead.{number_read}
-use Rattle.command_words.proofs.reading.number_of.Goals as goal
+use Rattle.command_words.proofs.reading.parsed_number.Goals as goal
 
 pub returns-in-Ok : goal.returns-in-Ok
 returns-in-Ok c =

@@ -15,36 +15,36 @@ use Rattle.query_part.proofs.Clocks.{each_has_clock}
 use Rattle.query_engine.specs.Clocks.{Reads, IsLastClock, FallsBack, NoneFallsBack, IsFirstToFall}
 use Rattle.checkpoint_text.specs.declared.clocks.Fall.{Fall}
 use Rattle.checkpoint_text.specs.declared.history.EventAt.{EventAt}
-use Rattle.checkpoint_text.specs.Clocks.{clock_at, later, last_clock, falls_with}
+use Rattle.checkpoint_text.specs.Clocks.{clock_at, later_clock, last_clock, falls_with}
 use Rattle.checkpoint_text.specs.LastClocks.{last_clocks, any_back, fall_of, fall_or, first_back}
-use Rattle.checkpoint_text.specs.KeepLaws.{lines_from, lines_of, events_of}
+use Rattle.checkpoint_text.specs.KeepLaws.{placed_lines_from, placed_lines, events_of}
 use Rattle.checkpoint_text.specs.Streams.{AreEventsFrom, stream_of}
 use Rattle.checkpoint_text.proofs.Falling.{any_back_is}
 use Rattle.checkpoint_text.proofs.Restarting.{from_zero, all_there, any_from, stream_at, came_at, stream_long, read_clock}
 use Rattle.checkpoint_text.proofs.Replayed.{falls_too}
 
 -- the events that came are the stream of their lines
-came_stream : (schema : Declared) (n : ℕ) (came : List (Event × List ℕ)) → AreEventsFrom schema n (n + length came) (events_of (lines_from n came)) (stream_of came)
+came_stream : (schema : Declared) (n : ℕ) (came : List (Event × List ℕ)) → AreEventsFrom schema n (n + length came) (events_of (placed_lines_from n came)) (stream_of came)
 came_stream schema n [] = record { blank = (λ k d inside. absurd (omega arith)); count = refl }
 came_stream schema n (x ∷ came) =
     let more : n + 1 + length came ≡ n + length (x ∷ came) = omega arith in
-    ([], stream_of came, refl, record { blank = (λ k d inside. absurd (omega arith)); count = omega arith }, subst (λ to. AreEventsFrom schema (n + 1) to (events_of (lines_from (n + 1) came)) (stream_of came)) more (came_stream schema (n + 1) came))
+    ([], stream_of came, refl, record { blank = (λ k d inside. absurd (omega arith)); count = omega arith }, subst (λ to. AreEventsFrom schema (n + 1) to (events_of (placed_lines_from (n + 1) came)) (stream_of came)) more (came_stream schema (n + 1) came))
 
 -- the next event, at its position
 abbrev next_at : List (Event × List ℕ) → Event → EventAt
 next_at came next = record { position = length came; event = next }
 
 -- a clock that falls is found
-found : (schema : Declared) (q : Query) (came : List (Event × List ℕ)) (next : Event) (before now : ℤ) → IsWellDeclared schema → FallsBack schema q (stream_of came) next before now → falls_with schema (events_of (lines_of came)) (next_at came next) q ≡ true
+found : (schema : Declared) (q : Query) (came : List (Event × List ℕ)) (next : Event) (before now : ℤ) → IsWellDeclared schema → FallsBack schema q (stream_of came) next before now → falls_with schema (events_of (placed_lines came)) (next_at came next) q ≡ true
 found schema q came next before now well f =
-    let all = subst (λ to. AreEventsFrom schema 0 to (events_of (lines_of came)) (stream_of came)) (from_zero (length came)) (came_stream schema 0 came) in
-    falls_too schema q well (length came) (events_of (lines_of came)) (stream_of came) (next_at came next) before now all refl f
+    let all = subst (λ to. AreEventsFrom schema 0 to (events_of (placed_lines came)) (stream_of came)) (from_zero (length came)) (came_stream schema 0 came) in
+    falls_too schema q well (length came) (events_of (placed_lines came)) (stream_of came) (next_at came next) before now all refl f
 
 -- where none is found, none falls
-pub came_level : (schema : Declared) (queries : List Query) (came : List (Event × List ℕ)) (next : Event) → IsWellDeclared schema → any_back schema queries (last_clocks schema queries (events_of (lines_of came))) (next_at came next) ≡ false → NoneFallsBack schema queries (stream_of came) next
+pub came_level : (schema : Declared) (queries : List Query) (came : List (Event × List ℕ)) (next : Event) → IsWellDeclared schema → any_back schema queries (last_clocks schema queries (events_of (placed_lines came))) (next_at came next) ≡ false → NoneFallsBack schema queries (stream_of came) next
 came_level schema queries came next well none k q before now at f =
-    let falls = any_from (falls_with schema (events_of (lines_of came)) (next_at came next)) queries k q at (found schema q came next before now well f) in
-    let level = sym (any_back_is schema queries (events_of (lines_of came)) (next_at came next)) ∙ none in
+    let falls = any_from (falls_with schema (events_of (placed_lines came)) (next_at came next)) queries k q at (found schema q came next before now well f) in
+    let level = sym (any_back_is schema queries (events_of (placed_lines came)) (next_at came next)) ∙ none in
     (let both = sym falls ∙ level in cc)
 
 -- what is said of the last clock among these events: it was that before, and none of them is read, or it is that of one, and none after it is
@@ -54,10 +54,10 @@ IsLastFrom schema q n came acc c =
     ⊎ ((p : ℕ) × (x : Event × List ℕ) × (slice_get came p ≡ Some x) × Reads schema q x.0 × HasClock schema q.window x.0 (n + p) c × ((m : ℕ) (y : Event × List ℕ) → p < m → slice_get came m ≡ Some y → Reads schema q y.0 → ⊥))
 
 last_from : (schema : Declared) (q : Query) (n : ℕ) (came : List (Event × List ℕ)) (acc : Option ℤ) (c : ℤ) → ((p : ℕ) (x : Event × List ℕ) (at : ℕ) → slice_get came p ≡ Some x → Reads schema q x.0 → clock_of schema q.window x.0 at ≢ None) →
-    fold (λ last e. later last (clock_at schema q e)) acc (events_of (lines_from n came)) ≡ Some c → IsLastFrom schema q n came acc c
+    fold (λ last e. later_clock last (clock_at schema q e)) acc (events_of (placed_lines_from n came)) ≡ Some c → IsLastFrom schema q n came acc c
 last_from schema q n [] acc c clocks e = inl (e, λ p x at reads. absurd cc)
 last_from schema q n (y ∷ came) acc c clocks e =
-    by_rest (last_from schema q (n + 1) came (later acc (clock_at schema q (record { position = n; event = y.0 }))) c (λ p x at there reads. clocks (suc p) x at there reads) e)
+    by_rest (last_from schema q (n + 1) came (later_clock acc (clock_at schema q (record { position = n; event = y.0 }))) c (λ p x at there reads. clocks (suc p) x at there reads) e)
   where
     here : EventAt
     here = record { position = n; event = y.0 }
@@ -73,7 +73,7 @@ last_from schema q n (y ∷ came) acc c clocks e =
     none_later none zero x less at reads = absurd (omega arith)
     none_later none (suc m) x less at reads = none m x at reads
 
-    by_clock : (o : Option ℤ) → clock_at schema q here ≡ o → later acc o ≡ Some c → ((p : ℕ) (x : Event × List ℕ) → slice_get came p ≡ Some x → Reads schema q x.0 → ⊥) → IsLastFrom schema q n (y ∷ came) acc c
+    by_clock : (o : Option ℤ) → clock_at schema q here ≡ o → later_clock acc o ≡ Some c → ((p : ℕ) (x : Event × List ℕ) → slice_get came p ≡ Some x → Reads schema q x.0 → ⊥) → IsLastFrom schema q n (y ∷ came) acc c
     by_clock None is f none = inl (f, all)
       where
         all : (p : ℕ) (x : Event × List ℕ) → slice_get (y ∷ came) p ≡ Some x → Reads schema q x.0 → ⊥
@@ -84,7 +84,7 @@ last_from schema q n (y ∷ came) acc c clocks e =
         let place : n ≡ n + 0 = omega arith in
         inr (0, y, refl, read.0, subst (λ p. HasClock schema q.window y.0 p c) place read.1, none_later none)
 
-    by_rest : IsLastFrom schema q (n + 1) came (later acc (clock_at schema q here)) c → IsLastFrom schema q n (y ∷ came) acc c
+    by_rest : IsLastFrom schema q (n + 1) came (later_clock acc (clock_at schema q here)) c → IsLastFrom schema q n (y ∷ came) acc c
     by_rest (inl (f, none)) = by_clock (clock_at schema q here) refl f none
     by_rest (inr (p, x, at, reads, clock, after)) =
         let place : n + 1 + p ≡ n + suc p = omega arith in
@@ -95,7 +95,7 @@ last_from schema q n (y ∷ came) acc c clocks e =
         after_more (suc m) z less there r = after m z (omega arith) there r
 
 -- the last clock that is computed is that of the last event that is read
-last_is : (schema : Declared) (q : Query) (came : List (Event × List ℕ)) (c : ℤ) → IsWellDeclared schema → IsChecked schema q → All (IsOfSchema schema) (stream_of came) → last_clock schema q (events_of (lines_of came)) ≡ Some c → IsLastClock schema q (stream_of came) c
+last_is : (schema : Declared) (q : Query) (came : List (Event × List ℕ)) (c : ℤ) → IsWellDeclared schema → IsChecked schema q → All (IsOfSchema schema) (stream_of came) → last_clock schema q (events_of (placed_lines came)) ≡ Some c → IsLastClock schema q (stream_of came) c
 last_is schema q came c well checked of e = by_last (last_from schema q 0 came None c (λ p x at there reads. each_has_clock schema q well checked x.0 at (all_there (IsOfSchema schema) (stream_of came) p x.0 of (stream_at came p x there)) reads) e)
   where
     by_last : IsLastFrom schema q 0 came None c → IsLastClock schema q (stream_of came) c
@@ -166,9 +166,9 @@ find schema es e from (q ∷ queries) fall is = by_clocks (last_clock schema q e
 
 -- the clock that is found to fall first does
 pub came_falls : (schema : Declared) (queries : List Query) (came : List (Event × List ℕ)) (next : Event) (fall : Fall) → IsWellDeclared schema → All (IsChecked schema) queries → All (IsOfSchema schema) (stream_of came) →
-    first_back schema 1 queries (last_clocks schema queries (events_of (lines_of came))) (next_at came next) ≡ Some fall → IsFirstToFall schema queries (stream_of came) next fall.query fall.before fall.now
+    first_back schema 1 queries (last_clocks schema queries (events_of (placed_lines came))) (next_at came next) ≡ Some fall → IsFirstToFall schema queries (stream_of came) next fall.query fall.before fall.now
 came_falls schema queries came next fall well checked of is =
-    let r = find schema (events_of (lines_of came)) (next_at came next) 1 queries fall is in
+    let r = find schema (events_of (placed_lines came)) (next_at came next) 1 queries fall is in
     let number = r.number in
     let place : r.place ≡ fall.query - 1 = omega arith in
     let one = all_there (IsChecked schema) queries r.place r.query checked r.at in

@@ -8,7 +8,7 @@ use Rattle.std.proofs.lemmas.Bool.{and_parts, and_from, leb-true, le-leb, eqb-tr
 use Rattle.std.proofs.lemmas.Fmt.{digits_decimal, digits_value-decimal, decimal-digits_value, decimal_nonempty, first_decimal, decimal_digit}
 use Rattle.std.proofs.lemmas.Str.Parse.{IsNumeralModel, numerals_by_fold, tells_all_ascii_digits}
 use Rattle.cer_base.specs.Digits.{read_on}
-use Rattle.checkpoint_text.specs.Numbers.{is_numeral, number}
+use Rattle.checkpoint_text.specs.Numbers.{is_canonical_numeral, number}
 
 own : IsNumeralModel (λ ds. all_ascii_digits ds ≡ true) (read_on 0)
 own = numerals_by_fold (λ ds. all_ascii_digits ds ≡ true) tells_all_ascii_digits read_on (record { empty = λ n. refl; more = λ n c cs h. refl })
@@ -38,7 +38,7 @@ leads : (d : ℕ) (ds : List ℕ) → (length ds == 0 || not (d == 48)) ≡ true
 leads d [] e zero_is = refl
 leads d (x ∷ ds) e zero_is = absurd (neither (length (x ∷ ds) == 0) (d == 48) (some_not_none x ds) (eq-eqb d 48 zero_is) e)
 
-numeral_parts : (digits : List ℕ) → is_numeral digits ≡ true → (all_ascii_digits digits ≡ true) × (0 < length digits) × (get_or digits 0 0 ≡ 48 → length digits ≡ 1)
+numeral_parts : (digits : List ℕ) → is_canonical_numeral digits ≡ true → (all_ascii_digits digits ≡ true) × (0 < length digits) × (get_or digits 0 0 ≡ 48 → length digits ≡ 1)
 numeral_parts [] e = absurd cc
 numeral_parts (d ∷ ds) e =
     let both = and_parts (length ds == 0 || not (d == 48)) (list_all is_ascii_digit (d ∷ ds)) e in
@@ -52,7 +52,7 @@ lead_test d (x ∷ ds) one = ap (λ t. t || not (d == 48)) (some_not_none x ds) 
     by_test true e = let long : length (d ∷ x ∷ ds) ≡ 1 = one (eqb-true d 48 e) in absurd (omega (arith, long))
     by_test false e = refl
 
-numeral_from : (digits : List ℕ) → all_ascii_digits digits ≡ true → 0 < length digits → (get_or digits 0 0 ≡ 48 → length digits ≡ 1) → is_numeral digits ≡ true
+numeral_from : (digits : List ℕ) → all_ascii_digits digits ≡ true → 0 < length digits → (get_or digits 0 0 ≡ 48 → length digits ≡ 1) → is_canonical_numeral digits ≡ true
 numeral_from [] all some one = absurd (omega (arith, some))
 numeral_from (d ∷ ds) all some one = and_from (length ds == 0 || not (d == 48)) (list_all is_ascii_digit (d ∷ ds)) (lead_test d ds one) (all_digits (d ∷ ds) ∙ all)
 
@@ -66,8 +66,8 @@ decimal_lead (suc n) few e =
 -- what a number is read from
 pub number_text : (most n : ℕ) (digits : List ℕ) → most < 2 ^ 64 → number most digits ≡ Some n → (digits ≡ decimal n) × (n ≤ most)
 number_text most n digits small e =
-    let found = chosen_some (is_numeral digits && nat_le (read_on 0 digits) most) (read_on 0 digits) n e in
-    let tests = and_parts (is_numeral digits) (nat_le (read_on 0 digits) most) found.0 in
+    let found = chosen_some (is_canonical_numeral digits && nat_le (read_on 0 digits) most) (read_on 0 digits) n e in
+    let tests = and_parts (is_canonical_numeral digits) (nat_le (read_on 0 digits) most) found.0 in
     let parts = numeral_parts digits tests.0 in
     let few : read_on 0 digits ≤ most = leb-true (read_on 0 digits) most tests.1 in
     let same : read_on 0 digits ≡ n = found.1 in
@@ -80,8 +80,8 @@ text_number most n small few =
     let low : n < 2 ^ 64 = omega arith in
     let value : read_on 0 (decimal n) ≡ n = digits_value-decimal own n low in
     let passes : nat_le (read_on 0 (decimal n)) most ≡ true = ap (λ m. nat_le m most) value ∙ le-leb n most few in
-    let shape : is_numeral (decimal n) ≡ true = numeral_from (decimal n) (digits_decimal own n low) (decimal_nonempty n low) (decimal_lead n low) in
-    rw (and_from (is_numeral (decimal n)) (nat_le (read_on 0 (decimal n)) most) shape passes) (ap (λ m. Some m) value)
+    let shape : is_canonical_numeral (decimal n) ≡ true = numeral_from (decimal n) (digits_decimal own n low) (decimal_nonempty n low) (decimal_lead n low) in
+    rw (and_from (is_canonical_numeral (decimal n)) (nat_le (read_on 0 (decimal n)) most) shape passes) (ap (λ m. Some m) value)
 
 other_byte : (stop byte : ℕ) → is_ascii_digit stop ≡ false → is_ascii_digit byte ≡ true → (byte == stop) ≡ false
 other_byte stop byte no_digit e = by_test (byte == stop) refl

@@ -4,7 +4,7 @@ use Rattle.std.specs.Prelude.{fold}
 use Rattle.stream_schema.specs.Types.{Declared}
 use Rattle.cel_terms.specs.declared.Query.{Query}
 use Rattle.checkpoint_text.specs.declared.history.EventAt.{EventAt}
-use Rattle.checkpoint_text.specs.Clocks.{clock_at, later, last_clock, is_back, falls_with, some_falls}
+use Rattle.checkpoint_text.specs.Clocks.{clock_at, later_clock, last_clock, is_back, falls_with, some_falls}
 use Rattle.checkpoint_text.specs.LastClocks.{last_clocks, any_back, fall_of, fall_or, first_back, next_clocks}
 
 pub lasts_long : (schema : Declared) (queries : List Query) (events : List EventAt) → length (last_clocks schema queries events) ≡ length queries
@@ -22,7 +22,7 @@ folded f b (y ∷ xs) x = folded f (f b y) xs x
 pub next_are : (schema : Declared) (queries : List Query) (events : List EventAt) (e : EventAt) → next_clocks schema queries (last_clocks schema queries events) e ≡ last_clocks schema queries (events ++ e ∷ [])
 next_are schema [] events e = refl
 next_are schema (q ∷ queries) events e =
-    ap (λ c. c ∷ next_clocks schema queries (last_clocks schema queries events) e) (sym (folded (λ last x. later last (clock_at schema q x)) None events e))
+    ap (λ c. c ∷ next_clocks schema queries (last_clocks schema queries events) e) (sym (folded (λ last x. later_clock last (clock_at schema q x)) None events e))
     ∙ ap (λ l. last_clock schema q (events ++ e ∷ []) ∷ l) (next_are schema queries events e)
 
 one_some : {A : Type 0} (x y : A) → Some x ≡ Some y → x ≡ y
@@ -46,7 +46,7 @@ first_step schema queries lasts e n k q last at here =
     rw (add-one k) (ap (λ qs. first_back schema n qs (drop k lasts) e) (from_place queries k q at) ∙ ap (λ ls. first_back schema n (q ∷ drop (suc k) queries) ls e) (from_place lasts k last here))
 
 pub next_step : (schema : Declared) (queries : List Query) (lasts : List (Option ℤ)) (e : EventAt) (k : ℕ) (q : Query) (last : Option ℤ) → slice_get queries k ≡ Some q → slice_get lasts k ≡ Some last →
-    next_clocks schema (drop k queries) (drop k lasts) e ≡ later last (clock_at schema q e) ∷ next_clocks schema (drop (k + 1) queries) (drop (k + 1) lasts) e
+    next_clocks schema (drop k queries) (drop k lasts) e ≡ later_clock last (clock_at schema q e) ∷ next_clocks schema (drop (k + 1) queries) (drop (k + 1) lasts) e
 next_step schema queries lasts e k q last at here =
     rw (add-one k) (ap (λ qs. next_clocks schema qs (drop k lasts) e) (from_place queries k q at) ∙ ap (λ ls. next_clocks schema (q ∷ drop (suc k) queries) ls e) (from_place lasts k last here))
 

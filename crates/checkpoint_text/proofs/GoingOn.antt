@@ -15,7 +15,7 @@ use Rattle.output_laws.proofs.After.{parted, joined, after_is_from}
 use Rattle.output_laws.proofs.Unique.{one_output}
 use Rattle.output_laws.proofs.Growth.{enough_too, output_unchanged}
 use Rattle.query_engine.specs.Clocks.{NeverFalls}
-use Rattle.checkpoint_text.specs.KeepLaws.{lines_of, events_of, kept_lines, told_stream}
+use Rattle.checkpoint_text.specs.KeepLaws.{placed_lines, events_of, kept_lines, told_stream}
 use Rattle.checkpoint_text.specs.Streams.{IsStreamOf, stream_of}
 use Rattle.checkpoint_text.specs.GoingOn.{IsOutputInTurn}
 use Rattle.checkpoint_text.proofs.Restarting.{all_there, events_long, stream_long, restarting}
@@ -54,7 +54,7 @@ from_too order schema queries first (suc n) events others bytes same h = (
 
 pub runs_go_on : (order : Order) (schema : Declared) (queries : List Query) (came : List (Event × List ℕ)) (kept more : List Event) (bytes : List ℕ) →
     IsWellDeclared schema → All (IsChecked schema) queries → All (IsOfSchema schema) (stream_of came) → All (λ q. NeverFalls schema q (stream_of came ++ more)) queries →
-    IsStreamOf schema (told_stream (length came) (kept_lines schema queries (lines_of came))) kept →
+    IsStreamOf schema (told_stream (length came) (kept_lines schema queries (placed_lines came))) kept →
     (IsOutput order schema queries (stream_of came ++ more) bytes) ↔ (IsOutputInTurn order schema queries (stream_of came) kept more bytes)
 runs_go_on order schema queries came kept more bytes well checked of level stream = (there, back)
   where
@@ -89,12 +89,12 @@ runs_go_on order schema queries came kept more bytes well checked of level strea
 
 pub resumed_is_rest : (schema : Declared) (queries : List Query) (came : List (Event × List ℕ)) (kept more : List Event) (first behind all : List ℕ) →
     IsWellDeclared schema → All (IsChecked schema) queries → All (IsOfSchema schema) (stream_of came) → All (λ q. NeverFalls schema q (stream_of came ++ more)) queries → All (λ q. q.any ≡ None) queries →
-    IsStreamOf schema (told_stream (length came) (kept_lines schema queries (lines_of came))) kept →
+    IsStreamOf schema (told_stream (length came) (kept_lines schema queries (placed_lines came))) kept →
     IsOutput Sorted schema queries (stream_of came) first → IsOutputAfter (length kept) Sorted schema queries (kept ++ more) behind → IsOutput Sorted schema queries (stream_of came ++ more) all →
     all ≡ first ++ behind
 resumed_is_rest schema queries came kept more first behind all well checked of level any stream one two whole =
     let there = (after_is_from (length kept) Sorted schema queries (kept ++ more) behind).0 two in
-    let same : length kept ≡ length (stream_of came) = (let l = stream_long came in let k = events_long schema 0 (length came) (events_of (kept_lines schema queries (lines_of came))) kept stream in omega (arith, l, k)) in
+    let same : length kept ≡ length (stream_of came) = (let l = stream_long came in let k = events_long schema 0 (length came) (events_of (kept_lines schema queries (placed_lines came))) kept stream in omega (arith, l, k)) in
     let rest : length (kept ++ more) - length kept ≡ length more = (let l = length-append kept more in omega (arith, l)) in
     let from = subst (λ (n : ℕ). IsOutputFrom n (length more) Sorted schema queries (kept ++ more) behind) same (subst (λ (n : ℕ). IsOutputFrom (length kept) n Sorted schema queries (kept ++ more) behind) rest there) in
     let both = (runs_go_on Sorted schema queries came kept more (first ++ behind) well checked of level stream).1 (record { before = first; after = behind; run = one; resumed = from; whole = refl }) in

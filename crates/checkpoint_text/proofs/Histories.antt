@@ -20,7 +20,7 @@ use Rattle.checkpoint_text.specs.declared.history.History.{History}
 use Rattle.checkpoint_text.specs.Clocks.{some_falls, NoneFallsAfter}
 use Rattle.checkpoint_text.specs.Histories.{AreAscendingFrom}
 use Rattle.checkpoint_text.specs.Numbers.{position_of, counts_of}
-use Rattle.checkpoint_text.specs.Checkpoints.{Told, nothing, start, counted, placed, standing, with_event, Refusal, at_line, told_on, told_by, is_whole, history_of, at_stop, history_in}
+use Rattle.checkpoint_text.specs.Checkpoints.{Told, nothing, start, counted, placed, with_stand, with_event, Refusal, at_line, told_on, told_by, is_all_told, history_of, at_stop, history_in}
 use Rattle.checkpoint_text.specs.Spelling.{counts_text, position_text, AreEventLines, Spells}
 use Rattle.checkpoint_text.proofs.WordLines.{position_told, told_position, counts_told, told_counts}
 
@@ -49,11 +49,11 @@ record Found (schema : Declared) (queries : List Query) (positions count least :
   history : history_of end ≡ record { positions = positions; events = before ++ events }
 
 -- no line more
-none_found : (schema : Declared) (queries : List Query) (n positions count least : ℕ) (before : List EventAt) (end : Told) → told_on schema queries n (between positions count least before) [] ≡ Ok end → is_whole end end.stand.awaited ≡ true →
+none_found : (schema : Declared) (queries : List Query) (n positions count least : ℕ) (before : List EventAt) (end : Told) → told_on schema queries n (between positions count least before) [] ≡ Ok end → is_all_told end end.stand.awaited ≡ true →
     Found schema queries positions count least before [] end
 none_found schema queries n positions count least before end e whole =
     let same : between positions count least before ≡ end = one_ok (between positions count least before) end e in
-    let all : (length before == count) ≡ true = ap (λ t. is_whole t t.stand.awaited) same ∙ whole in
+    let all : (length before == count) ≡ true = ap (λ t. is_all_told t t.stand.awaited) same ∙ whole in
     let few : length before ≡ count = eqb-true (length before) count all in
     record {
       events = [];
@@ -97,7 +97,7 @@ event_found schema queries n positions count least p before first second rest en
 
 -- the line of a position alone, after which a line is missing
 one_found : (schema : Declared) (queries : List Query) (n positions count least : ℕ) (before : List EventAt) (first : List ℕ) (end : Told) (t : Bool) (o : Option ℕ) →
-    and_then (at_line n (standing (between positions count least before) (cond t (Err fault.Extra) (placed (between positions count least before).stand o)))) (λ next. told_on schema queries (n + 1) next []) ≡ Ok end → is_whole end end.stand.awaited ≡ true →
+    and_then (at_line n (with_stand (between positions count least before) (cond t (Err fault.Extra) (placed (between positions count least before).stand o)))) (λ next. told_on schema queries (n + 1) next []) ≡ Ok end → is_all_told end end.stand.awaited ≡ true →
     Found schema queries positions count least before (first ∷ []) end
 one_found schema queries n positions count least before first end true o e whole = absurd cc
 one_found schema queries n positions count least before first end false None e whole = absurd cc
@@ -106,17 +106,17 @@ one_found schema queries n positions count least before first end false (Some p)
     placed_at : Told
     placed_at = record { stand = record { awaited = EventOf p; positions = positions; count = count; least = p + 1 }; events = before }
 
-    by_place : (u : Bool) → and_then (at_line n (standing (between positions count least before) (cond u (Ok placed_at.stand) (Err fault.BadPosition)))) (λ next. told_on schema queries (n + 1) next []) ≡ Ok end →
+    by_place : (u : Bool) → and_then (at_line n (with_stand (between positions count least before) (cond u (Ok placed_at.stand) (Err fault.BadPosition)))) (λ next. told_on schema queries (n + 1) next []) ≡ Ok end →
         Found schema queries positions count least before (first ∷ []) end
     by_place false f = absurd cc
     by_place true f =
         let same : placed_at ≡ end = one_ok placed_at end f in
-        let clash : false ≡ true = ap (λ t. is_whole t t.stand.awaited) same ∙ whole in
+        let clash : false ≡ true = ap (λ t. is_all_told t t.stand.awaited) same ∙ whole in
         absurd cc
 
 -- the two lines of an event, and the lines after
 two_found : (schema : Declared) (queries : List Query) (n positions count least : ℕ) (before : List EventAt) (first second : List ℕ) (rest : List (List ℕ)) (end : Told) (t : Bool) (o : Option ℕ) → position_of first ≡ o →
-    and_then (at_line n (standing (between positions count least before) (cond t (Err fault.Extra) (placed (between positions count least before).stand o)))) (λ next. told_on schema queries (n + 1) next (second ∷ rest)) ≡ Ok end →
+    and_then (at_line n (with_stand (between positions count least before) (cond t (Err fault.Extra) (placed (between positions count least before).stand o)))) (λ next. told_on schema queries (n + 1) next (second ∷ rest)) ≡ Ok end →
     ((p : ℕ) (later : List EventAt) → told_on schema queries (n + 1 + 1) (between positions count (p + 1) later) rest ≡ Ok end → Found schema queries positions count (p + 1) later rest end) →
     Found schema queries positions count least before (first ∷ second ∷ rest) end
 two_found schema queries n positions count least before first second rest end true o is e onward = absurd cc
@@ -127,14 +127,14 @@ two_found schema queries n positions count least before first second rest end fa
     placed_at = record { awaited = EventOf p; positions = positions; count = count; least = p + 1 }
 
     by_place : (u : Bool) → (nat_le least p && nat_lt p positions) ≡ u →
-        and_then (at_line n (standing (between positions count least before) (cond u (Ok placed_at) (Err fault.BadPosition)))) (λ next. told_on schema queries (n + 1) next (second ∷ rest)) ≡ Ok end →
+        and_then (at_line n (with_stand (between positions count least before) (cond u (Ok placed_at) (Err fault.BadPosition)))) (λ next. told_on schema queries (n + 1) next (second ∷ rest)) ≡ Ok end →
         Found schema queries positions count least before (first ∷ second ∷ rest) end
     by_place false u f = absurd cc
     by_place true u f =
         let tests = and_parts (nat_le least p) (nat_lt p positions) u in
         event_found schema queries (n + 1) positions count least p before first second rest end (position_told first p is).0 (leb-true least p tests.0) (ltb-true p positions tests.1) (event_of_line schema second) refl f (onward p)
 
-lines_found : (schema : Declared) (queries : List Query) (n positions count least : ℕ) (before : List EventAt) (texts : List (List ℕ)) (end : Told) → told_on schema queries n (between positions count least before) texts ≡ Ok end → is_whole end end.stand.awaited ≡ true →
+lines_found : (schema : Declared) (queries : List Query) (n positions count least : ℕ) (before : List EventAt) (texts : List (List ℕ)) (end : Told) → told_on schema queries n (between positions count least before) texts ≡ Ok end → is_all_told end end.stand.awaited ≡ true →
     Found schema queries positions count least before texts end
 lines_found schema queries n positions count least before [] end e whole = none_found schema queries n positions count least before end e whole
 lines_found schema queries n positions count least before (first ∷ []) end e whole = one_found schema queries n positions count least before first end (length before == count) (position_of first) e whole
@@ -144,8 +144,8 @@ lines_found schema queries n positions count least before (first ∷ second ∷ 
 
 -- the first two lines, and the lines after
 head_spelled : (schema : Declared) (queries : List Query) (first second : List ℕ) (rest : List (List ℕ)) (end : Told) (t : Bool) (o : Option (ℕ × ℕ)) → bytes_eq first (codes "core checkpoint 1") ≡ t → counts_of second ≡ o →
-    and_then (at_line 1 (standing nothing (cond t (Ok (record start { awaited = Counts })) (Err fault.BadHeader))))
-    (λ next. and_then (at_line 2 (standing next (counted next.stand o))) (λ next. told_on schema queries 3 next rest)) ≡ Ok end → is_whole end end.stand.awaited ≡ true →
+    and_then (at_line 1 (with_stand nothing (cond t (Ok (record start { awaited = Counts })) (Err fault.BadHeader))))
+    (λ next. and_then (at_line 2 (with_stand next (counted next.stand o))) (λ next. told_on schema queries 3 next rest)) ≡ Ok end → is_all_told end end.stand.awaited ≡ true →
     Spells schema queries (first ∷ second ∷ rest) (history_of end)
 head_spelled schema queries first second rest end false o is counts e whole = absurd cc
 head_spelled schema queries first second rest end true None is counts e whole = absurd cc
@@ -166,27 +166,27 @@ head_spelled schema queries first second rest end true (Some (positions, count))
       events = found.tells.lines;
     })
 
-begun_whole : (n : ℕ) (end : Told) → (let r : Result Told Refusal = Ok nothing in r) ≡ Ok end → is_whole end end.stand.awaited ≡ true → ⊥
+begun_whole : (n : ℕ) (end : Told) → (let r : Result Told Refusal = Ok nothing in r) ≡ Ok end → is_all_told end end.stand.awaited ≡ true → ⊥
 begun_whole n end e whole =
-    let clash : false ≡ true = ap (λ t. is_whole t t.stand.awaited) (one_ok nothing end e) ∙ whole in
+    let clash : false ≡ true = ap (λ t. is_all_told t t.stand.awaited) (one_ok nothing end e) ∙ whole in
     absurd cc
 
-header_whole : (schema : Declared) (queries : List Query) (end : Told) (t : Bool) → and_then (at_line 1 (standing nothing (cond t (Ok (record start { awaited = Counts })) (Err fault.BadHeader)))) (λ next. told_on schema queries 2 next []) ≡ Ok end →
-    is_whole end end.stand.awaited ≡ true → ⊥
+header_whole : (schema : Declared) (queries : List Query) (end : Told) (t : Bool) → and_then (at_line 1 (with_stand nothing (cond t (Ok (record start { awaited = Counts })) (Err fault.BadHeader)))) (λ next. told_on schema queries 2 next []) ≡ Ok end →
+    is_all_told end end.stand.awaited ≡ true → ⊥
 header_whole schema queries end false e whole = absurd cc
 header_whole schema queries end true e whole =
-    let clash : false ≡ true = ap (λ t. is_whole t t.stand.awaited) (one_ok (record nothing { stand = record start { awaited = Counts } }) end e) ∙ whole in
+    let clash : false ≡ true = ap (λ t. is_all_told t t.stand.awaited) (one_ok (record nothing { stand = record start { awaited = Counts } }) end e) ∙ whole in
     absurd cc
 
-whole_spelled : (schema : Declared) (queries : List Query) (texts : List (List ℕ)) (end : Told) → told_by schema queries texts ≡ Ok end → is_whole end end.stand.awaited ≡ true → Spells schema queries texts (history_of end)
+whole_spelled : (schema : Declared) (queries : List Query) (texts : List (List ℕ)) (end : Told) → told_by schema queries texts ≡ Ok end → is_all_told end end.stand.awaited ≡ true → Spells schema queries texts (history_of end)
 whole_spelled schema queries [] end e whole = absurd (begun_whole 1 end e whole)
 whole_spelled schema queries (first ∷ []) end e whole = absurd (header_whole schema queries end (bytes_eq first (codes "core checkpoint 1")) e whole)
 whole_spelled schema queries (first ∷ second ∷ rest) end e whole =
     head_spelled schema queries first second rest end (bytes_eq first (codes "core checkpoint 1")) (counts_of second) refl refl (head_apart schema queries second rest (bytes_eq first (codes "core checkpoint 1")) ∙ e) whole
   where
     head_apart : (schema : Declared) (queries : List Query) (second : List ℕ) (rest : List (List ℕ)) (t : Bool) →
-        and_then (at_line 1 (standing nothing (cond t (Ok (record start { awaited = Counts })) (Err fault.BadHeader)))) (λ next. and_then (at_line 2 (standing next (counted next.stand (counts_of second)))) (λ next. told_on schema queries 3 next rest))
-        ≡ and_then (at_line 1 (standing nothing (cond t (Ok (record start { awaited = Counts })) (Err fault.BadHeader)))) (λ next. told_on schema queries 2 next (second ∷ rest))
+        and_then (at_line 1 (with_stand nothing (cond t (Ok (record start { awaited = Counts })) (Err fault.BadHeader)))) (λ next. and_then (at_line 2 (with_stand next (counted next.stand (counts_of second)))) (λ next. told_on schema queries 3 next rest))
+        ≡ and_then (at_line 1 (with_stand nothing (cond t (Ok (record start { awaited = Counts })) (Err fault.BadHeader)))) (λ next. told_on schema queries 2 next (second ∷ rest))
     head_apart schema queries second rest true = refl
     head_apart schema queries second rest false = refl
 
@@ -198,9 +198,9 @@ spelled schema queries file history e = by_told (told_by schema queries file.tex
     by_fault told (Some (line.LineTooLong number)) is t e = absurd cc
     by_fault told (Some (line.InputTooLong taken)) is t e = absurd cc
     by_fault told (Some line.ReadFault) is t e = absurd cc
-    by_fault told None is t e = by_test (is_whole told told.stand.awaited) refl e
+    by_fault told None is t e = by_test (is_all_told told told.stand.awaited) refl e
       where
-        by_test : (w : Bool) → is_whole told told.stand.awaited ≡ w → cond {A = Result History Refusal} w (Ok (history_of told)) (Err (record { line = length file.texts + 1; fault = fault.Short })) ≡ Ok history → (file.fault ≡ None) × Spells schema queries file.texts history
+        by_test : (w : Bool) → is_all_told told told.stand.awaited ≡ w → cond {A = Result History Refusal} w (Ok (history_of told)) (Err (record { line = length file.texts + 1; fault = fault.Short })) ≡ Ok history → (file.fault ≡ None) × Spells schema queries file.texts history
         by_test false w e = absurd cc
         by_test true w e = (is, subst (Spells schema queries file.texts) (one_ok (history_of told) history e) (whole_spelled schema queries file.texts told t w))
 
@@ -241,8 +241,8 @@ lines_lead schema queries n positions count least before texts (e ∷ events) fe
       last = onward.last;
       leads =
           ap (told_on schema queries n (between positions count least before)) tells.lines.2
-          ∙ ap (λ t. and_then (at_line n (standing (between positions count least before) (cond t (Err fault.Extra) (placed (between positions count least before).stand (position_of (position_text p)))))) (λ next. told_on schema queries (n + 1) next (second ∷ rest))) more
-          ∙ ap (λ r. and_then (at_line n (standing (between positions count least before) r)) (λ next. told_on schema queries (n + 1) next (second ∷ rest))) place
+          ∙ ap (λ t. and_then (at_line n (with_stand (between positions count least before) (cond t (Err fault.Extra) (placed (between positions count least before).stand (position_of (position_text p)))))) (λ next. told_on schema queries (n + 1) next (second ∷ rest))) more
+          ∙ ap (λ r. and_then (at_line n (with_stand (between positions count least before) r)) (λ next. told_on schema queries (n + 1) next (second ∷ rest))) place
           ∙ ap (λ r. and_then (at_line (n + 1) (with_event schema queries (record { stand = record { awaited = EventOf p; positions = positions; count = count; least = p + 1 }; events = before }) p r)) (λ next. told_on schema queries (n + 1 + 1) next rest)) tells.lines.3
           ∙ ap (λ t. and_then (at_line (n + 1) (cond t (Err fault.BadEvent) (Ok (between positions count (p + 1) (before ++ e ∷ []))))) (λ next. told_on schema queries (n + 1 + 1) next rest)) tells.level.0
           ∙ onward.leads
@@ -270,7 +270,7 @@ read_so schema queries file history ended spells =
     }) in
     let told : told_by schema queries file.texts ≡ Ok (between positions count run.last history.events) =
     ap (told_by schema queries) spells.first
-    ∙ ap (λ o. and_then (at_line 2 (standing (record { stand = record start { awaited = Counts }; events = [] }) (counted (record start { awaited = Counts }) o))) (λ next. told_on schema queries 3 next spells.later)) (told_counts positions count spells.is.few spells.is.counted)
+    ∙ ap (λ o. and_then (at_line 2 (with_stand (record { stand = record start { awaited = Counts }; events = [] }) (counted (record start { awaited = Counts }) o))) (λ next. told_on schema queries 3 next spells.later)) (told_counts positions count spells.is.few spells.is.counted)
     ∙ run.leads in
     ap (λ r. and_then r (λ told. at_stop (length file.texts) told file.fault)) told
     ∙ ap (at_stop (length file.texts) (between positions count run.last history.events)) ended

@@ -8,11 +8,11 @@ use Rattle.stream_schema.specs.declared.Event.{Event}
 use Rattle.cel_terms.specs.declared.Query.{Query}
 use Rattle.checkpoint_text.specs.declared.history.EventAt.{EventAt}
 use Rattle.checkpoint_text.specs.declared.keeping.KeptLine.{KeptLine}
-use Rattle.checkpoint_text.specs.Clocks.{clock_at, later, last_clock, is_back, some_falls, NoneFallsAfter, NoneFalls}
+use Rattle.checkpoint_text.specs.Clocks.{clock_at, later_clock, last_clock, is_back, some_falls, NoneFallsAfter, NoneFalls}
 use Rattle.checkpoint_text.specs.Histories.{AreAscendingFrom}
 use Rattle.checkpoint_text.specs.Spelling.{IsHistory}
 use Rattle.checkpoint_text.specs.Checkpoints.{checkpoint_of}
-use Rattle.checkpoint_text.specs.KeepLaws.{keeping, lines_from, lines_of, events_of, kept_lines, IsLineOf, told_stream}
+use Rattle.checkpoint_text.specs.KeepLaws.{keeping, placed_lines_from, placed_lines, events_of, kept_lines, IsLineOf, told_stream}
 use Rattle.checkpoint_text.specs.Keeping.{is_needed, checkpoint_text}
 use Rattle.checkpoint_text.proofs.Keepers.{keepers_keep}
 use Rattle.checkpoint_text.proofs.Written.{written_is_read}
@@ -36,11 +36,11 @@ level_of (Some a) None now low level = absurd low
 level_of (Some a) (Some b) None low level = refl
 level_of (Some a) (Some b) (Some n) low level = not_above a b n low level
 
-both_later : (sub last now : Option ℤ) → IsAtMost sub last → IsAtMost (later sub now) (later last now)
+both_later : (sub last now : Option ℤ) → IsAtMost sub last → IsAtMost (later_clock sub now) (later_clock last now)
 both_later sub last None low = low
 both_later sub last (Some n) low = itself n
 
-one_later : (sub last now : Option ℤ) → IsAtMost sub last → is_back last now ≡ false → IsAtMost sub (later last now)
+one_later : (sub last now : Option ℤ) → IsAtMost sub last → is_back last now ≡ false → IsAtMost sub (later_clock last now)
 one_later sub last None low level = low
 one_later None last (Some n) low level = tt
 one_later (Some a) None (Some n) low level = absurd low
@@ -55,8 +55,8 @@ neither : (s t : Bool) → (s || t) ≡ false → (s ≡ false) × (t ≡ false)
 neither false t e = (refl, e)
 neither true t e = absurd cc
 
-last_more : (schema : Declared) (q : Query) (events : List EventAt) (e : EventAt) → last_clock schema q (events ++ e ∷ []) ≡ later (last_clock schema q events) (clock_at schema q e)
-last_more schema q events e = folded (λ last x. later last (clock_at schema q x)) None events e
+last_more : (schema : Declared) (q : Query) (events : List EventAt) (e : EventAt) → last_clock schema q (events ++ e ∷ []) ≡ later_clock (last_clock schema q events) (clock_at schema q e)
+last_more schema q events e = folded (λ last x. later_clock last (clock_at schema q x)) None events e
 
 none_falls_in : (schema : Declared) (queries : List Query) (sub all : List EventAt) (e : EventAt) → AreAtMost schema queries sub all → some_falls schema queries all e ≡ false → some_falls schema queries sub e ≡ false
 none_falls_in schema [] sub all e low level = refl
@@ -123,22 +123,22 @@ module _ (test : KeptLine → Bool) where
       by_test true few = omega (arith, few)
       by_test false few = omega (arith, few)
 
-all_ascend : (n : ℕ) (came : List (Event × List ℕ)) → AreAscendingFrom n (events_of (lines_from n came))
+all_ascend : (n : ℕ) (came : List (Event × List ℕ)) → AreAscendingFrom n (events_of (placed_lines_from n came))
 all_ascend n [] = tt
 all_ascend n (e ∷ came) = (omega arith, all_ascend (n + 1) came)
 
-all_below : (n most : ℕ) (came : List (Event × List ℕ)) → n + length came ≤ most → AllByRecursion (λ e. e.position < most) (events_of (lines_from n came))
+all_below : (n most : ℕ) (came : List (Event × List ℕ)) → n + length came ≤ most → AllByRecursion (λ e. e.position < most) (events_of (placed_lines_from n came))
 all_below n most [] few = tt
 all_below n most (e ∷ came) few = (omega (arith, few), all_below (n + 1) most came (omega (arith, few)))
 
-all_long : (n : ℕ) (came : List (Event × List ℕ)) → length (lines_from n came) ≡ length came
+all_long : (n : ℕ) (came : List (Event × List ℕ)) → length (placed_lines_from n came) ≡ length came
 all_long n [] = refl
 all_long n (e ∷ came) = ap suc (all_long (n + 1) came)
 
-pub kept_is_history : (schema : Declared) (queries : List Query) (came : List (Event × List ℕ)) → NoneFalls schema queries (events_of (lines_of came)) → length came ≤ 4611686018427387904 →
-    IsHistory schema queries (told_stream (length came) (kept_lines schema queries (lines_of came)))
+pub kept_is_history : (schema : Declared) (queries : List Query) (came : List (Event × List ℕ)) → NoneFalls schema queries (events_of (placed_lines came)) → length came ≤ 4611686018427387904 →
+    IsHistory schema queries (told_stream (length came) (kept_lines schema queries (placed_lines came)))
 kept_is_history schema queries came level few =
-    let lines = lines_of came in
+    let lines = placed_lines came in
     let test : KeptLine → Bool = λ line. is_needed schema queries (events_of lines) line.at in
     let fewer = fewer_kept test lines in
     let long : length lines ≡ length came = all_long 0 came in
@@ -160,12 +160,12 @@ all_kept P test (line ∷ lines) all = by_test (test line) (all_kept P test line
     by_test true rest = (all.0, rest)
     by_test false rest = rest
 
-pub saved_is_read : (schema : Declared) (queries : List Query) (came : List (Event × List ℕ)) → NoneFalls schema queries (events_of (lines_of came)) → length came ≤ 4611686018427387904 → AllByRecursion (IsLineOf schema) (lines_of came) →
+pub saved_is_read : (schema : Declared) (queries : List Query) (came : List (Event × List ℕ)) → NoneFalls schema queries (events_of (placed_lines came)) → length came ≤ 4611686018427387904 → AllByRecursion (IsLineOf schema) (placed_lines came) →
     length (checkpoint_text (keeping schema queries came).positions (keeping schema queries came).lines) < 1099511627776 →
-    checkpoint_of schema queries (checkpoint_text (keeping schema queries came).positions (keeping schema queries came).lines) ≡ Ok (told_stream (length came) (kept_lines schema queries (lines_of came)))
+    checkpoint_of schema queries (checkpoint_text (keeping schema queries came).positions (keeping schema queries came).lines) ≡ Ok (told_stream (length came) (kept_lines schema queries (placed_lines came)))
 saved_is_read schema queries came level few all within =
     let kept = keepers_keep schema queries came level in
-    let lines = kept_lines schema queries (lines_of came) in
+    let lines = kept_lines schema queries (placed_lines came) in
     let same : checkpoint_text (keeping schema queries came).positions (keeping schema queries came).lines ≡ checkpoint_text (length came) lines = ap₂ checkpoint_text kept.1 kept.0 in
     let P : List ℕ → Type 0 = λ text. length text < 1099511627776 → checkpoint_of schema queries text ≡ Ok (told_stream (length came) lines) in
-    subst P (sym same) (written_is_read schema queries (length came) lines (kept_is_history schema queries came level few) (all_kept (IsLineOf schema) (λ line. is_needed schema queries (events_of (lines_of came)) line.at) (lines_of came) all)) within
+    subst P (sym same) (written_is_read schema queries (length came) lines (kept_is_history schema queries came level few) (all_kept (IsLineOf schema) (λ line. is_needed schema queries (events_of (placed_lines came)) line.at) (placed_lines came) all)) within

@@ -9,7 +9,7 @@ use Rattle.cel_terms.specs.declared.Query.{Query}
 use Rattle.cel_terms.specs.declared.Window.{Window}
 use Rattle.cel_terms.specs.declared.Window.TheVariants.{Free, Events, Clock}
 use Rattle.checkpoint_text.specs.declared.history.EventAt.{EventAt}
-use Rattle.checkpoint_text.specs.Clocks.{clock_at, later, is_back}
+use Rattle.checkpoint_text.specs.Clocks.{clock_at, later_clock, is_back}
 use Rattle.checkpoint_text.specs.LastClocks.{last_clocks, any_back, next_clocks}
 use Rattle.checkpoint_text.specs.declared.keeping.KeptLine.{KeptLine}
 use Rattle.checkpoint_text.specs.Keeping.{are_within, needs, is_needed, any_needs, Keeper, needed, next_event, with_event}
@@ -34,7 +34,7 @@ no_less bound b n level e = by_tests (int_lt bound n) (int_lt bound b) refl refl
         let over : bound <ℤ b = less_test bound b this in
         absurd (omega (arith, ints))
 
-within_before : (w : Window) (from last now : Option ℤ) → is_back last now ≡ false → are_within w from (later last now) ≡ true → are_within w from last ≡ true
+within_before : (w : Window) (from last now : Option ℤ) → is_back last now ≡ false → are_within w from (later_clock last now) ≡ true → are_within w from last ≡ true
 within_before w None last None level e = e
 within_before w None last (Some n) level e = absurd cc
 within_before w (Some c) last None level e = e

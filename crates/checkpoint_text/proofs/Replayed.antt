@@ -26,7 +26,7 @@ use Rattle.query_engine.proofs.DenseNodes.{peaks_skip}
 use Rattle.query_engine.proofs.Skipped.{blank_unread, blanks_between, some_blanks}
 use Rattle.checkpoint_text.specs.declared.history.EventAt.{EventAt}
 use Rattle.checkpoint_text.specs.declared.history.History.{History}
-use Rattle.checkpoint_text.specs.Clocks.{clock_at, later, last_clock, falls_with, some_falls, NoneFallsAfter}
+use Rattle.checkpoint_text.specs.Clocks.{clock_at, later_clock, last_clock, falls_with, some_falls, NoneFallsAfter}
 use Rattle.checkpoint_text.specs.Histories.{AreAscendingFrom}
 use Rattle.checkpoint_text.specs.Spelling.{IsHistory}
 use Rattle.checkpoint_text.specs.Streams.{AreEventsFrom}
@@ -118,18 +118,18 @@ not_read schema q e unread = elim (cases_Bool (query_reads schema q e.event)) [
 
 module _ (schema : Declared) (q : Query) (well : IsWellDeclared schema) where
   -- events that are not read leave the last clock
-  unread_fold : (from to : ℕ) (es : List EventAt) (stream : List Event) → AreEventsFrom schema from to es stream → ((p : ℕ) (event : Event) → slice_get stream p ≡ Some event → Reads schema q event → ⊥) → (last : Option ℤ) → fold (λ last e. later last (clock_at schema q e)) last es ≡ last
+  unread_fold : (from to : ℕ) (es : List EventAt) (stream : List Event) → AreEventsFrom schema from to es stream → ((p : ℕ) (event : Event) → slice_get stream p ≡ Some event → Reads schema q event → ⊥) → (last : Option ℤ) → fold (λ last e. later_clock last (clock_at schema q e)) last es ≡ last
   unread_fold from to [] stream are unread last = refl
   unread_fold from to (e ∷ es) stream (blanks, rest, is, before, behind) unread last =
       let seam : length blanks + 0 ≡ length blanks = omega arith in
       let here : slice_get stream (length blanks) ≡ Some e.event = ap (λ xs. slice_get xs (length blanks)) is ∙ (ap (slice_get (blanks ++ e.event ∷ rest)) (sym seam) ∙ get_right blanks (e.event ∷ rest) 0) in
       let none = not_read schema q e (unread (length blanks) e.event here) in
-      ap (λ o. fold (λ last e. later last (clock_at schema q e)) (later last o) es) none
+      ap (λ o. fold (λ last e. later_clock last (clock_at schema q e)) (later_clock last o) es) none
       ∙ unread_fold (e.position + 1) to es rest behind (λ p event at reads. unread (length blanks + suc p) event (ap (λ xs. slice_get xs (length blanks + suc p)) is ∙ (get_right blanks (e.event ∷ rest) (suc p) ∙ at)) reads) last
 
   -- the clock of the last event that is read is the one that is computed
   last_fold : (from to : ℕ) (es : List EventAt) (stream : List Event) → AreEventsFrom schema from to es stream → (k : ℕ) (event : Event) (c : ℤ) → slice_get stream k ≡ Some event → Reads schema q event → HasClock schema q.window event (from + k) c →
-      ((p : ℕ) (other : Event) → k < p → slice_get stream p ≡ Some other → Reads schema q other → ⊥) → (last : Option ℤ) → fold (λ last e. later last (clock_at schema q e)) last es ≡ Some c
+      ((p : ℕ) (other : Event) → k < p → slice_get stream p ≡ Some other → Reads schema q other → ⊥) → (last : Option ℤ) → fold (λ last e. later_clock last (clock_at schema q e)) last es ≡ Some c
   last_fold from to [] stream are k event c at reads clock behind_it last = absurd (blank_unread schema q event well (all_there (IsBlank schema) stream k event are.blank at) reads)
   last_fold from to (e ∷ es) stream (blanks, rest, is, before, behind) k event c at reads clock behind_it last = elim (cases_lt k (length blanks)) [
     | inl less ↦ absurd (blank_unread schema q event well (all_there (IsBlank schema) blanks k event before.blank (sym (get_left blanks (e.event ∷ rest) k less) ∙ (ap (λ xs. slice_get xs k) (sym is) ∙ at))) reads)
@@ -141,8 +141,8 @@ module _ (schema : Declared) (q : Query) (well : IsWellDeclared schema) where
       at_rest : (p : ℕ) (other : Event) → slice_get rest p ≡ Some other → slice_get stream (length blanks + suc p) ≡ Some other
       at_rest p other there = ap (λ xs. slice_get xs (length blanks + suc p)) is ∙ (get_right blanks (e.event ∷ rest) (suc p) ∙ there)
 
-      from_here : ((j : ℕ) (d : ℤ) → slice_get rest j ≡ Some event → Reads schema q event → HasClock schema q.window event (e.position + 1 + j) d → ((p : ℕ) (other : Event) → j < p → slice_get rest p ≡ Some other → Reads schema q other → ⊥) → (l : Option ℤ) → fold (λ last e. later last (clock_at schema q e)) l es ≡ Some d) →
-          (j : ℕ) → length blanks + j ≡ k → slice_get (e.event ∷ rest) j ≡ Some event → fold (λ last e. later last (clock_at schema q e)) last (e ∷ es) ≡ Some c
+      from_here : ((j : ℕ) (d : ℤ) → slice_get rest j ≡ Some event → Reads schema q event → HasClock schema q.window event (e.position + 1 + j) d → ((p : ℕ) (other : Event) → j < p → slice_get rest p ≡ Some other → Reads schema q other → ⊥) → (l : Option ℤ) → fold (λ last e. later_clock last (clock_at schema q e)) l es ≡ Some d) →
+          (j : ℕ) → length blanks + j ≡ k → slice_get (e.event ∷ rest) j ≡ Some event → fold (λ last e. later_clock last (clock_at schema q e)) last (e ∷ es) ≡ Some c
       from_here further zero place here =
           let count = before.count in
           let same : e.event ≡ event = cc in
@@ -150,13 +150,13 @@ module _ (schema : Declared) (q : Query) (well : IsWellDeclared schema) where
           let read : Reads schema q e.event = subst (Reads schema q) (sym same) reads in
           let told : clock_of schema q.window e.event e.position ≡ Some c = subst (λ p. clock_of schema q.window e.event p ≡ Some c) position (has_clock schema q.window e.event (from + k) c (subst (λ x. HasClock schema q.window x (from + k) c) (sym same) clock)) in
           let is_clock : clock_at schema q e ≡ Some c = rw (is_read schema q e.event read) told in
-          ap (λ o. fold (λ last e. later last (clock_at schema q e)) (later last o) es) is_clock
+          ap (λ o. fold (λ last e. later_clock last (clock_at schema q e)) (later_clock last o) es) is_clock
           ∙ unread_fold (e.position + 1) to es rest behind (λ p other there r. behind_it (length blanks + suc p) other (omega (arith, place)) (at_rest p other there) r) (Some c)
       from_here further (suc j) place here =
           let count = before.count in
           let position : from + k ≡ e.position + 1 + j = omega (arith, count, place) in
           further j c here reads (subst (λ p. HasClock schema q.window event p c) position clock)
-          (λ p other less there r. behind_it (length blanks + suc p) other (omega (arith, place, less)) (at_rest p other there) r) (later last (clock_at schema q e))
+          (λ p other less there r. behind_it (length blanks + suc p) other (omega (arith, place, less)) (at_rest p other there) r) (later_clock last (clock_at schema q e))
 
   -- a clock that falls with the next event does so as it is computed
   pub falls_too : (to : ℕ) (es : List EventAt) (stream : List Event) (e : EventAt) (before now : ℤ) → AreEventsFrom schema 0 to es stream → e.position ≡ to → FallsBack schema q stream e.event before now → falls_with schema es e q ≡ true

@@ -27,9 +27,9 @@ use Rattle.query_engine.specs.Skipping.{IsBlank}
 use Rattle.query_engine.proofs.Skipped.{blank_unread}
 use Rattle.checkpoint_text.specs.declared.history.EventAt.{EventAt}
 use Rattle.checkpoint_text.specs.declared.keeping.KeptLine.{KeptLine}
-use Rattle.checkpoint_text.specs.Clocks.{clock_at, later, last_clock}
+use Rattle.checkpoint_text.specs.Clocks.{clock_at, later_clock, last_clock}
 use Rattle.checkpoint_text.specs.Keeping.{is_within, are_within, needs, is_needed}
-use Rattle.checkpoint_text.specs.KeepLaws.{lines_from, lines_of, events_of, kept_lines, told_stream}
+use Rattle.checkpoint_text.specs.KeepLaws.{placed_lines_from, placed_lines, events_of, kept_lines, told_stream}
 use Rattle.checkpoint_text.specs.Streams.{AreEventsFrom, IsStreamOf, stream_of}
 
 pub from_zero : (n : ℕ) → 0 + n ≡ n
@@ -124,7 +124,7 @@ line_at p x = record { at = record { position = p; event = x.0 }; text = x.1 }
 
 module _ (test : KeptLine → Bool) where
   -- an event that passes is among those that are kept
-  kept_among : (n : ℕ) (came : List (Event × List ℕ)) (p : ℕ) (x : Event × List ℕ) → slice_get came p ≡ Some x → test (line_at (n + p) x) ≡ true → Among (events_of (filter test (lines_from n came))) (line_at (n + p) x).at
+  kept_among : (n : ℕ) (came : List (Event × List ℕ)) (p : ℕ) (x : Event × List ℕ) → slice_get came p ≡ Some x → test (line_at (n + p) x) ≡ true → Among (events_of (filter test (placed_lines_from n came))) (line_at (n + p) x).at
   kept_among n [] p x at passes = absurd cc
   kept_among n (y ∷ came) zero x at passes =
       let here : n ≡ n + 0 = omega arith in
@@ -132,23 +132,23 @@ module _ (test : KeptLine → Bool) where
       let line : line_at n y ≡ line_at (n + 0) x = ap (line_at n) same ∙ ap (λ p. line_at p x) here in
       by_test (test (line_at n y)) (ap test line ∙ passes) line
     where
-      by_test : (t : Bool) → t ≡ true → line_at n y ≡ line_at (n + 0) x → Among (events_of (cond t (line_at n y ∷ filter test (lines_from (n + 1) came)) (filter test (lines_from (n + 1) came)))) (line_at (n + 0) x).at
+      by_test : (t : Bool) → t ≡ true → line_at n y ≡ line_at (n + 0) x → Among (events_of (cond t (line_at n y ∷ filter test (placed_lines_from (n + 1) came)) (filter test (placed_lines_from (n + 1) came)))) (line_at (n + 0) x).at
       by_test true e line = inl (ap (λ (l : KeptLine). l.at) line)
       by_test false e line = absurd cc
   kept_among n (y ∷ came) (suc p) x at passes =
       let place : n + suc p ≡ n + 1 + p = omega arith in
-      by_test (test (line_at n y)) (subst (λ m. Among (events_of (filter test (lines_from (n + 1) came))) (line_at m x).at) (sym place) (kept_among (n + 1) came p x at (ap (λ m. test (line_at m x)) (sym place) ∙ passes)))
+      by_test (test (line_at n y)) (subst (λ m. Among (events_of (filter test (placed_lines_from (n + 1) came))) (line_at m x).at) (sym place) (kept_among (n + 1) came p x at (ap (λ m. test (line_at m x)) (sym place) ∙ passes)))
     where
-      by_test : (t : Bool) → Among (events_of (filter test (lines_from (n + 1) came))) (line_at (n + suc p) x).at → Among (events_of (cond t (line_at n y ∷ filter test (lines_from (n + 1) came)) (filter test (lines_from (n + 1) came)))) (line_at (n + suc p) x).at
+      by_test : (t : Bool) → Among (events_of (filter test (placed_lines_from (n + 1) came))) (line_at (n + suc p) x).at → Among (events_of (cond t (line_at n y ∷ filter test (placed_lines_from (n + 1) came)) (filter test (placed_lines_from (n + 1) came)))) (line_at (n + suc p) x).at
       by_test true h = inr h
       by_test false h = h
 
   -- and each of these came
-  among_came : (n : ℕ) (came : List (Event × List ℕ)) (e : EventAt) → Among (events_of (filter test (lines_from n came))) e → (p : ℕ) × (x : Event × List ℕ) × (e.position ≡ n + p) × (slice_get came p ≡ Some x) × (e.event ≡ x.0)
+  among_came : (n : ℕ) (came : List (Event × List ℕ)) (e : EventAt) → Among (events_of (filter test (placed_lines_from n came))) e → (p : ℕ) × (x : Event × List ℕ) × (e.position ≡ n + p) × (slice_get came p ≡ Some x) × (e.event ≡ x.0)
   among_came n [] e h = absurd h
   among_came n (y ∷ came) e h = by_test (λ h. (let there = among_came (n + 1) came e h in let p = there.2 in (suc there.0, there.1, omega (arith, p), there.3, there.4))) (test (line_at n y)) h
     where
-      by_test : (Among (events_of (filter test (lines_from (n + 1) came))) e → (p : ℕ) × (x : Event × List ℕ) × (e.position ≡ n + p) × (slice_get (y ∷ came) p ≡ Some x) × (e.event ≡ x.0)) → (t : Bool) → Among (events_of (cond t (line_at n y ∷ filter test (lines_from (n + 1) came)) (filter test (lines_from (n + 1) came)))) e → (p : ℕ) × (x : Event × List ℕ) × (e.position ≡ n + p) × (slice_get (y ∷ came) p ≡ Some x) × (e.event ≡ x.0)
+      by_test : (Among (events_of (filter test (placed_lines_from (n + 1) came))) e → (p : ℕ) × (x : Event × List ℕ) × (e.position ≡ n + p) × (slice_get (y ∷ came) p ≡ Some x) × (e.event ≡ x.0)) → (t : Bool) → Among (events_of (cond t (line_at n y ∷ filter test (placed_lines_from (n + 1) came)) (filter test (placed_lines_from (n + 1) came)))) e → (p : ℕ) × (x : Event × List ℕ) × (e.position ≡ n + p) × (slice_get (y ∷ came) p ≡ Some x) × (e.event ≡ x.0)
       by_test further true (inl same) = (0, y, ap (λ (z : EventAt). z.position) (sym same) ∙ (let z : n ≡ n + 0 = omega arith in z), refl, ap (λ (z : EventAt). z.event) (sym same))
       by_test further true (inr h) = further h
       by_test further false h = further h
@@ -195,19 +195,19 @@ read_clock schema q e c told = by_test (query_reads schema q e.event) refl told
     by_test false reads f = absurd cc
 
 -- the last clock is that of an event that came
-last_came : (schema : Declared) (q : Query) (n : ℕ) (came : List (Event × List ℕ)) (acc : Option ℤ) (c : ℤ) → fold (λ last e. later last (clock_at schema q e)) acc (events_of (lines_from n came)) ≡ Some c →
+last_came : (schema : Declared) (q : Query) (n : ℕ) (came : List (Event × List ℕ)) (acc : Option ℤ) (c : ℤ) → fold (λ last e. later_clock last (clock_at schema q e)) acc (events_of (placed_lines_from n came)) ≡ Some c →
     (acc ≡ Some c) ⊎ ((p : ℕ) × (x : Event × List ℕ) × (slice_get came p ≡ Some x) × Reads schema q x.0 × HasClock schema q.window x.0 (n + p) c)
 last_came schema q n [] acc c e = inl e
-last_came schema q n (y ∷ came) acc c e = by_rest (last_came schema q (n + 1) came (later acc (clock_at schema q (line_at n y).at)) c e)
+last_came schema q n (y ∷ came) acc c e = by_rest (last_came schema q (n + 1) came (later_clock acc (clock_at schema q (line_at n y).at)) c e)
   where
-    by_clock : (o : Option ℤ) → clock_at schema q (line_at n y).at ≡ o → later acc o ≡ Some c → (acc ≡ Some c) ⊎ ((p : ℕ) × (x : Event × List ℕ) × (slice_get (y ∷ came) p ≡ Some x) × Reads schema q x.0 × HasClock schema q.window x.0 (n + p) c)
+    by_clock : (o : Option ℤ) → clock_at schema q (line_at n y).at ≡ o → later_clock acc o ≡ Some c → (acc ≡ Some c) ⊎ ((p : ℕ) × (x : Event × List ℕ) × (slice_get (y ∷ came) p ≡ Some x) × Reads schema q x.0 × HasClock schema q.window x.0 (n + p) c)
     by_clock None is f = inl f
     by_clock (Some d) is f =
         let read = read_clock schema q (line_at n y).at c (is ∙ f) in
         let here : n ≡ n + 0 = omega arith in
         inr (0, y, refl, read.0, subst (λ p. HasClock schema q.window y.0 p c) here read.1)
 
-    by_rest : (later acc (clock_at schema q (line_at n y).at) ≡ Some c) ⊎ ((p : ℕ) × (x : Event × List ℕ) × (slice_get came p ≡ Some x) × Reads schema q x.0 × HasClock schema q.window x.0 (n + 1 + p) c) →
+    by_rest : (later_clock acc (clock_at schema q (line_at n y).at) ≡ Some c) ⊎ ((p : ℕ) × (x : Event × List ℕ) × (slice_get came p ≡ Some x) × Reads schema q x.0 × HasClock schema q.window x.0 (n + 1 + p) c) →
         (acc ≡ Some c) ⊎ ((p : ℕ) × (x : Event × List ℕ) × (slice_get (y ∷ came) p ≡ Some x) × Reads schema q x.0 × HasClock schema q.window x.0 (n + p) c)
     by_rest (inl f) = by_clock (clock_at schema q (line_at n y).at) refl f
     by_rest (inr (p, x, at, reads, clock)) = let place : n + 1 + p ≡ n + suc p = omega arith in inr (suc p, x, at, reads, subst (λ m. HasClock schema q.window x.0 m c) place clock)
@@ -236,7 +236,7 @@ any_from test (x ∷ queries) (suc k) q at passes = either (test x) (any_from te
 -- THE LAW
 
 module _ (schema : Declared) (queries : List Query) (came : List (Event × List ℕ)) (kept more : List Event) (k : ℕ) (q : Query) (well : IsWellDeclared schema) (query : slice_get queries k ≡ Some q) (checked : IsChecked schema q)
-    (of : All (IsOfSchema schema) (stream_of came)) (level : NeverFalls schema q (stream_of came ++ more)) (stream : IsStreamOf schema (told_stream (length came) (kept_lines schema queries (lines_of came))) kept) where
+    (of : All (IsOfSchema schema) (stream_of came)) (level : NeverFalls schema q (stream_of came ++ more)) (stream : IsStreamOf schema (told_stream (length came) (kept_lines schema queries (placed_lines came))) kept) where
   abbrev whole : List Event
   whole = stream_of came ++ more
 
@@ -244,10 +244,10 @@ module _ (schema : Declared) (queries : List Query) (came : List (Event × List 
   short = kept ++ more
 
   abbrev test : KeptLine → Bool
-  test line = is_needed schema queries (events_of (lines_of came)) line.at
+  test line = is_needed schema queries (events_of (placed_lines came)) line.at
 
   kept_long : length kept ≡ length came
-  kept_long = sym (from_zero (length kept)) ∙ events_long schema 0 (length came) (events_of (kept_lines schema queries (lines_of came))) kept stream
+  kept_long = sym (from_zero (length kept)) ∙ events_long schema 0 (length came) (events_of (kept_lines schema queries (placed_lines came))) kept stream
 
   same_long : length (stream_of came) ≡ length kept
   same_long = stream_long came ∙ sym kept_long
@@ -258,13 +258,13 @@ module _ (schema : Declared) (queries : List Query) (came : List (Event × List 
 
   kept_at : (p : ℕ) (x : Event × List ℕ) → slice_get came p ≡ Some x → test (line_at p x) ≡ true → slice_get kept p ≡ Some x.0
   kept_at p x at passes =
-      let among = subst (λ n. Among (events_of (kept_lines schema queries (lines_of came))) (line_at n x).at) (from_zero p) (kept_among test 0 came p x at (ap (λ n. test (line_at n x)) (from_zero p) ∙ passes)) in
-      let there = each_stands schema 0 (length came) (events_of (kept_lines schema queries (lines_of came))) kept (line_at p x).at stream among in
+      let among = subst (λ n. Among (events_of (kept_lines schema queries (placed_lines came))) (line_at n x).at) (from_zero p) (kept_among test 0 came p x at (ap (λ n. test (line_at n x)) (from_zero p) ∙ passes)) in
+      let there = each_stands schema 0 (length came) (events_of (kept_lines schema queries (placed_lines came))) kept (line_at p x).at stream among in
       ap (slice_get kept) (there.1 ∙ from_zero there.0) ∙ there.2
 
   -- an event that is kept is the one that came
   came_kept : (p : ℕ) (event : Event) → slice_get kept p ≡ Some event → IsBlank schema event ⊎ ((x : Event × List ℕ) × (slice_get came p ≡ Some x) × (x.0 ≡ event))
-  came_kept p event at = elim (each_event schema 0 (length came) (events_of (kept_lines schema queries (lines_of came))) kept p event stream at) [
+  came_kept p event at = elim (each_event schema 0 (length came) (events_of (kept_lines schema queries (placed_lines came))) kept p event stream at) [
     | inl blank ↦ inl blank
     | inr h ↦
         let there = among_came test 0 came h.at h.among in
@@ -277,9 +277,9 @@ module _ (schema : Declared) (queries : List Query) (came : List (Event × List 
     needed_between : (p : ℕ) (x : Event × List ℕ) → start ≤ p → slice_get came p ≡ Some x → Reads schema q x.0 → test (line_at p x) ≡ true
     needed_between p x low at reads =
         let inside = slice_get_within came p x at in
-        any_from (needs schema (events_of (lines_of came)) (line_at p x).at) queries k q query (by_clock inside (clock_of schema q.window x.0 p) refl)
+        any_from (needs schema (events_of (placed_lines came)) (line_at p x).at) queries k q query (by_clock inside (clock_of schema q.window x.0 p) refl)
       where
-        by_last : (c : ℤ) → from ≤ℤ c → (o : Option ℤ) → last_clock schema q (events_of (lines_of came)) ≡ o → are_within q.window (Some c) o ≡ true
+        by_last : (c : ℤ) → from ≤ℤ c → (o : Option ℤ) → last_clock schema q (events_of (placed_lines came)) ≡ o → are_within q.window (Some c) o ≡ true
         by_last c above None is = refl
         by_last c above (Some last) is = elim (last_came schema q 0 came None last is) [
           | inl none ↦ absurd cc
@@ -288,12 +288,12 @@ module _ (schema : Declared) (queries : List Query) (came : List (Event × List 
               near q.window from c last to width above (level m end last to (omega (arith, y_in, behind)) (record { event = y.0; at = whole_at m y y_at; read = y_reads; clock_is = subst (λ n. HasClock schema q.window y.0 n last) (from_zero m) y_clock }) ends)
         ]
 
-        by_clock : p < length came → (o : Option ℤ) → clock_of schema q.window x.0 p ≡ o → are_within q.window (clock_at schema q (line_at p x).at) (last_clock schema q (events_of (lines_of came))) ≡ true
+        by_clock : p < length came → (o : Option ℤ) → clock_of schema q.window x.0 p ≡ o → are_within q.window (clock_at schema q (line_at p x).at) (last_clock schema q (events_of (placed_lines came))) ≡ true
         by_clock inside None is = absurd (each_has_clock schema q well checked x.0 p (all_there (IsOfSchema schema) (stream_of came) p x.0 of (stream_at came p x at)) reads is)
         by_clock inside (Some c) is =
             let told : clock_at schema q (line_at p x).at ≡ Some c = rw (is_read schema q x.0 reads) is in
-            ap (λ o. are_within q.window o (last_clock schema q (events_of (lines_of came)))) told
-            ∙ by_last c (level start p from c low begins (record { event = x.0; at = whole_at p x at; read = reads; clock_is = clock_is schema q.window x.0 p c is })) (last_clock schema q (events_of (lines_of came))) refl
+            ap (λ o. are_within q.window o (last_clock schema q (events_of (placed_lines came)))) told
+            ∙ by_last c (level start p from c low begins (record { event = x.0; at = whole_at p x at; read = reads; clock_is = clock_is schema q.window x.0 p c is })) (last_clock schema q (events_of (placed_lines came))) refl
 
     same_between : AreSameWithin schema q start end whole short
     same_between p low upto = elim (cases_lt p (length came)) [

@@ -13,7 +13,7 @@ use Rattle.checkpoint_text.specs.declared.CheckpointFault.TheVariants as fault
 use Rattle.checkpoint_text.specs.declared.HistoryFault.{HistoryFault}
 use Rattle.checkpoint_text.specs.declared.history.EventAt.{EventAt}
 use Rattle.checkpoint_text.specs.declared.history.History.{History}
-use Rattle.checkpoint_text.specs.Checkpoints.{Told, Refusal, after_line, is_whole, history_of, at_stop, history_in}
+use Rattle.checkpoint_text.specs.Checkpoints.{Told, Refusal, after_line, is_all_told, history_of, at_stop, history_in}
 use Rattle.checkpoint_text.specs.Spelling.{AreEventLines, IsHistory}
 use Rattle.checkpoint_text.specs.Reading.{EndsAs, SomeTold, IsSpelled}
 use Rattle.checkpoint_text.proofs.Lines.{told_more}
@@ -28,7 +28,7 @@ some_more schema queries told next text step had = record {
 
 -- a history that is told at the end is so whatever the number of the last line
 at_any_number : (n m : ℕ) (told : Told) (history : History) → at_stop n told None ≡ Ok history → at_stop m told None ≡ Ok history
-at_any_number n m told history e = by_test (is_whole told told.stand.awaited) e
+at_any_number n m told history e = by_test (is_all_told told told.stand.awaited) e
   where
     by_test : (w : Bool) → cond {A = Result History Refusal} w (Ok (history_of told)) (Err (record { line = n + 1; fault = fault.Short })) ≡ Ok history → cond {A = Result History Refusal} w (Ok (history_of told)) (Err (record { line = m + 1; fault = fault.Short })) ≡ Ok history
     by_test true f = f

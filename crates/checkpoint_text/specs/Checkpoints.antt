@@ -49,9 +49,9 @@ words_after stand Counts count text = counted stand (counts_of text)
 words_after stand Position count text = if count == stand.count then Err fault.Extra else placed stand (position_of text)
 words_after stand (EventOf n) count text = Err fault.BadEvent
 
-abbrev pub standing : Told → Result Stand CheckpointFault → Result Told CheckpointFault
-standing told (Ok stand) = Ok (record told { stand = stand })
-standing told (Err fault) = Err fault
+abbrev pub with_stand : Told → Result Stand CheckpointFault → Result Told CheckpointFault
+with_stand told (Ok stand) = Ok (record told { stand = stand })
+with_stand told (Err fault) = Err fault
 
 -- with the event at the position, with which no clock falls
 abbrev pub with_event : Declared → List Query → Told → ℕ → Result (Option Event) EventFault → Result Told CheckpointFault
@@ -63,9 +63,9 @@ with_event schema queries told n (Err refusal) = Err fault.BadEvent
 
 -- what is told with the next line, or why it is refused
 abbrev pub after_text : Declared → List Query → Told → Awaited → List ℕ → Result Told CheckpointFault
-after_text schema queries told Header text = standing told (words_after told.stand Header (length told.events) text)
-after_text schema queries told Counts text = standing told (words_after told.stand Counts (length told.events) text)
-after_text schema queries told Position text = standing told (words_after told.stand Position (length told.events) text)
+after_text schema queries told Header text = with_stand told (words_after told.stand Header (length told.events) text)
+after_text schema queries told Counts text = with_stand told (words_after told.stand Counts (length told.events) text)
+after_text schema queries told Position text = with_stand told (words_after told.stand Position (length told.events) text)
 after_text schema queries told (EventOf n) text = with_event schema queries told n (event_of_line schema text)
 
 abbrev pub after_line : Declared → List Query → Told → List ℕ → Result Told CheckpointFault
@@ -91,9 +91,9 @@ abbrev pub told_by : Declared → List Query → List (List ℕ) → Result Told
 told_by schema queries texts = told_on schema queries 1 nothing texts
 
 -- all is told that was announced
-abbrev pub is_whole : Told → Awaited → Bool
-is_whole told Position = length told.events == told.stand.count
-is_whole told _ = false
+abbrev pub is_all_told : Told → Awaited → Bool
+is_all_told told Position = length told.events == told.stand.count
+is_all_told told _ = false
 
 abbrev pub history_of : Told → History
 history_of told = record { positions = told.stand.positions; events = told.events }
@@ -101,7 +101,7 @@ history_of told = record { positions = told.stand.positions; events = told.event
 -- the text has so many lines, which told this, and no further one: at its end or by this fault of the lines
 abbrev pub at_stop : ℕ → Told → Option LineFault → Result History Refusal
 at_stop lines told None =
-    if is_whole told told.stand.awaited then Ok (history_of told) else Err (record { line = lines + 1; fault = fault.Short })
+    if is_all_told told told.stand.awaited then Ok (history_of told) else Err (record { line = lines + 1; fault = fault.Short })
 at_stop lines told (Some (line.LineTooLong number)) = Err (record { line = number; fault = fault.LongLine })
 at_stop lines told (Some (line.InputTooLong taken)) = Err (record { line = lines + 1; fault = fault.TooLong })
 at_stop lines told (Some line.ReadFault) = Err (record { line = lines + 1; fault = fault.Short })

@@ -12,13 +12,13 @@ abbrev pub clock_at : Declared → Query → EventAt → Option ℤ
 clock_at schema q e = if query_reads schema q e.event then clock_of schema q.window e.event e.position else None
 
 -- the later clock, where there is one
-abbrev pub later : Option ℤ → Option ℤ → Option ℤ
-later last None = last
-later last (Some now) = Some now
+abbrev pub later_clock : Option ℤ → Option ℤ → Option ℤ
+later_clock last None = last
+later_clock last (Some now) = Some now
 
 -- the clock of the last event that the query reads
 abbrev pub last_clock : Declared → Query → List EventAt → Option ℤ
-last_clock schema q events = fold (λ last e. later last (clock_at schema q e)) None events
+last_clock schema q events = fold (λ last e. later_clock last (clock_at schema q e)) None events
 
 -- both are there, and the second is below the first
 abbrev pub is_back : Option ℤ → Option ℤ → Bool

@@ -10,7 +10,7 @@ use Rattle.answer_text.specs.declared.Order.TheVariants.{Sorted}
 use Rattle.answer_text.specs.Output.{IsOutput}
 use Rattle.output_laws.specs.After.{IsOutputFrom, IsOutputAfter}
 use Rattle.query_engine.specs.Clocks.{NeverFalls}
-use Rattle.checkpoint_text.specs.KeepLaws.{lines_of, kept_lines, told_stream}
+use Rattle.checkpoint_text.specs.KeepLaws.{placed_lines, kept_lines, told_stream}
 use Rattle.checkpoint_text.specs.Streams.{IsStreamOf, stream_of}
 
 -- The output of the first events, and after it that of the positions after them, where these events stand before that some window still needs.
@@ -25,13 +25,13 @@ pub record IsOutputInTurn (order : Order) (schema : Declared) (queries : List Qu
 abbrev pub RunsGoOn : Type 0
 RunsGoOn = (order : Order) (schema : Declared) (queries : List Query) (came : List (Event × List ℕ)) (kept more : List Event) (bytes : List ℕ) →
     IsWellDeclared schema → All (IsChecked schema) queries → All (IsOfSchema schema) (stream_of came) → All (λ q. NeverFalls schema q (stream_of came ++ more)) queries →
-    IsStreamOf schema (told_stream (length came) (kept_lines schema queries (lines_of came))) kept →
+    IsStreamOf schema (told_stream (length came) (kept_lines schema queries (placed_lines came))) kept →
     (IsOutput order schema queries (stream_of came ++ more) bytes) ↔ (IsOutputInTurn order schema queries (stream_of came) kept more bytes)
 
 -- In sorted order, and where no query has ANY, it writes exactly what the first run writes and then what the one that goes on writes.
 abbrev pub ResumedOutputIsTheRest : Type 0
 ResumedOutputIsTheRest = (schema : Declared) (queries : List Query) (came : List (Event × List ℕ)) (kept more : List Event) (first behind all : List ℕ) →
     IsWellDeclared schema → All (IsChecked schema) queries → All (IsOfSchema schema) (stream_of came) → All (λ q. NeverFalls schema q (stream_of came ++ more)) queries → All (λ q. q.any ≡ None) queries →
-    IsStreamOf schema (told_stream (length came) (kept_lines schema queries (lines_of came))) kept →
+    IsStreamOf schema (told_stream (length came) (kept_lines schema queries (placed_lines came))) kept →
     IsOutput Sorted schema queries (stream_of came) first → IsOutputAfter (length kept) Sorted schema queries (kept ++ more) behind → IsOutput Sorted schema queries (stream_of came ++ more) all →
     all ≡ first ++ behind

@@ -27,12 +27,12 @@ abbrev pub keeping : Declared → List Query → List (Event × List ℕ) → Ke
 keeping schema queries came = fold (λ keeper e. with_event keeper e.0 e.1) (empty_keeper schema queries) came
 
 -- their lines, of which the first has this position
-abbrev pub lines_from : ℕ → List (Event × List ℕ) → List KeptLine
-lines_from n [] = []
-lines_from n (e ∷ came) = record { at = record { position = n; event = e.0 }; text = e.1 } ∷ lines_from (n + 1) came
+abbrev pub placed_lines_from : ℕ → List (Event × List ℕ) → List KeptLine
+placed_lines_from n [] = []
+placed_lines_from n (e ∷ came) = record { at = record { position = n; event = e.0 }; text = e.1 } ∷ placed_lines_from (n + 1) came
 
-abbrev pub lines_of : List (Event × List ℕ) → List KeptLine
-lines_of came = lines_from 0 came
+abbrev pub placed_lines : List (Event × List ℕ) → List KeptLine
+placed_lines came = placed_lines_from 0 came
 
 abbrev pub events_of : List KeptLine → List EventAt
 events_of lines = map (λ line. line.at) lines
@@ -43,8 +43,8 @@ kept_lines schema queries lines = filter (λ line. is_needed schema queries (eve
 
 -- A keeper has of the events that came exactly those that some window still needs.
 abbrev pub KeepersKeep : Type 0
-KeepersKeep = (schema : Declared) (queries : List Query) (came : List (Event × List ℕ)) → NoneFalls schema queries (events_of (lines_of came)) →
-    ((keeping schema queries came).lines ≡ kept_lines schema queries (lines_of came)) × ((keeping schema queries came).positions ≡ length came)
+KeepersKeep = (schema : Declared) (queries : List Query) (came : List (Event × List ℕ)) → NoneFalls schema queries (events_of (placed_lines came)) →
+    ((keeping schema queries came).lines ≡ kept_lines schema queries (placed_lines came)) × ((keeping schema queries came).positions ≡ length came)
 
 -- The text that is kept of a line gives the event that the line gave.
 abbrev pub KeptTextGives : Type 0
@@ -66,6 +66,6 @@ WrittenIsRead = (schema : Declared) (queries : List Query) (positions : ℕ) (li
 
 -- What is saved of the events that came is read as the stream of those that some window still needs.
 abbrev pub SavedIsRead : Type 0
-SavedIsRead = (schema : Declared) (queries : List Query) (came : List (Event × List ℕ)) → NoneFalls schema queries (events_of (lines_of came)) → length came ≤ MOST_POSITIONS → AllByRecursion (IsLineOf schema) (lines_of came) →
+SavedIsRead = (schema : Declared) (queries : List Query) (came : List (Event × List ℕ)) → NoneFalls schema queries (events_of (placed_lines came)) → length came ≤ MOST_POSITIONS → AllByRecursion (IsLineOf schema) (placed_lines came) →
     length (checkpoint_text (keeping schema queries came).positions (keeping schema queries came).lines) < MOST_BYTES →
-    checkpoint_of schema queries (checkpoint_text (keeping schema queries came).positions (keeping schema queries came).lines) ≡ Ok (told_stream (length came) (kept_lines schema queries (lines_of came)))
+    checkpoint_of schema queries (checkpoint_text (keeping schema queries came).positions (keeping schema queries came).lines) ≡ Ok (told_stream (length came) (kept_lines schema queries (placed_lines came)))

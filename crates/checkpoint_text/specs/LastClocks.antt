@@ -4,7 +4,7 @@ use Rattle.stream_schema.specs.Types.{Declared}
 use Rattle.cel_terms.specs.declared.Query.{Query}
 use Rattle.checkpoint_text.specs.declared.clocks.Fall.{Fall}
 use Rattle.checkpoint_text.specs.declared.history.EventAt.{EventAt}
-use Rattle.checkpoint_text.specs.Clocks.{clock_at, later, last_clock, is_back}
+use Rattle.checkpoint_text.specs.Clocks.{clock_at, later_clock, last_clock, is_back}
 
 -- those of the queries, each after the same events
 abbrev pub last_clocks : Declared → List Query → List EventAt → List (Option ℤ)
@@ -35,4 +35,4 @@ first_back schema k (q ∷ queries) (last ∷ lasts) e = fall_or (fall_of k last
 abbrev pub next_clocks : Declared → List Query → List (Option ℤ) → EventAt → List (Option ℤ)
 next_clocks schema [] lasts e = []
 next_clocks schema (q ∷ queries) [] e = []
-next_clocks schema (q ∷ queries) (last ∷ lasts) e = later last (clock_at schema q e) ∷ next_clocks schema queries lasts e
+next_clocks schema (q ∷ queries) (last ∷ lasts) e = later_clock last (clock_at schema q e) ∷ next_clocks schema queries lasts e

@@ -7,13 +7,13 @@ use Rattle.event_reader.specs.Words.{cut}
 use Rattle.checkpoint_text.specs.declared.numbers.TheConstants.{ZERO, MOST_POSITIONS}
 
 -- some digits, the first of several not being 0
-abbrev pub is_numeral : List ℕ → Bool
-is_numeral [] = false
-is_numeral (d ∷ ds) = (length ds == 0 || not (d == ZERO)) && list_all is_ascii_digit (d ∷ ds)
+abbrev pub is_canonical_numeral : List ℕ → Bool
+is_canonical_numeral [] = false
+is_canonical_numeral (d ∷ ds) = (length ds == 0 || not (d == ZERO)) && list_all is_ascii_digit (d ∷ ds)
 
 -- the number that they write, where it is at most so much
 abbrev pub number : ℕ → List ℕ → Option ℕ
-number most digits = if is_numeral digits && nat_le (read_on 0 digits) most then Some (read_on 0 digits) else None
+number most digits = if is_canonical_numeral digits && nat_le (read_on 0 digits) most then Some (read_on 0 digits) else None
 
 -- what stands after this word and a blank
 abbrev pub after_word_in : List ℕ → List ℕ × List ℕ → Option (List ℕ)

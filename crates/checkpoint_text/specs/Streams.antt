@@ -15,7 +15,7 @@ use Rattle.checkpoint_text.specs.declared.clocks.Fall.{Fall}
 use Rattle.checkpoint_text.specs.Clocks.{NoneFalls}
 use Rattle.checkpoint_text.specs.LastClocks.{any_back, first_back}
 use Rattle.checkpoint_text.specs.Keeping.{next_event}
-use Rattle.checkpoint_text.specs.KeepLaws.{keeping, lines_of, events_of, kept_lines, IsLineOf, told_stream}
+use Rattle.checkpoint_text.specs.KeepLaws.{keeping, placed_lines, events_of, kept_lines, IsLineOf, told_stream}
 
 -- these from one position up to another: blank ones before each event, and after the last
 abbrev pub AreEventsFrom : Declared → ℕ → ℕ → List EventAt → List Event → Type 0
@@ -35,13 +35,13 @@ stream_of came = map (λ e. e.0) came
 abbrev pub RestartingChangesNoAnswer : Type 0
 RestartingChangesNoAnswer = (schema : Declared) (queries : List Query) (came : List (Event × List ℕ)) (kept more : List Event) (k : ℕ) (q : Query) (end : ℕ) (answer : Answer) →
     IsWellDeclared schema → slice_get queries k ≡ Some q → IsChecked schema q → All (IsOfSchema schema) (stream_of came) →
-    NeverFalls schema q (stream_of came ++ more) → IsStreamOf schema (told_stream (length came) (kept_lines schema queries (lines_of came))) kept →
+    NeverFalls schema q (stream_of came ++ more) → IsStreamOf schema (told_stream (length came) (kept_lines schema queries (placed_lines came))) kept →
     length came ≤ end → (IsAnswer schema q (stream_of came ++ more) end answer) ↔ (IsAnswer schema q (kept ++ more) end answer)
 
 -- With the next event after those that came, the clock falls that a keeper finds to fall first, and none does where it finds none.
 abbrev pub KeepersTellFalls : Type 0
 KeepersTellFalls = (schema : Declared) (queries : List Query) (came : List (Event × List ℕ)) (next : Event) → IsWellDeclared schema → All (IsChecked schema) queries →
-    NoneFalls schema queries (events_of (lines_of came)) → AllByRecursion (IsLineOf schema) (lines_of came) →
+    NoneFalls schema queries (events_of (placed_lines came)) → AllByRecursion (IsLineOf schema) (placed_lines came) →
     let keeper = keeping schema queries came in
     (any_back keeper.schema keeper.queries keeper.lasts (next_event keeper next) ≡ false → NoneFallsBack schema queries (stream_of came) next)
     × ((fall : Fall) → first_back keeper.schema 1 keeper.queries keeper.lasts (next_event keeper next) ≡ Some fall → IsFirstToFall schema queries (stream_of came) next fall.query fall.before fall.now)

@@ -1,7 +1,7 @@
 //! The clocks of the queries along events.
 
 ghost use Rattle.std.specs.Prelude.{◌≡◌, ◌+ℤ◌, int_lt, length, map, false, Some, None, IfOk, IfNone};
-ghost use Rattle.checkpoint_text.specs.Clocks.{clock_at, later, is_back};
+ghost use Rattle.checkpoint_text.specs.Clocks.{clock_at, later_clock, is_back};
 ghost use Rattle.checkpoint_text.specs.LastClocks.{any_back, fall_of, first_back, next_clocks};
 ghost use Rattle.checkpoint_text.specs.Keeping.{is_within, are_within, any_needs};
 
@@ -35,8 +35,8 @@ fn is_back(last: Option<i128>, now: Option<i128>) -> bool
     }
 }
 
-fn later(last: Option<i128>, now: Option<i128>) -> Option<i128>
-    ensures { result ≡ later last now }
+fn later_clock(last: Option<i128>, now: Option<i128>) -> Option<i128>
+    ensures { result ≡ later_clock last now }
 {
     match now {
         Some(now) => Some(now),
@@ -128,7 +128,7 @@ pub fn next_clocks(
 {
     let mut clocks = Vec::new(alloc);
     for k in 0..queries.len() {
-        clocks.push(later(lasts[k], clock_at(schema, &queries[k], event, position)))?;
+        clocks.push(later_clock(lasts[k], clock_at(schema, &queries[k], event, position)))?;
     }
     Ok(clocks)
 }

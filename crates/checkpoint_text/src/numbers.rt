@@ -3,7 +3,7 @@
 ghost use Rattle.std.specs.Prelude.{◌≡◌, option_map};
 ghost use Rattle.std.specs.Char.{is_ascii_digit};
 ghost use Rattle.std.specs.List.{list_all};
-ghost use Rattle.checkpoint_text.specs.Numbers.{is_numeral, number, after_word, two_numbers, counts_of, position_of};
+ghost use Rattle.checkpoint_text.specs.Numbers.{is_canonical_numeral, number, after_word, two_numbers, counts_of, position_of};
 
 use cer_base::digits::with_digits;
 use event_reader::words::cut;
@@ -54,15 +54,15 @@ fn after_word<'t>(word: &[u8], text: &'t [u8]) -> Option<&'t [u8]>
 fn number(most: u64, digits: &[u8]) -> Option<u64>
     ensures { result ≡ number most digits.now }
 {
-    if !is_numeral(digits) {
+    if !is_canonical_numeral(digits) {
         return None;
     }
     with_digits(most, 0, digits)
 }
 
 /// Whether these are digits, the first of several not being 0.
-fn is_numeral(digits: &[u8]) -> bool
-    ensures { result ≡ is_numeral digits.now }
+fn is_canonical_numeral(digits: &[u8]) -> bool
+    ensures { result ≡ is_canonical_numeral digits.now }
 {
     match digits.split_first() {
         Some((first, others)) => (others.is_empty() || *first != ZERO) && are_digits(digits),

@@ -22,7 +22,7 @@ use Rattle.checkpoint_text.specs.declared.stand.Awaited.TheVariants.{Header, Cou
 use Rattle.checkpoint_text.specs.declared.history.EventAt.{EventAt}
 use Rattle.checkpoint_text.specs.declared.history.History.{History}
 use Rattle.checkpoint_text.specs.declared.reading.TheConstants.{MOST_BYTES}
-use Rattle.checkpoint_text.specs.Clocks.{later, is_back, falls_with, some_falls}
+use Rattle.checkpoint_text.specs.Clocks.{later_clock, is_back, falls_with, some_falls}
 use Rattle.checkpoint_text.specs.Checkpoints.{Told, Refusal, nothing, with_event, after_text, after_line, at_line, told_on, at_stop, history_in, checkpoint_of}
 use Rattle.checkpoint_text.specs.Histories.{AreAscendingFrom}
 use Rattle.checkpoint_text.specs.Spelling.{IsHistory}
@@ -37,7 +37,7 @@ reads_of schema streams e = list_any (λ ty. ty == e.event.ty) (query_types sche
 
 abbrev falls_by : Declared → List EventAt → EventAt → List Name → Window → Bool
 falls_by schema events e streams window =
-    is_back (fold (λ last x. later last (cond (reads_of schema streams x) (clock_of schema window x.event x.position) None)) None events)
+    is_back (fold (λ last x. later_clock last (cond (reads_of schema streams x) (clock_of schema window x.event x.position) None)) None events)
     (cond (reads_of schema streams e) (clock_of schema window e.event e.position) None)
 
 falls_alike : (schema : Declared) (events : List EventAt) (e : EventAt) (p q : Query) → query_tree p ≡ query_tree q → falls_with schema events e p ≡ falls_with schema events e q

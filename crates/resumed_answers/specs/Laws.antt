@@ -13,7 +13,7 @@ use Rattle.output_laws.specs.After.{IsOutputAfter}
 use Rattle.query_engine.specs.Clocks.{NeverFalls}
 use Rattle.event_run.specs.Runs.{RunsTo, RunsAfter}
 use Rattle.event_run.specs.Runs as stop
-use Rattle.checkpoint_text.specs.KeepLaws.{lines_of, kept_lines, told_stream}
+use Rattle.checkpoint_text.specs.KeepLaws.{placed_lines, kept_lines, told_stream}
 use Rattle.checkpoint_text.specs.Streams.{IsStreamOf, stream_of}
 
 -- Of two event files the first ends with a line feed, and the second does not begin with a byte order mark; what some window still needs of the events of the first was saved.
@@ -23,7 +23,7 @@ SavedRunsGoOn = (schema : Declared) (queries : List Query) (most least greatest 
     IsWellDeclared schema → All (IsChecked schema) queries → All (λ q. q.any ≡ None) queries → All (IsOfSchema schema) (stream_of came) → All (λ q. NeverFalls schema q all) queries →
     starts_with nat_eq second (239 ∷ 187 ∷ 191 ∷ []) ≡ false →
     RunsTo schema queries most (front ++ LINE_FEED ∷ []) (stream_of came) stop.End →
-    IsStreamOf schema (told_stream (length came) (kept_lines schema queries (lines_of came))) kept →
+    IsStreamOf schema (told_stream (length came) (kept_lines schema queries (placed_lines came))) kept →
     RunsAfter kept schema queries least second behind stop.End →
     RunsTo schema queries greatest (front ++ LINE_FEED ∷ second) all stop.End →
     IsOutput Sorted schema queries (stream_of came) first → IsOutputAfter (length kept) Sorted schema queries behind resumed → IsOutput Sorted schema queries all whole →

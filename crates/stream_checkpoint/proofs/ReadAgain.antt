@@ -30,7 +30,7 @@ use Rattle.checkpoint_text.specs.Clocks.{clock_at, is_back}
 use Rattle.checkpoint_text.specs.LastClocks.{any_back, fall_of, fall_or, first_back}
 use Rattle.checkpoint_text.specs.Checkpoints.{checkpoint_of}
 use Rattle.checkpoint_text.specs.Keeping.{Keeper, next_event, checkpoint_text}
-use Rattle.checkpoint_text.specs.KeepLaws.{empty_keeper, keeping, lines_of, kept_lines, told_stream, KeepersKeep, SavedIsRead}
+use Rattle.checkpoint_text.specs.KeepLaws.{empty_keeper, keeping, placed_lines, kept_lines, told_stream, KeepersKeep, SavedIsRead}
 use Rattle.checkpoint_text.specs.Streams.{stream_of}
 use Rattle.checkpoint_text.proofs.CameKeepers.{Keeps, none_kept, one_kept, one_falls, stream_more, all_of_schema}
 use Rattle.stream_checkpoint.specs.Saved.{came_of, came_in, IsCheckpointOf}
@@ -168,7 +168,7 @@ runs_keep schema queries well checked number keeper came (text ∷ texts) fault 
 
 -- the checkpoint of a file is read
 pub is_read : KeepersKeep → SavedIsRead → (schema : Declared) (queries : List Query) (most_bytes : ℕ) (bytes text : List ℕ) → IsWellDeclared schema → All (IsChecked schema) queries → (saved : IsCheckpointOf schema queries most_bytes bytes text) →
-    length saved.came ≤ MOST_POSITIONS → length text < MOST_BYTES → checkpoint_of schema queries text ≡ Ok (told_stream (length saved.came) (kept_lines schema queries (lines_of saved.came)))
+    length saved.came ≤ MOST_POSITIONS → length text < MOST_BYTES → checkpoint_of schema queries text ≡ Ok (told_stream (length saved.came) (kept_lines schema queries (placed_lines saved.came)))
 is_read keepers reads schema queries most_bytes bytes text well checked saved few short =
     let file = file_lines most_bytes bytes in
     let S : List (Event × List ℕ) → Type 0 = SomeKeeps schema queries in

@@ -17,7 +17,7 @@ use Rattle.checkpoint_text.specs.declared.clocks.Fall.{Fall}
 use Rattle.checkpoint_text.specs.Clocks.{NoneFalls}
 use Rattle.checkpoint_text.specs.LastClocks.{any_back, first_back}
 use Rattle.checkpoint_text.specs.Keeping.{Keeper, next_event, with_event}
-use Rattle.checkpoint_text.specs.KeepLaws.{keeping, lines_of, events_of, IsLineOf}
+use Rattle.checkpoint_text.specs.KeepLaws.{keeping, placed_lines, events_of, IsLineOf}
 use Rattle.checkpoint_text.specs.Streams.{stream_of}
 use Rattle.stream_checkpoint.specs.Saved.{came_in}
 
@@ -48,11 +48,11 @@ pub record HasKept (schema : Declared) (queries : List Query) (reader : LineRead
   pub given : HasGiven reader bytes left texts
   pub good : AreEventsOf schema queries texts (stream_of (came_in schema texts))
   pub is : keeper ≡ keeping schema queries (came_in schema texts)
-  pub level : NoneFalls schema queries (events_of (lines_of (came_in schema texts)))
-  pub lines : AllByRecursion (IsLineOf schema) (lines_of (came_in schema texts))
+  pub level : NoneFalls schema queries (events_of (placed_lines (came_in schema texts)))
+  pub lines : AllByRecursion (IsLineOf schema) (placed_lines (came_in schema texts))
 
 -- This is what is kept of all events of a file of these bytes, which ends well.
 pub record HasKeptAll (schema : Declared) (queries : List Query) (most_bytes : ℕ) (bytes : List ℕ) (keeper : Keeper) : Type 0 where
   pub runs : RunsTo schema queries most_bytes bytes (stream_of (came_in schema (file_lines most_bytes bytes).texts)) stop.End
   pub is : keeper ≡ keeping schema queries (came_in schema (file_lines most_bytes bytes).texts)
-  pub level : NoneFalls schema queries (events_of (lines_of (came_in schema (file_lines most_bytes bytes).texts)))
+  pub level : NoneFalls schema queries (events_of (placed_lines (came_in schema (file_lines most_bytes bytes).texts)))

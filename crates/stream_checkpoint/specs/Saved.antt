@@ -13,7 +13,7 @@ use Rattle.event_run.specs.Runs as stop
 use Rattle.stream_answers.specs.declared.StreamFault.{StreamFault}
 use Rattle.stream_answers.specs.AtEnd.{WroteAtEnd}
 use Rattle.checkpoint_text.specs.Keeping.{checkpoint_text}
-use Rattle.checkpoint_text.specs.KeepLaws.{lines_of, kept_lines}
+use Rattle.checkpoint_text.specs.KeepLaws.{placed_lines, kept_lines}
 use Rattle.checkpoint_text.specs.Streams.{stream_of}
 
 -- the event that a line gives, with the line's text but for a carriage return at its end
@@ -31,7 +31,7 @@ pub record IsCheckpointOf (schema : Declared) (queries : List Query) (most_bytes
   pub came : List (StreamEvent × List ℕ)
   pub are : came ≡ came_in schema (file_lines most_bytes bytes).texts
   pub runs : RunsTo schema queries most_bytes bytes (stream_of came) stop.End
-  pub spells : text ≡ checkpoint_text (length came) (kept_lines schema queries (lines_of came))
+  pub spells : text ≡ checkpoint_text (length came) (kept_lines schema queries (placed_lines came))
 
 -- the schema and the queries, and how many bytes are too many
 pub record Asked : Type 0 where

@@ -1,4 +1,4 @@
--- The bytes of which blanks, words and signs are made, and which words are keywords.
+-- The bytes of which white space, words and signs are made, and which words are keywords.
 --
 use Rattle.std.specs.Prelude.{ℕ, Bool, ◌||◌, ◌==◌, not, List, [], ◌∷◌, take, if◌then◌else◌, bytes_eq, codes}
 use Rattle.std.specs.Char.{is_ascii_alphabetic, is_ascii_alphanumeric}

@@ -10,7 +10,7 @@ ghost use Rattle.std.specs.Prelude.{◌≡◌, ◌<◌, ◌≤◌, ◌↔◌, Is
 use crate::TokenKind;
 use crate::front::Piece;
 
-/// Whether the byte is a blank.
+/// Whether the byte is white space.
 pub fn is_white_space(byte: u8) -> bool
     ensures { result ≡ is_white_space byte }
 {

@@ -9,7 +9,8 @@ use Rattle.event_run.specs.Runs as stop
 use Rattle.checkpoint_text.specs.Streams.{stream_of}
 use Rattle.stream_checkpoint.specs.declared.saving.TheConstants.{MOST_BYTES as MOST_SAVED}
 use Rattle.stream_answers.specs.AtEnd.{StopsOver}
-use Rattle.stream_checkpoint.specs.Saved.{Asked, IsCheckpointOver}
+use Rattle.stream_answers.specs.Streams.{EventsAsked}
+use Rattle.stream_checkpoint.specs.Saved.{IsCheckpointOver}
 use Rattle.fault_notes.specs.declared.File.{File}
 use Rattle.fault_notes.specs.declared.File.TheVariants as file
 use Rattle.core_jobs.specs.declared.Cause.{Cause}
@@ -25,7 +26,7 @@ use Rattle.core_jobs.proofs.ExplainEnds.{failed_so}
 use Rattle.core_jobs.proofs.Ends.{opened_both, stay_on, unopened, none_taken_up}
 
 -- what is asked where a checkpoint is
-abbrev pub save_asked : SaveWords → Declared → List Query → Asked
+abbrev pub save_asked : SaveWords → Declared → List Query → EventsAsked
 save_asked s schema queries = record { schema = schema; queries = queries; most_bytes = MOST_SAVED }
 
 -- the host has both files
@@ -52,7 +53,7 @@ has_stopped o s schema queries source was failed none accepted opened stops = re
 }
 
 -- a checkpoint goes with a stop at the end
-whole_stops : (a : Asked) (source : Option (List ℕ)) (bytes : List ℕ) → IsCheckpointOver a source bytes → StopsOver a.schema a.queries a.most_bytes source stop.End
+whole_stops : (a : EventsAsked) (source : Option (List ℕ)) (bytes : List ℕ) → IsCheckpointOver a source bytes → StopsOver a.schema a.queries a.most_bytes source stop.End
 whole_stops a source bytes over lines same = let it = over lines same in (stream_of it.came, it.runs)
 
 -- the bytes are the checkpoint of the two files

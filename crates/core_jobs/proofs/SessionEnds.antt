@@ -9,7 +9,8 @@ use Rattle.answer_blocks.specs.Taken.{TookPrefix}
 use Rattle.event_run.specs.Runs.{Stop}
 use Rattle.event_run.specs.Runs as stop
 use Rattle.session_script.specs.declared.script.TheConstants.{MOST_BYTES}
-use Rattle.session_script.specs.Scripts.{Asked, PlaysTo, BeginsPlay, WritesRead, WroteOver, WroteAll}
+use Rattle.stream_answers.specs.Streams.{EventsAsked}
+use Rattle.session_script.specs.Scripts.{PlaysTo, BeginsPlay, WritesRead, WroteOver, WroteAll}
 use Rattle.fault_notes.specs.declared.File.{File}
 use Rattle.fault_notes.specs.declared.File.TheVariants as file
 use Rattle.core_jobs.specs.declared.Cause.{Cause}
@@ -25,7 +26,7 @@ use Rattle.core_jobs.proofs.Streams.{accepted_text, text_not_missing, not_missin
 use Rattle.core_jobs.proofs.Ends.{opened_both, stay_on, unopened, none_taken_up}
 
 -- what is asked of a script
-abbrev pub asked : Declared → List Query → Asked
+abbrev pub asked : Declared → List Query → EventsAsked
 asked schema queries = record { schema = schema; queries = queries; most_bytes = MOST_BYTES }
 
 -- the host has both files

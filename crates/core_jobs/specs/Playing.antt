@@ -5,14 +5,15 @@ use Rattle.cer_outside.specs.Content.{Content, HasOpened}
 use Rattle.cer_outside.specs.Bytes.{TookAll, TookPart}
 use Rattle.answer_blocks.specs.Taken.{TookPrefix}
 use Rattle.event_run.specs.Runs as stop
-use Rattle.session_script.specs.Scripts.{Asked, WritesRead, WroteOver, WroteAll, WrotePart}
+use Rattle.stream_answers.specs.Streams.{EventsAsked}
+use Rattle.session_script.specs.Scripts.{WritesRead, WroteOver, WroteAll, WrotePart}
 use Rattle.fault_notes.specs.declared.File.TheVariants as file
 use Rattle.core_jobs.specs.declared.Cause.{Cause}
 use Rattle.core_jobs.specs.declared.Cause.TheVariants as cause
 use Rattle.core_jobs.specs.Run.{Sources, left_by, ReadingStops, IsOpening}
 
 -- how a script from a source ended, of which these bytes were left, where they are told
-abbrev pub PlayStop : {S : Type 0} → Sources S → Asked → Option (List ℕ) → ℕ → ℕ → Option (List ℕ) → Option (List ℕ) → Cause → Option S → Type 0
+abbrev pub PlayStop : {S : Type 0} → Sources S → EventsAsked → Option (List ℕ) → ℕ → ℕ → Option (List ℕ) → Option (List ℕ) → Cause → Option S → Type 0
 PlayStop sources a source out_old out_new before after cause.Fine failed = (failed ≡ None) × WroteAll a source stop.End before after
 PlayStop sources a source out_old out_new before after (cause.Event line fault) failed = (failed ≡ None) × WroteAll a source (stop.Event line fault) before after
 PlayStop sources a source out_old out_new before after (cause.InputTooLong taken) failed = (failed ≡ None) × WroteAll a source (stop.InputTooLong taken) before after
@@ -25,6 +26,6 @@ PlayStop sources a source out_old out_new before after cause.Memory failed = (fa
 PlayStop sources a source out_old out_new before after _ failed = ⊥
 
 -- How a script file ended: it was not opened, or it ended so over what was left in it.
-pub record PlayFileStop {S : Type 0} (sources : Sources S) (a : Asked) (whole : Content) (old new out_old out_new : ℕ) (before after : Option (List ℕ)) (given : Cause) (failed : Option S) : Type 0 where
+pub record PlayFileStop {S : Type 0} (sources : Sources S) (a : EventsAsked) (whole : Content) (old new out_old out_new : ℕ) (before after : Option (List ℕ)) (given : Cause) (failed : Option S) : Type 0 where
   pub way : (ReadingStops sources file.Events whole old new given failed × (after ≡ before) × IsOpening given)
       ⊎ ((source : Option (List ℕ)) × HasOpened whole source × PlayStop sources a source out_old out_new before after given failed)

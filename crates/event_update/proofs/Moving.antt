@@ -6,7 +6,8 @@ use Rattle.std.proofs.lemmas.Bool.{ne_eqb}
 use Rattle.std.proofs.lemmas.List.Elements.{All-nil, All-cons, All-head, All-tail}
 use Rattle.cer_base.specs.declared.node.Root.{Root}
 use Rattle.cea_determinise.specs.declared.table.Successors.{Successors}
-use Rattle.event_update.specs.Update.{IsOther, GoTo, GoesOn, moved_to}
+use Rattle.event_update.specs.Update.{IsOther, GoesOn, moved_to}
+use Rattle.cea_determinise.specs.Rows.{GoTo}
 use Rattle.event_update.proofs.Known.{take_more, take_all, map_push}
 
 -- the numbers stay apart with one more that is none of them

@@ -3,7 +3,8 @@
 ghost use Rattle.std.specs.Prelude.{◌≡◌, ℕ, ◌<◌, true, List, [], ◌∷◌, ◌++◌, length, Some, None, All, IfOk, IfSome, OnOk, nat_eq};
 ghost use Rattle.std.specs.List.{IsDistinct};
 ghost use Rattle.cea_determinise.specs.declared.table.Successors.{Successors};
-ghost use Rattle.event_update.specs.Update.{IsOther, GoTo, GoesOn};
+ghost use Rattle.event_update.specs.Update.{IsOther, GoesOn};
+ghost use Rattle.cea_determinise.specs.Rows.{GoTo};
 
 use crate::moves::is_none;
 use cea_determinise::table::{State, Successors};

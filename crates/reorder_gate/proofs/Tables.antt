@@ -6,28 +6,12 @@ use Rattle.std.proofs.Math.Path.{fun_ext}
 use Rattle.std.proofs.lemmas.Bool.{and_right, and_from, and_parts}
 use Rattle.stream_schema.specs.Types.{Declared, DeclaredType}
 use Rattle.stream_schema.specs.Names.{attr_index, attr_among}
+use Rattle.stream_schema.proofs.AttributePlaces.{value_there}
 use Rattle.reorder_gate.specs.Clocks.{is_some_int, has_clock, whole, IsClock}
-
-abbrev place_of : List ℕ → DeclaredType → Option ℕ
-place_of name t = attr_index name t.attrs
-
-step : (name : List ℕ) (types : List DeclaredType) (i : ℕ) → i < length types → map (place_of name) (take (suc i) types) ≡ map (place_of name) (take i types) ++ option_and_then (place_of name) (slice_get types i) ∷ []
-step name [] i l = absurd (omega arith)
-step name (t ∷ ts) zero l = refl
-step name (t ∷ ts) (suc i) l = ap (λ ps. place_of name t ∷ ps) (step name ts i (omega arith))
-
--- one type more
-pub next_place : (name : List ℕ) (types : List DeclaredType) (i : ℕ) (items new : List (Option ℕ)) (place : Option ℕ) → i < length types → items ≡ map (place_of name) (take i types) → place ≡ option_and_then (place_of name) (slice_get types i) → new ≡ items ++ place ∷ [] → new ≡ map (place_of name) (take (i + 1) types)
-next_place name types i items new place l e f g = rw (add-one i) (g ∙ (ap (λ ps. ps ++ place ∷ []) e ∙ (ap (λ p. map (place_of name) (take i types) ++ p ∷ []) f ∙ sym (step name types i l))))
-
-looked_up : {X : Type 0} (name : List ℕ) (get : ℕ → Option X) (types : List DeclaredType) (ty : ℕ) → option_and_then get (slice_index_or (map (place_of name) types) ty None) ≡ option_and_then (λ t. option_and_then get (place_of name t)) (slice_get types ty)
-looked_up name get [] ty = refl
-looked_up name get (t ∷ ts) zero = refl
-looked_up name get (t ∷ ts) (suc ty) = looked_up name get ts ty
 
 pub table_tells : (schema : Declared) (name : List ℕ) (places : List (Option ℕ)) → places ≡ map (λ (t : DeclaredType). attr_index name t.attrs) schema.types → IsClock schema name places
 table_tells schema name places e = record {
-  clock = fun_ext (λ event. ap whole (ap (λ ps. option_and_then (λ i. slice_get event.values i) (slice_index_or ps event.ty None)) e ∙ looked_up name (λ i. slice_get event.values i) schema.types event.ty));
+  clock = fun_ext (λ event. ap whole (value_there schema name places event e));
 }
 
 -- the type of this number has the clock, or not

@@ -1,8 +1,9 @@
 -- The clock of an event: the value of one attribute, which every declared type has as a whole number.
-use Rattle.std.specs.Prelude.{◌≡◌, ℕ, ℤ, pos, Bool, true, false, List, Option, Some, None, slice_get, slice_index_or, option_and_then}
+use Rattle.std.specs.Prelude.{◌≡◌, ℕ, ℤ, pos, Bool, true, false, List, Option, Some, None, slice_get, option_and_then}
 use Rattle.std.specs.List.{list_all}
 use Rattle.stream_schema.specs.Types.{Declared, DeclaredType}
 use Rattle.stream_schema.specs.Names.{attr_index, attr_among}
+use Rattle.stream_schema.specs.Events.{value_in}
 use Rattle.stream_schema.specs.declared.AttrAt.{AttrAt}
 use Rattle.stream_schema.specs.declared.Event.{Event}
 use Rattle.stream_schema.specs.declared.Kind.{Kind}
@@ -41,9 +42,6 @@ abbrev pub attribute_clock : Declared → List ℕ → Event → ℤ
 attribute_clock schema name event = whole (clock_value schema name event)
 
 -- the same by a table: where the attribute stands among those of each type
-abbrev pub value_in : List (Option ℕ) → Event → Option Value
-value_in places event = option_and_then (λ i. slice_get event.values i) (slice_index_or places event.ty None)
-
 abbrev pub clock_in : List (Option ℕ) → Event → ℤ
 clock_in places event = whole (value_in places event)
 

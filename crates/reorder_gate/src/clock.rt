@@ -1,13 +1,10 @@
 //! Where the clock of an event is read.
 
-ghost use Rattle.std.specs.Prelude.{◌≡◌, map, option_and_then, slice_get, bytes_eq, IfOk};
-ghost use Rattle.std.specs.Option.{option_copied};
-ghost use Rattle.stream_schema.specs.Names.{attr_index, attr_at};
-ghost use Rattle.reorder_gate.specs.Clocks.{is_some_int, clock_fits, value_in, clock_in, whole};
+ghost use Rattle.std.specs.Prelude.{◌≡◌, Some};
+ghost use Rattle.stream_schema.specs.Names.{attr_at};
+ghost use Rattle.reorder_gate.specs.Clocks.{is_some_int, clock_fits, clock_in, whole};
 
-use cer_base::Memory;
-use std::alloc::Global;
-use stream_schema::{Attr, Event, Kind, Schema, TypeId, Value};
+use stream_schema::{Event, Kind, Schema, TypeId, Value, value_in};
 
 /// Whether every declared type has an attribute of the name, as a whole number. Takes no memory.
 pub fn clock_fits(schema: &Schema, name: &str) -> bool
@@ -31,55 +28,6 @@ fn has_clock(schema: &Schema, ty: TypeId, name: &str) -> bool
             _ => false,
         },
         None => false,
-    }
-}
-
-/// Whether the attribute has the name.
-fn is_named(attr: &Attr, name: &str) -> bool
-    ensures { result ≡ bytes_eq attr.now.name name.now }
-{
-    attr.name.as_str() == name
-}
-
-/// Where the attribute of the name stands among these.
-fn place_among(attrs: &[Attr], name: &str) -> Option<usize>
-    ensures { result ≡ attr_index name.now attrs.now }
-{
-    attrs.iter().position(|attr| is_named(attr, name))
-}
-
-/// Where it stands among those of the type.
-fn place_in(schema: &Schema, ty: TypeId, name: &str) -> Option<u64>
-    ensures { result ≡ option_and_then (λ t. attr_index name.now t.attrs)
-        (slice_get schema.now.types ty) }
-{
-    match schema.attrs(ty) {
-        Some(attrs) => match place_among(attrs, name) {
-            Some(place) => Some(place as u64),
-            None => None,
-        },
-        None => None,
-    }
-}
-
-/// The same in each type.
-pub fn places_of(alloc: Global, schema: &Schema, name: &str) -> Result<Vec<Option<u64>>, Memory>
-    ensures { IfOk result (λ v. v.items ≡ map (λ t. attr_index name.now t.attrs) schema.now.types) }
-{
-    let mut places = Vec::new(alloc);
-    for ty in 0..schema.types() {
-        places.push(place_in(schema, ty, name))?;
-    }
-    Ok(places)
-}
-
-/// The event's value at the place that its type has in the table.
-fn value_in<'e>(places: &[Option<u64>], event: &'e Event) -> Option<&'e Value>
-    ensures { option_copied result ≡ value_in places.now event.now }
-{
-    match places.get(event.ty as usize) {
-        Some(Some(place)) => event.values.as_slice().get(*place as usize),
-        _ => None,
     }
 }
 

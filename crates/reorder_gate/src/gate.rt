@@ -8,12 +8,12 @@ ghost use Rattle.stream_schema.specs.declared.Event.{Event};
 ghost use Rattle.reorder_gate.specs.Releasing.{raised, is_due};
 ghost use Rattle.reorder_gate.specs.Gates.{lateness};
 
-use crate::clock::{clock_in, places_of};
+use crate::clock::clock_in;
 use cer_base::{Memory, OrMemory};
 use std::alloc::Global;
 use std::collections::BTreeMap;
 use std::marker::Model;
-use stream_schema::{Event, Schema};
+use stream_schema::{Event, Schema, places_of};
 
 /// The event's clock is further below the greatest one that was put than it may be.
 #[derive(Drop, Debug, Clone, Copy, PartialEq, Eq)]

@@ -19,7 +19,8 @@ use Rattle.event_reader.specs.Reading.{LineReader, HasGiven, HasTold}
 use Rattle.event_run.specs.Runs as stop
 use Rattle.cursor_session.specs.Machine.{Machine, at_first}
 use Rattle.cursor_session.specs.Sessions.{Session, Stands}
-use Rattle.session_script.specs.Scripts.{Asked, WrotePart, WrotePlay, PlaysTo, BeginsPlay}
+use Rattle.stream_answers.specs.Streams.{EventsAsked}
+use Rattle.session_script.specs.Scripts.{WrotePart, WrotePlay, PlaysTo, BeginsPlay}
 use Rattle.session_script.specs.Playing.{IsGood, IsBad, WentOn, BrokeOff, LineEnded, HasLineCause, HasPlayed, Goes, line_stop}
 use Rattle.session_script.proofs.GoodLines.{one_more, at_end, at_read_fault, at_line, begins, nothing_played, begins_empty}
 
@@ -41,7 +42,7 @@ begun schema queries reader source taken session stands given = record {
 }
 
 -- nothing was written, and memory ran out
-pub wrote_none : (a : Asked) (source taken : Option (List ℕ)) → WrotePart a source (TookPrefix taken taken)
+pub wrote_none : (a : EventsAsked) (source taken : Option (List ℕ)) → WrotePart a source (TookPrefix taken taken)
 wrote_none a source taken = record { bytes = []; took = prefix_none taken []; are = λ script same. begins_empty a.schema a.queries a.most_bytes script }
 
 -- ONE LINE MORE
@@ -86,7 +87,7 @@ line_as schema now queries has number text machine new before after why one othe
 
 -- THE SCRIPT ENDS
 
-pub ends_at_end : {T : Type 0} (a : Asked) (source : Option (List ℕ)) (old new : LineReader) (had left before after : Option (List ℕ)) (session : Session) (done : T) → new.budget ≡ a.most_bytes →
+pub ends_at_end : {T : Type 0} (a : EventsAsked) (source : Option (List ℕ)) (old new : LineReader) (had left before after : Option (List ℕ)) (session : Session) (done : T) → new.budget ≡ a.most_bytes →
     ((script : List ℕ) (texts : List (List ℕ)) → HasGiven old script had texts → HasTold new.budget script left texts None) →
     Goes a.schema a.queries source old had before after session → WrotePlay a source left before after {T = T} (Ok done)
 ends_at_end a source old new had left before after session done budget told g = record {
@@ -97,7 +98,7 @@ ends_at_end a source old new had left before after session done budget told g = 
       subst (λ n. PlaysTo a.schema a.queries n script g.bytes stop.End) budget (at_end a.schema a.queries new.budget script p.texts None g.machine g.bytes (told script p.texts p.given) p.played);
 }
 
-pub ends_for_line : (a : Asked) (source : Option (List ℕ)) (old new : LineReader) (had left before after : Option (List ℕ)) (session : Session) (why : LineFault) → new.budget ≡ a.most_bytes →
+pub ends_for_line : (a : EventsAsked) (source : Option (List ℕ)) (old new : LineReader) (had left before after : Option (List ℕ)) (session : Session) (why : LineFault) → new.budget ≡ a.most_bytes →
     ((script : List ℕ) (texts : List (List ℕ)) → HasGiven old script had texts → HasTold new.budget script left texts (Some why)) →
     Goes a.schema a.queries source old had before after session → WrotePlay a source left before after {T = Unit {0}} (Err (Fault (line_stop why)))
 ends_for_line a source old new had left before after session line.ReadFault budget told g = record {
@@ -125,7 +126,7 @@ ends_for_line a source old new had left before after session (line.InputTooLong 
 }
 
 -- the bytes of the line that was given last were cut off
-cut_off : (a : Asked) (source : Option (List ℕ)) (old new : LineReader) (had left before middle : Option (List ℕ)) (session : Session) (Took Whole : List ℕ → Type 0) → new.budget ≡ a.most_bytes →
+cut_off : (a : EventsAsked) (source : Option (List ℕ)) (old new : LineReader) (had left before middle : Option (List ℕ)) (session : Session) (Took Whole : List ℕ → Type 0) → new.budget ≡ a.most_bytes →
     ((script : List ℕ) (texts : List (List ℕ)) → HasGiven old script had texts → HasGiven new script left (texts ++ new.text ∷ [])) → (g : Goes a.schema a.queries source old had before middle session) →
     ((own : List ℕ) → Took own → Whole (g.bytes ++ own)) → BrokeOff a.schema a.queries new.text g.machine Took → WrotePart a source Whole
 cut_off a source old new had left before middle session Took Whole budget gives g more broke = record {
@@ -137,7 +138,7 @@ cut_off a source old new had left before middle session Took Whole budget gives 
 }
 
 -- the line that was given last ended the script
-pub ends_in_line : (a : Asked) (source : Option (List ℕ)) (old new : LineReader) (had left before middle after : Option (List ℕ)) (session now : Session) (why : OrMemory StreamFault) (number : ℕ) (text : List ℕ) →
+pub ends_in_line : (a : EventsAsked) (source : Option (List ℕ)) (old new : LineReader) (had left before middle after : Option (List ℕ)) (session now : Session) (why : OrMemory StreamFault) (number : ℕ) (text : List ℕ) →
     new.budget ≡ a.most_bytes → old.budget ≡ a.most_bytes → number ≡ new.number → text ≡ new.text →
     ((script : List ℕ) (texts : List (List ℕ)) → HasGiven old script had texts → HasGiven new script left (texts ++ new.text ∷ [])) → (g : Goes a.schema a.queries source old had before middle session) →
     LineEnded a.schema a.queries number text g.machine now middle after (Err why) → WrotePlay a source left before after {T = Unit {0}} (Err why)

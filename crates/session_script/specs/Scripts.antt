@@ -16,6 +16,7 @@ use Rattle.event_run.specs.Runs.{Stop, stop_of}
 use Rattle.event_run.specs.Runs as stop
 use Rattle.stream_answers.specs.declared.StreamFault.{StreamFault}
 use Rattle.stream_answers.specs.declared.StreamFault.TheVariants as fault
+use Rattle.stream_answers.specs.Streams.{EventsAsked}
 use Rattle.cursor_session.specs.declared.command.Command.{Command}
 use Rattle.cursor_session.specs.declared.command.CommandFault.{CommandFault}
 use Rattle.cursor_session.specs.declared.command.CommandFault.TheVariants as command
@@ -118,12 +119,6 @@ abbrev pub WritesRead : Declared → List Query → List ℕ → Option (List �
 WritesRead schema queries script None bytes = ⊥
 WritesRead schema queries script (Some rest) bytes = WritesBefore schema queries script rest bytes
 
--- the schema and the queries, and how many bytes are too many
-pub record Asked : Type 0 where
-  pub schema : Declared
-  pub queries : List Query
-  pub most_bytes : ℕ
-
 -- The sink took bytes so, and where the source told its own, this is what they are.
 pub record WroteOver (source : Option (List ℕ)) (Are : List ℕ → List ℕ → Type 0) (Took : List ℕ → Type 0) : Type 0 where
   pub bytes : List ℕ
@@ -131,15 +126,15 @@ pub record WroteOver (source : Option (List ℕ)) (Are : List ℕ → List ℕ �
   pub are : (script : List ℕ) → source ≡ Some script → Are script bytes
 
 -- it took all that the script writes, which stops so
-abbrev pub WroteAll : Asked → Option (List ℕ) → Stop → Option (List ℕ) → Option (List ℕ) → Type 0
+abbrev pub WroteAll : EventsAsked → Option (List ℕ) → Stop → Option (List ℕ) → Option (List ℕ) → Type 0
 WroteAll a source halt before after = WroteOver source (λ script bytes. PlaysTo a.schema a.queries a.most_bytes script bytes halt) (TookAll before after)
 
 -- it took a part of what the first lines write
-abbrev pub WrotePart : Asked → Option (List ℕ) → (List ℕ → Type 0) → Type 0
+abbrev pub WrotePart : EventsAsked → Option (List ℕ) → (List ℕ → Type 0) → Type 0
 WrotePart a source Took = WroteOver source (BeginsPlay a.schema a.queries a.most_bytes) Took
 
 -- what was written, up to the stop; of the lines that were read; a proper part after a fault of the sink; a first part where memory ran out
-abbrev pub WrotePlay : Asked → Option (List ℕ) → Option (List ℕ) → Option (List ℕ) → Option (List ℕ) → {T : Type 0} → Result T (OrMemory StreamFault) → Type 0
+abbrev pub WrotePlay : EventsAsked → Option (List ℕ) → Option (List ℕ) → Option (List ℕ) → Option (List ℕ) → {T : Type 0} → Result T (OrMemory StreamFault) → Type 0
 WrotePlay a source left before after (Ok done) = WroteAll a source stop.End before after
 WrotePlay a source left before after (Err (Fault (fault.Event line refused))) = WroteAll a source (stop.Event line refused) before after
 WrotePlay a source left before after (Err (Fault (fault.InputTooLong taken))) = WroteAll a source (stop.InputTooLong taken) before after

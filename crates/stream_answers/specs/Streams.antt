@@ -18,6 +18,12 @@ use Rattle.stream_answers.specs.Windows.{is_due, last_of, FollowsWindowsBy}
 use Rattle.stream_answers.specs.declared.StreamFault.{StreamFault}
 use Rattle.stream_answers.specs.declared.StreamFault.TheVariants as fault
 
+-- the schema and the queries, and how many bytes of events, or of a script, are too many
+pub record EventsAsked : Type 0 where
+  pub schema : Declared
+  pub queries : List Query
+  pub most_bytes : ℕ
+
 -- the schema and the queries, how lines are ordered, and how many bytes are too many
 pub record Asked : Type 0 where
   pub order : Order

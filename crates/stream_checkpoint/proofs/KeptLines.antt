@@ -31,7 +31,8 @@ use Rattle.checkpoint_text.specs.KeepLaws.{empty_keeper, KeepersKeep}
 use Rattle.checkpoint_text.specs.Streams.{stream_of}
 use Rattle.checkpoint_text.proofs.CameKeepers.{Keeps, none_kept, one_kept, one_level, one_falls, stream_more, all_of_schema}
 use Rattle.stream_answers.specs.Gathering.{stream_fault}
-use Rattle.stream_checkpoint.specs.Saved.{came_of, came_in, IsCheckpointOf, Asked, Wrote}
+use Rattle.stream_answers.specs.Streams.{EventsAsked}
+use Rattle.stream_checkpoint.specs.Saved.{came_of, came_in, IsCheckpointOf, Wrote}
 use Rattle.stream_checkpoint.specs.Lines.{AddsLine, StopsLine, HasKept, HasKeptAll}
 
 -- the events with one line more
@@ -183,7 +184,7 @@ stays schema text old new (inr some) =
     record { schema = ap (λ (k : Keeper). k.schema) is; queries = ap (λ (k : Keeper). k.queries) is; one_more = omega (arith, count) }
 
 -- the events were not read to their end, so nothing was written
-pub wrote_none : (T U : Type 0) (a : Asked) (source left taken : Option (List ℕ)) (stop : OrMemory RunFault) →
+pub wrote_none : (T U : Type 0) (a : EventsAsked) (source left taken : Option (List ℕ)) (stop : OrMemory RunFault) →
     OnFault {T = T} (Err stop) (λ fault. (bytes : List ℕ) → source ≡ Some bytes → StopsBy a.schema a.queries a.most_bytes bytes left fault) → Wrote a source left taken taken {T = U} (Err (stream_fault stop))
 wrote_none T U a source left taken Memory stops = refl
 wrote_none T U a source left taken (Fault run.ReadFault) stops = (refl, stops)

@@ -12,6 +12,7 @@ use Rattle.event_run.specs.Runs.{RunsTo}
 use Rattle.event_run.specs.Runs as stop
 use Rattle.stream_answers.specs.declared.StreamFault.{StreamFault}
 use Rattle.stream_answers.specs.AtEnd.{WroteAtEnd}
+use Rattle.stream_answers.specs.Streams.{EventsAsked}
 use Rattle.checkpoint_text.specs.Keeping.{checkpoint_text}
 use Rattle.checkpoint_text.specs.KeepLaws.{placed_lines, kept_lines}
 use Rattle.checkpoint_text.specs.Streams.{stream_of}
@@ -33,16 +34,10 @@ pub record IsCheckpointOf (schema : Declared) (queries : List Query) (most_bytes
   pub runs : RunsTo schema queries most_bytes bytes (stream_of came) stop.End
   pub spells : text ≡ checkpoint_text (length came) (kept_lines schema queries (placed_lines came))
 
--- the schema and the queries, and how many bytes are too many
-pub record Asked : Type 0 where
-  pub schema : Declared
-  pub queries : List Query
-  pub most_bytes : ℕ
-
 -- The text is the checkpoint of all events of a source that is read to its end.
-abbrev pub IsCheckpointOver : Asked → Option (List ℕ) → List ℕ → Type 0
+abbrev pub IsCheckpointOver : EventsAsked → Option (List ℕ) → List ℕ → Type 0
 IsCheckpointOver a source text = (lines : List ℕ) → source ≡ Some lines → IsCheckpointOf a.schema a.queries a.most_bytes lines text
 
 -- all of the checkpoint, or a proper part of it after a fault of the sink; else nothing
-abbrev pub Wrote : Asked → Option (List ℕ) → Option (List ℕ) → Option (List ℕ) → Option (List ℕ) → {T : Type 0} → Result T (OrMemory StreamFault) → Type 0
+abbrev pub Wrote : EventsAsked → Option (List ℕ) → Option (List ℕ) → Option (List ℕ) → Option (List ℕ) → {T : Type 0} → Result T (OrMemory StreamFault) → Type 0
 Wrote a source left before after result = WroteAtEnd a.schema a.queries a.most_bytes (IsCheckpointOver a source) source left before after result

@@ -10,3 +10,5 @@ pub mod WellDeclared
 pub mod Numbers
 -- the walk over the names of a stream's types
 pub mod Walks
+-- the table of an attribute's places, for callers of the crate too
+pub mod AttributePlaces

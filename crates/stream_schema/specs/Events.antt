@@ -1,5 +1,5 @@
 -- When an event is of a schema.
-use Rattle.std.specs.Prelude.{◌≡◌, List, [], ◌∷◌, slice_get, IsSomeAnd}
+use Rattle.std.specs.Prelude.{◌≡◌, ℕ, List, [], ◌∷◌, Option, None, option_and_then, slice_get, slice_index_or, IsSomeAnd}
 use Rattle.stream_schema.specs.Types.{Declared}
 use Rattle.stream_schema.specs.declared.Attr.{Attr}
 use Rattle.stream_schema.specs.declared.Event.{Event}
@@ -25,3 +25,7 @@ AreOfAttrs _ _ = ⊥
 -- the event's type is declared, and its values are those of the type's attributes
 abbrev pub IsOfSchema : Declared → Event → Type 0
 IsOfSchema schema event = IsSomeAnd (slice_get schema.types event.ty) (λ t. AreOfAttrs t.attrs event.values)
+
+-- the event's value at the place that its type has in the table
+abbrev pub value_in : List (Option ℕ) → Event → Option Value
+value_in places event = option_and_then (λ i. slice_get event.values i) (slice_index_or places event.ty None)

@@ -15,10 +15,12 @@ mod copies;
 mod declarations;
 mod names;
 mod number;
+mod places;
 mod registry;
 
 pub use compare::{are_alike, is_met_by, kind_of, same_value};
 pub use copies::{copy_event, copy_value, copy_values};
+pub use places::{places_of, value_in};
 pub use registry::Schema;
 
 /// The number of a declared type, from 0 in the order of declaration.

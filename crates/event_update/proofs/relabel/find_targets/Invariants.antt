@@ -1,5 +1,5 @@
 use Rattle.std.proofs.Common.{take}
-use Rattle.event_update.specs.Update.{GoTo}
+use Rattle.cea_determinise.specs.Rows.{GoTo}
 use Rattle.event_update.proofs.relabel.find_targets.Given as goal
 
 -- the lists of the first k moves go to the states so far

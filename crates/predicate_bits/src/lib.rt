@@ -7,8 +7,8 @@
 
 mod conditions;
 mod groups;
-mod holding;
+pub mod holding;
 pub mod ranges;
-mod settling;
+pub mod settling;
 
 pub use conditions::Conditions;

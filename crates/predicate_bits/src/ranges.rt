@@ -145,7 +145,7 @@ fn range_of_test(test: &Test) -> Range
 }
 
 /// The range that the first of the tests asks for.
-fn range_of(tests: &[Test]) -> Range
+pub fn range_of(tests: &[Test]) -> Range
     ensures { AsksFor result (each_holds tests.now) }
 {
     match tests.first() {

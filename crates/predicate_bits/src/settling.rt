@@ -75,7 +75,7 @@ fn settles_joined(range: &Range, test: &Test) -> bool
 }
 
 /// Whether the range settles each of a leaf's tests.
-fn settles_each(range: &Range, tests: &[Test]) -> bool
+pub fn settles_each(range: &Range, tests: &[Test]) -> bool
     ensures { result ≡ true → Settles range.now (each_holds tests.now) }
 {
     for test in tests {

@@ -37,7 +37,7 @@ leaf_there schema None event e = absurd (false≢true e)
 leaf_there schema (Some o) event e = (o, refl, e)
 
 -- and no leaf of their queries can read the event
-pub unread_marked : (schema : Declared) (queries : List Query) (count : ℕ) (parts : List Phase) (table : Table) (awake marks marked : List Bool) (event : Event) → queries ≡ map (λ (p : Phase). p.query) (map (seen count) parts) → All (λ (p : Phase). p.schema ≡ schema) parts → IsWatching schema queries count parts table awake marks → ((k : ℕ) → HasRow table.rows k event → has marked k ≡ true) → AreUnread (seen count) event marked parts
+pub unread_marked : (schema : Declared) (queries : List Query) (count : ℕ) (parts : List Phase) (table : Table) (awake marks marked : List Bool) (event : Event) → queries ≡ map (λ (p : Phase). p.query) (map (seen count) parts) → All (λ (p : Phase). p.schema ≡ schema) parts → IsWatching schema queries count parts table awake marks → ((k : ℕ) → HasRow table.rows table.leaves k event → has marked k ≡ true) → AreUnread (seen count) event marked parts
 unread_marked schema queries count parts table awake marks marked event queries_is schemas h marks_all k p at out j = by (leaves_reading p.schema p.query event j) refl
   where
     q_at : slice_get queries k ≡ Some p.query
@@ -54,7 +54,7 @@ unread_marked schema queries count parts table awake marks marked event queries_
 -- what is known of the same queries stays
 pub watching_same : (schema : Declared) (old new : List Query) (count later : ℕ) (parts after : List Phase) (table same_table : Table) (awake marked more marks : List Bool) → new ≡ old → same_table ≡ table → length more ≡ length awake → length marks ≡ length marked → AreLeft seen later more after → IsWatching schema old count parts table awake marked → IsWatching schema new later after same_table more marks
 watching_same schema old new count later parts after table same_table awake marked more marks is table_is room sets left h = record {
-  watch = subst (λ (t : Table). IsWatch schema new t.rows) (sym table_is) (subst (λ qs. IsWatch schema qs table.rows) (sym is) h.watch);
+  watch = subst (λ (t : Table). IsWatch schema new t.rows t.leaves) (sym table_is) (subst (λ qs. IsWatch schema qs table.rows table.leaves) (sym is) h.watch);
   queries_are = ap (λ (t : Table). t.count) table_is ∙ (h.queries_are ∙ ap length (sym is));
   room = room ∙ (h.room ∙ ap (λ qs. room_for (length qs)) (sym is));
   sets = sets ∙ (h.sets ∙ sym room);
@@ -101,12 +101,12 @@ parts_within schema queries count many parts table awake marked is many_is h =
     omega arith
 
 -- before any event
-pub watching_first : (schema : Declared) (queries given : List Query) (parts : List Phase) (table : Table) (awake marked : List Bool) → queries ≡ given → queries ≡ map (λ (p : Phase). p.query) (map (seen 0) parts) → IsWatch schema given table.rows → table.count ≡ length given → length awake ≡ room_for (length given) → length marked ≡ length awake → ((k : ℕ) → k < length given → has awake k ≡ true) → All (IsFirst schema) parts → IsWatching schema queries 0 parts table awake marked
+pub watching_first : (schema : Declared) (queries given : List Query) (parts : List Phase) (table : Table) (awake marked : List Bool) → queries ≡ given → queries ≡ map (λ (p : Phase). p.query) (map (seen 0) parts) → IsWatch schema given table.rows table.leaves → table.count ≡ length given → length awake ≡ room_for (length given) → length marked ≡ length awake → ((k : ℕ) → k < length given → has awake k ≡ true) → All (IsFirst schema) parts → IsWatching schema queries 0 parts table awake marked
 watching_first schema queries given parts table awake marked is are watch count room sets all first =
     let l : length queries ≡ length parts = ap length are ∙ (length_map (λ (p : Phase). p.query) (map (seen 0) parts) ∙ length_map (seen 0) parts) in
     let m : length queries ≡ length given = ap length is in
     record {
-      watch = subst (λ qs. IsWatch schema qs table.rows) (sym is) watch;
+      watch = subst (λ qs. IsWatch schema qs table.rows table.leaves) (sym is) watch;
       queries_are = count ∙ sym m;
       room = room ∙ ap room_for (sym m);
       sets = sets;

@@ -25,7 +25,8 @@ pub struct Watching {
 impl Watching {
     /// That of the queries, none of whose parts is known to rest.
     pub fn of(alloc: Global, schema: &Schema, queries: &[Query]) -> Result<Watching, Memory>
-        ensures watch { IfOk result (λ w. IsWatch schema.now queries.now w.watch.rows) }
+        ensures watch { IfOk result (λ w. IsWatch schema.now queries.now w.watch.rows
+            w.watch.leaves) }
         ensures count { IfOk result (λ w. w.watch.count ≡ length queries.now) }
         ensures room { IfOk result (λ w. length w.awake ≡ room_for (length queries.now)) }
         ensures sets { IfOk result (λ w. length w.marked ≡ length w.awake) }
@@ -49,8 +50,8 @@ impl Watching {
     pub fn mark(&mut self, event: &Event)
         requires room { self.old.watch.count ≤ length self.old.marked }
         requires sets { length self.old.marked ≡ length self.old.awake }
-        ensures marked { (k : ℕ) → HasRow self.old.watch.rows k event.now
-            → has self.new.marked k ≡ true }
+        ensures marked { (k : ℕ) → HasRow self.old.watch.rows self.old.watch.leaves k
+            event.now → has self.new.marked k ≡ true }
         ensures awake { (k : ℕ) → has self.old.awake k ≡ true → has self.new.marked k ≡ true }
         ensures same { (self.new.watch ≡ self.old.watch) × (self.new.awake ≡ self.old.awake) }
         ensures sets { length self.new.marked ≡ length self.old.marked }

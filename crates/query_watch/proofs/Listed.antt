@@ -1,22 +1,24 @@
 -- Rows that are put in, and looked at.
-use Rattle.std.proofs.Common.{◌≡◌, refl, sym, ap, subst, ◌∙◌, ℕ, zero, suc, ◌+◌, ◌<◌, ◌≤◌, inl, inr, Bool, true, false, ◌||◌, eqb, List, [], ◌∷◌, ◌++◌, length, Some, None, Vec, slice_get, slice_index_or, slice_set, Contains, All, arith}
+use Rattle.std.proofs.Common.{◌≡◌, refl, sym, ap, subst, ◌∙◌, ℕ, zero, suc, ◌+◌, ◌<◌, ◌≤◌, ◌⊎◌, inl, inr, Bool, true, false, ◌||◌, eqb, List, [], ◌∷◌, ◌++◌, length, take, Some, None, Vec, slice_get, slice_index_or, slice_set, Contains, All, arith}
 use Rattle.std.specs.declared.alloc.Global.{Global}
-use Rattle.std.proofs.lemmas.Bool.{cases_lt, cases_eq, eq-eqb, eqb-true, false≢true, and_parts, or_left, or_right}
-use Rattle.std.proofs.lemmas.List.Elements.{Contains-append_left, Contains-push, Contains-push_cases, Contains-get_or}
-use Rattle.std.proofs.lemmas.List.{get_or_default}
-use Rattle.std.proofs.lemmas.Option.{slice_get_within, slice_get-get_or}
+use Rattle.std.proofs.lemmas.Bool.{cases_lt, cases_eq, eq-eqb, eqb-true, false≢true, and_parts, or_cases, or_left, or_right}
+use Rattle.std.proofs.lemmas.List.Elements.{All-nil, All-push, All-weaker, Contains-append_left, Contains-append_right, Contains-append_cases, Contains-push, Contains-push_cases, Contains-get_or, All-get_or}
+use Rattle.std.proofs.lemmas.List.{get_or_default, get_or_push, take_more, take_all}
+use Rattle.std.proofs.lemmas.Option.{slice_get_within, slice_get-get_or, get_or_from_slice_get}
 use Rattle.cer_base.specs.Bits.{has}
 use Rattle.stream_schema.specs.Types.{Declared}
 use Rattle.stream_schema.specs.declared.Event.{Event}
 use Rattle.cel_terms.specs.declared.Query.{Query}
 use Rattle.query_leaves.specs.declared.Leaf.{Leaf}
+use Rattle.query_leaves.specs.declared.Test.{Test}
 use Rattle.query_leaves.specs.Expand.{Occurrence, tree_of}
 use Rattle.query_leaves.specs.Leaves.{occurrences}
 use Rattle.query_leaves.specs.Shapes.{each_holds, leaf_reads, IsLeafOf, AreLeavesOf}
 use Rattle.predicate_bits.specs.declared.ranges.Range.{Range}
-use Rattle.predicate_bits.specs.Ranges.{AsksFor, AreRangesOf}
+use Rattle.predicate_bits.specs.Ranges.{AsksFor, Settles}
 use Rattle.query_watch.specs.declared.rows.Row.{Row}
-use Rattle.query_watch.specs.Rows.{Table, rows_of, IsListed, HasPut, HasAdded, HasLeafRow, HaveRows, HasRow, IsWatched, IsWatch, AreBelow, AreMarked}
+use Rattle.query_watch.specs.declared.rows.Watched.{Watched}
+use Rattle.query_watch.specs.Rows.{Table, rows_of, IsListed, HasPut, HasAdded, IsRangeOf, IsRowOf, HasLeafRow, HaveRows, HaveReader, HasRow, IsWatched, IsWatch, IsRowBelow, AreBelow, Marks}
 
 -- a list with nothing in it, put in last, changes no list
 pub same_more : (vs : List (Vec Row Global)) (v : Vec Row Global) → v.items ≡ [] → (t : ℕ) → slice_index_or (rows_of (vs ++ v ∷ [])) t [] ≡ slice_index_or (rows_of vs) t []
@@ -74,50 +76,71 @@ put_after ty row old grown new same h = record {
   ];
 }
 
-pub added_none : (query : ℕ) (rows : List (List Row)) → HasAdded query rows rows
-added_none query rows = record { kept = λ t r h. h; only = λ t r h. inl h }
+-- a leaf that is put in last, and those before it
+pub last_leaf : (had have : List Watched) (l : Watched) → have ≡ had ++ l ∷ [] → slice_get have (length had) ≡ Some l
+last_leaf [] have l is = ap (λ ls. slice_get ls 0) is
+last_leaf (x ∷ had) have l is = ap (λ ls. slice_get ls (suc (length had))) is ∙ last_leaf had (had ++ l ∷ []) l refl
 
-pub added_more : (query ty : ℕ) (row : Row) (old mid new : List (List Row)) → row.query ≡ query → HasAdded query old mid → HasPut ty row mid new → HasAdded query old new
-added_more query ty row old mid new is h p = record {
-  kept = λ t r was. p.kept t r (h.kept t r was);
+before_last : (had : List Watched) (l x : Watched) (k : ℕ) → slice_get had k ≡ Some x → slice_get (had ++ l ∷ []) k ≡ Some x
+before_last [] l x k at = absurd cc
+before_last (y ∷ had) l x zero at = at
+before_last (y ∷ had) l x (suc k) at = before_last had l x k at
+
+pub added_none : (query : ℕ) (rows : List (List Row)) (leaves : List Watched) → HasAdded query rows leaves rows leaves
+added_none query rows leaves = record { kept = λ t r h. h; leaves = λ k l at. at; only = λ t r h. inl h }
+
+row_kept : (query : ℕ) (had have : List Watched) (row : Row) → ((k : ℕ) (l : Watched) → slice_get had k ≡ Some l → slice_get have k ≡ Some l) → IsRowOf query had row → IsRowOf query have row
+row_kept query had have row kept h = record { leaf = h.leaf; at = kept row.leaf h.leaf h.at; range = h.range; numbered = h.numbered }
+
+-- one leaf and its row
+pub added_leaf : (query ty : ℕ) (row : Row) (leaf : Watched) (old new : List (List Row)) (had have : List Watched) → have ≡ had ++ leaf ∷ [] → row.leaf ≡ length had → leaf.query ≡ query → IsRangeOf row.range leaf → HasPut ty row old new → HasAdded query old had new have
+added_leaf query ty row leaf old new had have is numbered of range p = record {
+  kept = p.kept;
+  leaves = λ k l at. subst (λ ls. slice_get ls k ≡ Some l) (sym is) (before_last had leaf l k at);
   only = λ t r now. elim (p.only t r now) [
-    | inl mid_is ↦ h.only t r mid_is
-    | inr one ↦ inr (ap (λ (x : Row). x.query) (sym one) ∙ is)
+    | inl was ↦ inl was
+    | inr one ↦ inr (subst (IsRowOf query have) one (record { leaf = leaf; at = ap (slice_get have) numbered ∙ last_leaf had have leaf is; range = range; numbered = of }))
   ];
 }
 
-leaf_kept : (query : ℕ) (old new : List (List Row)) (l : Leaf) → ((t : ℕ) (r : Row) → IsListed old t r → IsListed new t r) → HasLeafRow query old l → HasLeafRow query new l
-leaf_kept query old new l kept h = record { row = h.row; listed = kept l.ty h.row h.listed; numbered = h.numbered; asks = h.asks }
+pub leaf_row : (query : ℕ) (row : Row) (leaf : Watched) (l : Leaf) (old new : List (List Row)) (had have : List Watched) → have ≡ had ++ leaf ∷ [] → row.leaf ≡ length had → leaf.query ≡ query → leaf.tests.items ≡ l.tests.items → HasPut l.ty row old new → HasLeafRow query new have l
+leaf_row query row leaf l old new had have is numbered of tests p = record {
+  row = row;
+  listed = p.more;
+  leaf = leaf;
+  at = ap (slice_get have) numbered ∙ last_leaf had have leaf is;
+  numbered = of;
+  tests = tests;
+}
 
--- The leaves before a number have their rows.
-pub record HaveRowsUpTo (k query : ℕ) (list : List Leaf) (rows : List (List Row)) : Type 0 where
-  pub each : (j : ℕ) (l : Leaf) → j < k → slice_get list j ≡ Some l → HasLeafRow query rows l
-
-pub rows_none : (query : ℕ) (list : List Leaf) (rows : List (List Row)) → HaveRowsUpTo 0 query list rows
-rows_none query list rows = record { each = λ j l less. absurd (omega arith) }
-
-pub rows_next : (k query : ℕ) (list : List Leaf) (ranges : List Range) (x : Leaf) (d : Range) (old new : List (List Row)) → AreRangesOf list ranges → k < length list → HaveRowsUpTo k query list old → HasPut (slice_index_or list k x).ty (record { range = slice_index_or ranges k d; query = query }) old new → HaveRowsUpTo (k + 1) query list new
-rows_next k query list ranges x d old new of less h p = record {
-  each = λ j l below at. elim (cases_lt j k) [
-    | inl low ↦ leaf_kept query old new l p.kept (h.each j l low at)
-    | inr high ↦ (
-        let same : j ≡ k = omega arith in
-        let count = of.count in
-        let there = slice_get-get_or list k x less in
-        let one : slice_index_or list k x ≡ l = (let both = sym (subst (λ i. slice_get list i ≡ Some l) same at) ∙ there in cc) in
-        let found : slice_get ranges k ≡ Some (slice_index_or ranges k d) = slice_get-get_or ranges k d (omega arith) in
-        subst (HasLeafRow query new) one (record {
-          row = record { range = slice_index_or ranges k d; query = query };
-          listed = p.more;
-          numbered = refl;
-          asks = of.each k (slice_index_or list k x) (slice_index_or ranges k d) there found;
-        })
-        )
+pub added_more : (query : ℕ) (old mid new : List (List Row)) (a b c : List Watched) → HasAdded query old a mid b → HasAdded query mid b new c → HasAdded query old a new c
+added_more query old mid new a b c h p = record {
+  kept = λ t r was. p.kept t r (h.kept t r was);
+  leaves = λ k l at. p.leaves k l (h.leaves k l at);
+  only = λ t r now. elim (p.only t r now) [
+    | inl mid_is ↦ elim (h.only t r mid_is) [
+      | inl was ↦ inl was
+      | inr one ↦ inr (row_kept query b c r p.leaves one)
+    ]
+    | inr one ↦ inr one
   ];
 }
 
-pub rows_all : (k query : ℕ) (list : List Leaf) (rows : List (List Row)) → length list ≤ k → HaveRowsUpTo k query list rows → HaveRows query list rows
-rows_all k query list rows end h j l at = let less = slice_get_within list j l at in h.each j l (omega arith) at
+leaf_kept : (query other : ℕ) (old new : List (List Row)) (had have : List Watched) (l : Leaf) → HasAdded other old had new have → HasLeafRow query old had l → HasLeafRow query new have l
+leaf_kept query other old new had have l added h = record { row = h.row; listed = added.kept l.ty h.row h.listed; leaf = h.leaf; at = added.leaves h.row.leaf h.leaf h.at; numbered = h.numbered; tests = h.tests }
+
+-- the range of a leaf's tests, as the code reads them
+pub range_of_leaf : (query : ℕ) (range : Range) (settled : Bool) (tests : Vec Test Global) (xs ys : List Test) → xs ≡ tests.items → ys ≡ tests.items → AsksFor range (each_holds xs) → (settled ≡ true → Settles range (each_holds ys)) → IsRangeOf range (record { query = query; settled = settled; tests = tests })
+range_of_leaf query range settled tests xs ys x_is y_is asks settles = record {
+  asks = subst (λ ts. AsksFor range (each_holds ts)) x_is asks;
+  settles = λ is. subst (λ ts. Settles range (each_holds ts)) y_is (settles is);
+}
+
+pub rows_none : (query : ℕ) (rows : List (List Row)) (leaves : List Watched) → HaveRows query [] rows leaves
+rows_none query rows leaves = All-nil (HasLeafRow query rows leaves)
+
+pub rows_next : (query : ℕ) (list : List Leaf) (l : Leaf) (old new : List (List Row)) (had have : List Watched) → HaveRows query list old had → HasAdded query old had new have → HasLeafRow query new have l → HaveRows query (list ++ l ∷ []) new have
+rows_next query list l old new had have h added one = All-push (HasLeafRow query new have) list l (All-weaker (HasLeafRow query old had) (HasLeafRow query new have) (λ x was. leaf_kept query query old new had have x added was) list h) one
 
 -- the leaf of an occurrence
 leaf_there : (schema : Declared) (os : List Occurrence) (ls : List Leaf) (k : ℕ) (o : Occurrence) → AreLeavesOf schema os ls → slice_get os k ≡ Some o → (l : Leaf) × (slice_get ls k ≡ Some l) × IsLeafOf schema o l
@@ -127,117 +150,169 @@ leaf_there schema (x ∷ os) (l ∷ ls) zero o of at = let same : x ≡ o = cc i
 leaf_there schema (x ∷ os) (l ∷ ls) (suc k) o of at = leaf_there schema os ls k o of.1 at
 
 -- where each leaf has its row, the query is watched
-pub watched : (schema : Declared) (q : Query) (number : ℕ) (list : List Leaf) (rows : List (List Row)) → AreLeavesOf schema (occurrences (tree_of q)) list → HaveRows number list rows → IsWatched schema q number rows
-watched schema q number list rows of have event k o at reads =
+pub watched : (schema : Declared) (q : Query) (number : ℕ) (list : List Leaf) (rows : List (List Row)) (leaves : List Watched) → AreLeavesOf schema (occurrences (tree_of q)) list → HaveRows number list rows leaves → IsWatched schema q number rows leaves
+watched schema q number list rows leaves of have event k o at reads =
     let l = leaf_there schema (occurrences (tree_of q)) list k o of at in
-    let h = have k l.0 l.1 in
+    let less = slice_get_within list k l.0 l.1 in
+    let h : HasLeafRow number rows leaves l.0 = subst (HasLeafRow number rows leaves) (get_or_from_slice_get list k l.0 l.0 l.1) (All-get_or (HasLeafRow number rows leaves) list k l.0 less have) in
     let does : leaf_reads l.0 event ≡ true = l.2.reads event ∙ reads in
-    let type : l.0.ty ≡ event.ty = eqb-true l.0.ty event.ty (and_parts (eqb l.0.ty event.ty) (each_holds l.0.tests.items event) does).0 in
+    let both = and_parts (eqb l.0.ty event.ty) (each_holds l.0.tests.items event) does in
+    let type : l.0.ty ≡ event.ty = eqb-true l.0.ty event.ty both.0 in
     record {
       row = h.row;
       listed = subst (λ t. IsListed rows t h.row) type h.listed;
+      leaf = h.leaf;
+      at = h.at;
       numbered = h.numbered;
-      holds = each_holds l.0.tests.items;
-      asks = h.asks;
-      does = (and_parts (eqb l.0.ty event.ty) (each_holds l.0.tests.items event) does).1;
+      holds = ap (λ ts. each_holds ts event) h.tests ∙ both.1;
     }
 
 -- rows of another query leave a query watched
-pub watched_kept : (schema : Declared) (q : Query) (number other : ℕ) (old new : List (List Row)) → HasAdded other old new → IsWatched schema q number old → IsWatched schema q number new
-watched_kept schema q number other old new added h event k o at reads =
+pub watched_kept : (schema : Declared) (q : Query) (number other : ℕ) (old new : List (List Row)) (had have : List Watched) → HasAdded other old had new have → IsWatched schema q number old had → IsWatched schema q number new have
+watched_kept schema q number other old new had have added h event k o at reads =
     let was = h event k o at reads in
-    record { row = was.row; listed = added.kept event.ty was.row was.listed; numbered = was.numbered; holds = was.holds; asks = was.asks; does = was.does }
+    record { row = was.row; listed = added.kept event.ty was.row was.listed; leaf = was.leaf; at = added.leaves was.row.leaf was.leaf was.at; numbered = was.numbered; holds = was.holds }
 
 -- The queries before a number are watched.
-pub record IsWatchUpTo (k : ℕ) (schema : Declared) (queries : List Query) (rows : List (List Row)) : Type 0 where
-  pub each : (j : ℕ) (q : Query) → j < k → slice_get queries j ≡ Some q → IsWatched schema q j rows
-  pub below : AreBelow k rows
+pub record IsWatchUpTo (k : ℕ) (schema : Declared) (queries : List Query) (rows : List (List Row)) (leaves : List Watched) : Type 0 where
+  pub each : (j : ℕ) (q : Query) → j < k → slice_get queries j ≡ Some q → IsWatched schema q j rows leaves
+  pub below : AreBelow k rows leaves
 
 nothing_listed : (t : ℕ) (r : Row) → IsListed [] t r → ⊥
 nothing_listed zero r h = (let l = h.1 in omega arith)
 nothing_listed (suc t) r h = (let l = h.1 in omega arith)
 
-pub watch_none : (schema : Declared) (queries : List Query) (rows : List (List Row)) → rows ≡ [] → IsWatchUpTo 0 schema queries rows
-watch_none schema queries rows none = record {
+pub watch_none : (schema : Declared) (queries : List Query) (rows : List (List Row)) (leaves : List Watched) → rows ≡ [] → IsWatchUpTo 0 schema queries rows leaves
+watch_none schema queries rows leaves none = record {
   each = λ j q less. absurd (omega arith);
   below = λ t r h. absurd (nothing_listed t r (subst (λ rs. IsListed rs t r) none h));
 }
 
-pub watch_next : (k : ℕ) (schema : Declared) (queries : List Query) (q : Query) (old new : List (List Row)) → k < length queries → q ≡ slice_index_or queries k q → IsWatchUpTo k schema queries old → IsWatched schema q k new → HasAdded k old new → IsWatchUpTo (k + 1) schema queries new
-watch_next k schema queries q old new less here h watched added = record {
+pub watch_next : (k : ℕ) (schema : Declared) (queries : List Query) (q : Query) (old new : List (List Row)) (had have : List Watched) → k < length queries → q ≡ slice_index_or queries k q → IsWatchUpTo k schema queries old had → IsWatched schema q k new have → HasAdded k old had new have → IsWatchUpTo (k + 1) schema queries new have
+watch_next k schema queries q old new had have less here h watched added = record {
   each = λ j p below at. elim (cases_lt j k) [
-    | inl low ↦ watched_kept schema p j k old new added (h.each j p low at)
+    | inl low ↦ watched_kept schema p j k old new had have added (h.each j p low at)
     | inr high ↦ (
         let same : k ≡ j = omega arith in
         let there = slice_get-get_or queries k q less in
         let one : q ≡ p = (let both = sym (subst (λ i. slice_get queries i ≡ Some p) (sym same) at) ∙ there in cc) in
-        subst (λ i. IsWatched schema p i new) same (subst (λ z. IsWatched schema z k new) one watched)
+        subst (λ i. IsWatched schema p i new have) same (subst (λ z. IsWatched schema z k new have) one watched)
         )
   ];
   below = λ t r now. elim (added.only t r now) [
-    | inl was ↦ (let low = h.below t r was in omega arith)
-    | inr is ↦ omega arith
-  ];
-}
-
-pub watch_all : (k : ℕ) (schema : Declared) (queries : List Query) (rows : List (List Row)) → length queries ≤ k → IsWatchUpTo k schema queries rows → IsWatch schema queries rows
-watch_all k schema queries rows end h j q at = let less = slice_get_within queries j q at in h.each j q (omega arith) at
-
-pub below_all : (k : ℕ) (schema : Declared) (queries : List Query) (rows : List (List Row)) → k ≤ length queries → IsWatchUpTo k schema queries rows → AreBelow (length queries) rows
-below_all k schema queries rows le h t r now = let low = h.below t r now in omega arith
-
--- What is marked once the rows before a number were looked at.
-pub record AreMarkedUpTo (i : ℕ) (rows : List Row) (event : Event) (before now : List Bool) : Type 0 where
-  pub marked : (j : ℕ) (d : Row) (holds : Event → Bool) → j < i → j < length rows → AsksFor (slice_index_or rows j d).range holds → holds event ≡ true → has now (slice_index_or rows j d).query ≡ true
-  pub kept : (k : ℕ) → has before k ≡ true → has now k ≡ true
-  pub room : length now ≡ length before
-
-pub marked_none : (rows : List Row) (event : Event) (set : List Bool) → AreMarkedUpTo 0 rows event set set
-marked_none rows event set = record { marked = λ j d holds less. absurd (omega arith); kept = λ k is. is; room = refl }
-
--- a row in whose range the event may be
-pub marked_next : (i : ℕ) (rows : List Row) (event : Event) (before now after : List Bool) (e : Row) → i < length rows → ((j : ℕ) → has after j ≡ (eqb j (slice_index_or rows i e).query || has now j)) → length after ≡ length now → AreMarkedUpTo i rows event before now → AreMarkedUpTo (i + 1) rows event before after
-marked_next i rows event before now after e inside members room h = record {
-  marked = λ j d holds less within asks does. elim (cases_lt j i) [
-    | inl low ↦ members (slice_index_or rows j d).query ∙ or_right (eqb (slice_index_or rows j d).query (slice_index_or rows i e).query) (has now (slice_index_or rows j d).query) (h.marked j d holds low within asks does)
-    | inr high ↦ (
-        let same : j ≡ i = omega arith in
-        let one : slice_index_or rows j d ≡ slice_index_or rows i e = ap (λ x. slice_index_or rows x d) same ∙ get_or_default rows i d e inside in
-        members (slice_index_or rows j d).query ∙ or_left (eqb (slice_index_or rows j d).query (slice_index_or rows i e).query) (has now (slice_index_or rows j d).query) (eq-eqb (slice_index_or rows j d).query (slice_index_or rows i e).query (ap (λ (r : Row). r.query) one))
+    | inl was ↦ (
+        let b = h.below t r was in
+        let low = b.below in
+        record { query = b.query; of = row_kept b.query had have r added.leaves b.of; below = omega arith }
         )
+    | inr is ↦ record { query = k; of = is; below = omega arith }
   ];
-  kept = λ k is. members k ∙ or_right (eqb k (slice_index_or rows i e).query) (has now k) (h.kept k is);
-  room = room ∙ h.room;
 }
 
--- and one in whose range it is not
-pub marked_past : (i : ℕ) (rows : List Row) (event : Event) (before now : List Bool) (e : Row) → i < length rows → ((holds : Event → Bool) → AsksFor (slice_index_or rows i e).range holds → holds event ≡ false) → AreMarkedUpTo i rows event before now → AreMarkedUpTo (i + 1) rows event before now
-marked_past i rows event before now e inside none h = record {
-  marked = λ j d holds less within asks does. elim (cases_lt j i) [
-    | inl low ↦ h.marked j d holds low within asks does
-    | inr high ↦ (
-        let same : j ≡ i = omega arith in
-        let one : slice_index_or rows j d ≡ slice_index_or rows i e = ap (λ x. slice_index_or rows x d) same ∙ get_or_default rows i d e inside in
-        absurd (false≢true (sym (none holds (subst (λ (r : Row). AsksFor r.range holds) one asks)) ∙ does))
-        )
+pub watch_all : (k : ℕ) (schema : Declared) (queries : List Query) (rows : List (List Row)) (leaves : List Watched) → length queries ≤ k → IsWatchUpTo k schema queries rows leaves → IsWatch schema queries rows leaves
+watch_all k schema queries rows leaves end h j q at = let less = slice_get_within queries j q at in h.each j q (omega arith) at
+
+pub below_all : (k : ℕ) (schema : Declared) (queries : List Query) (rows : List (List Row)) (leaves : List Watched) → k ≤ length queries → IsWatchUpTo k schema queries rows leaves → AreBelow (length queries) rows leaves
+below_all k schema queries rows leaves le h t r now =
+    let b = h.below t r now in
+    let low = b.below in
+    record { query = b.query; of = b.of; below = omega arith }
+
+only_one : (row r : Row) → Contains (row ∷ []) r → row ≡ r
+only_one row r h = elim (Contains-push_cases [] row r h) [
+  | inl none ↦ absurd (let l = none.1 in omega arith)
+  | inr is ↦ is
+]
+
+-- the leaf of the row that reads
+same_leaf : (row : Row) (leaves : List Watched) (query : ℕ) (event : Event) (leaf : Watched) → slice_get leaves row.leaf ≡ Some leaf → (h : HaveReader (row ∷ []) leaves query event) → leaf ≡ h.leaf
+same_leaf row leaves query event leaf at h =
+    let there : slice_get leaves row.leaf ≡ Some h.leaf = subst (λ (r : Row). slice_get leaves r.leaf ≡ Some h.leaf) (sym (only_one row h.row h.listed)) h.at in
+    let both = sym at ∙ there in
+    cc
+
+-- the leaf of a row as the code reads it
+pub leaf_inside : (count : ℕ) (leaves : List Watched) (row : Row) → IsRowBelow count leaves row → row.leaf < length leaves
+leaf_inside count leaves row h = slice_get_within leaves row.leaf h.of.leaf h.of.at
+
+pub leaf_read : (count : ℕ) (leaves : List Watched) (row : Row) (d : Watched) → IsRowBelow count leaves row → slice_get leaves row.leaf ≡ Some (slice_index_or leaves row.leaf d)
+leaf_read count leaves row d h = slice_get-get_or leaves row.leaf d (leaf_inside count leaves row h)
+
+pub range_read : (count : ℕ) (leaves : List Watched) (row : Row) (d : Watched) → IsRowBelow count leaves row → IsRangeOf row.range (slice_index_or leaves row.leaf d)
+range_read count leaves row d h = subst (IsRangeOf row.range) (sym (get_or_from_slice_get leaves row.leaf h.of.leaf d h.of.at)) h.of.range
+
+pub number_read : (count : ℕ) (leaves : List Watched) (row : Row) (d : Watched) → IsRowBelow count leaves row → (slice_index_or leaves row.leaf d).query < count
+number_read count leaves row d h =
+    let same : (slice_index_or leaves row.leaf d).query ≡ h.of.leaf.query = ap (λ (l : Watched). l.query) (get_or_from_slice_get leaves row.leaf h.of.leaf d h.of.at) in
+    let of = h.of.numbered in
+    let low = h.below in
+    omega arith
+
+-- a row whose leaf reads the event
+pub marks_row : (row : Row) (leaves : List Watched) (event : Event) (before after : List Bool) (leaf : Watched) → slice_get leaves row.leaf ≡ Some leaf → each_holds leaf.tests.items event ≡ true → ((j : ℕ) → has after j ≡ (eqb j leaf.query || has before j)) → length after ≡ length before → Marks (row ∷ []) leaves event before after
+marks_row row leaves event before after leaf at holds members room = record {
+  marked = λ k h. members k ∙ or_left (eqb k leaf.query) (has before k) (eq-eqb k leaf.query (sym h.numbered ∙ ap (λ (l : Watched). l.query) (sym (same_leaf row leaves k event leaf at h))));
+  only = λ k is. elim (or_cases (eqb k leaf.query) (has before k) (sym (members k) ∙ is)) [
+    | inl one ↦ inr (record { row = row; listed = Contains-push [] row; leaf = leaf; at = at; numbered = sym (eqb-true k leaf.query one); holds = holds })
+    | inr was ↦ inl was
   ];
-  kept = h.kept;
-  room = h.room;
+  kept = λ k is. members k ∙ or_right (eqb k leaf.query) (has before k) is;
+  room = room;
 }
 
-pub marked_all : (i : ℕ) (rows : List Row) (event : Event) (before now : List Bool) → length rows ≤ i → AreMarkedUpTo i rows event before now → AreMarked rows event now
-marked_all i rows event before now end h r holds listed asks does =
-    let at = listed.2 in
-    let less = listed.1 in
-    subst (λ (x : Row). has now x.query ≡ true) at (h.marked listed.0 r holds (omega arith) less (subst (λ (x : Row). AsksFor x.range holds) (sym at) asks) does)
+-- one whose leaf does not
+pub marks_not : (row : Row) (leaves : List Watched) (event : Event) (set : List Bool) (leaf : Watched) → slice_get leaves row.leaf ≡ Some leaf → each_holds leaf.tests.items event ≡ false → Marks (row ∷ []) leaves event set set
+marks_not row leaves event set leaf at fails = record {
+  marked = λ k h. absurd (false≢true (sym fails ∙ (ap (λ (l : Watched). each_holds l.tests.items event) (same_leaf row leaves k event leaf at h) ∙ h.holds)));
+  only = λ k is. inl is;
+  kept = λ k is. is;
+  room = refl;
+}
 
--- a row of the event's list has its query marked
-pub row_marked : (rows : List (List Row)) (list : List Row) (event : Event) (now : List Bool) (number : ℕ) → slice_index_or rows event.ty [] ≡ list → AreMarked list event now → HasRow rows number event → has now number ≡ true
-row_marked rows list event now number is marked h = subst (λ n. has now n ≡ true) h.numbered (marked h.row h.holds (subst (λ rs. Contains rs h.row) is h.listed) h.asks h.does)
+-- and one whose range the event is not in
+pub marks_past : (count : ℕ) (row : Row) (leaves : List Watched) (event : Event) (set : List Bool) → IsRowBelow count leaves row → ((holds : Event → Bool) → AsksFor row.range holds → holds event ≡ false) → Marks (row ∷ []) leaves event set set
+marks_past count row leaves event set h none = marks_not row leaves event set h.of.leaf h.of.at (none (each_holds h.of.leaf.tests.items) h.of.range.asks)
 
--- where there is no list, there is no row
-pub no_row : (rows : List (List Row)) (number : ℕ) (event : Event) → slice_index_or rows event.ty [] ≡ [] → HasRow rows number event → ⊥
-no_row rows number event none h = (let l = (subst (λ rs. Contains rs h.row) none h.listed).1 in omega arith)
+pub marks_none : (leaves : List Watched) (event : Event) (set : List Bool) → Marks [] leaves event set set
+marks_none leaves event set = record { marked = λ k h. absurd (let l = h.listed.1 in omega arith); only = λ k is. inl is; kept = λ k is. is; room = refl }
+
+reader_within : (rows more : List Row) (leaves : List Watched) (k : ℕ) (event : Event) → ((r : Row) → Contains rows r → Contains more r) → HaveReader rows leaves k event → HaveReader more leaves k event
+reader_within rows more leaves k event within h = record { row = h.row; listed = within h.row h.listed; leaf = h.leaf; at = h.at; numbered = h.numbered; holds = h.holds }
+
+reader_cases : (xs ys : List Row) (leaves : List Watched) (k : ℕ) (event : Event) → HaveReader (xs ++ ys) leaves k event → HaveReader xs leaves k event ⊎ HaveReader ys leaves k event
+reader_cases xs ys leaves k event h = elim (Contains-append_cases xs ys h.row h.listed) [
+  | inl l ↦ inl (record { row = h.row; listed = l; leaf = h.leaf; at = h.at; numbered = h.numbered; holds = h.holds })
+  | inr r ↦ inr (record { row = h.row; listed = r; leaf = h.leaf; at = h.at; numbered = h.numbered; holds = h.holds })
+]
+
+-- some rows, and those after them
+pub marks_more : (xs ys : List Row) (leaves : List Watched) (event : Event) (before mid after : List Bool) → Marks xs leaves event before mid → Marks ys leaves event mid after → Marks (xs ++ ys) leaves event before after
+marks_more xs ys leaves event before mid after a b = record {
+  marked = λ k h. elim (reader_cases xs ys leaves k event h) [
+    | inl l ↦ b.kept k (a.marked k l)
+    | inr r ↦ b.marked k r
+  ];
+  only = λ k is. elim (b.only k is) [
+    | inl was ↦ elim (a.only k was) [
+      | inl first ↦ inl first
+      | inr l ↦ inr (reader_within xs (xs ++ ys) leaves k event (λ r c. Contains-append_left xs ys r c) l)
+    ]
+    | inr r ↦ inr (reader_within ys (xs ++ ys) leaves k event (λ x c. Contains-append_right xs ys x c) r)
+  ];
+  kept = λ k is. b.kept k (a.kept k is);
+  room = b.room ∙ a.room;
+}
+
+-- one row more
+pub marks_next : (i : ℕ) (rows : List Row) (e : Row) (leaves : List Watched) (event : Event) (before mid after : List Bool) → i < length rows → Marks (take i rows) leaves event before mid → Marks (slice_index_or rows i e ∷ []) leaves event mid after → Marks (take (i + 1) rows) leaves event before after
+marks_next i rows e leaves event before mid after inside a b = subst (λ rs. Marks rs leaves event before after) (sym (take_more rows i e inside)) (marks_more (take i rows) (slice_index_or rows i e ∷ []) leaves event before mid after a b)
+
+pub marks_all : (i : ℕ) (rows : List Row) (leaves : List Watched) (event : Event) (before after : List Bool) → length rows ≤ i → Marks (take i rows) leaves event before after → Marks rows leaves event before after
+marks_all i rows leaves event before after end h = subst (λ rs. Marks rs leaves event before after) (take_all i rows end) h
+
+-- the query of a row is within the room of the set as it is now
+pub row_within : (rows : List Row) (i : ℕ) (e : Row) (leaves : List Watched) (before now : List Bool) → All (IsRowBelow (length before) leaves) rows → i < length rows → length now ≡ length before → IsRowBelow (length now) leaves (slice_index_or rows i e)
+row_within rows i e leaves before now low inside same = subst (λ n. IsRowBelow n leaves (slice_index_or rows i e)) (sym same) (low i e inside)
 
 -- the list that is found is that of the type
 pub list_found : (vs : List (Vec Row Global)) (ty : ℕ) (v : Vec Row Global) → slice_get vs ty ≡ Some v → slice_index_or (rows_of vs) ty [] ≡ v.items
@@ -251,21 +326,22 @@ none_found (w ∷ vs) zero at = absurd cc
 none_found (w ∷ vs) (suc ty) at = none_found vs ty at
 
 -- the rows of a list are of queries below their number, so within the room
-pub rows_below : (vs : List (Vec Row Global)) (count ty room : ℕ) (v : Vec Row Global) (table : Table) (list : List Row) → record { rows = rows_of vs; count = count } ≡ table → AreBelow count (rows_of vs) → slice_get vs ty ≡ Some v → list ≡ v.items → table.count ≤ room → All (λ (r : Row). r.query < room) list
-rows_below vs count ty room v table list is below at list_is le k d less =
+pub rows_below : (vs : List (Vec Row Global)) (ls leaves : List Watched) (count ty room : ℕ) (v : Vec Row Global) (table : Table) (list : List Row) → record { rows = rows_of vs; leaves = ls; count = count } ≡ table → AreBelow count (rows_of vs) ls → slice_get vs ty ≡ Some v → list ≡ v.items → leaves ≡ ls → table.count ≤ room → All (IsRowBelow room leaves) list
+rows_below vs ls leaves count ty room v table list is below at list_is leaves_is le k d less =
     let listed = Contains-get_or list k d less in
-    let low = below ty (slice_index_or list k d) (subst (λ rs. Contains rs (slice_index_or list k d)) (list_is ∙ sym (list_found vs ty v at)) listed) in
+    let b = below ty (slice_index_or list k d) (subst (λ rs. Contains rs (slice_index_or list k d)) (list_is ∙ sym (list_found vs ty v at)) listed) in
+    let low = b.below in
     let same : count ≡ table.count = ap (λ (t : Table). t.count) is in
-    omega arith
+    record { query = b.query; of = subst (λ x. IsRowOf b.query x (slice_index_or list k d)) (sym leaves_is) b.of; below = omega arith }
 
--- each query with a row that may hold is marked
-pub found_marked : (vs : List (Vec Row Global)) (count : ℕ) (v : Vec Row Global) (table : Table) (list : List Row) (event : Event) (now : List Bool) → record { rows = rows_of vs; count = count } ≡ table → slice_get vs event.ty ≡ Some v → list ≡ v.items → AreMarked list event now → (number : ℕ) → HasRow table.rows number event → has now number ≡ true
-found_marked vs count v table list event now is at list_is marked number h =
-    row_marked (rows_of vs) list event now number (list_found vs event.ty v at ∙ sym list_is) marked (subst (λ (t : Table). HasRow t.rows number event) (sym is) h)
+-- what the rows of the event's type mark is what the table says
+pub marks_found : (vs : List (Vec Row Global)) (ls leaves : List Watched) (count : ℕ) (v : Vec Row Global) (table : Table) (list : List Row) (event : Event) (before now : List Bool) → record { rows = rows_of vs; leaves = ls; count = count } ≡ table → slice_get vs event.ty ≡ Some v → list ≡ v.items → leaves ≡ ls → Marks list leaves event before now → Marks (slice_index_or table.rows event.ty []) table.leaves event before now
+marks_found vs ls leaves count v table list event before now is at list_is leaves_is marks =
+    subst (λ (t : Table). Marks (slice_index_or t.rows event.ty []) t.leaves event before now) is
+    (subst (λ x. Marks (slice_index_or (rows_of vs) event.ty []) x event before now) leaves_is
+    (subst (λ rs. Marks rs leaves event before now) (list_is ∙ sym (list_found vs event.ty v at)) marks))
 
-pub none_marked : (vs : List (Vec Row Global)) (count : ℕ) (table : Table) (event : Event) (now : List Bool) → record { rows = rows_of vs; count = count } ≡ table → slice_get vs event.ty ≡ None → (number : ℕ) → HasRow table.rows number event → has now number ≡ true
-none_marked vs count table event now is at number h = absurd (no_row (rows_of vs) number event (none_found vs event.ty at) (subst (λ (t : Table). HasRow t.rows number event) (sym is) h))
-
--- the query of a row is within the room of the set as it is now
-pub row_within : (rows : List Row) (i : ℕ) (e : Row) (before now : List Bool) → All (λ (r : Row). r.query < length before) rows → i < length rows → length now ≡ length before → (slice_index_or rows i e).query < length now
-row_within rows i e before now low inside same = let one = low i e inside in omega arith
+pub marks_no_list : (vs : List (Vec Row Global)) (ls : List Watched) (count : ℕ) (table : Table) (event : Event) (set : List Bool) → record { rows = rows_of vs; leaves = ls; count = count } ≡ table → slice_get vs event.ty ≡ None → Marks (slice_index_or table.rows event.ty []) table.leaves event set set
+marks_no_list vs ls count table event set is at =
+    subst (λ (t : Table). Marks (slice_index_or t.rows event.ty []) t.leaves event set set) is
+    (subst (λ rs. Marks rs ls event set set) (sym (none_found vs event.ty at)) (marks_none ls event set))

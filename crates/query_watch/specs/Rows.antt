@@ -1,5 +1,5 @@
 -- What is looked at of the leaves of queries before an event is taken.
-use Rattle.std.specs.Prelude.{◌≡◌, ℕ, ◌<◌, ◌⊎◌, Bool, true, List, [], map, Some, Vec, slice_get, slice_index_or, Contains}
+use Rattle.std.specs.Prelude.{◌≡◌, ℕ, ◌<◌, ◌⊎◌, Bool, true, List, [], length, map, Some, All, Vec, slice_get, slice_index_or, Contains}
 use Rattle.std.specs.declared.alloc.Global.{Global}
 use Rattle.cer_base.specs.Bits.{has}
 use Rattle.stream_schema.specs.Types.{Declared}
@@ -9,16 +9,19 @@ use Rattle.query_leaves.specs.declared.Leaf.{Leaf}
 use Rattle.query_leaves.specs.Expand.{Occurrence, tree_of}
 use Rattle.query_leaves.specs.Leaves.{occurrences, occurrence_reads}
 use Rattle.query_leaves.specs.Shapes.{each_holds}
-use Rattle.predicate_bits.specs.Ranges.{AsksFor}
+use Rattle.predicate_bits.specs.declared.ranges.Range.{Range}
+use Rattle.predicate_bits.specs.Ranges.{AsksFor, Settles}
 use Rattle.query_watch.specs.declared.rows.Row.{Row}
+use Rattle.query_watch.specs.declared.rows.Watched.{Watched}
 
 -- the rows of each type, by the type's number
 abbrev pub rows_of : List (Vec Row Global) → List (List Row)
 rows_of vs = map (λ (v : Vec Row Global). v.items) vs
 
--- What contracts see: the rows of each type, and how many queries there are.
+-- What contracts see: the rows of each type, the leaves that they are of, and how many queries there are.
 pub record Table : Type 0 where
   pub rows : List (List Row)
+  pub leaves : List Watched
   pub count : ℕ
 
 -- the row is in the list of the type
@@ -31,43 +34,71 @@ pub record HasPut (ty : ℕ) (row : Row) (old new : List (List Row)) : Type 0 wh
   pub kept : (t : ℕ) (r : Row) → IsListed old t r → IsListed new t r
   pub only : (t : ℕ) (r : Row) → IsListed new t r → IsListed old t r ⊎ (row ≡ r)
 
--- Rows of one query came.
-pub record HasAdded (query : ℕ) (old new : List (List Row)) : Type 0 where
-  pub kept : (t : ℕ) (r : Row) → IsListed old t r → IsListed new t r
-  pub only : (t : ℕ) (r : Row) → IsListed new t r → IsListed old t r ⊎ (r.query ≡ query)
+-- The range is one that the leaf's tests ask for, and settles them where the leaf says so.
+pub record IsRangeOf (range : Range) (leaf : Watched) : Type 0 where
+  pub asks : AsksFor range (each_holds leaf.tests.items)
+  pub settles : leaf.settled ≡ true → Settles range (each_holds leaf.tests.items)
 
--- Of a leaf of the query there is a row in the list of its type, with a range that its tests ask for.
-pub record HasLeafRow (query : ℕ) (rows : List (List Row)) (l : Leaf) : Type 0 where
+-- The row is of a leaf of this query, which is there.
+pub record IsRowOf (query : ℕ) (leaves : List Watched) (row : Row) : Type 0 where
+  pub leaf : Watched
+  pub at : slice_get leaves row.leaf ≡ Some leaf
+  pub range : IsRangeOf row.range leaf
+  pub numbered : leaf.query ≡ query
+
+-- Leaves of one query came, and their rows.
+pub record HasAdded (query : ℕ) (old : List (List Row)) (had : List Watched) (new : List (List Row)) (have : List Watched) : Type 0 where
+  pub kept : (t : ℕ) (r : Row) → IsListed old t r → IsListed new t r
+  pub leaves : (k : ℕ) (l : Watched) → slice_get had k ≡ Some l → slice_get have k ≡ Some l
+  pub only : (t : ℕ) (r : Row) → IsListed new t r → IsListed old t r ⊎ IsRowOf query have r
+
+-- Of a leaf of the query there is a row in the list of its type, with its tests.
+pub record HasLeafRow (query : ℕ) (rows : List (List Row)) (leaves : List Watched) (l : Leaf) : Type 0 where
   pub row : Row
   pub listed : IsListed rows l.ty row
-  pub numbered : row.query ≡ query
-  pub asks : AsksFor row.range (each_holds l.tests.items)
+  pub leaf : Watched
+  pub at : slice_get leaves row.leaf ≡ Some leaf
+  pub numbered : leaf.query ≡ query
+  pub tests : leaf.tests.items ≡ l.tests.items
 
 -- each leaf has such a row
-abbrev pub HaveRows : ℕ → List Leaf → List (List Row) → Type 0
-HaveRows query list rows = (k : ℕ) (l : Leaf) → slice_get list k ≡ Some l → HasLeafRow query rows l
+abbrev pub HaveRows : ℕ → List Leaf → List (List Row) → List Watched → Type 0
+HaveRows query list rows leaves = All (HasLeafRow query rows leaves) list
 
--- In the list of the event's type there is a row of the query, whose range is asked for by what holds of the event.
-pub record HasRow (rows : List (List Row)) (query : ℕ) (event : Event) : Type 0 where
+-- Among the rows there is one of a leaf of the query whose tests hold of the event.
+pub record HaveReader (rows : List Row) (leaves : List Watched) (query : ℕ) (event : Event) : Type 0 where
   pub row : Row
-  pub listed : IsListed rows event.ty row
-  pub numbered : row.query ≡ query
-  pub holds : Event → Bool
-  pub asks : AsksFor row.range holds
-  pub does : holds event ≡ true
+  pub listed : Contains rows row
+  pub leaf : Watched
+  pub at : slice_get leaves row.leaf ≡ Some leaf
+  pub numbered : leaf.query ≡ query
+  pub holds : each_holds leaf.tests.items event ≡ true
+
+-- in the list of the event's type there is such a row
+abbrev pub HasRow : List (List Row) → List Watched → ℕ → Event → Type 0
+HasRow rows leaves query event = HaveReader (slice_index_or rows event.ty []) leaves query event
 
 -- each event that a leaf of the query can read has such a row
-abbrev pub IsWatched : Declared → Query → ℕ → List (List Row) → Type 0
-IsWatched schema q query rows = (event : Event) (k : ℕ) (o : Occurrence) → slice_get (occurrences (tree_of q)) k ≡ Some o → occurrence_reads schema o event ≡ true → HasRow rows query event
+abbrev pub IsWatched : Declared → Query → ℕ → List (List Row) → List Watched → Type 0
+IsWatched schema q query rows leaves = (event : Event) (k : ℕ) (o : Occurrence) → slice_get (occurrences (tree_of q)) k ≡ Some o → occurrence_reads schema o event ≡ true → HasRow rows leaves query event
 
 -- and that of each of the queries, by their numbers from 0
-abbrev pub IsWatch : Declared → List Query → List (List Row) → Type 0
-IsWatch schema queries rows = (query : ℕ) (q : Query) → slice_get queries query ≡ Some q → IsWatched schema q query rows
+abbrev pub IsWatch : Declared → List Query → List (List Row) → List Watched → Type 0
+IsWatch schema queries rows leaves = (query : ℕ) (q : Query) → slice_get queries query ≡ Some q → IsWatched schema q query rows leaves
 
--- each row is of a query below the number
-abbrev pub AreBelow : ℕ → List (List Row) → Type 0
-AreBelow count rows = (t : ℕ) (r : Row) → IsListed rows t r → r.query < count
+-- The row is of a leaf of a query below the number.
+pub record IsRowBelow (count : ℕ) (leaves : List Watched) (row : Row) : Type 0 where
+  pub query : ℕ
+  pub of : IsRowOf query leaves row
+  pub below : query < count
 
--- the query of each row is marked whose range is asked for by what holds of the event
-abbrev pub AreMarked : List Row → Event → List Bool → Type 0
-AreMarked rows event marked = (r : Row) (holds : Event → Bool) → Contains rows r → AsksFor r.range holds → holds event ≡ true → has marked r.query ≡ true
+-- each row is of such a leaf
+abbrev pub AreBelow : ℕ → List (List Row) → List Watched → Type 0
+AreBelow count rows leaves = (t : ℕ) (r : Row) → IsListed rows t r → IsRowBelow count leaves r
+
+-- The queries are marked of the rows whose leaf's tests hold of the event, and no others.
+pub record Marks (rows : List Row) (leaves : List Watched) (event : Event) (before after : List Bool) : Type 0 where
+  pub marked : (k : ℕ) → HaveReader rows leaves k event → has after k ≡ true
+  pub only : (k : ℕ) → has after k ≡ true → (has before k ≡ true) ⊎ HaveReader rows leaves k event
+  pub kept : (k : ℕ) → has before k ≡ true → has after k ≡ true
+  pub room : length after ≡ length before

@@ -2,21 +2,32 @@
 
 ghost use Rattle.std.specs.Prelude.{◌≡◌, ℕ, ◌+◌, ◌<◌, ◌≤◌, length, slice_index_or, [], IfOk, OnOk};
 ghost use Rattle.cel_terms.specs.declared.Query.{Query as QueryData};
-ghost use Rattle.predicate_bits.specs.Ranges.{AreRangesOf};
-ghost use Rattle.query_watch.specs.Rows.{rows_of, HasPut, HasAdded, HaveRows, IsWatched};
+ghost use Rattle.query_watch.specs.Rows.{rows_of, HasPut, HasAdded, HaveRows, HasLeafRow, IsWatched};
 
 use cel_terms::Query;
 use cer_base::Memory;
-use predicate_bits::ranges::{Range, ranges_of};
-use query_leaves::{Leaf, leaves_of};
+use predicate_bits::ranges::{Range, range_of};
+use predicate_bits::settling::settles_each;
+use query_leaves::{Leaf, Test, leaves_of};
 use std::alloc::Global;
 use stream_schema::{Schema, TypeId};
 
-/// What is looked at of a leaf: its query's number, from 0, and the range that its tests ask for.
+/// What is looked at first of a leaf: the range that its tests ask for, and where the rest is.
 #[derive(Drop, Debug, Clone, Copy)]
 pub struct Row {
     pub range: Range,
+    /// The number of the leaf among those of all queries, from 0.
+    pub leaf: u64,
+}
+
+/// What is looked at of a leaf where its range lets an event through.
+#[derive(Drop, Debug)]
+pub struct Watched {
+    /// Its query's number, from 0.
     pub query: u64,
+    /// Whether the range settles the tests.
+    pub settled: bool,
+    pub tests: Vec<Test>,
 }
 
 /// The number after that of the type. Where there is none, no memory has a list for each type.
@@ -59,25 +70,55 @@ fn put(rows: &mut Vec<Vec<Row>>, alloc: Global, ty: TypeId, row: Row) -> Result<
     Ok(())
 }
 
+/// Puts in a row for the leaf of the query of this number, and the leaf's tests.
+fn add_leaf(
+    rows: &mut Vec<Vec<Row>>,
+    leaves: &mut Vec<Watched>,
+    alloc: Global,
+    query: u64,
+    leaf: Leaf,
+) -> Result<(), Memory>
+    ensures row { OnOk result (HasLeafRow query (rows_of rows.new.items) leaves.new.items leaf) }
+    ensures added { OnOk result (HasAdded query (rows_of rows.old.items) leaves.old.items
+        (rows_of rows.new.items) leaves.new.items) }
+{
+    let ty = leaf.ty;
+    let tests = leaf.tests;
+    let range = range_of(tests.as_slice());
+    let settled = settles_each(&range, tests.as_slice());
+    let number = leaves.len() as u64;
+    leaves.push(Watched {
+        query,
+        settled,
+        tests,
+    })?;
+    put(
+        rows,
+        alloc,
+        ty,
+        Row {
+            range,
+            leaf: number,
+        },
+    )?;
+    Ok(())
+}
+
 /// Puts in a row for each leaf of the query of this number.
 fn add_leaves(
     rows: &mut Vec<Vec<Row>>,
+    leaves: &mut Vec<Watched>,
     alloc: Global,
     query: u64,
-    list: &[Leaf],
-    ranges: &[Range],
+    list: Vec<Leaf>,
 ) -> Result<(), Memory>
-    requires { AreRangesOf list.now ranges.now }
-    ensures rows { OnOk result (HaveRows query list.now (rows_of rows.new.items)) }
-    ensures added { OnOk result (HasAdded query (rows_of rows.old.items)
-        (rows_of rows.new.items)) }
+    ensures rows { OnOk result (HaveRows query list.items (rows_of rows.new.items)
+        leaves.new.items) }
+    ensures added { OnOk result (HasAdded query (rows_of rows.old.items) leaves.old.items
+        (rows_of rows.new.items) leaves.new.items) }
 {
-    for k in 0..list.len() {
-        let row = Row {
-            range: ranges[k],
-            query,
-        };
-        put(rows, alloc, list[k].ty, row)?;
+    for leaf in list {
+        add_leaf(rows, leaves, alloc, query, leaf)?;
     }
     Ok(())
 }
@@ -85,19 +126,18 @@ fn add_leaves(
 /// Puts in a row for each leaf of the query, which has this number.
 pub fn add_query(
     rows: &mut Vec<Vec<Row>>,
+    leaves: &mut Vec<Watched>,
     alloc: Global,
     schema: &Schema,
     query: &Query,
     number: u64,
 ) -> Result<(), Memory>
     ensures watched { OnOk result (IsWatched schema.now query.now number
-        (rows_of rows.new.items)) }
-    ensures added { OnOk result (HasAdded number (rows_of rows.old.items)
-        (rows_of rows.new.items)) }
+        (rows_of rows.new.items) leaves.new.items) }
+    ensures added { OnOk result (HasAdded number (rows_of rows.old.items) leaves.old.items
+        (rows_of rows.new.items) leaves.new.items) }
 {
-    let leaves = leaves_of(alloc, schema, query)?;
-    let list = leaves.list.as_slice();
-    let ranges = ranges_of(alloc, list)?;
-    add_leaves(rows, alloc, number, list, ranges.as_slice())?;
+    let found = leaves_of(alloc, schema, query)?;
+    add_leaves(rows, leaves, alloc, number, found.list.into_vec())?;
     Ok(())
 }

@@ -1,15 +1,18 @@
 //! The leaves of all queries, and which queries an event can concern.
 
-ghost use Rattle.std.specs.Prelude.{◌≡◌, ℕ, ◌<◌, ◌≤◌, true, length, slice_get, IfOk, All};
+ghost use Rattle.std.specs.Prelude.{◌≡◌, ℕ, ◌≤◌, ◌⊎◌, true, [], ◌∷◌, length, slice_get, IfOk, All};
 ghost use Rattle.std.specs.Option.{option_copied};
 ghost use Rattle.cer_base.specs.Bits.{has};
-ghost use Rattle.query_watch.specs.Rows.{rows_of, AreBelow, AreMarked, IsWatch, HasRow};
+ghost use Rattle.query_leaves.specs.Shapes.{each_holds as tests_hold};
+ghost use Rattle.query_watch.specs.Rows.{rows_of, AreBelow, IsRangeOf, IsRowBelow, IsWatch, HasRow, Marks};
 
-use crate::rows::{Row, add_query};
+use crate::rows::{Row, Watched, add_query};
 use cel_terms::Query;
 use cer_base::Memory;
 use cer_base::bits::Bits;
-use predicate_bits::ranges::may_hold;
+use predicate_bits::holding::each_holds;
+use predicate_bits::ranges::{Range, may_hold};
+use predicate_bits::settling::told;
 use std::alloc::Global;
 use std::marker::Model;
 use stream_schema::{Event, Schema, TypeId};
@@ -19,28 +22,45 @@ use stream_schema::{Event, Schema, TypeId};
 pub struct Watch {
     /// The rows of the leaves of each type, by the type's number.
     rows: Vec<Vec<Row>>,
+    /// The leaves of all queries, by their numbers.
+    leaves: Vec<Watched>,
     /// How many queries there are.
     count: usize,
 }
 
 impl Model for Watch {
+    ghost use Rattle.std.specs.Coded.{codes};
+    ghost use Rattle.query_leaves.specs.contracts.Test as test;
     ghost use Rattle.query_watch.specs.Rows.{Table, rows_of, AreBelow};
 
     ghost Value = { Table };
 
-    ghost view = { λ w. record { rows = rows_of w.rows.items; count = w.count } };
+    ghost coded = { Prim.hlevel (codes, test.the_row.coded) };
 
-    ghost invariant = { λ w. AreBelow w.count (rows_of w.rows.items) };
+    ghost view = { λ w. record {
+      rows = rows_of w.rows.items;
+      leaves = w.leaves.items;
+      count = w.count;
+    } };
+
+    ghost invariant = { λ w. AreBelow w.count (rows_of w.rows.items) w.leaves.items };
 }
 
-/// The rows of the leaves of the queries.
-fn rows_for(alloc: Global, schema: &Schema, queries: &[Query]) -> Result<Vec<Vec<Row>>, Memory>
-    ensures watch { IfOk result (λ v. IsWatch schema.now queries.now (rows_of v.items)) }
-    ensures below { IfOk result (λ v. AreBelow (length queries.now) (rows_of v.items)) }
+/// The rows of the leaves of the queries, with the leaves put in last.
+fn rows_for(
+    leaves: &mut Vec<Watched>,
+    alloc: Global,
+    schema: &Schema,
+    queries: &[Query],
+) -> Result<Vec<Vec<Row>>, Memory>
+    ensures watch { IfOk result (λ v. IsWatch schema.now queries.now (rows_of v.items)
+        leaves.new.items) }
+    ensures below { IfOk result (λ v. AreBelow (length queries.now) (rows_of v.items)
+        leaves.new.items) }
 {
     let mut rows = Vec::new(alloc);
     for k in 0..queries.len() {
-        add_query(&mut rows, alloc, schema, &queries[k], k as u64)?;
+        add_query(&mut rows, leaves, alloc, schema, &queries[k], k as u64)?;
     }
     Ok(rows)
 }
@@ -48,27 +68,32 @@ fn rows_for(alloc: Global, schema: &Schema, queries: &[Query]) -> Result<Vec<Vec
 impl Watch {
     /// That of the queries.
     pub fn of(alloc: Global, schema: &Schema, queries: &[Query]) -> Result<Watch, Memory>
-        ensures watch { IfOk result (λ w. IsWatch schema.now queries.now w.rows) }
+        ensures watch { IfOk result (λ w. IsWatch schema.now queries.now w.rows w.leaves) }
         ensures count { IfOk result (λ w. w.count ≡ length queries.now) }
     {
-        let rows = rows_for(alloc, schema, queries)?;
+        let mut leaves = Vec::new(alloc);
+        let rows = rows_for(&mut leaves, alloc, schema, queries)?;
         Ok(Watch {
             rows,
+            leaves,
             count: queries.len(),
         })
     }
 
-    /// Marks each query that has a leaf which can read the event. The set has room for all numbers.
+    /// Marks each query that has a leaf which can read the event, and no other. The set has room for
+    /// all numbers.
     #[inline(always)]
     pub fn mark(&self, event: &Event, into: &mut Bits)
         requires { self.now.count ≤ length into.old }
-        ensures marked { (number : ℕ) → HasRow self.now.rows number event.now
+        ensures marked { (number : ℕ) → HasRow self.now.rows self.now.leaves number event.now
             → has into.new number ≡ true }
+        ensures only { (k : ℕ) → has into.new k ≡ true → (has into.old k ≡ true)
+            ⊎ HasRow self.now.rows self.now.leaves k event.now }
         ensures kept { (k : ℕ) → has into.old k ≡ true → has into.new k ≡ true }
         ensures room { length into.new ≡ length into.old }
     {
         if let Some(rows) = list_of(self.rows.as_slice(), event.ty) {
-            mark_rows(rows.as_slice(), event, into);
+            mark_rows(rows.as_slice(), self.leaves.as_slice(), event, into);
         }
     }
 }
@@ -80,17 +105,37 @@ fn list_of(rows: &[Vec<Row>], ty: TypeId) -> Option<&Vec<Row>>
     rows.get(ty as usize)
 }
 
-/// Puts the number of each row in whose range the event may be.
+/// Whether the leaf's tests hold of the event, which are tested where the range does not tell it.
+fn holds_of(range: &Range, leaf: &Watched, event: &Event) -> bool
+    requires { IsRangeOf range.now leaf.now }
+    ensures { result ≡ tests_hold leaf.now.tests.items event.now }
+{
+    match told(range, leaf.settled, event) {
+        Some(holds) => holds,
+        None => each_holds(leaf.tests.as_slice(), event),
+    }
+}
+
+/// Puts in the number of the row's query, if the tests of its leaf hold of the event.
+fn mark_leaf(row: &Row, leaves: &[Watched], event: &Event, into: &mut Bits)
+    requires { IsRowBelow (length into.old) leaves.now row.now }
+    ensures { Marks (row.now ∷ []) leaves.now event.now into.old into.new }
+{
+    let leaf = &leaves[row.leaf as usize];
+    if holds_of(&row.range, leaf, event) {
+        into.insert(leaf.query as usize);
+    }
+}
+
+/// Puts in the number of the query of each row whose leaf's tests hold of the event.
 #[inline(always)]
-fn mark_rows(rows: &[Row], event: &Event, into: &mut Bits)
-    requires { All (λ r. r.query < length into.old) rows.now }
-    ensures marked { AreMarked rows.now event.now into.new }
-    ensures kept { (k : ℕ) → has into.old k ≡ true → has into.new k ≡ true }
-    ensures room { length into.new ≡ length into.old }
+fn mark_rows(rows: &[Row], leaves: &[Watched], event: &Event, into: &mut Bits)
+    requires { All (IsRowBelow (length into.old) leaves.now) rows.now }
+    ensures { Marks rows.now leaves.now event.now into.old into.new }
 {
     for row in rows {
         if may_hold(&row.range, event) {
-            into.insert(row.query as usize);
+            mark_leaf(row, leaves, event, into);
         }
     }
 }

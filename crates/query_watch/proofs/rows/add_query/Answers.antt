@@ -4,4 +4,4 @@ use Rattle.query_watch.proofs.Listed.{watched}
 use Rattle.query_watch.proofs.rows.add_query.Goals as goal
 
 pub returns-clause-watched : goal.returns-clause-watched
-returns-clause-watched c = watched c.args.schema.now c.args.query.now c.args.number c.in_ok-leaves.leaves.list (rows_of c.add_leaves.new.rows.items) c.in_ok-leaves.ensures.list (subst (λ ls. HaveRows c.args.number ls (rows_of c.add_leaves.new.rows.items)) c.as_slice-list.ensures c.in_ok-add_leaves.ensures.rows)
+returns-clause-watched c = watched c.args.schema.now c.args.query.now c.args.number c.in_ok-found.found.list (rows_of c.add_leaves.new.rows.items) c.add_leaves.new.leaves.items c.in_ok-found.ensures.list (subst (λ ls. HaveRows c.args.number ls (rows_of c.add_leaves.new.rows.items) c.add_leaves.new.leaves.items) c.into_vec.ensures c.in_ok-add_leaves.ensures.rows)

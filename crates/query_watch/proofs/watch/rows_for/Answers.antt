@@ -5,13 +5,13 @@ use Rattle.query_watch.proofs.Listed.{watch_none, watch_next, watch_all, below_a
 use Rattle.query_watch.proofs.watch.rows_for.Goals as goal
 
 pub loop-k-init : goal.loop-k-init
-loop-k-init c = watch_none c.args.schema.now c.args.queries.now (rows_of c.new-rows.result.items) (ap (λ (vs : List (Vec Row Global)). rows_of vs) c.new-rows.ensures.items)
+loop-k-init c = watch_none c.args.schema.now c.args.queries.now (rows_of c.new-rows.result.items) c.args.leaves.now.items (ap (λ (vs : List (Vec Row Global)). rows_of vs) c.new-rows.ensures.items)
 
 pub loop-k-preserved : goal.loop-k-preserved
-loop-k-preserved c = watch_next c.loop-k.k c.args.schema.now c.args.queries.now c.index-queries-k.result (rows_of c.loop-k.rows.items) (rows_of c.add_query.new.rows.items) c.loop-k-test.true c.index-queries-k.is c.loop-k.invariant c.in_ok-add_query.ensures.watched c.in_ok-add_query.ensures.added
+loop-k-preserved c = watch_next c.loop-k.k c.args.schema.now c.args.queries.now c.index-queries-k.result (rows_of c.loop-k.rows.items) (rows_of c.add_query.new.rows.items) c.loop-k.leaves.items c.add_query.new.leaves.items c.loop-k-test.true c.index-queries-k.is c.loop-k.invariant c.in_ok-add_query.ensures.watched c.in_ok-add_query.ensures.added
 
 pub returns-clause-watch : goal.returns-clause-watch
-returns-clause-watch c = watch_all c.loop-k.k c.args.schema.now c.args.queries.now (rows_of c.loop-k.rows.items) c.loop-k-test.false c.loop-k.invariant
+returns-clause-watch c = watch_all c.loop-k.k c.args.schema.now c.args.queries.now (rows_of c.loop-k.rows.items) c.loop-k.leaves.items c.loop-k-test.false c.loop-k.invariant
 
 pub returns-clause-below : goal.returns-clause-below
-returns-clause-below c = below_all c.loop-k.k c.args.schema.now c.args.queries.now (rows_of c.loop-k.rows.items) c.loop-k.auto.k-end c.loop-k.invariant
+returns-clause-below c = below_all c.loop-k.k c.args.schema.now c.args.queries.now (rows_of c.loop-k.rows.items) c.loop-k.leaves.items c.loop-k.auto.k-end c.loop-k.invariant

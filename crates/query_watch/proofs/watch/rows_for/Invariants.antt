@@ -3,4 +3,4 @@ use Rattle.query_watch.proofs.Listed.{IsWatchUpTo}
 use Rattle.query_watch.proofs.watch.rows_for.Given as goal
 
 abbrev pub invariant-loop-k : goal.invariant-loop-k
-invariant-loop-k l = IsWatchUpTo l.k l.schema l.queries (rows_of l.rows.items)
+invariant-loop-k l = IsWatchUpTo l.k l.schema l.queries (rows_of l.rows.items) l.leaves.items

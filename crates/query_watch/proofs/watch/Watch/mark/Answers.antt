@@ -1,19 +1,24 @@
 use Rattle.std.proofs.Common.{◌≡◌, ◌∙◌, Some, None, List, Vec, Global, slice_get, sym, ap}
 use Rattle.query_watch.specs.declared.rows.Row.{Row}
-use Rattle.query_watch.proofs.Listed.{rows_below, found_marked, none_marked}
+use Rattle.query_watch.proofs.Listed.{rows_below, marks_found, marks_no_list}
 use Rattle.query_watch.proofs.watch.Watch.mark.Goals as goal
 
 pub mark_rows-requires : goal.mark_rows-requires
 mark_rows-requires c =
     let at : slice_get c.self.inside.rows.items c.args.event.now.ty ≡ Some c.in-Some.rows.now = sym (c.in-Some.ensures ∙ ap (λ (vs : List (Vec Row Global)). slice_get vs c.args.event.now.ty) c.as_slice.ensures.value) in
-    rows_below c.self.inside.rows.items c.self.inside.count c.args.event.now.ty _ c.in-Some.rows.now c.args.self.now c.as_slice-in-Some.result.now c.self.view_is c.self.invariant at c.as_slice-in-Some.ensures.value c.requires
+    rows_below c.self.inside.rows.items c.self.inside.leaves.items c.as_slice-in-Some-2.result.now c.self.inside.count c.args.event.now.ty _ c.in-Some.rows.now c.args.self.now c.as_slice-in-Some.result.now c.self.view_is c.self.invariant at c.as_slice-in-Some.ensures.value c.as_slice-in-Some-2.ensures.value c.requires
 
 pub returns-in-Some-clause-marked : goal.returns-in-Some-clause-marked
 returns-in-Some-clause-marked c =
     let at : slice_get c.self.inside.rows.items c.args.event.now.ty ≡ Some c.in-Some.rows.now = sym (c.in-Some.ensures ∙ ap (λ (vs : List (Vec Row Global)). slice_get vs c.args.event.now.ty) c.as_slice.ensures.value) in
-    found_marked c.self.inside.rows.items c.self.inside.count c.in-Some.rows.now c.args.self.now c.as_slice-in-Some.result.now c.args.event.now c.mark_rows.new.into c.self.view_is at c.as_slice-in-Some.ensures.value c.mark_rows.ensures.marked
+    (marks_found c.self.inside.rows.items c.self.inside.leaves.items c.as_slice-in-Some-2.result.now c.self.inside.count c.in-Some.rows.now c.args.self.now c.as_slice-in-Some.result.now c.args.event.now c.args.into.now c.mark_rows.new.into c.self.view_is at c.as_slice-in-Some.ensures.value c.as_slice-in-Some-2.ensures.value c.mark_rows.ensures).marked
+
+pub returns-in-Some-clause-only : goal.returns-in-Some-clause-only
+returns-in-Some-clause-only c =
+    let at : slice_get c.self.inside.rows.items c.args.event.now.ty ≡ Some c.in-Some.rows.now = sym (c.in-Some.ensures ∙ ap (λ (vs : List (Vec Row Global)). slice_get vs c.args.event.now.ty) c.as_slice.ensures.value) in
+    (marks_found c.self.inside.rows.items c.self.inside.leaves.items c.as_slice-in-Some-2.result.now c.self.inside.count c.in-Some.rows.now c.args.self.now c.as_slice-in-Some.result.now c.args.event.now c.args.into.now c.mark_rows.new.into c.self.view_is at c.as_slice-in-Some.ensures.value c.as_slice-in-Some-2.ensures.value c.mark_rows.ensures).only
 
 pub returns-in_default-clause-marked : goal.returns-in_default-clause-marked
 returns-in_default-clause-marked c =
     let at : slice_get c.self.inside.rows.items c.args.event.now.ty ≡ None = sym (c.in_default.ensures ∙ ap (λ (vs : List (Vec Row Global)). slice_get vs c.args.event.now.ty) c.as_slice.ensures.value) in
-    none_marked c.self.inside.rows.items c.self.inside.count c.args.self.now c.args.event.now c.args.into.now c.self.view_is at
+    (marks_no_list c.self.inside.rows.items c.self.inside.leaves.items c.self.inside.count c.args.self.now c.args.event.now c.args.into.now c.self.view_is at).marked

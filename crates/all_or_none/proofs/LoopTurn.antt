@@ -1,5 +1,5 @@
 -- One turn of a loop that writes each element of a list in its place.
-use Rattle.std.proofs.Common.{◌≡◌, ℕ, zero, suc, ◌+◌, ◌<◌, List, [], ◌∷◌, map, take, drop, length, sym, ap, subst, ◌∙◌, All, slice_index_or, slice_set, arith, add-one}
+use Rattle.std.proofs.Common.{◌≡◌, ℕ, zero, suc, ◌+◌, ◌<◌, List, [], ◌∷◌, map, take, drop, length, refl, sym, ap, subst, ◌∙◌, Some, slice_get, All, slice_index_or, slice_set, arith, add-one}
 use Rattle.std.specs.List.{AllZip}
 use Rattle.std.specs.Prelude.{◌≤◌, sum_by}
 use Rattle.std.proofs.lemmas.List.Sums.{sum_by-cons, sum_by-take-le}
@@ -11,6 +11,13 @@ all_here P [] ys k d l e left h = absurd (omega arith)
 all_here P (x ∷ xs) [] k d l e left h = absurd (omega arith)
 all_here P (x ∷ xs) (y ∷ ys) zero d l e left h = let same : x ≡ y = cc in subst P (sym same) (All-head P y ys h)
 all_here P (x ∷ xs) (y ∷ ys) (suc k) d l e left h = all_here P xs ys k d (omega arith) (omega arith) left (All-tail P y ys h)
+
+-- and what is said of it by its place
+pub said_here : {A : Type 0} (P : ℕ → A → Type 0) (xs ys : List A) (k : ℕ) (d : A) → k < length xs → length xs ≡ length ys → drop k xs ≡ drop k ys → ((j : ℕ) (y : A) → slice_get ys j ≡ Some y → P j y) → P k (slice_index_or xs k d)
+said_here P [] ys k d l e left h = absurd (omega arith)
+said_here P (x ∷ xs) [] k d l e left h = absurd (omega arith)
+said_here P (x ∷ xs) (y ∷ ys) zero d l e left h = let same : x ≡ y = cc in subst (P 0) (sym same) (h 0 y refl)
+said_here P (x ∷ xs) (y ∷ ys) (suc k) d l e left h = said_here (λ j z. P (suc j) z) xs ys k d (omega arith) (omega arith) left (λ j z at. h (suc j) z at)
 
 left_suc : {A : Type 0} (xs ys : List A) (k : ℕ) (v : A) → k < length xs → length xs ≡ length ys → drop k xs ≡ drop k ys → drop (suc k) (slice_set xs k v) ≡ drop (suc k) ys
 left_suc [] ys k v l e left = absurd (omega arith)

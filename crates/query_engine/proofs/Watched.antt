@@ -37,8 +37,8 @@ leaf_there schema None event e = absurd (false≢true e)
 leaf_there schema (Some o) event e = (o, refl, e)
 
 -- and no leaf of their queries can read the event
-pub unread_marked : (schema : Declared) (queries : List Query) (count : ℕ) (parts : List Phase) (table : Table) (awake marks marked : List Bool) (event : Event) → queries ≡ map (λ (p : Phase). p.query) (map (seen count) parts) → All (λ (p : Phase). p.schema ≡ schema) parts → IsWatching schema queries count parts table awake marks → ((k : ℕ) → HasRow table.rows table.leaves k event → has marked k ≡ true) → AreUnread (seen count) event marked parts
-unread_marked schema queries count parts table awake marks marked event queries_is schemas h marks_all k p at out j = by (leaves_reading p.schema p.query event j) refl
+pub unread_marked : (schema : Declared) (queries : List Query) (count : ℕ) (parts : List Phase) (table : Table) (awake marks reads marked : List Bool) (event : Event) → queries ≡ map (λ (p : Phase). p.query) (map (seen count) parts) → All (λ (p : Phase). p.schema ≡ schema) parts → IsWatching schema queries count parts table awake marks reads → ((k : ℕ) → HasRow table.rows table.leaves k event → has marked k ≡ true) → AreUnread (seen count) event marked parts
+unread_marked schema queries count parts table awake marks reads marked event queries_is schemas h marks_all k p at out j = by (leaves_reading p.schema p.query event j) refl
   where
     q_at : slice_get queries k ≡ Some p.query
     q_at = ap (λ qs. slice_get qs k) (queries_is ∙ seen_queries count parts) ∙ map_at (λ (x : Phase). x.query) parts k p at
@@ -52,12 +52,13 @@ unread_marked schema queries count parts table awake marks marked event queries_
         absurd (false≢true (sym out ∙ marks_all k row))
 
 -- what is known of the same queries stays
-pub watching_same : (schema : Declared) (old new : List Query) (count later : ℕ) (parts after : List Phase) (table same_table : Table) (awake marked more marks : List Bool) → new ≡ old → same_table ≡ table → length more ≡ length awake → length marks ≡ length marked → AreLeft seen later more after → IsWatching schema old count parts table awake marked → IsWatching schema new later after same_table more marks
-watching_same schema old new count later parts after table same_table awake marked more marks is table_is room sets left h = record {
+pub watching_same : (schema : Declared) (old new : List Query) (count later : ℕ) (parts after : List Phase) (table same_table : Table) (awake marked read more marks reads : List Bool) → new ≡ old → same_table ≡ table → length more ≡ length awake → length marks ≡ length marked → length reads ≡ length read → AreLeft seen later more after → IsWatching schema old count parts table awake marked read → IsWatching schema new later after same_table more marks reads
+watching_same schema old new count later parts after table same_table awake marked read more marks reads is table_is room sets same_reads left h = record {
   watch = subst (λ (t : Table). IsWatch schema new t.rows t.leaves) (sym table_is) (subst (λ qs. IsWatch schema qs table.rows table.leaves) (sym is) h.watch);
   queries_are = ap (λ (t : Table). t.count) table_is ∙ (h.queries_are ∙ ap length (sym is));
   room = room ∙ (h.room ∙ ap (λ qs. room_for (length qs)) (sym is));
   sets = sets ∙ (h.sets ∙ sym room);
+  reads = same_reads ∙ (h.reads ∙ sym room);
   left = left;
 }
 
@@ -87,22 +88,22 @@ compacted_known count (o ∷ old) (n ∷ new) z =
     All-cons (λ (x : Phase). x.upto ≤ count) n new (omega arith) (compacted_known count old new z.1)
 
 -- the sets have room for each part
-pub room_there : (schema : Declared) (queries : List Query) (count : ℕ) (parts : List Phase) (table : Table) (awake marked : List Bool) → IsWatching schema queries count parts table awake marked → table.count ≤ length marked
-room_there schema queries count parts table awake marked h =
+pub room_there : (schema : Declared) (queries : List Query) (count : ℕ) (parts : List Phase) (table : Table) (awake marked read : List Bool) → IsWatching schema queries count parts table awake marked read → table.count ≤ length read
+room_there schema queries count parts table awake marked read h =
     let a = h.queries_are in
     let b = h.room in
-    let c = h.sets in
+    let c = h.reads in
     omega arith
 
-pub parts_within : (schema : Declared) (queries : List Query) (count many : ℕ) (parts : List Phase) (table : Table) (awake marked : List Bool) → queries ≡ map (λ (p : Phase). p.query) (map (seen count) parts) → many ≡ length parts → IsWatching schema queries count parts table awake marked → many ≤ length awake
-parts_within schema queries count many parts table awake marked is many_is h =
+pub parts_within : (schema : Declared) (queries : List Query) (count many : ℕ) (parts : List Phase) (table : Table) (awake marked read : List Bool) → queries ≡ map (λ (p : Phase). p.query) (map (seen count) parts) → many ≡ length parts → IsWatching schema queries count parts table awake marked read → many ≤ length awake
+parts_within schema queries count many parts table awake marked read is many_is h =
     let b = h.room in
     let l : length queries ≡ length parts = ap length is ∙ (length_map (λ (p : Phase). p.query) (map (seen count) parts) ∙ length_map (seen count) parts) in
     omega arith
 
 -- before any event
-pub watching_first : (schema : Declared) (queries given : List Query) (parts : List Phase) (table : Table) (awake marked : List Bool) → queries ≡ given → queries ≡ map (λ (p : Phase). p.query) (map (seen 0) parts) → IsWatch schema given table.rows table.leaves → table.count ≡ length given → length awake ≡ room_for (length given) → length marked ≡ length awake → ((k : ℕ) → k < length given → has awake k ≡ true) → All (IsFirst schema) parts → IsWatching schema queries 0 parts table awake marked
-watching_first schema queries given parts table awake marked is are watch count room sets all first =
+pub watching_first : (schema : Declared) (queries given : List Query) (parts : List Phase) (table : Table) (awake marked read : List Bool) → queries ≡ given → queries ≡ map (λ (p : Phase). p.query) (map (seen 0) parts) → IsWatch schema given table.rows table.leaves → table.count ≡ length given → length awake ≡ room_for (length given) → length marked ≡ length awake → length read ≡ length awake → ((k : ℕ) → k < length given → has awake k ≡ true) → All (IsFirst schema) parts → IsWatching schema queries 0 parts table awake marked read
+watching_first schema queries given parts table awake marked read is are watch count room sets reads all first =
     let l : length queries ≡ length parts = ap length are ∙ (length_map (λ (p : Phase). p.query) (map (seen 0) parts) ∙ length_map (seen 0) parts) in
     let m : length queries ≡ length given = ap length is in
     record {
@@ -110,6 +111,7 @@ watching_first schema queries given parts table awake marked is are watch count 
       queries_are = count ∙ sym m;
       room = room ∙ ap room_for (sym m);
       sets = sets;
+      reads = reads;
       left = left_all 0 parts awake (first_known schema parts first) (λ k less. all k (omega arith));
     }
 

@@ -8,9 +8,10 @@ use Rattle.query_part.specs.Parts.{seen}
 use Rattle.query_watch.specs.Rows.{Table, IsWatch}
 
 -- The table is of the leaves of all queries, and each part that is not among those awake rests.
-pub record IsWatching (schema : Declared) (queries : List Query) (count : ℕ) (parts : List Phase) (table : Table) (awake marked : List Bool) : Type 0 where
+pub record IsWatching (schema : Declared) (queries : List Query) (count : ℕ) (parts : List Phase) (table : Table) (awake marked read : List Bool) : Type 0 where
   pub watch : IsWatch schema queries table.rows table.leaves
   pub queries_are : table.count ≡ length queries
   pub room : length awake ≡ room_for (length queries)
   pub sets : length marked ≡ length awake
+  pub reads : length read ≡ length awake
   pub left : AreLeft seen count awake parts

@@ -20,6 +20,8 @@ pub struct Watching {
     pub awake: Bits,
     /// The parts that the event goes to, in memory that is used again.
     pub marked: Bits,
+    /// Those of them of whose queries a leaf can read the event, likewise.
+    pub read: Bits,
 }
 
 impl Watching {
@@ -30,6 +32,7 @@ impl Watching {
         ensures count { IfOk result (λ w. w.watch.count ≡ length queries.now) }
         ensures room { IfOk result (λ w. length w.awake ≡ room_for (length queries.now)) }
         ensures sets { IfOk result (λ w. length w.marked ≡ length w.awake) }
+        ensures reads { IfOk result (λ w. length w.read ≡ length w.awake) }
         ensures awake { IfOk result (λ w. (k : ℕ) → k < length queries.now
             → has w.awake k ≡ true) }
     {
@@ -37,28 +40,35 @@ impl Watching {
         let mut awake = Bits::blank(alloc, queries.len())?;
         fill(&mut awake, queries.len());
         let marked = Bits::blank(alloc, queries.len())?;
+        let read = Bits::blank(alloc, queries.len())?;
         Ok(Watching {
             watch,
             awake,
             marked,
+            read,
         })
     }
 
     /// Marks the parts that are not known to rest, and those of the queries that have a leaf which
-    /// can read the event.
+    /// can read the event. The latter are then also those that are read.
     #[inline(always)]
     pub fn mark(&mut self, event: &Event)
-        requires room { self.old.watch.count ≤ length self.old.marked }
+        requires room { self.old.watch.count ≤ length self.old.read }
         requires sets { length self.old.marked ≡ length self.old.awake }
-        ensures marked { (k : ℕ) → HasRow self.old.watch.rows self.old.watch.leaves k
-            event.now → has self.new.marked k ≡ true }
+        requires reads { length self.old.read ≡ length self.old.awake }
+        ensures read { (k : ℕ) → HasRow self.old.watch.rows self.old.watch.leaves k
+            event.now → has self.new.read k ≡ true }
+        ensures marked { (k : ℕ) → has self.new.read k ≡ true → has self.new.marked k ≡ true }
         ensures awake { (k : ℕ) → has self.old.awake k ≡ true → has self.new.marked k ≡ true }
         ensures same { (self.new.watch ≡ self.old.watch) × (self.new.awake ≡ self.old.awake) }
         ensures sets { length self.new.marked ≡ length self.old.marked }
+        ensures reads { length self.new.read ≡ length self.old.read }
     {
+        self.read.clear();
+        self.watch.mark(event, &mut self.read);
         self.marked.clear();
         self.marked.unite(&self.awake);
-        self.watch.mark(event, &mut self.marked);
+        self.marked.unite(&self.read);
     }
 
     /// No part is known to rest, of which there are so many.
@@ -66,6 +76,7 @@ impl Watching {
         requires { count ≤ length self.old.awake }
         ensures awake { (k : ℕ) → k < count → has self.new.awake k ≡ true }
         ensures same { (self.new.watch ≡ self.old.watch) × (self.new.marked ≡ self.old.marked) }
+        ensures read { self.new.read ≡ self.old.read }
         ensures room { length self.new.awake ≡ length self.old.awake }
     {
         fill(&mut self.awake, count);

@@ -4,7 +4,9 @@ ghost use Rattle.std.specs.Prelude.{◌≡◌, ◌≢◌, ℕ, ◌+◌, ◌*◌,
 ghost use Rattle.stream_schema.specs.declared.Event.{Event as EventData};
 ghost use Rattle.stream_schema.specs.Events.{IsOfSchema};
 ghost use Rattle.cel_terms.specs.Checked.{IsChecked};
+ghost use Rattle.cer_base.specs.Bits.{has, room_for};
 ghost use Rattle.cer_base.specs.Nodes.{WellFormed};
+ghost use Rattle.query_leaves.specs.Conditions.{leaf_conditions};
 ghost use Rattle.tecs_enumerate.specs.Rest.{recent_of, rest, Fits};
 ghost use Rattle.query_standing.specs.Clocks.{Reads, FallsBack};
 ghost use Rattle.query_standing.specs.Kept.{PartStands, low_at, roots_at};
@@ -331,6 +333,24 @@ impl Part {
     }
 }
 
+/// Makes the set that of the numbers of the leaves that can read the event. Where it is told that none
+/// does, none is looked at.
+#[inline(always)]
+fn fill(conditions: &Conditions, reads: bool, event: &Event, into: &mut Bits)
+    requires room { length into.old ≡ room_for (length conditions.now) }
+    requires unread { reads ≡ false → (k : ℕ) → leaf_conditions conditions.now event.now k ≡ false }
+    ensures members { (k : ℕ) → has into.new k ≡ leaf_conditions conditions.now event.now k }
+    ensures room { length into.new ≡ length into.old }
+{
+    if reads {
+        conditions.fill(event, into);
+        return;
+    }
+    if !into.is_empty() {
+        into.clear();
+    }
+}
+
 impl Keeps for Part {
     ghost phase = { λ n p. seen n p };
 
@@ -342,6 +362,7 @@ impl Keeps for Part {
         &mut self,
         event: &Event,
         position: Pos,
+        reads: bool,
         steps: &mut Steps<L>,
     ) -> Result<bool, Memory> {
         if !may_read(self.floats, self.types.as_slice(), event.ty) {
@@ -356,7 +377,7 @@ impl Keeps for Part {
             pos: position,
             clock: Time::of(clock),
         };
-        self.conditions.fill(event, &mut self.bits);
+        fill(&self.conditions, reads, event, &mut self.bits);
         let table = self.keys.as_slice();
         let matches = &mut self.matches;
         match advance_own(matches, self.alloc, table, event, &self.bits, stamp, steps) {

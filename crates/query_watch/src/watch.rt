@@ -80,8 +80,8 @@ impl Watch {
         })
     }
 
-    /// Marks each query that has a leaf which can read the event, and no other. The set has room for
-    /// all numbers.
+    /// Marks each query that has a leaf which can read the event, and none but by the tests of such a
+    /// leaf. The set has room for all numbers.
     #[inline(always)]
     pub fn mark(&self, event: &Event, into: &mut Bits)
         requires { self.now.count ≤ length into.old }

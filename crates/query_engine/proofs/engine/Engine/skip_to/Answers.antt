@@ -10,7 +10,7 @@ use Rattle.query_engine.proofs.Skipped.{went, went_keeping, went_stands, went_sa
 use Rattle.query_engine.proofs.engine.Engine.skip_to.Goals as goal
 
 pub wake_all-requires : goal.wake_all-requires
-wake_all-requires c = parts_within c.self.inside.schema (map (λ (p : Phase). p.query) (map (seen c.self.inside.count) c.self.inside.parts.items)) c.self.inside.count c.len.result c.self.inside.parts.items c.self.inside.watching.watch c.self.inside.watching.awake c.self.inside.watching.marked refl (let all = c.len.ensures in omega arith) c.self.invariant.2
+wake_all-requires c = parts_within c.self.inside.schema (map (λ (p : Phase). p.query) (map (seen c.self.inside.count) c.self.inside.parts.items)) c.self.inside.count c.len.result c.self.inside.parts.items c.self.inside.watching.watch c.self.inside.watching.awake c.self.inside.watching.marked c.self.inside.watching.read refl (let all = c.len.ensures in omega arith) c.self.invariant.2
 
 pub invariant_of-self : goal.invariant_of-self
 invariant_of-self c =
@@ -25,9 +25,9 @@ invariant_of-self c =
       noted_same (map (λ (p : Phase). p.query) old) (map (λ (p : Phase). p.query) after) old after c.self.inside.told false c.self.inside.touched.items c.self.inside.touched.items c.self.inside.all.items c.self.inside.timed.items
           (went_queries c.self.inside.schema c.self.inside.count c.args.position c.self.inside.parts.items raw c.self.inside.peaks.items c.args.self.now w) c.self.invariant.1
           (λ told. absurd (false≢true told)),
-      watching_same c.self.inside.schema (map (λ (p : Phase). p.query) old) (map (λ (p : Phase). p.query) after) c.self.inside.count c.args.position c.self.inside.parts.items raw c.self.inside.watching.watch c.wake_all.new.self.watch c.self.inside.watching.awake c.self.inside.watching.marked c.wake_all.new.self.awake c.wake_all.new.self.marked
+      watching_same c.self.inside.schema (map (λ (p : Phase). p.query) old) (map (λ (p : Phase). p.query) after) c.self.inside.count c.args.position c.self.inside.parts.items raw c.self.inside.watching.watch c.wake_all.new.self.watch c.self.inside.watching.awake c.self.inside.watching.marked c.self.inside.watching.read c.wake_all.new.self.awake c.wake_all.new.self.marked c.wake_all.new.self.read
           (went_queries c.self.inside.schema c.self.inside.count c.args.position c.self.inside.parts.items raw c.self.inside.peaks.items c.args.self.now w)
-          c.wake_all.ensures.same.0 c.wake_all.ensures.room (ap (λ (b : List Bool). length b) c.wake_all.ensures.same.1)
+          c.wake_all.ensures.same.0 c.wake_all.ensures.room (ap (λ (b : List Bool). length b) c.wake_all.ensures.same.1) (ap (λ (b : List Bool). length b) c.wake_all.ensures.read)
           (left_all c.args.position raw c.wake_all.new.self.awake (subst (All (λ (p : Phase). p.upto ≤ c.args.position)) (sym (raw_is ∙ c.skip_parts.ensures)) (skipped_known c.args.position (map (woken c.self.inside.count) c.as_mut_slice-parts.result.now)))
           (λ k less. c.wake_all.ensures.awake k (let same = ap (λ (ps : List Phase). length ps) raw_is in let all = c.len.ensures in omega arith))) c.self.invariant.2,
     )

@@ -16,10 +16,13 @@ pub see-requires-clause-can : goal.see-requires-clause-can
 see-requires-clause-can g c = can_take c.self.inside.schema c.self.inside.count c.self.inside.parts.items c.as_mut_slice-parts.result.now c.self.inside.peaks.items c.args.self.now c.args.event.now c.self.view_is c.self.invariant.0 c.requires.of_schema c.requires.in_time c.as_mut_slice-parts.ensures.value
 
 pub mark-requires-clause-room : goal.mark-requires-clause-room
-mark-requires-clause-room g c = room_there c.self.inside.schema (map (λ (p : Phase). p.query) (map (seen c.self.inside.count) c.self.inside.parts.items)) c.self.inside.count c.self.inside.parts.items c.self.inside.watching.watch c.self.inside.watching.awake c.self.inside.watching.marked c.self.invariant.2
+mark-requires-clause-room g c = room_there c.self.inside.schema (map (λ (p : Phase). p.query) (map (seen c.self.inside.count) c.self.inside.parts.items)) c.self.inside.count c.self.inside.parts.items c.self.inside.watching.watch c.self.inside.watching.awake c.self.inside.watching.marked c.self.inside.watching.read c.self.invariant.2
 
 pub mark-requires-clause-sets : goal.mark-requires-clause-sets
 mark-requires-clause-sets g c = c.self.invariant.2.sets
+
+pub mark-requires-clause-reads : goal.mark-requires-clause-reads
+mark-requires-clause-reads g c = c.self.invariant.2.reads
 
 pub see-requires-clause-left : goal.see-requires-clause-left
 see-requires-clause-left g c =
@@ -29,7 +32,12 @@ see-requires-clause-left g c =
 pub see-requires-clause-unread : goal.see-requires-clause-unread
 see-requires-clause-unread g c =
     subst (λ (ps : List Phase). AreUnread (seen c.self.inside.count) c.args.event.now c.mark.new.self.marked ps) (sym c.as_mut_slice-parts.ensures.value)
-    (unread_marked c.self.inside.schema (map (λ (p : Phase). p.query) (map (seen c.self.inside.count) c.self.inside.parts.items)) c.self.inside.count c.self.inside.parts.items c.self.inside.watching.watch c.self.inside.watching.awake c.self.inside.watching.marked c.mark.new.self.marked c.args.event.now refl c.self.invariant.0.schemas c.self.invariant.2 c.mark.ensures.marked)
+    (unread_marked c.self.inside.schema (map (λ (p : Phase). p.query) (map (seen c.self.inside.count) c.self.inside.parts.items)) c.self.inside.count c.self.inside.parts.items c.self.inside.watching.watch c.self.inside.watching.awake c.self.inside.watching.marked c.self.inside.watching.read c.mark.new.self.marked c.args.event.now refl c.self.invariant.0.schemas c.self.invariant.2 (λ k row. c.mark.ensures.marked k (c.mark.ensures.read k row)))
+
+pub see-requires-clause-told : goal.see-requires-clause-told
+see-requires-clause-told g c =
+    subst (λ (ps : List Phase). AreUnread (seen c.self.inside.count) c.args.event.now c.mark.new.self.read ps) (sym c.as_mut_slice-parts.ensures.value)
+    (unread_marked c.self.inside.schema (map (λ (p : Phase). p.query) (map (seen c.self.inside.count) c.self.inside.parts.items)) c.self.inside.count c.self.inside.parts.items c.self.inside.watching.watch c.self.inside.watching.awake c.self.inside.watching.marked c.self.inside.watching.read c.mark.new.self.read c.args.event.now refl c.self.invariant.0.schemas c.self.invariant.2 c.mark.ensures.read)
 
 pub see-requires-clause-sets : goal.see-requires-clause-sets
 see-requires-clause-sets g c = ap (λ (b : List Bool). length b) c.mark.ensures.same.1 ∙ (sym c.self.invariant.2.sets ∙ sym c.mark.ensures.sets)
@@ -46,8 +54,8 @@ invariant_of-self g c =
       keeping c.self.inside.schema (c.self.inside.count + 1) new c.self.inside.peaks.items (took_running c.self.inside.schema c.self.inside.count (map (seen c.self.inside.count) c.self.inside.parts.items) c.self.inside.peaks.items c.args.event.now (map (seen (c.self.inside.count + 1)) new) t c.args.self.now c.self.view_is),
       noted_same (map (λ (p : Phase). p.query) old) (map (λ (p : Phase). p.query) after) old after c.self.inside.told true c.self.inside.touched.items c.see.new.touched.items c.self.inside.all.items c.self.inside.timed.items queries c.self.invariant.1
           (λ told. subst (λ (ps : List Phase). MayAnswer c.see.new.touched.items (map (seen (c.self.inside.count + 1)) ps)) (sym is) c.in-Ok.ensures.answering),
-      watching_same c.self.inside.schema (map (λ (p : Phase). p.query) old) (map (λ (p : Phase). p.query) after) c.self.inside.count (c.self.inside.count + 1) c.self.inside.parts.items new c.self.inside.watching.watch c.mark.new.self.watch c.self.inside.watching.awake c.self.inside.watching.marked c.see.new.awake c.mark.new.self.marked queries
-          c.mark.ensures.same.0 (c.see.ensures.sets ∙ ap (λ (b : List Bool). length b) c.mark.ensures.same.1) c.mark.ensures.sets (subst (λ (ps : List Phase). AreLeft seen (c.self.inside.count + 1) c.see.new.awake ps) (sym is) c.in-Ok.ensures.left) c.self.invariant.2,
+      watching_same c.self.inside.schema (map (λ (p : Phase). p.query) old) (map (λ (p : Phase). p.query) after) c.self.inside.count (c.self.inside.count + 1) c.self.inside.parts.items new c.self.inside.watching.watch c.mark.new.self.watch c.self.inside.watching.awake c.self.inside.watching.marked c.self.inside.watching.read c.see.new.awake c.mark.new.self.marked c.mark.new.self.read queries
+          c.mark.ensures.same.0 (c.see.ensures.sets ∙ ap (λ (b : List Bool). length b) c.mark.ensures.same.1) c.mark.ensures.sets c.mark.ensures.reads (subst (λ (ps : List Phase). AreLeft seen (c.self.inside.count + 1) c.see.new.awake ps) (sym is) c.in-Ok.ensures.left) c.self.invariant.2,
     )
 
 pub returns-in-Ok-clause-stands : goal.returns-in-Ok-clause-stands
@@ -124,8 +132,8 @@ invariant_of-self-in-Err g c =
       kept_back c.self.inside.schema c.self.inside.count c.self.inside.parts.items c.as_mut_slice-parts.result.now c.see.new.parts new c.self.inside.peaks.items c.self.invariant.0 c.as_mut_slice-parts.ensures.value is c.in-Err.ensures.unchanged,
       noted_same (map (λ (p : Phase). p.query) old) (map (λ (p : Phase). p.query) after) old after c.self.inside.told false c.self.inside.touched.items c.see.new.touched.items c.self.inside.all.items c.self.inside.timed.items (ap (map (λ (p : Phase). p.query)) same) c.self.invariant.1
           (λ told. absurd (false≢true told)),
-      watching_same c.self.inside.schema (map (λ (p : Phase). p.query) old) (map (λ (p : Phase). p.query) after) c.self.inside.count c.self.inside.count c.self.inside.parts.items new c.self.inside.watching.watch c.mark.new.self.watch c.self.inside.watching.awake c.self.inside.watching.marked c.see.new.awake c.mark.new.self.marked (ap (map (λ (p : Phase). p.query)) same)
-          c.mark.ensures.same.0 (c.see.ensures.sets ∙ ap (λ (b : List Bool). length b) c.mark.ensures.same.1) c.mark.ensures.sets (subst (λ (ps : List Phase). AreLeft seen c.self.inside.count c.see.new.awake ps) (sym is) c.in-Err.ensures.still_left) c.self.invariant.2,
+      watching_same c.self.inside.schema (map (λ (p : Phase). p.query) old) (map (λ (p : Phase). p.query) after) c.self.inside.count c.self.inside.count c.self.inside.parts.items new c.self.inside.watching.watch c.mark.new.self.watch c.self.inside.watching.awake c.self.inside.watching.marked c.self.inside.watching.read c.see.new.awake c.mark.new.self.marked c.mark.new.self.read (ap (map (λ (p : Phase). p.query)) same)
+          c.mark.ensures.same.0 (c.see.ensures.sets ∙ ap (λ (b : List Bool). length b) c.mark.ensures.same.1) c.mark.ensures.sets c.mark.ensures.reads (subst (λ (ps : List Phase). AreLeft seen c.self.inside.count c.see.new.awake ps) (sym is) c.in-Err.ensures.still_left) c.self.invariant.2,
     )
 
 pub returns-in-Err-clause-unchanged : goal.returns-in-Err-clause-unchanged

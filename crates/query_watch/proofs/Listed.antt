@@ -1,5 +1,5 @@
 -- Rows that are put in, and looked at.
-use Rattle.std.proofs.Common.{◌≡◌, refl, sym, ap, subst, ◌∙◌, ℕ, zero, suc, ◌+◌, ◌<◌, ◌≤◌, ◌⊎◌, inl, inr, Bool, true, false, ◌||◌, eqb, List, [], ◌∷◌, ◌++◌, length, take, Some, None, Vec, slice_get, slice_index_or, slice_set, Contains, All, arith}
+use Rattle.std.proofs.Common.{◌≡◌, refl, sym, ap, subst, ◌∙◌, ℕ, zero, suc, ◌+◌, ◌<◌, ◌≤◌, ◌⊎◌, inl, inr, Bool, true, false, ◌&&◌, ◌||◌, eqb, List, [], ◌∷◌, ◌++◌, length, take, Some, None, Vec, slice_get, slice_index_or, slice_set, Contains, All, arith}
 use Rattle.std.specs.declared.alloc.Global.{Global}
 use Rattle.std.proofs.lemmas.Bool.{cases_lt, cases_eq, eq-eqb, eqb-true, false≢true, and_parts, or_cases, or_left, or_right}
 use Rattle.std.proofs.lemmas.List.Elements.{All-nil, All-push, All-weaker, Contains-append_left, Contains-append_right, Contains-append_cases, Contains-push, Contains-push_cases, Contains-get_or, All-get_or}
@@ -12,13 +12,13 @@ use Rattle.cel_terms.specs.declared.Query.{Query}
 use Rattle.query_leaves.specs.declared.Leaf.{Leaf}
 use Rattle.query_leaves.specs.declared.Test.{Test}
 use Rattle.query_leaves.specs.Expand.{Occurrence, tree_of}
-use Rattle.query_leaves.specs.Leaves.{occurrences}
+use Rattle.query_leaves.specs.Leaves.{occurrences, occurrence_reads}
 use Rattle.query_leaves.specs.Shapes.{each_holds, leaf_reads, IsLeafOf, AreLeavesOf}
 use Rattle.predicate_bits.specs.declared.ranges.Range.{Range}
 use Rattle.predicate_bits.specs.Ranges.{AsksFor, Settles}
 use Rattle.query_watch.specs.declared.rows.Row.{Row}
 use Rattle.query_watch.specs.declared.rows.Watched.{Watched}
-use Rattle.query_watch.specs.Rows.{Table, rows_of, IsListed, HasPut, HasAdded, IsRangeOf, IsRowOf, HasLeafRow, HaveRows, HaveReader, HasRow, IsWatched, IsWatch, IsRowBelow, AreBelow, Marks}
+use Rattle.query_watch.specs.Rows.{Table, rows_of, IsListed, HasPut, HasAdded, HasAddedQuery, IsRangeOf, IsRowOf, IsRowOfLeaf, HasLeafRow, HaveRows, HaveReader, HasRow, IsWatched, IsWatch, IsExact, AreExact, IsRowBelow, AreBelow, Marks}
 
 -- a list with nothing in it, put in last, changes no list
 pub same_more : (vs : List (Vec Row Global)) (v : Vec Row Global) → v.items ≡ [] → (t : ℕ) → slice_index_or (rows_of (vs ++ v ∷ [])) t [] ≡ slice_index_or (rows_of vs) t []
@@ -56,7 +56,7 @@ put_is vs ty row d w less is = record {
   only = λ t r h. elim (cases_eq t ty) [
     | inl same ↦ elim (Contains-push_cases (slice_index_or (rows_of vs) ty []) row r (subst (λ rs. Contains rs r) new (subst (λ i. IsListed (rows_of (slice_set vs ty w)) i r) same h))) [
       | inl was ↦ inl (subst (λ i. IsListed (rows_of vs) i r) (sym same) was)
-      | inr is_row ↦ inr is_row
+      | inr is_row ↦ inr (sym same, is_row)
     ]
     | inr other ↦ inl (subst (λ rs. Contains rs r) (at_other vs ty t w other) h)
   ];
@@ -86,20 +86,23 @@ before_last [] l x k at = absurd cc
 before_last (y ∷ had) l x zero at = at
 before_last (y ∷ had) l x (suc k) at = before_last had l x k at
 
-pub added_none : (query : ℕ) (rows : List (List Row)) (leaves : List Watched) → HasAdded query rows leaves rows leaves
-added_none query rows leaves = record { kept = λ t r h. h; leaves = λ k l at. at; only = λ t r h. inl h }
+pub added_none : (query : ℕ) (list : List Leaf) (rows : List (List Row)) (leaves : List Watched) → HasAdded query list rows leaves rows leaves
+added_none query list rows leaves = record { kept = λ t r h. h; leaves = λ k l at. at; only = λ t r h. inl h }
 
-row_kept : (query : ℕ) (had have : List Watched) (row : Row) → ((k : ℕ) (l : Watched) → slice_get had k ≡ Some l → slice_get have k ≡ Some l) → IsRowOf query had row → IsRowOf query have row
+abbrev row_kept : (query : ℕ) (had have : List Watched) (row : Row) → ((k : ℕ) (l : Watched) → slice_get had k ≡ Some l → slice_get have k ≡ Some l) → IsRowOf query had row → IsRowOf query have row
 row_kept query had have row kept h = record { leaf = h.leaf; at = kept row.leaf h.leaf h.at; range = h.range; numbered = h.numbered }
 
+of_leaf_kept : (query : ℕ) (some more : List Leaf) (had have : List Watched) (ty : ℕ) (row : Row) → ((l : Leaf) → Contains some l → Contains more l) → ((k : ℕ) (l : Watched) → slice_get had k ≡ Some l → slice_get have k ≡ Some l) → IsRowOfLeaf query some had ty row → IsRowOfLeaf query more have ty row
+of_leaf_kept query some more had have ty row within kept h = record { of = row_kept query had have row kept h.of; leaf = h.leaf; listed = within h.leaf h.listed; type = h.type; tests = h.tests }
+
 -- one leaf and its row
-pub added_leaf : (query ty : ℕ) (row : Row) (leaf : Watched) (old new : List (List Row)) (had have : List Watched) → have ≡ had ++ leaf ∷ [] → row.leaf ≡ length had → leaf.query ≡ query → IsRangeOf row.range leaf → HasPut ty row old new → HasAdded query old had new have
-added_leaf query ty row leaf old new had have is numbered of range p = record {
+pub added_leaf : (query : ℕ) (row : Row) (leaf : Watched) (l : Leaf) (old new : List (List Row)) (had have : List Watched) → have ≡ had ++ leaf ∷ [] → row.leaf ≡ length had → leaf.query ≡ query → leaf.tests.items ≡ l.tests.items → IsRangeOf row.range leaf → HasPut l.ty row old new → HasAdded query (l ∷ []) old had new have
+added_leaf query row leaf l old new had have is numbered of tests range p = record {
   kept = p.kept;
-  leaves = λ k l at. subst (λ ls. slice_get ls k ≡ Some l) (sym is) (before_last had leaf l k at);
+  leaves = λ k x at. subst (λ ls. slice_get ls k ≡ Some x) (sym is) (before_last had leaf x k at);
   only = λ t r now. elim (p.only t r now) [
     | inl was ↦ inl was
-    | inr one ↦ inr (subst (IsRowOf query have) one (record { leaf = leaf; at = ap (slice_get have) numbered ∙ last_leaf had have leaf is; range = range; numbered = of }))
+    | inr one ↦ inr (subst (IsRowOfLeaf query (l ∷ []) have t) one.1 (record { of = record { leaf = leaf; at = ap (slice_get have) numbered ∙ last_leaf had have leaf is; range = range; numbered = of }; leaf = l; listed = Contains-push [] l; type = one.0; tests = tests }))
   ];
 }
 
@@ -113,21 +116,21 @@ leaf_row query row leaf l old new had have is numbered of tests p = record {
   tests = tests;
 }
 
-pub added_more : (query : ℕ) (old mid new : List (List Row)) (a b c : List Watched) → HasAdded query old a mid b → HasAdded query mid b new c → HasAdded query old a new c
-added_more query old mid new a b c h p = record {
+pub added_more : (query : ℕ) (xs ys : List Leaf) (old mid new : List (List Row)) (a b c : List Watched) → HasAdded query xs old a mid b → HasAdded query ys mid b new c → HasAdded query (xs ++ ys) old a new c
+added_more query xs ys old mid new a b c h p = record {
   kept = λ t r was. p.kept t r (h.kept t r was);
   leaves = λ k l at. p.leaves k l (h.leaves k l at);
   only = λ t r now. elim (p.only t r now) [
     | inl mid_is ↦ elim (h.only t r mid_is) [
       | inl was ↦ inl was
-      | inr one ↦ inr (row_kept query b c r p.leaves one)
+      | inr one ↦ inr (of_leaf_kept query xs (xs ++ ys) b c t r (λ l i. Contains-append_left xs ys l i) p.leaves one)
     ]
-    | inr one ↦ inr one
+    | inr one ↦ inr (of_leaf_kept query ys (xs ++ ys) c c t r (λ l i. Contains-append_right xs ys l i) (λ k l at. at) one)
   ];
 }
 
-leaf_kept : (query other : ℕ) (old new : List (List Row)) (had have : List Watched) (l : Leaf) → HasAdded other old had new have → HasLeafRow query old had l → HasLeafRow query new have l
-leaf_kept query other old new had have l added h = record { row = h.row; listed = added.kept l.ty h.row h.listed; leaf = h.leaf; at = added.leaves h.row.leaf h.leaf h.at; numbered = h.numbered; tests = h.tests }
+leaf_kept : (query other : ℕ) (list : List Leaf) (old new : List (List Row)) (had have : List Watched) (l : Leaf) → HasAdded other list old had new have → HasLeafRow query old had l → HasLeafRow query new have l
+leaf_kept query other list old new had have l added h = record { row = h.row; listed = added.kept l.ty h.row h.listed; leaf = h.leaf; at = added.leaves h.row.leaf h.leaf h.at; numbered = h.numbered; tests = h.tests }
 
 -- the range of a leaf's tests, as the code reads them
 pub range_of_leaf : (query : ℕ) (range : Range) (settled : Bool) (tests : Vec Test Global) (xs ys : List Test) → xs ≡ tests.items → ys ≡ tests.items → AsksFor range (each_holds xs) → (settled ≡ true → Settles range (each_holds ys)) → IsRangeOf range (record { query = query; settled = settled; tests = tests })
@@ -139,8 +142,8 @@ range_of_leaf query range settled tests xs ys x_is y_is asks settles = record {
 pub rows_none : (query : ℕ) (rows : List (List Row)) (leaves : List Watched) → HaveRows query [] rows leaves
 rows_none query rows leaves = All-nil (HasLeafRow query rows leaves)
 
-pub rows_next : (query : ℕ) (list : List Leaf) (l : Leaf) (old new : List (List Row)) (had have : List Watched) → HaveRows query list old had → HasAdded query old had new have → HasLeafRow query new have l → HaveRows query (list ++ l ∷ []) new have
-rows_next query list l old new had have h added one = All-push (HasLeafRow query new have) list l (All-weaker (HasLeafRow query old had) (HasLeafRow query new have) (λ x was. leaf_kept query query old new had have x added was) list h) one
+pub rows_next : (query : ℕ) (list : List Leaf) (l : Leaf) (old new : List (List Row)) (had have : List Watched) → HaveRows query list old had → HasAdded query (l ∷ []) old had new have → HasLeafRow query new have l → HaveRows query (list ++ l ∷ []) new have
+rows_next query list l old new had have h added one = All-push (HasLeafRow query new have) list l (All-weaker (HasLeafRow query old had) (HasLeafRow query new have) (λ x was. leaf_kept query query (l ∷ []) old new had have x added was) list h) one
 
 -- the leaf of an occurrence
 leaf_there : (schema : Declared) (os : List Occurrence) (ls : List Leaf) (k : ℕ) (o : Occurrence) → AreLeavesOf schema os ls → slice_get os k ≡ Some o → (l : Leaf) × (slice_get ls k ≡ Some l) × IsLeafOf schema o l
@@ -168,15 +171,33 @@ watched schema q number list rows leaves of have event k o at reads =
     }
 
 -- rows of another query leave a query watched
-pub watched_kept : (schema : Declared) (q : Query) (number other : ℕ) (old new : List (List Row)) (had have : List Watched) → HasAdded other old had new have → IsWatched schema q number old had → IsWatched schema q number new have
-watched_kept schema q number other old new had have added h event k o at reads =
+pub watched_kept : (schema : Declared) (q : Query) (number other : ℕ) (list : List Leaf) (old new : List (List Row)) (had have : List Watched) → HasAdded other list old had new have → IsWatched schema q number old had → IsWatched schema q number new have
+watched_kept schema q number other list old new had have added h event k o at reads =
     let was = h event k o at reads in
     record { row = was.row; listed = added.kept event.ty was.row was.listed; leaf = was.leaf; at = added.leaves was.row.leaf was.leaf was.at; numbered = was.numbered; holds = was.holds }
 
 -- The queries before a number are watched.
 pub record IsWatchUpTo (k : ℕ) (schema : Declared) (queries : List Query) (rows : List (List Row)) (leaves : List Watched) : Type 0 where
   pub each : (j : ℕ) (q : Query) → j < k → slice_get queries j ≡ Some q → IsWatched schema q j rows leaves
+  pub exact : (j : ℕ) (q : Query) → j < k → slice_get queries j ≡ Some q → IsExact schema q j rows leaves
   pub below : AreBelow k rows leaves
+
+-- the occurrence of a leaf
+occurrence_there : (schema : Declared) (os : List Occurrence) (ls : List Leaf) (k : ℕ) (l : Leaf) → AreLeavesOf schema os ls → slice_get ls k ≡ Some l → (o : Occurrence) × (slice_get os k ≡ Some o) × IsLeafOf schema o l
+occurrence_there schema [] [] k l of at = absurd cc
+occurrence_there schema [] (x ∷ ls) k l of at = absurd of
+occurrence_there schema (o ∷ os) [] k l of at = absurd of
+occurrence_there schema (o ∷ os) (x ∷ ls) zero l of at = let same : x ≡ l = cc in (o, refl, subst (IsLeafOf schema o) same of.0)
+occurrence_there schema (o ∷ os) (x ∷ ls) (suc k) l of at = occurrence_there schema os ls k l of.1 at
+
+-- a row of the query's leaves whose tests hold is of one that reads
+exact_here : (schema : Declared) (q : Query) (number : ℕ) (list : List Leaf) (have : List Watched) (event : Event) (row : Row) → AreLeavesOf schema (occurrences (tree_of q)) list → (n : IsRowOfLeaf number list have event.ty row) → each_holds n.of.leaf.tests.items event ≡ true → (k : ℕ) × (o : Occurrence) × (slice_get (occurrences (tree_of q)) k ≡ Some o) × (occurrence_reads schema o event ≡ true)
+exact_here schema q number list have event row are n holds =
+    let at : slice_get list n.listed.0 ≡ Some n.leaf = slice_get-get_or list n.listed.0 n.leaf n.listed.1 ∙ ap Some n.listed.2 in
+    let o = occurrence_there schema (occurrences (tree_of q)) list n.listed.0 n.leaf are at in
+    let tests : each_holds n.leaf.tests.items event ≡ true = ap (λ ts. each_holds ts event) (sym n.tests) ∙ holds in
+    let does : leaf_reads n.leaf event ≡ true = ap (λ b. b && each_holds n.leaf.tests.items event) (eq-eqb n.leaf.ty event.ty n.type) ∙ tests in
+    (n.listed.0, o.0, o.1, sym (o.2.reads event) ∙ does)
 
 nothing_listed : (t : ℕ) (r : Row) → IsListed [] t r → ⊥
 nothing_listed zero r h = (let l = h.1 in omega arith)
@@ -185,13 +206,14 @@ nothing_listed (suc t) r h = (let l = h.1 in omega arith)
 pub watch_none : (schema : Declared) (queries : List Query) (rows : List (List Row)) (leaves : List Watched) → rows ≡ [] → IsWatchUpTo 0 schema queries rows leaves
 watch_none schema queries rows leaves none = record {
   each = λ j q less. absurd (omega arith);
+  exact = λ j q less. absurd (omega arith);
   below = λ t r h. absurd (nothing_listed t r (subst (λ rs. IsListed rs t r) none h));
 }
 
-pub watch_next : (k : ℕ) (schema : Declared) (queries : List Query) (q : Query) (old new : List (List Row)) (had have : List Watched) → k < length queries → q ≡ slice_index_or queries k q → IsWatchUpTo k schema queries old had → IsWatched schema q k new have → HasAdded k old had new have → IsWatchUpTo (k + 1) schema queries new have
+pub watch_next : (k : ℕ) (schema : Declared) (queries : List Query) (q : Query) (old new : List (List Row)) (had have : List Watched) → k < length queries → q ≡ slice_index_or queries k q → IsWatchUpTo k schema queries old had → IsWatched schema q k new have → HasAddedQuery schema q k old had new have → IsWatchUpTo (k + 1) schema queries new have
 watch_next k schema queries q old new had have less here h watched added = record {
   each = λ j p below at. elim (cases_lt j k) [
-    | inl low ↦ watched_kept schema p j k old new had have added (h.each j p low at)
+    | inl low ↦ watched_kept schema p j k added.list old new had have added.added (h.each j p low at)
     | inr high ↦ (
         let same : k ≡ j = omega arith in
         let there = slice_get-get_or queries k q less in
@@ -199,15 +221,34 @@ watch_next k schema queries q old new had have less here h watched added = recor
         subst (λ i. IsWatched schema p i new have) same (subst (λ z. IsWatched schema z k new have) one watched)
         )
   ];
-  below = λ t r now. elim (added.only t r now) [
+  exact = λ j p below at event r. elim (added.added.only event.ty r.row r.listed) [
+    | inl was ↦ (
+        let b = h.below event.ty r.row was in
+        let low = b.below in
+        let one : b.of.leaf ≡ r.leaf = (let both = sym (added.added.leaves r.row.leaf b.of.leaf b.of.at) ∙ r.at in cc) in
+        let number : b.query ≡ j = sym b.of.numbered ∙ (ap (λ (l : Watched). l.query) one ∙ r.numbered) in
+        h.exact j p (omega arith) at event (record { row = r.row; listed = was; leaf = b.of.leaf; at = b.of.at; numbered = b.of.numbered ∙ number; holds = ap (λ (l : Watched). each_holds l.tests.items event) one ∙ r.holds })
+        )
+    | inr n ↦ (
+        let one : n.of.leaf ≡ r.leaf = (let both = sym n.of.at ∙ r.at in cc) in
+        let same : k ≡ j = sym n.of.numbered ∙ (ap (λ (l : Watched). l.query) one ∙ r.numbered) in
+        let there = slice_get-get_or queries k q less in
+        let query : q ≡ p = (let both = sym (subst (λ i. slice_get queries i ≡ Some p) (sym same) at) ∙ there in cc) in
+        exact_here schema p k added.list have event r.row (subst (λ z. AreLeavesOf schema (occurrences (tree_of z)) added.list) query added.are) n (ap (λ (l : Watched). each_holds l.tests.items event) one ∙ r.holds)
+        )
+  ];
+  below = λ t r now. elim (added.added.only t r now) [
     | inl was ↦ (
         let b = h.below t r was in
         let low = b.below in
-        record { query = b.query; of = row_kept b.query had have r added.leaves b.of; below = omega arith }
+        record { query = b.query; of = row_kept b.query had have r added.added.leaves b.of; below = omega arith }
         )
-    | inr is ↦ record { query = k; of = is; below = omega arith }
+    | inr is ↦ record { query = k; of = is.of; below = omega arith }
   ];
 }
+
+pub exact_all : (k : ℕ) (schema : Declared) (queries : List Query) (rows : List (List Row)) (leaves : List Watched) → length queries ≤ k → IsWatchUpTo k schema queries rows leaves → AreExact schema queries rows leaves
+exact_all k schema queries rows leaves end h j q at = let less = slice_get_within queries j q at in h.exact j q (omega arith) at
 
 pub watch_all : (k : ℕ) (schema : Declared) (queries : List Query) (rows : List (List Row)) (leaves : List Watched) → length queries ≤ k → IsWatchUpTo k schema queries rows leaves → IsWatch schema queries rows leaves
 watch_all k schema queries rows leaves end h j q at = let less = slice_get_within queries j q at in h.each j q (omega arith) at

@@ -8,7 +8,7 @@ use Rattle.cel_terms.specs.declared.Query.{Query}
 use Rattle.query_leaves.specs.declared.Leaf.{Leaf}
 use Rattle.query_leaves.specs.Expand.{Occurrence, tree_of}
 use Rattle.query_leaves.specs.Leaves.{occurrences, occurrence_reads}
-use Rattle.query_leaves.specs.Shapes.{each_holds}
+use Rattle.query_leaves.specs.Shapes.{each_holds, AreLeavesOf}
 use Rattle.predicate_bits.specs.declared.ranges.Range.{Range}
 use Rattle.predicate_bits.specs.Ranges.{AsksFor, Settles}
 use Rattle.query_watch.specs.declared.rows.Row.{Row}
@@ -32,7 +32,7 @@ IsListed rows ty row = Contains (slice_index_or rows ty []) row
 pub record HasPut (ty : ℕ) (row : Row) (old new : List (List Row)) : Type 0 where
   pub more : IsListed new ty row
   pub kept : (t : ℕ) (r : Row) → IsListed old t r → IsListed new t r
-  pub only : (t : ℕ) (r : Row) → IsListed new t r → IsListed old t r ⊎ (row ≡ r)
+  pub only : (t : ℕ) (r : Row) → IsListed new t r → IsListed old t r ⊎ ((ty ≡ t) × (row ≡ r))
 
 -- The range is one that the leaf's tests ask for, and settles them where the leaf says so.
 pub record IsRangeOf (range : Range) (leaf : Watched) : Type 0 where
@@ -46,11 +46,19 @@ pub record IsRowOf (query : ℕ) (leaves : List Watched) (row : Row) : Type 0 wh
   pub range : IsRangeOf row.range leaf
   pub numbered : leaf.query ≡ query
 
--- Leaves of one query came, and their rows.
-pub record HasAdded (query : ℕ) (old : List (List Row)) (had : List Watched) (new : List (List Row)) (have : List Watched) : Type 0 where
+-- The row in the list of the type is of one of these leaves of the query, which has this type and these tests.
+pub record IsRowOfLeaf (query : ℕ) (list : List Leaf) (leaves : List Watched) (ty : ℕ) (row : Row) : Type 0 where
+  pub of : IsRowOf query leaves row
+  pub leaf : Leaf
+  pub listed : Contains list leaf
+  pub type : leaf.ty ≡ ty
+  pub tests : of.leaf.tests.items ≡ leaf.tests.items
+
+-- These leaves of one query came, and their rows.
+pub record HasAdded (query : ℕ) (list : List Leaf) (old : List (List Row)) (had : List Watched) (new : List (List Row)) (have : List Watched) : Type 0 where
   pub kept : (t : ℕ) (r : Row) → IsListed old t r → IsListed new t r
   pub leaves : (k : ℕ) (l : Watched) → slice_get had k ≡ Some l → slice_get have k ≡ Some l
-  pub only : (t : ℕ) (r : Row) → IsListed new t r → IsListed old t r ⊎ IsRowOf query have r
+  pub only : (t : ℕ) (r : Row) → IsListed new t r → IsListed old t r ⊎ IsRowOfLeaf query list have t r
 
 -- Of a leaf of the query there is a row in the list of its type, with its tests.
 pub record HasLeafRow (query : ℕ) (rows : List (List Row)) (leaves : List Watched) (l : Leaf) : Type 0 where
@@ -78,6 +86,12 @@ pub record HaveReader (rows : List Row) (leaves : List Watched) (query : ℕ) (e
 abbrev pub HasRow : List (List Row) → List Watched → ℕ → Event → Type 0
 HasRow rows leaves query event = HaveReader (slice_index_or rows event.ty []) leaves query event
 
+-- The leaves of the query came, and their rows.
+pub record HasAddedQuery (schema : Declared) (q : Query) (query : ℕ) (old : List (List Row)) (had : List Watched) (new : List (List Row)) (have : List Watched) : Type 0 where
+  pub list : List Leaf
+  pub are : AreLeavesOf schema (occurrences (tree_of q)) list
+  pub added : HasAdded query list old had new have
+
 -- each event that a leaf of the query can read has such a row
 abbrev pub IsWatched : Declared → Query → ℕ → List (List Row) → List Watched → Type 0
 IsWatched schema q query rows leaves = (event : Event) (k : ℕ) (o : Occurrence) → slice_get (occurrences (tree_of q)) k ≡ Some o → occurrence_reads schema o event ≡ true → HasRow rows leaves query event
@@ -85,6 +99,14 @@ IsWatched schema q query rows leaves = (event : Event) (k : ℕ) (o : Occurrence
 -- and that of each of the queries, by their numbers from 0
 abbrev pub IsWatch : Declared → List Query → List (List Row) → List Watched → Type 0
 IsWatch schema queries rows leaves = (query : ℕ) (q : Query) → slice_get queries query ≡ Some q → IsWatched schema q query rows leaves
+
+-- each event that has such a row a leaf of the query can read
+abbrev pub IsExact : Declared → Query → ℕ → List (List Row) → List Watched → Type 0
+IsExact schema q query rows leaves = (event : Event) → HasRow rows leaves query event → (k : ℕ) × (o : Occurrence) × (slice_get (occurrences (tree_of q)) k ≡ Some o) × (occurrence_reads schema o event ≡ true)
+
+-- and that of each of the queries
+abbrev pub AreExact : Declared → List Query → List (List Row) → List Watched → Type 0
+AreExact schema queries rows leaves = (query : ℕ) (q : Query) → slice_get queries query ≡ Some q → IsExact schema q query rows leaves
 
 -- The row is of a leaf of a query below the number.
 pub record IsRowBelow (count : ℕ) (leaves : List Watched) (row : Row) : Type 0 where

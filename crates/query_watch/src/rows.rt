@@ -1,8 +1,8 @@
 //! The leaves of all queries by their types.
 
-ghost use Rattle.std.specs.Prelude.{◌≡◌, ℕ, ◌+◌, ◌<◌, ◌≤◌, length, slice_index_or, [], IfOk, OnOk};
+ghost use Rattle.std.specs.Prelude.{◌≡◌, ℕ, ◌+◌, ◌<◌, ◌≤◌, length, slice_index_or, [], ◌∷◌, IfOk, OnOk};
 ghost use Rattle.cel_terms.specs.declared.Query.{Query as QueryData};
-ghost use Rattle.query_watch.specs.Rows.{rows_of, HasPut, HasAdded, HaveRows, HasLeafRow, IsWatched};
+ghost use Rattle.query_watch.specs.Rows.{rows_of, HasPut, HasAdded, HasAddedQuery, HaveRows, HasLeafRow, IsWatched};
 
 use cel_terms::Query;
 use cer_base::Memory;
@@ -79,8 +79,8 @@ fn add_leaf(
     leaf: Leaf,
 ) -> Result<(), Memory>
     ensures row { OnOk result (HasLeafRow query (rows_of rows.new.items) leaves.new.items leaf) }
-    ensures added { OnOk result (HasAdded query (rows_of rows.old.items) leaves.old.items
-        (rows_of rows.new.items) leaves.new.items) }
+    ensures added { OnOk result (HasAdded query (leaf ∷ []) (rows_of rows.old.items)
+        leaves.old.items (rows_of rows.new.items) leaves.new.items) }
 {
     let ty = leaf.ty;
     let tests = leaf.tests;
@@ -114,8 +114,8 @@ fn add_leaves(
 ) -> Result<(), Memory>
     ensures rows { OnOk result (HaveRows query list.items (rows_of rows.new.items)
         leaves.new.items) }
-    ensures added { OnOk result (HasAdded query (rows_of rows.old.items) leaves.old.items
-        (rows_of rows.new.items) leaves.new.items) }
+    ensures added { OnOk result (HasAdded query list.items (rows_of rows.old.items)
+        leaves.old.items (rows_of rows.new.items) leaves.new.items) }
 {
     for leaf in list {
         add_leaf(rows, leaves, alloc, query, leaf)?;
@@ -134,8 +134,8 @@ pub fn add_query(
 ) -> Result<(), Memory>
     ensures watched { OnOk result (IsWatched schema.now query.now number
         (rows_of rows.new.items) leaves.new.items) }
-    ensures added { OnOk result (HasAdded number (rows_of rows.old.items) leaves.old.items
-        (rows_of rows.new.items) leaves.new.items) }
+    ensures added { OnOk result (HasAddedQuery schema.now query.now number
+        (rows_of rows.old.items) leaves.old.items (rows_of rows.new.items) leaves.new.items) }
 {
     let found = leaves_of(alloc, schema, query)?;
     add_leaves(rows, leaves, alloc, number, found.list.into_vec())?;

@@ -4,7 +4,7 @@ ghost use Rattle.std.specs.Prelude.{◌≡◌, ℕ, ◌≤◌, ◌⊎◌, true, 
 ghost use Rattle.std.specs.Option.{option_copied};
 ghost use Rattle.cer_base.specs.Bits.{has};
 ghost use Rattle.query_leaves.specs.Shapes.{each_holds as tests_hold};
-ghost use Rattle.query_watch.specs.Rows.{rows_of, AreBelow, IsRangeOf, IsRowBelow, IsWatch, HasRow, Marks};
+ghost use Rattle.query_watch.specs.Rows.{rows_of, AreBelow, AreExact, IsRangeOf, IsRowBelow, IsWatch, HasRow, Marks};
 
 use crate::rows::{Row, Watched, add_query};
 use cel_terms::Query;
@@ -55,6 +55,8 @@ fn rows_for(
 ) -> Result<Vec<Vec<Row>>, Memory>
     ensures watch { IfOk result (λ v. IsWatch schema.now queries.now (rows_of v.items)
         leaves.new.items) }
+    ensures exact { IfOk result (λ v. AreExact schema.now queries.now (rows_of v.items)
+        leaves.new.items) }
     ensures below { IfOk result (λ v. AreBelow (length queries.now) (rows_of v.items)
         leaves.new.items) }
 {
@@ -69,6 +71,7 @@ impl Watch {
     /// That of the queries.
     pub fn of(alloc: Global, schema: &Schema, queries: &[Query]) -> Result<Watch, Memory>
         ensures watch { IfOk result (λ w. IsWatch schema.now queries.now w.rows w.leaves) }
+        ensures exact { IfOk result (λ w. AreExact schema.now queries.now w.rows w.leaves) }
         ensures count { IfOk result (λ w. w.count ≡ length queries.now) }
     {
         let mut leaves = Vec::new(alloc);
@@ -80,8 +83,8 @@ impl Watch {
         })
     }
 
-    /// Marks each query that has a leaf which can read the event, and none but by the tests of such a
-    /// leaf. The set has room for all numbers.
+    /// Marks each query that has a leaf which can read the event, and no other. The set has room for
+    /// all numbers.
     #[inline(always)]
     pub fn mark(&self, event: &Event, into: &mut Bits)
         requires { self.now.count ≤ length into.old }

@@ -1,7 +1,7 @@
 use Rattle.std.proofs.Common.{List, Vec, Global, ap}
 use Rattle.query_watch.specs.declared.rows.Row.{Row}
 use Rattle.query_watch.specs.Rows.{rows_of}
-use Rattle.query_watch.proofs.Listed.{watch_none, watch_next, watch_all, below_all}
+use Rattle.query_watch.proofs.Listed.{watch_none, watch_next, watch_all, exact_all, below_all}
 use Rattle.query_watch.proofs.watch.rows_for.Goals as goal
 
 pub loop-k-init : goal.loop-k-init
@@ -12,6 +12,9 @@ loop-k-preserved c = watch_next c.loop-k.k c.args.schema.now c.args.queries.now 
 
 pub returns-clause-watch : goal.returns-clause-watch
 returns-clause-watch c = watch_all c.loop-k.k c.args.schema.now c.args.queries.now (rows_of c.loop-k.rows.items) c.loop-k.leaves.items c.loop-k-test.false c.loop-k.invariant
+
+pub returns-clause-exact : goal.returns-clause-exact
+returns-clause-exact c = exact_all c.loop-k.k c.args.schema.now c.args.queries.now (rows_of c.loop-k.rows.items) c.loop-k.leaves.items c.loop-k-test.false c.loop-k.invariant
 
 pub returns-clause-below : goal.returns-clause-below
 returns-clause-below c = below_all c.loop-k.k c.args.schema.now c.args.queries.now (rows_of c.loop-k.rows.items) c.loop-k.leaves.items c.loop-k.auto.k-end c.loop-k.invariant

@@ -1,6 +1,6 @@
 //! Which parts of an engine an event goes to.
 
-ghost use Rattle.std.specs.Prelude.{◌≡◌, ℕ, ◌<◌, ◌≤◌, false, true, length, IfOk};
+ghost use Rattle.std.specs.Prelude.{◌≡◌, ℕ, ◌<◌, ◌≤◌, ◌||◌, false, true, length, IfOk};
 ghost use Rattle.cer_base.specs.Bits.{has, room_for};
 ghost use Rattle.query_watch.specs.Rows.{IsWatch, HasRow};
 
@@ -67,8 +67,8 @@ impl Watching {
         self.read.clear();
         self.watch.mark(event, &mut self.read);
         self.marked.clear();
-        self.marked.unite(&self.awake);
-        self.marked.unite(&self.read);
+        put_all(&mut self.marked, &self.awake);
+        put_all(&mut self.marked, &self.read);
     }
 
     /// No part is known to rest, of which there are so many.
@@ -81,6 +81,19 @@ impl Watching {
     {
         fill(&mut self.awake, count);
     }
+}
+
+/// Puts in each number of the other set. Mostly it has none, so that is tested first.
+#[inline(always)]
+fn put_all(set: &mut Bits, other: &Bits)
+    requires { length set.old ≡ length other.now }
+    ensures members { (k : ℕ) → has set.new k ≡ has set.old k || has other.now k }
+    ensures room { length set.new ≡ length set.old }
+{
+    if other.is_empty() {
+        return;
+    }
+    set.unite(other);
 }
 
 /// Puts in each number below the count.

@@ -1,7 +1,10 @@
 //! The rows, by what they show.
 
+mod calls;
 mod compactions;
 mod explaining;
+mod faults;
+mod limits;
 mod meaning;
 mod refusals;
 mod reordering;

@@ -2,8 +2,8 @@
 
 ghost use Rattle.std.specs.Prelude.{◌≡◌, ◌<◌};
 
-use super::rows::rows_hold;
-use crate::calls::{PLAIN, sure_host, words_of};
+use super::calls::{sure_host, words_of};
+use super::rows::{PLAIN, rows_hold};
 use cer_base::steps::Steps;
 use cer_outside::hosts::SureHost;
 use cer_outside::sinks::MemSink;

@@ -1,7 +1,6 @@
 //! Why an answer is one, worked out by hand.
 
-use super::rows::rows_hold;
-use crate::calls::PLAIN;
+use super::rows::{PLAIN, rows_hold};
 use std::test::*;
 
 const ANSWERS: &str = "\

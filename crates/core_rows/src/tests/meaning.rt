@@ -1,7 +1,6 @@
 //! What queries mean, worked out by hand.
 
-use super::rows::{rows_hold, rows_hold_in_parts};
-use crate::calls::PLAIN;
+use super::rows::{PLAIN, rows_hold, rows_hold_in_parts};
 use std::test::*;
 
 const PATTERNS: &str = "\

@@ -1,7 +1,7 @@
 //! What is refused, and with which note.
 
-use super::rows::rows_hold;
-use crate::calls::{PLAIN, done_well};
+use super::calls::done_well;
+use super::rows::{PLAIN, rows_hold};
 use std::test::*;
 
 /// Each at its first fault.

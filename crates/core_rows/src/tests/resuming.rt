@@ -1,7 +1,7 @@
 //! Runs that go on from a checkpoint, worked out by hand.
 
-use super::rows::rows_hold;
-use crate::calls::PLAIN;
+use super::calls::{AMPLE, Sinks, failing_resume_host, over_host, resumed_well, words_of};
+use super::rows::{PLAIN, rows_hold};
 use std::alloc::Global;
 use std::process::Abort;
 use std::test::*;
@@ -48,4 +48,150 @@ fn a_run_goes_on_from_a_checkpoint(rt: HostRuntime) -> Result<(), Fail> {
 #[test]
 fn nothing_is_written_after_a_bad_checkpoint(rt: HostRuntime) -> Result<(), Fail> {
     rows_hold(&rt, rt.alloc(), PLAIN, REFUSED)
+}
+
+/// What the words answer over this checkpoint.
+fn checkpoint_holds(
+    rt: &impl Abort,
+    alloc: Global,
+    checkpoint: &str,
+    wanted: &str,
+) -> Result<(), Fail> {
+    let queries = format!(in alloc; "{PLAIN}{QUERY}")?;
+    let (queries, checkpoint) = (queries.as_bytes(), checkpoint.as_bytes());
+    let told = resumed_well(alloc, "resume q c e", queries, checkpoint, b"A,1\n")?;
+    assert_eq!(rt; told.as_str(), wanted);
+    Ok(())
+}
+
+/// A line has at most 65,536 bytes.
+#[test]
+fn an_empty_checkpoint_and_a_long_line(rt: HostRuntime) -> Result<(), Fail> {
+    let alloc = rt.alloc();
+    checkpoint_holds(&rt, alloc, "", "9||core: checkpoint line 1: missing line\n")?;
+    let mut long = "core checkpoint 1\n".to_string(alloc)?;
+    for _ in 0..65_537 {
+        long.push('x')?;
+    }
+    checkpoint_holds(
+        &rt,
+        alloc,
+        long.as_str(),
+        "9||core: checkpoint line 2: line too long\n",
+    )
+}
+
+const QUERY: &str = "SELECT * FROM S WHERE A\n";
+
+/// 29 bytes, which are read by 8 reads; a ninth finds the end.
+const CHECKPOINT: &str = "core checkpoint 1\nevents 2 0\n";
+
+/// What the call answers where the open, the read of the checkpoint, the read of the events and the
+/// write of these numbers fail.
+fn outside_holds(
+    rt: &impl Abort,
+    alloc: Global,
+    fails: [u64; 4],
+    wanted: &str,
+) -> Result<(), Fail> {
+    let queries = format!(in alloc; "{PLAIN}{QUERY}")?;
+    let mut host = failing_resume_host(
+        alloc,
+        queries.as_bytes(),
+        CHECKPOINT.as_bytes(),
+        b"A,1\n",
+        fails[0],
+        fails[1],
+        fails[2],
+    )?;
+    let sinks = Sinks {
+        room: AMPLE,
+        piece: 5,
+        write: fails[3],
+        note: 0,
+    };
+    let words = words_of(alloc, "resume q c e")?;
+    let found = over_host(alloc, words, &mut host, sinks)?;
+    assert_eq!(rt; found.as_str(), wanted, "{fails:?}");
+    Ok(())
+}
+
+/// Which calls fail, by their numbers from 1, and what is answered.
+const OUTSIDE: &[([u64; 4], &str)] = &[
+    ([1, 0, 0, 0], "5||core: cannot open queries\n"),
+    ([2, 0, 0, 0], "5||core: cannot open checkpoint\n"),
+    ([3, 0, 0, 0], "5||core: cannot open events\n"),
+    ([4, 0, 0, 0], "0|1 [2,2] {2}\n|"),
+    ([0, 1, 0, 0], "5||core: cannot read checkpoint\n"),
+    ([0, 9, 0, 0], "5||core: cannot read checkpoint\n"),
+    ([0, 10, 0, 0], "0|1 [2,2] {2}\n|"),
+    ([0, 0, 1, 0], "5||core: cannot read events\n"),
+    ([0, 0, 2, 0], "5|1 [2,2] {2}\n|core: cannot read events\n"),
+    ([0, 0, 0, 1], "6||core: cannot write\n"),
+    ([0, 0, 0, 2], "6|1 [2,|core: cannot write\n"),
+];
+
+#[test]
+fn the_outside_fails_in_turn(rt: HostRuntime) -> Result<(), Fail> {
+    let alloc = rt.alloc();
+    for &(fails, wanted) in OUTSIDE {
+        outside_holds(&rt, alloc, fails, wanted)?;
+    }
+    Ok(())
+}
+
+const SEQUENCE: &str = "SELECT * FROM S WHERE A ; B\n";
+
+/// 47 bytes; the line feed at the end may be missing.
+const WHOLE: &str = "core checkpoint 1\nevents 3 2\nat 1\nA,2\nat 2\nA,3\n";
+
+/// How the first bytes of that are told, from so many on and for fewer than so many, worked out by hand.
+const CUT: &[(usize, usize, &str)] = &[
+    (0, 1, "9||core: checkpoint line 1: missing line\n"),
+    (1, 17, "9||core: checkpoint line 1: bad header\n"),
+    (17, 19, "9||core: checkpoint line 2: missing line\n"),
+    (19, 28, "9||core: checkpoint line 2: bad count\n"),
+    (28, 30, "9||core: checkpoint line 3: missing line\n"),
+    (30, 33, "9||core: checkpoint line 3: bad position\n"),
+    (33, 35, "9||core: checkpoint line 4: missing line\n"),
+    (35, 37, "9||core: checkpoint line 4: bad event\n"),
+    (37, 39, "9||core: checkpoint line 5: missing line\n"),
+    (39, 42, "9||core: checkpoint line 5: bad position\n"),
+    (42, 44, "9||core: checkpoint line 6: missing line\n"),
+    (44, 46, "9||core: checkpoint line 6: bad event\n"),
+    (46, 48, "0|1 [1,3] {1,3}\n1 [2,3] {2,3}\n|"),
+];
+
+/// The first so many bytes of the checkpoint, which are those of a text.
+fn first_bytes(len: usize) -> &'static str {
+    match WHOLE.split_at_checked(len) {
+        Some((first, _)) => first,
+        None => WHOLE,
+    }
+}
+
+/// What a resumed run over one event answers after so many bytes of the checkpoint.
+fn cut_holds(rt: &impl Abort, alloc: Global, len: usize, wanted: &str) -> Result<(), Fail> {
+    let queries = format!(in alloc; "{PLAIN}{SEQUENCE}")?;
+    let checkpoint = first_bytes(len).as_bytes();
+    let told = resumed_well(
+        alloc,
+        "resume q c e",
+        queries.as_bytes(),
+        checkpoint,
+        b"B,4\n",
+    )?;
+    let is_told = told.as_str() == wanted;
+    assert!(rt; is_told, "{len} bytes");
+    Ok(())
+}
+
+#[test]
+fn a_checkpoint_is_cut_at_every_byte(rt: HostRuntime) -> Result<(), Fail> {
+    for &(from, to, wanted) in CUT {
+        for len in from..to {
+            cut_holds(&rt, rt.alloc(), len, wanted)?;
+        }
+    }
+    Ok(())
 }

@@ -1,9 +1,12 @@
 //! Tables of rows: a line each for a whole call of the program.
 
-use crate::calls::{done_well, resumed_well};
+use super::calls::{done_well, resumed_well};
 use std::alloc::{AllocError, Global};
 use std::process::Abort;
 use std::test::*;
+
+/// Two types with a whole number each, and a stream of both.
+pub const PLAIN: &str = "DECLARE EVENT A(v INT)\nDECLARE EVENT B(v INT)\nDECLARE STREAM S(A, B)\n";
 
 /// Words that run the query file over the event file.
 const RUN: &str = "run q e";

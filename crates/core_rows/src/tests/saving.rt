@@ -1,7 +1,6 @@
 //! What is saved of the events, worked out by hand.
 
-use super::rows::rows_hold;
-use crate::calls::PLAIN;
+use super::rows::{PLAIN, rows_hold};
 use std::test::*;
 
 const CHECKPOINTS: &str = "\

@@ -1,7 +1,7 @@
 //! The forms of query texts and of event lines.
 
-use super::rows::rows_hold;
-use crate::calls::{PLAIN, done_well};
+use super::calls::done_well;
+use super::rows::{PLAIN, rows_hold};
 use std::test::*;
 
 const QUERIES: &str = "\

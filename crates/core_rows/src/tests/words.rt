@@ -1,7 +1,6 @@
 //! What the words ask for.
 
-use super::rows::rows_hold;
-use crate::calls::PLAIN;
+use super::rows::{PLAIN, rows_hold};
 use std::test::*;
 
 /// Each event of the first type is an answer.

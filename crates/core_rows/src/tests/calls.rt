@@ -12,9 +12,6 @@ use std::alloc::{AllocError, Global};
 use std::marker::Brand;
 use std::sync::ledger::{Blank, Ledger};
 
-/// Two types with a whole number each, and a stream of both.
-pub const PLAIN: &str = "DECLARE EVENT A(v INT)\nDECLARE EVENT B(v INT)\nDECLARE STREAM S(A, B)\n";
-
 /// A room that holds all of every output.
 pub const AMPLE: usize = 4000;
 

@@ -1,6 +1,7 @@
 //! Texts and lines at their limits.
 
-use core_rows::calls::{PLAIN, done_well};
+use super::calls::done_well;
+use super::rows::PLAIN;
 use std::alloc::{AllocError, Global};
 use std::process::Abort;
 use std::test::*;

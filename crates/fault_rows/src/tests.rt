@@ -1,5 +1,0 @@
-//! The rows, by what fails.
-
-mod checkpoints;
-mod faults;
-mod limits;

@@ -165,6 +165,15 @@ pub fn ranges_of(alloc: Global, list: &[Leaf]) -> Result<Vec<Range>, Memory>
     Ok(ranges)
 }
 
+/// Whether the number is neither below `low` nor above `high`: one test for both, which a processor
+/// foresees better than two.
+#[inline(always)]
+fn is_between(low: i64, number: i64, high: i64) -> bool
+    ensures { result ≡ false → low ≤ℤ number → number ≤ℤ high → ⊥ }
+{
+    low.max(number) == number.min(high)
+}
+
 /// Whether the event may have a number that is asked for: where it has a whole number there, whether
 /// that is in the range.
 #[inline(always)]
@@ -173,7 +182,7 @@ pub fn may_hold(range: &Range, event: &Event) -> bool
         → holds event.now ≡ false }
 {
     match event.values.as_slice().get(range.place as usize) {
-        Some(Value::Int(number)) => range.low <= *number && *number <= range.high,
+        Some(Value::Int(number)) => is_between(range.low, *number, range.high),
         _ => true,
     }
 }

@@ -55,14 +55,14 @@ no_standing a strict s t bits mark none goes = by (phase_after strict s.phase ma
     by None e = absurd cc
     by (Some p) e = let both = sym e ∙ ap (option_map (λ t. record { sets = t; phase = p })) none in absurd cc
 
-never_marked : (a : Automaton) (strict : Bool) (s t : Standing) (bits : LeafSet) → ((k : ℕ) → bits k ≡ false) → next_standing a strict s bits true ≡ Some t → ⊥
+pub never_marked : (a : Automaton) (strict : Bool) (s t : Standing) (bits : LeafSet) → ((k : ℕ) → bits k ≡ false) → next_standing a strict s bits true ≡ Some t → ⊥
 never_marked a strict s t bits quiet goes = no_standing a strict s t bits true (no_next a s.sets bits true quiet (λ k. refl)) goes
 
-never_begins : (a : Automaton) (strict : Bool) (t : Standing) (bits : LeafSet) (mark : Bool) → ((k : ℕ) → bits k ≡ false) → next_standing a strict begin bits mark ≡ Some t → ⊥
+pub never_begins : (a : Automaton) (strict : Bool) (t : Standing) (bits : LeafSet) (mark : Bool) → ((k : ℕ) → bits k ≡ false) → next_standing a strict begin bits mark ≡ Some t → ⊥
 never_begins a strict t bits mark quiet goes = no_standing a strict begin t bits mark (no_next a start bits mark quiet (λ k. and-false (not mark))) goes
 
 -- what comes after it does not accept
-not_accepting : (a : Automaton) (strict : Bool) (s t : Standing) (bits : LeafSet) (mark : Bool) → ((k : ℕ) → bits k ≡ false) → next_standing a strict s bits mark ≡ Some t → accepts a t.sets ≡ false
+pub not_accepting : (a : Automaton) (strict : Bool) (s t : Standing) (bits : LeafSet) (mark : Bool) → ((k : ℕ) → bits k ≡ false) → next_standing a strict s bits mark ≡ Some t → accepts a t.sets ≡ false
 not_accepting a strict s t bits mark quiet goes = by (phase_after strict s.phase mark) goes
   where
     of : Option Standing → Bool
@@ -242,7 +242,7 @@ stayed stamp next rows n m once before has h = elim (steps_from stamp next n m (
   ]
 ]
 
-some_from : {A B : Type 0} (f : A → Option B) (o : Option A) (b : B) → option_and_then f o ≡ Some b → (a : A) × (o ≡ Some a) × (f a ≡ Some b)
+pub some_from : {A B : Type 0} (f : A → Option B) (o : Option A) (b : B) → option_and_then f o ≡ Some b → (a : A) × (o ≡ Some a) × (f a ≡ Some b)
 some_from f None b e = absurd cc
 some_from f (Some a) b e = (a, refl, e)
 

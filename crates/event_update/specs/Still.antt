@@ -1,12 +1,12 @@
--- Lists that rest: an event that no leaf can read leaves them as they are.
-use Rattle.std.specs.Prelude.{◌≡◌, ℕ, ◌≤◌, ℤ, Bool, false, List, [], ◌∷◌, ◌++◌, map, length, All, Some}
+-- Lists that rest: an event that no leaf can read leaves them as they are. And automata whose lists may let it pass in any case.
+use Rattle.std.specs.Prelude.{◌≡◌, ℕ, ◌≤◌, ℤ, Bool, false, List, [], ◌∷◌, ◌++◌, map, length, All, Some, option_and_then, ⊤}
 use Rattle.std.specs.List.{list_any}
 use Rattle.cer_base.specs.Bits.{has}
 use Rattle.cer_base.specs.declared.node.Stamp.{Stamp}
 use Rattle.cer_base.specs.declared.node.Root.{Root}
 use Rattle.cer_base.specs.declared.node.Node.{Node}
-use Rattle.cea_determinise.specs.Runs.{accepts}
-use Rattle.cea_determinise.specs.Strict.{next_standing}
+use Rattle.cea_determinise.specs.Runs.{LeafSet, Automaton, RunState, start, pair, accepts}
+use Rattle.cea_determinise.specs.Strict.{Standing, next_standing}
 use Rattle.cea_determinise.specs.Cea.{automaton_of_cea}
 use Rattle.cea_determinise.specs.Det.{Table, standing_at, IsSound}
 use Rattle.event_update.specs.Reach.{Seen}
@@ -51,3 +51,23 @@ RestingListsAcceptNone = (t : Table) (rows : List (ℕ × List Root)) → Rest t
 -- Without an accepting state there is no entry of one.
 abbrev pub AcceptingListsAreNeeded : Type 0
 AcceptingListsAreNeeded = (t : Table) (rows : List (ℕ × List Root)) → list_any (does_accept t) (map (λ (r : ℕ × List Root). r.0) rows) ≡ false → accepted_entries t rows ≡ []
+
+-- the state of a run that has read an event
+abbrev pub HasRead : RunState → Type 0
+HasRead start = ⊥
+HasRead (pair fresh waiting) = ⊤
+
+-- A patient automaton does not mind what comes right after an event: one that no leaf can read, before a later one, changes nothing to where that leads a run.
+abbrev pub IsPatient : Automaton → Bool → Type 0
+IsPatient a strict = (s : Standing) (bits : LeafSet) (mark : Bool) → HasRead s.sets →
+    option_and_then (λ t. next_standing a strict t bits mark) (next_standing a strict s (λ k. false) false) ≡ next_standing a strict s bits mark
+
+-- no leaf can read the event
+abbrev pub IsSilent : Seen → Type 0
+IsSilent x = (k : ℕ) → x.bits k ≡ false
+
+-- The lists of a patient automaton may let such an event pass: what stands for a key's events without that one, and a later one, stands for them with it.
+abbrev pub PatientListsStand : Type 0
+PatientListsStand = (t : Table) (low : ℤ) (xs : List Seen) (passed last : Seen) (nodes : List Node) (rows : List (ℕ × List Root)) →
+    IsPatient (automaton_of_cea t.cea) t.cea.strict → IsSilent passed → IsLater passed.stamp xs → IsLater last.stamp (xs ++ passed ∷ []) →
+    Stands t low (xs ++ last ∷ []) nodes rows → Stands t low ((xs ++ passed ∷ []) ++ last ∷ []) nodes rows

@@ -27,7 +27,7 @@ use Rattle.event_update.proofs.Stays.{few_states}
 use Rattle.event_update.proofs.Resting.{list_member}
 use Rattle.arena_compact.specs.Roots.{places}
 use Rattle.query_standing.specs.Keys.{AreSeen, HasKeyAt}
-use Rattle.query_standing.specs.Kept.{Rows, Part, KeyStands, PartStands}
+use Rattle.query_standing.specs.Kept.{Rows, Part, KeyIsKept, PartStands}
 use Rattle.query_part.specs.Compacting.{HasStatesOnce}
 use Rattle.query_engine.proofs.Standing.{all_at}
 use Rattle.query_engine.proofs.Finite.{few}
@@ -43,27 +43,27 @@ entries_few x (r ∷ rows) short =
     let product : x * length (r ∷ rows) ≡ x + x * length rows = omega arith in
     omega (arith, here, rest, product)
 
-key_entries : (schema : Declared) (q : Query) (events : List Event) (p : Part) (key : List Value) (rows : Rows) → KeyStands schema q events p key rows → HasStatesOnce rows →
+key_entries : (schema : Declared) (q : Query) (events : List Event) (p : Part) (key : List Value) (rows : Rows) → KeyIsKept schema q events p key rows → HasStatesOnce rows →
     entries_in rows ≤ length p.table.states * (length p.table.states + 2)
 key_entries schema q events p key rows s once =
     let n = length p.table.states in
-    let short = (within_bound p.table _ s.seen p.nodes rows s.stands once).0 in
+    let short = (within_bound p.table _ s.taken p.nodes rows s.stands once).0 in
     let few_rows = few_states p.table rows once s.stands.states in
     let product : (n + 2) * length rows ≤ (n + 2) * n = mul-le-mul_left (n + 2) few_rows in
     omega (arith, entries_few (n + 2) rows short, product)
 
 -- a key that has lists has an event
-key_cases : (schema : Declared) (q : Query) (events : List Event) (p : Part) (key : List Value) (rows : Rows) → KeyStands schema q events p key rows → (rows ≡ []) ⊎ ((at : ℕ) × HasKeyAt schema q events key at)
+key_cases : (schema : Declared) (q : Query) (events : List Event) (p : Part) (key : List Value) (rows : Rows) → KeyIsKept schema q events p key rows → (rows ≡ []) ⊎ ((at : ℕ) × HasKeyAt schema q events key at)
 key_cases schema q events p key [] s = inl refl
 key_cases schema q events p key (r ∷ rows) s =
     let list = All-head (λ (o : ℕ × List Root). IsUnionList p.nodes o.1) r rows s.stands.lists in
     let m = list_member p.nodes r.1 list.list in
     let has : Contains (members_of p.nodes r.1) m.0 = subst (λ (ms : List Member). Contains ms m.0) (sym m.2) (0, omega arith, refl) in
-    inr (go s.seen _ _ s.are_seen (s.stands.sound r.0 m.0 (inl (refl, has))))
+    inr (go s.taken s.passed _ _ s.are_seen (s.stands.sound r.0 m.0 (inl (refl, has))))
   where
-    go : (xs : List Seen) (s : Standing) (m : Member) → AreSeen schema q events key xs → Reaches (automaton_of_cea p.table.cea) p.table.cea.strict xs s m → (at : ℕ) × HasKeyAt schema q events key at
-    go [] s m are some = absurd some
-    go (x ∷ xs) s m are some = (x.stamp.pos, (are.exact x.stamp.pos).0 (0, omega arith, refl))
+    go : (xs ys : List Seen) (s : Standing) (m : Member) → AreSeen schema q events key (xs ++ ys) → Reaches (automaton_of_cea p.table.cea) p.table.cea.strict xs s m → (at : ℕ) × HasKeyAt schema q events key at
+    go [] ys s m are some = absurd some
+    go (x ∷ xs) ys s m are some = (x.stamp.pos, (are.exact x.stamp.pos).0 (0, omega arith, refl))
 
 -- ALL KEYS
 

@@ -1,5 +1,5 @@
 -- The tables of a query before any event.
-use Rattle.std.proofs.Common.{◌≡◌, ℕ, ◌<◌, ◌+◌, Bool, List, [], ◌∷◌, ◌++◌, length, refl, sym, ap, subst, ◌∙◌, None, slice_index_or, arith, inl, inr}
+use Rattle.std.proofs.Common.{◌≡◌, ℕ, ◌<◌, ◌+◌, Bool, true, List, [], ◌∷◌, ◌++◌, length, refl, sym, ap, subst, ◌∙◌, None, slice_index_or, arith, inl, inr}
 use Rattle.std.specs.Prelude.{Result, Ok, Err, IfOk}
 use Rattle.std.specs.List.{IsDistinct}
 use Rattle.std.proofs.lemmas.Bool.{cases_lt}
@@ -27,10 +27,11 @@ use Rattle.query_standing.specs.Bounds.{IsMet}
 use Rattle.query_standing.specs.Kept.{low_at, HasStates, PartStands}
 use Rattle.query_standing.proofs.Lists.{none_in_nil}
 use Rattle.query_standing.proofs.Growing.{seen_none}
+use Rattle.event_update.specs.Still.{IsPatient}
 use Rattle.event_update.proofs.Before.{none_stand}
 use Rattle.query_part.specs.declared.machine.Machine.{Machine}
 use Rattle.query_part.specs.Matches.{Held, none_open}
-use Rattle.query_part.specs.Parts.{part_of, HasAutomaton, IsMachineOf}
+use Rattle.query_part.specs.Parts.{part_of, HasAutomaton, IsMachineOf, MayBePatient}
 
 -- what the leaves of a query tell is the query's
 pub machine_is : (schema : Declared) (q : Query) (l : Leaves) (listed : List Leaf) (bits : List Bool) (h : Held) → tree_of_shape l.shape ≡ numbered 0 (tree_of q) → AreLeavesOf schema (occurrences (tree_of q)) l.list → l.strict ≡ q.strict → listed ≡ l.list → length bits ≡ room_for (length l.list) → HasAutomaton (automaton_of_leaves l) l.strict h → IsMachineOf schema q listed bits h
@@ -73,6 +74,7 @@ none_stands schema q h m = subst (λ (k : Held). PartStands schema q [] (part_of
   keys = record { distinct = tt; others = λ key fresh. record { seen = []; are_seen = seen_none schema q key; stands = none_stand (none_open h.table.cea).table (low_at q None) [] }; lists = refl };
   here = λ end answer ends is. absurd (omega arith);
   each = λ n key rows e f. absurd cc;
+  last = λ n key rows is e f. absurd cc;
 })
 
 -- one type more in a table
@@ -89,3 +91,8 @@ table_next told d table k len is ty less = elim (cases_lt ty k) [
 pub machine_made : {E : Type 0} (schema : Declared) (q : Query) (l : Leaves) (r : Result Machine E) → tree_of_shape l.shape ≡ numbered 0 (tree_of q) → AreLeavesOf schema (occurrences (tree_of q)) l.list → l.strict ≡ q.strict → IfOk r (λ m. m.conditions ≡ l.list) → IfOk r (λ m. length m.bits ≡ room_for (length l.list)) → IfOk r (λ m. HasAutomaton (automaton_of_leaves l) l.strict m.matches) → IfOk r (λ m. IsMachineOf schema q m.conditions m.bits m.matches)
 machine_made schema q l (Err e) shape list strict a b c = tt
 machine_made schema q l (Ok m) shape list strict a b c = machine_is schema q l m.conditions m.bits m.matches shape list strict a b c
+
+-- likewise whether it is patient
+pub patient_made : {E : Type 0} (schema : Declared) (q : Query) (l : Leaves) (r : Result Machine E) → tree_of_shape l.shape ≡ numbered 0 (tree_of q) → AreLeavesOf schema (occurrences (tree_of q)) l.list → l.strict ≡ q.strict → IfOk r (λ m. m.patient ≡ true → IsPatient (automaton_of_leaves l) l.strict) → IfOk r (λ m. MayBePatient q m.patient)
+patient_made schema q l (Err e) shape list strict p = tt
+patient_made schema q l (Ok m) shape list strict p = λ is. subst (λ a. IsPatient a q.strict) (leaves_tell schema q l shape list).automaton (subst (IsPatient (automaton_of_leaves l)) strict (p is))

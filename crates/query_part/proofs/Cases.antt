@@ -5,7 +5,7 @@ use Rattle.std.proofs.Math.Nat.{pow-zero}
 use Rattle.std.proofs.lemmas.Int.{ints}
 use Rattle.std.proofs.lemmas.Bool.{cases_lt}
 use Rattle.std.proofs.lemmas.Option.{slice_get_within}
-use Rattle.std.proofs.lemmas.List.Elements.{All-nil, All-cons, All-head, All-tail, All-contains, Contains-push_cases}
+use Rattle.std.proofs.lemmas.List.Elements.{All-nil, All-contains, Contains-push_cases}
 use Rattle.cer_base.specs.Bits.{has}
 use Rattle.cer_base.specs.declared.node.Stamp.{Stamp}
 use Rattle.cer_base.specs.declared.node.Root.{Root}
@@ -18,21 +18,24 @@ use Rattle.cel_terms.specs.declared.Query.{Query}
 use Rattle.cel_terms.specs.Answers.{HasKey, HasClock}
 use Rattle.cea_determinise.specs.declared.cea.StateSets.{StateSets}
 use Rattle.cea_determinise.specs.Cea.{standing_of}
+use Rattle.cea_compile.specs.Compiled.{automaton_of}
+use Rattle.query_leaves.specs.Expand.{tree_of}
 use Rattle.event_update.specs.declared.Staged.{Staged}
-use Rattle.event_update.specs.Still.{Rest}
+use Rattle.event_update.specs.Still.{Rest, IsPatient}
 use Rattle.query_standing.proofs.Lists.{got}
 use Rattle.event_update.specs.Reach.{Seen}
-use Rattle.event_update.specs.Stands.{seen, IsLater}
+use Rattle.event_update.specs.Stands.{seen}
 use Rattle.event_update.specs.Update.{Discovers, rows_after, work_bound}
 use Rattle.event_update.proofs.Before.{can_advance}
 use Rattle.query_standing.specs.Bounds.{IsMet}
 use Rattle.query_standing.specs.Clocks.{Reads, HasClockAt, IsLastClock, FallsBack, least, low_of}
-use Rattle.query_standing.specs.Keys.{leaves_reading, positions}
+use Rattle.query_standing.specs.Keys.{leaves_reading}
 use Rattle.query_standing.specs.Kept.{Rows, Part, low_at, PartStands}
-use Rattle.query_standing.specs.Steps.{Advances, HasKeyOf}
+use Rattle.query_standing.specs.Steps.{Advances, OwnListsRest, HasKeyOf}
 use Rattle.query_standing.proofs.Growing.{all_earlier}
 use Rattle.query_standing.proofs.Grown.{some_at}
 use Rattle.query_standing.proofs.Parts.{part_unread}
+use Rattle.query_standing.proofs.Passing.{all_front, all_below}
 use Rattle.query_standing.proofs.PartSteps.{part_no_key, part_resting, part_keyed, part_with_key}
 use Rattle.query_standing.proofs.KeyCases.{at_one_place}
 use Rattle.query_standing.specs.Bounds.{update_bound}
@@ -196,13 +199,21 @@ keyed_step schema q event position bits key number staged old new c n now reads 
   grows = keyed_grows schema q event (record { pos = position; clock = now }) bits key number staged old new c n now reads r;
 }
 
--- one that no leaf can read, where the lists of its key rest, if that is kept
-pub resting_step : (schema : Declared) (q : Query) (event : Event) (position : ℕ) (h : Held) (c : Option ℤ) (n : Option ℕ) (now : ℤ) → Reads schema q event → HasClock schema q.window event position now → least ≤ℤ low_of q.window now → ((k : ℕ) → leaves_reading schema q event k ≡ false) → ((events : List Event) → PartStands schema q events (part_of h c n) → (key : List Value) (number : ℕ) (rows : Rows) → HasKey schema q event key → slice_get h.keys number ≡ Some key → slice_get h.rows number ≡ Some rows → Rest h.table rows) → IsStep schema q event position (part_of h c n) (part_of h (Some now) None)
+-- the automaton is patient, or the lists of the event's key rest
+abbrev pub LeavesAlone : Declared → Query → Event → Part → Type 0
+LeavesAlone schema q event part = IsPatient (automaton_of (tree_of q)) q.strict ⊎ ((events : List Event) → PartStands schema q events part → OwnListsRest schema q event part)
+
+left_alone : (schema : Declared) (q : Query) (event : Event) (part : Part) (events : List Event) → PartStands schema q events part → LeavesAlone schema q event part → IsPatient (automaton_of (tree_of q)) q.strict ⊎ OwnListsRest schema q event part
+left_alone schema q event part events s (inl patient) = inl patient
+left_alone schema q event part events s (inr rests) = inr (rests events s)
+
+-- one that no leaf can read, and that the lists of its key may let pass
+pub resting_step : (schema : Declared) (q : Query) (event : Event) (position : ℕ) (h : Held) (c : Option ℤ) (n : Option ℕ) (now : ℤ) → Reads schema q event → HasClock schema q.window event position now → least ≤ℤ low_of q.window now → ((k : ℕ) → leaves_reading schema q event k ≡ false) → LeavesAlone schema q event (part_of h c n) → IsStep schema q event position (part_of h c n) (part_of h (Some now) None)
 resting_step schema q event position h c n now reads clock fits unread rests = record {
   stands = λ events len time s. (
       let now_is : HasClock schema q.window event (length events) now = subst (λ p. HasClock schema q.window event p now) (sym len) clock in
       part_resting schema q events event now (part_of h c n) (part_of h (Some now) None) s (clock_advances schema q events event h c n now reads now_is fits time s)
-      (record { unread = unread; rests = rests events s; table = refl; keys = refl; rows = refl; here = refl })
+      (record { unread = unread; rests = left_alone schema q event (part_of h c n) events s rests; table = refl; keys = refl; rows = refl; here = refl })
       );
   grows = nothing_new schema q event h c n (Some now) None;
 }
@@ -225,11 +236,9 @@ can_take schema q events old c n stamp at_end s k rows at =
     let inside : k < length old.keys = (let l = s.keys.lists in omega arith) in
     let key = some_at old.keys k inside in
     let stand = s.each k key.0 rows key.1 at in
-    can_advance old.table (low_at q c) stand.seen stamp old.nodes rows stand.stands (all_below stand.seen (all_earlier schema q events key.0 stand.seen stand.are_seen))
-  where
-    all_below : (xs : List Seen) → All (λ p. p < length events) (positions xs) → IsLater stamp xs
-    all_below [] a = All-nil (λ (x : Seen). x.stamp.pos < stamp.pos)
-    all_below (x ∷ xs) a = All-cons (λ (x : Seen). x.stamp.pos < stamp.pos) x xs (let l = All-head (λ p. p < length events) x.stamp.pos (positions xs) a in omega arith) (all_below xs (All-tail (λ p. p < length events) x.stamp.pos (positions xs) a))
+    let xs = stand.taken ++ stand.passed in
+    let before = all_below (length events) xs (all_earlier schema q events key.0 xs stand.are_seen) in
+    can_advance old.table (low_at q c) stand.taken stamp old.nodes rows stand.stands (subst (λ p. All (λ (x : Seen). x.stamp.pos < p) stand.taken) (sym at_end) (all_front (λ (x : Seen). x.stamp.pos < length events) stand.taken stand.passed before))
 
 -- the event's start is in step with those that are there
 pub starts_in_step : (schema : Declared) (q : Query) (events : List Event) (event : Event) (part : Part) (stamp : Stamp) → stamp.pos ≡ length events → ((before n : ℤ) → FallsBack schema q events event before n → ⊥) → Reads schema q event → HasClock schema q.window event (length events) stamp.clock → PartStands schema q events part → AreInStep (part.nodes ++ Bottom stamp ∷ [])

@@ -65,6 +65,17 @@ module _ (schema : Declared) (q : Query) (events : List Event) where
         let was = key_at used part.nodes nodes part.rows rows n moved lists there in
         let stand = s.each n key was.0 at was.1 in
         record {
+          taken = stand.taken;
+          passed = stand.passed;
+          are_seen = stand.are_seen;
+          silent = stand.silent;
+          patient = stand.patient;
+          stands = still_stand used part.nodes nodes s.nodes part.table (low_at q part.clock) stand.taken was.0 moved le stand.stands was.2;
+        };
+    last = λ n key moved is at there.
+        let was = key_at used part.nodes nodes part.rows rows n moved lists there in
+        let stand = s.last n key was.0 is at was.1 in
+        record {
           seen = stand.seen;
           are_seen = stand.are_seen;
           stands = still_stand used part.nodes nodes s.nodes part.table (low_at q part.clock) stand.seen was.0 moved le stand.stands was.2;

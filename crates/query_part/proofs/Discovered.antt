@@ -24,12 +24,14 @@ use Rattle.cea_compile.specs.Compiled.{automaton_of}
 use Rattle.union_lists.specs.Lists.{IsUnionList, IsList, trees, members_of}
 use Rattle.event_update.specs.Reach.{Seen, RunEndsIn, Reaches, Has}
 use Rattle.event_update.specs.Stands.{member_rows}
+use Rattle.event_update.specs.Still.{IsPatient}
 use Rattle.event_update.specs.Update.{Discovers}
 use Rattle.event_update.proofs.Reach.{runs_past, runs_marked}
 use Rattle.query_standing.specs.Bounds.{IsMet}
 use Rattle.query_standing.specs.Keys.{leaves_reading, positions, IsSeenAs, IsGiven}
-use Rattle.query_standing.specs.Kept.{Rows, Part, PartStands}
-use Rattle.query_standing.proofs.Lists.{here, cons_cases, none_in_nil}
+use Rattle.query_standing.specs.Kept.{Rows, Part, KeyIsKept, PartStands}
+use Rattle.query_standing.proofs.Lists.{here, cons_cases, none_in_nil, rises}
+use Rattle.query_standing.proofs.Passing.{all_front, all_below, leads_with_passed}
 use Rattle.query_standing.proofs.Link.{runs_from, reaches, met_at}
 use Rattle.query_standing.proofs.Growing.{get_last, seen_more, all_earlier}
 use Rattle.query_standing.proofs.Parts.{length_more}
@@ -88,19 +90,22 @@ discovered_met schema q events event part number key before bits table now s key
     x : Seen
     x = record { stamp = record { pos = length events; clock = now }; bits = leaves_reading schema q event }
 
-    xs : List Seen
-    xs = (s.each number key before key_at rows_at).seen
+    kept : KeyIsKept schema q events part key before
+    kept = s.each number key before key_at rows_at
 
-    later : (ys : List Seen) → All (λ p. p < length events) (positions ys) → All (λ (y : Seen). y.stamp.pos < x.stamp.pos) ys
-    later [] h = All-nil (λ (y : Seen). y.stamp.pos < x.stamp.pos)
-    later (y ∷ ys) h = All-cons (λ (y : Seen). y.stamp.pos < x.stamp.pos) y ys (All-head (λ p. p < length events) y.stamp.pos (positions ys) h) (later ys (All-tail (λ p. p < length events) y.stamp.pos (positions ys) h))
+    xs : List Seen
+    xs = kept.taken ++ kept.passed
+
+    patient : (kept.passed ≡ []) ⊎ IsPatient (automaton_of (tree_of q)) q.strict → (kept.passed ≡ []) ⊎ IsPatient a part.table.cea.strict
+    patient (inl none) = inl none
+    patient (inr is) = inr (subst (λ b. IsPatient b part.table.cea.strict) (sym s.states.automaton) (subst (IsPatient (automaton_of (tree_of q))) (sym s.states.strict) is))
 
     tells : IsSeenAs schema q event x
     tells = record { clock = now_is; bits = refl }
 
     given : IsGiven schema q (events ++ event ∷ []) (length events) key now (xs ++ x ∷ [])
     given = record {
-      seen = seen_more schema q events event key xs x (s.each number key before key_at rows_at).are_seen has_key refl tells;
+      seen = seen_more schema q events event key xs x kept.are_seen has_key refl tells;
       last = event;
       last_is = get_last events event;
       has = has_key;
@@ -118,9 +123,10 @@ discovered_met schema q events event part number key before bits table now s key
         let m : Member = record { start = x.stamp; positions = run.0 } in
         (m, reaches a part.table.cea.strict xs x [] t m refl run.1)
     reached n t mark (inr c) goes =
-        let stand = s.each number key before key_at rows_at in
-        let has = in_row part.nodes before n c stand.stands.lists in
-        reach_more a part.table.cea.strict xs x (standing_at part.table.states n) t has.0 mark (later xs (all_earlier schema q events key xs stand.are_seen)) (stand.stands.sound n has.0 has.1) goes
+        let has = in_row part.nodes before n c kept.stands.lists in
+        let before_x = all_below (length events) xs (all_earlier schema q events key xs kept.are_seen) in
+        let m = reach_more a part.table.cea.strict kept.taken x (standing_at part.table.states n) t has.0 mark (all_front (λ (y : Seen). y.stamp.pos < length events) kept.taken kept.passed before_x) (kept.stands.sound n has.0 has.1) goes in
+        (m.0, leads_with_passed a part.table.cea.strict kept.taken kept.passed x t m.0 (patient kept.patient) kept.silent (rises (positions xs) kept.are_seen.ascending) before_x m.1)
 
     one : (p : StateSets) (n : ℕ) → Contains (0 ∷ map (λ (r : ℕ × List Root). r.0) before) n → (mark : Bool) → Some (standing_of p) ≡ standing_after part.table.cea part.table.states n bits mark → IsMet schema q (events ++ event ∷ []) (standing_of p)
     one p n c mark e =

@@ -1,5 +1,5 @@
 -- What a cursor gives of a part.
-use Rattle.std.proofs.Common.{◌≡◌, ℕ, ◌<◌, ◌≤◌, ℤ, Bool, true, false, List, [], ◌∷◌, ◌++◌, map, length, refl, sym, ap, subst, ◌∙◌, All, Option, Some, None, slice_index_or, arith}
+use Rattle.std.proofs.Common.{◌≡◌, ℕ, ◌<◌, ◌≤◌, ℤ, Bool, true, false, List, [], ◌∷◌, map, length, refl, sym, ap, subst, ◌∙◌, All, Option, Some, None, slice_index_or, arith}
 use Rattle.std.specs.Prelude.{Result, Ok, Err, IfOk, if◌then◌else◌}
 use Rattle.std.proofs.lemmas.Option.{slice_get_within, slice_get-get_or}
 use Rattle.std.proofs.lemmas.List.Elements.{All-nil, All-cons, All-head, All-tail, All-append}
@@ -45,7 +45,7 @@ can_list schema q events h c here s = go here s.here
         let within : n < length h.rows = omega arith in
         let at = slice_get-get_or h.rows n [] within in
         let stand = s.each n is.0 (slice_index_or h.rows n []) is.4 at in
-        record { rows = slice_index_or h.rows n []; at = at; low = low_at q c; seen = stand.seen; stands = stand.stands }
+        record { rows = slice_index_or h.rows n []; at = at; low = low_at q c; seen = stand.taken; stands = stand.stands }
 
 low_same : (schema : Declared) (q : Query) (source : Source) (c : Option ℤ) → IsOf schema q.window source → low_since source c ≡ low_at q c
 low_same schema q source None of = refl

@@ -1,6 +1,7 @@
 -- What an event makes of the lists of its own key.
-use Rattle.std.proofs.Common.{◌≡◌, ℕ, ◌+◌, ◌≤◌, ◌⊎◌, inl, inr, ℤ, pos, ◌≤ℤ◌, Bool, true, List, refl, sym, ap, subst, ◌∙◌, Option, Some, None, slice_get, slice_index_or, arith}
+use Rattle.std.proofs.Common.{◌≡◌, ℕ, ◌+◌, ◌≤◌, ◌⊎◌, inl, inr, ℤ, pos, ◌≤ℤ◌, Bool, true, List, All, refl, sym, ap, subst, ◌∙◌, Option, Some, None, slice_get, slice_index_or, arith}
 use Rattle.std.specs.Prelude.{IfSome, IfNone, option_and_then}
+use Rattle.std.proofs.lemmas.List.Elements.{All-contains}
 use Rattle.cer_base.specs.Bits.{has}
 use Rattle.stream_schema.specs.Types.{Declared}
 use Rattle.stream_schema.specs.Events.{IsOfSchema}
@@ -17,12 +18,13 @@ use Rattle.query_standing.specs.Clocks.{Reads, least, low_of}
 use Rattle.query_standing.specs.Keys.{leaves_reading}
 use Rattle.query_standing.specs.Kept.{Rows}
 use Rattle.query_standing.proofs.KeyCases.{at_one_place}
+use Rattle.query_standing.proofs.Lists.{got}
 use Rattle.all_or_none.specs.Phases.{Phase, IsStep, IsWithin, HasPassed, IsIdle}
 use Rattle.query_part.specs.declared.matches.Ready.{Ready}
 use Rattle.query_part.specs.declared.part.Step.{Step}
 use Rattle.query_part.specs.KeyPlaces.{values_there, key_there, AreKeyPlaces}
 use Rattle.query_part.specs.Matches.{Held, HasKeyThere, OwnRest, Stays, IsOwnReady, HasOwnWorked}
-use Rattle.query_part.specs.Parts.{part_of, kept_of, ready_of, put_in, clock_at, here_at, seen, Floats, MayFloat, AreTypesRead}
+use Rattle.query_part.specs.Parts.{part_of, kept_of, ready_of, put_in, clock_at, here_at, seen, Floats, MayBePatient, MayFloat, AreTypesRead}
 use Rattle.query_part.proofs.Prepare.{Idle, idle_fields, now_is, does_read, key_through, values_are}
 use Rattle.query_part.proofs.Cases.{no_key_step, resting_step, keyed_step}
 use Rattle.query_part.proofs.Worked.{worked_within}
@@ -53,28 +55,37 @@ one_rest h own bits key number rows quiet is numbered at rest = record {
       );
 }
 
-pub one_stays : (h : Held) (table : List (Option (List ℕ))) (event : Event) (bits : List Bool) (places : List ℕ) (number : ℕ) → slice_index_or table event.ty None ≡ Some places → HasKeyThere h places event.values number → IsQuiet bits → (rows : Rows) × (slice_get h.rows number ≡ Some rows) × Rest h.table rows → Stays h (key_there table event) bits
-one_stays h table event bits places number here k quiet r = inr (one_rest h (key_there table event) bits k.key number r.0 quiet (own_key table event places k.key here k.has) k.numbered r.1 r.2)
+pub one_stays : (h : Held) (table : List (Option (List ℕ))) (event : Event) (bits : List Bool) (patient : Bool) (places : List ℕ) (number : ℕ) → slice_index_or table event.ty None ≡ Some places → HasKeyThere h places event.values number → IsQuiet bits → (rows : Rows) × (slice_get h.rows number ≡ Some rows) × Rest h.table rows → Stays h (key_there table event) bits patient
+one_stays h table event bits patient places number here k quiet r = inr (inl (one_rest h (key_there table event) bits k.key number r.0 quiet (own_key table event places k.key here k.has) k.numbered r.1 r.2))
+
+-- where those of each key do, or the automaton is patient
+pub all_stay : (h : Held) (own : Option (List Value)) (bits : List Bool) (patient : Bool) → IsQuiet bits → (patient ≡ true) ⊎ All (Rest h.table) h.rows → Stays h own bits patient
+all_stay h own bits patient quiet (inl is) = inr (inr (quiet, is))
+all_stay h own bits patient quiet (inr all) = inr (inl (record { quiet = quiet; rest = λ distinct key number rows is numbered at. All-contains (Rest h.table) h.rows rows all (got h.rows number rows at) }))
 
 -- It is taken by the clock alone.
-pub stays_step : (schema : Declared) (q : Query) (table : List (Option (List ℕ))) (bits : List Bool) (event : Event) (position : ℕ) (h : Held) (c : Option ℤ) (n : Option ℕ) (now : ℤ) → AreKeyPlaces schema q table → IsOfSchema schema event → Reads schema q event → HasClock schema q.window event position now → least ≤ℤ low_of q.window now → has bits ≡ leaves_reading schema q event → Stays h (key_there table event) bits → IsStep schema q event position (part_of h c n) (part_of h (Some now) None)
-stays_step schema q table bits event position h c n now are of reads clock fits bits_are (inl none) =
+pub stays_step : (schema : Declared) (q : Query) (table : List (Option (List ℕ))) (bits : List Bool) (patient : Bool) (event : Event) (position : ℕ) (h : Held) (c : Option ℤ) (n : Option ℕ) (now : ℤ) → AreKeyPlaces schema q table → IsOfSchema schema event → Reads schema q event → HasClock schema q.window event position now → least ≤ℤ low_of q.window now → has bits ≡ leaves_reading schema q event → MayBePatient q patient → Stays h (key_there table event) bits patient → IsStep schema q event position (part_of h c n) (part_of h (Some now) None)
+stays_step schema q table bits patient event position h c n now are of reads clock fits bits_are may (inl none) =
     let no : values_at schema q.partition event ≡ None = sym (key_through schema q table event are of) ∙ none in
     no_key_step schema q event position h c n now reads clock fits (λ key k. let two = sym no ∙ k.1 in absurd cc)
-stays_step schema q table bits event position h c n now are of reads clock fits bits_are (inr own) =
+stays_step schema q table bits patient event position h c n now are of reads clock fits bits_are may (inr (inl own)) =
     resting_step schema q event position h c n now reads clock fits
     (unread_bits bits (leaves_reading schema q event) bits_are own.quiet)
-    (λ events s key number rows k numbered at. own.rest s.keys.distinct key number rows (key_through schema q table event are of ∙ k.1) numbered at)
+    (inr (λ events s key number rows k numbered at. own.rest s.keys.distinct key number rows (key_through schema q table event are of ∙ k.1) numbered at))
+stays_step schema q table bits patient event position h c n now are of reads clock fits bits_are may (inr (inr passes)) =
+    resting_step schema q event position h c n now reads clock fits
+    (unread_bits bits (leaves_reading schema q event) bits_are passes.0)
+    (inl (may passes.1))
 
 -- It passes by, where the clock floats.
-pub stays_pass : (schema : Declared) (q : Query) (source : Source) (types : List Bool) (table : List (Option (List ℕ))) (bits : List Bool) (event : Event) (position : ℕ) (h : Held) (c : Option ℤ) (n : Option ℕ) (upto : ℕ) (floats : Bool) → floats ≡ true → upto ≤ position → MayFloat schema q source types floats → AreTypesRead schema q types → IsOf schema q.window source → AreKeyPlaces schema q table → IsOfSchema schema event → has bits ≡ leaves_reading schema q event → Stays h (key_there table event) bits → HasPassed event position (seen position (sleeper schema q h c n upto floats)) (seen (position + 1) (sleeper schema q h c n upto floats))
-stays_pass schema q source types table bits event position h c n upto floats is le may read of are of_schema bits_are stays =
+pub stays_pass : (schema : Declared) (q : Query) (source : Source) (types : List Bool) (table : List (Option (List ℕ))) (bits : List Bool) (patient : Bool) (event : Event) (position : ℕ) (h : Held) (c : Option ℤ) (n : Option ℕ) (upto : ℕ) (floats : Bool) → floats ≡ true → upto ≤ position → MayBePatient q patient → MayFloat schema q source types floats → AreTypesRead schema q types → IsOf schema q.window source → AreKeyPlaces schema q table → IsOfSchema schema event → has bits ≡ leaves_reading schema q event → Stays h (key_there table event) bits patient → HasPassed event position (seen position (sleeper schema q h c n upto floats)) (seen (position + 1) (sleeper schema q h c n upto floats))
+stays_pass schema q source types table bits patient event position h c n upto floats is le patient_so may read of are of_schema bits_are stays =
     let f : Floats schema q source types = may is in
     passes_step schema q event position h c n upto floats is le
-    (stays_step schema q table bits event position h (clock_at true upto position c) (here_at upto position n) (pos position) are of_schema
+    (stays_step schema q table bits patient event position h (clock_at true upto position c) (here_at upto position n) (pos position) are of_schema
     (does_read schema q types event read of_schema (reads_all schema q source types event f of_schema))
     (now_is schema q.window source event position (pos position) (pos position) of (f.clock event position) refl)
-    (f.low position) bits_are stays)
+    (f.low position) bits_are patient_so stays)
 
 -- the part by its fields
 abbrev pub seen_as : Declared → Query → Option Step → Option Ready → Held → Option ℤ → Option ℕ → ℕ → Bool → Phase

@@ -1,6 +1,6 @@
 -- What a part is that the last events passed by.
-use Rattle.std.proofs.Common.{◌≡◌, ℕ, ◌+◌, ◌-◌, ◌<◌, ◌≤◌, ◌==◌, ℤ, pos, Bool, true, false, ◌||◌, List, [], length, refl, sym, ap, subst, ◌∙◌, All, Option, Some, None, slice_get, slice_index_or, arith}
-use Rattle.std.specs.Prelude.{IsSomeAnd, if◌then◌else◌, ◌≤ℤ◌}
+use Rattle.std.proofs.Common.{◌≡◌, ℕ, ◌+◌, ◌-◌, ◌<◌, ◌≤◌, ◌==◌, ◌⊎◌, inl, inr, ℤ, pos, Bool, true, false, ◌||◌, List, length, refl, sym, ap, subst, ◌∙◌, All, Option, Some, None, slice_get, slice_index_or, arith}
+use Rattle.std.specs.Prelude.{IsSomeAnd, if◌then◌else◌}
 use Rattle.std.proofs.lemmas.Bool.{eqb-true}
 use Rattle.std.proofs.lemmas.Option.{slice_get_within}
 use Rattle.std.proofs.lemmas.Int.{ints}
@@ -10,7 +10,9 @@ use Rattle.stream_schema.specs.declared.Event.{Event}
 use Rattle.cel_terms.specs.declared.Query.{Query}
 use Rattle.cer_base.specs.Bits.{has}
 use Rattle.cea_determinise.specs.Runs.{LeafSet}
-use Rattle.event_update.specs.Still.{IsQuiet, Rest}
+use Rattle.cea_compile.specs.Compiled.{automaton_of}
+use Rattle.query_leaves.specs.Expand.{tree_of}
+use Rattle.event_update.specs.Still.{IsQuiet, Rest, IsPatient}
 use Rattle.window_clock.specs.declared.Source.{Source}
 use Rattle.window_clock.specs.Places.{IsOf}
 use Rattle.query_standing.specs.Clocks.{Reads, FallsBack}
@@ -21,10 +23,10 @@ use Rattle.all_or_none.specs.Phases.{Phase, IsStep, HasPassed, IsUnread, Rests}
 use Rattle.query_part.specs.declared.matches.Ready.{Ready}
 use Rattle.query_part.specs.declared.part.Step.{Step}
 use Rattle.query_part.specs.Matches.{Held}
-use Rattle.query_part.specs.Parts.{part_of, kept_of, ready_of, clock_at, here_at, seen, Floats, MayFloat, AreTypesRead, HasEvents}
+use Rattle.query_part.specs.Parts.{part_of, kept_of, ready_of, clock_at, here_at, seen, Floats, MayBePatient, MayFloat, AreTypesRead, HasEvents}
 use Rattle.query_part.proofs.Fresh.{fresh_seen}
 use Rattle.query_part.proofs.Prepare.{idle_fields, now_is, does_read}
-use Rattle.query_part.proofs.Cases.{unread_step, resting_step, all_rests}
+use Rattle.query_part.proofs.Cases.{LeavesAlone, unread_step, resting_step, all_rests}
 
 -- there are not as many events yet as there will be
 not_yet : (upto position : ℕ) → upto ≤ position → (position + 1 == upto) ≡ false
@@ -113,8 +115,21 @@ passes_step schema q event position h c n upto floats is le step =
           (subst (λ (d : Option ℤ). IsStep schema q event position (part_of h (clock_at true upto position c) (here_at upto position n)) (part_of h d None)) (sym (later_clock upto position c le)) step);
     })
 
--- So does one that no leaf can read, where the lists of each key rest.
-pub passes_resting : (schema : Declared) (q : Query) (source : Source) (types : List Bool) (event : Event) (position : ℕ) (h : Held) (c : Option ℤ) (n : Option ℕ) (upto : ℕ) (floats : Bool) → floats ≡ true → MayFloat schema q source types floats → AreTypesRead schema q types → IsOf schema q.window source → IsOfSchema schema event → upto ≤ position → All (Rest h.table) h.rows → ((k : ℕ) → leaves_reading schema q event k ≡ false) → HasPassed event position (seen position (sleeper schema q h c n upto floats)) (seen (position + 1) (sleeper schema q h c n upto floats))
+-- the automaton is patient, or the lists of each key rest
+abbrev pub LetsPass : Query → Held → Type 0
+LetsPass q h = IsPatient (automaton_of (tree_of q)) q.strict ⊎ All (Rest h.table) h.rows
+
+-- what is told by a flag is so
+pub told_pass : (q : Query) (h : Held) (patient : Bool) → MayBePatient q patient → (patient ≡ true) ⊎ All (Rest h.table) h.rows → LetsPass q h
+told_pass q h patient may (inl is) = inl (may is)
+told_pass q h patient may (inr all) = inr all
+
+alone : (schema : Declared) (q : Query) (event : Event) (h : Held) (c : Option ℤ) (n : Option ℕ) → LetsPass q h → LeavesAlone schema q event (part_of h c n)
+alone schema q event h c n (inl patient) = inl patient
+alone schema q event h c n (inr all) = inr (all_rests schema q event h c n all)
+
+-- So does one that no leaf can read, where either is so.
+pub passes_resting : (schema : Declared) (q : Query) (source : Source) (types : List Bool) (event : Event) (position : ℕ) (h : Held) (c : Option ℤ) (n : Option ℕ) (upto : ℕ) (floats : Bool) → floats ≡ true → MayFloat schema q source types floats → AreTypesRead schema q types → IsOf schema q.window source → IsOfSchema schema event → upto ≤ position → LetsPass q h → ((k : ℕ) → leaves_reading schema q event k ≡ false) → HasPassed event position (seen position (sleeper schema q h c n upto floats)) (seen (position + 1) (sleeper schema q h c n upto floats))
 passes_resting schema q source types event position h c n upto floats is may are of of_schema le all unread = passes_step schema q event position h c n upto floats is le step
   where
     f : Floats schema q source types
@@ -127,10 +142,10 @@ passes_resting schema q source types event position h c n upto floats is may are
     step = resting_step schema q event position h (clock_at true upto position c) (here_at upto position n) (pos position) does
         (now_is schema q.window source event position (pos position) (pos position) of (f.clock event position) refl)
         (f.low position) unread
-        (all_rests schema q event h (clock_at true upto position c) (here_at upto position n) all)
+        (alone schema q event h (clock_at true upto position c) (here_at upto position n) all)
 
 -- So does each later one.
-pub part_rests : (schema : Declared) (q : Query) (source : Source) (types : List Bool) (step : Option Step) (r : Option Ready) (h : Held) (c : Option ℤ) (n : Option ℕ) (upto : ℕ) (floats : Bool) (p : Phase) → record { schema = schema; query = q; kept = kept_of step r h c n; ready = ready_of step r h c n; upto = upto; floats = floats } ≡ p → floats ≡ true → MayFloat schema q source types floats → AreTypesRead schema q types → IsOf schema q.window source → All (Rest h.table) h.rows → Rests (λ count. seen count p)
+pub part_rests : (schema : Declared) (q : Query) (source : Source) (types : List Bool) (step : Option Step) (r : Option Ready) (h : Held) (c : Option ℤ) (n : Option ℕ) (upto : ℕ) (floats : Bool) (p : Phase) → record { schema = schema; query = q; kept = kept_of step r h c n; ready = ready_of step r h c n; upto = upto; floats = floats } ≡ p → floats ≡ true → MayFloat schema q source types floats → AreTypesRead schema q types → IsOf schema q.window source → LetsPass q h → Rests (λ count. seen count p)
 part_rests schema q source types step r h c n upto floats p view is may are of all = record {
   passes = λ event position le idle can unread. (
       let fields = idle_fields schema q step r h c n upto floats p view idle in

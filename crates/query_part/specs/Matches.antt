@@ -52,9 +52,9 @@ pub record OwnRest (h : Held) (own : Option (List Value)) (bits : List Bool) : T
   pub quiet : IsQuiet bits
   pub rest : HasNoRepeats h.keys → (key : List Value) (number : ℕ) (rows : Rows) → own ≡ Some key → slice_get h.keys number ≡ Some key → slice_get h.rows number ≡ Some rows → Rest h.table rows
 
--- The event leaves all lists as they are.
-abbrev pub Stays : Held → Option (List Value) → List Bool → Type 0
-Stays h own bits = (own ≡ None) ⊎ OwnRest h own bits
+-- The event leaves all lists as they are: it has no key, or no leaf can read it and the lists of its key rest or the automaton is patient.
+abbrev pub Stays : Held → Option (List Value) → List Bool → Bool → Type 0
+Stays h own bits patient = (own ≡ None) ⊎ (OwnRest h own bits ⊎ (IsQuiet bits × (patient ≡ true)))
 
 -- no open match, and no state met
 abbrev pub none_open : Cea → Held

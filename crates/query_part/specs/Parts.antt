@@ -18,6 +18,7 @@ use Rattle.query_leaves.specs.Conditions.{leaf_conditions}
 use Rattle.cer_base.specs.Bits.{room_for}
 use Rattle.event_update.specs.declared.Staged.{Staged}
 use Rattle.event_update.specs.Update.{rows_after}
+use Rattle.event_update.specs.Still.{IsPatient}
 use Rattle.window_clock.specs.declared.Source.{Source}
 use Rattle.window_clock.specs.Places.{clock_in, IsOf, IsNear}
 use Rattle.query_standing.specs.Clocks.{Reads}
@@ -101,6 +102,10 @@ pub record Floats (schema : Declared) (q : Query) (source : Source) (types : Lis
 
 abbrev pub MayFloat : Declared → Query → Source → List Bool → Bool → Type 0
 MayFloat schema q source types floats = floats ≡ true → Floats schema q source types
+
+-- where the query's automaton is told to be patient, it is
+abbrev pub MayBePatient : Query → Bool → Type 0
+MayBePatient q patient = patient ≡ true → IsPatient (automaton_of (tree_of q)) q.strict
 
 -- whether one of the query's streams has the type
 abbrev pub reads_type : Declared → Query → ℕ → Bool

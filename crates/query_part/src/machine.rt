@@ -1,15 +1,16 @@
 //! The tables that are made of a query before any event.
 
-ghost use Rattle.std.specs.Prelude.{◌≡◌, None, IfOk, length};
+ghost use Rattle.std.specs.Prelude.{◌≡◌, true, None, IfOk, length};
 ghost use Rattle.cer_base.specs.Bits.{room_for};
 ghost use Rattle.cea_determinise.specs.Cea.{automaton_of_cea};
 ghost use Rattle.cea_compile.specs.LeafAutomaton.{automaton_of_leaves};
+ghost use Rattle.event_update.specs.Still.{IsPatient};
 ghost use Rattle.query_leaves.specs.declared.Leaf.{Leaf as LeafData};
 ghost use Rattle.query_leaves.specs.Lawful.{AreNumbered};
 ghost use Rattle.window_clock.specs.Places.{IsOf, HasWidth};
 ghost use Rattle.query_part.specs.Matches.{none_open};
 ghost use Rattle.query_part.specs.KeyPlaces.{AreKeyPlaces};
-ghost use Rattle.query_part.specs.Parts.{AreTypesRead, IsMachineOf, HasAutomaton, MayFloat};
+ghost use Rattle.query_part.specs.Parts.{AreTypesRead, IsMachineOf, HasAutomaton, MayBePatient, MayFloat};
 
 use crate::matches::Matches;
 use crate::reading::{Places, floats, key_places};
@@ -18,6 +19,7 @@ use cea_compile::compile;
 use cel_terms::Query;
 use cer_base::Memory;
 use cer_base::bits::Bits;
+use event_update::still::is_patient;
 use predicate_bits::Conditions;
 use query_leaves::{Leaves, leaves_of};
 use std::alloc::Global;
@@ -58,13 +60,14 @@ impl Reading {
     }
 }
 
-/// What finds the states: the leaves' conditions, a set for those that can read an event, and the
-/// open matches.
+/// What finds the states: the leaves' conditions, a set for those that can read an event, the open
+/// matches, and whether the automaton is known to be patient.
 #[derive(Drop)]
 pub struct Machine {
     pub conditions: Conditions,
     pub bits: Bits,
     pub matches: Matches,
+    pub patient: bool,
 }
 
 /// The leaves with the automaton that they tell, no match being open.
@@ -74,22 +77,27 @@ fn machine_of(alloc: Global, leaves: Leaves) -> Result<Machine, Memory>
     ensures room { IfOk result (λ m. length m.bits ≡ room_for (length leaves.list)) }
     ensures matches { IfOk result (λ m. HasAutomaton (automaton_of_leaves leaves) leaves.strict
         m.matches) }
+    ensures patient { IfOk result (λ m. m.patient ≡ true
+        → IsPatient (automaton_of_leaves leaves) leaves.strict) }
 {
     let cea = compile(alloc, &leaves)?;
+    let patient = is_patient(&cea);
     let matches = Matches::new(alloc, cea);
     let conditions = Conditions::of(alloc, leaves.list)?;
     Ok(Machine {
         bits: conditions.blank(alloc)?,
         conditions,
         matches,
+        patient,
     })
 }
 
 impl Machine {
     /// That of the query.
     pub fn of(alloc: Global, schema: &Schema, query: &Query) -> Result<Machine, Memory>
-        ensures { IfOk result (λ m. IsMachineOf schema.now query.now m.conditions m.bits
+        ensures machine { IfOk result (λ m. IsMachineOf schema.now query.now m.conditions m.bits
             m.matches) }
+        ensures patient { IfOk result (λ m. MayBePatient query.now m.patient) }
     {
         let leaves = leaves_of(alloc, schema, query)?;
         machine_of(alloc, leaves)

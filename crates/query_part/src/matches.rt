@@ -163,10 +163,18 @@ impl Matches {
     }
 
     /// Whether the lists of each key are known to rest.
-    pub fn all_rest(&self) -> bool
+    fn all_rest(&self) -> bool
         ensures { result ≡ true → All (Rest self.now.table) self.now.rows }
     {
         self.awake == 0
+    }
+
+    /// Whether an event that no leaf can read may pass: where the automaton is told to be patient, and
+    /// where the lists of each key are known to rest.
+    pub fn lets_pass(&self, patient: bool) -> bool
+        ensures { result ≡ true → (patient ≡ true) ⊎ All (Rest self.now.table) self.now.rows }
+    {
+        patient || self.all_rest()
     }
 
     /// Whether the lists of the key of this number are known to rest, and no leaf can read the event.

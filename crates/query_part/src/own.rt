@@ -32,7 +32,7 @@ fn known(matches: &Matches, table: &[Option<Places>], event: &Event) -> Option<u
 
 /// Works out the lists of the event's key, by the set of the leaves that can read the event. `None`
 /// where no list changes: where it has no key, and where no leaf can read it and its key's lists are
-/// known to rest. After `Memory` nothing has changed.
+/// known to rest, or the automaton is told to be patient. After `Memory` nothing has changed.
 #[inline(always)]
 pub fn advance_own<L: Ledger>(
     matches: &mut Matches,
@@ -40,6 +40,7 @@ pub fn advance_own<L: Ledger>(
     table: &[Option<Places>],
     event: &Event,
     bits: &Bits,
+    patient: bool,
     stamp: Stamp,
     steps: &mut Steps<L>,
 ) -> Result<Option<Ready>, Memory>
@@ -49,7 +50,7 @@ pub fn advance_own<L: Ledger>(
     requires can { CanTake stamp matches.old }
     ensures stays { IfOk result (λ o. IfNone o ((matches.new ≡ matches.old)
         × (steps.new ≡ steps.old)
-        × Stays matches.old (key_there table.now event.now) bits.now)) }
+        × Stays matches.old (key_there table.now event.now) bits.now patient)) }
     ensures ready { IfOk result (λ o. IfSome o (λ r. IsOwnReady stamp bits.now
         (key_there table.now event.now) r.number r.staged matches.old matches.new)) }
     ensures sizes { IfOk result (λ o. IfSome o (λ r. (cut r.sizes matches.new ≡ matches.old)
@@ -60,7 +61,7 @@ pub fn advance_own<L: Ledger>(
     ensures worked { (steps.new ≡ steps.old) ⊎ HasOwnWorked bits.now
         (key_there table.now event.now) matches.old steps.old steps.new }
 {
-    if bits.is_empty() && matches.all_rest() {
+    if bits.is_empty() && matches.lets_pass(patient) {
         return Ok(None);
     }
     if let Some(number) = known(matches, table, event) {

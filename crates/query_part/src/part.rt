@@ -13,7 +13,7 @@ ghost use Rattle.query_standing.specs.Kept.{PartStands, low_at, roots_at};
 ghost use Rattle.all_or_none.specs.Phases.{IsPrepared, IsIdle, IsQuiet, back, IsCommitted, CanPrepare, StandsAt, InTime, part_bound};
 ghost use Rattle.window_clock.specs.Places.{IsNear, IsOf, HasWidth, clock_in};
 ghost use Rattle.query_part.specs.KeyPlaces.{AreKeyPlaces};
-ghost use Rattle.query_part.specs.Parts.{AreTypesRead, IsMachineOf, HaveClocks, MayFloat, HasEvents, seen, woken, skipped};
+ghost use Rattle.query_part.specs.Parts.{AreTypesRead, IsMachineOf, HaveClocks, MayBePatient, MayFloat, HasEvents, seen, woken, skipped};
 ghost use Rattle.query_part.specs.Compacting.{HasStatesOnce, PartCompacted};
 ghost use Rattle.arena_compact.specs.Roots.{places};
 
@@ -43,7 +43,8 @@ use window_clock::{Clock, TimeBack};
 pub enum Step {
     /// It is not read.
     Unread,
-    /// It changes no list: it has no key, or no leaf can read it and its key's lists rest. Its clock.
+    /// It changes no list: it has no key, or no leaf can read it and its key's lists rest or the
+    /// automaton is patient. Its clock.
     NoChange(i128),
     /// It has a key, whose lists are ready. Its clock.
     Keyed(i128),
@@ -58,6 +59,8 @@ pub struct Part {
     /// Whether its clock is the position, and it reads each type: what an event makes of it then
     /// that passes it by follows from the event's position.
     floats: bool,
+    /// Whether its automaton is known to be patient: an event that no leaf can read changes no list.
+    patient: bool,
     /// For each type whether the query reads it.
     types: Vec<bool>,
     step: Option<Step>,
@@ -82,7 +85,7 @@ impl Model for Part {
     ghost use Rattle.std.specs.Coded.{codes};
     ghost use Rattle.cel_terms.specs.contracts.Formula as formula;
     ghost use Rattle.all_or_none.specs.Phases.{Phase};
-    ghost use Rattle.query_part.specs.Parts.{kept_of, ready_of, CanEnd, IsMade, MayFloat};
+    ghost use Rattle.query_part.specs.Parts.{kept_of, ready_of, CanEnd, IsMade, MayBePatient, MayFloat};
 
     ghost Value = { Phase };
 
@@ -99,7 +102,8 @@ impl Model for Part {
 
     ghost invariant = { λ p. IsMade p.schema.value p.query p.types.items p.keys.items p.conditions
         p.clock.source p.bits p.matches × CanEnd p.step p.ready p.matches
-        × MayFloat p.schema.value p.query p.clock.source p.types.items p.floats };
+        × MayFloat p.schema.value p.query p.clock.source p.types.items p.floats
+        × MayBePatient p.query p.patient };
 }
 
 /// The part with these tables, before any event.
@@ -119,6 +123,7 @@ fn joined(
         reading.floats }
     requires machine { IsMachineOf schema.value query machine.conditions machine.bits
         machine.matches }
+    requires patient { MayBePatient query machine.patient }
     ensures given { (result.schema ≡ schema.value) × (result.query ≡ query) }
     ensures idle { IsIdle result }
     ensures upto { result.upto ≡ 0 }
@@ -128,6 +133,7 @@ fn joined(
     Part {
         alloc,
         floats: reading.floats,
+        patient: machine.patient,
         types: reading.types,
         step: None,
         upto: 0,
@@ -355,7 +361,7 @@ impl Keeps for Part {
     ghost phase = { λ n p. seen n p };
 
     fn rests(&self) -> bool {
-        self.floats && self.matches.all_rest()
+        self.floats && self.matches.lets_pass(self.patient)
     }
 
     fn prepare<L: Ledger>(
@@ -380,7 +386,10 @@ impl Keeps for Part {
         fill(&self.conditions, reads, event, &mut self.bits);
         let table = self.keys.as_slice();
         let matches = &mut self.matches;
-        match advance_own(matches, self.alloc, table, event, &self.bits, stamp, steps) {
+        let (alloc, patient) = (self.alloc, self.patient);
+        match advance_own(
+            matches, alloc, table, event, &self.bits, patient, stamp, steps,
+        ) {
             Err(refused) => Err(refused),
             Ok(None) => {
                 if self.floats && self.upto <= position {

@@ -14,6 +14,8 @@ pub mod Roots
 pub mod Parts
 -- what stands for a key still does in more nodes and with more states
 pub mod Grown
+-- events of a key that its lists have let pass
+pub mod Passing
 -- what is kept of a query stands for the events with one more, where it advances
 pub mod PartSteps
 -- the kept states are different ones, and runs lead to each

@@ -1,5 +1,5 @@
 -- The open matches of a key that accept and are recent are the answers at the key's last event, each once.
-use Rattle.std.proofs.Common.{◌≡◌, ℕ, ◌≤◌, inl, inr, ℤ, ◌≤ℤ◌, Bool, true, false, ◌&&◌, List, [], ◌∷◌, ◌++◌, map, reverse, refl, sym, ap, subst, ◌∙◌, All, Contains, Option, Some, None, slice_get, eqb, nat_le, arith}
+use Rattle.std.proofs.Common.{◌≡◌, ℕ, ◌≤◌, inl, inr, ℤ, ◌≤ℤ◌, Bool, true, false, ◌&&◌, List, [], ◌∷◌, ◌++◌, map, reverse, refl, sym, ap, subst, ◌∙◌, All, Contains, Option, Some, None, slice_get, eqb, nat_le, ◌<◌, arith}
 use Rattle.std.specs.Prelude.{if◌then◌else◌, int_le}
 use Rattle.std.specs.List.{list_all}
 use Rattle.std.proofs.lemmas.Bool.{false≢true, and_from, and_parts, le-leb}
@@ -27,6 +27,9 @@ use Rattle.cea_compile.proofs.Accepted.{answers_are_accepted}
 use Rattle.cel_plain.specs.Valuations.{AreAnswersAt}
 use Rattle.cer_base.specs.Repeats as plain
 use Rattle.event_update.specs.Reach.{Seen, entry, RunEndsIn, Reaches, Has, all_of}
+use Rattle.event_update.specs.Still.{IsSilent}
+use Rattle.event_update.proofs.Advance.{reaches_less}
+use Rattle.event_update.proofs.Resting.{not_accepting}
 use Rattle.query_standing.specs.Clocks.{low_of}
 use Rattle.query_standing.specs.Bounds.{IsMet}
 use Rattle.query_standing.specs.Keys.{HasKeyAt, IsSeen, positions, IsGiven}
@@ -54,7 +57,7 @@ pub reaches : (a : Automaton) (strict : Bool) (before : List Seen) (x : Seen) (o
 reaches a strict [] x others s m e r = inl (e, r)
 reaches a strict (y ∷ ys) x others s m e r = inr (reaches a strict ys x others s m e r)
 
-positions_append : (xs ys : List Seen) → positions (xs ++ ys) ≡ positions xs ++ positions ys
+pub positions_append : (xs ys : List Seen) → positions (xs ++ ys) ≡ positions xs ++ positions ys
 positions_append [] ys = refl
 positions_append (x ∷ xs) ys = ap (λ ps. x.stamp.pos ∷ ps) (positions_append xs ys)
 
@@ -385,3 +388,16 @@ no_answer schema q events end last last_is none answer is =
   where
     out : (p : ℕ) → IsOfSubstream schema q events end p → ⊥
     out p h = let same : h.there ≡ last = (let e = sym h.there_is ∙ last_is in cc) in none h.key (subst (λ e. HasKey schema q e h.key) same h.there_has)
+
+-- nor where no leaf reads it
+pub no_silent_answer : (schema : Declared) (q : Query) (events : List Event) (end : ℕ) (key : List Value) (now : ℤ) (xs : List Seen) (x : Seen) → IsGiven schema q events end key now (xs ++ x ∷ []) → IsSilent x → All (λ (y : Seen). y.stamp.pos < x.stamp.pos) xs → (answer : Answer) → IsAnswer schema q events end answer → ⊥
+no_silent_answer schema q events end key now xs x given silent later answer is =
+    let whole : List Seen = xs ++ x ∷ [] in
+    let parts = (answers_are_accepted schema q events end (positions whole) answer (lists schema q events end key now whole given)).0 is in
+    let t = accepted_to schema q events end key now whole given answer parts.0 parts.1 in
+    let o = reaches_less (automaton_of (tree_of q)) q.strict xs x t.0 t.1 later t.2 in
+    let none : accepts (automaton_of (tree_of q)) t.0.sets ≡ false = elim o.extends [
+      | inl mark ↦ not_accepting (automaton_of (tree_of q)) q.strict o.state t.0 x.bits true silent mark.0
+      | inr past ↦ not_accepting (automaton_of (tree_of q)) q.strict o.state t.0 x.bits false silent past.0
+    ] in
+    false≢true (sym none ∙ t.3)

@@ -1,11 +1,11 @@
 -- What is kept of a query stands for the events with one more, where it advances.
-use Rattle.std.proofs.Common.{◌≡◌, ℕ, suc, ◌<◌, ◌⊎◌, inl, inr, ℤ, ◌≤ℤ◌, List, [], ◌∷◌, ◌++◌, map, length, refl, sym, ap, subst, ◌∙◌, All, Contains, Option, Some, None, slice_get, arith}
+use Rattle.std.proofs.Common.{◌≡◌, ℕ, suc, ◌<◌, ◌⊎◌, inl, inr, ℤ, ◌≤ℤ◌, List, [], ◌∷◌, ◌++◌, length, refl, sym, ap, subst, ◌∙◌, All, Contains, Option, Some, None, slice_get, append_assoc, arith}
 use Rattle.std.specs.Prelude.{IfSome, IfNone, slice_index_or}
 use Rattle.std.proofs.Math.Path.{fun_ext}
 use Rattle.std.proofs.lemmas.Bool.{cases_lt, cases_eq}
 use Rattle.std.proofs.lemmas.Int.{ints}
 use Rattle.std.proofs.lemmas.Option.{slice_get_within, slice_get-get_or}
-use Rattle.std.proofs.lemmas.List.Elements.{All-nil, All-cons, All-head, All-tail, All-weaker, All-append, Contains-append_left, Contains-push_cases}
+use Rattle.std.proofs.lemmas.List.Elements.{All-nil, All-weaker, All-append, All-push, Contains-append_left, Contains-push_cases}
 use Rattle.cer_base.specs.declared.node.Stamp.{Stamp}
 use Rattle.cer_base.specs.declared.node.Root.{Root}
 use Rattle.cer_base.specs.Repeats.{HasNoRepeats}
@@ -19,24 +19,21 @@ use Rattle.cea_determinise.specs.declared.cea.StateSets.{StateSets}
 use Rattle.cea_determinise.specs.declared.cea.Cea.{Cea}
 use Rattle.cea_determinise.specs.Cea.{standing_of}
 use Rattle.cea_determinise.specs.Cea as stored
-use Rattle.cea_determinise.specs.Det.{standing_at}
 use Rattle.cea_compile.specs.Compiled.{automaton_of}
-use Rattle.cel_plain.specs.Valuations.{AreAnswersAt}
-use Rattle.tecs_enumerate.specs.Rest.{recent_of}
 use Rattle.event_update.specs.Reach.{Seen}
 use Rattle.event_update.specs.Stands.{seen, Stands}
-use Rattle.event_update.specs.Still.{IsAtRest, Rest}
+use Rattle.event_update.specs.Still.{IsAtRest, Rest, IsPatient, IsSilent}
 use Rattle.event_update.proofs.Before.{stand_later}
-use Rattle.event_update.proofs.Resting.{resting_stand, resting_accept_none}
+use Rattle.event_update.proofs.Resting.{resting_stand}
 use Rattle.query_standing.specs.Bounds.{IsMet}
 use Rattle.query_standing.specs.Clocks.{Reads, HasClockAt, NeverFalls, IsLastClock, low_of}
-use Rattle.query_standing.specs.Keys.{IsSeenAs, positions, IsGiven}
-use Rattle.query_standing.specs.Holding.{answer_of}
-use Rattle.query_standing.specs.Kept.{Rows, Part, low_at, KeyStands, HasStates, IsHere, HaveStarts, PartStands, roots_of}
-use Rattle.query_standing.specs.Steps.{Advances, HasNoKey, LeavesLists, HasKeyOf}
-use Rattle.query_standing.proofs.Lists.{none_in_nil, got}
+use Rattle.query_standing.specs.Keys.{IsSeenAs, positions, AreSeen, IsGiven}
+use Rattle.query_standing.specs.Kept.{Rows, Part, low_at, KeyStands, KeyIsKept, HasStates, IsHere, HaveStarts, PartStands}
+use Rattle.query_standing.specs.Steps.{Advances, HasNoKey, OwnListsRest, LeavesLists, HasKeyOf}
+use Rattle.query_standing.proofs.Lists.{none_in_nil, got, rises}
 use Rattle.query_standing.proofs.KeyCases.{has_key, kept_key, at_one_place}
-use Rattle.query_standing.proofs.Roots.{entries_same, roots_give_answers}
+use Rattle.query_standing.proofs.Link.{no_silent_answer}
+use Rattle.query_standing.proofs.Passing.{all_front, all_below, kept_whole, seen_taken, with_passed}
 use Rattle.query_standing.proofs.Growing.{get_front, get_last, get_cases, seen_same, seen_more, all_earlier}
 use Rattle.query_standing.proofs.Grown.{stands_grown}
 use Rattle.query_standing.proofs.Parts.{clock_front, clock_cases, met_more, length_more, none_after}
@@ -119,6 +116,16 @@ module _ (schema : Declared) (q : Query) (events : List Event) (event : Event) (
     stands = grown k.seen rows k.stands;
   }
 
+  other_kept : (key : List Value) (rows : Rows) → (HasKey schema q event key → ⊥) → KeyIsKept schema q events old key rows → KeyIsKept schema q more new key rows
+  other_kept key rows other k = record {
+    taken = k.taken;
+    passed = k.passed;
+    are_seen = seen_same schema q events event key (k.taken ++ k.passed) k.are_seen other;
+    silent = k.silent;
+    patient = k.patient;
+    stands = grown k.taken rows k.stands;
+  }
+
   clock_part : IfSome new.clock (IsLastClock schema q more)
   clock_part = subst (λ c. IfSome c (IsLastClock schema q more)) (sym v.clock) last_clock
 
@@ -140,18 +147,15 @@ module _ (schema : Declared) (q : Query) (events : List Event) (event : Event) (
       lists = ap length h.rows ∙ (s.keys.lists ∙ ap length (sym h.keys));
     };
     here = subst (IsHere schema q more new.keys) (sym h.here) (none_after schema q events event h.none);
-    each = λ n key rows at lists. other_key key rows (h.none key) (s.each n key rows (subst (λ ks. slice_get ks n ≡ Some key) h.keys at) (subst (λ rs. slice_get rs n ≡ Some rows) h.rows lists));
+    each = λ n key rows at lists. other_kept key rows (h.none key) (s.each n key rows (subst (λ ks. slice_get ks n ≡ Some key) h.keys at) (subst (λ rs. slice_get rs n ≡ Some rows) h.rows lists));
+    last = λ n key rows is at lists. (let none = sym h.here ∙ is in absurd cc);
   }
 
   -- two keys of one event are one
   one_key : (k l : List Value) → HasKey schema q event k → HasKey schema q event l → k ≡ l
   one_key k l a b = let both = sym a.1 ∙ b.1 in cc
 
-  all_below : (xs : List Seen) → All (λ p. p < length events) (positions xs) → All (λ (x : Seen). x.stamp.pos < length events) xs
-  all_below [] a = All-nil (λ (x : Seen). x.stamp.pos < length events)
-  all_below (x ∷ xs) a = All-cons (λ (x : Seen). x.stamp.pos < length events) x xs (All-head (λ p. p < length events) x.stamp.pos (positions xs) a) (all_below xs (All-tail (λ p. p < length events) x.stamp.pos (positions xs) a))
-
-  -- An event that no leaf can read leaves lists that rest, and lists of other keys, as they are.
+  -- An event that no leaf can read leaves lists that rest, those of a patient automaton, and lists of other keys, as they are.
   pub part_resting : LeavesLists schema q event old new → PartStands schema q more new
   part_resting h = record {
     states = states;
@@ -162,47 +166,69 @@ module _ (schema : Declared) (q : Query) (events : List Event) (event : Event) (
     unread = unread_part;
     keys = record {
       distinct = subst HasNoRepeats (sym h.keys) s.keys.distinct;
-      others = λ key fresh. after key [] (λ has. All-nil (λ (r : ℕ × List Root). IsAtRest old.table r.0)) (s.keys.others key (λ c. fresh (subst (λ ks. Contains ks key) (sym h.keys) c)));
+      others = λ key fresh. after key [] (All-nil (λ (r : ℕ × List Root). IsAtRest old.table r.0)) (s.keys.others key (λ c. fresh (subst (λ ks. Contains ks key) (sym h.keys) c)));
       lists = ap length h.rows ∙ (s.keys.lists ∙ ap length (sym h.keys));
     };
     here = subst (IsHere schema q more new.keys) (sym h.here) (λ end answer ends is. (let l = length_more events event in no_answers end answer (omega arith) is));
     each = λ n key rows at lists. (
         let was = subst (λ ks. slice_get ks n ≡ Some key) h.keys at in
         let were = subst (λ rs. slice_get rs n ≡ Some rows) h.rows lists in
-        after key rows (λ has. h.rests key n rows has was were) (s.each n key rows was were)
+        after_kept n key rows was were (s.each n key rows was were)
         );
+    last = λ n key rows is at lists. (let none = sym h.here ∙ is in absurd cc);
   } where
     stamp : Stamp
     stamp = record { pos = length events; clock = now }
 
-    tells : IsSeenAs schema q event (seen stamp [])
+    x : Seen
+    x = seen stamp []
+
+    tells : IsSeenAs schema q event x
     tells = record { clock = v.now_is; bits = fun_ext (λ k. sym (h.unread k)) }
 
-    own : (key : List Value) (rows : Rows) → HasKey schema q event key → Rest old.table rows → KeyStands schema q events old key rows → KeyStands schema q more new key rows
-    own key rows has rest k = record {
-      seen = k.seen ++ seen stamp [] ∷ [];
-      are_seen = seen_more schema q events event key k.seen (seen stamp []) k.are_seen has refl tells;
-      stands = grown (k.seen ++ seen stamp [] ∷ []) rows (resting_stand old.table (low_at q old.clock) k.seen stamp [] old.nodes rows (λ n. refl) rest (all_below k.seen (all_earlier schema q events key k.seen k.are_seen)) k.stands);
+    -- lists that rest take it in
+    own : (key : List Value) (rows : Rows) (xs : List Seen) → HasKey schema q event key → Rest old.table rows → AreSeen schema q events key xs → Stands old.table (low_at q old.clock) xs old.nodes rows → KeyStands schema q more new key rows
+    own key rows xs has rest are stands = record {
+      seen = xs ++ x ∷ [];
+      are_seen = seen_more schema q events event key xs x are has refl tells;
+      stands = grown (xs ++ x ∷ []) rows (resting_stand old.table (low_at q old.clock) xs stamp [] old.nodes rows (λ n. refl) rest (all_below (length events) xs (all_earlier schema q events key xs are)) stands);
     }
 
-    after : (key : List Value) (rows : Rows) → (HasKey schema q event key → Rest old.table rows) → KeyStands schema q events old key rows → KeyStands schema q more new key rows
+    after : (key : List Value) (rows : Rows) → Rest old.table rows → KeyStands schema q events old key rows → KeyStands schema q more new key rows
     after key rows rest k = elim (has_key schema q event key v.reads) [
-      | inl has ↦ own key rows has (rest has) k
+      | inl has ↦ own key rows k.seen has rest k.are_seen k.stands
       | inr other ↦ other_key key rows other k
     ]
 
-    -- lists that rest have no entry of an accepting state
-    none_at : (key : List Value) (rows : Rows) → HasKey schema q event key → Rest old.table rows → KeyStands schema q events old key rows → (end : ℕ) (answer : Answer) → end ≡ length events → IsAnswer schema q more end answer → ⊥
-    none_at key rows has rest k end answer ends is =
-        let stand = own key rows has rest k in
+    -- those of a patient automaton let it pass
+    pass : (key : List Value) (rows : Rows) → HasKey schema q event key → IsPatient (automaton_of (tree_of q)) q.strict → KeyIsKept schema q events old key rows → KeyIsKept schema q more new key rows
+    pass key rows has patient k = record {
+      taken = k.taken;
+      passed = k.passed ++ x ∷ [];
+      are_seen = subst (AreSeen schema q more key) (append_assoc k.taken k.passed (x ∷ [])) (seen_more schema q events event key (k.taken ++ k.passed) x k.are_seen has refl tells);
+      silent = All-push IsSilent k.passed x k.silent (λ n. refl);
+      patient = inr patient;
+      stands = grown k.taken rows k.stands;
+    }
+
+    own_kept : (n : ℕ) (key : List Value) (rows : Rows) → HasKey schema q event key → slice_get old.keys n ≡ Some key → slice_get old.rows n ≡ Some rows → IsPatient (automaton_of (tree_of q)) q.strict ⊎ OwnListsRest schema q event old → (k : KeyIsKept schema q events old key rows) → (k.passed ≡ []) ⊎ IsPatient (automaton_of (tree_of q)) q.strict → KeyIsKept schema q more new key rows
+    own_kept n key rows has was were (inl patient) k o = pass key rows has patient k
+    own_kept n key rows has was were (inr rests) k (inr patient) = pass key rows has patient k
+    own_kept n key rows has was were (inr rests) k (inl none) = kept_whole schema q more new key rows (own key rows k.taken has (rests key n rows has was were) (seen_taken schema q events old key rows k none) k.stands)
+
+    after_kept : (n : ℕ) (key : List Value) (rows : Rows) → slice_get old.keys n ≡ Some key → slice_get old.rows n ≡ Some rows → KeyIsKept schema q events old key rows → KeyIsKept schema q more new key rows
+    after_kept n key rows was were k = elim (has_key schema q event key v.reads) [
+      | inl has ↦ own_kept n key rows has was were h.rests k k.patient
+      | inr other ↦ other_kept key rows other k
+    ]
+
+    -- no answer ends where no leaf reads
+    none_at : (key : List Value) (xs : List Seen) → HasKey schema q event key → AreSeen schema q events key xs → (end : ℕ) (answer : Answer) → end ≡ length events → IsAnswer schema q more end answer → ⊥
+    none_at key xs has are end answer ends is =
         let at_end : slice_get more end ≡ Some event = subst (λ i. slice_get more i ≡ Some event) (sym ends) (get_last events event) in
         let l = length_more events event in
-        let given : IsGiven schema q more end key now stand.seen = record { seen = stand.are_seen; last = event; last_is = at_end; has = has; clock = subst (λ i. HasClock schema q.window event i now) (sym ends) v.now_is; ends = omega arith } in
-        let rested : Rest new.table rows = subst (λ t. Rest t rows) (sym h.table) rest in
-        let none : roots_of (automaton_of (tree_of q)) (standing_at new.table.states) rows ≡ [] = ap (λ a. roots_of a (standing_at new.table.states) rows) (sym states.automaton) ∙ (sym (entries_same new.table rows) ∙ resting_accept_none new.table rows rested) in
-        let answers = roots_give_answers schema q more end key now stand.seen given new.table (low_at q new.clock) new.nodes rows (ap (low_at q) v.clock) states.automaton states.strict stand.stands in
-        let nothing = subst (λ rs. AreAnswersAt schema q more end (map answer_of (recent_of (low_at q new.clock) new.nodes rs))) none answers in
-        none_in_nil answer (nothing.all answer is)
+        let given : IsGiven schema q more end key now (xs ++ x ∷ []) = record { seen = seen_more schema q events event key xs x are has refl tells; last = event; last_is = at_end; has = has; clock = subst (λ i. HasClock schema q.window event i now) (sym ends) v.now_is; ends = omega arith } in
+        no_silent_answer schema q more end key now xs x given (λ k. refl) (all_below (length events) xs (all_earlier schema q events key xs are)) answer is
 
     no_answers : (end : ℕ) (answer : Answer) → end ≡ length events → IsAnswer schema q more end answer → ⊥
     no_answers end answer ends is = go (values_at schema q.partition event) refl
@@ -216,11 +242,10 @@ module _ (schema : Declared) (q : Query) (events : List Event) (event : Event) (
               let inside = slice_get_within old.keys there.0 key there.1 in
               let count = s.keys.lists in
               let within : there.0 < length old.rows = omega arith in
-              let at = slice_get-get_or old.rows there.0 [] within in
-              let rows = slice_index_or old.rows there.0 [] in
-              none_at key rows (v.reads, e) (h.rests key there.0 rows (v.reads, e) there.1 at) (s.each there.0 key rows there.1 at) end answer ends is
+              let k = s.each there.0 key (slice_index_or old.rows there.0 []) there.1 (slice_get-get_or old.rows there.0 [] within) in
+              none_at key (k.taken ++ k.passed) (v.reads, e) k.are_seen end answer ends is
               )
-          | inr fresh ↦ none_at key [] (v.reads, e) (All-nil (λ (r : ℕ × List Root). IsAtRest old.table r.0)) (s.keys.others key fresh) end answer ends is
+          | inr fresh ↦ let k = s.keys.others key fresh in none_at key k.seen (v.reads, e) k.are_seen end answer ends is
         ]
 
   -- An event with a known key changes the lists of that key alone, which then stand for one event more.
@@ -242,25 +267,35 @@ module _ (schema : Declared) (q : Query) (events : List Event) (event : Event) (
     };
     here = subst (IsHere schema q more new.keys) (sym h.here) (h.key, length events, sym (length_more events event), record { event = event; at = get_last events event; has = h.has }, subst (λ ks. slice_get ks h.number ≡ Some h.key) (sym h.keys) h.numbered);
     each = λ n key rows at lists. each n key rows (subst (λ ks. slice_get ks n ≡ Some key) h.keys at) lists;
+    last = λ n key rows is at lists. (
+        let same : n ≡ h.number = (let both = sym h.here ∙ is in cc) in
+        own n key rows same (subst (λ ks. slice_get ks n ≡ Some key) h.keys at) lists
+        );
   } where
-    own_key : (rows : Rows) → slice_get new.rows h.number ≡ Some rows → KeyStands schema q events old h.key h.before → KeyStands schema q more new h.key rows
+    own_key : (rows : Rows) → slice_get new.rows h.number ≡ Some rows → KeyIsKept schema q events old h.key h.before → KeyStands schema q more new h.key rows
     own_key rows lists k =
         let is : h.after ≡ rows = (let both = sym h.new_rows ∙ lists in cc) in
-        let before = all_below k.seen (all_earlier schema q events h.key k.seen k.are_seen) in
+        let xs = k.taken ++ k.passed in
+        let before = all_below (length events) xs (all_earlier schema q events h.key xs k.are_seen) in
+        let at = ap (λ (x : Stamp). x.pos) h.stamp in
+        let stand = with_passed new.table (automaton_of (tree_of q)) q.strict (low_at q old.clock) k.taken k.passed h.seen new.nodes h.after states.automaton states.strict k.patient k.silent (rises (positions xs) k.are_seen.ascending) (subst (λ n. All (λ (x : Seen). x.stamp.pos < n) xs) (sym at) before) (h.stands k.taken (all_front (λ (x : Seen). x.stamp.pos < length events) k.taken k.passed before) k.stands) in
         record {
-          seen = k.seen ++ h.seen ∷ [];
-          are_seen = seen_more schema q events event h.key k.seen h.seen k.are_seen h.has (ap (λ (x : Stamp). x.pos) h.stamp) h.tells;
-          stands = stand_later new.table (low_at q old.clock) (low_at q new.clock) (k.seen ++ h.seen ∷ []) new.nodes rows low_le (subst (λ rs. Stands new.table (low_at q old.clock) (k.seen ++ h.seen ∷ []) new.nodes rs) is (h.stands k.seen before k.stands));
+          seen = xs ++ h.seen ∷ [];
+          are_seen = seen_more schema q events event h.key xs h.seen k.are_seen h.has at h.tells;
+          stands = stand_later new.table (low_at q old.clock) (low_at q new.clock) (xs ++ h.seen ∷ []) new.nodes rows low_le (subst (λ rs. Stands new.table (low_at q old.clock) (xs ++ h.seen ∷ []) new.nodes rs) is stand);
         }
 
-    each : (n : ℕ) (key : List Value) (rows : Rows) → slice_get old.keys n ≡ Some key → slice_get new.rows n ≡ Some rows → KeyStands schema q more new key rows
+    own : (n : ℕ) (key : List Value) (rows : Rows) → n ≡ h.number → slice_get old.keys n ≡ Some key → slice_get new.rows n ≡ Some rows → KeyStands schema q more new key rows
+    own n key rows same at lists =
+        let key_is : h.key ≡ key = (let both = sym h.numbered ∙ subst (λ i. slice_get old.keys i ≡ Some key) same at in cc) in
+        subst (λ k. KeyStands schema q more new k rows) key_is (own_key rows (subst (λ i. slice_get new.rows i ≡ Some rows) same lists) (s.each h.number h.key h.before h.numbered h.old_rows))
+
+    each : (n : ℕ) (key : List Value) (rows : Rows) → slice_get old.keys n ≡ Some key → slice_get new.rows n ≡ Some rows → KeyIsKept schema q more new key rows
     each n key rows at lists = elim (cases_eq n h.number) [
-      | inl same ↦
-          let key_is : h.key ≡ key = (let both = sym h.numbered ∙ subst (λ i. slice_get old.keys i ≡ Some key) same at in cc) in
-          subst (λ k. KeyStands schema q more new k rows) key_is (own_key rows (subst (λ i. slice_get new.rows i ≡ Some rows) same lists) (s.each h.number h.key h.before h.numbered h.old_rows))
+      | inl same ↦ kept_whole schema q more new key rows (own n key rows same at lists)
       | inr apart ↦
           let others : HasKey schema q event key → ⊥ = λ has. (let key_is = one_key key h.key has h.has in apart (at_one_place old.keys n h.number h.key s.keys.distinct (subst (λ k. slice_get old.keys n ≡ Some k) key_is at) h.numbered)) in
-          other_key key rows others (s.each n key rows at (sym (h.others n apart) ∙ lists))
+          other_kept key rows others (s.each n key rows at (sym (h.others n apart) ∙ lists))
     ]
 
 -- A key that is not kept may be put in, last and with no list.
@@ -279,12 +314,23 @@ part_with_key schema q events part key s fresh = record {
   };
   here = here part.here s.here;
   each = λ n k rows at lists. elim (get_cases part.keys key n k at) [
-    | inl l ↦ moved k rows (s.each n k rows l (old_rows n rows (let i = slice_get_within part.keys n k l in let c = s.keys.lists in omega arith) lists))
-    | inr r ↦ subst (λ z. KeyStands schema q events (record part { keys = part.keys ++ key ∷ []; rows = part.rows ++ [] ∷ [] }) z rows) r.1 (no_list n rows (let c = s.keys.lists in let e = r.0 in omega arith) lists)
+    | inl l ↦ waits k rows (s.each n k rows l (old_rows n rows (let i = slice_get_within part.keys n k l in let c = s.keys.lists in omega arith) lists))
+    | inr r ↦ kept_whole schema q events (record part { keys = part.keys ++ key ∷ []; rows = part.rows ++ [] ∷ [] }) k rows (subst (λ z. KeyStands schema q events (record part { keys = part.keys ++ key ∷ []; rows = part.rows ++ [] ∷ [] }) z rows) r.1 (no_list n rows (let c = s.keys.lists in let e = r.0 in omega arith) lists))
   ];
+  last = λ n k rows is at lists. (
+      let h : IsHere schema q events part.keys (Some n) = subst (IsHere schema q events part.keys) is s.here in
+      let i = slice_get_within part.keys n h.0 h.4 in
+      elim (get_cases part.keys key n k at) [
+        | inl l ↦ moved k rows (s.last n k rows is l (old_rows n rows (let c = s.keys.lists in omega arith) lists))
+        | inr r ↦ let e = r.0 in absurd (omega arith)
+      ]
+      );
 } where
   moved : (k : List Value) (rows : Rows) → KeyStands schema q events part k rows → KeyStands schema q events (record part { keys = part.keys ++ key ∷ []; rows = part.rows ++ [] ∷ [] }) k rows
   moved k rows h = record { seen = h.seen; are_seen = h.are_seen; stands = h.stands }
+
+  waits : (k : List Value) (rows : Rows) → KeyIsKept schema q events part k rows → KeyIsKept schema q events (record part { keys = part.keys ++ key ∷ []; rows = part.rows ++ [] ∷ [] }) k rows
+  waits k rows h = record { taken = h.taken; passed = h.passed; are_seen = h.are_seen; silent = h.silent; patient = h.patient; stands = h.stands }
 
   distinct : (ks : List (List Value)) → HasNoRepeats ks → (Contains ks key → ⊥) → HasNoRepeats (ks ++ key ∷ [])
   distinct [] d f = ((λ c. none_in_nil key c), tt)

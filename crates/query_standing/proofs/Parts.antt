@@ -22,7 +22,7 @@ use Rattle.query_standing.specs.Bounds.{IsMet}
 use Rattle.query_standing.specs.Clocks.{Reads, HasClockAt, IsLastClock}
 use Rattle.query_standing.specs.Keys.{HasKeyAt, IsGiven}
 use Rattle.query_standing.specs.Holding.{answer_of}
-use Rattle.query_standing.specs.Kept.{Rows, Part, low_at, KeyStands, HasStates, IsHere, PartStands, roots_of, roots_for, roots_at, KeptState, KeptStands, nodes_at, kept_rest}
+use Rattle.query_standing.specs.Kept.{Rows, Part, low_at, KeyStands, KeyIsKept, HasStates, IsHere, PartStands, roots_of, roots_for, roots_at, KeptState, KeptStands, nodes_at, kept_rest}
 use Rattle.query_standing.proofs.Lists.{none_in_nil}
 use Rattle.query_standing.proofs.Link.{no_answer}
 use Rattle.query_standing.proofs.Roots.{roots_give_answers}
@@ -43,14 +43,14 @@ none_given schema q events end none = record { each = λ a c. absurd (none_in_ni
 pub part_gives : (schema : Declared) (q : Query) (events : List Event) (end : ℕ) (part : Part) → suc end ≡ length events → PartStands schema q events part → AreAnswersAt schema q events end (map answer_of (recent_of (low_at q part.clock) part.nodes (roots_at q part)))
 part_gives schema q events end part ends s = at_here part.here refl s.here
   where
-    given_low : (n : ℕ) (key : List Value) (p : ℕ) (h : HasKeyAt schema q events key p) → p ≡ end → slice_get part.keys n ≡ Some key → (c : Option ℤ) → part.clock ≡ c → IfSome c (IsLastClock schema q events) → IfNone c ((p : ℕ) (event : Event) → slice_get events p ≡ Some event → Reads schema q event → ⊥) → AreAnswersAt schema q events end (map answer_of (recent_of (low_at q part.clock) part.nodes (roots_of (automaton_of (tree_of q)) (standing_at part.table.states) (slice_index_or part.rows n []))))
-    given_low n key p h here at None e some none = absurd (none p h.event h.at h.has.0)
-    given_low n key p h here at (Some now) e some none =
+    given_low : (n : ℕ) (key : List Value) (p : ℕ) (h : HasKeyAt schema q events key p) → p ≡ end → part.here ≡ Some n → slice_get part.keys n ≡ Some key → (c : Option ℤ) → part.clock ≡ c → IfSome c (IsLastClock schema q events) → IfNone c ((p : ℕ) (event : Event) → slice_get events p ≡ Some event → Reads schema q event → ⊥) → AreAnswersAt schema q events end (map answer_of (recent_of (low_at q part.clock) part.nodes (roots_of (automaton_of (tree_of q)) (standing_at part.table.states) (slice_index_or part.rows n []))))
+    given_low n key p h here is_here at None e some none = absurd (none p h.event h.at h.has.0)
+    given_low n key p h here is_here at (Some now) e some none =
         let inside = slice_get_within part.keys n key at in
         let lists = s.keys.lists in
         let within : n < length part.rows = omega arith in
         let rows = slice_get-get_or part.rows n [] within in
-        let k = s.each n key (slice_index_or part.rows n []) at rows in
+        let k = s.last n key (slice_index_or part.rows n []) is_here at rows in
         let at_end : slice_get events end ≡ Some h.event = subst (λ i. slice_get events i ≡ Some h.event) here h.at in
         let given : IsGiven schema q events end key now k.seen = record { seen = k.are_seen; last = h.event; last_is = at_end; has = h.has; clock = clock_is_now schema q events end h.event now ends at_end h.has.0 some; ends = ends } in
         roots_give_answers schema q events end key now k.seen given part.table (low_at q part.clock) part.nodes (slice_index_or part.rows n []) (ap (low_at q) e) s.states.automaton s.states.strict k.stands
@@ -64,7 +64,7 @@ part_gives schema q events end part ends s = at_here part.here refl s.here
         let p_is = some.2 in
         let at_end : some.1 ≡ end = omega arith in
         subst (λ o. AreAnswersAt schema q events end (map answer_of (recent_of (low_at q part.clock) part.nodes (roots_for q part o)))) (sym e)
-        (given_low n some.0 some.1 some.3 at_end some.4 part.clock refl s.clock s.unread)
+        (given_low n some.0 some.1 some.3 at_end e some.4 part.clock refl s.clock s.unread)
 
 -- a clock of an earlier event, and the one of the last
 pub clock_front : (schema : Declared) (q : Query) (events : List Event) (event : Event) (p : ℕ) (c : ℤ) → HasClockAt schema q events p c → HasClockAt schema q (events ++ event ∷ []) p c
@@ -120,10 +120,21 @@ part_unread schema q events event part s unread = record {
   unread = none part.clock s.unread;
   keys = record { distinct = s.keys.distinct; others = λ key fresh. stays key [] (s.keys.others key fresh); lists = s.keys.lists };
   here = none_after schema q events event (λ key has. unread has.0);
-  each = λ n key rows at lists. stays key rows (s.each n key rows at lists);
+  each = λ n key rows at lists. waits key rows (s.each n key rows at lists);
+  last = λ n key rows is at lists. (let none : None ≡ Some n = is in absurd cc);
 } where
   stays : (key : List Value) (rows : Rows) → KeyStands schema q events part key rows → KeyStands schema q (events ++ event ∷ []) (record part { here = None }) key rows
   stays key rows k = record { seen = k.seen; are_seen = seen_same schema q events event key k.seen k.are_seen (λ has. unread has.0); stands = k.stands }
+
+  waits : (key : List Value) (rows : Rows) → KeyIsKept schema q events part key rows → KeyIsKept schema q (events ++ event ∷ []) (record part { here = None }) key rows
+  waits key rows k = record {
+    taken = k.taken;
+    passed = k.passed;
+    are_seen = seen_same schema q events event key (k.taken ++ k.passed) k.are_seen (λ has. unread has.0);
+    silent = k.silent;
+    patient = k.patient;
+    stands = k.stands;
+  }
 
   old : (p : ℕ) (c : ℤ) → HasClockAt schema q (events ++ event ∷ []) p c → HasClockAt schema q events p c
   old p c h = elim (clock_cases schema q events event p c h) [ inl l ↦ l | inr r ↦ absurd (unread r.1) ]

@@ -1,5 +1,5 @@
 -- What the engine keeps of a query, over nodes: what it is that this stands for the events. After "CORE: a Complex Event Recognition Engine" (PVLDB 2022).
-use Rattle.std.specs.Prelude.{◌≡◌, ℕ, ◌+◌, ◌-◌, ◌≤◌, ℤ, List, [], ◌++◌, length, Contains, All, Option, Some, None, slice_get, slice_index_or, IfSome, IfNone}
+use Rattle.std.specs.Prelude.{◌≡◌, ℕ, ◌+◌, ◌-◌, ◌≤◌, ◌⊎◌, ℤ, List, [], ◌++◌, length, Contains, All, Option, Some, None, slice_get, slice_index_or, IfSome, IfNone}
 use Rattle.std.specs.List.{flat_map, IsDistinct}
 use Rattle.std.specs.Option.{option_map_or}
 use Rattle.stream_schema.specs.Types.{Declared}
@@ -27,6 +27,7 @@ use Rattle.cea_determinise.specs.Cea as stored
 use Rattle.cea_compile.specs.Compiled.{automaton_of}
 use Rattle.event_update.specs.Reach.{Seen}
 use Rattle.event_update.specs.Stands.{Stands}
+use Rattle.event_update.specs.Still.{IsPatient, IsSilent}
 use Rattle.query_standing.specs.Bounds.{IsMet}
 use Rattle.query_standing.specs.Clocks.{Reads, HasClockAt, NeverFalls, IsLastClock, least, low_of}
 use Rattle.query_standing.specs.Keys.{AreSeen, HasKeyAt}
@@ -56,6 +57,15 @@ pub record KeyStands (schema : Declared) (q : Query) (events : List Event) (part
   pub are_seen : AreSeen schema q events key seen
   pub stands : Stands part.table (low_at q part.clock) seen part.nodes rows
 
+-- The lists stand for what is seen of the key's first events. What came after those no leaf can read, and a patient automaton has let it pass: after a later event the lists are the same.
+pub record KeyIsKept (schema : Declared) (q : Query) (events : List Event) (part : Part) (key : List Value) (rows : Rows) : Type 0 where
+  pub taken : List Seen
+  pub passed : List Seen
+  pub are_seen : AreSeen schema q events key (taken ++ passed)
+  pub silent : All IsSilent passed
+  pub patient : (passed ≡ []) ⊎ IsPatient (automaton_of (tree_of q)) q.strict
+  pub stands : Stands part.table (low_at q part.clock) taken part.nodes rows
+
 -- the states are the query's, and runs over the events meet each
 pub record HasStates (schema : Declared) (q : Query) (events : List Event) (t : Table) : Type 0 where
   pub automaton : stored.automaton_of_cea t.cea ≡ automaton_of (tree_of q)
@@ -79,7 +89,7 @@ IsHere schema q events keys (Some n) = (key : List Value) × (p : ℕ) × (p + 1
 abbrev pub HaveStarts : Declared → Query → List Event → List Node → Type 0
 HaveStarts schema q events nodes = (s : Stamp) → Contains nodes (Bottom s) → HasClockAt schema q events s.pos s.clock
 
--- What is kept of the query is as it is after these events.
+-- What is kept of the query is as it is after these events: of each key, and with all its events of the last event's.
 pub record PartStands (schema : Declared) (q : Query) (events : List Event) (part : Part) : Type 0 where
   pub states : HasStates schema q events part.table
   pub nodes : WellFormed part.nodes
@@ -89,7 +99,8 @@ pub record PartStands (schema : Declared) (q : Query) (events : List Event) (par
   pub unread : IfNone part.clock ((p : ℕ) (event : Event) → slice_get events p ≡ Some event → Reads schema q event → ⊥)
   pub keys : HasKeys schema q events part
   pub here : IsHere schema q events part.keys part.here
-  pub each : (n : ℕ) (key : List Value) (rows : Rows) → slice_get part.keys n ≡ Some key → slice_get part.rows n ≡ Some rows → KeyStands schema q events part key rows
+  pub each : (n : ℕ) (key : List Value) (rows : Rows) → slice_get part.keys n ≡ Some key → slice_get part.rows n ≡ Some rows → KeyIsKept schema q events part key rows
+  pub last : (n : ℕ) (key : List Value) (rows : Rows) → part.here ≡ Some n → slice_get part.keys n ≡ Some key → slice_get part.rows n ≡ Some rows → KeyStands schema q events part key rows
 
 -- the entries of the lists of accepting states, in order
 abbrev pub roots_of : Automaton → (ℕ → Standing) → Rows → List Root

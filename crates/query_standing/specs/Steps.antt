@@ -11,9 +11,11 @@ use Rattle.cer_base.specs.declared.node.Node.TheVariants.{Bottom}
 use Rattle.cer_base.specs.Nodes.{WellFormed}
 use Rattle.cea_determinise.specs.Cea.{standing_of, HasLeavesBelow}
 use Rattle.cea_determinise.specs.Keys.{are_same_sets}
+use Rattle.cea_compile.specs.Compiled.{automaton_of}
+use Rattle.query_leaves.specs.Expand.{tree_of}
 use Rattle.event_update.specs.Reach.{Seen}
 use Rattle.event_update.specs.Stands.{Stands}
-use Rattle.event_update.specs.Still.{Rest}
+use Rattle.event_update.specs.Still.{Rest, IsPatient}
 use Rattle.query_standing.specs.Bounds.{IsMet}
 use Rattle.query_standing.specs.Clocks.{Reads, least, low_of}
 use Rattle.query_standing.specs.Keys.{leaves_reading, IsSeenAs}
@@ -40,10 +42,14 @@ pub record HasNoKey (schema : Declared) (q : Query) (event : Event) (old new : P
   pub rows : new.rows ≡ old.rows
   pub here : new.here ≡ None
 
--- No leaf can read the event, and the lists of its key rest, where that is kept: no list changes, and there is no answer.
+-- the lists of the event's key rest, where that is kept
+abbrev pub OwnListsRest : Declared → Query → Event → Part → Type 0
+OwnListsRest schema q event old = (key : List Value) (number : ℕ) (rows : Rows) → HasKey schema q event key → slice_get old.keys number ≡ Some key → slice_get old.rows number ≡ Some rows → Rest old.table rows
+
+-- No leaf can read the event, and the query's automaton is patient or the lists of the event's key rest: no list changes, and there is no answer.
 pub record LeavesLists (schema : Declared) (q : Query) (event : Event) (old new : Part) : Type 0 where
   pub unread : (k : ℕ) → leaves_reading schema q event k ≡ false
-  pub rests : (key : List Value) (number : ℕ) (rows : Rows) → HasKey schema q event key → slice_get old.keys number ≡ Some key → slice_get old.rows number ≡ Some rows → Rest old.table rows
+  pub rests : IsPatient (automaton_of (tree_of q)) q.strict ⊎ OwnListsRest schema q event old
   pub table : new.table ≡ old.table
   pub keys : new.keys ≡ old.keys
   pub rows : new.rows ≡ old.rows

@@ -1,4 +1,4 @@
-use Rattle.std.proofs.Common.{◌≡◌, refl, length, [], slice_index_or}
+use Rattle.std.proofs.Common.{refl, length, [], slice_index_or}
 use Rattle.event_update.specs.Update.{rows_after}
 use Rattle.query_part.specs.declared.lists.Lists.{Lists}
 use Rattle.query_part.specs.Matches.{MayRest}

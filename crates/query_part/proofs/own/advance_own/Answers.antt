@@ -6,7 +6,7 @@ pub returns-then-resting-clause-stays : goal.returns-then-resting-clause-stays
 returns-then-resting-clause-stays g c =
     let k = c.in-Some.ensures in
     let known : c.resting.result ≡ true = search rules in
-    (refl, refl, one_stays c.args.matches.now c.args.table.now c.args.event.now c.args.bits.now k.0 c.in-Some.number k.1 k.2 (c.resting.ensures.quiet known) (c.resting.ensures.rest known))
+    (refl, refl, one_stays c.args.matches.now c.args.table.now c.args.event.now c.args.bits.now c.args.patient k.0 c.in-Some.number k.1 k.2 (c.resting.ensures.quiet known) (c.resting.ensures.rest known))
 
 pub returns-in_err-ready-clause-worked : goal.returns-in_err-ready-clause-worked
 returns-in_err-ready-clause-worked g c =

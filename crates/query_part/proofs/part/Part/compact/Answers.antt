@@ -51,6 +51,7 @@ invariant_of-self g c =
       },
       tt,
       c.self.invariant.2,
+      c.self.invariant.3,
     )
 
 pub returns-clause-same : goal.returns-clause-same

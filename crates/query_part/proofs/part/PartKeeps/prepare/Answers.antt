@@ -8,7 +8,7 @@ use Rattle.all_or_none.specs.Phases.{Phase, IsStep, HasPassed}
 use Rattle.query_part.specs.KeyPlaces.{key_there}
 use Rattle.query_part.specs.declared.matches.Ready.{Ready}
 use Rattle.query_part.specs.Matches.{cut, CanCut, Stays, IsOwnReady, HasOwnWorked}
-use Rattle.query_part.specs.Parts.{part_of, put_in, clock_at, here_at, seen, IsMade, CanEnd, MayFloat}
+use Rattle.query_part.specs.Parts.{part_of, put_in, clock_at, here_at, seen, IsMade, CanEnd, MayBePatient, MayFloat}
 use Rattle.query_part.proofs.Cases.{unread_step, can_take, starts_in_step}
 use Rattle.query_part.proofs.Prepare.{facts, idle_fields, now_is, fits, made_after, made_filled, number_inside, not_read, idle_part, unread_inside}
 use Rattle.query_part.proofs.Sleeping.{may_reads, neither, passes_unread}
@@ -59,18 +59,18 @@ advance_own-requires-clause-can g c =
 
 pub invariant_of-self-in-Err : goal.invariant_of-self-in-Err
 invariant_of-self-in-Err g c =
-    subst (λ h. IsMade c.self.inside.schema.value c.self.inside.query c.self.inside.types.items c.self.inside.keys.items c.self.inside.conditions c.self.inside.clock.source c.fill.new.into h × CanEnd c.self.inside.step c.self.inside.ready h × MayFloat c.self.inside.schema.value c.self.inside.query c.self.inside.clock.source c.self.inside.types.items c.self.inside.floats) (sym c.in-Err.ensures.refused)
-    (made_filled c.self.inside.schema.value c.self.inside.query c.self.inside.types.items c.self.inside.keys.items c.self.inside.conditions c.self.inside.clock.source c.self.inside.bits c.fill.new.into c.self.inside.matches c.self.invariant.0 c.fill.ensures.room, c.self.invariant.1, c.self.invariant.2)
+    subst (λ h. IsMade c.self.inside.schema.value c.self.inside.query c.self.inside.types.items c.self.inside.keys.items c.self.inside.conditions c.self.inside.clock.source c.fill.new.into h × CanEnd c.self.inside.step c.self.inside.ready h × MayFloat c.self.inside.schema.value c.self.inside.query c.self.inside.clock.source c.self.inside.types.items c.self.inside.floats × MayBePatient c.self.inside.query c.self.inside.patient) (sym c.in-Err.ensures.refused)
+    (made_filled c.self.inside.schema.value c.self.inside.query c.self.inside.types.items c.self.inside.keys.items c.self.inside.conditions c.self.inside.clock.source c.self.inside.bits c.fill.new.into c.self.inside.matches c.self.invariant.0 c.fill.ensures.room, c.self.invariant.1, c.self.invariant.2, c.self.invariant.3)
 
 pub returns-then-self-position-2-clause-passed : goal.returns-then-self-position-2-clause-passed
 returns-then-self-position-2-clause-passed g c =
     let f = facts c.self.inside.schema.value c.self.inside.query c.args.event.now c.args.position c.self.inside.step c.self.inside.ready c.self.inside.matches c.self.inside.clock.last c.self.inside.here c.self.inside.upto c.self.inside.floats c.args.self.now c.self.view_is c.requires.idle c.requires.can in
     let bits_are = (λ i k. c.fill.ensures.members k i) ∙ c.self.invariant.0.leaves c.args.event.now in
-    let kept = at_none ((c.advance_own.new.matches ≡ c.self.inside.matches) × (c.advance_own.new.steps ≡ c.args.steps.now) × Stays c.self.inside.matches (key_there c.as_slice-table.result.now c.args.event.now) c.fill.new.into) c.in-Ok-None.field-0 c.in-Ok-None.field-0-is c.in-Ok-None.ensures.stays in
-    let stays = subst (λ (t : List (Option (List ℕ))). Stays c.self.inside.matches (key_there t c.args.event.now) c.fill.new.into) c.as_slice-table.ensures.value kept.2 in
+    let kept = at_none ((c.advance_own.new.matches ≡ c.self.inside.matches) × (c.advance_own.new.steps ≡ c.args.steps.now) × Stays c.self.inside.matches (key_there c.as_slice-table.result.now c.args.event.now) c.fill.new.into c.self.inside.patient) c.in-Ok-None.field-0 c.in-Ok-None.field-0-is c.in-Ok-None.ensures.stays in
+    let stays = subst (λ (t : List (Option (List ℕ))). Stays c.self.inside.matches (key_there t c.args.event.now) c.fill.new.into c.self.inside.patient) c.as_slice-table.ensures.value kept.2 in
     let is : c.self.inside.floats ≡ true = search rules in
     let le : c.self.inside.upto ≤ c.args.position = search rules in
-    λ by. passed_now c.self.inside.schema.value c.self.inside.query c.args.event.now c.args.position c.self.inside.step c.self.inside.ready c.self.inside.matches c.advance_own.new.matches c.self.inside.clock.last c.self.inside.here c.self.inside.upto c.self.inside.floats c.args.self.now c.self.view_is c.requires.idle kept.0 (stays_pass c.self.inside.schema.value c.self.inside.query c.self.inside.clock.source c.self.inside.types.items c.self.inside.keys.items c.fill.new.into c.args.event.now c.args.position c.self.inside.matches c.self.inside.clock.last c.self.inside.here c.self.inside.upto c.self.inside.floats is le c.self.invariant.2 c.self.invariant.0.types c.self.invariant.0.clock c.self.invariant.0.keys f.of_schema bits_are stays)
+    λ by. passed_now c.self.inside.schema.value c.self.inside.query c.args.event.now c.args.position c.self.inside.step c.self.inside.ready c.self.inside.matches c.advance_own.new.matches c.self.inside.clock.last c.self.inside.here c.self.inside.upto c.self.inside.floats c.args.self.now c.self.view_is c.requires.idle kept.0 (stays_pass c.self.inside.schema.value c.self.inside.query c.self.inside.clock.source c.self.inside.types.items c.self.inside.keys.items c.fill.new.into c.self.inside.patient c.args.event.now c.args.position c.self.inside.matches c.self.inside.clock.last c.self.inside.here c.self.inside.upto c.self.inside.floats is le c.self.invariant.3 c.self.invariant.2 c.self.invariant.0.types c.self.invariant.0.clock c.self.invariant.0.keys f.of_schema bits_are stays)
 
 pub invariant_of-self-in-Ok-Some : goal.invariant_of-self-in-Ok-Some
 invariant_of-self-in-Ok-Some g c =
@@ -85,6 +85,7 @@ invariant_of-self-in-Ok-Some g c =
         number_inside _ c.fill.new.into r.0 c.in-Ok-Some.ready.number c.in-Ok-Some.ready.staged c.self.inside.matches c.advance_own.new.matches r.2,
       ),
       c.self.invariant.2,
+      c.self.invariant.3,
     )
 
 pub returns-in-Err-clause-within : goal.returns-in-Err-clause-within
@@ -123,9 +124,9 @@ returns-else-self-clause-ready g c =
     let clock = now_is c.self.inside.schema.value c.self.inside.query.window c.self.inside.clock.source c.args.event.now c.args.position c.now-clock.result (to_z w128 (of_z w128 c.now-clock.result)) c.self.invariant.0.clock c.now-clock.ensures.clock same in
     let low = fits c.self.inside.schema.value c.self.inside.query.window c.self.inside.clock.source c.now-clock.result (to_z w128 (of_z w128 c.now-clock.result)) c.self.invariant.0.clock c.now-clock.ensures.fits same in
     let bits_are = (λ i k. c.fill.ensures.members k i) ∙ c.self.invariant.0.leaves c.args.event.now in
-    let kept = at_none ((c.advance_own.new.matches ≡ c.self.inside.matches) × (c.advance_own.new.steps ≡ c.args.steps.now) × Stays c.self.inside.matches (key_there c.as_slice-table.result.now c.args.event.now) c.fill.new.into) c.in-Ok-None.field-0 c.in-Ok-None.field-0-is c.in-Ok-None.ensures.stays in
-    let stays = subst (λ (t : List (Option (List ℕ))). Stays c.self.inside.matches (key_there t c.args.event.now) c.fill.new.into) c.as_slice-table.ensures.value kept.2 in
-    λ by. subst (λ h. IsStep c.self.inside.schema.value c.self.inside.query c.args.event.now c.args.position (part_of h (clock_at c.self.inside.floats c.self.inside.upto c.args.position c.self.inside.clock.last) (here_at c.self.inside.upto c.args.position c.self.inside.here)) (part_of h (Some (to_z w128 (of_z w128 c.now-clock.result))) None)) (sym kept.0) (stays_step c.self.inside.schema.value c.self.inside.query c.self.inside.keys.items c.fill.new.into c.args.event.now c.args.position c.self.inside.matches (clock_at c.self.inside.floats c.self.inside.upto c.args.position c.self.inside.clock.last) (here_at c.self.inside.upto c.args.position c.self.inside.here) (to_z w128 (of_z w128 c.now-clock.result)) c.self.invariant.0.keys f.of_schema does clock low bits_are stays)
+    let kept = at_none ((c.advance_own.new.matches ≡ c.self.inside.matches) × (c.advance_own.new.steps ≡ c.args.steps.now) × Stays c.self.inside.matches (key_there c.as_slice-table.result.now c.args.event.now) c.fill.new.into c.self.inside.patient) c.in-Ok-None.field-0 c.in-Ok-None.field-0-is c.in-Ok-None.ensures.stays in
+    let stays = subst (λ (t : List (Option (List ℕ))). Stays c.self.inside.matches (key_there t c.args.event.now) c.fill.new.into c.self.inside.patient) c.as_slice-table.ensures.value kept.2 in
+    λ by. subst (λ h. IsStep c.self.inside.schema.value c.self.inside.query c.args.event.now c.args.position (part_of h (clock_at c.self.inside.floats c.self.inside.upto c.args.position c.self.inside.clock.last) (here_at c.self.inside.upto c.args.position c.self.inside.here)) (part_of h (Some (to_z w128 (of_z w128 c.now-clock.result))) None)) (sym kept.0) (stays_step c.self.inside.schema.value c.self.inside.query c.self.inside.keys.items c.fill.new.into c.self.inside.patient c.args.event.now c.args.position c.self.inside.matches (clock_at c.self.inside.floats c.self.inside.upto c.args.position c.self.inside.clock.last) (here_at c.self.inside.upto c.args.position c.self.inside.here) (to_z w128 (of_z w128 c.now-clock.result)) c.self.invariant.0.keys f.of_schema does clock low bits_are c.self.invariant.3 stays)
 
 pub returns-in-Ok-Some-clause-ready : goal.returns-in-Ok-Some-clause-ready
 returns-in-Ok-Some-clause-ready g c =

@@ -1,6 +1,5 @@
 //! The rows, by what they show.
 
-mod calls;
 mod compactions;
 mod explaining;
 mod faults;

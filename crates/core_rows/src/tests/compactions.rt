@@ -1,17 +1,8 @@
 //! Runs that compact the engine after every so many events: the same answers, and fewer nodes.
 
-ghost use Rattle.std.specs.Prelude.{◌≡◌, ◌<◌};
-
-use super::calls::{sure_host, words_of};
 use super::rows::{PLAIN, rows_hold};
-use cer_base::steps::Steps;
-use cer_outside::hosts::SureHost;
-use cer_outside::sinks::MemSink;
-use core_top::core_main;
-use query_engine::Engine;
+use core_calls::left::left_by;
 use std::alloc::{AllocError, Global};
-use std::marker::Brand;
-use std::sync::ledger::{Blank, Ledger};
 use std::test::*;
 
 /// All runs of A so far: the same lines whether the engine is compacted after each event, or never.
@@ -34,47 +25,14 @@ const BACK: &str = "SELECT * FROM S WHERE A+ WITHIN 1 EVENTS\n";
 /// So many events are given to it.
 const EVENTS: u64 = 4000;
 
-/// How many nodes an engine has of all queries, and how many there were at most after an event.
-fn nodes_of(engine: &Engine) -> (u64, u64) {
-    let mut left: u64 = 0;
-    let mut most: u64 = 0;
-    for k in 0..engine.queries() {
-        left = left.saturating_add(engine.len(k + 1));
-        most = most.saturating_add(engine.peak(k + 1));
-    }
-    (left, most)
-}
-
-/// The nodes of the engine that the call leaves, `None` where it leaves none. The output takes all.
-fn nodes_left<L: Ledger>(
-    alloc: Global,
-    words: Vec<String>,
-    host: &mut SureHost,
-    blank: Blank,
-) -> Result<Option<(u64, u64)>, AllocError>
-    requires name { blank.name ≡ L.name }
-    requires parts { blank.parts ≡ L.parts }
-    requires some { 0 < blank.parts }
-{
-    let Ok(mut out) = MemSink::new(alloc, 65_536, 1_048_576, Vec::new(alloc)) else {
-        return Err(AllocError);
-    };
-    let Ok(mut notes) = MemSink::new(alloc, 65_536, 65_536, Vec::new(alloc)) else {
-        return Err(AllocError);
-    };
-    let mut steps: Steps<L> = Steps::start(blank);
-    let done = core_main(alloc, words, host, &mut out, &mut notes, &mut steps);
-    Ok(match &done.left {
-        Some(engine) => Some(nodes_of(engine)),
-        None => None,
-    })
-}
-
 /// The nodes that a call of these words leaves, over the query and these events.
-fn left_by(alloc: Global, words: &str, events: &[u8]) -> Result<Option<(u64, u64)>, AllocError> {
+fn nodes_after(
+    alloc: Global,
+    words: &str,
+    events: &[u8],
+) -> Result<Option<(u64, u64)>, AllocError> {
     let queries = format!(in alloc; "{PLAIN}{BACK}")?;
-    let mut host = sure_host(alloc, queries.as_bytes(), events)?;
-    nodes_left::<Brand>(alloc, words_of(alloc, words)?, &mut host, Blank::new(1))
+    left_by(alloc, words, queries.as_bytes(), events)
 }
 
 #[test]
@@ -94,22 +52,23 @@ fn nodes_go(rt: HostRuntime) -> Result<(), Fail> {
         events.push_str("A,1\n")?;
     }
     let events = events.as_bytes();
-    let Some((left, most)) = left_by(alloc, "run q e", events)? else {
+    let Some((left, most)) = nodes_after(alloc, "run q e", events)? else {
         return Err(Fail::new("no engine is left"));
     };
     assert!(rt; left >= EVENTS && most >= EVENTS);
-    let Some((left, most)) = left_by(alloc, "run q e --compact-every 10", events)? else {
+    let Some((left, most)) = nodes_after(alloc, "run q e --compact-every 10", events)? else {
         return Err(Fail::new("no engine is left"));
     };
     assert!(rt; left <= 2 * 256);
     assert!(rt; most <= 12 * 256);
-    let Some((left, most)) = left_by(alloc, "reorder q e v 0 --compact-every 10", events)? else {
+    let Some((left, most)) = nodes_after(alloc, "reorder q e v 0 --compact-every 10", events)?
+    else {
         return Err(Fail::new("no engine is left"));
     };
     assert!(rt; left <= 2 * 256);
     assert!(rt; most <= 12 * 256);
-    assert!(rt; left_by(alloc, "reorder q e w 0", events)?.is_none());
-    assert!(rt; left_by(alloc, "run q f", events)?.is_none());
-    assert!(rt; left_by(alloc, "sample 0 3", events)?.is_none());
+    assert!(rt; nodes_after(alloc, "reorder q e w 0", events)?.is_none());
+    assert!(rt; nodes_after(alloc, "run q f", events)?.is_none());
+    assert!(rt; nodes_after(alloc, "sample 0 3", events)?.is_none());
     Ok(())
 }

@@ -3,8 +3,8 @@
 //! What is left standing is told by the calls that went well before: the sink took 5 bytes with each
 //! write, the notes 7, and each read gave 4 bytes.
 
-use super::calls::{AMPLE, Sinks, failing_host, over_host, words_of};
 use super::rows::PLAIN;
+use core_calls::calls::{AMPLE, Sinks, failing_host, over_host, words_of};
 use std::alloc::{AllocError, Global};
 use std::process::Abort;
 use std::test::*;

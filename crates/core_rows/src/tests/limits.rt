@@ -1,7 +1,7 @@
 //! Texts and lines at their limits.
 
-use super::calls::done_well;
 use super::rows::PLAIN;
+use core_calls::calls::done_well;
 use std::alloc::{AllocError, Global};
 use std::process::Abort;
 use std::test::*;

@@ -1,7 +1,7 @@
 //! What is refused, and with which note.
 
-use super::calls::done_well;
 use super::rows::{PLAIN, rows_hold};
+use core_calls::calls::done_well;
 use std::test::*;
 
 /// Each at its first fault.

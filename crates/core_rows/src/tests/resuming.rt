@@ -1,7 +1,7 @@
 //! Runs that go on from a checkpoint, worked out by hand.
 
-use super::calls::{AMPLE, Sinks, failing_resume_host, over_host, resumed_well, words_of};
 use super::rows::{PLAIN, rows_hold};
+use core_calls::calls::{AMPLE, Sinks, failing_resume_host, over_host, resumed_well, words_of};
 use std::alloc::Global;
 use std::process::Abort;
 use std::test::*;

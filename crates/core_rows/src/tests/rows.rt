@@ -1,6 +1,6 @@
 //! Tables of rows: a line each for a whole call of the program.
 
-use super::calls::{done_well, resumed_well};
+use core_calls::calls::{done_well, resumed_well};
 use std::alloc::{AllocError, Global};
 use std::process::Abort;
 use std::test::*;

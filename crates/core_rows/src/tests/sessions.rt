@@ -1,7 +1,7 @@
 //! Scripts of commands, worked out by hand.
 
-use super::calls::{AMPLE, Sinks, done_well, failing_host, over_host, words_of};
 use super::rows::{PLAIN, rows_hold};
+use core_calls::calls::{AMPLE, Sinks, done_well, failing_host, over_host, words_of};
 use std::alloc::{AllocError, Global};
 use std::test::*;
 

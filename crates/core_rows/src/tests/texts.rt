@@ -1,7 +1,7 @@
 //! The forms of query texts and of event lines.
 
-use super::calls::done_well;
 use super::rows::{PLAIN, rows_hold};
+use core_calls::calls::done_well;
 use std::test::*;
 
 const QUERIES: &str = "\

@@ -1,4 +1,4 @@
-use Rattle.core_rows.proofs.tests.compactions.left_by.Given as goal
+use Rattle.core_calls.proofs.left.left_by.Given as goal
 
 -- the call counts in the ledger that its blank opens
 abbrev pub ghosts-nodes_left : goal.ghosts-nodes_left

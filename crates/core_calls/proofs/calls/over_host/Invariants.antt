@@ -1,4 +1,4 @@
-use Rattle.core_rows.proofs.tests.calls.over_host.Given as goal
+use Rattle.core_calls.proofs.calls.over_host.Given as goal
 
 -- the call counts in the ledger that its blank opens
 abbrev pub ghosts-answer : goal.ghosts-answer

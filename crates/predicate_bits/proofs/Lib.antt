@@ -5,5 +5,7 @@ pub mod Collected
 -- a set that is filled with the leaves of a group whose tests hold
 pub mod Filled
 mod Ranged
+-- what is left to test of a leaf
+mod Checked
 -- what the range of a leaf settles
 mod Settled

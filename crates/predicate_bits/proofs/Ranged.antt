@@ -1,9 +1,7 @@
 -- What is left of a range where tests hold.
-use Rattle.std.proofs.Common.{◌≡◌, refl, sym, ap, subst, ◌∙◌, ℕ, zero, suc, ◌+◌, ◌<◌, ◌++◌, ℤ, ◌≤ℤ◌, Bool, true, List, [], ◌∷◌, length, take, get_or, Some, slice_get, slice_index_or, arith}
+use Rattle.std.proofs.Common.{◌≡◌, refl, sym, ap, subst, ◌∙◌, ℕ, ◌+◌, ◌<◌, ℤ, ◌≤ℤ◌, Bool, true, List, [], ◌∷◌, length, take, get_or, Some, slice_get}
 use Rattle.std.specs.List.{list_all}
 use Rattle.std.proofs.lemmas.Bool.{and_parts}
-use Rattle.std.proofs.lemmas.Option.{slice_get-get_or}
-use Rattle.std.proofs.lemmas.List.{take_more}
 use Rattle.std.proofs.lemmas.List.Folds.{list_all_more}
 use Rattle.stream_schema.specs.declared.Event.{Event}
 use Rattle.stream_schema.specs.declared.Op.{Op}
@@ -11,11 +9,10 @@ use Rattle.stream_schema.specs.declared.Value.{Value}
 use Rattle.stream_schema.specs.declared.Value.TheVariants as value
 use Rattle.stream_schema.specs.Comparing.{value_meets}
 use Rattle.cel_terms.specs.Predicate.{some_meets}
-use Rattle.query_leaves.specs.declared.Leaf.{Leaf}
 use Rattle.query_leaves.specs.declared.Test.{Test, Cmp}
 use Rattle.query_leaves.specs.Shapes.{test_holds, each_holds}
 use Rattle.predicate_bits.specs.declared.ranges.Range.{Range}
-use Rattle.predicate_bits.specs.Ranges.{IsWide, IsIn, Narrows, AsksFor, AreRangesOf}
+use Rattle.predicate_bits.specs.Ranges.{IsWide, IsIn, Narrows, AsksFor}
 
 pub narrows_none : (r : Range) (holds : Event → Bool) → Narrows r r holds
 narrows_none r holds = record { place = refl; narrow = λ event v wide h at is_in. is_in }
@@ -60,30 +57,3 @@ ends_moved old test place op literal n least most low high is literal_is same fr
 pub first_holds : (tests : List Test) (t : Test) → slice_get tests 0 ≡ Some t → (event : Event) → each_holds tests event ≡ true → test_holds t event ≡ true
 first_holds [] t at event h = absurd cc
 first_holds (x ∷ xs) t at event h = let same : x ≡ t = cc in subst (λ z. test_holds z event ≡ true) same (and_parts (test_holds x event) (each_holds xs event) h).0
-
--- the range of a leaf that is there
-pub range_there : (list : List Leaf) (ranges : List Range) (k : ℕ) (d : Range) (l : Leaf) → AreRangesOf list ranges → k < length list → slice_get list k ≡ Some l → AsksFor (slice_index_or ranges k d) (each_holds l.tests.items)
-range_there list ranges k d l are inside at = let same = are.count in are.each k l (slice_index_or ranges k d) at (slice_get-get_or ranges k d (omega arith))
-
-each_more : (P : Leaf → Range → Type 0) (xs : List Leaf) (rs : List Range) (l : Leaf) (r : Range) → length rs ≡ length xs → ((k : ℕ) (m : Leaf) (q : Range) → slice_get xs k ≡ Some m → slice_get rs k ≡ Some q → P m q) → P l r → (k : ℕ) (m : Leaf) (q : Range) → slice_get (xs ++ l ∷ []) k ≡ Some m → slice_get (rs ++ r ∷ []) k ≡ Some q → P m q
-each_more P [] [] l r long each here zero m q a b = let e : l ≡ m = cc in let f : r ≡ q = cc in subst (λ z. P z q) e (subst (λ z. P l z) f here)
-each_more P [] [] l r long each here (suc k) m q a b = absurd cc
-each_more P [] (y ∷ ys) l r long each here k m q a b = absurd (omega arith)
-each_more P (x ∷ xs) [] l r long each here k m q a b = absurd (omega arith)
-each_more P (x ∷ xs) (y ∷ ys) l r long each here zero m q a b = each 0 m q a b
-each_more P (x ∷ xs) (y ∷ ys) l r long each here (suc k) m q a b = each_more P xs ys l r (omega arith) (λ i n p c d. each (suc i) n p c d) here k m q a b
-
-one_longer : {X : Type 0} (xs : List X) (x : X) → length (xs ++ x ∷ []) ≡ length xs + 1
-one_longer [] x = refl
-one_longer (y ∷ ys) x = let rest = one_longer ys x in omega arith
-
--- the range of one leaf more
-pub ranges_more : (list : List Leaf) (ranges after : List Range) (k : ℕ) (l : Leaf) (r : Range) → k < length list → l ≡ get_or list k l → AreRangesOf (take k list) ranges → AsksFor r (each_holds l.tests.items) → after ≡ ranges ++ r ∷ [] → AreRangesOf (take (k + 1) list) after
-ranges_more list ranges after k l r inside at are asks is =
-    let first = take k list in
-    let both : AreRangesOf (first ++ l ∷ []) (ranges ++ r ∷ []) = record {
-      count = (let a = one_longer ranges r in let b = one_longer first l in let e = are.count in omega arith);
-      each = each_more (λ m q. AsksFor q (each_holds m.tests.items)) first ranges l r are.count are.each asks;
-    } in
-    let more : take (k + 1) list ≡ first ++ l ∷ [] = take_more list k l inside ∙ ap (λ x. first ++ x ∷ []) (sym at) in
-    subst (λ xs. AreRangesOf xs after) (sym more) (subst (AreRangesOf (first ++ l ∷ [])) (sym is) both)

@@ -1,9 +1,7 @@
 -- The whole number that the tests of a leaf ask for, as a range.
-use Rattle.std.specs.Prelude.{◌≡◌, ℕ, ◌^◌, ℤ, pos, neg_ℤ, ◌≤ℤ◌, ◌<ℤ◌, Bool, true, List, length, Some, slice_get}
+use Rattle.std.specs.Prelude.{◌≡◌, ◌^◌, ℤ, pos, neg_ℤ, ◌≤ℤ◌, ◌<ℤ◌, Bool, true, Some, slice_get}
 use Rattle.stream_schema.specs.declared.Event.{Event}
 use Rattle.stream_schema.specs.declared.Value.TheVariants as value
-use Rattle.query_leaves.specs.declared.Leaf.{Leaf}
-use Rattle.query_leaves.specs.Shapes.{each_holds}
 use Rattle.predicate_bits.specs.declared.ranges.Range.{Range}
 
 -- a number that an attribute may have
@@ -22,16 +20,6 @@ pub record Narrows (old new : Range) (holds : Event → Bool) : Type 0 where
 abbrev pub AsksFor : Range → (Event → Bool) → Type 0
 AsksFor r holds = (event : Event) (v : ℤ) → IsWide v → holds event ≡ true → slice_get event.values r.place ≡ Some (value.Int v) → IsIn r v
 
--- each leaf has its range
-pub record AreRangesOf (list : List Leaf) (ranges : List Range) : Type 0 where
-  pub count : length ranges ≡ length list
-  pub each : (k : ℕ) (l : Leaf) (r : Range) → slice_get list k ≡ Some l → slice_get ranges k ≡ Some r → AsksFor r (each_holds l.tests.items)
-
 -- the test holds where the whole number at the range's place is in the range
 abbrev pub Settles : Range → (Event → Bool) → Type 0
 Settles r holds = (event : Event) (v : ℤ) → slice_get event.values r.place ≡ Some (value.Int v) → IsIn r v → holds event ≡ true
-
--- for each leaf whether its range is known to settle its tests
-pub record AreSettled (list : List Leaf) (ranges : List Range) (settled : List Bool) : Type 0 where
-  pub count : length settled ≡ length list
-  pub each : (k : ℕ) (l : Leaf) (r : Range) → slice_get list k ≡ Some l → slice_get ranges k ≡ Some r → slice_get settled k ≡ Some true → Settles r (each_holds l.tests.items)

@@ -7,12 +7,10 @@ ghost use Rattle.query_leaves.specs.Conditions.{leaf_conditions};
 ghost use Rattle.query_leaves.specs.declared.Leaf.{Leaf};
 ghost use Rattle.query_leaves.specs.Shapes.{each_holds as tests_hold};
 ghost use Rattle.predicate_bits.specs.Groups.{IsGroup};
-ghost use Rattle.predicate_bits.specs.Ranges.{AreRangesOf, AreSettled};
+ghost use Rattle.predicate_bits.specs.Checks.{AreSieves};
 
+use crate::checks::{Sieve, hold_by, sieves_of};
 use crate::groups::grouped;
-use crate::holding::each_holds;
-use crate::ranges::{Range, ranges_of};
-use crate::settling::{settled_of, told};
 use cer_base::bits::Bits;
 use cer_base::{Listed, Memory};
 use query_leaves::Leaf;
@@ -24,10 +22,8 @@ use stream_schema::{Event, TypeId};
 #[derive(Drop)]
 pub struct Conditions {
     list: Listed<Leaf>,
-    /// The range that the tests of each leaf ask for.
-    ranges: Vec<Range>,
-    /// Whether this settles them.
-    settled: Vec<bool>,
+    /// What is known of the tests of each leaf.
+    sieves: Vec<Sieve>,
     /// The numbers of the leaves of each type, by the type's number.
     groups: Vec<Vec<usize>>,
 }
@@ -37,7 +33,7 @@ impl Model for Conditions {
     ghost use Rattle.query_leaves.specs.declared.Leaf.{Leaf};
     ghost use Rattle.std.specs.Prelude.{slice_get};
     ghost use Rattle.predicate_bits.specs.Groups.{AreGrouped};
-    ghost use Rattle.predicate_bits.specs.Ranges.{AreRangesOf, AreSettled};
+    ghost use Rattle.predicate_bits.specs.Checks.{AreSieves};
     ghost use Rattle.query_leaves.specs.contracts.Test as test;
     ghost use Rattle.std.specs.Coded.{codes};
 
@@ -48,7 +44,7 @@ impl Model for Conditions {
     ghost view = { λ c. c.list };
 
     ghost invariant = { λ c. AreGrouped c.list (slice_get c.groups.items)
-        × AreRangesOf c.list c.ranges.items × AreSettled c.list c.ranges.items c.settled.items };
+        × AreSieves c.list c.sieves.items };
 }
 
 impl Conditions {
@@ -57,12 +53,10 @@ impl Conditions {
         ensures { IfOk result (λ c. c ≡ list) }
     {
         let groups = grouped(alloc, list.as_slice())?;
-        let ranges = ranges_of(alloc, list.as_slice())?;
-        let settled = settled_of(alloc, list.as_slice(), ranges.as_slice())?;
+        let sieves = sieves_of(alloc, list.as_slice())?;
         Ok(Conditions {
             list,
-            ranges,
-            settled,
+            sieves,
             groups,
         })
     }
@@ -84,12 +78,10 @@ impl Conditions {
     {
         empty_out(into);
         if let Some(numbers) = group_of(self.groups.as_slice(), event.ty) {
-            let ranges = self.ranges.as_slice();
-            let settled = self.settled.as_slice();
+            let sieves = self.sieves.as_slice();
             add(
                 self.list.as_slice(),
-                ranges,
-                settled,
+                sieves,
                 numbers.as_slice(),
                 event,
                 into,
@@ -118,30 +110,20 @@ fn group_of(groups: &[Vec<usize>], ty: TypeId) -> Option<&Vec<usize>>
 
 /// Whether the tests of the leaf of this number hold of the event.
 #[inline(always)]
-fn holds_at(list: &[Leaf], ranges: &[Range], settled: &[bool], number: usize, event: &Event) -> bool
+fn holds_at(list: &[Leaf], sieves: &[Sieve], number: usize, event: &Event) -> bool
     requires inside { number < length list.now }
-    requires ranges { AreRangesOf list.now ranges.now }
-    requires settled { AreSettled list.now ranges.now settled.now }
+    requires sieves { AreSieves list.now sieves.now }
     ensures { (l : Leaf) → slice_get list.now number ≡ Some l
         → result ≡ tests_hold l.tests.items event.now }
 {
-    match told(&ranges[number], settled[number], event) {
-        Some(holds) => holds,
-        None => each_holds(list[number].tests.as_slice(), event),
-    }
+    let sieve = &sieves[number];
+    let tests = list[number].tests.as_slice();
+    hold_by(&sieve.range, &sieve.checks, tests, event)
 }
 
 /// Puts in those of the numbers, which are of the event's type, whose tests hold of the event.
-fn add(
-    list: &[Leaf],
-    ranges: &[Range],
-    settled: &[bool],
-    numbers: &[usize],
-    event: &Event,
-    into: &mut Bits,
-)
-    requires ranges { AreRangesOf list.now ranges.now }
-    requires settled { AreSettled list.now ranges.now settled.now }
+fn add(list: &[Leaf], sieves: &[Sieve], numbers: &[usize], event: &Event, into: &mut Bits)
+    requires sieves { AreSieves list.now sieves.now }
     requires group { IsGroup list.now event.now.ty numbers.now }
     requires room { length into.old ≡ room_for (length list.now) }
     requires empty { (k : ℕ) → has into.old k ≡ false }
@@ -149,7 +131,7 @@ fn add(
     ensures room { length into.new ≡ length into.old }
 {
     for number in numbers {
-        if holds_at(list, ranges, settled, *number, event) {
+        if holds_at(list, sieves, *number, event) {
             into.insert(*number);
         }
     }

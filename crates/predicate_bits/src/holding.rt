@@ -3,6 +3,8 @@
 ghost use Rattle.std.specs.Prelude.{◌≡◌};
 ghost use Rattle.std.specs.List.{list_all, list_any};
 ghost use Rattle.std.specs.Option.{option_copied};
+ghost use Rattle.std.specs.Cmp.Lexicographic.{slice_cmp};
+ghost use Rattle.std.specs.Ordering.{nat_cmp};
 ghost use Rattle.std.specs.Prelude.{slice_get};
 ghost use Rattle.stream_schema.specs.Comparing.{meets, value_meets};
 ghost use Rattle.query_leaves.specs.declared.Test.{Cmp};
@@ -26,11 +28,23 @@ fn is_met(op: Op, order: Ordering) -> bool
     }
 }
 
+/// Whether the texts compare so. Whether they are equal mostly shows by their lengths.
+fn texts_compare(op: Op, text: &str, literal: &str) -> bool
+    ensures { result ≡ meets op (slice_cmp nat_cmp text.now literal.now) }
+{
+    match op {
+        Op::Eq => text == literal,
+        Op::Ne => text != literal,
+        _ => is_met(op, text.cmp(literal)),
+    }
+}
+
 /// Whether the value compares so with the literal, whole numbers without their places.
 fn compares(op: Op, value: &Value, literal: &Value) -> bool
     ensures { result ≡ value_meets op value.now literal.now }
 {
     match (value, literal) {
+        (Value::Text(a), Value::Text(b)) => texts_compare(op, a.as_str(), b.as_str()),
         (Value::Int(a), Value::Int(b)) => is_met(op, a.cmp(b)),
         _ => is_met_by(op, value, literal),
     }
@@ -45,7 +59,7 @@ pub fn value_at(values: &[Value], place: usize) -> Option<&Value>
 }
 
 /// Whether the value at the place compares so with the literal.
-fn compares_at(event: &Event, place: u64, op: Op, literal: &Value) -> bool
+pub fn compares_at(event: &Event, place: u64, op: Op, literal: &Value) -> bool
     ensures { result ≡ test_holds (Cmp place op literal.now) event.now }
 {
     match value_at(event.values.as_slice(), place as usize) {

@@ -1,17 +1,15 @@
 //! Which whole number the tests of a leaf ask for: a quick look before them.
 
-ghost use Rattle.std.specs.Prelude.{◌≡◌, ℤ, ◌≤ℤ◌, Bool, false, true, IfOk};
+ghost use Rattle.std.specs.Prelude.{◌≡◌, ℤ, ◌≤ℤ◌, Bool, false, true};
 ghost use Rattle.std.specs.List.{list_all};
 ghost use Rattle.stream_schema.specs.declared.Event.{Event as EventData};
 ghost use Rattle.stream_schema.specs.declared.Value.TheVariants as value;
 ghost use Rattle.stream_schema.specs.Comparing.{value_meets};
 ghost use Rattle.query_leaves.specs.declared.Test.{Cmp};
 ghost use Rattle.query_leaves.specs.Shapes.{test_holds, each_holds};
-ghost use Rattle.predicate_bits.specs.Ranges.{IsWide, IsIn, Narrows, AsksFor, AreRangesOf};
+ghost use Rattle.predicate_bits.specs.Ranges.{IsWide, IsIn, Narrows, AsksFor};
 
-use cer_base::Memory;
-use query_leaves::{Leaf, Test};
-use std::alloc::Global;
+use query_leaves::Test;
 use stream_schema::{Event, Op, Value};
 
 /// The whole numbers from `low` to `high`, at this place in an event.
@@ -152,17 +150,6 @@ pub fn range_of(tests: &[Test]) -> Range
         Some(test) => range_of_test(test),
         None => whole(0),
     }
-}
-
-/// The range that the tests of each leaf ask for, by the leaf's number.
-pub fn ranges_of(alloc: Global, list: &[Leaf]) -> Result<Vec<Range>, Memory>
-    ensures { IfOk result (λ ranges. AreRangesOf list.now ranges.items) }
-{
-    let mut ranges = Vec::with_capacity(alloc, list.len())?;
-    for leaf in list {
-        ranges.push(range_of(leaf.tests.as_slice()))?;
-    }
-    Ok(ranges)
 }
 
 /// Whether the number is neither below `low` nor above `high`: one test for both, which a processor

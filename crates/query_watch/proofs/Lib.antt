@@ -1,2 +1,3 @@
 -- rows that are put in, and looked at
 mod Listed
+mod Gridded

@@ -1,9 +1,9 @@
 -- Rows that are put in, and looked at.
-use Rattle.std.proofs.Common.{◌≡◌, refl, sym, ap, subst, ◌∙◌, ℕ, zero, suc, ◌+◌, ◌<◌, ◌≤◌, ◌⊎◌, inl, inr, Bool, true, false, ◌&&◌, ◌||◌, eqb, List, [], ◌∷◌, ◌++◌, length, take, Some, None, Vec, slice_get, slice_index_or, slice_set, Contains, All, arith}
+use Rattle.std.proofs.Common.{◌≡◌, refl, sym, ap, subst, ◌∙◌, ℕ, zero, suc, ◌+◌, ◌<◌, ◌≤◌, ◌⊎◌, inl, inr, Bool, true, false, ◌&&◌, ◌||◌, eqb, List, [], ◌∷◌, ◌++◌, length, take, Option, Some, None, IfSome, Vec, slice_get, slice_index_or, slice_set, Contains, All, arith}
 use Rattle.std.specs.declared.alloc.Global.{Global}
 use Rattle.std.proofs.lemmas.Bool.{cases_lt, cases_eq, eq-eqb, eqb-true, false≢true, and_parts, or_cases, or_left, or_right}
 use Rattle.std.proofs.lemmas.List.Elements.{All-nil, All-push, All-weaker, Contains-append_left, Contains-append_right, Contains-append_cases, Contains-push, Contains-push_cases, Contains-get_or, All-get_or}
-use Rattle.std.proofs.lemmas.List.{get_or_default, get_or_push, take_more, take_all}
+use Rattle.std.proofs.lemmas.List.{take_more, take_all}
 use Rattle.std.proofs.lemmas.Option.{slice_get_within, slice_get-get_or, get_or_from_slice_get}
 use Rattle.cer_base.specs.Bits.{has}
 use Rattle.stream_schema.specs.Types.{Declared}
@@ -15,10 +15,12 @@ use Rattle.query_leaves.specs.Expand.{Occurrence, tree_of}
 use Rattle.query_leaves.specs.Leaves.{occurrences, occurrence_reads}
 use Rattle.query_leaves.specs.Shapes.{each_holds, leaf_reads, IsLeafOf, AreLeavesOf}
 use Rattle.predicate_bits.specs.declared.ranges.Range.{Range}
-use Rattle.predicate_bits.specs.Ranges.{AsksFor, Settles}
+use Rattle.predicate_bits.specs.declared.checks.Check.{Check}
+use Rattle.predicate_bits.specs.Ranges.{AsksFor}
+use Rattle.predicate_bits.specs.Checks.{all_checks_hold, ComesTo}
 use Rattle.query_watch.specs.declared.rows.Row.{Row}
 use Rattle.query_watch.specs.declared.rows.Watched.{Watched}
-use Rattle.query_watch.specs.Rows.{Table, rows_of, IsListed, HasPut, HasAdded, HasAddedQuery, IsRangeOf, IsRowOf, IsRowOfLeaf, HasLeafRow, HaveRows, HaveReader, HasRow, IsWatched, IsWatch, IsExact, AreExact, IsRowBelow, AreBelow, Marks}
+use Rattle.query_watch.specs.Rows.{Table, rows_of, IsListed, HasPut, HasAdded, HasAddedQuery, IsRangeOf, IsRowOf, IsRowOfLeaf, HasLeafRow, HaveRows, HaveReader, IsWatched, IsWatch, IsExact, AreExact, IsRowBelow, AreBelow, Marks}
 
 -- a list with nothing in it, put in last, changes no list
 pub same_more : (vs : List (Vec Row Global)) (v : Vec Row Global) → v.items ≡ [] → (t : ℕ) → slice_index_or (rows_of (vs ++ v ∷ [])) t [] ≡ slice_index_or (rows_of vs) t []
@@ -133,10 +135,10 @@ leaf_kept : (query other : ℕ) (list : List Leaf) (old new : List (List Row)) (
 leaf_kept query other list old new had have l added h = record { row = h.row; listed = added.kept l.ty h.row h.listed; leaf = h.leaf; at = added.leaves h.row.leaf h.leaf h.at; numbered = h.numbered; tests = h.tests }
 
 -- the range of a leaf's tests, as the code reads them
-pub range_of_leaf : (query : ℕ) (range : Range) (settled : Bool) (tests : Vec Test Global) (xs ys : List Test) → xs ≡ tests.items → ys ≡ tests.items → AsksFor range (each_holds xs) → (settled ≡ true → Settles range (each_holds ys)) → IsRangeOf range (record { query = query; settled = settled; tests = tests })
-range_of_leaf query range settled tests xs ys x_is y_is asks settles = record {
+pub range_of_leaf : (query : ℕ) (range : Range) (checks : Option (Vec Check Global)) (tests : Vec Test Global) (xs ys : List Test) → xs ≡ tests.items → ys ≡ tests.items → AsksFor range (each_holds xs) → IfSome checks (λ cs. ComesTo range (each_holds ys) (all_checks_hold cs.items)) → IsRangeOf range (record { query = query; checks = checks; tests = tests })
+range_of_leaf query range checks tests xs ys x_is y_is asks come = record {
   asks = subst (λ ts. AsksFor range (each_holds ts)) x_is asks;
-  settles = λ is. subst (λ ts. Settles range (each_holds ts)) y_is (settles is);
+  checks = subst (λ ts. IfSome checks (λ cs. ComesTo range (each_holds ts) (all_checks_hold cs.items))) y_is come;
 }
 
 pub rows_none : (query : ℕ) (rows : List (List Row)) (leaves : List Watched) → HaveRows query [] rows leaves

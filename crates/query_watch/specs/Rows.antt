@@ -1,5 +1,5 @@
 -- What is looked at of the leaves of queries before an event is taken.
-use Rattle.std.specs.Prelude.{◌≡◌, ℕ, ◌<◌, ◌⊎◌, Bool, true, List, [], length, map, Some, All, Vec, slice_get, slice_index_or, Contains}
+use Rattle.std.specs.Prelude.{◌≡◌, ℕ, ◌<◌, ◌⊎◌, Bool, true, List, [], length, map, Some, All, Vec, slice_get, slice_index_or, Contains, IfSome}
 use Rattle.std.specs.declared.alloc.Global.{Global}
 use Rattle.cer_base.specs.Bits.{has}
 use Rattle.stream_schema.specs.Types.{Declared}
@@ -10,7 +10,8 @@ use Rattle.query_leaves.specs.Expand.{Occurrence, tree_of}
 use Rattle.query_leaves.specs.Leaves.{occurrences, occurrence_reads}
 use Rattle.query_leaves.specs.Shapes.{each_holds, AreLeavesOf}
 use Rattle.predicate_bits.specs.declared.ranges.Range.{Range}
-use Rattle.predicate_bits.specs.Ranges.{AsksFor, Settles}
+use Rattle.predicate_bits.specs.Ranges.{AsksFor}
+use Rattle.predicate_bits.specs.Checks.{all_checks_hold, ComesTo}
 use Rattle.query_watch.specs.declared.rows.Row.{Row}
 use Rattle.query_watch.specs.declared.rows.Watched.{Watched}
 
@@ -34,10 +35,10 @@ pub record HasPut (ty : ℕ) (row : Row) (old new : List (List Row)) : Type 0 wh
   pub kept : (t : ℕ) (r : Row) → IsListed old t r → IsListed new t r
   pub only : (t : ℕ) (r : Row) → IsListed new t r → IsListed old t r ⊎ ((ty ≡ t) × (row ≡ r))
 
--- The range is one that the leaf's tests ask for, and settles them where the leaf says so.
+-- The range is one that the leaf's tests ask for, and what they come to there are the leaf's checks, where it has them.
 pub record IsRangeOf (range : Range) (leaf : Watched) : Type 0 where
   pub asks : AsksFor range (each_holds leaf.tests.items)
-  pub settles : leaf.settled ≡ true → Settles range (each_holds leaf.tests.items)
+  pub checks : IfSome leaf.checks (λ cs. ComesTo range (each_holds leaf.tests.items) (all_checks_hold cs.items))
 
 -- The row is of a leaf of this query, which is there.
 pub record IsRowOf (query : ℕ) (leaves : List Watched) (row : Row) : Type 0 where

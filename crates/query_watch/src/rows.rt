@@ -6,8 +6,8 @@ ghost use Rattle.query_watch.specs.Rows.{rows_of, HasPut, HasAdded, HasAddedQuer
 
 use cel_terms::Query;
 use cer_base::Memory;
+use predicate_bits::checks::{Check, checks_of};
 use predicate_bits::ranges::{Range, range_of};
-use predicate_bits::settling::settles_each;
 use query_leaves::{Leaf, Test, leaves_of};
 use std::alloc::Global;
 use stream_schema::{Schema, TypeId};
@@ -25,8 +25,8 @@ pub struct Row {
 pub struct Watched {
     /// Its query's number, from 0.
     pub query: u64,
-    /// Whether the range settles the tests.
-    pub settled: bool,
+    /// What is left to test where an event has a number of the range, where that is known.
+    pub checks: Option<Vec<Check>>,
     pub tests: Vec<Test>,
 }
 
@@ -85,11 +85,11 @@ fn add_leaf(
     let ty = leaf.ty;
     let tests = leaf.tests;
     let range = range_of(tests.as_slice());
-    let settled = settles_each(&range, tests.as_slice());
+    let checks = checks_of(alloc, &range, tests.as_slice())?;
     let number = leaves.len() as u64;
     leaves.push(Watched {
         query,
-        settled,
+        checks,
         tests,
     })?;
     put(

@@ -1,18 +1,20 @@
 //! The leaves of all queries, and which queries an event can concern.
 
-ghost use Rattle.std.specs.Prelude.{◌≡◌, ℕ, ◌≤◌, ◌⊎◌, true, [], ◌∷◌, length, slice_get, IfOk, All};
+ghost use Rattle.std.specs.Prelude.{◌≡◌, ℕ, ◌≤◌, ◌⊎◌, true, [], ◌∷◌, length, slice_get, Some, IfOk, All};
 ghost use Rattle.std.specs.Option.{option_copied};
 ghost use Rattle.cer_base.specs.Bits.{has};
 ghost use Rattle.query_leaves.specs.Shapes.{each_holds as tests_hold};
+ghost use Rattle.query_watch.specs.declared.grid.Grid.{Grid as GridData};
+ghost use Rattle.query_watch.specs.Grid.{IsGrid, Suffice};
 ghost use Rattle.query_watch.specs.Rows.{rows_of, AreBelow, AreExact, IsRangeOf, IsRowBelow, IsWatch, HasRow, Marks};
 
+use crate::grid::{Grid, few_of, grids_of};
 use crate::rows::{Row, Watched, add_query};
 use cel_terms::Query;
 use cer_base::Memory;
 use cer_base::bits::Bits;
-use predicate_bits::holding::each_holds;
+use predicate_bits::checks::hold_by;
 use predicate_bits::ranges::{Range, may_hold};
-use predicate_bits::settling::told;
 use std::alloc::Global;
 use std::marker::Model;
 use stream_schema::{Event, Schema, TypeId};
@@ -22,6 +24,8 @@ use stream_schema::{Event, Schema, TypeId};
 pub struct Watch {
     /// The rows of the leaves of each type, by the type's number.
     rows: Vec<Vec<Row>>,
+    /// The same rows by whole numbers, by the type's number.
+    grids: Vec<Grid>,
     /// The leaves of all queries, by their numbers.
     leaves: Vec<Watched>,
     /// How many queries there are.
@@ -32,6 +36,7 @@ impl Model for Watch {
     ghost use Rattle.std.specs.Coded.{codes};
     ghost use Rattle.query_leaves.specs.contracts.Test as test;
     ghost use Rattle.query_watch.specs.Rows.{Table, rows_of, AreBelow};
+    ghost use Rattle.query_watch.specs.Grid.{AreGrids};
 
     ghost Value = { Table };
 
@@ -43,7 +48,8 @@ impl Model for Watch {
       count = w.count;
     } };
 
-    ghost invariant = { λ w. AreBelow w.count (rows_of w.rows.items) w.leaves.items };
+    ghost invariant = { λ w. AreBelow w.count (rows_of w.rows.items) w.leaves.items
+        × AreGrids (rows_of w.rows.items) w.grids.items };
 }
 
 /// The rows of the leaves of the queries, with the leaves put in last.
@@ -76,8 +82,10 @@ impl Watch {
     {
         let mut leaves = Vec::new(alloc);
         let rows = rows_for(&mut leaves, alloc, schema, queries)?;
+        let grids = grids_of(alloc, rows.as_slice())?;
         Ok(Watch {
             rows,
+            grids,
             leaves,
             count: queries.len(),
         })
@@ -96,7 +104,8 @@ impl Watch {
         ensures room { length into.new ≡ length into.old }
     {
         if let Some(rows) = list_of(self.rows.as_slice(), event.ty) {
-            mark_rows(rows.as_slice(), self.leaves.as_slice(), event, into);
+            let few = rows_at(rows.as_slice(), self.grids.as_slice(), event);
+            mark_rows(few, self.leaves.as_slice(), event, into);
         }
     }
 }
@@ -108,15 +117,25 @@ fn list_of(rows: &[Vec<Row>], ty: TypeId) -> Option<&Vec<Row>>
     rows.get(ty as usize)
 }
 
-/// Whether the leaf's tests hold of the event, which are tested where the range does not tell it.
+/// The rows that the event may concern, of those of its type.
+#[inline(always)]
+fn rows_at<'a>(rows: &'a [Row], grids: &'a [Grid], event: &Event) -> &'a [Row]
+    requires { (grid : GridData) → slice_get grids.now event.now.ty ≡ Some grid
+        → IsGrid rows.now grid }
+    ensures { Suffice rows.now event.now result.now }
+{
+    match grids.get(event.ty as usize) {
+        Some(grid) => few_of(rows, grid, event),
+        None => rows,
+    }
+}
+
+/// Whether the leaf's tests hold of the event.
 fn holds_of(range: &Range, leaf: &Watched, event: &Event) -> bool
     requires { IsRangeOf range.now leaf.now }
     ensures { result ≡ tests_hold leaf.now.tests.items event.now }
 {
-    match told(range, leaf.settled, event) {
-        Some(holds) => holds,
-        None => each_holds(leaf.tests.as_slice(), event),
-    }
+    hold_by(range, &leaf.checks, leaf.tests.as_slice(), event)
 }
 
 /// Puts in the number of the row's query, if the tests of its leaf hold of the event.

@@ -9,4 +9,4 @@ returns-clause-row c = leaf_row c.args.query _ _ c.args.leaf (rows_of c.args.row
 
 pub returns-clause-added : goal.returns-clause-added
 returns-clause-added c = added_leaf c.args.query _ _ c.args.leaf (rows_of c.args.rows.now.items) (rows_of c.put.new.rows.items) c.args.leaves.now.items c.push.new.self.items c.in_ok-push.ensures.items (let e = c.len-number.ensures in grind (arith, common_steps)) refl refl
-    (range_of_leaf c.args.query c.range_of-range.result c.settles_each-settled.result c.args.leaf.tests _ _ c.as_slice.ensures.value c.as_slice-2.ensures.value c.range_of-range.ensures c.settles_each-settled.ensures) c.in_ok-put.ensures
+    (range_of_leaf c.args.query c.range_of-range.result c.in_ok-checks.checks c.args.leaf.tests _ _ c.as_slice.ensures.value c.as_slice-2.ensures.value c.range_of-range.ensures c.in_ok-checks.ensures) c.in_ok-put.ensures

@@ -1,6 +1,6 @@
 use Rattle.std.proofs.Common.{◌∷◌, []}
 use Rattle.query_watch.specs.Rows.{rows_of}
-use Rattle.query_watch.proofs.Listed.{rows_none, rows_next, added_none, added_more}
+use Rattle.query_watch.proofs.Listed.{rows_next, added_more}
 use Rattle.query_watch.proofs.rows.add_leaves.Goals as goal
 
 pub loop-leaf-preserved : goal.loop-leaf-preserved

@@ -116,6 +116,11 @@ pub record CanPrepare (event : Event) (position : ℕ) (p : Phase) : Type 0 wher
   pub in_time : InTime events event p
   pub stands : StandsAt events p
 
+-- Some leaf of the part's query reads the event.
+pub record IsRead (event : Event) (p : Phase) : Type 0 where
+  pub leaf : ℕ
+  pub reads : leaves_reading p.schema p.query event leaf ≡ true
+
 -- no leaf of the part's query reads the event
 abbrev pub IsUnread : Event → Phase → Type 0
 IsUnread event p = (k : ℕ) → leaves_reading p.schema p.query event k ≡ false
@@ -132,6 +137,10 @@ pub record AreLeft {P : Type 0} (phase : ℕ → P → Phase) (count : ℕ) (awa
 -- no leaf reads the event of the query of a part whose number, from 0, is not in the set
 abbrev pub AreUnread : {P : Type 0} → (P → Phase) → Event → List Bool → List P → Type 0
 AreUnread phase event marked parts = (k : ℕ) (p : _) → slice_get parts k ≡ Some p → has marked k ≡ false → IsUnread event (phase p)
+
+-- some leaf does of that of each part whose number is in the set
+abbrev pub AreRead : {P : Type 0} → (P → Phase) → Event → List Bool → List P → Type 0
+AreRead phase event read parts = (k : ℕ) (p : _) → slice_get parts k ≡ Some p → has read k ≡ true → IsRead event (phase p)
 
 -- the parts that are not in the set are as they were
 abbrev pub AreUntouched : {P : Type 0} → List Bool → List P → List P → Type 0

@@ -14,7 +14,7 @@ ghost use Rattle.std.specs.List.{AllZip};
 ghost use Rattle.cer_base.specs.Bits.{has};
 ghost use Rattle.stream_schema.specs.declared.Event.{Event};
 ghost use Rattle.query_standing.specs.Bounds.{update_bound};
-ghost use Rattle.all_or_none.specs.Phases.{Phase, CanPrepare, IsPrepared, IsIdle, IsQuiet, back, HasPassed, Rests, AreLeft, IsUnread, AreUnread, AreUntouched, AreOfMarked, AreBack, IsSet, IsNoted, is_among, AreSet, MayAnswer, IsTaken, IsWithin, StandsAt, InTime, ready_bound, kept_bound, AreBounded, HasGrown};
+ghost use Rattle.all_or_none.specs.Phases.{Phase, CanPrepare, IsPrepared, IsIdle, IsQuiet, back, HasPassed, Rests, AreLeft, IsRead, AreRead, IsUnread, AreUnread, AreUntouched, AreOfMarked, AreBack, IsSet, IsNoted, is_among, AreSet, MayAnswer, IsTaken, IsWithin, StandsAt, InTime, ready_bound, kept_bound, AreBounded, HasGrown};
 
 use cer_base::bits::Bits;
 use cer_base::steps::Steps;
@@ -24,7 +24,7 @@ use stream_schema::Event;
 
 /// What is kept of one query. Between `prepare` and `commit` it is still seen as what it was.
 pub trait Keeps {
-    ghost use Rattle.all_or_none.specs.Phases.{Phase, CanPrepare, Rests, IsUnread, ready_bound, IsWithin};
+    ghost use Rattle.all_or_none.specs.Phases.{Phase, CanPrepare, Rests, IsRead, IsUnread, ready_bound, IsWithin};
 
     /// What it is after so many events.
     ghost phase: { ℕ → Self → Phase };
@@ -35,7 +35,8 @@ pub trait Keeps {
 
     /// Makes ready what the event changes, or tells that the event passes it by: it is then as it
     /// was, and takes the event by being left so. After `Memory` it is as it was. It is told whether
-    /// a leaf of its query may read the event: where none does, its leaves need no look.
+    /// a leaf of its query reads the event: where none does, its leaves need no look, and where one
+    /// does and only one is of the event's type, it is that one.
     fn prepare<L: Ledger>(
         &mut self,
         event: &Event,
@@ -45,6 +46,7 @@ pub trait Keeps {
     ) -> Result<bool, Memory>
         requires idle { IsIdle (phase position self.old) }
         requires can { CanPrepare event.now position (phase position self.old) }
+        requires read { reads ≡ true → IsRead event.now (phase position self.old) }
         requires unread { reads ≡ false → IsUnread event.now (phase position self.old) }
         ensures kept { back (phase position self.new) ≡ back (phase position self.old) }
         ensures passed { IfOk result (λ by. by ≡ true → HasPassed event.now position
@@ -82,6 +84,7 @@ fn prepare_one<P: Keeps, L: Ledger>(
 ) -> Result<(), Memory>
     requires idle { IsIdle (P.phase position part.old) }
     requires can { CanPrepare event.now position (P.phase position part.old) }
+    requires read { reads ≡ true → IsRead event.now (P.phase position part.old) }
     requires unread { reads ≡ false → IsUnread event.now (P.phase position part.old) }
     ensures kept { back (P.phase position part.new) ≡ back (P.phase position part.old) }
     ensures noted { OnOk result (IsNoted event.now position number (P.phase position part.new)
@@ -111,8 +114,8 @@ fn find(marked: &Bits, from: usize, end: usize) -> Option<usize>
 }
 
 /// Each marked part prepares that the event does not pass by, up to the first that cannot. The others
-/// rest, and no leaf of theirs reads the event, nor does one of a part that is not among those read. The numbers of the prepared ones, from 1, are left in
-/// `touched`.
+/// rest, and no leaf of theirs reads the event. A leaf of a part reads it exactly where the part is
+/// among those read. The numbers of the prepared ones, from 1, are left in `touched`.
 fn prepare_all<P: Keeps, L: Ledger>(
     parts: &mut [P],
     marked: &Bits,
@@ -126,6 +129,7 @@ fn prepare_all<P: Keeps, L: Ledger>(
     requires can { All (λ p. CanPrepare event.now position (P.phase position p)) parts.old }
     requires left { AreLeft P.phase position marked.now parts.old }
     requires unread { AreUnread (P.phase position) event.now marked.now parts.old }
+    requires reading { AreRead (P.phase position) event.now read.now parts.old }
     requires told { AreUnread (P.phase position) event.now read.now parts.old }
     ensures kept { map (λ p. back (P.phase position p)) parts.new
         ≡ map (λ p. back (P.phase position p)) parts.old }
@@ -216,7 +220,7 @@ fn look_all<P: Keeps>(parts: &[P], marked: &Bits, awake: &mut Bits)
 /// All parts take the event as the next one, or none does. After `Memory` each part is as it was.
 ///
 /// It goes to the marked parts alone, by their numbers from 0. Each other part rests, and no leaf of
-/// its query reads the event. Those that a leaf may read for are in `read`: where one is not, its
+/// its query reads the event. Those of which a leaf reads it are in `read`: where one is not, its
 /// leaves are not looked at. In `awake` is then each part that is not known to rest, for the next
 /// event, and after `Memory` each marked one beside those that were there. `touched` has then the
 /// numbers, from 1 and rising, of the parts that the event did not pass by; no other may have an
@@ -236,6 +240,7 @@ pub fn see<P: Keeps, L: Ledger>(
     requires can { All (λ p. CanPrepare event.now position (P.phase position p)) parts.old }
     requires left { AreLeft P.phase position marked.now parts.old }
     requires unread { AreUnread (P.phase position) event.now marked.now parts.old }
+    requires reading { AreRead (P.phase position) event.now read.now parts.old }
     requires told { AreUnread (P.phase position) event.now read.now parts.old }
     requires sets { length awake.old ≡ length marked.now }
     ensures stands { OnOk result ((events : List Event) → length events ≡ position

@@ -1,5 +1,5 @@
 -- How many nodes there are after so many events, and how many steps a compaction takes then. For callers of the crate too.
-use Rattle.std.proofs.Common.{◌≡◌, ℕ, zero, suc, ◌+◌, ◌-◌, ◌*◌, ◌<◌, ◌≤◌, List, [], ◌∷◌, ◌++◌, map, length, refl, sym, ap, subst, ◌∙◌, All, Contains, Option, Some, None, slice_get, arith, length-append}
+use Rattle.std.proofs.Common.{◌≡◌, ℕ, ◌+◌, ◌-◌, ◌*◌, ◌≤◌, List, [], ◌∷◌, ◌++◌, length, refl, sym, ap, subst, ◌∙◌, All, Contains, Option, Some, None, slice_get, arith, length-append}
 use Rattle.std.specs.Option.{option_map_or}
 use Rattle.std.proofs.Math.Nat.{mul-le-mul_left}
 use Rattle.stream_schema.specs.Types.{Declared}
@@ -7,9 +7,8 @@ use Rattle.stream_schema.specs.declared.Event.{Event}
 use Rattle.cel_terms.specs.declared.Query.{Query}
 use Rattle.cer_base.specs.declared.node.Node.{Node}
 use Rattle.cer_base.specs.declared.node.Node.TheVariants.{Bottom, Output, Union}
-use Rattle.cer_base.specs.Nodes.{WellFormed}
 use Rattle.arena_compact.specs.Roots.{places}
-use Rattle.query_standing.specs.Bounds.{update_bound, MeetAtMost}
+use Rattle.query_standing.specs.Bounds.{update_bound}
 use Rattle.query_standing.specs.Kept.{Part, PartStands, KeptState, KeptStands}
 use Rattle.all_or_none.specs.Phases.{Phase}
 use Rattle.query_part.specs.Compacting.{HasStatesOnce}

@@ -1,17 +1,16 @@
 -- The parts as they are kept, and what they are after so many events.
-use Rattle.std.proofs.Common.{◌≡◌, ◌≢◌, ℕ, ◌-◌, ◌<◌, ◌≤◌, List, [], ◌∷◌, map, length, refl, sym, ap, ap₂, subst, ◌∙◌, All, slice_index_or, arith}
+use Rattle.std.proofs.Common.{◌≡◌, ℕ, ◌-◌, ◌<◌, ◌≤◌, List, [], ◌∷◌, map, length, refl, sym, ap, ap₂, subst, ◌∙◌, All, slice_index_or, arith}
 use Rattle.std.specs.Prelude.{max}
 use Rattle.std.proofs.lemmas.Option.{slice_get-get_or}
-use Rattle.std.proofs.lemmas.List.Elements.{All-nil, All-cons, All-head, All-tail, All-map}
+use Rattle.std.proofs.lemmas.List.Elements.{All-nil, All-cons, All-head, All-tail}
 use Rattle.stream_schema.specs.Types.{Declared}
 use Rattle.stream_schema.specs.declared.Event.{Event}
 use Rattle.all_or_none.specs.Phases.{Phase, IsIdle, IsQuiet, StandsAt}
-use Rattle.all_or_none.proofs.LoopTurn.{all_mapped}
 use Rattle.query_part.specs.Parts.{seen, woken, HasEvents}
 use Rattle.query_part.specs.Compacting.{HasStatesOnce}
 use Rattle.query_part.proofs.Fresh.{fresh_seen}
 use Rattle.query_engine.specs.Engine.{State, IsNumber}
-use Rattle.query_engine.specs.Running.{HaveRun, IsRunning, IsKeeping, IsFirst, raised}
+use Rattle.query_engine.specs.Running.{IsRunning, IsKeeping, IsFirst, raised}
 use Rattle.query_engine.proofs.Standing.{state, length_map, map_at, all_at}
 use Rattle.query_engine.proofs.Asking.{number_inside, part_there}
 

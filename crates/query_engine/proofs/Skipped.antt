@@ -1,5 +1,5 @@
 -- What an engine is after blank positions. For callers of the crate too.
-use Rattle.std.proofs.Common.{◌≡◌, ℕ, zero, suc, ◌+◌, ◌-◌, ◌<◌, ◌≤◌, ◌⊎◌, inl, inr, ℤ, List, [], ◌∷◌, ◌++◌, map, take, length, refl, sym, ap, subst, ◌∙◌, All, Option, Some, None, slice_get, slice_index_or, arith, replicate, append_assoc, length-append}
+use Rattle.std.proofs.Common.{◌≡◌, ℕ, zero, suc, ◌+◌, ◌-◌, ◌<◌, ◌≤◌, inl, inr, ℤ, List, [], ◌∷◌, ◌++◌, map, take, length, refl, sym, ap, subst, ◌∙◌, All, Some, None, slice_get, slice_index_or, arith, replicate, append_assoc, length-append}
 use Rattle.std.specs.Prelude.{max}
 use Rattle.std.specs.Option.{option_map_or}
 use Rattle.std.proofs.lemmas.List.{take-append-le, append-nil, length-replicate}
@@ -14,17 +14,17 @@ use Rattle.arena_compact.specs.Moves.{later}
 use Rattle.query_standing.specs.Clocks.{Reads, HasClockAt, IsLastClock}
 use Rattle.query_standing.specs.Kept.{Part, PartStands, KeptStands}
 use Rattle.query_standing.proofs.Parts.{part_skips}
-use Rattle.all_or_none.specs.Phases.{Phase, IsIdle, IsQuiet, StandsAt}
+use Rattle.all_or_none.specs.Phases.{Phase, IsIdle, StandsAt}
 use Rattle.query_part.specs.Parts.{seen, woken, skipped}
 use Rattle.query_engine.specs.Engine.{State, Open, StandsFor, kept_of, count_of, found_of, len_of, peak_of, Fits, rest, SameQueries, KeepsCursors}
-use Rattle.query_engine.specs.Running.{HaveRun, IsRunning, IsKeeping}
-use Rattle.query_engine.specs.Windows.{later_of, IsBoundedBy, IsReadFrom, IsDense, IsRecentAt, FollowsWindowSince}
+use Rattle.query_engine.specs.Running.{IsRunning, IsKeeping}
+use Rattle.query_engine.specs.Windows.{later_of, IsReadFrom, IsDense, IsRecentAt, FollowsWindowSince}
 use Rattle.query_engine.specs.Machine.{Machine, with_event, Taken, IsCursor, IsMachine}
 use Rattle.query_engine.specs.Skipping.{IsBlank, AreBlanks, KeepsAll, TakesAll}
-use Rattle.query_engine.proofs.Standing.{state, from_parts, to_parts, length_map, map_at, all_at, all_by, mapped}
+use Rattle.query_engine.proofs.Standing.{state, from_parts, to_parts, length_map}
 use Rattle.query_engine.proofs.Keeping.{fresh_all, fresh_quiet, keeping, seen_schemas}
 use Rattle.query_engine.proofs.Machine.{zip_weaker, cursor_on}
-use Rattle.query_engine.proofs.Windows.{bounded_on, recent_inside, clock_inside, still_clock}
+use Rattle.query_engine.proofs.Windows.{bounded_on, clock_inside, still_clock}
 
 -- BLANK EVENTS
 

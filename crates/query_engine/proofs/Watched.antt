@@ -12,9 +12,9 @@ use Rattle.query_leaves.specs.Expand.{Occurrence, tree_of}
 use Rattle.query_leaves.specs.Leaves.{occurrences, occurrence_reads}
 use Rattle.cea_compile.specs.DeterminisedRuns.{reads_at}
 use Rattle.query_standing.specs.Keys.{leaves_reading}
-use Rattle.all_or_none.specs.Phases.{Phase, AreLeft, AreUnread}
+use Rattle.all_or_none.specs.Phases.{Phase, AreLeft, AreRead, AreUnread}
 use Rattle.query_part.specs.Parts.{seen, woken, skipped}
-use Rattle.query_watch.specs.Rows.{Table, HasRow, IsWatch}
+use Rattle.query_watch.specs.Rows.{Table, HasRow, AreExact, IsWatch}
 use Rattle.query_engine.specs.Compacting.{IsCompacted}
 use Rattle.query_engine.specs.Running.{IsFirst}
 use Rattle.query_engine.specs.Watching.{IsWatching}
@@ -27,6 +27,24 @@ not_in a b k within out = by (has a k) refl
     by : (x : Bool) → has a k ≡ x → has a k ≡ false
     by false e = e
     by true e = absurd (false≢true (sym out ∙ within e))
+
+-- What an event goes to: what is marked, or where none is awake what is read.
+pub record GoesTo (some_awake : Bool) (awake marked read to : List Bool) : Type 0 where
+  pub within : (k : ℕ) → has awake k ≡ true → has to k ≡ true
+  pub reads : (k : ℕ) → has read k ≡ true → has to k ≡ true
+  pub room : length to ≡ length awake
+
+pub goes : (some_awake : Bool) (awake marked read to : List Bool) → (some_awake ≡ true → (k : ℕ) → has awake k ≡ true → has marked k ≡ true) → (some_awake ≡ true → (k : ℕ) → has read k ≡ true → has marked k ≡ true) → (some_awake ≡ false → (k : ℕ) → has awake k ≡ false) → length marked ≡ length awake → length read ≡ length awake → (some_awake ≡ true → to ≡ marked) → (some_awake ≡ false → to ≡ read) → GoesTo some_awake awake marked read to
+goes true awake marked read to within reads none sets rooms is_marked is_read = record {
+  within = λ k h. ap (λ (b : List Bool). has b k) (is_marked refl) ∙ within refl k h;
+  reads = λ k h. ap (λ (b : List Bool). has b k) (is_marked refl) ∙ reads refl k h;
+  room = ap length (is_marked refl) ∙ sets;
+}
+goes false awake marked read to within reads none sets rooms is_marked is_read = record {
+  within = λ k h. absurd (false≢true (sym (none refl k) ∙ h));
+  reads = λ k h. ap (λ (b : List Bool). has b k) (is_read refl) ∙ h;
+  room = ap length (is_read refl) ∙ rooms;
+}
 
 -- those that are not marked are not awake, so they rest
 pub left_marked : (count : ℕ) (parts : List Phase) (awake marked : List Bool) → ((k : ℕ) → has awake k ≡ true → has marked k ≡ true) → AreLeft seen count awake parts → AreLeft seen count marked parts
@@ -51,10 +69,19 @@ unread_marked schema queries count parts table awake marks reads marked event qu
         let row = h.watch k p.query q_at event j o.0 o.1 (subst (λ s. occurrence_reads s o.0 event ≡ true) same o.2) in
         absurd (false≢true (sym out ∙ marks_all k row))
 
+-- where one is marked as read, a leaf of its query can read the event
+pub read_marked : (schema : Declared) (queries : List Query) (count : ℕ) (parts : List Phase) (table : Table) (awake marks reads read : List Bool) (event : Event) → queries ≡ map (λ (p : Phase). p.query) (map (seen count) parts) → All (λ (p : Phase). p.schema ≡ schema) parts → IsWatching schema queries count parts table awake marks reads → ((k : ℕ) → has read k ≡ true → HasRow table.rows table.leaves k event) → AreRead (seen count) event read parts
+read_marked schema queries count parts table awake marks reads read event queries_is schemas h rows k p at marked =
+    let q_at : slice_get queries k ≡ Some p.query = ap (λ qs. slice_get qs k) (queries_is ∙ seen_queries count parts) ∙ map_at (λ (x : Phase). x.query) parts k p at in
+    let same : p.schema ≡ schema = all_at (λ (x : Phase). x.schema ≡ schema) parts k p schemas at in
+    let o = h.exact k p.query q_at event (rows k marked) in
+    record { leaf = o.0; reads = ap (λ x. reads_at p.schema x (Some event)) o.2 ∙ subst (λ s. occurrence_reads s o.1 event ≡ true) (sym same) o.3 }
+
 -- what is known of the same queries stays
 pub watching_same : (schema : Declared) (old new : List Query) (count later : ℕ) (parts after : List Phase) (table same_table : Table) (awake marked read more marks reads : List Bool) → new ≡ old → same_table ≡ table → length more ≡ length awake → length marks ≡ length marked → length reads ≡ length read → AreLeft seen later more after → IsWatching schema old count parts table awake marked read → IsWatching schema new later after same_table more marks reads
 watching_same schema old new count later parts after table same_table awake marked read more marks reads is table_is room sets same_reads left h = record {
   watch = subst (λ (t : Table). IsWatch schema new t.rows t.leaves) (sym table_is) (subst (λ qs. IsWatch schema qs table.rows table.leaves) (sym is) h.watch);
+  exact = subst (λ (t : Table). AreExact schema new t.rows t.leaves) (sym table_is) (subst (λ qs. AreExact schema qs table.rows table.leaves) (sym is) h.exact);
   queries_are = ap (λ (t : Table). t.count) table_is ∙ (h.queries_are ∙ ap length (sym is));
   room = room ∙ (h.room ∙ ap (λ qs. room_for (length qs)) (sym is));
   sets = sets ∙ (h.sets ∙ sym room);
@@ -102,12 +129,13 @@ parts_within schema queries count many parts table awake marked read is many_is 
     omega arith
 
 -- before any event
-pub watching_first : (schema : Declared) (queries given : List Query) (parts : List Phase) (table : Table) (awake marked read : List Bool) → queries ≡ given → queries ≡ map (λ (p : Phase). p.query) (map (seen 0) parts) → IsWatch schema given table.rows table.leaves → table.count ≡ length given → length awake ≡ room_for (length given) → length marked ≡ length awake → length read ≡ length awake → ((k : ℕ) → k < length given → has awake k ≡ true) → All (IsFirst schema) parts → IsWatching schema queries 0 parts table awake marked read
-watching_first schema queries given parts table awake marked read is are watch count room sets reads all first =
+pub watching_first : (schema : Declared) (queries given : List Query) (parts : List Phase) (table : Table) (awake marked read : List Bool) → queries ≡ given → queries ≡ map (λ (p : Phase). p.query) (map (seen 0) parts) → IsWatch schema given table.rows table.leaves → AreExact schema given table.rows table.leaves → table.count ≡ length given → length awake ≡ room_for (length given) → length marked ≡ length awake → length read ≡ length awake → ((k : ℕ) → k < length given → has awake k ≡ true) → All (IsFirst schema) parts → IsWatching schema queries 0 parts table awake marked read
+watching_first schema queries given parts table awake marked read is are watch exact count room sets reads all first =
     let l : length queries ≡ length parts = ap length are ∙ (length_map (λ (p : Phase). p.query) (map (seen 0) parts) ∙ length_map (seen 0) parts) in
     let m : length queries ≡ length given = ap length is in
     record {
       watch = subst (λ qs. IsWatch schema qs table.rows table.leaves) (sym is) watch;
+      exact = subst (λ qs. AreExact schema qs table.rows table.leaves) (sym is) exact;
       queries_are = count ∙ sym m;
       room = room ∙ ap room_for (sym m);
       sets = sets;

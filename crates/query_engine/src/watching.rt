@@ -2,7 +2,7 @@
 
 ghost use Rattle.std.specs.Prelude.{◌≡◌, ℕ, ◌<◌, ◌≤◌, ◌||◌, false, true, length, IfOk};
 ghost use Rattle.cer_base.specs.Bits.{has, room_for};
-ghost use Rattle.query_watch.specs.Rows.{IsWatch, HasRow};
+ghost use Rattle.query_watch.specs.Rows.{AreExact, IsWatch, HasRow};
 
 use cel_terms::Query;
 use cer_base::Memory;
@@ -29,6 +29,8 @@ impl Watching {
     pub fn of(alloc: Global, schema: &Schema, queries: &[Query]) -> Result<Watching, Memory>
         ensures watch { IfOk result (λ w. IsWatch schema.now queries.now w.watch.rows
             w.watch.leaves) }
+        ensures exact { IfOk result (λ w. AreExact schema.now queries.now w.watch.rows
+            w.watch.leaves) }
         ensures count { IfOk result (λ w. w.watch.count ≡ length queries.now) }
         ensures room { IfOk result (λ w. length w.awake ≡ room_for (length queries.now)) }
         ensures sets { IfOk result (λ w. length w.marked ≡ length w.awake) }
@@ -49,26 +51,35 @@ impl Watching {
         })
     }
 
-    /// Marks the parts that are not known to rest, and those of the queries that have a leaf which
-    /// can read the event. The latter are then also those that are read.
+    /// Marks the parts of whose queries a leaf can read the event as read, and where some part is not
+    /// known to rest, these and those as marked. Whether some part is not.
     #[inline(always)]
-    pub fn mark(&mut self, event: &Event)
+    pub fn mark(&mut self, event: &Event) -> bool
         requires room { self.old.watch.count ≤ length self.old.read }
         requires sets { length self.old.marked ≡ length self.old.awake }
         requires reads { length self.old.read ≡ length self.old.awake }
         ensures read { (k : ℕ) → HasRow self.old.watch.rows self.old.watch.leaves k
             event.now → has self.new.read k ≡ true }
-        ensures marked { (k : ℕ) → has self.new.read k ≡ true → has self.new.marked k ≡ true }
-        ensures awake { (k : ℕ) → has self.old.awake k ≡ true → has self.new.marked k ≡ true }
+        ensures only { (k : ℕ) → has self.new.read k ≡ true → HasRow self.old.watch.rows
+            self.old.watch.leaves k event.now }
+        ensures marked { result ≡ true → (k : ℕ) → has self.new.read k ≡ true
+            → has self.new.marked k ≡ true }
+        ensures awake { result ≡ true → (k : ℕ) → has self.old.awake k ≡ true
+            → has self.new.marked k ≡ true }
+        ensures none { result ≡ false → (k : ℕ) → has self.old.awake k ≡ false }
         ensures same { (self.new.watch ≡ self.old.watch) × (self.new.awake ≡ self.old.awake) }
         ensures sets { length self.new.marked ≡ length self.old.marked }
         ensures reads { length self.new.read ≡ length self.old.read }
     {
         self.read.clear();
         self.watch.mark(event, &mut self.read);
+        if self.awake.is_empty() {
+            return false;
+        }
         self.marked.clear();
         put_all(&mut self.marked, &self.awake);
         put_all(&mut self.marked, &self.read);
+        true
     }
 
     /// No part is known to rest, of which there are so many.
@@ -81,6 +92,16 @@ impl Watching {
     {
         fill(&mut self.awake, count);
     }
+}
+
+/// The parts that the event goes to: those that are marked where some part is not known to rest, else
+/// those that are read.
+#[inline(always)]
+pub fn goes_to<'a>(some_awake: bool, marked: &'a Bits, read: &'a Bits) -> &'a Bits
+    ensures awake { some_awake ≡ true → result.now ≡ marked.now }
+    ensures none { some_awake ≡ false → result.now ≡ read.now }
+{
+    if some_awake { marked } else { read }
 }
 
 /// Puts in each number of the other set. Mostly it has none, so that is tested first.

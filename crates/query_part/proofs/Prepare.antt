@@ -33,7 +33,7 @@ use Rattle.window_clock.specs.Clocks as clocks
 use Rattle.window_clock.specs.Places.{clock_in, low_in, IsOf}
 use Rattle.query_standing.specs.Clocks.{FallsBack, least, low_of}
 use Rattle.query_standing.specs.Kept.{PartStands}
-use Rattle.all_or_none.specs.Phases.{Phase, CanPrepare, IsIdle, IsUnread}
+use Rattle.all_or_none.specs.Phases.{Phase, CanPrepare, IsIdle, IsRead, IsUnread}
 use Rattle.query_standing.specs.Keys.{leaves_reading}
 use Rattle.query_part.specs.declared.matches.Ready.{Ready}
 use Rattle.query_part.specs.declared.part.Step.{Step}
@@ -87,6 +87,10 @@ idle_part schema q step r h c n upto floats count p is idle = record {
 -- where no leaf of the part's query reads the event, none does of the query that it has
 pub unread_inside : (schema : Declared) (q : Query) (event : Event) (position : ℕ) (step : Option Step) (r : Option Ready) (h : Held) (c : Option ℤ) (n : Option ℕ) (upto : ℕ) (floats : Bool) (p : Phase) → record { schema = schema; query = q; kept = kept_of step r h c n; ready = ready_of step r h c n; upto = upto; floats = floats } ≡ p → IsUnread event (seen position p) → (k : ℕ) → leaves_reading schema q event k ≡ false
 unread_inside schema q event position step r h c n upto floats p is unread k = subst (λ (x : Phase). leaves_reading x.schema x.query event k ≡ false) (sym is) (unread k)
+
+-- where some leaf of the part's query does, one of the query that it has does
+pub read_inside : (schema : Declared) (q : Query) (event : Event) (position : ℕ) (step : Option Step) (r : Option Ready) (h : Held) (c : Option ℤ) (n : Option ℕ) (upto : ℕ) (floats : Bool) (p : Phase) → record { schema = schema; query = q; kept = kept_of step r h c n; ready = ready_of step r h c n; upto = upto; floats = floats } ≡ p → IsRead event (seen position p) → (k : ℕ) × (leaves_reading schema q event k ≡ true)
+read_inside schema q event position step r h c n upto floats p is read = (read.leaf, subst (λ (x : Phase). leaves_reading x.schema x.query event read.leaf ≡ true) (sym is) read.reads)
 
 -- its fields, where it is idle
 pub idle_fields : (schema : Declared) (q : Query) (step : Option Step) (r : Option Ready) (h : Held) (c : Option ℤ) (n : Option ℕ) (upto : ℕ) (floats : Bool) (p : Phase) → record { schema = schema; query = q; kept = kept_of step r h c n; ready = ready_of step r h c n; upto = upto; floats = floats } ≡ p → IsIdle p → record { schema = schema; query = q; kept = part_of h c n; ready = None; upto = upto; floats = floats } ≡ p

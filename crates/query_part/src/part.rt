@@ -339,17 +339,19 @@ impl Part {
     }
 }
 
-/// Makes the set that of the numbers of the leaves that can read the event. Where it is told that none
-/// does, none is looked at.
+/// Makes the set that of the numbers of the leaves that can read the event. It is told whether one can:
+/// where none does, none is looked at.
 #[inline(always)]
 fn fill(conditions: &Conditions, reads: bool, event: &Event, into: &mut Bits)
     requires room { length into.old ≡ room_for (length conditions.now) }
+    requires read { reads ≡ true → (k : ℕ)
+        × (leaf_conditions conditions.now event.now k ≡ true) }
     requires unread { reads ≡ false → (k : ℕ) → leaf_conditions conditions.now event.now k ≡ false }
     ensures members { (k : ℕ) → has into.new k ≡ leaf_conditions conditions.now event.now k }
     ensures room { length into.new ≡ length into.old }
 {
     if reads {
-        conditions.fill(event, into);
+        conditions.fill_read(event, into);
         return;
     }
     if !into.is_empty() {

@@ -1,4 +1,4 @@
-use Rattle.std.proofs.Common.{◌≡◌, ◌<◌, ◌∙◌, map, sym, length, arith}
+use Rattle.std.proofs.Common.{◌≡◌, ◌<◌, ◌∙◌, sym, length, arith}
 use Rattle.std.proofs.lemmas.List.{map-id, take_all}
 use Rattle.all_or_none.specs.Phases.{IsIdle}
 use Rattle.all_or_none.proofs.LoopTurn.{all_here, same_next, left_next}

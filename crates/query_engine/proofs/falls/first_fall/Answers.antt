@@ -1,4 +1,4 @@
-use Rattle.std.proofs.Common.{◌-◌, ◌<◌, rules, map, length, subst, sym, refl, false, slice_index_or}
+use Rattle.std.proofs.Common.{◌-◌, ◌<◌, rules, map, length, subst, sym, refl, slice_index_or}
 use Rattle.std.specs.Int.{w128}
 use mir.Val.{SFits}
 use Rattle.std.proofs.lemmas.Bool.{false≢true}

@@ -1,4 +1,4 @@
-use Rattle.std.proofs.Common.{All, map, refl, sym, subst}
+use Rattle.std.proofs.Common.{All, refl, sym, subst}
 use Rattle.all_or_none.specs.Phases.{IsIdle}
 use Rattle.query_part.specs.Parts.{woken}
 use Rattle.query_engine.proofs.Keeping.{seen_idle}

@@ -1,6 +1,6 @@
 use Rattle.std.proofs.Common.{◌-◌, ◌<◌, ◌∙◌, sym, map, length}
 use Rattle.query_part.specs.Parts.{seen}
-use Rattle.query_engine.proofs.Keeping.{part_events, part_quiet, seen_there, number_within}
+use Rattle.query_engine.proofs.Keeping.{seen_there, number_within}
 use Rattle.query_engine.proofs.Asking.{found_most, found_there}
 use Rattle.query_engine.proofs.engine.Engine.found.Goals as goal
 

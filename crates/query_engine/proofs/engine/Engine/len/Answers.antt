@@ -1,4 +1,4 @@
-use Rattle.std.proofs.Common.{◌≡◌, ◌-◌, ◌<◌, ◌∙◌, sym, map, length}
+use Rattle.std.proofs.Common.{◌-◌, ◌<◌, ◌∙◌, sym, map, length}
 use Rattle.query_part.specs.Parts.{seen}
 use Rattle.query_engine.proofs.Keeping.{seen_there, number_within}
 use Rattle.query_engine.proofs.Asking.{len_there}

@@ -27,5 +27,5 @@ invariant_of-result c =
           (subst (λ (ps : List Phase). AreNamed (λ (p : Phase). ⊥) (length ps) ps c.in_ok-all.all.items) c.as_slice-2.ensures.value c.in_ok-all.ensures)
           (subst (λ (ps : List Phase). AreNamed (λ (p : Phase). HasNoClock p.query) (length ps) ps c.in_ok-timed.timed.items) c.as_slice-3.ensures.value c.in_ok-timed.ensures),
       watching_first c.args.schema (map (λ (p : Phase). p.query) (map (seen 0) parts)) c.as_slice-listed.result.now parts c.in_ok-watching.watching.watch c.in_ok-watching.watching.awake c.in_ok-watching.watching.marked c.in_ok-watching.watching.read
-          (seen_queries 0 parts ∙ (c.in_ok-add_parts.ensures.queries ∙ (c.into_vec.ensures ∙ sym c.as_slice-listed.ensures))) refl c.in_ok-watching.ensures.watch c.in_ok-watching.ensures.count c.in_ok-watching.ensures.room c.in_ok-watching.ensures.sets c.in_ok-watching.ensures.reads c.in_ok-watching.ensures.awake first,
+          (seen_queries 0 parts ∙ (c.in_ok-add_parts.ensures.queries ∙ (c.into_vec.ensures ∙ sym c.as_slice-listed.ensures))) refl c.in_ok-watching.ensures.watch c.in_ok-watching.ensures.exact c.in_ok-watching.ensures.count c.in_ok-watching.ensures.room c.in_ok-watching.ensures.sets c.in_ok-watching.ensures.reads c.in_ok-watching.ensures.awake first,
     )

@@ -1,4 +1,4 @@
-use Rattle.std.proofs.Common.{◌≡◌, ◌-◌, ◌<◌, ◌∙◌, sym, ap₂, map, length, arith}
+use Rattle.std.proofs.Common.{◌-◌, ◌<◌, ◌∙◌, sym, ap₂, map, length, arith}
 use Rattle.std.proofs.lemmas.List.{get_or_default}
 use Rattle.std.specs.Prelude.{max}
 use Rattle.query_part.specs.Parts.{seen}

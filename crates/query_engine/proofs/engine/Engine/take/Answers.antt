@@ -2,45 +2,50 @@ use Rattle.std.proofs.Common.{◌≡◌, ◌+◌, ◌∙◌, List, Bool, map, le
 use Rattle.std.proofs.lemmas.Bool.{false≢true}
 use Rattle.std.specs.Vec.{with_items}
 use Rattle.std.proofs.lemmas.List.{with_items_is}
-use Rattle.all_or_none.specs.Phases.{Phase, MayAnswer, AreLeft, AreUnread}
+use Rattle.all_or_none.specs.Phases.{Phase, MayAnswer, AreLeft, AreRead, AreUnread}
 use Rattle.query_part.specs.Parts.{seen}
 use Rattle.query_engine.proofs.Keeping.{running, keeping, kept_back, state_back}
 use Rattle.query_engine.proofs.Taking.{took, can_take, took_running, took_stands, took_cursors, took_same, took_growth, took_unread, took_peak, steps_within, steps_wanted}
 use Rattle.query_engine.proofs.Added.{took_added}
 use Rattle.query_engine.proofs.Growth.{same_queries}
 use Rattle.query_engine.proofs.Named.{noted_same}
-use Rattle.query_engine.proofs.Watched.{left_marked, unread_marked, watching_same, room_there}
+use Rattle.query_engine.proofs.Watched.{goes, left_marked, read_marked, unread_marked, watching_same, room_there}
 use Rattle.query_engine.proofs.engine.Engine.take.Goals as goal
 
 pub see-requires-clause-can : goal.see-requires-clause-can
 see-requires-clause-can g c = can_take c.self.inside.schema c.self.inside.count c.self.inside.parts.items c.as_mut_slice-parts.result.now c.self.inside.peaks.items c.args.self.now c.args.event.now c.self.view_is c.self.invariant.0 c.requires.of_schema c.requires.in_time c.as_mut_slice-parts.ensures.value
 
-pub mark-requires-clause-room : goal.mark-requires-clause-room
-mark-requires-clause-room g c = room_there c.self.inside.schema (map (λ (p : Phase). p.query) (map (seen c.self.inside.count) c.self.inside.parts.items)) c.self.inside.count c.self.inside.parts.items c.self.inside.watching.watch c.self.inside.watching.awake c.self.inside.watching.marked c.self.inside.watching.read c.self.invariant.2
+pub mark-some_awake-requires-clause-room : goal.mark-some_awake-requires-clause-room
+mark-some_awake-requires-clause-room g c = room_there c.self.inside.schema (map (λ (p : Phase). p.query) (map (seen c.self.inside.count) c.self.inside.parts.items)) c.self.inside.count c.self.inside.parts.items c.self.inside.watching.watch c.self.inside.watching.awake c.self.inside.watching.marked c.self.inside.watching.read c.self.invariant.2
 
-pub mark-requires-clause-sets : goal.mark-requires-clause-sets
-mark-requires-clause-sets g c = c.self.invariant.2.sets
+pub mark-some_awake-requires-clause-sets : goal.mark-some_awake-requires-clause-sets
+mark-some_awake-requires-clause-sets g c = c.self.invariant.2.sets
 
-pub mark-requires-clause-reads : goal.mark-requires-clause-reads
-mark-requires-clause-reads g c = c.self.invariant.2.reads
+pub mark-some_awake-requires-clause-reads : goal.mark-some_awake-requires-clause-reads
+mark-some_awake-requires-clause-reads g c = c.self.invariant.2.reads
 
 pub see-requires-clause-left : goal.see-requires-clause-left
 see-requires-clause-left g c =
-    subst (λ (ps : List Phase). AreLeft seen c.self.inside.count c.mark.new.self.marked ps) (sym c.as_mut_slice-parts.ensures.value)
-    (left_marked c.self.inside.count c.self.inside.parts.items c.self.inside.watching.awake c.mark.new.self.marked c.mark.ensures.awake c.self.invariant.2.left)
+    subst (λ (ps : List Phase). AreLeft seen c.self.inside.count c.goes_to-marked.result.now ps) (sym c.as_mut_slice-parts.ensures.value)
+    (left_marked c.self.inside.count c.self.inside.parts.items c.self.inside.watching.awake c.goes_to-marked.result.now (goes c.mark-some_awake.result c.self.inside.watching.awake c.mark-some_awake.new.self.marked c.mark-some_awake.new.self.read c.goes_to-marked.result.now c.mark-some_awake.ensures.awake c.mark-some_awake.ensures.marked c.mark-some_awake.ensures.none (c.mark-some_awake.ensures.sets ∙ c.self.invariant.2.sets) (c.mark-some_awake.ensures.reads ∙ c.self.invariant.2.reads) c.goes_to-marked.ensures.awake c.goes_to-marked.ensures.none).within c.self.invariant.2.left)
 
 pub see-requires-clause-unread : goal.see-requires-clause-unread
 see-requires-clause-unread g c =
-    subst (λ (ps : List Phase). AreUnread (seen c.self.inside.count) c.args.event.now c.mark.new.self.marked ps) (sym c.as_mut_slice-parts.ensures.value)
-    (unread_marked c.self.inside.schema (map (λ (p : Phase). p.query) (map (seen c.self.inside.count) c.self.inside.parts.items)) c.self.inside.count c.self.inside.parts.items c.self.inside.watching.watch c.self.inside.watching.awake c.self.inside.watching.marked c.self.inside.watching.read c.mark.new.self.marked c.args.event.now refl c.self.invariant.0.schemas c.self.invariant.2 (λ k row. c.mark.ensures.marked k (c.mark.ensures.read k row)))
+    subst (λ (ps : List Phase). AreUnread (seen c.self.inside.count) c.args.event.now c.goes_to-marked.result.now ps) (sym c.as_mut_slice-parts.ensures.value)
+    (unread_marked c.self.inside.schema (map (λ (p : Phase). p.query) (map (seen c.self.inside.count) c.self.inside.parts.items)) c.self.inside.count c.self.inside.parts.items c.self.inside.watching.watch c.self.inside.watching.awake c.self.inside.watching.marked c.self.inside.watching.read c.goes_to-marked.result.now c.args.event.now refl c.self.invariant.0.schemas c.self.invariant.2 (λ k row. (goes c.mark-some_awake.result c.self.inside.watching.awake c.mark-some_awake.new.self.marked c.mark-some_awake.new.self.read c.goes_to-marked.result.now c.mark-some_awake.ensures.awake c.mark-some_awake.ensures.marked c.mark-some_awake.ensures.none (c.mark-some_awake.ensures.sets ∙ c.self.invariant.2.sets) (c.mark-some_awake.ensures.reads ∙ c.self.invariant.2.reads) c.goes_to-marked.ensures.awake c.goes_to-marked.ensures.none).reads k (c.mark-some_awake.ensures.read k row)))
+
+pub see-requires-clause-reading : goal.see-requires-clause-reading
+see-requires-clause-reading g c =
+    subst (λ (ps : List Phase). AreRead (seen c.self.inside.count) c.args.event.now c.mark-some_awake.new.self.read ps) (sym c.as_mut_slice-parts.ensures.value)
+    (read_marked c.self.inside.schema (map (λ (p : Phase). p.query) (map (seen c.self.inside.count) c.self.inside.parts.items)) c.self.inside.count c.self.inside.parts.items c.self.inside.watching.watch c.self.inside.watching.awake c.self.inside.watching.marked c.self.inside.watching.read c.mark-some_awake.new.self.read c.args.event.now refl c.self.invariant.0.schemas c.self.invariant.2 c.mark-some_awake.ensures.only)
 
 pub see-requires-clause-told : goal.see-requires-clause-told
 see-requires-clause-told g c =
-    subst (λ (ps : List Phase). AreUnread (seen c.self.inside.count) c.args.event.now c.mark.new.self.read ps) (sym c.as_mut_slice-parts.ensures.value)
-    (unread_marked c.self.inside.schema (map (λ (p : Phase). p.query) (map (seen c.self.inside.count) c.self.inside.parts.items)) c.self.inside.count c.self.inside.parts.items c.self.inside.watching.watch c.self.inside.watching.awake c.self.inside.watching.marked c.self.inside.watching.read c.mark.new.self.read c.args.event.now refl c.self.invariant.0.schemas c.self.invariant.2 c.mark.ensures.read)
+    subst (λ (ps : List Phase). AreUnread (seen c.self.inside.count) c.args.event.now c.mark-some_awake.new.self.read ps) (sym c.as_mut_slice-parts.ensures.value)
+    (unread_marked c.self.inside.schema (map (λ (p : Phase). p.query) (map (seen c.self.inside.count) c.self.inside.parts.items)) c.self.inside.count c.self.inside.parts.items c.self.inside.watching.watch c.self.inside.watching.awake c.self.inside.watching.marked c.self.inside.watching.read c.mark-some_awake.new.self.read c.args.event.now refl c.self.invariant.0.schemas c.self.invariant.2 c.mark-some_awake.ensures.read)
 
 pub see-requires-clause-sets : goal.see-requires-clause-sets
-see-requires-clause-sets g c = ap (λ (b : List Bool). length b) c.mark.ensures.same.1 ∙ (sym c.self.invariant.2.sets ∙ sym c.mark.ensures.sets)
+see-requires-clause-sets g c = ap (λ (b : List Bool). length b) c.mark-some_awake.ensures.same.1 ∙ sym (goes c.mark-some_awake.result c.self.inside.watching.awake c.mark-some_awake.new.self.marked c.mark-some_awake.new.self.read c.goes_to-marked.result.now c.mark-some_awake.ensures.awake c.mark-some_awake.ensures.marked c.mark-some_awake.ensures.none (c.mark-some_awake.ensures.sets ∙ c.self.invariant.2.sets) (c.mark-some_awake.ensures.reads ∙ c.self.invariant.2.reads) c.goes_to-marked.ensures.awake c.goes_to-marked.ensures.none).room
 
 pub invariant_of-self : goal.invariant_of-self
 invariant_of-self g c =
@@ -54,8 +59,8 @@ invariant_of-self g c =
       keeping c.self.inside.schema (c.self.inside.count + 1) new c.self.inside.peaks.items (took_running c.self.inside.schema c.self.inside.count (map (seen c.self.inside.count) c.self.inside.parts.items) c.self.inside.peaks.items c.args.event.now (map (seen (c.self.inside.count + 1)) new) t c.args.self.now c.self.view_is),
       noted_same (map (λ (p : Phase). p.query) old) (map (λ (p : Phase). p.query) after) old after c.self.inside.told true c.self.inside.touched.items c.see.new.touched.items c.self.inside.all.items c.self.inside.timed.items queries c.self.invariant.1
           (λ told. subst (λ (ps : List Phase). MayAnswer c.see.new.touched.items (map (seen (c.self.inside.count + 1)) ps)) (sym is) c.in-Ok.ensures.answering),
-      watching_same c.self.inside.schema (map (λ (p : Phase). p.query) old) (map (λ (p : Phase). p.query) after) c.self.inside.count (c.self.inside.count + 1) c.self.inside.parts.items new c.self.inside.watching.watch c.mark.new.self.watch c.self.inside.watching.awake c.self.inside.watching.marked c.self.inside.watching.read c.see.new.awake c.mark.new.self.marked c.mark.new.self.read queries
-          c.mark.ensures.same.0 (c.see.ensures.sets ∙ ap (λ (b : List Bool). length b) c.mark.ensures.same.1) c.mark.ensures.sets c.mark.ensures.reads (subst (λ (ps : List Phase). AreLeft seen (c.self.inside.count + 1) c.see.new.awake ps) (sym is) c.in-Ok.ensures.left) c.self.invariant.2,
+      watching_same c.self.inside.schema (map (λ (p : Phase). p.query) old) (map (λ (p : Phase). p.query) after) c.self.inside.count (c.self.inside.count + 1) c.self.inside.parts.items new c.self.inside.watching.watch c.mark-some_awake.new.self.watch c.self.inside.watching.awake c.self.inside.watching.marked c.self.inside.watching.read c.see.new.awake c.mark-some_awake.new.self.marked c.mark-some_awake.new.self.read queries
+          c.mark-some_awake.ensures.same.0 (c.see.ensures.sets ∙ ap (λ (b : List Bool). length b) c.mark-some_awake.ensures.same.1) c.mark-some_awake.ensures.sets c.mark-some_awake.ensures.reads (subst (λ (ps : List Phase). AreLeft seen (c.self.inside.count + 1) c.see.new.awake ps) (sym is) c.in-Ok.ensures.left) c.self.invariant.2,
     )
 
 pub returns-in-Ok-clause-stands : goal.returns-in-Ok-clause-stands
@@ -132,8 +137,8 @@ invariant_of-self-in-Err g c =
       kept_back c.self.inside.schema c.self.inside.count c.self.inside.parts.items c.as_mut_slice-parts.result.now c.see.new.parts new c.self.inside.peaks.items c.self.invariant.0 c.as_mut_slice-parts.ensures.value is c.in-Err.ensures.unchanged,
       noted_same (map (λ (p : Phase). p.query) old) (map (λ (p : Phase). p.query) after) old after c.self.inside.told false c.self.inside.touched.items c.see.new.touched.items c.self.inside.all.items c.self.inside.timed.items (ap (map (λ (p : Phase). p.query)) same) c.self.invariant.1
           (λ told. absurd (false≢true told)),
-      watching_same c.self.inside.schema (map (λ (p : Phase). p.query) old) (map (λ (p : Phase). p.query) after) c.self.inside.count c.self.inside.count c.self.inside.parts.items new c.self.inside.watching.watch c.mark.new.self.watch c.self.inside.watching.awake c.self.inside.watching.marked c.self.inside.watching.read c.see.new.awake c.mark.new.self.marked c.mark.new.self.read (ap (map (λ (p : Phase). p.query)) same)
-          c.mark.ensures.same.0 (c.see.ensures.sets ∙ ap (λ (b : List Bool). length b) c.mark.ensures.same.1) c.mark.ensures.sets c.mark.ensures.reads (subst (λ (ps : List Phase). AreLeft seen c.self.inside.count c.see.new.awake ps) (sym is) c.in-Err.ensures.still_left) c.self.invariant.2,
+      watching_same c.self.inside.schema (map (λ (p : Phase). p.query) old) (map (λ (p : Phase). p.query) after) c.self.inside.count c.self.inside.count c.self.inside.parts.items new c.self.inside.watching.watch c.mark-some_awake.new.self.watch c.self.inside.watching.awake c.self.inside.watching.marked c.self.inside.watching.read c.see.new.awake c.mark-some_awake.new.self.marked c.mark-some_awake.new.self.read (ap (map (λ (p : Phase). p.query)) same)
+          c.mark-some_awake.ensures.same.0 (c.see.ensures.sets ∙ ap (λ (b : List Bool). length b) c.mark-some_awake.ensures.same.1) c.mark-some_awake.ensures.sets c.mark-some_awake.ensures.reads (subst (λ (ps : List Phase). AreLeft seen c.self.inside.count c.see.new.awake ps) (sym is) c.in-Err.ensures.still_left) c.self.invariant.2,
     )
 
 pub returns-in-Err-clause-unchanged : goal.returns-in-Err-clause-unchanged

@@ -10,7 +10,7 @@ use Rattle.query_part.specs.declared.matches.Ready.{Ready}
 use Rattle.query_part.specs.Matches.{cut, CanCut, Stays, IsOwnReady, HasOwnWorked}
 use Rattle.query_part.specs.Parts.{part_of, put_in, clock_at, here_at, seen, IsMade, CanEnd, MayBePatient, MayFloat}
 use Rattle.query_part.proofs.Cases.{unread_step, can_take, starts_in_step}
-use Rattle.query_part.proofs.Prepare.{facts, idle_fields, now_is, fits, made_after, made_filled, number_inside, not_read, idle_part, unread_inside}
+use Rattle.query_part.proofs.Prepare.{facts, idle_fields, now_is, fits, made_after, made_filled, number_inside, not_read, idle_part, read_inside, unread_inside}
 use Rattle.query_part.proofs.Sleeping.{may_reads, neither, passes_unread}
 use Rattle.query_part.proofs.OwnKey.{at_none, at_some, passed_now, stays_pass, stays_step, ready_step, own_within}
 use Rattle.query_part.proofs.part.PartKeeps.prepare.Goals as goal
@@ -38,6 +38,11 @@ now-clock-requires g c =
     let told : (c.self.inside.floats || slice_index_or c.self.inside.types.items c.args.event.now.ty false) ≡ true = search rules in
     let does = may_reads c.self.inside.schema.value c.self.inside.query c.self.inside.clock.source c.self.inside.types.items c.self.inside.floats c.args.event.now c.self.invariant.2 c.self.invariant.0.types f.of_schema told in
     record { there = c.self.invariant.0.clocks c.args.event.now c.args.position f.of_schema does }
+
+pub fill-requires-clause-read : goal.fill-requires-clause-read
+fill-requires-clause-read g c = λ does.
+    let r = read_inside c.self.inside.schema.value c.self.inside.query c.args.event.now c.args.position c.self.inside.step c.self.inside.ready c.self.inside.matches c.self.inside.clock.last c.self.inside.here c.self.inside.upto c.self.inside.floats c.args.self.now c.self.view_is (c.requires.read does) in
+    (r.0, ap (λ (f : ℕ → Bool). f r.0) (c.self.invariant.0.leaves c.args.event.now) ∙ r.1)
 
 pub fill-requires-clause-unread : goal.fill-requires-clause-unread
 fill-requires-clause-unread g c = λ none k. ap (λ (f : ℕ → Bool). f k) (c.self.invariant.0.leaves c.args.event.now) ∙ unread_inside c.self.inside.schema.value c.self.inside.query c.args.event.now c.args.position c.self.inside.step c.self.inside.ready c.self.inside.matches c.self.inside.clock.last c.self.inside.here c.self.inside.upto c.self.inside.floats c.args.self.now c.self.view_is (c.requires.unread none) k

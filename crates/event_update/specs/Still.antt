@@ -1,12 +1,12 @@
 -- Lists that rest: an event that no leaf can read leaves them as they are. And automata whose lists may let it pass in any case.
-use Rattle.std.specs.Prelude.{◌≡◌, ℕ, ◌≤◌, ℤ, Bool, false, List, [], ◌∷◌, ◌++◌, map, length, All, Some, option_and_then, ⊤}
+use Rattle.std.specs.Prelude.{◌≡◌, ℕ, ◌≤◌, ℤ, Bool, true, false, List, [], ◌∷◌, ◌++◌, map, length, All, Some, option_and_then, ⊤}
 use Rattle.std.specs.List.{list_any}
 use Rattle.cer_base.specs.Bits.{has}
 use Rattle.cer_base.specs.declared.node.Stamp.{Stamp}
 use Rattle.cer_base.specs.declared.node.Root.{Root}
 use Rattle.cer_base.specs.declared.node.Node.{Node}
 use Rattle.cea_determinise.specs.Runs.{LeafSet, Automaton, RunState, start, pair, accepts}
-use Rattle.cea_determinise.specs.Strict.{Standing, next_standing}
+use Rattle.cea_determinise.specs.Strict.{Standing, begin, next_standing}
 use Rattle.cea_determinise.specs.Cea.{automaton_of_cea}
 use Rattle.cea_determinise.specs.Det.{Table, standing_at, IsSound}
 use Rattle.event_update.specs.Reach.{Seen}
@@ -39,6 +39,26 @@ UnchangedListsRest = (before after : Table) (bits : List Bool) (stamp : Stamp) (
 -- Lists rest as the table grows.
 abbrev pub RestingListsStayAtRest : Type 0
 RestingListsStayAtRest = (old new : Table) (from : List ℕ) (bits : List Bool) (rows : List (ℕ × List Root)) → Discovers old from bits new → Rest old rows → Rest new rows
+
+-- An event that these leaves can read passes the state of this number, and is not marked there: it stays the state that it is.
+pub record IsPassed (t : Table) (bits : List Bool) (n : ℕ) : Type 0 where
+  pub known : n ≤ length t.states
+  pub stays : next_standing (automaton_of_cea t.cea) t.cea.strict (standing_at t.states n) (has bits) false ≡ Some (standing_at t.states n)
+  pub unmarked : (s : Standing) → next_standing (automaton_of_cea t.cea) t.cea.strict (standing_at t.states n) (has bits) true ≡ Some s → ⊥
+
+-- It passes each state with open matches, and starts no match.
+pub record ArePassed (t : Table) (bits : List Bool) (rows : List (ℕ × List Root)) : Type 0 where
+  pub starts : (s : Standing) (mark : Bool) → next_standing (automaton_of_cea t.cea) t.cea.strict begin (has bits) mark ≡ Some s → ⊥
+  pub each : All (λ (r : ℕ × List Root). IsPassed t bits r.0) rows
+
+-- Where such events pass the lists, what stands for a key's events stands for them and such an event.
+abbrev pub PassedListsStand : Type 0
+PassedListsStand = (t : Table) (low : ℤ) (xs : List Seen) (stamp : Stamp) (bits : List Bool) (nodes : List Node) (rows : List (ℕ × List Root)) →
+    ArePassed t bits rows → IsLater stamp xs → Stands t low xs nodes rows → Stands t low (xs ++ seen stamp bits ∷ []) nodes rows
+
+-- They pass them as the table grows.
+abbrev pub PassedListsStayPassed : Type 0
+PassedListsStayPassed = (old new : Table) (from : List ℕ) (read bits : List Bool) (rows : List (ℕ × List Root)) → Discovers old from read new → ArePassed old bits rows → ArePassed new bits rows
 
 -- the state of this number accepts
 abbrev pub does_accept : Table → ℕ → Bool

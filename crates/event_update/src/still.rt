@@ -6,7 +6,7 @@ ghost use Rattle.std.specs.List.{list_any};
 ghost use Rattle.cer_base.specs.Bits.{has};
 ghost use Rattle.cea_determinise.specs.Cea.{automaton_of_cea, IsWellFormed};
 ghost use Rattle.event_update.specs.ActiveLists.{keys};
-ghost use Rattle.event_update.specs.Still.{does_accept, RestingListsStand, UnchangedListsRest, RestingListsStayAtRest, RestingListsAcceptNone, AcceptingListsAreNeeded, IsPatient, PatientListsStand};
+ghost use Rattle.event_update.specs.Still.{does_accept, RestingListsStand, UnchangedListsRest, RestingListsStayAtRest, RestingListsAcceptNone, AcceptingListsAreNeeded, PassedListsStand, PassedListsStayPassed, IsPatient, PatientListsStand};
 
 use crate::Active;
 use cea_determinise::cea::Cea;
@@ -47,6 +47,13 @@ pub fn resting_lists_stay_at_rest()
 pub fn resting_lists_accept_none()
     ensures resting { RestingListsAcceptNone }
     ensures accepting { AcceptingListsAreNeeded }
+{}
+
+/// Where an event passes lists, what stands for a key's events stands for them and the event, and as
+/// the table grows such events pass them still. Two laws.
+pub fn passed_lists_stand()
+    ensures stand { PassedListsStand }
+    ensures stay { PassedListsStayPassed }
 {}
 
 /// Whether each set is empty.

@@ -15,3 +15,5 @@ mod Compacting
 pub mod Fresh
 mod Sleeping
 mod OwnKey
+-- a key's event that passes its lists
+mod Passed

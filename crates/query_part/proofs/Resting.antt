@@ -1,5 +1,5 @@
 -- Lists that are known to rest.
-use Rattle.std.proofs.Common.{◌≡◌, ◌≢◌, ℕ, zero, suc, ◌+◌, ◌-◌, ◌<◌, ◌≤◌, inl, inr, Bool, true, false, List, [], ◌∷◌, ◌++◌, map, take, length, refl, sym, ap, subst, ◌∙◌, All, Some, slice_get, slice_set, slice_index_or, arith}
+use Rattle.std.proofs.Common.{◌≡◌, ◌≢◌, ℕ, zero, suc, ◌+◌, ◌-◌, ◌<◌, ◌≤◌, inl, inr, Bool, true, false, List, [], ◌∷◌, ◌++◌, map, take, length, refl, sym, ap, subst, ◌∙◌, All, Option, Some, None, IfSome, slice_get, slice_set, slice_index_or, arith}
 use Rattle.std.specs.Prelude.{if◌then◌else◌, replicate}
 use Rattle.std.proofs.lemmas.Bool.{cases_eq}
 use Rattle.std.proofs.lemmas.List.{take_all}
@@ -9,13 +9,18 @@ use Rattle.cer_base.specs.declared.node.Root.{Root}
 use Rattle.event_update.specs.Still.{IsAtRest, Rest}
 use Rattle.event_update.specs.Update.{Discovers}
 use Rattle.event_update.proofs.Resting.{resting_stay}
+use Rattle.event_update.proofs.Passing.{passed_stay}
 use Rattle.query_part.specs.declared.lists.Lists.{Lists}
 use Rattle.query_standing.specs.Kept.{Rows}
 use Rattle.query_part.specs.Matches.{MayRest, AreStill, awake_in}
 
+still_passed : {P Q : List Bool → Type 0} (o : Option (List Bool)) → ((bits : List Bool) → P bits → Q bits) → IfSome o P → IfSome o Q
+still_passed None f h = h
+still_passed (Some bits) f h = f bits h
+
 -- what is known of lists stays known as the table grows
 pub rest_later : (old new : Table) (from : List ℕ) (bits : List Bool) (ls : List Lists) → Discovers old from bits new → All (MayRest old) ls → All (MayRest new) ls
-rest_later old new from bits ls d h = All-weaker (MayRest old) (MayRest new) (λ l is known. resting_stay old new from bits l.active.entries d (is known)) ls h
+rest_later old new from bits ls d h = All-weaker (MayRest old) (MayRest new) (λ l is. record { rest = λ known. resting_stay old new from bits l.active.entries d (is.rest known); passed = still_passed l.passed (λ leaves h. passed_stay old new from bits leaves l.active.entries d h) is.passed }) ls h
 
 -- other lists at a place
 pub noted_all : (P : Lists → Type 0) (ls : List Lists) (n : ℕ) (l : Lists) → All P ls → P l → All P (slice_set ls n l)
@@ -157,7 +162,7 @@ none_awake t [] none may = All-nil (Rest t)
 none_awake t (l ∷ ls) none may = go l.rests refl none (λ later. none_awake t ls later (All-tail (MayRest t) l ls may))
   where
     go : (b : Bool) → l.rests ≡ b → (if b then awake_in ls else suc (awake_in ls)) ≡ 0 → (awake_in ls ≡ 0 → All (Rest t) (map (λ (x : Lists). x.active.entries) ls)) → All (Rest t) (map (λ (x : Lists). x.active.entries) (l ∷ ls))
-    go true e none later = All-cons (Rest t) l.active.entries (map (λ (x : Lists). x.active.entries) ls) (All-head (MayRest t) l ls may e) (later none)
+    go true e none later = All-cons (Rest t) l.active.entries (map (λ (x : Lists). x.active.entries) ls) ((All-head (MayRest t) l ls may).rest e) (later none)
     go false e none later = absurd (omega arith)
 
 pub awake_push : (ls : List Lists) (l : Lists) → awake_in (ls ++ l ∷ []) ≡ (if l.rests then awake_in ls else suc (awake_in ls))

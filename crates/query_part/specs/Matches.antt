@@ -1,5 +1,5 @@
 -- The open matches of a query, key by key, and what a key's event makes of them.
-use Rattle.std.specs.Prelude.{◌≡◌, ℕ, suc, ◌+◌, ℤ, ◌<◌, ◌≤◌, ◌⊎◌, Bool, true, false, if◌then◌else◌, List, [], ◌∷◌, ◌++◌, length, map, take, All, Contains, Option, Some, None, slice_get, slice_index_or}
+use Rattle.std.specs.Prelude.{◌≡◌, ℕ, suc, ◌+◌, ℤ, ◌<◌, ◌≤◌, ◌⊎◌, Bool, true, false, if◌then◌else◌, List, [], ◌∷◌, ◌++◌, length, map, take, All, Contains, Option, Some, None, IfSome, slice_get, slice_index_or}
 use Rattle.std.specs.List.{IsDistinct}
 use Rattle.stream_schema.specs.declared.Value.{Value}
 use Rattle.cer_base.specs.declared.node.Stamp.{Stamp}
@@ -15,7 +15,7 @@ use Rattle.event_update.specs.Reach.{Seen}
 use Rattle.event_update.specs.Stands.{seen, IsLater, Stands, CanAdvance}
 use Rattle.event_update.specs.Update.{Discovers, GrowsBy, rows_after, work_bound, IsWithinWork, accepted_entries}
 use Rattle.query_standing.specs.Kept.{Rows}
-use Rattle.event_update.specs.Still.{IsQuiet, IsAtRest, Rest}
+use Rattle.event_update.specs.Still.{IsQuiet, IsAtRest, Rest, ArePassed}
 use Rattle.partition_table.specs.Keys.{are_at}
 use Rattle.query_part.specs.declared.matches.Sizes.{Sizes}
 use Rattle.query_part.specs.declared.lists.Lists.{Lists}
@@ -27,9 +27,10 @@ pub record Held : Type 0 where
   pub keys : List (List Value)
   pub rows : List Rows
 
--- lists that are known to rest do
-abbrev pub MayRest : Table → Lists → Type 0
-MayRest t l = l.rests ≡ true → Rest t l.active.entries
+-- Lists that are known to rest do, and events of the leaves that are known to pass them do.
+pub record MayRest (t : Table) (l : Lists) : Type 0 where
+  pub rest : l.rests ≡ true → Rest t l.active.entries
+  pub passed : IfSome l.passed (λ bits. ArePassed t bits l.active.entries)
 
 -- how many keys' lists are not known to rest
 abbrev pub awake_in : List Lists → ℕ

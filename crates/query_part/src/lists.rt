@@ -3,7 +3,7 @@
 ghost use Rattle.std.specs.Prelude.{◌≡◌, ℕ, ◌+◌, ◌-◌, ◌<◌, [], length, map, All, slice_set, slice_index_or, true, false};
 ghost use Rattle.cea_determinise.specs.Det.{Table};
 ghost use Rattle.event_update.specs.ActiveLists.{keys};
-ghost use Rattle.event_update.specs.Still.{IsQuiet, IsAtRest, Rest};
+ghost use Rattle.event_update.specs.Still.{IsQuiet, IsAtRest, Rest, ArePassed};
 ghost use Rattle.event_update.specs.declared.Staged.TheVariants.{Unchanged};
 ghost use Rattle.event_update.specs.Update.{rows_after};
 ghost use Rattle.query_part.specs.Compacting.{HasStatesOnce};
@@ -21,6 +21,9 @@ pub struct Lists {
     pub active: Active,
     /// Whether an event that no leaf can read is known to leave them as they are.
     pub rests: bool,
+    /// Leaves whose events are known to leave them as they are: those that can read the last event
+    /// that did.
+    pub passed: Option<Bits>,
 }
 
 impl Lists {
@@ -33,6 +36,7 @@ impl Lists {
         Lists {
             active: Active::new(alloc),
             rests: true,
+            passed: None,
         }
     }
 
@@ -45,9 +49,18 @@ impl Lists {
         let stays = is_unchanged(&staged);
         commit(&mut self.active, stage, staged);
         if !stays {
-            self.rests = false;
+            self.forget();
         }
         self.look(still);
+    }
+
+    /// Nothing is known of them.
+    fn forget(&mut self)
+        ensures rows { self.new.active.entries ≡ self.old.active.entries }
+        ensures rests { (t : Table) → MayRest t self.new }
+    {
+        self.rests = false;
+        self.passed = None;
     }
 
     /// Notes that they rest, where their states are all known to be still.
@@ -66,6 +79,31 @@ impl Lists {
         ensures rests { (t : Table) → AreStill t still.now → MayRest t self.new }
     {
         self.rests = are_still(&self.active, still);
+        self.passed = None;
+    }
+
+    /// Notes that events of these leaves leave them as they are, where there is memory.
+    pub fn learn(&mut self, alloc: Global, bits: &Bits)
+        ensures rows { self.new.active.entries ≡ self.old.active.entries }
+        ensures known { self.new.rests ≡ self.old.rests }
+        ensures rests { (t : Table) → ArePassed t bits.now self.old.active.entries
+            → MayRest t self.old → MayRest t self.new }
+    {
+        self.passed = match bits.copy(alloc) {
+            Ok(copy) => Some(copy),
+            Err(_) => None,
+        };
+    }
+
+    /// Whether events of these leaves are known to leave them as they are.
+    pub fn let_pass(&self, bits: &Bits) -> bool
+        ensures { result ≡ true → (t : Table) → MayRest t self.now
+            → ArePassed t bits.now self.now.active.entries }
+    {
+        match &self.passed {
+            Some(known) => known == bits,
+            None => false,
+        }
     }
 }
 
@@ -86,7 +124,7 @@ impl HasLists for Lists {
 }
 
 /// Whether no list changes.
-fn is_unchanged(staged: &Staged) -> bool
+pub fn is_unchanged(staged: &Staged) -> bool
     ensures { result ≡ true → staged.now ≡ Unchanged }
 {
     matches!(staged, Staged::Unchanged)

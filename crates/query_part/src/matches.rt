@@ -8,7 +8,8 @@ ghost use Rattle.cea_determinise.specs.Cea.{IsWellFormed};
 ghost use Rattle.cea_determinise.specs.Det.{IsSound};
 ghost use Rattle.stream_schema.specs.declared.Value.{Value as Datum};
 ghost use Rattle.event_update.specs.ActiveLists.{keys};
-ghost use Rattle.event_update.specs.Still.{IsQuiet, Rest};
+ghost use Rattle.event_update.specs.Still.{IsQuiet, Rest, ArePassed};
+ghost use Rattle.event_update.specs.declared.Staged.TheVariants.{Unchanged};
 ghost use Rattle.query_standing.specs.Kept.{Rows};
 ghost use Rattle.event_update.specs.Update.{rows_after, work_bound};
 ghost use Rattle.tecs_enumerate.specs.Rest.{CursorState, rest, recent_of, Fits};
@@ -18,7 +19,7 @@ ghost use Rattle.arena_compact.specs.Compacted.{least_of, roots_of, Compacted, K
 ghost use Rattle.query_part.specs.Compacting.{HasStatesOnce};
 ghost use Rattle.query_part.specs.Matches.{Held, MayRest, awake_in, AreStill, HasKeyThere, HasBegun, none_open, cut, CanCut, AreSizes, TakesKey, CanTake, IsReady, HasWorked, CanList, entries_for};
 
-use crate::lists::{Lists, look_over, note, put_lists, states_once};
+use crate::lists::{Lists, is_unchanged, look_over, note, put_lists, states_once};
 use arena_compact::{HasCursor, Room, compact};
 use cea_determinise::cea::Cea;
 use cea_determinise::det::Det;
@@ -212,6 +213,9 @@ impl Matches {
             ≤ steps.old + work_bound (length self.new.table.states)) }
         ensures worked { (b : HasBegun sizes number self.old) → HasWorked bits.now b.key b.before
             steps.old steps.new }
+        ensures passed { IfOk result (λ r. r.staged ≡ Unchanged → (rows : Rows)
+            → slice_get self.new.rows r.number ≡ Some rows
+            → ArePassed self.new.table bits.now rows) }
     {
         let active = &self.lists[number as usize].active;
         match prepare(
@@ -237,6 +241,20 @@ impl Matches {
                 self.cut_to(sizes);
                 Err(refused)
             }
+        }
+    }
+
+    /// Notes that events of these leaves leave the lists of the key of this number as they are, where the
+    /// last one did.
+    fn learn(&mut self, number: u64, bits: &Bits, staged: &Staged)
+        requires inside { number < length self.old.rows }
+        requires passed { staged.now ≡ Unchanged → (rows : Rows)
+            → slice_get self.old.rows number ≡ Some rows
+            → ArePassed self.old.table bits.now rows }
+        ensures { self.new ≡ self.old }
+    {
+        if is_unchanged(staged) {
+            self.lists[number as usize].learn(self.alloc, bits);
         }
     }
 
@@ -267,7 +285,8 @@ impl Matches {
         self.work(sizes, number, bits, stamp, steps)
     }
 
-    /// The same for the key of this number, which is there.
+    /// The same for the key of this number, which is there. Where events of the same leaves are known to
+    /// leave its lists as they are, it takes no step.
     pub fn advance_at<L: Ledger>(
         &mut self,
         number: u64,
@@ -291,7 +310,21 @@ impl Matches {
             → HasWorked bits.now key self.old steps.old steps.new }
     {
         let sizes = self.sizes();
-        self.work(sizes, number, bits, stamp, steps)
+        let _found = self.det.found();
+        if self.lists[number as usize].let_pass(bits) {
+            return Ok(Ready {
+                sizes,
+                number,
+                staged: Staged::Unchanged,
+            });
+        }
+        match self.work(sizes, number, bits, stamp, steps) {
+            Ok(ready) => {
+                self.learn(ready.number, bits, &ready.staged);
+                Ok(ready)
+            }
+            Err(refused) => Err(refused),
+        }
     }
 
     /// Puts the lists in place. It takes no memory.

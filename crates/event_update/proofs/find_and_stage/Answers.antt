@@ -5,6 +5,7 @@ use Rattle.event_update.specs.Stands.{Stands, seen}
 use Rattle.event_update.specs.Update.{Discovers, rows_after}
 use Rattle.event_update.proofs.ClassAdded.{stands_added, can_added, discovers_added, discovers_class}
 use Rattle.event_update.proofs.Known.{class_found_later}
+use Rattle.event_update.specs.Still.{ArePassed}
 use Rattle.event_update.proofs.Placing.{if_ok}
 use Rattle.event_update.proofs.find_and_stage.Goals as goal
 
@@ -35,3 +36,8 @@ pub returns-clause-counted : goal.returns-clause-counted
 returns-clause-counted g c =
     let one = c.class.ensures.steps in
     if_ok c.prepare_at.result _ _ (λ s counted. omega (arith, one, counted)) c.prepare_at.ensures.counted
+
+pub returns-clause-passed : goal.returns-clause-passed
+returns-clause-passed g c =
+    let is = class_is c.class.new.self.classes c.in_ok-class.class c.args.bits.now c.in_ok-class.ensures.class in
+    if_ok c.prepare_at.result _ _ (λ s passes same. subst (λ (bs : List Bool). ArePassed c.prepare_at.new.det bs c.args.active.now.entries) is (passes same)) c.prepare_at.ensures.passed

@@ -4,6 +4,7 @@ use Rattle.cea_determinise.specs.Det.{class_at}
 use Rattle.event_update.specs.Update.{next_in}
 use Rattle.event_update.proofs.GivenBack.{discovers_none}
 use Rattle.event_update.proofs.Kept.{known_told, stands_after}
+use Rattle.event_update.proofs.Passing.{all_passed}
 use Rattle.event_update.proofs.Placing.{if_ok}
 use Rattle.event_update.proofs.Stays.{few_states, staged_whole, much, nodes_made}
 use Rattle.event_update.proofs.prepare_at.Goals as goal
@@ -48,3 +49,6 @@ pub returns-in-Some-clause-counted : goal.returns-in-Some-clause-counted
 returns-in-Some-clause-counted g c =
     let one = c.tick_times.ensures in
     if_ok c.work_out.result _ _ (λ s counted. omega (arith, one, counted)) c.work_out.ensures.counted
+
+pub returns-in-Some-clause-passed : goal.returns-in-Some-clause-passed
+returns-in-Some-clause-passed g c = if_ok c.work_out.result _ _ (λ s go is. all_passed c.args.det.now c.args.class c.args.active.now.entries c.in-Some.row.now.successors.items c.in-Some.ensures.known (go is)) c.work_out.ensures.passed

@@ -11,5 +11,5 @@ returns-then-is_empty-clause-rest c known =
     let inside : c.args.number < length c.self.inside.lists.items = (let l = rows_length _ c.self.inside.lists.items c.args.self.now.rows (ap (λ (h : Held). h.rows) c.self.view_is) in omega arith) in (
       c.index.result.now.active.entries,
       subst (λ (h : Held). slice_get h.rows c.args.number ≡ Some c.index.result.now.active.entries) c.self.view_is (row_at _ c.self.inside.lists.items c.args.number c.index.result.now inside c.index.ensures),
-      subst (λ (h : Held). Rest h.table c.index.result.now.active.entries) c.self.view_is (all_there (MayRest c.self.inside.det) c.self.inside.lists.items c.args.number c.index.result.now inside c.index.ensures c.self.invariant.1 known),
+      subst (λ (h : Held). Rest h.table c.index.result.now.active.entries) c.self.view_is ((all_there (MayRest c.self.inside.det) c.self.inside.lists.items c.args.number c.index.result.now inside c.index.ensures c.self.invariant.1).rest known),
     )

@@ -4,6 +4,8 @@ use Rattle.event_update.specs.Update.{IsAdvancedBy, rows_after}
 use Rattle.event_update.proofs.Resting.{unchanged_rest}
 use Rattle.query_part.specs.declared.lists.Lists.{Lists}
 use Rattle.query_part.specs.Matches.{Held, TakesKey, CanTake}
+use Rattle.event_update.specs.Still.{ArePassed}
+use Rattle.query_part.proofs.Passed.{one_row}
 use Rattle.query_part.proofs.Resting.{rest_later, still_later}
 use Rattle.query_part.proofs.Cuts.{cut_back, can_cut, row_at, length_map, same_before, sound_mid, grown_from}
 use Rattle.query_part.proofs.matches.Matches.work.Goals as goal
@@ -119,3 +121,12 @@ invariant_of-self g c =
       c.note.ensures c.prepare.new.det still (λ quiet stays.
           unchanged_rest c.self.inside.det c.prepare.new.det c.args.bits.now c.args.stamp c.self.inside.store c.prepare.new.store c.index.result.now.active.entries quiet c.sizes-sizes.ensures.sound can c.prepare.ensures.grows (subst (λ s. IsAdvancedBy c.prepare.new.det c.args.bits.now c.args.stamp c.self.inside.store c.index.result.now.active.entries c.prepare.new.store (rows_after c.index.result.now.active.entries s)) stays c.in-Ok.ensures.advanced)),
     )
+
+pub returns-in-Ok-clause-passed : goal.returns-in-Ok-clause-passed
+returns-in-Ok-clause-passed g c = λ stays rows at.
+    let b = c.requires.begun in
+    let keyed = subst (λ (h : Held). slice_get h.keys c.args.number ≡ Some b.key) (sym c.self.view_is) b.numbered in
+    let within = slice_get_within c.self.inside.keys c.args.number b.key keyed in
+    let inside : c.args.number < length c.self.inside.lists.items = (let l = c.self.invariant.0 in omega arith) in
+    let there = row_at (λ (l : Lists). l.active.entries) c.self.inside.lists.items c.args.number c.index.result.now inside c.index.ensures in
+    subst (ArePassed c.prepare.new.det c.args.bits.now) (one_row _ rows (sym there ∙ at)) (c.in-Ok.ensures.passed stays)

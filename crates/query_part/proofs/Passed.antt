@@ -1,0 +1,62 @@
+-- A key's event that passes its lists.
+use Rattle.std.proofs.Common.{◌≡◌, ℕ, ◌<◌, inl, Bool, true, false, List, length, refl, sym, subst, Some, slice_get, slice_set, slice_index_or, arith}
+use Rattle.std.specs.List.{IsDistinct}
+use Rattle.stream_schema.specs.declared.Value.{Value}
+use Rattle.cer_base.specs.declared.node.Stamp.{Stamp}
+use Rattle.cer_base.specs.Nodes.{WellFormed}
+use Rattle.cea_determinise.specs.Det.{IsSound}
+use Rattle.cea_determinise.specs.Keys.{are_same_sets}
+use Rattle.event_update.specs.Still.{ArePassed}
+use Rattle.event_update.specs.declared.Staged.TheVariants.{Unchanged}
+use Rattle.event_update.proofs.GivenBack.{discovers_none}
+use Rattle.event_update.proofs.RowPlaced.{grows_by_none}
+use Rattle.event_update.proofs.Passing.{passed_stand}
+use Rattle.query_standing.specs.Kept.{Rows}
+use Rattle.query_standing.proofs.Lists.{got}
+use Rattle.query_part.specs.declared.lists.Lists.{Lists}
+use Rattle.query_part.specs.Matches.{Held, awake_in, IsReady, HasWorked}
+use Rattle.query_part.proofs.Resting.{Recounted, recounted}
+
+pub one_row : (rows others : Rows) → Some rows ≡ Some others → rows ≡ others
+one_row rows others e = cc
+
+-- what is ready then is what there was
+pub ready_passed : (h : Held) (stamp : Stamp) (bits : List Bool) (key : List Value) (number : ℕ) (rows : Rows) → slice_get h.keys number ≡ Some key → slice_get h.rows number ≡ Some rows → IsSound h.table → IsDistinct are_same_sets h.table.states → WellFormed h.nodes → ArePassed h.table bits rows → IsReady stamp bits key number Unchanged h h
+ready_passed h stamp bits key number rows numbered at sound once formed passed = record {
+  mid = h;
+  takes = inl (got h.keys number key numbered, refl);
+  keys = refl;
+  rows = refl;
+  numbered = numbered;
+  before = rows;
+  before_is = at;
+  states = _;
+  states_are = refl;
+  table = discovers_none h.table _ bits;
+  sets = sound.states;
+  distinct = once;
+  nodes = grows_by_none stamp h.nodes formed;
+  stands = λ low xs later st. passed_stand h.table low xs stamp bits h.nodes rows passed later st;
+  growth = omega arith;
+}
+
+pub worked_passed : (h : Held) (bits : List Bool) (key : List Value) (number steps : ℕ) (rows : Rows) → slice_get h.keys number ≡ Some key → slice_get h.rows number ≡ Some rows → IsSound h.table → IsDistinct are_same_sets h.table.states → HasWorked bits key h steps steps
+worked_passed h bits key number steps rows numbered at sound once = record {
+  mid = h;
+  takes = inl (got h.keys number key numbered, refl);
+  number = number;
+  numbered = numbered;
+  rows = rows;
+  rows_are = at;
+  states = _;
+  states_are = refl;
+  work = record { found = h.table; discovers = discovers_none h.table _ bits; sound = sound; distinct = once; bounded = omega arith };
+}
+
+-- as many keys' lists are not known to rest
+pub awake_same : (ls : List Lists) (n : ℕ) (d new : Lists) → n < length ls → new.rests ≡ (slice_index_or ls n d).rests → awake_in (slice_set ls n new) ≡ awake_in ls
+awake_same ls n d new less same = go new.rests (subst (λ b. Recounted b new.rests (awake_in ls) (awake_in (slice_set ls n new))) (sym same) (recounted ls n d new less))
+  where
+    go : (b : Bool) → Recounted b b (awake_in ls) (awake_in (slice_set ls n new)) → awake_in (slice_set ls n new) ≡ awake_in ls
+    go true h = h
+    go false h = h

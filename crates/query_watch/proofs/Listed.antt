@@ -20,6 +20,7 @@ use Rattle.predicate_bits.specs.Ranges.{AsksFor}
 use Rattle.predicate_bits.specs.Checks.{all_checks_hold, ComesTo}
 use Rattle.query_watch.specs.declared.rows.Row.{Row}
 use Rattle.query_watch.specs.declared.rows.Watched.{Watched}
+use Rattle.query_watch.specs.Openings.{AsksToOpen}
 use Rattle.query_watch.specs.Rows.{Table, rows_of, IsListed, HasPut, HasAdded, HasAddedQuery, IsRangeOf, IsRowOf, IsRowOfLeaf, HasLeafRow, HaveRows, HaveReader, IsWatched, IsWatch, IsExact, AreExact, IsRowBelow, AreBelow, Marks}
 
 -- a list with nothing in it, put in last, changes no list
@@ -92,19 +93,19 @@ pub added_none : (query : ℕ) (list : List Leaf) (rows : List (List Row)) (leav
 added_none query list rows leaves = record { kept = λ t r h. h; leaves = λ k l at. at; only = λ t r h. inl h }
 
 abbrev row_kept : (query : ℕ) (had have : List Watched) (row : Row) → ((k : ℕ) (l : Watched) → slice_get had k ≡ Some l → slice_get have k ≡ Some l) → IsRowOf query had row → IsRowOf query have row
-row_kept query had have row kept h = record { leaf = h.leaf; at = kept row.leaf h.leaf h.at; range = h.range; numbered = h.numbered }
+row_kept query had have row kept h = record { leaf = h.leaf; at = kept row.leaf h.leaf h.at; range = h.range; opening = h.opening; numbered = h.numbered }
 
 of_leaf_kept : (query : ℕ) (some more : List Leaf) (had have : List Watched) (ty : ℕ) (row : Row) → ((l : Leaf) → Contains some l → Contains more l) → ((k : ℕ) (l : Watched) → slice_get had k ≡ Some l → slice_get have k ≡ Some l) → IsRowOfLeaf query some had ty row → IsRowOfLeaf query more have ty row
 of_leaf_kept query some more had have ty row within kept h = record { of = row_kept query had have row kept h.of; leaf = h.leaf; listed = within h.leaf h.listed; type = h.type; tests = h.tests }
 
 -- one leaf and its row
-pub added_leaf : (query : ℕ) (row : Row) (leaf : Watched) (l : Leaf) (old new : List (List Row)) (had have : List Watched) → have ≡ had ++ leaf ∷ [] → row.leaf ≡ length had → leaf.query ≡ query → leaf.tests.items ≡ l.tests.items → IsRangeOf row.range leaf → HasPut l.ty row old new → HasAdded query (l ∷ []) old had new have
-added_leaf query row leaf l old new had have is numbered of tests range p = record {
+pub added_leaf : (query : ℕ) (row : Row) (leaf : Watched) (l : Leaf) (old new : List (List Row)) (had have : List Watched) → have ≡ had ++ leaf ∷ [] → row.leaf ≡ length had → leaf.query ≡ query → leaf.tests.items ≡ l.tests.items → IsRangeOf row.range leaf → AsksToOpen row.opening (each_holds leaf.tests.items) → HasPut l.ty row old new → HasAdded query (l ∷ []) old had new have
+added_leaf query row leaf l old new had have is numbered of tests range opening p = record {
   kept = p.kept;
   leaves = λ k x at. subst (λ ls. slice_get ls k ≡ Some x) (sym is) (before_last had leaf x k at);
   only = λ t r now. elim (p.only t r now) [
     | inl was ↦ inl was
-    | inr one ↦ inr (subst (IsRowOfLeaf query (l ∷ []) have t) one.1 (record { of = record { leaf = leaf; at = ap (slice_get have) numbered ∙ last_leaf had have leaf is; range = range; numbered = of }; leaf = l; listed = Contains-push [] l; type = one.0; tests = tests }))
+    | inr one ↦ inr (subst (IsRowOfLeaf query (l ∷ []) have t) one.1 (record { of = record { leaf = leaf; at = ap (slice_get have) numbered ∙ last_leaf had have leaf is; range = range; opening = opening; numbered = of }; leaf = l; listed = Contains-push [] l; type = one.0; tests = tests }))
   ];
 }
 
@@ -312,9 +313,9 @@ marks_not row leaves event set leaf at fails = record {
   room = refl;
 }
 
--- and one whose range the event is not in
-pub marks_past : (count : ℕ) (row : Row) (leaves : List Watched) (event : Event) (set : List Bool) → IsRowBelow count leaves row → ((holds : Event → Bool) → AsksFor row.range holds → holds event ≡ false) → Marks (row ∷ []) leaves event set set
-marks_past count row leaves event set h none = marks_not row leaves event set h.of.leaf h.of.at (none (each_holds h.of.leaf.tests.items) h.of.range.asks)
+-- and one whose range the event is not in, or whose text it does not have
+pub marks_past : (count : ℕ) (row : Row) (leaves : List Watched) (event : Event) (set : List Bool) → IsRowBelow count leaves row → ((holds : Event → Bool) → AsksFor row.range holds → AsksToOpen row.opening holds → holds event ≡ false) → Marks (row ∷ []) leaves event set set
+marks_past count row leaves event set h none = marks_not row leaves event set h.of.leaf h.of.at (none (each_holds h.of.leaf.tests.items) h.of.range.asks h.of.opening)
 
 pub marks_none : (leaves : List Watched) (event : Event) (set : List Bool) → Marks [] leaves event set set
 marks_none leaves event set = record { marked = λ k h. absurd (let l = h.listed.1 in omega arith); only = λ k is. inl is; kept = λ k is. is; room = refl }

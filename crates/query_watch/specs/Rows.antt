@@ -14,6 +14,7 @@ use Rattle.predicate_bits.specs.Ranges.{AsksFor}
 use Rattle.predicate_bits.specs.Checks.{all_checks_hold, ComesTo}
 use Rattle.query_watch.specs.declared.rows.Row.{Row}
 use Rattle.query_watch.specs.declared.rows.Watched.{Watched}
+use Rattle.query_watch.specs.Openings.{AsksToOpen}
 
 -- the rows of each type, by the type's number
 abbrev pub rows_of : List (Vec Row Global) → List (List Row)
@@ -40,11 +41,12 @@ pub record IsRangeOf (range : Range) (leaf : Watched) : Type 0 where
   pub asks : AsksFor range (each_holds leaf.tests.items)
   pub checks : IfSome leaf.checks (λ cs. ComesTo range (each_holds leaf.tests.items) (all_checks_hold cs.items))
 
--- The row is of a leaf of this query, which is there.
+-- The row is of a leaf of this query, which is there, and its range and its opening are ones that the leaf's tests ask for.
 pub record IsRowOf (query : ℕ) (leaves : List Watched) (row : Row) : Type 0 where
   pub leaf : Watched
   pub at : slice_get leaves row.leaf ≡ Some leaf
   pub range : IsRangeOf row.range leaf
+  pub opening : AsksToOpen row.opening (each_holds leaf.tests.items)
   pub numbered : leaf.query ≡ query
 
 -- The row in the list of the type is of one of these leaves of the query, which has this type and these tests.

@@ -4,6 +4,7 @@ ghost use Rattle.std.specs.Prelude.{◌≡◌, ℕ, ◌+◌, ◌<◌, ◌≤◌,
 ghost use Rattle.cel_terms.specs.declared.Query.{Query as QueryData};
 ghost use Rattle.query_watch.specs.Rows.{rows_of, HasPut, HasAdded, HasAddedQuery, HaveRows, HasLeafRow, IsWatched};
 
+use crate::openings::{Opening, opening_of};
 use cel_terms::Query;
 use cer_base::Memory;
 use predicate_bits::checks::{Check, checks_of};
@@ -12,15 +13,17 @@ use query_leaves::{Leaf, Test, leaves_of};
 use std::alloc::Global;
 use stream_schema::{Schema, TypeId};
 
-/// What is looked at first of a leaf: the range that its tests ask for, and where the rest is.
+/// What is looked at first of a leaf: the range and the text that its tests ask for, and where the rest
+/// is.
 #[derive(Drop, Debug, Clone, Copy)]
 pub struct Row {
     pub range: Range,
+    pub opening: Opening,
     /// The number of the leaf among those of all queries, from 0.
     pub leaf: u64,
 }
 
-/// What is looked at of a leaf where its range lets an event through.
+/// What is looked at of a leaf where its row lets an event through.
 #[derive(Drop, Debug)]
 pub struct Watched {
     /// Its query's number, from 0.
@@ -85,6 +88,7 @@ fn add_leaf(
     let ty = leaf.ty;
     let tests = leaf.tests;
     let range = range_of(tests.as_slice());
+    let opening = opening_of(tests.as_slice());
     let checks = checks_of(alloc, &range, tests.as_slice())?;
     let number = leaves.len() as u64;
     leaves.push(Watched {
@@ -98,6 +102,7 @@ fn add_leaf(
         ty,
         Row {
             range,
+            opening,
             leaf: number,
         },
     )?;

@@ -1,14 +1,18 @@
 //! The leaves of all queries, and which queries an event can concern.
 
-ghost use Rattle.std.specs.Prelude.{◌≡◌, ℕ, ◌≤◌, ◌⊎◌, true, [], ◌∷◌, length, slice_get, Some, IfOk, All};
+ghost use Rattle.std.specs.Prelude.{◌≡◌, ℕ, ◌≤◌, ◌⊎◌, Bool, true, false, [], ◌∷◌, length, slice_get, Some, IfOk, All};
 ghost use Rattle.std.specs.Option.{option_copied};
 ghost use Rattle.cer_base.specs.Bits.{has};
+ghost use Rattle.stream_schema.specs.declared.Event.{Event as EventData};
 ghost use Rattle.query_leaves.specs.Shapes.{each_holds as tests_hold};
+ghost use Rattle.predicate_bits.specs.Ranges.{AsksFor};
+ghost use Rattle.query_watch.specs.Openings.{AsksToOpen};
 ghost use Rattle.query_watch.specs.declared.grid.Grid.{Grid as GridData};
 ghost use Rattle.query_watch.specs.Grid.{IsGrid, Suffice};
 ghost use Rattle.query_watch.specs.Rows.{rows_of, AreBelow, AreExact, IsRangeOf, IsRowBelow, IsWatch, HasRow, Marks};
 
 use crate::grid::{Grid, few_of, grids_of};
+use crate::openings::may_open;
 use crate::rows::{Row, Watched, add_query};
 use cel_terms::Query;
 use cer_base::Memory;
@@ -149,6 +153,15 @@ fn mark_leaf(row: &Row, leaves: &[Watched], event: &Event, into: &mut Bits)
     }
 }
 
+/// Whether the event may have what the row's leaf asks for.
+#[inline(always)]
+fn may_read(row: &Row, event: &Event) -> bool
+    ensures { (holds : EventData → Bool) → AsksFor row.now.range holds
+        → AsksToOpen row.now.opening holds → result ≡ false → holds event.now ≡ false }
+{
+    may_hold(&row.range, event) && may_open(&row.opening, event)
+}
+
 /// Puts in the number of the query of each row whose leaf's tests hold of the event.
 #[inline(always)]
 fn mark_rows(rows: &[Row], leaves: &[Watched], event: &Event, into: &mut Bits)
@@ -156,7 +169,7 @@ fn mark_rows(rows: &[Row], leaves: &[Watched], event: &Event, into: &mut Bits)
     ensures { Marks rows.now leaves.now event.now into.old into.new }
 {
     for row in rows {
-        if may_hold(&row.range, event) {
+        if may_read(row, event) {
             mark_leaf(row, leaves, event, into);
         }
     }

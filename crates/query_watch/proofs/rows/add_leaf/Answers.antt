@@ -1,5 +1,7 @@
-use Rattle.std.proofs.Common.{refl, arith}
+use Rattle.std.proofs.Common.{refl, subst, arith}
 use Rattle.std.proofs.lemmas.Grind.{common_steps}
+use Rattle.query_leaves.specs.Shapes.{each_holds}
+use Rattle.query_watch.specs.Openings.{AsksToOpen}
 use Rattle.query_watch.specs.Rows.{rows_of}
 use Rattle.query_watch.proofs.Listed.{added_leaf, leaf_row, range_of_leaf}
 use Rattle.query_watch.proofs.rows.add_leaf.Goals as goal
@@ -9,4 +11,4 @@ returns-clause-row c = leaf_row c.args.query _ _ c.args.leaf (rows_of c.args.row
 
 pub returns-clause-added : goal.returns-clause-added
 returns-clause-added c = added_leaf c.args.query _ _ c.args.leaf (rows_of c.args.rows.now.items) (rows_of c.put.new.rows.items) c.args.leaves.now.items c.push.new.self.items c.in_ok-push.ensures.items (let e = c.len-number.ensures in grind (arith, common_steps)) refl refl
-    (range_of_leaf c.args.query c.range_of-range.result c.in_ok-checks.checks c.args.leaf.tests _ _ c.as_slice.ensures.value c.as_slice-2.ensures.value c.range_of-range.ensures c.in_ok-checks.ensures) c.in_ok-put.ensures
+    (range_of_leaf c.args.query c.range_of-range.result c.in_ok-checks.checks c.args.leaf.tests _ _ c.as_slice.ensures.value c.as_slice-3.ensures.value c.range_of-range.ensures c.in_ok-checks.ensures) (subst (λ ts. AsksToOpen c.opening_of-opening.result (each_holds ts)) c.as_slice-2.ensures.value c.opening_of-opening.ensures) c.in_ok-put.ensures

@@ -1,7 +1,7 @@
 use Rattle.std.proofs.Common.{◌+◌, sym, subst, take}
 use Rattle.query_watch.specs.Rows.{Marks}
 use Rattle.query_watch.proofs.Listed.{marks_none, marks_next, marks_past, marks_all, row_within}
-use Rattle.query_watch.proofs.watch.mark_rows.Goals.{then-may_hold, else-may_hold}
+use Rattle.query_watch.proofs.watch.mark_rows.Goals.{then-may_read, else-may_read}
 use Rattle.query_watch.proofs.watch.mark_rows.Goals as goal
 
 pub loop-row-init : goal.loop-row-init
@@ -11,9 +11,9 @@ pub mark_leaf-requires : goal.mark_leaf-requires
 mark_leaf-requires c = row_within c.args.rows.now c.loop-row.row-index _ c.args.leaves.now c.args.into.now c.loop-row.into c.requires c.loop-row-test.true c.loop-row.invariant.room
 
 pub loop-row-preserved : goal.loop-row-preserved
-loop-row-preserved c = elim c.if-may_hold.branch [
-  | then-may_hold w ↦ subst (λ s. Marks (take (c.loop-row.row-index + 1) c.args.rows.now) c.args.leaves.now c.args.event.now c.args.into.now s) (sym w.into-is) (marks_next c.loop-row.row-index c.args.rows.now _ c.args.leaves.now c.args.event.now c.args.into.now c.loop-row.into w.mark_leaf.new.into c.loop-row-test.true c.loop-row.invariant w.mark_leaf.ensures)
-  | else-may_hold w ↦ subst (λ s. Marks (take (c.loop-row.row-index + 1) c.args.rows.now) c.args.leaves.now c.args.event.now c.args.into.now s) (sym w.into-is) (marks_next c.loop-row.row-index c.args.rows.now _ c.args.leaves.now c.args.event.now c.args.into.now c.loop-row.into c.loop-row.into c.loop-row-test.true c.loop-row.invariant (marks_past _ _ c.args.leaves.now c.args.event.now c.loop-row.into (c.requires c.loop-row.row-index _ c.loop-row-test.true) (λ holds asks. c.may_hold.ensures holds asks w.if-may_hold.false)))
+loop-row-preserved c = elim c.if-may_read.branch [
+  | then-may_read w ↦ subst (λ s. Marks (take (c.loop-row.row-index + 1) c.args.rows.now) c.args.leaves.now c.args.event.now c.args.into.now s) (sym w.into-is) (marks_next c.loop-row.row-index c.args.rows.now _ c.args.leaves.now c.args.event.now c.args.into.now c.loop-row.into w.mark_leaf.new.into c.loop-row-test.true c.loop-row.invariant w.mark_leaf.ensures)
+  | else-may_read w ↦ subst (λ s. Marks (take (c.loop-row.row-index + 1) c.args.rows.now) c.args.leaves.now c.args.event.now c.args.into.now s) (sym w.into-is) (marks_next c.loop-row.row-index c.args.rows.now _ c.args.leaves.now c.args.event.now c.args.into.now c.loop-row.into c.loop-row.into c.loop-row-test.true c.loop-row.invariant (marks_past _ _ c.args.leaves.now c.args.event.now c.loop-row.into (c.requires c.loop-row.row-index _ c.loop-row-test.true) (λ holds asks opening. c.may_read.ensures holds asks opening w.if-may_read.false)))
 ]
 
 pub returns : goal.returns

@@ -126,8 +126,8 @@ set_own f (y ∷ ys) zero x d e = (let same : y ≡ x = cc in ap (λ z. Some (f 
 set_own f (y ∷ ys) (suc n) x d e = set_own f ys n x d e
 
 -- one that has a key, known or new
-keyed_stands : (schema : Declared) (q : Query) (events : List Event) (event : Event) (stamp : Stamp) (bits : List Bool) (key : List Value) (number : ℕ) (staged : Staged) (old new : Held) (c : Option ℤ) (n : Option ℕ) (now : ℤ) → Reads schema q event → HasClock schema q.window event (length events) now → least ≤ℤ low_of q.window now → HasKey schema q event key → has bits ≡ leaves_reading schema q event → stamp ≡ record { pos = length events; clock = now } → IsReady stamp bits key number staged old new → ((before now : ℤ) → FallsBack schema q events event before now → ⊥) → PartStands schema q events (part_of old c n) → PartStands schema q (events ++ event ∷ []) (part_of (put_in number staged new) (Some now) (Some number))
-keyed_stands schema q events event stamp bits key number staged old new c n now reads now_is fits has_key bits_are stamp_is r time s =
+keyed_stands : (schema : Declared) (q : Query) (events : List Event) (event : Event) (stamp : Stamp) (low : ℤ) (bits : List Bool) (key : List Value) (number : ℕ) (staged : Staged) (old new : Held) (c : Option ℤ) (n : Option ℕ) (now : ℤ) → Reads schema q event → HasClock schema q.window event (length events) now → least ≤ℤ low_of q.window now → HasKey schema q event key → has bits ≡ leaves_reading schema q event → stamp ≡ record { pos = length events; clock = now } → low ≤ℤ low_of q.window now → IsReady stamp low bits key number staged old new → ((before now : ℤ) → FallsBack schema q events event before now → ⊥) → PartStands schema q events (part_of old c n) → PartStands schema q (events ++ event ∷ []) (part_of (put_in number staged new) (Some now) (Some number))
+keyed_stands schema q events event stamp low bits key number staged old new c n now reads now_is fits has_key bits_are stamp_is recent r time s =
     part_keyed schema q events event now mid after s_mid advances keyed
   where
     mid : Part
@@ -174,11 +174,11 @@ keyed_stands schema q events event stamp bits key number staged old new c n now 
       seen = seen stamp bits;
       stamp = stamp_is;
       tells = record { clock = subst (λ (t : Stamp). HasClock schema q.window event t.pos t.clock) (sym stamp_is) now_is; bits = bits_are };
-      stands = λ xs later st. r.stands (low_at q c) xs (subst (λ (t : Stamp). All (λ (x : Seen). x.stamp.pos < t.pos) xs) (sym stamp_is) later) st;
+      stands = λ xs later st. r.stands (low_of q.window now) xs recent (subst (λ (t : Stamp). All (λ (x : Seen). x.stamp.pos < t.pos) xs) (sym stamp_is) later) st;
     }
 
-keyed_grows : (schema : Declared) (q : Query) (event : Event) (stamp : Stamp) (bits : List Bool) (key : List Value) (number : ℕ) (staged : Staged) (old new : Held) (c : Option ℤ) (n : Option ℕ) (now : ℤ) → Reads schema q event → IsReady stamp bits key number staged old new → Grows schema q event (part_of old c n) (part_of (put_in number staged new) (Some now) (Some number))
-keyed_grows schema q event stamp bits key number staged old new c n now reads r =
+keyed_grows : (schema : Declared) (q : Query) (event : Event) (stamp : Stamp) (low : ℤ) (bits : List Bool) (key : List Value) (number : ℕ) (staged : Staged) (old new : Held) (c : Option ℤ) (n : Option ℕ) (now : ℤ) → Reads schema q event → IsReady stamp low bits key number staged old new → Grows schema q event (part_of old c n) (part_of (put_in number staged new) (Some now) (Some number))
+keyed_grows schema q event stamp low bits key number staged old new c n now reads r =
     let table : r.mid.table ≡ old.table = mid_table old r.mid key r.takes in
     let nodes : r.mid.nodes ≡ old.nodes = mid_nodes old r.mid key r.takes in
     record {
@@ -193,10 +193,10 @@ keyed_grows schema q event stamp bits key number staged old new c n now reads r 
       unread = λ no. absurd (no reads);
     }
 
-pub keyed_step : (schema : Declared) (q : Query) (event : Event) (position : ℕ) (bits : List Bool) (key : List Value) (number : ℕ) (staged : Staged) (old new : Held) (c : Option ℤ) (n : Option ℕ) (now : ℤ) → Reads schema q event → HasClock schema q.window event position now → least ≤ℤ low_of q.window now → HasKey schema q event key → has bits ≡ leaves_reading schema q event → IsReady (record { pos = position; clock = now }) bits key number staged old new → IsStep schema q event position (part_of old c n) (part_of (put_in number staged new) (Some now) (Some number))
-keyed_step schema q event position bits key number staged old new c n now reads clock fits has_key bits_are r = record {
-  stands = λ events len time s. keyed_stands schema q events event (record { pos = position; clock = now }) bits key number staged old new c n now reads (subst (λ p. HasClock schema q.window event p now) (sym len) clock) fits has_key bits_are (ap (λ p. record { pos = p; clock = now }) (sym len)) r time s;
-  grows = keyed_grows schema q event (record { pos = position; clock = now }) bits key number staged old new c n now reads r;
+pub keyed_step : (schema : Declared) (q : Query) (event : Event) (position : ℕ) (low : ℤ) (bits : List Bool) (key : List Value) (number : ℕ) (staged : Staged) (old new : Held) (c : Option ℤ) (n : Option ℕ) (now : ℤ) → Reads schema q event → HasClock schema q.window event position now → least ≤ℤ low_of q.window now → HasKey schema q event key → has bits ≡ leaves_reading schema q event → low ≤ℤ low_of q.window now → IsReady (record { pos = position; clock = now }) low bits key number staged old new → IsStep schema q event position (part_of old c n) (part_of (put_in number staged new) (Some now) (Some number))
+keyed_step schema q event position low bits key number staged old new c n now reads clock fits has_key bits_are recent r = record {
+  stands = λ events len time s. keyed_stands schema q events event (record { pos = position; clock = now }) low bits key number staged old new c n now reads (subst (λ p. HasClock schema q.window event p now) (sym len) clock) fits has_key bits_are (ap (λ p. record { pos = p; clock = now }) (sym len)) recent r time s;
+  grows = keyed_grows schema q event (record { pos = position; clock = now }) low bits key number staged old new c n now reads r;
 }
 
 -- the automaton is patient, or the lists of the event's key rest

@@ -98,9 +98,9 @@ passed_now schema q event position step r h m c n upto floats p view idle same p
     (subst (λ (x : Phase). HasPassed event position (seen position x) (seen (position + 1) x)) (idle_fields schema q step r h c n upto floats p view idle ∙ sym view) passed)
 
 -- Where its lists are worked out, they are those of its key.
-pub ready_step : (schema : Declared) (q : Query) (table : List (Option (List ℕ))) (bits : List Bool) (event : Event) (position : ℕ) (number : ℕ) (staged : Staged) (old new : Held) (c : Option ℤ) (n : Option ℕ) (now : ℤ) → AreKeyPlaces schema q table → IsOfSchema schema event → Reads schema q event → HasClock schema q.window event position now → least ≤ℤ low_of q.window now → has bits ≡ leaves_reading schema q event → IsOwnReady (record { pos = position; clock = now }) bits (key_there table event) number staged old new → IsStep schema q event position (part_of old c n) (part_of (put_in number staged new) (Some now) (Some number))
-ready_step schema q table bits event position number staged old new c n now are of reads clock fits bits_are r =
-    keyed_step schema q event position bits r.0 number staged old new c n now reads clock fits (reads, sym (key_through schema q table event are of) ∙ r.1) bits_are r.2
+pub ready_step : (schema : Declared) (q : Query) (table : List (Option (List ℕ))) (low : ℤ) (bits : List Bool) (event : Event) (position : ℕ) (number : ℕ) (staged : Staged) (old new : Held) (c : Option ℤ) (n : Option ℕ) (now : ℤ) → AreKeyPlaces schema q table → IsOfSchema schema event → Reads schema q event → HasClock schema q.window event position now → least ≤ℤ low_of q.window now → has bits ≡ leaves_reading schema q event → low ≤ℤ low_of q.window now → IsOwnReady (record { pos = position; clock = now }) low bits (key_there table event) number staged old new → IsStep schema q event position (part_of old c n) (part_of (put_in number staged new) (Some now) (Some number))
+ready_step schema q table low bits event position number staged old new c n now are of reads clock fits bits_are recent r =
+    keyed_step schema q event position low bits r.0 number staged old new c n now reads clock fits (reads, sym (key_through schema q table event are of) ∙ r.1) bits_are recent r.2
 
 -- and the steps are within the bound
 pub own_within : (schema : Declared) (q : Query) (table : List (Option (List ℕ))) (bits : List Bool) (event : Event) (position : ℕ) (h : Held) (c : Option ℤ) (n : Option ℕ) (p : Phase) (now : ℤ) (before after : ℕ) → Idle schema q h c n p → AreKeyPlaces schema q table → IsOfSchema schema event → Reads schema q event → HasClock schema q.window event position now → has bits ≡ leaves_reading schema q event → (after ≡ before) ⊎ HasOwnWorked bits (key_there table event) h before after → IsWithin event position p before after

@@ -1,5 +1,5 @@
 -- A key's event that passes its lists.
-use Rattle.std.proofs.Common.{◌≡◌, ℕ, ◌<◌, inl, Bool, true, false, List, length, refl, sym, subst, Some, slice_get, slice_set, slice_index_or, arith}
+use Rattle.std.proofs.Common.{ℤ, ◌≡◌, ℕ, ◌<◌, inl, Bool, true, false, List, length, refl, sym, subst, Some, slice_get, slice_set, slice_index_or, arith}
 use Rattle.std.specs.List.{IsDistinct}
 use Rattle.stream_schema.specs.declared.Value.{Value}
 use Rattle.cer_base.specs.declared.node.Stamp.{Stamp}
@@ -21,8 +21,8 @@ pub one_row : (rows others : Rows) → Some rows ≡ Some others → rows ≡ ot
 one_row rows others e = cc
 
 -- what is ready then is what there was
-pub ready_passed : (h : Held) (stamp : Stamp) (bits : List Bool) (key : List Value) (number : ℕ) (rows : Rows) → slice_get h.keys number ≡ Some key → slice_get h.rows number ≡ Some rows → IsSound h.table → IsDistinct are_same_sets h.table.states → WellFormed h.nodes → ArePassed h.table bits rows → IsReady stamp bits key number Unchanged h h
-ready_passed h stamp bits key number rows numbered at sound once formed passed = record {
+pub ready_passed : (h : Held) (stamp : Stamp) (low : ℤ) (bits : List Bool) (key : List Value) (number : ℕ) (rows : Rows) → slice_get h.keys number ≡ Some key → slice_get h.rows number ≡ Some rows → IsSound h.table → IsDistinct are_same_sets h.table.states → WellFormed h.nodes → ArePassed h.table bits rows → IsReady stamp low bits key number Unchanged h h
+ready_passed h stamp low bits key number rows numbered at sound once formed passed = record {
   mid = h;
   takes = inl (got h.keys number key numbered, refl);
   keys = refl;
@@ -36,7 +36,7 @@ ready_passed h stamp bits key number rows numbered at sound once formed passed =
   sets = sound.states;
   distinct = once;
   nodes = grows_by_none stamp h.nodes formed;
-  stands = λ low xs later st. passed_stand h.table low xs stamp bits h.nodes rows passed later st;
+  stands = λ from xs le later st. passed_stand h.table from xs stamp bits h.nodes rows passed later st;
   growth = omega arith;
 }
 

@@ -130,8 +130,8 @@ pub fits : (schema : Declared) (w : Window) (source : Source) (r z : ℤ) → Is
 fits schema w source r z of le e = subst (λ x. least ≤ℤ low_of w x) (sym e) (subst (λ x. least ≤ℤ x) (of.low r) le)
 
 -- the tables stay those of the query
-pub made_after : (schema : Declared) (q : Query) (types : List Bool) (places : List (Option (List ℕ))) (listed : List Leaf) (source : Source) (bits more : List Bool) (stamp : Stamp) (key : List Value) (number : ℕ) (staged : Staged) (old new : Held) → IsMade schema q types places listed source bits old → length more ≡ length bits → IsReady stamp more key number staged old new → IsMade schema q types places listed source more new
-made_after schema q types places listed source bits more stamp key number staged old new m same r =
+pub made_after : (schema : Declared) (q : Query) (types : List Bool) (places : List (Option (List ℕ))) (listed : List Leaf) (source : Source) (bits more : List Bool) (stamp : Stamp) (low : ℤ) (key : List Value) (number : ℕ) (staged : Staged) (old new : Held) → IsMade schema q types places listed source bits old → length more ≡ length bits → IsReady stamp low more key number staged old new → IsMade schema q types places listed source more new
+made_after schema q types places listed source bits more stamp low key number staged old new m same r =
     let size = ap (λ (t : Table). t.cea.size) (mid_table old r.mid key r.takes) in
     let cea : new.table.cea.size ≡ r.mid.table.cea.size = ap (λ (c : Cea). c.size) r.table.cea in
     record {
@@ -148,8 +148,8 @@ made_after schema q types places listed source bits more stamp key number staged
 pub made_filled : (schema : Declared) (q : Query) (types : List Bool) (places : List (Option (List ℕ))) (listed : List Leaf) (source : Source) (bits more : List Bool) (h : Held) → IsMade schema q types places listed source bits h → length more ≡ length bits → IsMade schema q types places listed source more h
 made_filled schema q types places listed source bits more h m same = record { types = m.types; keys = m.keys; clock = m.clock; clocks = m.clocks; leaves = m.leaves; size = m.size; room = same ∙ m.room }
 
-pub number_inside : (stamp : Stamp) (bits : List Bool) (key : List Value) (number : ℕ) (staged : Staged) (old new : Held) → IsReady stamp bits key number staged old new → number < length new.rows
-number_inside stamp bits key number staged old new r =
+pub number_inside : (stamp : Stamp) (low : ℤ) (bits : List Bool) (key : List Value) (number : ℕ) (staged : Staged) (old new : Held) → IsReady stamp low bits key number staged old new → number < length new.rows
+number_inside stamp low bits key number staged old new r =
     let inside = slice_get_within r.mid.rows number r.before r.before_is in
     let e = ap length r.rows in
     omega arith

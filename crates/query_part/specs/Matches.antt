@@ -1,5 +1,5 @@
 -- The open matches of a query, key by key, and what a key's event makes of them.
-use Rattle.std.specs.Prelude.{◌≡◌, ℕ, suc, ◌+◌, ℤ, ◌<◌, ◌≤◌, ◌⊎◌, Bool, true, false, if◌then◌else◌, List, [], ◌∷◌, ◌++◌, length, map, take, All, Contains, Option, Some, None, IfSome, slice_get, slice_index_or}
+use Rattle.std.specs.Prelude.{◌≡◌, ℕ, suc, ◌+◌, ℤ, ◌≤ℤ◌, ◌<◌, ◌≤◌, ◌⊎◌, Bool, true, false, if◌then◌else◌, List, [], ◌∷◌, ◌++◌, length, map, take, All, Contains, Option, Some, None, IfSome, slice_get, slice_index_or}
 use Rattle.std.specs.List.{IsDistinct}
 use Rattle.stream_schema.specs.declared.Value.{Value}
 use Rattle.cer_base.specs.declared.node.Stamp.{Stamp}
@@ -108,8 +108,8 @@ pub record HasBegun (m : Sizes) (number : ℕ) (mid : Held) : Type 0 where
 abbrev pub CanTake : Stamp → Held → Type 0
 CanTake stamp h = (n : ℕ) (rows : Rows) → slice_get h.rows n ≡ Some rows → CanAdvance h.table stamp h.nodes rows
 
--- The lists of a key after an event are worked out, and not yet in place: the key is there, states and nodes are added.
-pub record IsReady (stamp : Stamp) (bits : List Bool) (key : List Value) (number : ℕ) (staged : Staged) (old new : Held) : Type 0 where
+-- The lists of a key after an event are worked out, and not yet in place: the key is there, states and nodes are added. What stands from the low clock on still stands.
+pub record IsReady (stamp : Stamp) (low : ℤ) (bits : List Bool) (key : List Value) (number : ℕ) (staged : Staged) (old new : Held) : Type 0 where
   pub mid : Held
   pub takes : TakesKey old key mid
   pub keys : new.keys ≡ mid.keys
@@ -123,7 +123,7 @@ pub record IsReady (stamp : Stamp) (bits : List Bool) (key : List Value) (number
   pub sets : All (HasLeavesBelow new.table.cea.size) new.table.states
   pub distinct : IsDistinct are_same_sets new.table.states
   pub nodes : GrowsBy stamp mid.nodes new.nodes
-  pub stands : (low : ℤ) (xs : List Seen) → IsLater stamp xs → Stands mid.table low xs mid.nodes before → Stands new.table low (xs ++ seen stamp bits ∷ []) new.nodes (rows_after before staged)
+  pub stands : (from : ℤ) (xs : List Seen) → low ≤ℤ from → IsLater stamp xs → Stands mid.table from xs mid.nodes before → Stands new.table from (xs ++ seen stamp bits ∷ []) new.nodes (rows_after before staged)
   pub growth : length new.nodes ≤ length old.nodes + work_bound (length new.table.states)
 
 -- However far the work got, a table to which the states of the key's lists lead bounds its steps; where the key could not be put in there was no step.
@@ -139,8 +139,8 @@ pub record HasWorked (bits : List Bool) (key : List Value) (old : Held) (before 
   pub work : IsWithinWork mid.table states bits before after
 
 -- the same for the event's own key
-abbrev pub IsOwnReady : Stamp → List Bool → Option (List Value) → ℕ → Staged → Held → Held → Type 0
-IsOwnReady stamp bits own number staged old new = (key : List Value) × (own ≡ Some key) × IsReady stamp bits key number staged old new
+abbrev pub IsOwnReady : Stamp → ℤ → List Bool → Option (List Value) → ℕ → Staged → Held → Held → Type 0
+IsOwnReady stamp low bits own number staged old new = (key : List Value) × (own ≡ Some key) × IsReady stamp low bits key number staged old new
 
 abbrev pub HasOwnWorked : List Bool → Option (List Value) → Held → ℕ → ℕ → Type 0
 HasOwnWorked bits own old before after = (key : List Value) × (own ≡ Some key) × HasWorked bits key old before after

@@ -103,6 +103,10 @@ pub record Floats (schema : Declared) (q : Query) (source : Source) (types : Lis
 abbrev pub MayFloat : Declared → Query → Source → List Bool → Bool → Type 0
 MayFloat schema q source types floats = floats ≡ true → Floats schema q source types
 
+-- where the query is told to be whole, which has no partition, the key of each event has no values
+abbrev pub MayBeWhole : Declared → List (Option (List ℕ)) → Bool → Type 0
+MayBeWhole schema places whole = whole ≡ true → (ty : ℕ) → ty < length schema.types → slice_index_or places ty None ≡ Some []
+
 -- where the query's automaton is told to be patient, it is
 abbrev pub MayBePatient : Query → Bool → Type 0
 MayBePatient q patient = patient ≡ true → IsPatient (automaton_of (tree_of q)) q.strict

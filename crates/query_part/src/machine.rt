@@ -10,10 +10,10 @@ ghost use Rattle.query_leaves.specs.Lawful.{AreNumbered};
 ghost use Rattle.window_clock.specs.Places.{IsOf, HasWidth};
 ghost use Rattle.query_part.specs.Matches.{none_open};
 ghost use Rattle.query_part.specs.KeyPlaces.{AreKeyPlaces};
-ghost use Rattle.query_part.specs.Parts.{AreTypesRead, IsMachineOf, HasAutomaton, MayBePatient, MayFloat};
+ghost use Rattle.query_part.specs.Parts.{AreTypesRead, IsMachineOf, HasAutomaton, MayBePatient, MayBeWhole, MayFloat};
 
 use crate::matches::Matches;
-use crate::reading::{Places, floats, key_places};
+use crate::reading::{Places, floats, is_whole, key_places};
 use crate::types::types_read;
 use cea_compile::compile;
 use cel_terms::Query;
@@ -34,6 +34,8 @@ pub struct Reading {
     pub keys: Vec<Option<Places>>,
     /// Whether the clock is the position, and each type is read.
     pub floats: bool,
+    /// Whether the query has no partition.
+    pub whole: bool,
 }
 
 impl Reading {
@@ -46,6 +48,7 @@ impl Reading {
         ensures blank { IfOk result (λ r. r.clock.last ≡ None) }
         ensures floats { IfOk result (λ r. MayFloat schema.now query.now r.clock.source
             r.types.items r.floats) }
+        ensures whole { IfOk result (λ r. MayBeWhole schema.now r.keys.items r.whole) }
     {
         let clock = Clock::of(alloc, schema, query)?;
         let types = types_read(alloc, schema, query)?;
@@ -56,6 +59,7 @@ impl Reading {
             types,
             keys,
             floats,
+            whole: is_whole(query),
         })
     }
 }

@@ -29,6 +29,7 @@ use cer_base::bits::Bits;
 use cer_base::node::{Root, Stamp};
 use cer_base::steps::Steps;
 use cer_base::store::NodeStore;
+use cer_base::time::Time;
 use event_update::still::some_accepts;
 use event_update::{Stage, Staged, prepare, roots};
 use partition_table::{Key, Keys};
@@ -163,6 +164,13 @@ impl Matches {
         self.keys.find(places, values)
     }
 
+    /// Whether the key of no values is known to be the first one.
+    pub fn has_whole(&self) -> bool
+        ensures { result ≡ true → (values : List Datum) → HasKeyThere self.now [] values 0 }
+    {
+        self.keys.is_whole()
+    }
+
     /// Whether the lists of each key are known to rest.
     fn all_rest(&self) -> bool
         ensures { result ≡ true → All (Rest self.now.table) self.now.rows }
@@ -196,6 +204,7 @@ impl Matches {
         number: u64,
         bits: &Bits,
         stamp: Stamp,
+        low: Time,
         steps: &mut Steps<L>,
     ) -> Result<Ready, Memory>
         requires begun { HasBegun sizes number self.old }
@@ -203,7 +212,7 @@ impl Matches {
         requires in_step { AreInStep (self.old.nodes ++ Bottom stamp ∷ []) }
         requires bits { length bits.now ≡ room_for self.old.table.cea.size }
         requires can { CanTake stamp self.old }
-        ensures ready { IfOk result (λ r. (b : HasBegun sizes number self.old) → IsReady stamp
+        ensures ready { IfOk result (λ r. (b : HasBegun sizes number self.old) → IsReady stamp low
             bits.now b.key r.number r.staged b.before self.new) }
         ensures sizes { IfOk result (λ r. ((b : HasBegun sizes number self.old)
             → cut r.sizes self.new ≡ b.before) × CanCut r.sizes self.new) }
@@ -225,6 +234,7 @@ impl Matches {
             &mut self.det,
             bits,
             stamp,
+            low,
             steps,
         ) {
             Ok(staged) => {
@@ -264,13 +274,14 @@ impl Matches {
         key: &Key,
         bits: &Bits,
         stamp: Stamp,
+        low: Time,
         steps: &mut Steps<L>,
     ) -> Result<Ready, Memory>
         requires well_formed { WellFormed self.old.nodes }
         requires in_step { AreInStep (self.old.nodes ++ Bottom stamp ∷ []) }
         requires bits { length bits.now ≡ room_for self.old.table.cea.size }
         requires can { CanTake stamp self.old }
-        ensures ready { IfOk result (λ r. IsReady stamp bits.now key.now r.number r.staged self.old
+        ensures ready { IfOk result (λ r. IsReady stamp low bits.now key.now r.number r.staged self.old
             self.new) }
         ensures sizes { IfOk result (λ r. (cut r.sizes self.new ≡ self.old)
             × CanCut r.sizes self.new) }
@@ -282,7 +293,7 @@ impl Matches {
     {
         let sizes = self.sizes();
         let number = self.number(key)?;
-        self.work(sizes, number, bits, stamp, steps)
+        self.work(sizes, number, bits, stamp, low, steps)
     }
 
     /// The same for the key of this number, which is there. Where events of the same leaves are known to
@@ -292,6 +303,7 @@ impl Matches {
         number: u64,
         bits: &Bits,
         stamp: Stamp,
+        low: Time,
         steps: &mut Steps<L>,
     ) -> Result<Ready, Memory>
         requires there { (key : List Datum) × (slice_get self.old.keys number ≡ Some key) }
@@ -300,7 +312,7 @@ impl Matches {
         requires bits { length bits.now ≡ room_for self.old.table.cea.size }
         requires can { CanTake stamp self.old }
         ensures ready { IfOk result (λ r. (key : List Datum) → slice_get self.old.keys number
-            ≡ Some key → IsReady stamp bits.now key r.number r.staged self.old self.new) }
+            ≡ Some key → IsReady stamp low bits.now key r.number r.staged self.old self.new) }
         ensures sizes { IfOk result (λ r. (cut r.sizes self.new ≡ self.old)
             × CanCut r.sizes self.new) }
         ensures refused { OnErr result (self.new ≡ self.old) }
@@ -318,7 +330,7 @@ impl Matches {
                 staged: Staged::Unchanged,
             });
         }
-        match self.work(sizes, number, bits, stamp, steps) {
+        match self.work(sizes, number, bits, stamp, low, steps) {
             Ok(ready) => {
                 self.learn(ready.number, bits, &ready.staged);
                 Ok(ready)

@@ -1,6 +1,6 @@
 //! The lists of the key that an event has.
 
-ghost use Rattle.std.specs.Prelude.{◌≡◌, ◌+◌, ◌≤◌, ◌⊎◌, List, [], ◌∷◌, ◌++◌, length, Some, None, slice_index_or, IfOk, IfSome, IfNone, OnOk, OnErr, ℕ};
+ghost use Rattle.std.specs.Prelude.{◌≡◌, ◌+◌, ◌≤◌, ◌⊎◌, true, List, [], ◌∷◌, ◌++◌, length, Some, None, slice_index_or, IfOk, IfSome, IfNone, OnOk, OnErr, ℕ};
 ghost use Rattle.cer_base.specs.Bits.{room_for};
 ghost use Rattle.cer_base.specs.Nodes.{AreInStep, WellFormed};
 ghost use Rattle.cer_base.specs.declared.node.Node.TheVariants.{Bottom};
@@ -14,16 +14,23 @@ use cer_base::Memory;
 use cer_base::bits::Bits;
 use cer_base::node::Stamp;
 use cer_base::steps::Steps;
+use cer_base::time::Time;
 use std::alloc::Global;
 use std::sync::ledger::Ledger;
 use stream_schema::Event;
 
-/// The number of the event's key, where it is found without a search.
-fn known(matches: &Matches, table: &[Option<Places>], event: &Event) -> Option<u64>
+/// The number of the event's key, where it is found without a search. Where the query is told to be
+/// whole, it is that of the key of no values.
+#[inline(always)]
+fn known(matches: &Matches, table: &[Option<Places>], whole: bool, event: &Event) -> Option<u64>
+    requires { whole ≡ true → slice_index_or table.now event.now.ty None ≡ Some [] }
     ensures { IfSome result (λ n. (places : List ℕ)
         × (slice_index_or table.now event.now.ty None ≡ Some places)
         × HasKeyThere matches.now places event.now.values n) }
 {
+    if whole && matches.has_whole() {
+        return Some(0);
+    }
     match places_of(table, event.ty) {
         Some(places) => matches.find(places, event.values.as_slice()),
         None => None,
@@ -32,18 +39,21 @@ fn known(matches: &Matches, table: &[Option<Places>], event: &Event) -> Option<u
 
 /// Works out the lists of the event's key, by the set of the leaves that can read the event. `None`
 /// where no list changes: where it has no key, and where no leaf can read it and its key's lists are
-/// known to rest, or the automaton is told to be patient. After `Memory` nothing has changed.
+/// known to rest, or the automaton is told to be patient. It is told whether the query has no partition. After `Memory` nothing has changed.
 #[inline(always)]
 pub fn advance_own<L: Ledger>(
     matches: &mut Matches,
     alloc: Global,
     table: &[Option<Places>],
+    whole: bool,
     event: &Event,
     bits: &Bits,
     patient: bool,
     stamp: Stamp,
+    low: Time,
     steps: &mut Steps<L>,
 ) -> Result<Option<Ready>, Memory>
+    requires whole { whole ≡ true → slice_index_or table.now event.now.ty None ≡ Some [] }
     requires well_formed { WellFormed matches.old.nodes }
     requires in_step { AreInStep (matches.old.nodes ++ Bottom stamp ∷ []) }
     requires bits { length bits.now ≡ room_for matches.old.table.cea.size }
@@ -51,7 +61,7 @@ pub fn advance_own<L: Ledger>(
     ensures stays { IfOk result (λ o. IfNone o ((matches.new ≡ matches.old)
         × (steps.new ≡ steps.old)
         × Stays matches.old (key_there table.now event.now) bits.now patient)) }
-    ensures ready { IfOk result (λ o. IfSome o (λ r. IsOwnReady stamp bits.now
+    ensures ready { IfOk result (λ o. IfSome o (λ r. IsOwnReady stamp low bits.now
         (key_there table.now event.now) r.number r.staged matches.old matches.new)) }
     ensures sizes { IfOk result (λ o. IfSome o (λ r. (cut r.sizes matches.new ≡ matches.old)
         × CanCut r.sizes matches.new)) }
@@ -64,17 +74,17 @@ pub fn advance_own<L: Ledger>(
     if bits.is_empty() && matches.lets_pass(patient) {
         return Ok(None);
     }
-    if let Some(number) = known(matches, table, event) {
+    if let Some(number) = known(matches, table, whole, event) {
         if matches.resting(number, bits) {
             return Ok(None);
         }
-        let ready = matches.advance_at(number, bits, stamp, steps)?;
+        let ready = matches.advance_at(number, bits, stamp, low, steps)?;
         return Ok(Some(ready));
     }
     match key_of(alloc, table, event)? {
         None => Ok(None),
         Some(key) => {
-            let ready = matches.advance(&key, bits, stamp, steps)?;
+            let ready = matches.advance(&key, bits, stamp, low, steps)?;
             Ok(Some(ready))
         }
     }

@@ -13,7 +13,7 @@ ghost use Rattle.query_standing.specs.Kept.{PartStands, low_at, roots_at};
 ghost use Rattle.all_or_none.specs.Phases.{IsPrepared, IsIdle, IsQuiet, back, IsCommitted, CanPrepare, StandsAt, InTime, part_bound};
 ghost use Rattle.window_clock.specs.Places.{IsNear, IsOf, HasWidth, clock_in};
 ghost use Rattle.query_part.specs.KeyPlaces.{AreKeyPlaces};
-ghost use Rattle.query_part.specs.Parts.{AreTypesRead, IsMachineOf, HaveClocks, MayBePatient, MayFloat, HasEvents, seen, woken, skipped};
+ghost use Rattle.query_part.specs.Parts.{AreTypesRead, IsMachineOf, HaveClocks, MayBePatient, MayBeWhole, MayFloat, HasEvents, seen, woken, skipped};
 ghost use Rattle.query_part.specs.Compacting.{HasStatesOnce, PartCompacted};
 ghost use Rattle.arena_compact.specs.Roots.{places};
 
@@ -61,6 +61,8 @@ pub struct Part {
     floats: bool,
     /// Whether its automaton is known to be patient: an event that no leaf can read changes no list.
     patient: bool,
+    /// Whether it is known to have no partition: each of its events has the key of no values.
+    whole: bool,
     /// For each type whether the query reads it.
     types: Vec<bool>,
     step: Option<Step>,
@@ -85,7 +87,7 @@ impl Model for Part {
     ghost use Rattle.std.specs.Coded.{codes};
     ghost use Rattle.cel_terms.specs.contracts.Formula as formula;
     ghost use Rattle.all_or_none.specs.Phases.{Phase};
-    ghost use Rattle.query_part.specs.Parts.{kept_of, ready_of, CanEnd, IsMade, MayBePatient, MayFloat};
+    ghost use Rattle.query_part.specs.Parts.{kept_of, ready_of, CanEnd, IsMade, MayBePatient, MayBeWhole, MayFloat};
 
     ghost Value = { Phase };
 
@@ -103,7 +105,8 @@ impl Model for Part {
     ghost invariant = { λ p. IsMade p.schema.value p.query p.types.items p.keys.items p.conditions
         p.clock.source p.bits p.matches × CanEnd p.step p.ready p.matches
         × MayFloat p.schema.value p.query p.clock.source p.types.items p.floats
-        × MayBePatient p.query p.patient };
+        × MayBePatient p.query p.patient
+        × MayBeWhole p.schema.value p.keys.items p.whole };
 }
 
 /// The part with these tables, before any event.
@@ -124,6 +127,7 @@ fn joined(
     requires machine { IsMachineOf schema.value query machine.conditions machine.bits
         machine.matches }
     requires patient { MayBePatient query machine.patient }
+    requires whole { MayBeWhole schema.value reading.keys.items reading.whole }
     ensures given { (result.schema ≡ schema.value) × (result.query ≡ query) }
     ensures idle { IsIdle result }
     ensures upto { result.upto ≡ 0 }
@@ -134,6 +138,7 @@ fn joined(
         alloc,
         floats: reading.floats,
         patient: machine.patient,
+        whole: reading.whole,
         types: reading.types,
         step: None,
         upto: 0,
@@ -385,12 +390,13 @@ impl Keeps for Part {
             pos: position,
             clock: Time::of(clock),
         };
+        let low = Time::of(self.clock.low_of(clock));
         fill(&self.conditions, reads, event, &mut self.bits);
         let table = self.keys.as_slice();
         let matches = &mut self.matches;
-        let (alloc, patient) = (self.alloc, self.patient);
+        let (alloc, whole, patient) = (self.alloc, self.whole, self.patient);
         match advance_own(
-            matches, alloc, table, event, &self.bits, patient, stamp, steps,
+            matches, alloc, table, whole, event, &self.bits, patient, stamp, low, steps,
         ) {
             Err(refused) => Err(refused),
             Ok(None) => {

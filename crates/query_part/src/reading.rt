@@ -1,6 +1,6 @@
 //! Which events a query reads, and their keys.
 
-ghost use Rattle.std.specs.Prelude.{◌≡◌, ℕ, ℤ, pos, ◌-ℤ◌, ◌≤ℤ◌, ◌<◌, ◌++◌, ◌||◌, false, true, Some, None, option_map, option_and_then, take, drop, slice_get, slice_index_or, IfOk, length};
+ghost use Rattle.std.specs.Prelude.{◌≡◌, ℕ, ℤ, pos, ◌-ℤ◌, ◌≤ℤ◌, ◌<◌, [], ◌++◌, ◌||◌, false, true, Some, None, option_map, option_and_then, take, drop, slice_get, slice_index_or, IfOk, length};
 ghost use Rattle.std.specs.Option.{option_copied};
 ghost use Rattle.window_clock.specs.Clocks.{least};
 ghost use Rattle.query_part.specs.KeyPlaces.{places_in, values_there, key_there, AreKeyPlaces};
@@ -125,6 +125,13 @@ pub fn key_places(
         table.push(key_places_in(alloc, schema, query.partition.as_slice(), ty)?)?;
     }
     Ok(table)
+}
+
+/// Whether the query has no partition.
+pub fn is_whole(query: &Query) -> bool
+    ensures { result ≡ true → query.now.partition ≡ [] }
+{
+    query.partition.as_slice().is_empty()
 }
 
 /// The event's value at the place.

@@ -278,11 +278,11 @@ module _ (schema : Declared) (q : Query) (events : List Event) (event : Event) (
         let xs = k.taken ++ k.passed in
         let before = all_below (length events) xs (all_earlier schema q events h.key xs k.are_seen) in
         let at = ap (λ (x : Stamp). x.pos) h.stamp in
-        let stand = with_passed new.table (automaton_of (tree_of q)) q.strict (low_at q old.clock) k.taken k.passed h.seen new.nodes h.after states.automaton states.strict k.patient k.silent (rises (positions xs) k.are_seen.ascending) (subst (λ n. All (λ (x : Seen). x.stamp.pos < n) xs) (sym at) before) (h.stands k.taken (all_front (λ (x : Seen). x.stamp.pos < length events) k.taken k.passed before) k.stands) in
+        let stand = with_passed new.table (automaton_of (tree_of q)) q.strict (low_at q new.clock) k.taken k.passed h.seen new.nodes h.after states.automaton states.strict k.patient k.silent (rises (positions xs) k.are_seen.ascending) (subst (λ n. All (λ (x : Seen). x.stamp.pos < n) xs) (sym at) before) (h.stands k.taken (all_front (λ (x : Seen). x.stamp.pos < length events) k.taken k.passed before) (stand_later old.table (low_at q old.clock) (low_at q new.clock) k.taken old.nodes h.before low_le k.stands)) in
         record {
           seen = xs ++ h.seen ∷ [];
           are_seen = seen_more schema q events event h.key xs h.seen k.are_seen h.has at h.tells;
-          stands = stand_later new.table (low_at q old.clock) (low_at q new.clock) (xs ++ h.seen ∷ []) new.nodes rows low_le (subst (λ rs. Stands new.table (low_at q old.clock) (xs ++ h.seen ∷ []) new.nodes rs) is stand);
+          stands = subst (λ rs. Stands new.table (low_at q new.clock) (xs ++ h.seen ∷ []) new.nodes rs) is stand;
         }
 
     own : (n : ℕ) (key : List Value) (rows : Rows) → n ≡ h.number → slice_get old.keys n ≡ Some key → slice_get new.rows n ≡ Some rows → KeyStands schema q more new key rows

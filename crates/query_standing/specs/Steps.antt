@@ -72,5 +72,5 @@ pub record HasKeyOf (schema : Declared) (q : Query) (events : List Event) (event
   pub seen : Seen
   pub stamp : seen.stamp ≡ record { pos = length events; clock = now }
   pub tells : IsSeenAs schema q event seen
-  pub stands : (xs : List Seen) → All (λ (x : Seen). x.stamp.pos < length events) xs → Stands old.table (low_at q old.clock) xs old.nodes before
-      → Stands new.table (low_at q old.clock) (xs ++ seen ∷ []) new.nodes after
+  pub stands : (xs : List Seen) → All (λ (x : Seen). x.stamp.pos < length events) xs → Stands old.table (low_at q new.clock) xs old.nodes before
+      → Stands new.table (low_at q new.clock) (xs ++ seen ∷ []) new.nodes after

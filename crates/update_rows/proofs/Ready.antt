@@ -1,7 +1,7 @@
 -- Lists that are ready for an event are ready for the next one after it.
 use Rattle.std.proofs.Common.{◌≡◌, ℕ, zero, suc, ◌+◌, ◌<◌, List, [], ◌∷◌, ◌++◌, map, length, refl, sym, ap, subst, ◌∙◌, inl, inr, All, Some, slice_get, arith}
 use Rattle.std.proofs.lemmas.Int.{ints}
-use Rattle.std.specs.Prelude.{pos, Bool}
+use Rattle.std.specs.Prelude.{ℤ, pos, Bool}
 use Rattle.std.proofs.lemmas.List.Elements.{All-nil, All-cons, All-head, All-tail, All-weaker, All-append}
 use Rattle.cer_base.specs.declared.node.Stamp.{Stamp}
 use Rattle.cer_base.specs.declared.node.Root.{Root}
@@ -20,17 +20,17 @@ use Rattle.update_rows.specs.Ready.{IsReady}
 no_nodes : WellFormed []
 no_nodes = record { true_fields = λ id n at. absurd cc; well_formed_tree = λ id h. absurd (omega arith); in_step = λ s t a b le. absurd (let k = a.1 in omega arith) }
 
-ready_none : (t : Table) → IsReady t [] [] 0
-ready_none t = record { well_formed = no_nodes; starts = λ s has. absurd (let k = has.1 in omega arith); events = []; earlier = All-nil (λ (x : Seen). x.stamp.pos < 0); stand = none_stand t (pos 0) [] }
+ready_none : (low : ℤ) (t : Table) → IsReady low t [] [] 0
+ready_none low t = record { well_formed = no_nodes; starts = λ s has. absurd (let k = has.1 in omega arith); events = []; earlier = All-nil (λ (x : Seen). x.stamp.pos < 0); stand = none_stand t low [] }
 
 none_there : {A : Type 0} (xs : List A) → length xs ≡ 0 → [] ≡ xs
 none_there [] e = refl
 none_there (x ∷ xs) e = absurd (omega arith)
 
-pub ready_first : (t : Table) (nodes : List Node) (rows : List (ℕ × List Root)) → nodes ≡ [] → length rows ≡ 0 → IsReady t nodes rows 0
-ready_first t nodes rows e f = subst (λ ns. IsReady t ns rows 0) (sym e) (subst (λ rs. IsReady t [] rs 0) (none_there rows f) (ready_none t))
+pub ready_first : (low : ℤ) (t : Table) (nodes : List Node) (rows : List (ℕ × List Root)) → nodes ≡ [] → length rows ≡ 0 → IsReady low t nodes rows 0
+ready_first low t nodes rows e f = subst (λ ns. IsReady low t ns rows 0) (sym e) (subst (λ rs. IsReady low t [] rs 0) (none_there rows f) (ready_none low t))
 
-module _ (t : Table) (nodes : List Node) (rows : List (ℕ × List Root)) (next : ℕ) (r : IsReady t nodes rows next) (stamp : Stamp) (is_pos : stamp.pos ≡ next) (is_clock : stamp.clock ≡ pos 0) where
+module _ (low : ℤ) (t : Table) (nodes : List Node) (rows : List (ℕ × List Root)) (next : ℕ) (r : IsReady low t nodes rows next) (stamp : Stamp) (is_pos : stamp.pos ≡ next) (is_clock : stamp.clock ≡ pos 0) where
   pub step_ready : AreInStep (nodes ++ Bottom stamp ∷ [])
   step_ready = in_step-bottom nodes stamp r.well_formed.in_step (λ s has. let b = r.starts s has in (omega (arith, b.0, is_pos), let c = b.1 in let lt = b.0 in omega (arith, ints)))
 
@@ -38,9 +38,9 @@ module _ (t : Table) (nodes : List Node) (rows : List (ℕ × List Root)) (next 
   later = All-weaker (λ (x : Seen). x.stamp.pos < next) (λ (x : Seen). x.stamp.pos < stamp.pos) (λ x lt. omega (arith, lt, is_pos)) r.events r.earlier
 
   pub can_ready : CanAdvance t stamp nodes rows
-  can_ready = can_advance t (pos 0) r.events stamp nodes rows r.stand later
+  can_ready = can_advance t low r.events stamp nodes rows r.stand later
 
-  pub ready_next : (bits : List Bool) (u : Table) (new : List Node) (rows_new : List (ℕ × List Root)) (after : ℕ) → after ≡ next + 1 → GrowsBy stamp nodes new → Stands u (pos 0) (r.events ++ seen stamp bits ∷ []) new rows_new → IsReady u new rows_new after
+  pub ready_next : (bits : List Bool) (u : Table) (new : List Node) (rows_new : List (ℕ × List Root)) (after : ℕ) → after ≡ next + 1 → GrowsBy stamp nodes new → Stands u low (r.events ++ seen stamp bits ∷ []) new rows_new → IsReady low u new rows_new after
   ready_next bits u new rows_new after e grows stand = record {
     well_formed = grows.well_formed;
     starts = λ s has. elim (grows.starts s has) [

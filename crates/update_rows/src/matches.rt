@@ -22,9 +22,11 @@ use tecs_enumerate::Cursor;
 use tecs_rows::rows::write_all;
 use union_lists::UList;
 
-/// The open matches after some events, whose clocks are all 0. Seen as the table of states.
+/// The open matches after some events, whose clocks are all 0, of those that start at a low clock or
+/// later. Seen as the table of states.
 #[derive(Drop)]
 pub struct OpenMatches {
+    low: Time,
     det: Det,
     store: Arena,
     active: Active,
@@ -40,7 +42,7 @@ impl Model for OpenMatches {
 
     ghost view = { λ m. m.det };
 
-    ghost invariant = { λ m. IsReady m.det m.store m.active.entries m.next };
+    ghost invariant = { λ m. IsReady m.low m.det m.store m.active.entries m.next };
 }
 
 /// Writes the state's number, where the entries of its list start, and its members.
@@ -67,11 +69,12 @@ fn write_list<L: Ledger>(
 
 impl OpenMatches {
     /// No match, before the first event.
-    pub fn new(alloc: Global, cea: Cea) -> OpenMatches
+    pub fn new(alloc: Global, cea: Cea, low: Time) -> OpenMatches
         requires { IsWellFormed cea }
         ensures { result.cea ≡ cea }
     {
         OpenMatches {
+            low,
             det: Det::new(alloc, cea),
             store: Arena::new(alloc),
             active: Active::new(alloc),
@@ -101,6 +104,7 @@ impl OpenMatches {
             &mut self.det,
             bits,
             stamp,
+            self.low,
             steps,
         )?;
         commit(&mut self.active, &mut self.stage, staged);

@@ -25,7 +25,7 @@ returns-clause-advanced g c =
 pub returns-clause-stands : goal.returns-clause-stands
 returns-clause-stands g c =
     let is = class_is c.class.new.self.classes c.in_ok-class.class c.args.bits.now c.in_ok-class.ensures.class in
-    if_ok c.prepare_at.result _ _ (λ s stands low xs later st. subst (λ (bs : List Bool). Stands c.prepare_at.new.det low (xs ++ seen c.args.stamp bs ∷ []) (g.S.NodeStore.nodes c.prepare_at.new.store) (rows_after c.args.active.now.entries s)) is (stands low xs later (stands_added _ _ _ c.class.ensures.added _ _ _ _ st))) c.prepare_at.ensures.stands
+    if_ok c.prepare_at.result _ _ (λ s stands from xs le later st. subst (λ (bs : List Bool). Stands c.prepare_at.new.det from (xs ++ seen c.args.stamp bs ∷ []) (g.S.NodeStore.nodes c.prepare_at.new.store) (rows_after c.args.active.now.entries s)) is (stands from xs le later (stands_added _ _ _ c.class.ensures.added _ _ _ _ st))) c.prepare_at.ensures.stands
 
 pub returns-clause-det : goal.returns-clause-det
 returns-clause-det g c =

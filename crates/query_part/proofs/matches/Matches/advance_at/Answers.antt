@@ -20,7 +20,7 @@ returns-then-let_pass-clause-ready g c = λ key numbered.
     let there = subst (λ (h : Held). slice_get h.rows c.args.number ≡ Some c.index.result.now.active.entries) c.self.view_is (row_at (λ (l : Lists). l.active.entries) c.self.inside.lists.items c.args.number c.index.result.now inside c.index.ensures) in
     let once = subst (λ (h : Held). IsDistinct are_same_sets h.table.states) c.self.view_is c.found-found.ensures.once in
     let passed = subst (λ (h : Held). ArePassed h.table c.args.bits.now c.index.result.now.active.entries) c.self.view_is (c.let_pass.ensures c.if-let_pass.true c.self.inside.det (all_there (MayRest c.self.inside.det) c.self.inside.lists.items c.args.number c.index.result.now inside c.index.ensures c.self.invariant.1)) in
-    ready_passed c.args.self.now c.args.stamp c.args.bits.now key c.args.number c.index.result.now.active.entries numbered there c.sizes-sizes.ensures.sound once c.requires.well_formed passed
+    ready_passed c.args.self.now c.args.stamp c.args.low c.args.bits.now key c.args.number c.index.result.now.active.entries numbered there c.sizes-sizes.ensures.sound once c.requires.well_formed passed
 
 pub returns-then-let_pass-clause-worked : goal.returns-then-let_pass-clause-worked
 returns-then-let_pass-clause-worked g c = λ key numbered.
@@ -47,7 +47,7 @@ learn-requires-clause-inside g c =
     omega arith
 
 pub returns-in-Ok-clause-ready : goal.returns-in-Ok-clause-ready
-returns-in-Ok-clause-ready g c = λ key at. subst (λ (h : Held). IsReady c.args.stamp c.args.bits.now key c.in-Ok.ready.number c.in-Ok.ready.staged c.args.self.now h) (sym c.learn.ensures) (c.in-Ok.ensures.ready (record { before = c.args.self.now; key = key; are = c.sizes-sizes.ensures.are; sound = c.sizes-sizes.ensures.sound; takes = inl (got c.args.self.now.keys c.args.number key at, refl); numbered = at }))
+returns-in-Ok-clause-ready g c = λ key at. subst (λ (h : Held). IsReady c.args.stamp c.args.low c.args.bits.now key c.in-Ok.ready.number c.in-Ok.ready.staged c.args.self.now h) (sym c.learn.ensures) (c.in-Ok.ensures.ready (record { before = c.args.self.now; key = key; are = c.sizes-sizes.ensures.are; sound = c.sizes-sizes.ensures.sound; takes = inl (got c.args.self.now.keys c.args.number key at, refl); numbered = at }))
 
 pub returns-in-Ok-clause-sizes : goal.returns-in-Ok-clause-sizes
 returns-in-Ok-clause-sizes g c =

@@ -1,5 +1,6 @@
 use Rattle.std.proofs.Common.{◌≡◌, ◌<◌, ◌∙◌, sym, subst, refl, length, Some, slice_get, arith}
 use Rattle.std.proofs.lemmas.Option.{slice_get_within}
+use Rattle.event_update.specs.Recent.{going_on}
 use Rattle.event_update.specs.Update.{IsAdvancedBy, rows_after}
 use Rattle.event_update.proofs.Resting.{unchanged_rest}
 use Rattle.query_part.specs.declared.lists.Lists.{Lists}
@@ -119,7 +120,7 @@ invariant_of-self g c =
       rest_later c.self.inside.det c.prepare.new.det _ c.args.bits.now c.self.inside.lists.items c.prepare.ensures.det c.self.invariant.1,
       c.self.invariant.2,
       c.note.ensures c.prepare.new.det still (λ quiet stays.
-          unchanged_rest c.self.inside.det c.prepare.new.det c.args.bits.now c.args.stamp c.self.inside.store c.prepare.new.store c.index.result.now.active.entries quiet c.sizes-sizes.ensures.sound can c.prepare.ensures.grows (subst (λ s. IsAdvancedBy c.prepare.new.det c.args.bits.now c.args.stamp c.self.inside.store c.index.result.now.active.entries c.prepare.new.store (rows_after c.index.result.now.active.entries s)) stays c.in-Ok.ensures.advanced)),
+          unchanged_rest c.self.inside.det c.prepare.new.det c.args.bits.now c.args.stamp c.self.inside.store c.prepare.new.store c.index.result.now.active.entries quiet c.sizes-sizes.ensures.sound can c.prepare.ensures.grows (subst (λ s. IsAdvancedBy c.prepare.new.det c.args.bits.now c.args.stamp c.self.inside.store (going_on c.args.low c.index.result.now.active.entries s) c.prepare.new.store (rows_after c.index.result.now.active.entries s)) stays c.in-Ok.ensures.advanced)),
     )
 
 pub returns-in-Ok-clause-passed : goal.returns-in-Ok-clause-passed

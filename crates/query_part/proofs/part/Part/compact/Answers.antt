@@ -52,6 +52,7 @@ invariant_of-self g c =
       tt,
       c.self.invariant.2,
       c.self.invariant.3,
+      c.self.invariant.4,
     )
 
 pub returns-clause-same : goal.returns-clause-same

@@ -1,17 +1,20 @@
-use Rattle.std.proofs.Common.{◌≡◌, ◌+◌, ◌≤◌, ◌⊎◌, ◌||◌, rules, ℕ, Bool, true, false, List, Option, Some, None, sym, ap, subst, ◌∙◌, slice_index_or}
+use Rattle.std.proofs.Common.{◌≡◌, ◌+◌, ◌≤◌, ◌⊎◌, ◌||◌, rules, ℕ, Bool, true, false, List, Option, Some, None, sym, ap, subst, ◌∙◌, slice_index_or, arith}
+use Rattle.std.specs.Prelude.{◌≤ℤ◌}
+use Rattle.std.proofs.lemmas.Int.{ints}
+use Rattle.query_standing.specs.Clocks.{low_of}
 use Rattle.std.specs.Int.{w128}
 use mir.Val.{SFits, to_z, of_z}
 use Rattle.std.proofs.lemmas.Int.{to_z-of_z}
 use Rattle.cel_terms.specs.Answers.{HasClock}
 use Rattle.window_clock.specs.Places.{IsNear}
-use Rattle.all_or_none.specs.Phases.{Phase, IsStep, HasPassed}
+use Rattle.all_or_none.specs.Phases.{Phase, IsStep, HasPassed, back}
 use Rattle.query_part.specs.KeyPlaces.{key_there}
 use Rattle.query_part.specs.declared.matches.Ready.{Ready}
-use Rattle.query_part.specs.Matches.{cut, CanCut, Stays, IsOwnReady, HasOwnWorked}
-use Rattle.query_part.specs.Parts.{part_of, put_in, clock_at, here_at, seen, IsMade, CanEnd, MayBePatient, MayFloat}
+use Rattle.query_part.specs.Matches.{Held, cut, CanCut, Stays, IsOwnReady, HasOwnWorked}
+use Rattle.query_part.specs.Parts.{part_of, put_in, clock_at, here_at, seen, IsMade, CanEnd, MayBePatient, MayBeWhole, MayFloat}
 use Rattle.query_part.proofs.Cases.{unread_step, can_take, starts_in_step}
 use Rattle.query_part.proofs.Prepare.{facts, idle_fields, now_is, fits, made_after, made_filled, number_inside, not_read, idle_part, read_inside, unread_inside}
-use Rattle.query_part.proofs.Sleeping.{may_reads, neither, passes_unread}
+use Rattle.query_part.proofs.Sleeping.{may_reads, neither, passes_unread, sleeper}
 use Rattle.query_part.proofs.OwnKey.{at_none, at_some, passed_now, stays_pass, stays_step, ready_step, own_within}
 use Rattle.query_part.proofs.part.PartKeeps.prepare.Goals as goal
 
@@ -64,8 +67,8 @@ advance_own-requires-clause-can g c =
 
 pub invariant_of-self-in-Err : goal.invariant_of-self-in-Err
 invariant_of-self-in-Err g c =
-    subst (λ h. IsMade c.self.inside.schema.value c.self.inside.query c.self.inside.types.items c.self.inside.keys.items c.self.inside.conditions c.self.inside.clock.source c.fill.new.into h × CanEnd c.self.inside.step c.self.inside.ready h × MayFloat c.self.inside.schema.value c.self.inside.query c.self.inside.clock.source c.self.inside.types.items c.self.inside.floats × MayBePatient c.self.inside.query c.self.inside.patient) (sym c.in-Err.ensures.refused)
-    (made_filled c.self.inside.schema.value c.self.inside.query c.self.inside.types.items c.self.inside.keys.items c.self.inside.conditions c.self.inside.clock.source c.self.inside.bits c.fill.new.into c.self.inside.matches c.self.invariant.0 c.fill.ensures.room, c.self.invariant.1, c.self.invariant.2, c.self.invariant.3)
+    subst (λ h. IsMade c.self.inside.schema.value c.self.inside.query c.self.inside.types.items c.self.inside.keys.items c.self.inside.conditions c.self.inside.clock.source c.fill.new.into h × CanEnd c.self.inside.step c.self.inside.ready h × MayFloat c.self.inside.schema.value c.self.inside.query c.self.inside.clock.source c.self.inside.types.items c.self.inside.floats × MayBePatient c.self.inside.query c.self.inside.patient × MayBeWhole c.self.inside.schema.value c.self.inside.keys.items c.self.inside.whole) (sym c.in-Err.ensures.refused)
+    (made_filled c.self.inside.schema.value c.self.inside.query c.self.inside.types.items c.self.inside.keys.items c.self.inside.conditions c.self.inside.clock.source c.self.inside.bits c.fill.new.into c.self.inside.matches c.self.invariant.0 c.fill.ensures.room, c.self.invariant.1, c.self.invariant.2, c.self.invariant.3, c.self.invariant.4)
 
 pub returns-then-self-position-2-clause-passed : goal.returns-then-self-position-2-clause-passed
 returns-then-self-position-2-clause-passed g c =
@@ -79,18 +82,19 @@ returns-then-self-position-2-clause-passed g c =
 
 pub invariant_of-self-in-Ok-Some : goal.invariant_of-self-in-Ok-Some
 invariant_of-self-in-Ok-Some g c =
-    let r = at_some (λ (r : Ready). IsOwnReady (record { pos = c.args.position; clock = to_z w128 (of_z w128 c.now-clock.result) }) c.fill.new.into (key_there c.as_slice-table.result.now c.args.event.now) r.number r.staged c.self.inside.matches c.advance_own.new.matches) c.in-Ok-Some.field-0 c.in-Ok-Some.ready c.in-Ok-Some.field-0-is (rw c.of.ensures at c.in-Ok-Some.ensures.ready) in
+    let r = at_some (λ (r : Ready). IsOwnReady (record { pos = c.args.position; clock = to_z w128 (of_z w128 c.now-clock.result) }) c.of-low.result c.fill.new.into (key_there c.as_slice-table.result.now c.args.event.now) r.number r.staged c.self.inside.matches c.advance_own.new.matches) c.in-Ok-Some.field-0 c.in-Ok-Some.ready c.in-Ok-Some.field-0-is (rw c.of.ensures at c.in-Ok-Some.ensures.ready) in
     let m = at_some (λ (r : Ready). (cut r.sizes c.advance_own.new.matches ≡ c.self.inside.matches) × CanCut r.sizes c.advance_own.new.matches) c.in-Ok-Some.field-0 c.in-Ok-Some.ready c.in-Ok-Some.field-0-is c.in-Ok-Some.ensures.sizes in
     let small : SFits w128 c.now-clock.result = search rules in
     let same : to_z w128 (of_z w128 c.now-clock.result) ≡ c.now-clock.result = to_z-of_z _ _ small in (
-      made_after c.self.inside.schema.value c.self.inside.query c.self.inside.types.items c.self.inside.keys.items c.self.inside.conditions c.self.inside.clock.source c.self.inside.bits c.fill.new.into _ r.0 c.in-Ok-Some.ready.number c.in-Ok-Some.ready.staged c.self.inside.matches c.advance_own.new.matches c.self.invariant.0 c.fill.ensures.room r.2,
+      made_after c.self.inside.schema.value c.self.inside.query c.self.inside.types.items c.self.inside.keys.items c.self.inside.conditions c.self.inside.clock.source c.self.inside.bits c.fill.new.into _ _ r.0 c.in-Ok-Some.ready.number c.in-Ok-Some.ready.staged c.self.inside.matches c.advance_own.new.matches c.self.invariant.0 c.fill.ensures.room r.2,
       (
         subst IsNear (sym same) c.now-clock.ensures.near,
         m.1,
-        number_inside _ c.fill.new.into r.0 c.in-Ok-Some.ready.number c.in-Ok-Some.ready.staged c.self.inside.matches c.advance_own.new.matches r.2,
+        number_inside _ _ c.fill.new.into r.0 c.in-Ok-Some.ready.number c.in-Ok-Some.ready.staged c.self.inside.matches c.advance_own.new.matches r.2,
       ),
       c.self.invariant.2,
       c.self.invariant.3,
+      c.self.invariant.4,
     )
 
 pub returns-in-Err-clause-within : goal.returns-in-Err-clause-within
@@ -143,8 +147,29 @@ returns-in-Ok-Some-clause-ready g c =
     let clock = now_is c.self.inside.schema.value c.self.inside.query.window c.self.inside.clock.source c.args.event.now c.args.position c.now-clock.result (to_z w128 (of_z w128 c.now-clock.result)) c.self.invariant.0.clock c.now-clock.ensures.clock same in
     let low = fits c.self.inside.schema.value c.self.inside.query.window c.self.inside.clock.source c.now-clock.result (to_z w128 (of_z w128 c.now-clock.result)) c.self.invariant.0.clock c.now-clock.ensures.fits same in
     let bits_are = (λ i k. c.fill.ensures.members k i) ∙ c.self.invariant.0.leaves c.args.event.now in
-    let r = at_some (λ (r : Ready). IsOwnReady (record { pos = c.args.position; clock = to_z w128 (of_z w128 c.now-clock.result) }) c.fill.new.into (key_there c.as_slice-table.result.now c.args.event.now) r.number r.staged c.self.inside.matches c.advance_own.new.matches) c.in-Ok-Some.field-0 c.in-Ok-Some.ready c.in-Ok-Some.field-0-is (rw c.of.ensures at c.in-Ok-Some.ensures.ready) in
+    let r = at_some (λ (r : Ready). IsOwnReady (record { pos = c.args.position; clock = to_z w128 (of_z w128 c.now-clock.result) }) c.of-low.result c.fill.new.into (key_there c.as_slice-table.result.now c.args.event.now) r.number r.staged c.self.inside.matches c.advance_own.new.matches) c.in-Ok-Some.field-0 c.in-Ok-Some.ready c.in-Ok-Some.field-0-is (rw c.of.ensures at c.in-Ok-Some.ensures.ready) in
     let m = at_some (λ (r : Ready). (cut r.sizes c.advance_own.new.matches ≡ c.self.inside.matches) × CanCut r.sizes c.advance_own.new.matches) c.in-Ok-Some.field-0 c.in-Ok-Some.ready c.in-Ok-Some.field-0-is c.in-Ok-Some.ensures.sizes in
-    let own = subst (λ (t : List (Option (List ℕ))). IsOwnReady (record { pos = c.args.position; clock = to_z w128 (of_z w128 c.now-clock.result) }) c.fill.new.into (key_there t c.args.event.now) c.in-Ok-Some.ready.number c.in-Ok-Some.ready.staged c.self.inside.matches c.advance_own.new.matches) c.as_slice-table.ensures.value r in
+    let small_low : SFits w128 c.low_of.result = search rules in
+    let low_is : c.of-low.result ≡ low_of c.self.inside.query.window (to_z w128 (of_z w128 c.now-clock.result)) = c.of-low.ensures ∙ to_z-of_z _ _ small_low ∙ c.low_of.ensures ∙ c.self.invariant.0.clock.low (to_z w128 (of_z w128 c.now-clock.result)) in
+    let recent : c.of-low.result ≤ℤ low_of c.self.inside.query.window (to_z w128 (of_z w128 c.now-clock.result)) = omega (arith, ints, low_is) in
+    let own = subst (λ (t : List (Option (List ℕ))). IsOwnReady (record { pos = c.args.position; clock = to_z w128 (of_z w128 c.now-clock.result) }) c.of-low.result c.fill.new.into (key_there t c.args.event.now) c.in-Ok-Some.ready.number c.in-Ok-Some.ready.staged c.self.inside.matches c.advance_own.new.matches) c.as_slice-table.ensures.value r in
     λ by. subst (λ h. IsStep c.self.inside.schema.value c.self.inside.query c.args.event.now c.args.position (part_of h (clock_at c.self.inside.floats c.self.inside.upto c.args.position c.self.inside.clock.last) (here_at c.self.inside.upto c.args.position c.self.inside.here)) (part_of (put_in c.in-Ok-Some.ready.number c.in-Ok-Some.ready.staged c.advance_own.new.matches) (Some (to_z w128 (of_z w128 c.now-clock.result))) (Some c.in-Ok-Some.ready.number))) (sym m.0)
-    (ready_step c.self.inside.schema.value c.self.inside.query c.self.inside.keys.items c.fill.new.into c.args.event.now c.args.position c.in-Ok-Some.ready.number c.in-Ok-Some.ready.staged c.self.inside.matches c.advance_own.new.matches (clock_at c.self.inside.floats c.self.inside.upto c.args.position c.self.inside.clock.last) (here_at c.self.inside.upto c.args.position c.self.inside.here) (to_z w128 (of_z w128 c.now-clock.result)) c.self.invariant.0.keys f.of_schema does clock low bits_are own)
+    (ready_step c.self.inside.schema.value c.self.inside.query c.self.inside.keys.items c.of-low.result c.fill.new.into c.args.event.now c.args.position c.in-Ok-Some.ready.number c.in-Ok-Some.ready.staged c.self.inside.matches c.advance_own.new.matches (clock_at c.self.inside.floats c.self.inside.upto c.args.position c.self.inside.clock.last) (here_at c.self.inside.upto c.args.position c.self.inside.here) (to_z w128 (of_z w128 c.now-clock.result)) c.self.invariant.0.keys f.of_schema does clock low bits_are recent own)
+
+pub low_of-requires : goal.low_of-requires
+low_of-requires g c =
+    let small : SFits w128 c.now-clock.result = search rules in
+    record { near = subst IsNear (sym (to_z-of_z _ _ small)) c.now-clock.ensures.near }
+
+pub invariant_of-self-in-Ok-None : goal.invariant_of-self-in-Ok-None
+invariant_of-self-in-Ok-None g c =
+    let kept = at_none ((c.advance_own.new.matches ≡ c.self.inside.matches) × (c.advance_own.new.steps ≡ c.args.steps.now) × Stays c.self.inside.matches (key_there c.as_slice-table.result.now c.args.event.now) c.fill.new.into c.self.inside.patient) c.in-Ok-None.field-0 c.in-Ok-None.field-0-is c.in-Ok-None.ensures.stays in
+    let small : SFits w128 c.now-clock.result = search rules in
+    let made = made_filled c.self.inside.schema.value c.self.inside.query c.self.inside.types.items c.self.inside.keys.items c.self.inside.conditions c.self.inside.clock.source c.self.inside.bits c.fill.new.into c.self.inside.matches c.self.invariant.0 c.fill.ensures.room in
+    (subst (λ (h : Held). IsMade c.self.inside.schema.value c.self.inside.query c.self.inside.types.items c.self.inside.keys.items c.self.inside.conditions c.self.inside.clock.source c.fill.new.into h) (sym kept.0) made, subst IsNear (sym (to_z-of_z _ _ small)) c.now-clock.ensures.near, c.self.invariant.2, c.self.invariant.3, c.self.invariant.4)
+
+pub returns-in-Ok-Some-clause-kept : goal.returns-in-Ok-Some-clause-kept
+returns-in-Ok-Some-clause-kept g c =
+    let m = at_some (λ (r : Ready). (cut r.sizes c.advance_own.new.matches ≡ c.self.inside.matches) × CanCut r.sizes c.advance_own.new.matches) c.in-Ok-Some.field-0 c.in-Ok-Some.ready c.in-Ok-Some.field-0-is c.in-Ok-Some.ensures.sizes in
+    ap (λ (h : Held). back (seen c.args.position (sleeper c.self.inside.schema.value c.self.inside.query h c.self.inside.clock.last c.self.inside.here c.self.inside.upto c.self.inside.floats))) m.0
+    ∙ ap (λ (p : Phase). back (seen c.args.position p)) (idle_fields c.self.inside.schema.value c.self.inside.query c.self.inside.step c.self.inside.ready c.self.inside.matches c.self.inside.clock.last c.self.inside.here c.self.inside.upto c.self.inside.floats c.args.self.now c.self.view_is c.requires.idle)

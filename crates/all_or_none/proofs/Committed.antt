@@ -41,7 +41,7 @@ not_before numbers i rising inside = by (is_among (take i numbers) (slice_index_
 
 -- The part of the number that comes next.
 module _ {P : Type 0} (before after : P → Phase) (event : Event) (position : ℕ) (numbers : List ℕ) (i n : ℕ) (old cur : List P) (inside : i < length numbers) (here : n ≡ slice_index_or numbers i 0) (set : AreSet before after event position (length old) numbers old) (h : HasCommitted before after event position (take i numbers) old cur) where
-  is_listed : is_among numbers n ≡ true
+  pub is_listed : is_among numbers n ≡ true
   is_listed = subst (λ m. is_among numbers m ≡ true) (sym here) (among_at numbers i inside)
 
   pub positive : 1 ≤ n
@@ -50,7 +50,7 @@ module _ {P : Type 0} (before after : P → Phase) (event : Event) (position : �
   pub next_within : n - 1 < length cur
   next_within = let low = positive in let high = (set.within n is_listed).1 in let same = h.count in omega arith
 
-  back_again : n - 1 + 1 ≡ n
+  pub back_again : n - 1 + 1 ≡ n
   back_again = let low = positive in omega arith
 
   first_time : is_among (take i numbers) (n - 1 + 1) ≡ false
@@ -63,7 +63,7 @@ module _ {P : Type 0} (before after : P → Phase) (event : Event) (position : �
   pub next_set : (d : P) → IsSet event position (before (slice_index_or cur (n - 1) d)) (after (slice_index_or cur (n - 1) d))
   next_set d =
       let at = as_it_was d in
-      inl (set.prepared (n - 1) (slice_index_or cur (n - 1) d) (slice_get_within old (n - 1) (slice_index_or cur (n - 1) d) at) at (subst (λ m. is_among numbers m ≡ true) (sym back_again) is_listed))
+      set.named (n - 1) (slice_index_or cur (n - 1) d) (slice_get_within old (n - 1) (slice_index_or cur (n - 1) d) at) at (subst (λ m. is_among numbers m ≡ true) (sym back_again) is_listed)
 
   joined : (m : ℕ) → is_among (take (i + 1) numbers) m ≡ (is_among (take i numbers) m || eqb n m)
   joined m = among_next numbers i m inside ∙ ap (λ x. is_among (take i numbers) m || eqb x m) (sym here)

@@ -2,13 +2,13 @@
 use Rattle.std.proofs.Common.{◌≡◌, refl, sym, ap, subst, ◌∙◌, ℕ, zero, suc, ◌+◌, ◌-◌, ◌<◌, ◌≤◌, inl, inr, Bool, true, false, ◌||◌, eqb, List, [], ◌∷◌, ◌++◌, length, map, take, take_all, drop, All, Some, None, slice_get, slice_index_or, slice_set, arith}
 use Rattle.std.specs.Prelude.{sum_by}
 use Rattle.std.specs.List.{AllZip}
-use Rattle.std.proofs.lemmas.Bool.{cases_lt, eqb-true, eq-eqb, false≢true, or_cases, or_left}
+use Rattle.std.proofs.lemmas.Bool.{cases_lt, eqb-true, eq-eqb, false≢true, or_cases, or_left, or_right}
 use Rattle.std.proofs.lemmas.Option.{slice_get-get_or}
 use Rattle.std.proofs.lemmas.List.Elements.{All-nil, All-cons, All-head, All-tail, All-map}
 use Rattle.std.proofs.lemmas.List.Sums.{sum_by-cons}
 use Rattle.stream_schema.specs.declared.Event.{Event}
 use Rattle.cer_base.specs.Bits.{has}
-use Rattle.all_or_none.specs.Phases.{Phase, IsIdle, CanPrepare, HasPassed, IsNoted, back, is_among, AreSet, IsTaken, Rests, AreLeft, AreUnread, AreUntouched, AreOfMarked, AreBack}
+use Rattle.all_or_none.specs.Phases.{Phase, IsIdle, CanPrepare, HasPassed, IsNoted, back, is_among, AreSet, IsTaken, Rests, AreLeft, AreUnread, AreUntouched, AreOfMarked, AreOfEither, AreBack}
 use Rattle.all_or_none.proofs.LoopTurn.{same_next, left_next, all_mapped}
 use Rattle.all_or_none.proofs.BothPhases.{map_map}
 use Rattle.all_or_none.proofs.Numbers.{read_other, read_there, as_long, among_push, set_none, set_next}
@@ -206,13 +206,17 @@ module _ {P : Type 0} (k : ℕ) (phase : ℕ → P → Phase) (marked : List Boo
     ];
   }
 
--- The parts are after the event what the marked ones became, and what the others were.
-pub left_after : {P : Type 0} (phase : ℕ → P → Phase) (count : ℕ) (marked awake : List Bool) (old new : List P) → All (λ p. (phase (count + 1) p).upto ≤ count + 1) new → AreUntouched marked old new → AreLeft phase count marked old → ((k : ℕ) (p : P) → slice_get new k ≡ Some p → has marked k ≡ true → has awake k ≡ false → Rests (λ n. phase n p)) → AreLeft phase (count + 1) awake new
-left_after phase count marked awake old new known same left rest = record { known = known; others = λ k p at out. by k p at out (has marked k) refl }
+-- After the event each part that is not among those awake rests: of the numbers' parts that was looked at, and the others are as they were.
+pub left_after : {P : Type 0} (phase : ℕ → P → Phase) (count : ℕ) (marked read before awake : List Bool) (numbers : List ℕ) (old new : List P) → All (λ p. (phase (count + 1) p).upto ≤ count + 1) new → AreUntouched marked old new → AreLeft phase count marked old → AreOfEither marked before read → ((k : ℕ) → k < length new → has marked k ≡ true → has read k ≡ true → is_among numbers (k + 1) ≡ true) → ((k : ℕ) (p : P) → slice_get new k ≡ Some p → is_among numbers (k + 1) ≡ true → has awake k ≡ false → Rests (λ n. phase n p)) → ((k : ℕ) → is_among numbers (k + 1) ≡ false → has awake k ≡ has before k) → AreLeft phase (count + 1) awake new
+left_after phase count marked read before awake numbers old new known same left either listed rest stay = record { known = known; others = λ k p at out. by k p at out (is_among numbers (k + 1)) refl (has marked k) refl }
   where
-    by : (k : ℕ) (p : _) → slice_get new k ≡ Some p → has awake k ≡ false → (b : Bool) → has marked k ≡ b → Rests (λ n. phase n p)
-    by k p at out true is = rest k p at is out
-    by k p at out false is = left.others k p (sym (same k is) ∙ at) is
+    by : (k : ℕ) (p : _) → slice_get new k ≡ Some p → has awake k ≡ false → (b : Bool) → is_among numbers (k + 1) ≡ b → (m : Bool) → has marked k ≡ m → Rests (λ n. phase n p)
+    by k p at out true among m is = rest k p at among out
+    by k p at out false among false is = left.others k p (sym (same k is) ∙ at) is
+    by k p at out false among true is = elim (or_cases (has before k) (has read k) (either k is)) [
+      | inl was ↦ absurd (false≢true (sym out ∙ (stay k among ∙ was)))
+      | inr reads ↦ absurd (false≢true (sym among ∙ listed k (get_within new k p at) is reads))
+    ]
 
 -- and after a refusal, where the marked ones stay awake
 pub left_again : {P : Type 0} (phase : ℕ → P → Phase) (count : ℕ) (marked before awake : List Bool) (old new : List P) → map (phase count) new ≡ map (phase count) old → AreUntouched marked old new → AreLeft phase count marked old → ((k : ℕ) → has awake k ≡ (has before k || has marked k)) → AreLeft phase count awake new
@@ -303,42 +307,32 @@ has_within [] k is = absurd (false≢true is)
 has_within (b ∷ bs) zero is = omega arith
 has_within (b ∷ bs) (suc k) is = let r = has_within bs k is in omega arith
 
--- Looked at are the marked ones below the next one.
-abbrev HaveLooked : {P : Type 0} → (ℕ → P → Phase) → List P → List Bool → List Bool → ℕ → Type 0
-HaveLooked phase parts marked awake k = (j : ℕ) (p : _) → j < k → slice_get parts j ≡ Some p → has marked j ≡ true → has awake j ≡ false → Rests (λ n. phase n p)
-
 none_between : (marked : List Bool) (from k j : ℕ) → ((i : ℕ) → from ≤ i → i < k → has marked i ≡ false) → j < k → has marked j ≡ true → j < from
 none_between marked from k j first less is = elim (cases_lt j from) [
   | inl low ↦ low
   | inr high ↦ absurd (false≢true (sym (first j high less) ∙ is))
 ]
 
--- one that is not known to rest
-pub look_next : {P : Type 0} (phase : ℕ → P → Phase) (parts : List P) (marked awake after : List Bool) (from k : ℕ) → ((i : ℕ) → from ≤ i → i < k → has marked i ≡ false) → ((j : ℕ) → has after j ≡ (eqb j k || has awake j)) → HaveLooked phase parts marked awake from → HaveLooked phase parts marked after (k + 1)
-look_next phase parts marked awake after from k first members h j p less at is out = elim (cases_lt j k) [
-  | inl low ↦ h j p (none_between marked from k j first low is) at is (second (eqb j k) (has awake j) (sym (members j) ∙ out))
-  | inr high ↦ absurd (false≢true (sym out ∙ (members j ∙ or_left (eqb j k) (has awake j) (eq-eqb j k (let e : j ≡ k = omega arith in e)))))
-]
-  where
-    second : (a b : Bool) → (a || b) ≡ false → b ≡ false
-    second true b e = absurd (false≢true (sym e))
-    second false b e = e
+-- of the first so many, the marked ones that are read are among the numbers
+abbrev pub HaveListed : List Bool → List Bool → List ℕ → ℕ → Type 0
+HaveListed marked read numbers k = (j : ℕ) → j < k → has marked j ≡ true → has read j ≡ true → is_among numbers (j + 1) ≡ true
 
--- one that rests
-pub look_end : {P : Type 0} (phase : ℕ → P → Phase) (parts : List P) (marked awake : List Bool) (from k : ℕ) (x : P) → k < length parts → ((i : ℕ) → from ≤ i → i < k → has marked i ≡ false) → x ≡ slice_index_or parts k x → Rests (λ n. phase n x) → HaveLooked phase parts marked awake from → HaveLooked phase parts marked awake (k + 1)
-look_end phase parts marked awake from k x inside first here rests h j p less at is out = elim (cases_lt j k) [
-  | inl low ↦ h j p (none_between marked from k j first low is) at is out
+still_among : (event : Event) (position number : ℕ) (before after : Phase) (numbers more : List ℕ) (m : ℕ) → IsNoted event position number before after numbers more → is_among numbers m ≡ true → is_among more m ≡ true
+still_among event position number before after numbers more m (inl noted) was = subst (λ ns. is_among ns m ≡ true) (sym noted.1) (among_push numbers number m ∙ or_left (is_among numbers m) (eqb number m) was)
+still_among event position number before after numbers more m (inr passed) was = subst (λ ns. is_among ns m ≡ true) (sym passed.1) was
+
+-- and of one more
+pub listed_next : (marked read : List Bool) (event : Event) (position : ℕ) (before after : Phase) (numbers more : List ℕ) (from k : ℕ) (reads : Bool) → reads ≡ has read k → ((i : ℕ) → from ≤ i → i < k → has marked i ≡ false) → IsNoted event position (k + 1) before after numbers more → (reads ≡ true → more ≡ numbers ++ (k + 1) ∷ []) → HaveListed marked read numbers from → HaveListed marked read more (k + 1)
+listed_next marked read event position before after numbers more from k reads told first noted listed h j less is does = elim (cases_lt j k) [
+  | inl low ↦ still_among event position (k + 1) before after numbers more (j + 1) noted (h j (none_between marked from k j first low is) is does)
   | inr high ↦ (
       let same : j ≡ k = omega arith in
-      let there = slice_get-get_or parts k x inside in
-      let one : x ≡ p = (let both = sym (subst (λ i. slice_get parts i ≡ Some p) same at) ∙ there in cc) in
-      subst (λ z. Rests (λ n. phase n z)) one rests
+      let last : k + 1 ≡ j + 1 = omega arith in
+      let new = listed (told ∙ (ap (has read) (sym same) ∙ does)) in
+      subst (λ ns. is_among ns (j + 1) ≡ true) (sym new) (among_push numbers (k + 1) (j + 1) ∙ or_right (is_among numbers (j + 1)) (eqb (k + 1) (j + 1)) (eq-eqb (k + 1) (j + 1) last))
       )
 ]
 
 -- all of them
-pub look_all_of : {P : Type 0} (phase : ℕ → P → Phase) (parts : List P) (marked awake : List Bool) (from : ℕ) → ((j : ℕ) → from ≤ j → j < length parts → has marked j ≡ false) → HaveLooked phase parts marked awake from → (k : ℕ) (p : P) → slice_get parts k ≡ Some p → has marked k ≡ true → has awake k ≡ false → Rests (λ n. phase n p)
-look_all_of phase parts marked awake from none h k p at is out = elim (cases_lt k from) [
-  | inl low ↦ h k p low at is out
-  | inr high ↦ absurd (false≢true (sym (none k high (get_within parts k p at)) ∙ is))
-]
+pub listed_all : (marked read : List Bool) (numbers : List ℕ) (from count : ℕ) → ((i : ℕ) → from ≤ i → i < count → has marked i ≡ false) → HaveListed marked read numbers from → (k : ℕ) → k < count → has marked k ≡ true → has read k ≡ true → is_among numbers (k + 1) ≡ true
+listed_all marked read numbers from count none h k less is does = h k (none_between marked from count k none less is) is does

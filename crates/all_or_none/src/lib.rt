@@ -9,12 +9,12 @@
 //! It stands on `query_standing`.
 #![tactic(auto)]
 
-ghost use Rattle.std.specs.Prelude.{◌≡◌, ℕ, ◌+◌, ◌^◌, ◌<◌, ◌≤◌, true, false, List, [], ◌∷◌, ◌++◌, length, map, sum_by, All, Some, slice_get, IfSome, IfNone, IfOk, OnOk, OnErr};
+ghost use Rattle.std.specs.Prelude.{◌≡◌, ◌≢◌, ℕ, ◌+◌, ◌^◌, ◌<◌, ◌≤◌, ◌==◌, ◌&&◌, not, true, false, List, [], ◌∷◌, ◌++◌, length, map, sum_by, All, Some, slice_get, IfSome, IfNone, IfOk, OnOk, OnErr};
 ghost use Rattle.std.specs.List.{AllZip};
 ghost use Rattle.cer_base.specs.Bits.{has};
 ghost use Rattle.stream_schema.specs.declared.Event.{Event};
 ghost use Rattle.query_standing.specs.Bounds.{update_bound};
-ghost use Rattle.all_or_none.specs.Phases.{Phase, CanPrepare, IsPrepared, IsIdle, IsQuiet, back, HasPassed, Rests, AreLeft, IsRead, AreRead, IsUnread, AreUnread, AreUntouched, AreOfMarked, AreBack, IsSet, IsNoted, is_among, AreSet, MayAnswer, IsTaken, IsWithin, StandsAt, InTime, ready_bound, kept_bound, AreBounded, HasGrown};
+ghost use Rattle.all_or_none.specs.Phases.{Phase, CanPrepare, IsPrepared, IsIdle, IsQuiet, back, HasPassed, Rests, AreLeft, IsRead, AreRead, IsUnread, AreUnread, AreUntouched, AreOfMarked, AreOfEither, AreBack, IsSet, IsNoted, is_among, AreSet, MayAnswer, IsTaken, IsWithin, StandsAt, InTime, ready_bound, kept_bound, AreBounded, HasGrown};
 
 use cer_base::bits::Bits;
 use cer_base::steps::Steps;
@@ -72,7 +72,8 @@ pub trait Keeps {
         ensures { (count : ℕ) → phase count self.new ≡ back (phase count self.old) };
 }
 
-/// The part prepares, and its number is put in last, where the event does not pass it by.
+/// The part prepares. Its number is put in last where the event does not pass it by, and where a leaf
+/// of it reads the event: one that rested is then asked anew whether it rests.
 fn prepare_one<P: Keeps, L: Ledger>(
     part: &mut P,
     number: u64,
@@ -89,12 +90,15 @@ fn prepare_one<P: Keeps, L: Ledger>(
     ensures kept { back (P.phase position part.new) ≡ back (P.phase position part.old) }
     ensures noted { OnOk result (IsNoted event.now position number (P.phase position part.new)
         (P.phase (position + 1) part.new) touched.old.items touched.new.items) }
+    ensures listed { OnOk result (reads ≡ true → touched.new.items
+        ≡ touched.old.items ++ number ∷ []) }
     ensures steps { OnOk result (steps.new
         ≤ steps.old + ready_bound (P.phase position part.new)) }
     ensures within { IsWithin event.now position (P.phase position part.old)
         steps.old steps.new }
 {
-    if !part.prepare(event, position, reads, steps)? {
+    let passed = part.prepare(event, position, reads, steps)?;
+    if reads || !passed {
         touched.push(number)?;
     }
     Ok(())
@@ -115,7 +119,8 @@ fn find(marked: &Bits, from: usize, end: usize) -> Option<usize>
 
 /// Each marked part prepares that the event does not pass by, up to the first that cannot. The others
 /// rest, and no leaf of theirs reads the event. A leaf of a part reads it exactly where the part is
-/// among those read. The numbers of the prepared ones, from 1, are left in `touched`.
+/// among those read. The numbers of the prepared ones and of the read ones, from 1, are left in
+/// `touched`.
 fn prepare_all<P: Keeps, L: Ledger>(
     parts: &mut [P],
     marked: &Bits,
@@ -136,6 +141,8 @@ fn prepare_all<P: Keeps, L: Ledger>(
     ensures set { OnOk result (AreSet (P.phase position) (P.phase (position + 1)) event.now
         position (length parts.new) touched.new.items parts.new) }
     ensures marked { OnOk result (AreOfMarked marked.now touched.new.items) }
+    ensures listed { OnOk result ((k : ℕ) → k < length parts.new → has marked.now k ≡ true
+        → has read.now k ≡ true → is_among touched.new.items (k + 1) ≡ true) }
     ensures others { AreUntouched marked.now parts.old parts.new }
     ensures steps { OnOk result (steps.new
         ≤ steps.old + sum_by (λ p. ready_bound (P.phase position p)) parts.new) }
@@ -161,19 +168,79 @@ fn prepare_all<P: Keeps, L: Ledger>(
     Ok(())
 }
 
-/// The parts of these numbers, which are those that are prepared, commit.
-fn commit_all<P: Keeps>(parts: &mut [P], numbers: &[u64], event: &Event, position: Pos)
+/// Takes the number out. The other set has the same room, and is used for that.
+fn take_out(set: &mut Bits, spare: &mut Bits, k: usize)
+    requires inside { k < length set.old }
+    requires spare { length spare.old ≡ length set.old }
+    ensures members { (j : ℕ) → has set.new j ≡ has set.old j && not (j == k) }
+    ensures room { length set.new ≡ length set.old }
+    ensures spare { length spare.new ≡ length spare.old }
+{
+    spare.clear();
+    spare.insert(k);
+    set.subtract(spare);
+}
+
+/// The part commits. Its number, from 0, is in `awake` afterwards exactly where the part is not known
+/// to rest.
+fn commit_one<P: Keeps>(
+    part: &mut P,
+    k: usize,
+    awake: &mut Bits,
+    spare: &mut Bits,
+    event: &Event,
+    position: Pos,
+)
+    requires room { position + 1 < 2 ^ 64 }
+    requires set { IsSet event.now position (P.phase position part.old)
+        (P.phase (position + 1) part.old) }
+    requires inside { k < length awake.old }
+    requires spare { length spare.old ≡ length awake.old }
+    ensures taken { IsTaken event.now position (P.phase position part.old)
+        (P.phase (position + 1) part.new) }
+    ensures rest { has awake.new k ≡ false → Rests (λ n. P.phase n part.new) }
+    ensures others { (j : ℕ) → j ≢ k → has awake.new j ≡ has awake.old j }
+    ensures sets { length awake.new ≡ length awake.old }
+    ensures spare { length spare.new ≡ length spare.old }
+{
+    part.commit(event, position);
+    if !part.rests() {
+        awake.insert(k);
+    } else if awake.contains(k) {
+        take_out(awake, spare, k);
+    }
+}
+
+/// The parts of these numbers commit: those that are prepared, and some that the event passes by.
+/// Those of them that are not known to rest are in `awake` afterwards, with the others that were there.
+fn commit_all<P: Keeps>(
+    parts: &mut [P],
+    numbers: &[u64],
+    awake: &mut Bits,
+    spare: &mut Bits,
+    event: &Event,
+    position: Pos,
+)
     requires room { position + 1 < 2 ^ 64 }
     requires set { AreSet (P.phase position) (P.phase (position + 1)) event.now position
         (length parts.old) numbers.now parts.old }
+    requires inside { (k : ℕ) → is_among numbers.now (k + 1) ≡ true → k < length awake.old }
+    requires spare { length spare.old ≡ length awake.old }
     ensures taken { AllZip (IsTaken event.now position) (map (P.phase position) parts.old)
         (map (P.phase (position + 1)) parts.new) }
     ensures answering { MayAnswer numbers.now (map (P.phase (position + 1)) parts.new) }
     ensures others { (k : ℕ) → is_among numbers.now (k + 1) ≡ false → slice_get parts.new k
         ≡ slice_get parts.old k }
+    ensures rest { (k : ℕ) (p : P) → slice_get parts.new k ≡ Some p → is_among numbers.now (k + 1)
+        ≡ true → has awake.new k ≡ false → Rests (λ n. P.phase n p) }
+    ensures awake { (k : ℕ) → is_among numbers.now (k + 1) ≡ false → has awake.new k
+        ≡ has awake.old k }
+    ensures sets { length awake.new ≡ length awake.old }
+    ensures spare { length spare.new ≡ length spare.old }
 {
     for number in numbers {
-        parts[*number as usize - 1].commit(event, position);
+        let k = *number as usize - 1;
+        commit_one(&mut parts[k], k, awake, spare, event, position);
     }
 }
 
@@ -188,48 +255,22 @@ fn take_back_all<P: Keeps>(parts: &mut [P], marked: &Bits)
     }
 }
 
-/// Takes all numbers out. Mostly there is none, so that is tested first.
-#[inline(always)]
-fn empty_out(set: &mut Bits)
-    ensures empty { (k : ℕ) → has set.new k ≡ false }
-    ensures room { length set.new ≡ length set.old }
-{
-    if set.is_empty() {
-        return;
-    }
-    set.clear();
-}
-
-/// Makes the set that of the marked parts that are not known to rest.
-fn look_all<P: Keeps>(parts: &[P], marked: &Bits, awake: &mut Bits)
-    requires { length awake.old ≡ length marked.now }
-    ensures rest { (k : ℕ) (p : P) → slice_get parts.now k ≡ Some p → has marked.now k ≡ true
-        → has awake.new k ≡ false → Rests (λ n. P.phase n p) }
-    ensures room { length awake.new ≡ length awake.old }
-{
-    empty_out(awake);
-    let mut from: usize = 0;
-    while let Some(k) = find(marked, from, parts.len()) {
-        if !parts[k].rests() {
-            awake.insert(k);
-        }
-        from = k + 1;
-    }
-}
-
 /// All parts take the event as the next one, or none does. After `Memory` each part is as it was.
 ///
 /// It goes to the marked parts alone, by their numbers from 0. Each other part rests, and no leaf of
 /// its query reads the event. Those of which a leaf reads it are in `read`: where one is not, its
 /// leaves are not looked at. In `awake` is then each part that is not known to rest, for the next
 /// event, and after `Memory` each marked one beside those that were there. `touched` has then the
-/// numbers, from 1 and rising, of the parts that the event did not pass by; no other may have an
-/// answer. Its memory is used again.
+/// numbers, from 1 and rising, of the parts that the event did not pass by, and of those that are read;
+/// no other may have an answer. They alone are asked whether they rest: what is marked beside them was
+/// awake, is as it was, and stays awake. The memory of `touched` is used again, and that of `spare`,
+/// which has the room of `awake`.
 pub fn see<P: Keeps, L: Ledger>(
     parts: &mut [P],
     marked: &Bits,
     read: &Bits,
     awake: &mut Bits,
+    spare: &mut Bits,
     touched: &mut Vec<u64>,
     event: &Event,
     position: Pos,
@@ -242,7 +283,9 @@ pub fn see<P: Keeps, L: Ledger>(
     requires unread { AreUnread (P.phase position) event.now marked.now parts.old }
     requires reading { AreRead (P.phase position) event.now read.now parts.old }
     requires told { AreUnread (P.phase position) event.now read.now parts.old }
+    requires either { AreOfEither marked.now awake.old read.now }
     requires sets { length awake.old ≡ length marked.now }
+    requires spare { length spare.old ≡ length awake.old }
     ensures stands { OnOk result ((events : List Event) → length events ≡ position
         → All (λ p. InTime events event.now (P.phase position p)) parts.old
         → All (λ p. StandsAt events (P.phase position p)) parts.old
@@ -259,6 +302,7 @@ pub fn see<P: Keeps, L: Ledger>(
         ≡ map (P.phase position) parts.old) }
     ensures still_left { OnErr result (AreLeft P.phase position awake.new parts.new) }
     ensures sets { length awake.new ≡ length awake.old }
+    ensures spare { length spare.new ≡ length spare.old }
     ensures steps { OnOk result (steps.new
         ≤ steps.old + sum_by (λ p. kept_bound (P.phase (position + 1) p)) parts.new) }
     ensures within { (events : List Event) (most : List ℕ) → length events ≡ position
@@ -267,8 +311,7 @@ pub fn see<P: Keeps, L: Ledger>(
 {
     match prepare_all(parts, marked, read, touched, event, position, steps) {
         Ok(()) => {
-            commit_all(parts, touched.as_slice(), event, position);
-            look_all(parts, marked, awake);
+            commit_all(parts, touched.as_slice(), awake, spare, event, position);
             Ok(())
         }
         Err(refused) => {

@@ -1,8 +1,8 @@
 -- What is known of the parts that an event need not go to.
-use Rattle.std.proofs.Common.{◌≡◌, refl, sym, ap, subst, ◌∙◌, ℕ, ◌+◌, ◌<◌, ◌≤◌, inl, inr, Bool, true, false, ◌||◌, eqb, List, [], ◌∷◌, map, length, All, Option, Some, None, slice_get, arith}
+use Rattle.std.proofs.Common.{◌≡◌, refl, sym, ap, subst, ◌∙◌, ℕ, ◌+◌, ◌<◌, ◌≤◌, inl, inr, Bool, true, false, ◌||◌, eqb, List, [], ◌∷◌, map, length, All, Option, Some, None, slice_get, slice_index_or, arith}
 use Rattle.std.specs.List.{AllZip}
 use Rattle.std.proofs.lemmas.Bool.{cases_lt, eq-eqb, false≢true, or_left, or_right}
-use Rattle.std.proofs.lemmas.Option.{slice_get_within}
+use Rattle.std.proofs.lemmas.Option.{slice_get-get_or}
 use Rattle.std.proofs.lemmas.List.Elements.{All-nil, All-cons, All-head, All-tail}
 use Rattle.cer_base.specs.Bits.{has, room_for}
 use Rattle.stream_schema.specs.Types.{Declared}
@@ -12,7 +12,7 @@ use Rattle.query_leaves.specs.Expand.{Occurrence, tree_of}
 use Rattle.query_leaves.specs.Leaves.{occurrences, occurrence_reads}
 use Rattle.cea_compile.specs.DeterminisedRuns.{reads_at}
 use Rattle.query_standing.specs.Keys.{leaves_reading}
-use Rattle.all_or_none.specs.Phases.{Phase, AreLeft, AreRead, AreUnread}
+use Rattle.all_or_none.specs.Phases.{Phase, Rests, AreLeft, AreRead, AreUnread, AreOfEither}
 use Rattle.query_part.specs.Parts.{seen, woken, skipped}
 use Rattle.query_watch.specs.Rows.{Table, HasRow, AreExact, IsWatch}
 use Rattle.query_engine.specs.Compacting.{IsCompacted}
@@ -33,17 +33,20 @@ pub record GoesTo (some_awake : Bool) (awake marked read to : List Bool) : Type 
   pub within : (k : ℕ) → has awake k ≡ true → has to k ≡ true
   pub reads : (k : ℕ) → has read k ≡ true → has to k ≡ true
   pub room : length to ≡ length awake
+  pub either : AreOfEither to awake read
 
-pub goes : (some_awake : Bool) (awake marked read to : List Bool) → (some_awake ≡ true → (k : ℕ) → has awake k ≡ true → has marked k ≡ true) → (some_awake ≡ true → (k : ℕ) → has read k ≡ true → has marked k ≡ true) → (some_awake ≡ false → (k : ℕ) → has awake k ≡ false) → length marked ≡ length awake → length read ≡ length awake → (some_awake ≡ true → to ≡ marked) → (some_awake ≡ false → to ≡ read) → GoesTo some_awake awake marked read to
-goes true awake marked read to within reads none sets rooms is_marked is_read = record {
+pub goes : (some_awake : Bool) (awake marked read to : List Bool) → (some_awake ≡ true → (k : ℕ) → has awake k ≡ true → has marked k ≡ true) → (some_awake ≡ true → (k : ℕ) → has read k ≡ true → has marked k ≡ true) → (some_awake ≡ true → AreOfEither marked awake read) → (some_awake ≡ false → (k : ℕ) → has awake k ≡ false) → length marked ≡ length awake → length read ≡ length awake → (some_awake ≡ true → to ≡ marked) → (some_awake ≡ false → to ≡ read) → GoesTo some_awake awake marked read to
+goes true awake marked read to within reads either none sets rooms is_marked is_read = record {
   within = λ k h. ap (λ (b : List Bool). has b k) (is_marked refl) ∙ within refl k h;
   reads = λ k h. ap (λ (b : List Bool). has b k) (is_marked refl) ∙ reads refl k h;
   room = ap length (is_marked refl) ∙ sets;
+  either = λ k h. either refl k (ap (λ (b : List Bool). has b k) (sym (is_marked refl)) ∙ h);
 }
-goes false awake marked read to within reads none sets rooms is_marked is_read = record {
+goes false awake marked read to within reads either none sets rooms is_marked is_read = record {
   within = λ k h. absurd (false≢true (sym (none refl k) ∙ h));
   reads = λ k h. ap (λ (b : List Bool). has b k) (is_read refl) ∙ h;
   room = ap length (is_read refl) ∙ rooms;
+  either = λ k h. or_right (has awake k) (has read k) (ap (λ (b : List Bool). has b k) (sym (is_read refl)) ∙ h);
 }
 
 -- those that are not marked are not awake, so they rest
@@ -89,12 +92,9 @@ watching_same schema old new count later parts after table same_table awake mark
   left = left;
 }
 
--- where all are awake
-pub left_all : (count : ℕ) (parts : List Phase) (awake : List Bool) → All (λ (p : Phase). p.upto ≤ count) parts → ((k : ℕ) → k < length parts → has awake k ≡ true) → AreLeft seen count awake parts
-left_all count parts awake known all = record {
-  known = known;
-  others = λ k p at out. absurd (false≢true (sym out ∙ all k (slice_get_within parts k p at)));
-}
+-- where all were looked at, as a slice that they are taken from
+pub left_looked : (count : ℕ) (slice parts : List Phase) (awake : List Bool) → parts ≡ slice → All (λ (p : Phase). p.upto ≤ count) slice → ((k : ℕ) (p : Phase) → slice_get slice k ≡ Some p → has awake k ≡ false → Rests (λ n. seen n p)) → AreLeft seen count awake parts
+left_looked count slice parts awake is known rest = subst (AreLeft seen count awake) (sym is) (record { known = known; others = rest })
 
 pub first_known : (schema : Declared) (parts : List Phase) → All (IsFirst schema) parts → All (λ (p : Phase). p.upto ≤ 0) parts
 first_known schema [] h = All-nil (λ (p : Phase). p.upto ≤ 0)
@@ -129,9 +129,8 @@ parts_within schema queries count many parts table awake marked read is many_is 
     omega arith
 
 -- before any event
-pub watching_first : (schema : Declared) (queries given : List Query) (parts : List Phase) (table : Table) (awake marked read : List Bool) → queries ≡ given → queries ≡ map (λ (p : Phase). p.query) (map (seen 0) parts) → IsWatch schema given table.rows table.leaves → AreExact schema given table.rows table.leaves → table.count ≡ length given → length awake ≡ room_for (length given) → length marked ≡ length awake → length read ≡ length awake → ((k : ℕ) → k < length given → has awake k ≡ true) → All (IsFirst schema) parts → IsWatching schema queries 0 parts table awake marked read
-watching_first schema queries given parts table awake marked read is are watch exact count room sets reads all first =
-    let l : length queries ≡ length parts = ap length are ∙ (length_map (λ (p : Phase). p.query) (map (seen 0) parts) ∙ length_map (seen 0) parts) in
+pub watching_first : (schema : Declared) (queries given : List Query) (parts : List Phase) (table : Table) (awake marked read : List Bool) → queries ≡ given → queries ≡ map (λ (p : Phase). p.query) (map (seen 0) parts) → IsWatch schema given table.rows table.leaves → AreExact schema given table.rows table.leaves → table.count ≡ length given → length awake ≡ room_for (length given) → length marked ≡ length awake → length read ≡ length awake → AreLeft seen 0 awake parts → IsWatching schema queries 0 parts table awake marked read
+watching_first schema queries given parts table awake marked read is are watch exact count room sets reads left =
     let m : length queries ≡ length given = ap length is in
     record {
       watch = subst (λ qs. IsWatch schema qs table.rows table.leaves) (sym is) watch;
@@ -140,12 +139,39 @@ watching_first schema queries given parts table awake marked read is are watch e
       room = room ∙ ap room_for (sym m);
       sets = sets;
       reads = reads;
-      left = left_all 0 parts awake (first_known schema parts first) (λ k less. all k (omega arith));
+      left = left;
     }
 
--- one number more is put in
-pub filled_next : (k : ℕ) (set after : List Bool) → ((j : ℕ) → has after j ≡ (eqb j k || has set j)) → ((j : ℕ) → j < k → has set j ≡ true) → (j : ℕ) → j < k + 1 → has after j ≡ true
-filled_next k set after members h j less = members j ∙ elim (cases_lt j k) [
-  | inl low ↦ or_right (eqb j k) (has set j) (h j low)
-  | inr high ↦ or_left (eqb j k) (has set j) (eq-eqb j k (let e : j ≡ k = omega arith in e))
+-- before any event the sets have room for each part
+pub first_within : (queries given : List Query) (parts : List Phase) (awake : List Bool) → map (λ (p : Phase). p.query) parts ≡ queries → queries ≡ given → length awake ≡ room_for (length given) → length parts ≤ length awake
+first_within queries given parts awake are is room =
+    let l : length queries ≡ length parts = ap length (sym are) ∙ length_map (λ (p : Phase). p.query) parts in
+    let m : length queries ≡ length given = ap length is in
+    omega arith
+
+-- The first so many parts were looked at.
+abbrev pub HaveLooked : List Phase → List Bool → ℕ → Type 0
+HaveLooked parts set k = (j : ℕ) (p : Phase) → j < k → slice_get parts j ≡ Some p → has set j ≡ false → Rests (λ n. seen n p)
+
+-- one that is not known to rest
+pub looked_awake : (parts : List Phase) (set after : List Bool) (k : ℕ) → ((j : ℕ) → has after j ≡ (eqb j k || has set j)) → HaveLooked parts set k → HaveLooked parts after (k + 1)
+looked_awake parts set after k members h j p less at out = elim (cases_lt j k) [
+  | inl low ↦ h j p low at (second (eqb j k) (has set j) (sym (members j) ∙ out))
+  | inr high ↦ absurd (false≢true (sym out ∙ (members j ∙ or_left (eqb j k) (has set j) (eq-eqb j k (let e : j ≡ k = omega arith in e)))))
+]
+  where
+    second : (a b : Bool) → (a || b) ≡ false → b ≡ false
+    second true b e = absurd (false≢true (sym e))
+    second false b e = e
+
+-- one that rests
+pub looked_resting : (parts : List Phase) (set : List Bool) (k : ℕ) (x : Phase) → k < length parts → x ≡ slice_index_or parts k x → Rests (λ n. seen n x) → HaveLooked parts set k → HaveLooked parts set (k + 1)
+looked_resting parts set k x inside here rests h j p less at out = elim (cases_lt j k) [
+  | inl low ↦ h j p low at out
+  | inr high ↦ (
+      let same : j ≡ k = omega arith in
+      let there = slice_get-get_or parts k x inside in
+      let one : x ≡ p = (let both = sym (subst (λ i. slice_get parts i ≡ Some p) same at) ∙ there in cc) in
+      subst (λ z. Rests (λ n. seen n z)) one rests
+      )
 ]

@@ -1,12 +1,16 @@
 //! Which parts of an engine an event goes to.
 
-ghost use Rattle.std.specs.Prelude.{◌≡◌, ℕ, ◌<◌, ◌≤◌, ◌||◌, false, true, length, IfOk};
+ghost use Rattle.std.specs.Prelude.{◌≡◌, ℕ, ◌≤◌, ◌||◌, false, true, Some, length, slice_get, IfOk};
 ghost use Rattle.cer_base.specs.Bits.{has, room_for};
+ghost use Rattle.all_or_none.specs.Phases.{Phase, Rests, AreOfEither};
+ghost use Rattle.query_part.specs.Parts.{seen};
 ghost use Rattle.query_watch.specs.Rows.{AreExact, IsWatch, HasRow};
 
+use all_or_none::Keeps;
 use cel_terms::Query;
 use cer_base::Memory;
 use cer_base::bits::Bits;
+use query_part::Part;
 use query_watch::Watch;
 use std::alloc::Global;
 use stream_schema::{Event, Schema};
@@ -22,10 +26,12 @@ pub struct Watching {
     pub marked: Bits,
     /// Those of them of whose queries a leaf can read the event, likewise.
     pub read: Bits,
+    /// For the number of a part that comes to rest, in memory that is used again.
+    pub spare: Bits,
 }
 
 impl Watching {
-    /// That of the queries, none of whose parts is known to rest.
+    /// That of the queries, before their parts are looked at.
     pub fn of(alloc: Global, schema: &Schema, queries: &[Query]) -> Result<Watching, Memory>
         ensures watch { IfOk result (λ w. IsWatch schema.now queries.now w.watch.rows
             w.watch.leaves) }
@@ -35,19 +41,19 @@ impl Watching {
         ensures room { IfOk result (λ w. length w.awake ≡ room_for (length queries.now)) }
         ensures sets { IfOk result (λ w. length w.marked ≡ length w.awake) }
         ensures reads { IfOk result (λ w. length w.read ≡ length w.awake) }
-        ensures awake { IfOk result (λ w. (k : ℕ) → k < length queries.now
-            → has w.awake k ≡ true) }
+        ensures spare { IfOk result (λ w. length w.spare ≡ length w.awake) }
     {
         let watch = Watch::of(alloc, schema, queries)?;
-        let mut awake = Bits::blank(alloc, queries.len())?;
-        fill(&mut awake, queries.len());
+        let awake = Bits::blank(alloc, queries.len())?;
         let marked = Bits::blank(alloc, queries.len())?;
         let read = Bits::blank(alloc, queries.len())?;
+        let spare = Bits::blank(alloc, queries.len())?;
         Ok(Watching {
             watch,
             awake,
             marked,
             read,
+            spare,
         })
     }
 
@@ -66,8 +72,11 @@ impl Watching {
             → has self.new.marked k ≡ true }
         ensures awake { result ≡ true → (k : ℕ) → has self.old.awake k ≡ true
             → has self.new.marked k ≡ true }
+        ensures either { result ≡ true → AreOfEither self.new.marked self.old.awake
+            self.new.read }
         ensures none { result ≡ false → (k : ℕ) → has self.old.awake k ≡ false }
-        ensures same { (self.new.watch ≡ self.old.watch) × (self.new.awake ≡ self.old.awake) }
+        ensures same { (self.new.watch ≡ self.old.watch) × (self.new.awake ≡ self.old.awake)
+            × (self.new.spare ≡ self.old.spare) }
         ensures sets { length self.new.marked ≡ length self.old.marked }
         ensures reads { length self.new.read ≡ length self.old.read }
     {
@@ -82,15 +91,16 @@ impl Watching {
         true
     }
 
-    /// No part is known to rest, of which there are so many.
-    pub fn wake_all(&mut self, count: usize)
-        requires { count ≤ length self.old.awake }
-        ensures awake { (k : ℕ) → k < count → has self.new.awake k ≡ true }
-        ensures same { (self.new.watch ≡ self.old.watch) × (self.new.marked ≡ self.old.marked) }
-        ensures read { self.new.read ≡ self.old.read }
+    /// Looks at all parts: awake are those that are not known to rest.
+    pub fn look(&mut self, parts: &[Part])
+        requires { length parts.now ≤ length self.old.awake }
+        ensures rest { (k : ℕ) (p : Phase) → slice_get parts.now k ≡ Some p
+            → has self.new.awake k ≡ false → Rests (λ n. seen n p) }
+        ensures same { (self.new.watch ≡ self.old.watch) × (self.new.marked ≡ self.old.marked)
+            × (self.new.read ≡ self.old.read) × (self.new.spare ≡ self.old.spare) }
         ensures room { length self.new.awake ≡ length self.old.awake }
     {
-        fill(&mut self.awake, count);
+        look_all(&mut self.awake, parts);
     }
 }
 
@@ -117,13 +127,17 @@ fn put_all(set: &mut Bits, other: &Bits)
     set.unite(other);
 }
 
-/// Puts in each number below the count.
-fn fill(set: &mut Bits, count: usize)
-    requires { count ≤ length set.old }
-    ensures filled { (k : ℕ) → k < count → has set.new k ≡ true }
+/// Makes the set that of the parts that are not known to rest.
+fn look_all(set: &mut Bits, parts: &[Part])
+    requires { length parts.now ≤ length set.old }
+    ensures rest { (k : ℕ) (p : Phase) → slice_get parts.now k ≡ Some p → has set.new k ≡ false
+        → Rests (λ n. seen n p) }
     ensures room { length set.new ≡ length set.old }
 {
-    for k in 0..count {
-        set.insert(k);
+    set.clear();
+    for k in 0..parts.len() {
+        if !parts[k].rests() {
+            set.insert(k);
+        }
     }
 }

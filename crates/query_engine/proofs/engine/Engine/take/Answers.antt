@@ -2,7 +2,7 @@ use Rattle.std.proofs.Common.{◌≡◌, ◌+◌, ◌∙◌, List, Bool, map, le
 use Rattle.std.proofs.lemmas.Bool.{false≢true}
 use Rattle.std.specs.Vec.{with_items}
 use Rattle.std.proofs.lemmas.List.{with_items_is}
-use Rattle.all_or_none.specs.Phases.{Phase, MayAnswer, AreLeft, AreRead, AreUnread}
+use Rattle.all_or_none.specs.Phases.{Phase, MayAnswer, AreLeft, AreRead, AreUnread, AreOfEither}
 use Rattle.query_part.specs.Parts.{seen}
 use Rattle.query_engine.proofs.Keeping.{running, keeping, kept_back, state_back}
 use Rattle.query_engine.proofs.Taking.{took, can_take, took_running, took_stands, took_cursors, took_same, took_growth, took_unread, took_peak, steps_within, steps_wanted}
@@ -27,12 +27,12 @@ mark-some_awake-requires-clause-reads g c = c.self.invariant.2.reads
 pub see-requires-clause-left : goal.see-requires-clause-left
 see-requires-clause-left g c =
     subst (λ (ps : List Phase). AreLeft seen c.self.inside.count c.goes_to-marked.result.now ps) (sym c.as_mut_slice-parts.ensures.value)
-    (left_marked c.self.inside.count c.self.inside.parts.items c.self.inside.watching.awake c.goes_to-marked.result.now (goes c.mark-some_awake.result c.self.inside.watching.awake c.mark-some_awake.new.self.marked c.mark-some_awake.new.self.read c.goes_to-marked.result.now c.mark-some_awake.ensures.awake c.mark-some_awake.ensures.marked c.mark-some_awake.ensures.none (c.mark-some_awake.ensures.sets ∙ c.self.invariant.2.sets) (c.mark-some_awake.ensures.reads ∙ c.self.invariant.2.reads) c.goes_to-marked.ensures.awake c.goes_to-marked.ensures.none).within c.self.invariant.2.left)
+    (left_marked c.self.inside.count c.self.inside.parts.items c.self.inside.watching.awake c.goes_to-marked.result.now (goes c.mark-some_awake.result c.self.inside.watching.awake c.mark-some_awake.new.self.marked c.mark-some_awake.new.self.read c.goes_to-marked.result.now c.mark-some_awake.ensures.awake c.mark-some_awake.ensures.marked c.mark-some_awake.ensures.either c.mark-some_awake.ensures.none (c.mark-some_awake.ensures.sets ∙ c.self.invariant.2.sets) (c.mark-some_awake.ensures.reads ∙ c.self.invariant.2.reads) c.goes_to-marked.ensures.awake c.goes_to-marked.ensures.none).within c.self.invariant.2.left)
 
 pub see-requires-clause-unread : goal.see-requires-clause-unread
 see-requires-clause-unread g c =
     subst (λ (ps : List Phase). AreUnread (seen c.self.inside.count) c.args.event.now c.goes_to-marked.result.now ps) (sym c.as_mut_slice-parts.ensures.value)
-    (unread_marked c.self.inside.schema (map (λ (p : Phase). p.query) (map (seen c.self.inside.count) c.self.inside.parts.items)) c.self.inside.count c.self.inside.parts.items c.self.inside.watching.watch c.self.inside.watching.awake c.self.inside.watching.marked c.self.inside.watching.read c.goes_to-marked.result.now c.args.event.now refl c.self.invariant.0.schemas c.self.invariant.2 (λ k row. (goes c.mark-some_awake.result c.self.inside.watching.awake c.mark-some_awake.new.self.marked c.mark-some_awake.new.self.read c.goes_to-marked.result.now c.mark-some_awake.ensures.awake c.mark-some_awake.ensures.marked c.mark-some_awake.ensures.none (c.mark-some_awake.ensures.sets ∙ c.self.invariant.2.sets) (c.mark-some_awake.ensures.reads ∙ c.self.invariant.2.reads) c.goes_to-marked.ensures.awake c.goes_to-marked.ensures.none).reads k (c.mark-some_awake.ensures.read k row)))
+    (unread_marked c.self.inside.schema (map (λ (p : Phase). p.query) (map (seen c.self.inside.count) c.self.inside.parts.items)) c.self.inside.count c.self.inside.parts.items c.self.inside.watching.watch c.self.inside.watching.awake c.self.inside.watching.marked c.self.inside.watching.read c.goes_to-marked.result.now c.args.event.now refl c.self.invariant.0.schemas c.self.invariant.2 (λ k row. (goes c.mark-some_awake.result c.self.inside.watching.awake c.mark-some_awake.new.self.marked c.mark-some_awake.new.self.read c.goes_to-marked.result.now c.mark-some_awake.ensures.awake c.mark-some_awake.ensures.marked c.mark-some_awake.ensures.either c.mark-some_awake.ensures.none (c.mark-some_awake.ensures.sets ∙ c.self.invariant.2.sets) (c.mark-some_awake.ensures.reads ∙ c.self.invariant.2.reads) c.goes_to-marked.ensures.awake c.goes_to-marked.ensures.none).reads k (c.mark-some_awake.ensures.read k row)))
 
 pub see-requires-clause-reading : goal.see-requires-clause-reading
 see-requires-clause-reading g c =
@@ -45,7 +45,13 @@ see-requires-clause-told g c =
     (unread_marked c.self.inside.schema (map (λ (p : Phase). p.query) (map (seen c.self.inside.count) c.self.inside.parts.items)) c.self.inside.count c.self.inside.parts.items c.self.inside.watching.watch c.self.inside.watching.awake c.self.inside.watching.marked c.self.inside.watching.read c.mark-some_awake.new.self.read c.args.event.now refl c.self.invariant.0.schemas c.self.invariant.2 c.mark-some_awake.ensures.read)
 
 pub see-requires-clause-sets : goal.see-requires-clause-sets
-see-requires-clause-sets g c = ap (λ (b : List Bool). length b) c.mark-some_awake.ensures.same.1 ∙ sym (goes c.mark-some_awake.result c.self.inside.watching.awake c.mark-some_awake.new.self.marked c.mark-some_awake.new.self.read c.goes_to-marked.result.now c.mark-some_awake.ensures.awake c.mark-some_awake.ensures.marked c.mark-some_awake.ensures.none (c.mark-some_awake.ensures.sets ∙ c.self.invariant.2.sets) (c.mark-some_awake.ensures.reads ∙ c.self.invariant.2.reads) c.goes_to-marked.ensures.awake c.goes_to-marked.ensures.none).room
+see-requires-clause-sets g c = ap (λ (b : List Bool). length b) c.mark-some_awake.ensures.same.1 ∙ sym (goes c.mark-some_awake.result c.self.inside.watching.awake c.mark-some_awake.new.self.marked c.mark-some_awake.new.self.read c.goes_to-marked.result.now c.mark-some_awake.ensures.awake c.mark-some_awake.ensures.marked c.mark-some_awake.ensures.either c.mark-some_awake.ensures.none (c.mark-some_awake.ensures.sets ∙ c.self.invariant.2.sets) (c.mark-some_awake.ensures.reads ∙ c.self.invariant.2.reads) c.goes_to-marked.ensures.awake c.goes_to-marked.ensures.none).room
+
+pub see-requires-clause-either : goal.see-requires-clause-either
+see-requires-clause-either g c = subst (λ (b : List Bool). AreOfEither c.goes_to-marked.result.now b c.mark-some_awake.new.self.read) (sym c.mark-some_awake.ensures.same.1) (goes c.mark-some_awake.result c.self.inside.watching.awake c.mark-some_awake.new.self.marked c.mark-some_awake.new.self.read c.goes_to-marked.result.now c.mark-some_awake.ensures.awake c.mark-some_awake.ensures.marked c.mark-some_awake.ensures.either c.mark-some_awake.ensures.none (c.mark-some_awake.ensures.sets ∙ c.self.invariant.2.sets) (c.mark-some_awake.ensures.reads ∙ c.self.invariant.2.reads) c.goes_to-marked.ensures.awake c.goes_to-marked.ensures.none).either
+
+pub see-requires-clause-spare : goal.see-requires-clause-spare
+see-requires-clause-spare g c = ap (λ (b : List Bool). length b) c.mark-some_awake.ensures.same.2 ∙ (c.self.invariant.3 ∙ sym (ap (λ (b : List Bool). length b) c.mark-some_awake.ensures.same.1))
 
 pub invariant_of-self : goal.invariant_of-self
 invariant_of-self g c =
@@ -61,6 +67,7 @@ invariant_of-self g c =
           (λ told. subst (λ (ps : List Phase). MayAnswer c.see.new.touched.items (map (seen (c.self.inside.count + 1)) ps)) (sym is) c.in-Ok.ensures.answering),
       watching_same c.self.inside.schema (map (λ (p : Phase). p.query) old) (map (λ (p : Phase). p.query) after) c.self.inside.count (c.self.inside.count + 1) c.self.inside.parts.items new c.self.inside.watching.watch c.mark-some_awake.new.self.watch c.self.inside.watching.awake c.self.inside.watching.marked c.self.inside.watching.read c.see.new.awake c.mark-some_awake.new.self.marked c.mark-some_awake.new.self.read queries
           c.mark-some_awake.ensures.same.0 (c.see.ensures.sets ∙ ap (λ (b : List Bool). length b) c.mark-some_awake.ensures.same.1) c.mark-some_awake.ensures.sets c.mark-some_awake.ensures.reads (subst (λ (ps : List Phase). AreLeft seen (c.self.inside.count + 1) c.see.new.awake ps) (sym is) c.in-Ok.ensures.left) c.self.invariant.2,
+      c.see.ensures.spare ∙ (ap (λ (b : List Bool). length b) c.mark-some_awake.ensures.same.2 ∙ (c.self.invariant.3 ∙ (sym (ap (λ (b : List Bool). length b) c.mark-some_awake.ensures.same.1) ∙ sym c.see.ensures.sets))),
     )
 
 pub returns-in-Ok-clause-stands : goal.returns-in-Ok-clause-stands
@@ -139,6 +146,7 @@ invariant_of-self-in-Err g c =
           (λ told. absurd (false≢true told)),
       watching_same c.self.inside.schema (map (λ (p : Phase). p.query) old) (map (λ (p : Phase). p.query) after) c.self.inside.count c.self.inside.count c.self.inside.parts.items new c.self.inside.watching.watch c.mark-some_awake.new.self.watch c.self.inside.watching.awake c.self.inside.watching.marked c.self.inside.watching.read c.see.new.awake c.mark-some_awake.new.self.marked c.mark-some_awake.new.self.read (ap (map (λ (p : Phase). p.query)) same)
           c.mark-some_awake.ensures.same.0 (c.see.ensures.sets ∙ ap (λ (b : List Bool). length b) c.mark-some_awake.ensures.same.1) c.mark-some_awake.ensures.sets c.mark-some_awake.ensures.reads (subst (λ (ps : List Phase). AreLeft seen c.self.inside.count c.see.new.awake ps) (sym is) c.in-Err.ensures.still_left) c.self.invariant.2,
+      c.see.ensures.spare ∙ (ap (λ (b : List Bool). length b) c.mark-some_awake.ensures.same.2 ∙ (c.self.invariant.3 ∙ (sym (ap (λ (b : List Bool). length b) c.mark-some_awake.ensures.same.1) ∙ sym c.see.ensures.sets))),
     )
 
 pub returns-in-Err-clause-unchanged : goal.returns-in-Err-clause-unchanged

@@ -40,18 +40,27 @@ impl Lists {
         }
     }
 
-    /// Puts them in place. They rest where the event leaves them as they were and they rested, and
-    /// where their states are all known to be still.
-    pub fn put(&mut self, still: &[bool], stage: &mut Stage, staged: Staged)
+    /// Puts them in place. They rest where the event leaves them as they were and they rested.
+    fn replace(&mut self, stage: &mut Stage, staged: Staged)
         ensures rows { self.new.active.entries ≡ rows_after self.old.active.entries staged }
-        ensures rests { (t : Table) → AreStill t still.now → MayRest t self.old → MayRest t self.new }
+        ensures rests { (t : Table) → MayRest t self.old → MayRest t self.new }
     {
         let stays = is_unchanged(&staged);
         commit(&mut self.active, stage, staged);
         if !stays {
             self.forget();
         }
-        self.look(still);
+    }
+
+    /// The same. If that is looked at, they rest too where their states are all known to be still.
+    pub fn put(&mut self, still: &[bool], looks: bool, stage: &mut Stage, staged: Staged)
+        ensures rows { self.new.active.entries ≡ rows_after self.old.active.entries staged }
+        ensures rests { (t : Table) → AreStill t still.now → MayRest t self.old → MayRest t self.new }
+    {
+        self.replace(stage, staged);
+        if looks {
+            self.look(still);
+        }
     }
 
     /// Nothing is known of them.
@@ -211,11 +220,12 @@ fn recount(awake: u64, count: u64, rested: bool, rests: bool) -> u64
     if awake < count { awake + 1 } else { awake }
 }
 
-/// Puts a key's lists in place, and counts anew.
+/// Puts a key's lists in place, and counts anew. It is told whether to look if they rest now.
 pub fn put_lists(
     lists: &mut [Lists],
     awake: &mut u64,
     still: &[bool],
+    looks: bool,
     stage: &mut Stage,
     number: u64,
     staged: Staged,
@@ -232,7 +242,7 @@ pub fn put_lists(
     let count = lists.len() as u64;
     let own = &mut lists[number as usize];
     let rested = own.rests;
-    own.put(still, stage, staged);
+    own.put(still, looks, stage, staged);
     *awake = recount(*awake, count, rested, own.rests);
 }
 

@@ -339,8 +339,9 @@ impl Matches {
         }
     }
 
-    /// Puts the lists in place. It takes no memory.
-    pub fn put(&mut self, number: u64, staged: Staged)
+    /// Puts the lists in place. It takes no memory. Where the automaton is told to be patient it does not
+    /// matter whether lists rest, and is not looked at.
+    pub fn put(&mut self, patient: bool, number: u64, staged: Staged)
         requires { number < length self.old.rows }
         ensures { self.new ≡ record self.old {
           rows = slice_set self.old.rows number
@@ -351,6 +352,7 @@ impl Matches {
             self.lists.as_mut_slice(),
             &mut self.awake,
             self.still.as_slice(),
+            !patient,
             &mut self.stage,
             number,
             staged,

@@ -432,7 +432,7 @@ impl Keeps for Part {
                     self.upto = position + 1;
                     self.clock.set(now);
                     self.here = Some(ready.number);
-                    self.matches.put(ready.number, ready.staged);
+                    self.matches.put(self.patient, ready.number, ready.staged);
                 }
             },
         }

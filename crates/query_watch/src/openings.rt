@@ -104,12 +104,12 @@ pub fn opening_of(tests: &[Test]) -> Opening
     }
 }
 
-/// Whether the text opens so.
+/// Whether the text opens so: one test for both, which a processor foresees better than two.
 #[inline(always)]
 fn opens(opening: &Opening, text: &str) -> bool
     ensures { result ≡ opens_with opening.now text.now }
 {
-    text.len() as u64 == opening.length && first_byte(text) == opening.first
+    (text.len() as u64 == opening.length) & (first_byte(text) == opening.first)
 }
 
 /// Whether the event may have a text that is asked for: where it has a text there, whether that opens

@@ -10,3 +10,5 @@ pub mod Growth
 pub mod Classes
 -- rows that the transitions tell stay told as these grow
 pub mod Listed
+-- the table of the states that accept
+pub mod Accepting

@@ -7,6 +7,7 @@ use Rattle.cea_determinise.specs.declared.cea.StateSets.{StateSets}
 use Rattle.cea_determinise.specs.declared.table.TransitionKey.{TransitionKey}
 use Rattle.cea_determinise.specs.declared.table.Both.{Both}
 use Rattle.cea_determinise.specs.declared.table.Successors.{Successors}
+use Rattle.cea_determinise.specs.Runs.{accepts}
 use Rattle.cea_determinise.specs.Strict.{Standing, next_standing}
 use Rattle.cea_determinise.specs.Cea.{automaton_of_cea, standing_of, standing, IsWellFormed, HasLeavesBelow}
 
@@ -94,3 +95,8 @@ pub record AddsClass (bits : List Bool) (old new : Table) : Type 0 where
   pub more : List (List Bool)
   pub only : All (λ (b : List Bool). b ≡ bits) more
   pub grown : new ≡ record old { classes = old.classes ++ more }
+
+-- Of the first states other than the start it is told whether they accept.
+pub record TellsAccepting (cea : Cea) (states : List StateSets) (told : List Bool) : Type 0 where
+  pub few : length told ≤ length states
+  pub right : (k : ℕ) (b : Bool) → slice_get told k ≡ Some b → b ≡ accepts (automaton_of_cea cea) (standing_at states (suc k)).sets

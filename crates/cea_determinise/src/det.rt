@@ -10,7 +10,7 @@ ghost use Rattle.cea_determinise.specs.Cea.{automaton_of_cea, standing, standing
 ghost use Rattle.cea_determinise.specs.declared.cea.StateSets.{StateSets};
 ghost use Rattle.cea_determinise.specs.declared.table.Successors.{Successors};
 ghost use Rattle.cea_determinise.specs.Rows.{IsListed};
-ghost use Rattle.cea_determinise.specs.Det.{sets_at, standing_at, class_at, AreSuccessors, IsSound, Reached, StaysWithin, AreBoth, IsNumber, Adds, AddsClass};
+ghost use Rattle.cea_determinise.specs.Det.{sets_at, standing_at, class_at, AreSuccessors, IsSound, Reached, StaysWithin, AreBoth, IsNumber, Adds, AddsClass, TellsAccepting};
 
 use crate::cea::{Cea, Side, StateSets};
 use crate::places::Places;
@@ -38,6 +38,9 @@ pub struct Det {
     alloc: Global,
     cea: Cea,
     states: IndexSet<StateSets>,
+    /// For each state other than the start, by its number, whether it accepts, where there was memory
+    /// for it.
+    accepting: Vec<bool>,
     /// For each class the leaves that can read its events.
     classes: IndexSet<Bits>,
     transitions: IndexMap<TransitionKey, Successors>,
@@ -49,7 +52,7 @@ pub struct Det {
 
 impl Model for Det {
     ghost use Rattle.std.specs.Prelude.{All};
-    ghost use Rattle.cea_determinise.specs.Det.{Table, IsSound};
+    ghost use Rattle.cea_determinise.specs.Det.{Table, IsSound, TellsAccepting};
     ghost use Rattle.cea_determinise.specs.Rows.{IsListed};
 
     ghost Value = { Table };
@@ -67,7 +70,8 @@ impl Model for Det {
       classes = d.classes.keys;
       transitions = d.transitions.entries;
     })
-        × All (IsListed d.transitions.entries) d.rows };
+        × All (IsListed d.transitions.entries) d.rows
+        × TellsAccepting d.cea d.states.keys d.accepting.items };
 }
 
 impl Det {
@@ -80,6 +84,7 @@ impl Det {
             alloc,
             cea,
             states: IndexSet::new(alloc),
+            accepting: Vec::new(alloc),
             classes: IndexSet::new(alloc),
             transitions: IndexMap::new(alloc),
             places: Places::new(alloc),
@@ -137,8 +142,8 @@ impl Det {
         self.states.get_index((state - 1) as usize)
     }
 
-    /// Whether the state accepts: one of the leaves that read the last event may be the last.
-    pub fn accepts(&self, state: State) -> bool
+    /// Whether the state accepts, worked out from its sets.
+    fn work_out_accepts(&self, state: State) -> bool
         requires { state ≤ length self.now.states }
         ensures { result ≡ accepts (automaton_of_cea self.now.cea)
             (standing_at self.now.states state).sets }
@@ -146,6 +151,21 @@ impl Det {
         match self.state_sets(state) {
             None => false,
             Some(state_sets) => state_sets.fresh.meets(&self.cea.last),
+        }
+    }
+
+    /// Whether the state accepts: one of the leaves that read the last event may be the last.
+    pub fn accepts(&self, state: State) -> bool
+        requires { state ≤ length self.now.states }
+        ensures { result ≡ accepts (automaton_of_cea self.now.cea)
+            (standing_at self.now.states state).sets }
+    {
+        if state == 0 {
+            return false;
+        }
+        match self.accepting.get((state - 1) as usize) {
+            Some(known) => *known,
+            None => self.work_out_accepts(state),
         }
     }
 
@@ -168,6 +188,7 @@ impl Det {
         self.states.truncate(sizes.states as usize);
         self.transitions.truncate(sizes.pairs as usize);
         self.classes.truncate(sizes.classes as usize);
+        self.accepting.truncate(sizes.states as usize);
         self.rows.clear();
     }
 
@@ -286,6 +307,8 @@ impl Det {
         let marked = number(&mut self.states, both.marked)?;
         let unmarked = number(&mut self.states, both.unmarked)?;
         let found = Successors { marked, unmarked };
+        // Where this has no memory, it is worked out at each call whether the state accepts.
+        let _told = tell_accepting(&mut self.accepting, &self.cea, &self.states);
         // Where this has no memory, the pair is found by its hash.
         let _told = self.places.put(key, self.transitions.len());
         self.transitions.insert(key, found)?;
@@ -347,6 +370,24 @@ fn number(
             Ok(Some(index.min(states.len()) as u64 + 1))
         }
     }
+}
+
+/// Tells of the states that the table lacks whether they accept, as far as there is memory.
+fn tell_accepting(
+    accepting: &mut Vec<bool>,
+    cea: &Cea,
+    states: &IndexSet<StateSets>,
+) -> Result<(), Memory>
+    requires well_formed { IsWellFormed cea.now }
+    requires states { All (HasLeavesBelow cea.now.size) states.now.keys }
+    requires told { TellsAccepting cea.now states.now.keys accepting.old.items }
+    ensures { TellsAccepting cea.now states.now.keys accepting.new.items }
+{
+    for k in accepting.len()..states.len() {
+        let state_sets = &states.as_slice()[k];
+        accepting.push(state_sets.fresh.meets(&cea.last))?;
+    }
+    Ok(())
 }
 
 /// Where the set stands among the first classes.

@@ -2,6 +2,7 @@ use Rattle.std.proofs.Common.{◌≡◌, subst, sym, take, All, length, ◌≤�
 use Rattle.cea_determinise.specs.Det.{Table, IsSound, StaysWithin}
 use Rattle.cea_determinise.proofs.Growth.{sound_cut}
 use Rattle.cea_determinise.proofs.Listed.{no_rows}
+use Rattle.cea_determinise.proofs.Accepting.{tells_cut}
 use Rattle.cea_determinise.proofs.det.Det.back.Goals as goal
 
 pub invariant_of-self : goal.invariant_of-self
@@ -17,4 +18,8 @@ invariant_of-self c =
     let cut : Table = record { cea = t.cea; states = take m.states t.states; classes = take m.classes t.classes; transitions = take m.pairs t.transitions } in
     let after : Table = record { cea = t.cea; states = c.truncate.new.self.keys; classes = c.truncate-3.new.self.keys; transitions = c.truncate-2.new.self.entries } in
     let same : cut ≡ after = λ i. record { cea = t.cea; states = states i; classes = classes i; transitions = transitions i } in
-    (subst IsSound same (sound_cut t m.states m.pairs m.classes few known within c.self.invariant.0), no_rows _ _ c.clear.ensures)
+    let told = tells_cut t.cea t.states c.self.inside.accepting.items m.states c.self.invariant.2 in (
+      subst IsSound same (sound_cut t m.states m.pairs m.classes few known within c.self.invariant.0),
+      no_rows _ _ c.clear.ensures,
+      rw (c.truncate.ensures.keys, c.truncate-4.ensures.items) told,
+    )

@@ -5,6 +5,7 @@ use Rattle.cea_determinise.specs.Keys.{is_same_key}
 use Rattle.cea_determinise.specs.Det.{Table, class_at, AreBoth, Reached}
 use Rattle.cea_determinise.proofs.Growth.{sound_one, sound_two, sound_pair, reached_two, successors_two}
 use Rattle.cea_determinise.proofs.Listed.{rows_stay}
+use Rattle.cea_determinise.proofs.Accepting.{tells_later}
 use Rattle.cea_determinise.proofs.det.Det.enter.Goals as goal
 
 pub invariant_of-self : goal.invariant_of-self
@@ -12,16 +13,23 @@ invariant_of-self g c =
     let t : Table = record { cea = c.self.inside.cea; states = c.self.inside.states.keys; classes = c.self.inside.classes.keys; transitions = c.self.inside.transitions.entries } in
     let s = c.args.key.state in
     let b = class_at c.args.self.now.classes c.args.key.class in
-    let are = subst (λ (o : Table). AreBoth o s b c.args.both) (sym c.self.view_is) c.requires.both in
-    (sound_one t s b true c.args.both.marked c.number.new.states.keys are.marked c.number.ensures.added c.self.invariant.0, c.self.invariant.1)
+    let are = subst (λ (o : Table). AreBoth o s b c.args.both) (sym c.self.view_is) c.requires.both in (
+      sound_one t s b true c.args.both.marked c.number.new.states.keys are.marked c.number.ensures.added c.self.invariant.0,
+      c.self.invariant.1,
+      tells_later t.cea t.states c.number.new.states.keys c.self.inside.accepting.items c.args.both.marked c.number.ensures.added c.self.invariant.2,
+    )
 
 pub invariant_of-self-in_err-unmarked : goal.invariant_of-self-in_err-unmarked
 invariant_of-self-in_err-unmarked g c =
     let t : Table = record { cea = c.self.inside.cea; states = c.self.inside.states.keys; classes = c.self.inside.classes.keys; transitions = c.self.inside.transitions.entries } in
     let s = c.args.key.state in
     let b = class_at c.args.self.now.classes c.args.key.class in
-    let are = subst (λ (o : Table). AreBoth o s b c.args.both) (sym c.self.view_is) c.requires.both in
-    (sound_two t s b c.args.both c.number.new.states.keys c.number-2.new.states.keys are c.number.ensures.added c.number-2.ensures.added c.self.invariant.0, c.self.invariant.1)
+    let are = subst (λ (o : Table). AreBoth o s b c.args.both) (sym c.self.view_is) c.requires.both in (
+      sound_two t s b c.args.both c.number.new.states.keys c.number-2.new.states.keys are c.number.ensures.added c.number-2.ensures.added c.self.invariant.0,
+      c.self.invariant.1,
+      tells_later t.cea c.number.new.states.keys c.number-2.new.states.keys c.self.inside.accepting.items c.args.both.unmarked c.number-2.ensures.added
+          (tells_later t.cea t.states c.number.new.states.keys c.self.inside.accepting.items c.args.both.marked c.number.ensures.added c.self.invariant.2),
+    )
 
 pub returns-in_err-unmarked-clause-states : goal.returns-in_err-unmarked-clause-states
 returns-in_err-unmarked-clause-states g c =
@@ -32,13 +40,33 @@ returns-in_err-unmarked-clause-states g c =
     subst (λ (o : Table). Reached o s b (record { cea = t.cea; classes = t.classes; states = c.number-2.new.states.keys; transitions = t.transitions })) c.self.view_is
     (reached_two t s b c.args.both c.number.new.states.keys c.number-2.new.states.keys t.transitions are c.number.ensures.added c.number-2.ensures.added)
 
+pub tell_accepting-told-requires-clause-well_formed : goal.tell_accepting-told-requires-clause-well_formed
+tell_accepting-told-requires-clause-well_formed g c = c.self.invariant.0.well_formed
+
+pub tell_accepting-told-requires-clause-states : goal.tell_accepting-told-requires-clause-states
+tell_accepting-told-requires-clause-states g c =
+    let t : Table = record { cea = c.self.inside.cea; states = c.self.inside.states.keys; classes = c.self.inside.classes.keys; transitions = c.self.inside.transitions.entries } in
+    let s = c.args.key.state in
+    let b = class_at c.args.self.now.classes c.args.key.class in
+    let are = subst (λ (o : Table). AreBoth o s b c.args.both) (sym c.self.view_is) c.requires.both in
+    (sound_two t s b c.args.both c.number.new.states.keys c.number-2.new.states.keys are c.number.ensures.added c.number-2.ensures.added c.self.invariant.0).states
+
+pub tell_accepting-told-requires-clause-told : goal.tell_accepting-told-requires-clause-told
+tell_accepting-told-requires-clause-told g c =
+    let t : Table = record { cea = c.self.inside.cea; states = c.self.inside.states.keys; classes = c.self.inside.classes.keys; transitions = c.self.inside.transitions.entries } in
+    tells_later t.cea c.number.new.states.keys c.number-2.new.states.keys c.self.inside.accepting.items c.args.both.unmarked c.number-2.ensures.added
+    (tells_later t.cea t.states c.number.new.states.keys c.self.inside.accepting.items c.args.both.marked c.number.ensures.added c.self.invariant.2)
+
 pub invariant_of-self-in_err-insert : goal.invariant_of-self-in_err-insert
 invariant_of-self-in_err-insert g c =
     let t : Table = record { cea = c.self.inside.cea; states = c.self.inside.states.keys; classes = c.self.inside.classes.keys; transitions = c.self.inside.transitions.entries } in
     let s = c.args.key.state in
     let b = class_at c.args.self.now.classes c.args.key.class in
-    let are = subst (λ (o : Table). AreBoth o s b c.args.both) (sym c.self.view_is) c.requires.both in
-    (rw c.in_err-insert.ensures.err (sound_two t s b c.args.both c.number.new.states.keys c.number-2.new.states.keys are c.number.ensures.added c.number-2.ensures.added c.self.invariant.0), rw c.in_err-insert.ensures.err c.self.invariant.1)
+    let are = subst (λ (o : Table). AreBoth o s b c.args.both) (sym c.self.view_is) c.requires.both in (
+      rw c.in_err-insert.ensures.err (sound_two t s b c.args.both c.number.new.states.keys c.number-2.new.states.keys are c.number.ensures.added c.number-2.ensures.added c.self.invariant.0),
+      rw c.in_err-insert.ensures.err c.self.invariant.1,
+      c.tell_accepting-told.ensures,
+    )
 
 pub returns-in_err-insert-clause-states : goal.returns-in_err-insert-clause-states
 returns-in_err-insert-clause-states g c =
@@ -64,6 +92,7 @@ invariant_of-self-2 g c =
       sound_pair t.cea c.number-2.new.states.keys t.classes t.transitions c.args.key _ c.insert.new.self.entries entered right
           (sound_two t s b c.args.both c.number.new.states.keys c.number-2.new.states.keys are c.number.ensures.added c.number-2.ensures.added c.self.invariant.0),
       rows_stay _ _ _ _ entered c.self.invariant.1,
+      c.tell_accepting-told.ensures,
     )
 
 pub returns-clause-successors : goal.returns-clause-successors

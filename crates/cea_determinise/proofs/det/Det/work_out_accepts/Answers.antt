@@ -3,7 +3,7 @@ use Rattle.std.specs.Prelude.{◌&&◌}
 use Rattle.cer_base.specs.Bits.{has}
 use Rattle.cea_determinise.specs.Det.{Table}
 use Rattle.cea_determinise.proofs.Growth.{meets_tells}
-use Rattle.cea_determinise.proofs.det.Det.accepts.Goals as goal
+use Rattle.cea_determinise.proofs.det.Det.work_out_accepts.Goals as goal
 
 pub returns-in-Some : goal.returns-in-Some
 returns-in-Some c =

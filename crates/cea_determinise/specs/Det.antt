@@ -6,6 +6,7 @@ use Rattle.cea_determinise.specs.declared.cea.Cea.{Cea}
 use Rattle.cea_determinise.specs.declared.cea.StateSets.{StateSets}
 use Rattle.cea_determinise.specs.declared.table.TransitionKey.{TransitionKey}
 use Rattle.cea_determinise.specs.declared.table.Both.{Both}
+use Rattle.cea_determinise.specs.declared.table.Sizes.{Sizes}
 use Rattle.cea_determinise.specs.declared.table.Successors.{Successors}
 use Rattle.cea_determinise.specs.Runs.{accepts}
 use Rattle.cea_determinise.specs.Strict.{Standing, next_standing}
@@ -100,3 +101,9 @@ pub record AddsClass (bits : List Bool) (old new : Table) : Type 0 where
 pub record TellsAccepting (cea : Cea) (states : List StateSets) (told : List Bool) : Type 0 where
   pub few : length told ≤ length states
   pub right : (k : ℕ) (b : Bool) → slice_get told k ≡ Some b → b ≡ accepts (automaton_of_cea cea) (standing_at states (suc k)).sets
+
+-- The sizes are those of the three tables.
+pub record TellsSizes (known_states : List StateSets) (known_classes : List (List Bool)) (known_pairs : List (TransitionKey × Successors)) (told : Sizes) : Type 0 where
+  pub states : told.states ≡ length known_states
+  pub pairs : told.pairs ≡ length known_pairs
+  pub classes : told.classes ≡ length known_classes

@@ -46,13 +46,16 @@ pub struct Det {
     transitions: IndexMap<TransitionKey, Successors>,
     /// Where a pair may stand among the transitions, which is then tried before its hash is made.
     places: Places,
+    /// How many states, pairs and classes there are, in one place: they are asked for before each
+    /// event.
+    counts: Sizes,
     /// Rows of states whose transitions are known.
     rows: KnownRows,
 }
 
 impl Model for Det {
     ghost use Rattle.std.specs.Prelude.{All};
-    ghost use Rattle.cea_determinise.specs.Det.{Table, IsSound, TellsAccepting};
+    ghost use Rattle.cea_determinise.specs.Det.{Table, IsSound, TellsAccepting, TellsSizes};
     ghost use Rattle.cea_determinise.specs.Rows.{IsListed};
 
     ghost Value = { Table };
@@ -71,7 +74,8 @@ impl Model for Det {
       transitions = d.transitions.entries;
     })
         × All (IsListed d.transitions.entries) d.rows
-        × TellsAccepting d.cea d.states.keys d.accepting.items };
+        × TellsAccepting d.cea d.states.keys d.accepting.items
+        × TellsSizes d.states.keys d.classes.keys d.transitions.entries d.counts };
 }
 
 impl Det {
@@ -88,6 +92,11 @@ impl Det {
             classes: IndexSet::new(alloc),
             transitions: IndexMap::new(alloc),
             places: Places::new(alloc),
+            counts: Sizes {
+                states: 0,
+                pairs: 0,
+                classes: 0,
+            },
             rows: KnownRows::new(alloc),
         }
     }
@@ -114,11 +123,7 @@ impl Det {
         ensures classes { result.classes ≡ length self.now.classes }
         ensures sound { IsSound self.now }
     {
-        Sizes {
-            states: self.states.len() as u64,
-            pairs: self.transitions.len() as u64,
-            classes: self.classes.len() as u64,
-        }
+        self.counts
     }
 
     /// The leaves that can read the events of the class.
@@ -189,6 +194,7 @@ impl Det {
         self.transitions.truncate(sizes.pairs as usize);
         self.classes.truncate(sizes.classes as usize);
         self.accepting.truncate(sizes.states as usize);
+        self.counts = sizes;
         self.rows.clear();
     }
 
@@ -226,6 +232,7 @@ impl Det {
         }
         let copy = bits.copy(self.alloc)?;
         let (class, _) = self.classes.insert_full(copy)?;
+        self.counts.classes = self.classes.len() as u64;
         Ok(class as u64)
     }
 
@@ -304,14 +311,15 @@ impl Det {
         ensures steps { steps.new ≡ steps.old + 2 }
     {
         steps.tick_times(2);
-        let marked = number(&mut self.states, both.marked)?;
-        let unmarked = number(&mut self.states, both.unmarked)?;
+        let marked = number(&mut self.states, &mut self.counts.states, both.marked)?;
+        let unmarked = number(&mut self.states, &mut self.counts.states, both.unmarked)?;
         let found = Successors { marked, unmarked };
         // Where this has no memory, it is worked out at each call whether the state accepts.
         let _told = tell_accepting(&mut self.accepting, &self.cea, &self.states);
         // Where this has no memory, the pair is found by its hash.
         let _told = self.places.put(key, self.transitions.len());
         self.transitions.insert(key, found)?;
+        self.counts.pairs = self.transitions.len() as u64;
         Ok(found)
     }
 
@@ -355,18 +363,22 @@ impl Det {
     }
 }
 
-/// The number of the state, which is the next one where the state is new.
+/// The number of the state, which is the next one where the state is new. The states are counted.
 fn number(
     states: &mut IndexSet<StateSets>,
+    count: &mut u64,
     state_sets: Option<StateSets>,
 ) -> Result<Option<State>, Memory>
+    requires { count.old ≡ length states.old.keys }
     ensures numbered { IfOk result (IsNumber states.new.keys state_sets) }
     ensures added { Adds state_sets states.old.keys states.new.keys }
+    ensures counted { count.new ≡ length states.new.keys }
 {
     match state_sets {
         None => Ok(None),
         Some(state_sets) => {
             let (index, _) = states.insert_full(state_sets)?;
+            *count = states.len() as u64;
             Ok(Some(index.min(states.len()) as u64 + 1))
         }
     }

@@ -1,4 +1,5 @@
-use Rattle.std.proofs.Common.{◌≡◌, subst, sym, take, All, length, ◌≤◌}
+use Rattle.std.proofs.Common.{◌≡◌, subst, sym, take, All, length, ◌≤◌, arith}
+use Rattle.std.proofs.lemmas.List.{length-take}
 use Rattle.cea_determinise.specs.Det.{Table, IsSound, StaysWithin}
 use Rattle.cea_determinise.proofs.Growth.{sound_cut}
 use Rattle.cea_determinise.proofs.Listed.{no_rows}
@@ -10,6 +11,7 @@ invariant_of-self c =
     let m = c.args.sizes in
     let t : Table = record { cea = c.self.inside.cea; states = c.self.inside.states.keys; classes = c.self.inside.classes.keys; transitions = c.self.inside.transitions.entries } in
     let few = subst (λ (o : Table). m.states ≤ length o.states) (sym c.self.view_is) c.requires.states in
+    let pairs = subst (λ (o : Table). m.pairs ≤ length o.transitions) (sym c.self.view_is) c.requires.pairs in
     let known = subst (λ (o : Table). m.classes ≤ length o.classes) (sym c.self.view_is) c.requires.classes in
     let within = subst (λ (o : Table). All (StaysWithin m.states m.classes) (take m.pairs o.transitions)) (sym c.self.view_is) c.requires.within in
     let states = sym c.truncate.ensures.keys in
@@ -22,4 +24,9 @@ invariant_of-self c =
       subst IsSound same (sound_cut t m.states m.pairs m.classes few known within c.self.invariant.0),
       no_rows _ _ c.clear.ensures,
       rw (c.truncate.ensures.keys, c.truncate-4.ensures.items) told,
+      rw (c.truncate.ensures.keys, c.truncate-2.ensures.entries, c.truncate-3.ensures.keys) (record {
+        states = omega (arith, few, length-take m.states t.states);
+        pairs = omega (arith, pairs, length-take m.pairs t.transitions);
+        classes = omega (arith, known, length-take m.classes t.classes);
+      }),
     )

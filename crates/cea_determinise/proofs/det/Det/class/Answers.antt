@@ -26,7 +26,7 @@ invariant_of-self-2 g c =
     let last : c.insert_full.new.self.keys ≡ t.classes ++ b ∷ [] = c.in_ok-class.ensures.keys ∙ ap (insert_key is_same_set t.classes) c.in_ok-copy.ensures ∙ class_last b t.classes absent in
     let room : length b ≡ room_for t.cea.size = subst (λ (o : Table). length b ≡ room_for o.cea.size) (sym c.self.view_is) c.requires in
     let R : List Bool → Type 0 = λ k. length k ≡ room_for t.cea.size in
-    (subst (λ (cs : List (List Bool)). IsSound (record t { classes = cs })) (sym last) (sound_class t (b ∷ []) (All-cons R b [] room (All-nil R)) c.self.invariant.0), c.self.invariant.1, c.self.invariant.2)
+    (subst (λ (cs : List (List Bool)). IsSound (record t { classes = cs })) (sym last) (sound_class t (b ∷ []) (All-cons R b [] room (All-nil R)) c.self.invariant.0), c.self.invariant.1, c.self.invariant.2, record { states = c.self.invariant.3.states; pairs = c.self.invariant.3.pairs; classes = c.len.ensures.len })
 
 pub returns-clause-class : goal.returns-clause-class
 returns-clause-class g c =

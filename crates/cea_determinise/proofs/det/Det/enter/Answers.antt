@@ -17,6 +17,7 @@ invariant_of-self g c =
       sound_one t s b true c.args.both.marked c.number.new.states.keys are.marked c.number.ensures.added c.self.invariant.0,
       c.self.invariant.1,
       tells_later t.cea t.states c.number.new.states.keys c.self.inside.accepting.items c.args.both.marked c.number.ensures.added c.self.invariant.2,
+      record { states = c.number.ensures.counted; pairs = c.self.invariant.3.pairs; classes = c.self.invariant.3.classes },
     )
 
 pub invariant_of-self-in_err-unmarked : goal.invariant_of-self-in_err-unmarked
@@ -29,6 +30,7 @@ invariant_of-self-in_err-unmarked g c =
       c.self.invariant.1,
       tells_later t.cea c.number.new.states.keys c.number-2.new.states.keys c.self.inside.accepting.items c.args.both.unmarked c.number-2.ensures.added
           (tells_later t.cea t.states c.number.new.states.keys c.self.inside.accepting.items c.args.both.marked c.number.ensures.added c.self.invariant.2),
+      record { states = c.number-2.ensures.counted; pairs = c.self.invariant.3.pairs; classes = c.self.invariant.3.classes },
     )
 
 pub returns-in_err-unmarked-clause-states : goal.returns-in_err-unmarked-clause-states
@@ -66,6 +68,7 @@ invariant_of-self-in_err-insert g c =
       rw c.in_err-insert.ensures.err (sound_two t s b c.args.both c.number.new.states.keys c.number-2.new.states.keys are c.number.ensures.added c.number-2.ensures.added c.self.invariant.0),
       rw c.in_err-insert.ensures.err c.self.invariant.1,
       c.tell_accepting-told.ensures,
+      record { states = c.number-2.ensures.counted; pairs = rw c.in_err-insert.ensures.err c.self.invariant.3.pairs; classes = c.self.invariant.3.classes },
     )
 
 pub returns-in_err-insert-clause-states : goal.returns-in_err-insert-clause-states
@@ -93,6 +96,7 @@ invariant_of-self-2 g c =
           (sound_two t s b c.args.both c.number.new.states.keys c.number-2.new.states.keys are c.number.ensures.added c.number-2.ensures.added c.self.invariant.0),
       rows_stay _ _ _ _ entered c.self.invariant.1,
       c.tell_accepting-told.ensures,
+      record { states = c.number-2.ensures.counted; pairs = c.len-2.ensures.len; classes = c.self.invariant.3.classes },
     )
 
 pub returns-clause-successors : goal.returns-clause-successors

@@ -41,6 +41,19 @@ pub struct Sinks {
     pub note: u64,
 }
 
+/// The status of a call over the host. What else it leaves is let go here, so that it is let go once.
+fn status_of<L: Ledger>(
+    alloc: Global,
+    words: Vec<String>,
+    host: &mut MemHost,
+    out: &mut MemSink,
+    notes: &mut MemSink,
+    steps: &mut Steps<L>,
+) -> u8 {
+    let done = core_main(alloc, words, host, out, notes, steps);
+    done.status
+}
+
 /// What a call answers over the host: the status, a bar, the output, a bar, the note.
 fn answer<L: Ledger>(
     alloc: Global,
@@ -63,8 +76,8 @@ fn answer<L: Ledger>(
         return Err(AllocError);
     };
     let mut steps: Steps<L> = Steps::start(blank);
-    let done = core_main(alloc, words, host, &mut out, &mut notes, &mut steps);
-    let mut text = format!(in alloc; "{}|", done.status)?;
+    let status = status_of(alloc, words, host, &mut out, &mut notes, &mut steps);
+    let mut text = format!(in alloc; "{status}|")?;
     push_bytes(&mut text, out.as_slice())?;
     text.push('|')?;
     push_bytes(&mut text, notes.as_slice())?;

@@ -32,7 +32,7 @@ kept_here table c v inside = record { place = v; here = get_or-set_same table c 
 children_set : (low : ℤ) (table : List (Option ℕ)) (c v : ℕ) (n : Node) → c < length table → KeepsChildren low table n → KeepsChildren low (set table c (Some v)) n
 children_set low table c v (Bottom s) inside h = tt
 children_set low table c v (Output p d m k) inside h = kept_set table c d v inside h
-children_set low table c v (Union l r m q k) inside h = (kept_set table c l v inside h.0, λ test. kept_set table c r v inside (h.1 test))
+children_set low table c v (Union l r k m q) inside h = (kept_set table c l v inside h.0, λ test. kept_set table c r v inside (h.1 test))
 
 -- more roots need no less
 needs_more : (low : ℤ) (nodes : List Node) (roots more : List ℕ) (id : ℕ) → Needs low nodes roots id → Needs low nodes (roots ++ more) id
@@ -99,23 +99,23 @@ module _ (low : ℤ) (nodes : List Node) where
       marks_down roots (set table c (Some v)) i (Output p c m k) more at (λ k'. kept_here table c v (omega arith))
 
   -- of a union, the left child and then perhaps the right one
-  left_recent : (i l r k : ℕ) (m q : Stamp) → WellFormed nodes → slice_get nodes i ≡ Some (Union l r m q k) → low ≤ℤ (newest (tree nodes i)).clock → low ≤ℤ (newest (tree nodes l)).clock
+  left_recent : (i l r k : ℕ) (m q : Stamp) → WellFormed nodes → slice_get nodes i ≡ Some (Union l r k m q) → low ≤ℤ (newest (tree nodes i)).clock → low ≤ℤ (newest (tree nodes l)).clock
   left_recent i l r k m q w at recent =
-      let is : tree nodes i ≡ United (tree nodes l) (tree nodes r) = tree-at nodes w i (Union l r m q k) at in
-      let whole : IsWellFormedTree (United (tree nodes l) (tree nodes r)) = subst IsWellFormedTree is (w.well_formed_tree i (slice_get_within nodes i (Union l r m q k) at)) in
+      let is : tree nodes i ≡ United (tree nodes l) (tree nodes r) = tree-at nodes w i (Union l r k m q) at in
+      let whole : IsWellFormedTree (United (tree nodes l) (tree nodes r)) = subst IsWellFormedTree is (w.well_formed_tree i (slice_get_within nodes i (Union l r k m q) at)) in
       subst (λ (s : Stamp). low ≤ℤ s.clock) (ap newest is ∙ newest-left (tree nodes l) (tree nodes r) whole.2.ordered) recent
 
-  pub marks_left : (roots : List ℕ) (table : List (Option ℕ)) (i l r k v : ℕ) (m q : Stamp) → WellFormed nodes → length nodes ≤ length table → AreNodeMarks low nodes roots (i + 1) table → slice_get nodes i ≡ Some (Union l r m q k) → IsKept table i → (int_le low q.clock ≡ true → ⊥) → AreNodeMarks low nodes roots i (set table l (Some v))
+  pub marks_left : (roots : List ℕ) (table : List (Option ℕ)) (i l r k v : ℕ) (m q : Stamp) → WellFormed nodes → length nodes ≤ length table → AreNodeMarks low nodes roots (i + 1) table → slice_get nodes i ≡ Some (Union l r k m q) → IsKept table i → (int_le low q.clock ≡ true → ⊥) → AreNodeMarks low nodes roots i (set table l (Some v))
   marks_left roots table i l r k v m q w room h at marked old =
-      let true_fields = w.true_fields i (Union l r m q k) at in let older = true_fields.0 in let within = slice_get_within nodes i (Union l r m q k) at in
+      let true_fields = w.true_fields i (Union l r k m q) at in let older = true_fields.0 in let within = slice_get_within nodes i (Union l r k m q) at in
       let more = marks_child roots table (i + 1) l v h (omega arith) (omega arith) (omega arith) (left_recent i l r k m q w at (h.recent i marked)) (Needs.Left i l r k m q at (h.needed i marked)) in
-      marks_down roots (set table l (Some v)) i (Union l r m q k) more at (λ k'. (kept_here table l v (omega arith), λ test. absurd (old test)))
+      marks_down roots (set table l (Some v)) i (Union l r k m q) more at (λ k'. (kept_here table l v (omega arith), λ test. absurd (old test)))
 
-  pub marks_both : (roots : List ℕ) (table : List (Option ℕ)) (i l r k u v : ℕ) (m q : Stamp) → WellFormed nodes → length nodes ≤ length table → AreNodeMarks low nodes roots (i + 1) table → slice_get nodes i ≡ Some (Union l r m q k) → IsKept table i → int_le low q.clock ≡ true → AreNodeMarks low nodes roots i (set (set table l (Some u)) r (Some v))
+  pub marks_both : (roots : List ℕ) (table : List (Option ℕ)) (i l r k u v : ℕ) (m q : Stamp) → WellFormed nodes → length nodes ≤ length table → AreNodeMarks low nodes roots (i + 1) table → slice_get nodes i ≡ Some (Union l r k m q) → IsKept table i → int_le low q.clock ≡ true → AreNodeMarks low nodes roots i (set (set table l (Some u)) r (Some v))
   marks_both roots table i l r k u v m q w room h at marked test =
-      let true_fields = w.true_fields i (Union l r m q k) at in let older_l = true_fields.0 in let older_r = true_fields.1 in let within = slice_get_within nodes i (Union l r m q k) at in
+      let true_fields = w.true_fields i (Union l r k m q) at in let older_l = true_fields.0 in let older_r = true_fields.1 in let within = slice_get_within nodes i (Union l r k m q) at in
       let long = length-set table l (Some u) in
       let one = marks_child roots table (i + 1) l u h (omega arith) (omega arith) (omega arith) (left_recent i l r k m q w at (h.recent i marked)) (Needs.Left i l r k m q at (h.needed i marked)) in
       let recent : low ≤ℤ (newest (tree nodes r)).clock = subst (λ (s : Stamp). low ≤ℤ s.clock) true_fields.3 (test_tells low q.clock test) in
       let two = marks_child roots (set table l (Some u)) (i + 1) r v one (omega arith) (omega arith) (omega arith) recent (Needs.Right i l r k m q at test (h.needed i marked)) in
-      marks_down roots (set (set table l (Some u)) r (Some v)) i (Union l r m q k) two at (λ k'. (kept_set (set table l (Some u)) r l v (omega arith) (kept_here table l u (omega arith)), λ t. kept_here (set table l (Some u)) r v (omega arith)))
+      marks_down roots (set (set table l (Some u)) r (Some v)) i (Union l r k m q) two at (λ k'. (kept_set (set table l (Some u)) r l v (omega arith) (kept_here table l u (omega arith)), λ t. kept_here (set table l (Some u)) r v (omega arith)))

@@ -85,7 +85,7 @@ module _ (low : ℤ) (old : List Node) (marks : List (Option ℕ)) (i next : ℕ
         go : (n : Node) → slice_get old i ≡ Some n → KeepsChildren low marks n → HavePlaces low cur table n
         go (Bottom s) at kept = tt
         go (Output p c m k) at kept = let true_fields = w.true_fields i (Output p c m k) at in has_place c h (omega arith) true_fields.0 kept
-        go (Union l r m q k) at kept = let true_fields = w.true_fields i (Union l r m q k) at in (has_place l h (omega arith) true_fields.0 kept.0, λ test. has_place r h (omega arith) true_fields.1 (kept.1 test))
+        go (Union l r k m q) at kept = let true_fields = w.true_fields i (Union l r k m q) at in (has_place l h (omega arith) true_fields.0 kept.0, λ test. has_place r h (omega arith) true_fields.1 (kept.1 test))
 
   behind_more : Moving low old marks i next cur table → drop (i + 1) cur ≡ drop (i + 1) old
   behind_more h = sym (drop-drop 1 i cur) ∙ ap (drop 1) h.behind ∙ drop-drop 1 i old
@@ -104,7 +104,7 @@ module _ (low : ℤ) (old : List Node) (marks : List (Option ℕ)) (i next : ℕ
   moving_stands f w h lt room fate = go f fate where
     go : (f : ℕ) → IsFate low cur table i (Stands f) → Moving low old marks (i + 1) next cur (set table i (Some f))
     go _ (KeptLeft l r k f m q kept at test gives) = record {
-      moved = moved_first low old marks i (take next cur) table l r k f m q w h.moved (node_here h lt (Union l r m q k) at) (marked_here h kept) room test gives;
+      moved = moved_first low old marks i (take next cur) table l r k f m q w h.moved (node_here h lt (Union l r k m q) at) (marked_here h kept) room test gives;
       free = (let free = h.free in omega arith);
       behind = behind_more h;
       long = h.long;
@@ -134,10 +134,10 @@ module _ (low : ℤ) (old : List Node) (marks : List (Option ℕ)) (i next : ℕ
         let is = need_is g n h (older_inside c g true_fields.0 gives) need in
         moving_put (Output p g m (n + 1)) h lt (moved_output low old marks i (take next cur) table p c k g (n + 1) m w h.moved here (marked_here h kept) room gives (ap (λ j. j + 1) is))
     go _ (KeptUnion l r k a b x y m q kept at test gives_l gives_r need_l need_r) =
-        let here = node_here h lt (Union l r m q k) at in let true_fields = w.true_fields i (Union l r m q k) here in
+        let here = node_here h lt (Union l r k m q) at in let true_fields = w.true_fields i (Union l r k m q) here in
         let is_l = need_is a x h (older_inside l a true_fields.0 gives_l) need_l in
         let is_r = need_is b y h (older_inside r b true_fields.1 gives_r) need_r in
-        moving_put (Union a b m q (max (x + 1) y)) h lt (moved_union low old marks i (take next cur) table l r k a b (max (x + 1) y) m q w h.moved here (marked_here h kept) room test gives_l gives_r (ap (λ j. max (j + 1) y) is_l ∙ ap (λ j. max (need (tree (take next cur) a) + 1) j) is_r))
+        moving_put (Union a b (max (x + 1) y) m q) h lt (moved_union low old marks i (take next cur) table l r k a b (max (x + 1) y) m q w h.moved here (marked_here h kept) room test gives_l gives_r (ap (λ j. max (j + 1) y) is_l ∙ ap (λ j. max (need (tree (take next cur) a) + 1) j) is_r))
 
 -- no node is moved yet
 pub moving_none : (low : ℤ) (old : List Node) (marks : List (Option ℕ)) → Moving low old marks 0 0 old marks

@@ -38,8 +38,8 @@ slice_get_last (x ∷ xs) n = slice_get_last xs n
 follows_on : (low : ℤ) (table : List (Option ℕ)) (old new more : List Node) (i id f : ℕ) (v : Option ℕ) (n : Node) → WellFormed old → id ≤ i → slice_get old id ≡ Some n → Follows low table new f n → Follows low (set table i v) (new ++ more) f n
 follows_on low table old new more i id f v n w le at (AtBottom s h) = AtBottom s (slice_get_front new more f (Bottom s) h)
 follows_on low table old new more i id f v n w le at (AtOutput p c k g j m t h) = let true_fields = w.true_fields id (Output p c m k) at in let older = true_fields.0 in AtOutput p c k g j m (gives_kept_other table i c g v (omega arith) t) (slice_get_front new more f (Output p g m j) h)
-follows_on low table old new more i id f v n w le at (AtUnion l r k a b j m q e s t h) = let true_fields = w.true_fields id (Union l r m q k) at in let older_l = true_fields.0 in let older_r = true_fields.1 in AtUnion l r k a b j m q e (gives_kept_other table i l a v (omega arith) s) (gives_kept_other table i r b v (omega arith) t) (slice_get_front new more f (Union a b m q j) h)
-follows_on low table old new more i id f v n w le at (AtLeft l r k m q e t) = let true_fields = w.true_fields id (Union l r m q k) at in let older_l = true_fields.0 in AtLeft l r k m q e (gives_kept_other table i l f v (omega arith) t)
+follows_on low table old new more i id f v n w le at (AtUnion l r k a b j m q e s t h) = let true_fields = w.true_fields id (Union l r k m q) at in let older_l = true_fields.0 in let older_r = true_fields.1 in AtUnion l r k a b j m q e (gives_kept_other table i l a v (omega arith) s) (gives_kept_other table i r b v (omega arith) t) (slice_get_front new more f (Union a b j m q) h)
+follows_on low table old new more i id f v n w le at (AtLeft l r k m q e t) = let true_fields = w.true_fields id (Union l r k m q) at in let older_l = true_fields.0 in AtLeft l r k m q e (gives_kept_other table i l f v (omega arith) t)
 
 pub later_push : (p : ℕ) (xs : List Node) (n : Node) → later p (xs ++ n ∷ []) ≡ later p xs + later p (n ∷ [])
 later_push p xs n = sum_by-append (λ (m : Node). cond (nat_le p (max_of m).pos) 1 0) xs (n ∷ [])

@@ -20,11 +20,11 @@ pub record IsReached (new : List Node) (table : List (Option ℕ)) (roots : List
 reached_child : (low : ℤ) (new : List Node) (table : List (Option ℕ)) (roots : List ℕ) (f p c k : ℕ) (m : Stamp) → Follows low table new f (Output p c m k) → Reaches new roots f → IsReached new table roots c
 reached_child low new table roots f _ _ _ _ (AtOutput p c k g j m t h) r = record { place = g; gives = t; reached = Reaches.Child f p g j m h r }
 
-reached_left : (low : ℤ) (new : List Node) (table : List (Option ℕ)) (roots : List ℕ) (f l r k : ℕ) (m q : Stamp) → Follows low table new f (Union l r m q k) → Reaches new roots f → IsReached new table roots l
+reached_left : (low : ℤ) (new : List Node) (table : List (Option ℕ)) (roots : List ℕ) (f l r k : ℕ) (m q : Stamp) → Follows low table new f (Union l r k m q) → Reaches new roots f → IsReached new table roots l
 reached_left low new table roots f _ _ _ _ _ (AtUnion l r k a b j m q e s t h) x = record { place = a; gives = s; reached = Reaches.Left f a b j m q h x }
 reached_left low new table roots f _ _ _ _ _ (AtLeft l r k m q e t) x = record { place = f; gives = t; reached = x }
 
-reached_right : (low : ℤ) (new : List Node) (table : List (Option ℕ)) (roots : List ℕ) (f l r k : ℕ) (m q : Stamp) → Follows low table new f (Union l r m q k) → int_le low q.clock ≡ true → Reaches new roots f → IsReached new table roots r
+reached_right : (low : ℤ) (new : List Node) (table : List (Option ℕ)) (roots : List ℕ) (f l r k : ℕ) (m q : Stamp) → Follows low table new f (Union l r k m q) → int_le low q.clock ≡ true → Reaches new roots f → IsReached new table roots r
 reached_right low new table roots f _ _ _ _ _ (AtUnion l r k a b j m q e s t h) test x = record { place = b; gives = t; reached = Reaches.Right f a b j m q h x }
 reached_right low new table roots f _ _ _ _ _ (AtLeft l r k m q e t) test x = absurd cc
 
@@ -33,8 +33,8 @@ module _ (low : ℤ) (old new : List Node) (marks table : List (Option ℕ)) (ro
   pub reached : WellFormed old → Moved low old marks (length old) new table → ((id : ℕ) → Contains roots id → IsReached new table new_roots id) → (id : ℕ) → Needs low old roots id → IsReached new table new_roots id
   reached w h at _ (Needs.Root id c) = at id c
   reached w h at _ (Needs.Child id p c k m n needs) = let was = reached w h at id needs in reached_child low new table new_roots was.place p c k m (h.follows id was.place (Output p c m k) (slice_get_within old id (Output p c m k) n) n was.gives) was.reached
-  reached w h at _ (Needs.Left id l r k m q n needs) = let was = reached w h at id needs in reached_left low new table new_roots was.place l r k m q (h.follows id was.place (Union l r m q k) (slice_get_within old id (Union l r m q k) n) n was.gives) was.reached
-  reached w h at _ (Needs.Right id l r k m q n test needs) = let was = reached w h at id needs in reached_right low new table new_roots was.place l r k m q (h.follows id was.place (Union l r m q k) (slice_get_within old id (Union l r m q k) n) n was.gives) test was.reached
+  reached w h at _ (Needs.Left id l r k m q n needs) = let was = reached w h at id needs in reached_left low new table new_roots was.place l r k m q (h.follows id was.place (Union l r k m q) (slice_get_within old id (Union l r k m q) n) n was.gives) was.reached
+  reached w h at _ (Needs.Right id l r k m q n test needs) = let was = reached w h at id needs in reached_right low new table new_roots was.place l r k m q (h.follows id was.place (Union l r k m q) (slice_get_within old id (Union l r k m q) n) n was.gives) test was.reached
 
   -- so every node that is left is reached, and recent
   pub all_reached : WellFormed old → AreNodeMarks low old roots 0 marks → Moved low old marks (length old) new table → ((id : ℕ) → Contains roots id → IsReached new table new_roots id) → (j : ℕ) → j < length new → Reaches new new_roots j × (low ≤ℤ (newest (tree new j)).clock)

@@ -62,34 +62,34 @@ module _ (low : ℤ) (old : List Node) (marks : List (Option ℕ)) (i : ℕ) (ne
         fewer_later = λ q. omega (arith, later_push q new (Output p g m j), later_same q (Output p g m j) (Output p c m k) refl);
       })
 
-  pub moved_union : (l r k a b j : ℕ) (m q : Stamp) → WellFormed old → Moved low old marks i new table → slice_get old i ≡ Some (Union l r m q k) → IsKept marks i → i < length table → int_le low q.clock ≡ true → MovesTo table l a → MovesTo table r b → j ≡ max (need (tree new a) + 1) (need (tree new b)) → Moved low old marks (i + 1) (new ++ Union a b m q j ∷ []) (set table i (Some (length new)))
+  pub moved_union : (l r k a b j : ℕ) (m q : Stamp) → WellFormed old → Moved low old marks i new table → slice_get old i ≡ Some (Union l r k m q) → IsKept marks i → i < length table → int_le low q.clock ≡ true → MovesTo table l a → MovesTo table r b → j ≡ max (need (tree new a) + 1) (need (tree new b)) → Moved low old marks (i + 1) (new ++ Union a b j m q ∷ []) (set table i (Some (length new)))
   moved_union l r k a b j m q w h at marked room test gives_l gives_r is_need =
-      let true_fields = w.true_fields i (Union l r m q k) at in let older_l = true_fields.0 in let older_r = true_fields.1 in let within = slice_get_within old i (Union l r m q k) at in
-      let is : tree old i ≡ United (tree old l) (tree old r) = tree-at old w i (Union l r m q k) at in
+      let true_fields = w.true_fields i (Union l r k m q) at in let older_l = true_fields.0 in let older_r = true_fields.1 in let within = slice_get_within old i (Union l r k m q) at in
+      let is : tree old i ≡ United (tree old l) (tree old r) = tree-at old w i (Union l r k m q) at in
       let whole : IsWellFormedTree (United (tree old l) (tree old r)) = subst IsWellFormedTree is (w.well_formed_tree i within) in
       let both : pruned low (United (tree old l) (tree old r)) ≡ United (pruned low (tree old l)) (pruned low (tree old r)) = ap (λ (s : Stamp). cond (int_le low s.clock) (United (pruned low (tree old l)) (pruned low (tree old r))) (pruned low (tree old l))) (sym true_fields.3) ∙ rw test refl in
       let same : United (tree new a) (tree new b) ≡ pruned low (United (tree old l) (tree old r)) = ap (λ x. United x (tree new b)) (h.trees l a older_l gives_l) ∙ ap (United (pruned low (tree old l))) (h.trees r b older_r gives_r) ∙ sym both in
       let well_formed : IsWellFormedTree (United (tree new a) (tree new b)) = subst IsWellFormedTree (sym same) (well_formed-pruned low (United (tree old l) (tree old r)) whole) in
       let is_max : m ≡ newest (tree new a) = true_fields.2 ∙ newest-left (tree old l) (tree old r) whole.2.ordered ∙ sym (child_newest w h l a older_l (omega arith) gives_l) in
       let grows = union-grows new a b j m q h.well_formed (h.inside l a older_l gives_l) (h.inside r b older_r gives_r) is_max (true_fields.3 ∙ sym (child_newest w h r b older_r (omega arith) gives_r)) is_need well_formed in
-      moved_on low old marks i new (Union a b m q j ∷ []) table (Union l r m q k) (length new) w h at marked room (record {
+      moved_on low old marks i new (Union a b j m q ∷ []) table (Union l r k m q) (length new) w h at marked room (record {
         few = omega arith;
         well_formed = grows.well_formed;
-        inside = omega (arith, length-append new (Union a b m q j ∷ []));
-        tree = tree-push new (Union a b m q j) ∙ same ∙ ap (pruned low) (sym is);
-        follows = AtUnion l r k a b j m q test (gives_kept_other table i l a (Some (length new)) (omega arith) gives_l) (gives_kept_other table i r b (Some (length new)) (omega arith) gives_r) (slice_get_last new (Union a b m q j));
-        onto = last_place new (Union a b m q j);
-        no_new_start = λ s has. elim (Contains-push_cases new (Union a b m q j) (Bottom s) has) [ inl x ↦ h.no_new_start s x | inr e ↦ absurd cc ];
-        fewer_later = λ p. omega (arith, later_push p new (Union a b m q j), later_same p (Union a b m q j) (Union l r m q k) refl);
+        inside = omega (arith, length-append new (Union a b j m q ∷ []));
+        tree = tree-push new (Union a b j m q) ∙ same ∙ ap (pruned low) (sym is);
+        follows = AtUnion l r k a b j m q test (gives_kept_other table i l a (Some (length new)) (omega arith) gives_l) (gives_kept_other table i r b (Some (length new)) (omega arith) gives_r) (slice_get_last new (Union a b j m q));
+        onto = last_place new (Union a b j m q);
+        no_new_start = λ s has. elim (Contains-push_cases new (Union a b j m q) (Bottom s) has) [ inl x ↦ h.no_new_start s x | inr e ↦ absurd cc ];
+        fewer_later = λ p. omega (arith, later_push p new (Union a b j m q), later_same p (Union a b j m q) (Union l r k m q) refl);
       })
 
-  pub moved_first : (l r k f : ℕ) (m q : Stamp) → WellFormed old → Moved low old marks i new table → slice_get old i ≡ Some (Union l r m q k) → IsKept marks i → i < length table → int_le low q.clock ≡ false → MovesTo table l f → Moved low old marks (i + 1) new (set table i (Some f))
+  pub moved_first : (l r k f : ℕ) (m q : Stamp) → WellFormed old → Moved low old marks i new table → slice_get old i ≡ Some (Union l r k m q) → IsKept marks i → i < length table → int_le low q.clock ≡ false → MovesTo table l f → Moved low old marks (i + 1) new (set table i (Some f))
   moved_first l r k f m q w h at marked room test gives =
-      let true_fields = w.true_fields i (Union l r m q k) at in let older = true_fields.0 in
-      let is : tree old i ≡ United (tree old l) (tree old r) = tree-at old w i (Union l r m q k) at in
+      let true_fields = w.true_fields i (Union l r k m q) at in let older = true_fields.0 in
+      let is : tree old i ≡ United (tree old l) (tree old r) = tree-at old w i (Union l r k m q) at in
       let first : pruned low (United (tree old l) (tree old r)) ≡ pruned low (tree old l) = ap (λ (s : Stamp). cond (int_le low s.clock) (United (pruned low (tree old l)) (pruned low (tree old r))) (pruned low (tree old l))) (sym true_fields.3) ∙ rw test refl in
       let all : new ++ [] ≡ new = append-nil new in
-      let moved = moved_on low old marks i new [] table (Union l r m q k) f w h at marked room (record {
+      let moved = moved_on low old marks i new [] table (Union l r k m q) f w h at marked room (record {
         few = omega arith;
         well_formed = rw append-nil h.well_formed;
         inside = rw append-nil (h.inside l f older gives);

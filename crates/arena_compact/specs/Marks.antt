@@ -10,15 +10,15 @@ use Rattle.cer_base.specs.Nodes.{tree}
 pub data Reaches (nodes : List Node) (roots : List ℕ) : ℕ → Type 0 where
   Root : (id : ℕ) → Contains roots id → Reaches nodes roots id
   Child : (id p c k : ℕ) (m : Stamp) → slice_get nodes id ≡ Some (Output p c m k) → Reaches nodes roots id → Reaches nodes roots c
-  Left : (id l r k : ℕ) (m q : Stamp) → slice_get nodes id ≡ Some (Union l r m q k) → Reaches nodes roots id → Reaches nodes roots l
-  Right : (id l r k : ℕ) (m q : Stamp) → slice_get nodes id ≡ Some (Union l r m q k) → Reaches nodes roots id → Reaches nodes roots r
+  Left : (id l r k : ℕ) (m q : Stamp) → slice_get nodes id ≡ Some (Union l r k m q) → Reaches nodes roots id → Reaches nodes roots l
+  Right : (id l r k : ℕ) (m q : Stamp) → slice_get nodes id ≡ Some (Union l r k m q) → Reaches nodes roots id → Reaches nodes roots r
 
 -- likewise, but by no right child that is too old
 pub data Needs (low : ℤ) (nodes : List Node) (roots : List ℕ) : ℕ → Type 0 where
   Root : (id : ℕ) → Contains roots id → Needs low nodes roots id
   Child : (id p c k : ℕ) (m : Stamp) → slice_get nodes id ≡ Some (Output p c m k) → Needs low nodes roots id → Needs low nodes roots c
-  Left : (id l r k : ℕ) (m q : Stamp) → slice_get nodes id ≡ Some (Union l r m q k) → Needs low nodes roots id → Needs low nodes roots l
-  Right : (id l r k : ℕ) (m q : Stamp) → slice_get nodes id ≡ Some (Union l r m q k) → int_le low q.clock ≡ true → Needs low nodes roots id → Needs low nodes roots r
+  Left : (id l r k : ℕ) (m q : Stamp) → slice_get nodes id ≡ Some (Union l r k m q) → Needs low nodes roots id → Needs low nodes roots l
+  Right : (id l r k : ℕ) (m q : Stamp) → slice_get nodes id ≡ Some (Union l r k m q) → int_le low q.clock ≡ true → Needs low nodes roots id → Needs low nodes roots r
 
 -- The table has a place for the node.
 pub record IsKept (table : List (Option ℕ)) (id : ℕ) : Type 0 where
@@ -29,7 +29,7 @@ pub record IsKept (table : List (Option ℕ)) (id : ℕ) : Type 0 where
 abbrev pub KeepsChildren : ℤ → List (Option ℕ) → Node → Type 0
 KeepsChildren low table (Bottom s) = Unit {0}
 KeepsChildren low table (Output p c m k) = IsKept table c
-KeepsChildren low table (Union l r m q k) = IsKept table l × (int_le low q.clock ≡ true → IsKept table r)
+KeepsChildren low table (Union l r k m q) = IsKept table l × (int_le low q.clock ≡ true → IsKept table r)
 
 -- From the id on, each kept node's children are kept; all roots are; each kept node is needed, and recent.
 pub record AreNodeMarks (low : ℤ) (nodes : List Node) (roots : List ℕ) (from : ℕ) (table : List (Option ℕ)) : Type 0 where

@@ -20,8 +20,8 @@ pub record MovesTo (table : List (Option ℕ)) (id place : ℕ) : Type 0 where
 pub data Follows (low : ℤ) (table : List (Option ℕ)) (new : List Node) (f : ℕ) : Node → Type 0 where
   AtBottom : (s : Stamp) → slice_get new f ≡ Some (Bottom s) → Follows low table new f (Bottom s)
   AtOutput : (p c k g j : ℕ) (m : Stamp) → MovesTo table c g → slice_get new f ≡ Some (Output p g m j) → Follows low table new f (Output p c m k)
-  AtUnion : (l r k a b j : ℕ) (m q : Stamp) → int_le low q.clock ≡ true → MovesTo table l a → MovesTo table r b → slice_get new f ≡ Some (Union a b m q j) → Follows low table new f (Union l r m q k)
-  AtLeft : (l r k : ℕ) (m q : Stamp) → int_le low q.clock ≡ false → MovesTo table l f → Follows low table new f (Union l r m q k)
+  AtUnion : (l r k a b j : ℕ) (m q : Stamp) → int_le low q.clock ≡ true → MovesTo table l a → MovesTo table r b → slice_get new f ≡ Some (Union a b j m q) → Follows low table new f (Union l r k m q)
+  AtLeft : (l r k : ℕ) (m q : Stamp) → int_le low q.clock ≡ false → MovesTo table l f → Follows low table new f (Union l r k m q)
 
 -- The nodes with ids below i are moved: the kept ones are the new nodes, pruned, at the places that the table gives.
 pub record Moved (low : ℤ) (old : List Node) (marks : List (Option ℕ)) (i : ℕ) (new : List Node) (table : List (Option ℕ)) : Type 0 where

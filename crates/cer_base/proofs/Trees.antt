@@ -36,7 +36,7 @@ tree-push xs n = rw (reverse-append, length-reverse, eq-eqb (length xs) (length 
 pub grown-agree : (f g at : ℕ → SetTree) (id : ℕ) (n : Node) → HasTrueFields at id n → ((k : ℕ) → k < id → f k ≡ g k) → grown f n ≡ grown g n
 grown-agree f g at id (Bottom s) t e = refl
 grown-agree f g at id (Output p c m k) t e = ap (Extended p) (e c t.0)
-grown-agree f g at id (Union l r m q k) t e = ap (λ x. United x (f r)) (e l t.0) ∙ ap (United (g l)) (e r t.1)
+grown-agree f g at id (Union l r k m q) t e = ap (λ x. United x (f r)) (e l t.0) ∙ ap (United (g l)) (e r t.1)
 
 slice_get-push : (xs : List Node) (m n : Node) (id : ℕ) → slice_get (xs ++ m ∷ []) id ≡ Some n → ((id < length xs) × (slice_get xs id ≡ Some n)) ⊎ ((id ≡ length xs) × (m ≡ n))
 slice_get-push [] m n zero h = inr (refl, cc)
@@ -65,7 +65,7 @@ tree-at nodes w id n h = older_at (reverse nodes) id n (tree nodes) (rw reverse-
 HasTrueFields-agree : (f g : ℕ → SetTree) (id : ℕ) (n : Node) → ((k : ℕ) → k < id → f k ≡ g k) → HasTrueFields f id n → HasTrueFields g id n
 HasTrueFields-agree f g id (Bottom s) e t = tt
 HasTrueFields-agree f g id (Output p c m k) e t = let same = e c t.0 in (t.0, rw (← same) t.1, rw (← same) t.2)
-HasTrueFields-agree f g id (Union l r m q k) e t = let one = e l t.0 in let two = e r t.1 in (t.0, t.1, rw (← one, ← two) t.2, rw (← two) t.3, rw (← one, ← two) t.4)
+HasTrueFields-agree f g id (Union l r k m q) e t = let one = e l t.0 in let two = e r t.1 in (t.0, t.1, rw (← one, ← two) t.2, rw (← two) t.3, rw (← one, ← two) t.4)
 
 -- a node that tells what its tree has, and whose tree is well-formed, keeps the store well-formed
 pub well_formed-push : (nodes : List Node) (n : Node) → WellFormed nodes → HasTrueFields (tree nodes) (length nodes) n → IsWellFormedTree (grown (tree nodes) n) → AreInStep (nodes ++ n ∷ []) → WellFormed (nodes ++ n ∷ [])
@@ -161,19 +161,19 @@ HasNode-push nodes n = (omega (arith, length-append nodes (n ∷ [])), tree-push
 pub output-grows : (nodes : List Node) (p c k : ℕ) (m : Stamp) → WellFormed nodes → c < length nodes → m ≡ newest (tree nodes c) → k ≡ need (tree nodes c) + 1 → All (ComesAfter p) (members (tree nodes c)) → Grows nodes (nodes ++ Output p c m k ∷ [])
 output-grows nodes p c k m w inside is_max is_need after = Grows-push nodes (Output p c m k) w (λ s e. cc) (inside, is_max, is_need) (w.well_formed_tree c inside, after)
 
-pub union-grows : (nodes : List Node) (l r k : ℕ) (m q : Stamp) → WellFormed nodes → l < length nodes → r < length nodes → m ≡ newest (tree nodes l) → q ≡ newest (tree nodes r) → k ≡ max (need (tree nodes l) + 1) (need (tree nodes r)) → IsWellFormedTree (United (tree nodes l) (tree nodes r)) → Grows nodes (nodes ++ Union l r m q k ∷ [])
-union-grows nodes l r k m q w in_l in_r is_max is_right is_need well_formed_tree = Grows-push nodes (Union l r m q k) w (λ s e. cc) (in_l, in_r, is_max ∙ sym (newest-left (tree nodes l) (tree nodes r) well_formed_tree.2.ordered), is_right, is_need) well_formed_tree
+pub union-grows : (nodes : List Node) (l r k : ℕ) (m q : Stamp) → WellFormed nodes → l < length nodes → r < length nodes → m ≡ newest (tree nodes l) → q ≡ newest (tree nodes r) → k ≡ max (need (tree nodes l) + 1) (need (tree nodes r)) → IsWellFormedTree (United (tree nodes l) (tree nodes r)) → Grows nodes (nodes ++ Union l r k m q ∷ [])
+union-grows nodes l r k m q w in_l in_r is_max is_right is_need well_formed_tree = Grows-push nodes (Union l r k m q) w (λ s e. cc) (in_l, in_r, is_max ∙ sym (newest-left (tree nodes l) (tree nodes r) well_formed_tree.2.ordered), is_right, is_need) well_formed_tree
 
 -- what a node's fields say of its tree
 HasTrueFields-max : (at : ℕ → SetTree) (id : ℕ) (n : Node) → HasTrueFields at id n → max_of n ≡ newest (grown at n)
 HasTrueFields-max at id (Bottom s) t = refl
 HasTrueFields-max at id (Output p c m k) t = t.1
-HasTrueFields-max at id (Union l r m q k) t = t.2
+HasTrueFields-max at id (Union l r k m q) t = t.2
 
 HasTrueFields-need : (at : ℕ → SetTree) (id : ℕ) (n : Node) → HasTrueFields at id n → need_of n ≡ need (grown at n)
 HasTrueFields-need at id (Bottom s) t = refl
 HasTrueFields-need at id (Output p c m k) t = t.2
-HasTrueFields-need at id (Union l r m q k) t = t.4
+HasTrueFields-need at id (Union l r k m q) t = t.4
 
 pub max-tree : (nodes : List Node) → WellFormed nodes → (id : ℕ) (n : Node) → slice_get nodes id ≡ Some n → max_of n ≡ newest (tree nodes id)
 max-tree nodes w id n at = HasTrueFields-max (tree nodes) id n (w.true_fields id n at) ∙ ap newest (sym (tree-at nodes w id n at))

@@ -14,7 +14,7 @@ use Rattle.std.proofs.lemmas.List.{get_or_append_left, get_or-append_right, get_
 use Rattle.std.proofs.lemmas.List.FromFn.{length-map-range_with_len, get_or-map-range_with_len, fill_by_all}
 use Rattle.std.proofs.lemmas.List.Edits.{fill_by_more}
 use Rattle.std.proofs.lemmas.Nat.{and_le_l}
-use Rattle.std.proofs.lemmas.Nat.Bits.{bit_at_and, bit_at_or, bit_at_not, bit_at-trailing_zeros, bit_at-lt, bit_at-suc, bit_at_lowest, bit_at-zero, bit_at_set_same, bit_at_set_other, bit_at_mask_inside, bit_at_mask_below, ones_shl, shr_and_one}
+use Rattle.std.proofs.lemmas.Nat.Bits.{bit_at_and, bit_at_or, bit_at_not, bit_at-trailing_zeros, bit_at-lt, bit_at-suc, bit_at_lowest, bit_at-zero, bit_at_set_same, bit_at_set_other, bit_at_clear_same, bit_at_clear_other, bit_at_mask_inside, bit_at_mask_below, ones_shl, shr_and_one}
 use Rattle.cer_base.specs.Bits.{has, room_for, bit, word_bits, bits_of_words, word_with_bits, word_of, words_of}
 
 pub length-word_bits : (w : ℕ) → length (word_bits w) ≡ 64
@@ -182,6 +182,22 @@ inserted ws k h j =
             rw (e, has-bits_of_words (set ws (k / 64) v) k, get_or-set_same ws (k / 64) v 0 (omega arith), bit_at_set_same w64 w (k % 64) (omega arith), eq-eqb k k refl) refl
         | inr i ↦ let e : j ≢ k = λ s. i (ap (λ n. n % 64) s) in
             rw (ne_eqb j k e, has-bits_of_words (set ws (k / 64) v) j, has-bits_of_words ws j, q, get_or-set_same ws (k / 64) v 0 (omega arith), bit_at_set_other w64 w (k % 64) (omega arith) (j % 64) i) refl
+      ]
+      | inr q ↦ let e : j ≢ k = λ s. q (ap (λ n. n / 64) s) in
+          rw (ne_eqb j k e, has-bits_of_words (set ws (k / 64) v) j, has-bits_of_words ws j, get_or-set_other ws (k / 64) (j / 64) v 0 q) refl
+    ]
+
+-- one bit is taken out
+pub removed : (ws : List ℕ) (k : ℕ) → k < length ws * 64 → (j : ℕ) → has (bits_of_words (set ws (k / 64) (bit_and (get_or ws (k / 64) 0) (bit_not w64 (1 * 2 ^ (k % 64) % 2 ^ 64))))) j ≡ not (eqb j k) && has (bits_of_words ws) j
+removed ws k h j =
+    let w = get_or ws (k / 64) 0 in
+    let v = bit_and w (bit_not w64 (1 * 2 ^ (k % 64) % 2 ^ 64)) in
+    elim (cases_eq (j / 64) (k / 64)) [
+      | inl q ↦ elim (cases_eq (j % 64) (k % 64)) [
+        | inl i ↦ let e : j ≡ k = omega (arith, q, i) in
+            rw (e, has-bits_of_words (set ws (k / 64) v) k, get_or-set_same ws (k / 64) v 0 (omega arith), bit_at_clear_same w64 w (k % 64) (omega arith), eq-eqb k k refl) refl
+        | inr i ↦ let e : j ≢ k = λ s. i (ap (λ n. n % 64) s) in
+            rw (ne_eqb j k e, has-bits_of_words (set ws (k / 64) v) j, has-bits_of_words ws j, q, get_or-set_same ws (k / 64) v 0 (omega arith), bit_at_clear_other w64 w (k % 64) (omega arith) (j % 64) (omega arith) i) refl
       ]
       | inr q ↦ let e : j ≢ k = λ s. q (ap (λ n. n / 64) s) in
           rw (ne_eqb j k e, has-bits_of_words (set ws (k / 64) v) j, has-bits_of_words ws j, get_or-set_other ws (k / 64) (j / 64) v 0 q) refl

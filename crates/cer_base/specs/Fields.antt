@@ -8,10 +8,10 @@ use Rattle.cer_base.specs.declared.node.Node.TheVariants.{Bottom, Output, Union}
 abbrev pub max_of : Node → Stamp
 max_of (Bottom start) = start
 max_of (Output p child m k) = m
-max_of (Union left right m r k) = m
+max_of (Union left right k m r) = m
 
 -- the stored need, a bottom's being 0
 abbrev pub need_of : Node → ℕ
 need_of (Bottom start) = 0
 need_of (Output p child m k) = k
-need_of (Union left right m r k) = k
+need_of (Union left right k m r) = k

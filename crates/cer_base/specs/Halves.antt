@@ -4,7 +4,7 @@ use Rattle.std.specs.Int.{w128, cast_signed, cast_unsigned}
 use Rattle.std.proofs.lemmas.Int.{of_z-to_z}
 use Rattle.std.proofs.lemmas.Nat.{mul-add-lt, shr_high, mod_low}
 use Rattle.std.proofs.Math.Path.{ap, ap₂, ◌∙◌}
-use Rattle.cer_base.specs.declared.time.Time.TheInside.{Inside}
+use Rattle.cer_base.specs.declared.time.LowTime.TheInside.{Inside}
 
 -- the number whose bits are those of the halves, the high ones first
 abbrev pub from_halves : Inside → ℤ

@@ -6,3 +6,4 @@ pub mod Nodes
 pub mod Bits
 pub mod Digits
 pub mod Halves
+pub mod Clocks

@@ -12,7 +12,7 @@ use Rattle.cer_base.specs.Members.{SetTree, Start, Extended, United, members, ne
 abbrev pub grown : (ℕ → SetTree) → Node → SetTree
 grown at (Bottom start) = Start start
 grown at (Output p child m k) = Extended p (at child)
-grown at (Union left right m r k) = United (at left) (at right)
+grown at (Union left right k m r) = United (at left) (at right)
 
 -- the same, the nodes being listed newest first: a child is looked up among the older nodes
 abbrev pub tree_in : List Node → ℕ → SetTree
@@ -27,7 +27,7 @@ tree nodes id = tree_in (reverse nodes) id
 abbrev pub HasTrueFields : (ℕ → SetTree) → ℕ → Node → Type 0
 HasTrueFields at id (Bottom start) = Unit {0}
 HasTrueFields at id (Output p child m k) = (child < id) × (m ≡ newest (at child)) × (k ≡ need (at child) + 1)
-HasTrueFields at id (Union left right m r k) = (left < id) × (right < id) × (m ≡ newest (United (at left) (at right))) × (r ≡ newest (at right)) × (k ≡ max (need (at left) + 1) (need (at right)))
+HasTrueFields at id (Union left right k m r) = (left < id) × (right < id) × (m ≡ newest (United (at left) (at right))) × (r ≡ newest (at right)) × (k ≡ max (need (at left) + 1) (need (at right)))
 
 -- among the starts, clocks do not fall as positions rise, and are equal at equal positions
 abbrev pub AreInStep : List Node → Type 0

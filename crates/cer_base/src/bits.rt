@@ -78,6 +78,15 @@ impl Bits {
         words::insert(self.words.as_mut_slice(), k);
     }
 
+    /// Takes the number out, which is below the room.
+    pub fn remove(&mut self, k: usize)
+        requires { k < length self.old }
+        ensures members { (j : ℕ) → has self.new j ≡ not (j == k) && has self.old j }
+        ensures room { length self.new ≡ length self.old }
+    {
+        words::remove(self.words.as_mut_slice(), k);
+    }
+
     /// Takes all numbers out.
     pub fn clear(&mut self)
         ensures members { (k : ℕ) → has self.new k ≡ false }

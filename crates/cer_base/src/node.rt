@@ -4,8 +4,9 @@ ghost use Rattle.cer_base.specs.Fields.{max_of, need_of};
 use super::Pos;
 use super::time::Time;
 
-/// The place of a node in its store, from 0.
-pub type Id = u64;
+/// The place of a node in its store, from 0. A store holds less than 2^32 nodes, so that a node with
+/// the ids of its children stays small.
+pub type Id = u32;
 
 /// When an event came: its position, and the clock that windows measure (in the unit of the
 /// window: positions, or the value of an attribute).
@@ -31,16 +32,16 @@ pub enum Node {
         pos: Pos,
         child: Id,
         max: Stamp,
-        need: u64,
+        need: u32,
     },
     /// The members of the left child, then those of the right one. `right_max` is the right
     /// child's `max`, so that a walk can pass over the right child without reading it.
     Union {
         left: Id,
         right: Id,
+        need: u32,
         max: Stamp,
         right_max: Stamp,
-        need: u64,
     },
 }
 
@@ -57,7 +58,7 @@ impl Node {
     }
 
     /// How many places of the path and of the stack a walk from here takes: 0 at a bottom.
-    pub fn need(&self) -> u64
+    pub fn need(&self) -> u32
         ensures { result ≡ need_of self.now }
     {
         match *self {
@@ -72,15 +73,15 @@ impl Node {
 #[derive(Drop, Debug, Default, Clone, Copy, PartialEq, Eq)]
 pub struct Root {
     pub id: Id,
+    pub need: u32,
     pub max: Stamp,
-    pub need: u64,
 }
 
 // Lists and stores hold many of these.
-const _: () = prove!(size_of::<Stamp>() == 24);
+const _: () = prove!(size_of::<Stamp>() == 16);
 
-const _: () = prove!(size_of::<Root>() == 40);
+const _: () = prove!(size_of::<Root>() == 24);
 
-const _: () = prove!(size_of::<Node>() == 80);
+const _: () = prove!(size_of::<Node>() == 48);
 
 const _: () = prove!(align_of::<Node>() == 8);

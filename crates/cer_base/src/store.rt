@@ -26,7 +26,7 @@ pub trait NodeStore {
     fn get<L: Ledger>(&self, id: Id, steps: &mut Steps<L>) -> Node
         requires { id < length (nodes self.now) }
         ensures node { slice_get (nodes self.now) id ≡ Some result }
-        ensures countable { length (nodes self.now) < 2 ^ 64 }
+        ensures countable { length (nodes self.now) < 2 ^ 32 }
         ensures steps { steps.new ≡ steps.old + 1 };
 
     /// Writes the node with this id, which is below `len`. All others stay.
@@ -37,7 +37,8 @@ pub trait NodeStore {
 
     /// How many nodes there are.
     fn len(&self) -> u64
-        ensures { result ≡ length (nodes self.now) };
+        ensures count { result ≡ length (nodes self.now) }
+        ensures few { result < 2 ^ 32 };
 
     /// Keeps the first n nodes, n being at most `len`.
     fn cut_to(&mut self, n: u64)

@@ -100,6 +100,16 @@ pub fn insert(words: &mut [u64], k: usize)
     words[k / 64] |= 1 << (k % 64);
 }
 
+/// Takes the bit of number k out.
+pub fn remove(words: &mut [u64], k: usize)
+    requires { k < length words.old * 64 }
+    ensures room { length (bits_of_words words.new) ≡ length (bits_of_words words.old) }
+    ensures members { (j : ℕ) → has (bits_of_words words.new) j
+        ≡ not (j == k) && has (bits_of_words words.old) j }
+{
+    words[k / 64] &= !(1 << (k % 64));
+}
+
 /// Whether the bit of number k is in.
 pub fn contains(words: &[u64], k: usize) -> bool
     ensures { result ≡ has (bits_of_words words.now) k }

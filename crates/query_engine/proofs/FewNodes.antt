@@ -32,8 +32,8 @@ no_node schema q p s (Output position child m k ∷ nodes) is =
     let fields = s.nodes.true_fields 0 (Output position child m k) (ap (λ (ns : List Node). slice_get ns 0) is) in
     let less = fields.0 in
     absurd (omega arith)
-no_node schema q p s (Union left right m r k ∷ nodes) is =
-    let fields = s.nodes.true_fields 0 (Union left right m r k) (ap (λ (ns : List Node). slice_get ns 0) is) in
+no_node schema q p s (Union left right k m r ∷ nodes) is =
+    let fields = s.nodes.true_fields 0 (Union left right k m r) (ap (λ (ns : List Node). slice_get ns 0) is) in
     let less = fields.0 in
     absurd (omega arith)
 

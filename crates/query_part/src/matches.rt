@@ -29,7 +29,7 @@ use cer_base::bits::Bits;
 use cer_base::node::{Root, Stamp};
 use cer_base::steps::Steps;
 use cer_base::store::NodeStore;
-use cer_base::time::Time;
+use cer_base::time::LowTime;
 use event_update::still::some_accepts;
 use event_update::{Stage, Staged, prepare, roots};
 use partition_table::{Key, Keys};
@@ -204,7 +204,7 @@ impl Matches {
         number: u64,
         bits: &Bits,
         stamp: Stamp,
-        low: Time,
+        low: LowTime,
         steps: &mut Steps<L>,
     ) -> Result<Ready, Memory>
         requires begun { HasBegun sizes number self.old }
@@ -274,7 +274,7 @@ impl Matches {
         key: &Key,
         bits: &Bits,
         stamp: Stamp,
-        low: Time,
+        low: LowTime,
         steps: &mut Steps<L>,
     ) -> Result<Ready, Memory>
         requires well_formed { WellFormed self.old.nodes }
@@ -303,7 +303,7 @@ impl Matches {
         number: u64,
         bits: &Bits,
         stamp: Stamp,
-        low: Time,
+        low: LowTime,
         steps: &mut Steps<L>,
     ) -> Result<Ready, Memory>
         requires there { (key : List Datum) × (slice_get self.old.keys number ≡ Some key) }

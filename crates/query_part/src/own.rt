@@ -14,7 +14,7 @@ use cer_base::Memory;
 use cer_base::bits::Bits;
 use cer_base::node::Stamp;
 use cer_base::steps::Steps;
-use cer_base::time::Time;
+use cer_base::time::LowTime;
 use std::alloc::Global;
 use std::sync::ledger::Ledger;
 use stream_schema::Event;
@@ -39,7 +39,8 @@ fn known(matches: &Matches, table: &[Option<Places>], whole: bool, event: &Event
 
 /// Works out the lists of the event's key, by the set of the leaves that can read the event. `None`
 /// where no list changes: where it has no key, and where no leaf can read it and its key's lists are
-/// known to rest, or the automaton is told to be patient. It is told whether the query has no partition. After `Memory` nothing has changed.
+/// known to rest, or the automaton is told to be patient. It is told whether the query has no
+/// partition. After `Memory` nothing has changed.
 #[inline(always)]
 pub fn advance_own<L: Ledger>(
     matches: &mut Matches,
@@ -50,7 +51,7 @@ pub fn advance_own<L: Ledger>(
     bits: &Bits,
     patient: bool,
     stamp: Stamp,
-    low: Time,
+    low: LowTime,
     steps: &mut Steps<L>,
 ) -> Result<Option<Ready>, Memory>
     requires whole { whole ≡ true → slice_index_or table.now event.now.ty None ≡ Some [] }

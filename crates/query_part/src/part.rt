@@ -27,7 +27,7 @@ use cel_terms::Query;
 use cer_base::bits::Bits;
 use cer_base::node::Stamp;
 use cer_base::steps::Steps;
-use cer_base::time::Time;
+use cer_base::time::{LowTime, Time};
 use cer_base::{Memory, Pos};
 use predicate_bits::Conditions;
 use std::alloc::Global;
@@ -364,6 +364,18 @@ fn fill(conditions: &Conditions, reads: bool, event: &Event, into: &mut Bits)
     }
 }
 
+/// The clock of a start. `Memory` where it is none of 64 bits: a stamp has no place for it. A position
+/// from 2^63 on is none.
+#[inline(always)]
+fn start_clock(clock: i128) -> Result<Time, Memory>
+    ensures { IfOk result (λ t. t ≡ clock) }
+{
+    match Time::try_of(clock) {
+        Some(clock) => Ok(clock),
+        None => Err(Memory),
+    }
+}
+
 impl Keeps for Part {
     ghost phase = { λ n p. seen n p };
 
@@ -388,9 +400,9 @@ impl Keeps for Part {
         let clock = self.clock.now(event, position);
         let stamp = Stamp {
             pos: position,
-            clock: Time::of(clock),
+            clock: start_clock(clock)?,
         };
-        let low = Time::of(self.clock.low_of(clock));
+        let low = LowTime::of(self.clock.low_of(clock));
         fill(&self.conditions, reads, event, &mut self.bits);
         let table = self.keys.as_slice();
         let matches = &mut self.matches;

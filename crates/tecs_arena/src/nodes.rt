@@ -15,12 +15,12 @@ use std::marker::Model;
 #[derive(Drop)]
 pub(crate) struct Nodes {
     table: Table,
-    len: u64,
+    len: Id,
     alloc: Global,
 }
 
 impl Model for Nodes {
-    ghost use Rattle.std.specs.Prelude.{◌≡◌, ◌≤◌, map, take, length, Some};
+    ghost use Rattle.std.specs.Prelude.{◌≡◌, ◌<◌, ◌≤◌, ◌^◌, map, take, length, Some};
     ghost use Rattle.tecs_arena.specs.Chunks.{values_of};
     ghost use Rattle.tecs_arena.specs.Contents.{Contents};
 
@@ -31,8 +31,9 @@ impl Model for Nodes {
       chunks = n.table.chunks;
     } };
 
-    ghost invariant = { λ n. (n.len ≤ length n.table.places)
-        × (map Some (values_of (take n.len n.table.places)) ≡ take n.len n.table.places) };
+    ghost invariant = { λ n. ((n.len ≤ length n.table.places)
+        × (map Some (values_of (take n.len n.table.places)) ≡ take n.len n.table.places))
+        × (n.len < 2 ^ 32) };
 }
 
 impl Nodes {
@@ -59,7 +60,8 @@ impl Nodes {
     }
 
     /// Appends a node and gives its id. It makes one chunk exactly where all places are taken.
-    /// `Memory` where that cannot be had; then nothing is changed.
+    /// `Memory` where that cannot be had, and where the next length would be no id; then nothing is
+    /// changed.
     #[inline]
     pub(crate) fn push(&mut self, node: Node) -> Result<Id, Memory>
         ensures id { IfOk result (λ id. id ≡ length self.old.nodes) }
@@ -70,9 +72,12 @@ impl Nodes {
         ensures refused { OnErr result (self.new ≡ self.old) }
     {
         let id = self.len;
-        self.table.make_room(self.alloc, id)?;
-        self.table.write(id, node);
-        self.len += 1;
+        if id == Id::MAX {
+            return Err(Memory);
+        }
+        self.table.make_room(self.alloc, id as u64)?;
+        self.table.write(id as u64, node);
+        self.len = id + 1;
         Ok(id)
     }
 
@@ -81,9 +86,9 @@ impl Nodes {
     pub(crate) fn get(&self, id: Id) -> Node
         requires { id < length self.now.nodes }
         ensures node { slice_get self.now.nodes id ≡ Some result }
-        ensures countable { length self.now.nodes < 2 ^ 64 }
+        ensures countable { length self.now.nodes < 2 ^ 32 }
     {
-        self.table.read(id)
+        self.table.read(id as u64)
     }
 
     /// Writes the node with this id, which is below `len`. All others stay, and so do the chunks.
@@ -93,15 +98,16 @@ impl Nodes {
         ensures written { self.new.nodes ≡ slice_set self.old.nodes id node }
         ensures chunks { self.new.chunks ≡ self.old.chunks }
     {
-        self.table.write(id, node);
+        self.table.write(id as u64, node);
     }
 
     /// How many nodes there are.
     #[inline]
     pub(crate) fn len(&self) -> u64
-        ensures { result ≡ length self.now.nodes }
+        ensures count { result ≡ length self.now.nodes }
+        ensures few { result < 2 ^ 32 }
     {
-        self.len
+        self.len as u64
     }
 
     /// Keeps the first n nodes, n being at most `len`, and all chunks.
@@ -111,6 +117,8 @@ impl Nodes {
         ensures nodes { self.new.nodes ≡ take n self.old.nodes }
         ensures chunks { self.new.chunks ≡ self.old.chunks }
     {
-        self.len = n;
+        if n < self.len as u64 {
+            self.len = n as Id;
+        }
     }
 }

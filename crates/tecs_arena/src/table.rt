@@ -8,7 +8,7 @@ ghost use Rattle.tecs_arena.specs.Chunks.{IsFilled, places, places_of};
 
 use super::chunk::Chunk;
 use cer_base::Memory;
-use cer_base::node::{Id, Node};
+use cer_base::node::Node;
 use std::alloc::Global;
 use std::array;
 use std::marker::Model;
@@ -28,7 +28,7 @@ struct Spot {
 }
 
 /// The place of the node with this id.
-fn spot_of(id: Id) -> Spot
+fn spot_of(id: u64) -> Spot
     requires { id < 2 ^ 63 }
     ensures place { result.place < FIRST * 2 ^ result.chunk }
     ensures sum { id + FIRST ≡ FIRST * 2 ^ result.chunk + result.place }
@@ -126,7 +126,7 @@ impl Table {
 
     /// Sees that there is a place for the node with this id, which is at most the number of places.
     /// `Memory` where none can be had; then nothing is changed.
-    pub(crate) fn make_room(&mut self, alloc: Global, id: Id) -> Result<(), Memory>
+    pub(crate) fn make_room(&mut self, alloc: Global, id: u64) -> Result<(), Memory>
         requires { id ≤ length self.old.places }
         ensures inside { OnOk result (id < length self.new.places) }
         ensures same { OnOk result (take id self.new.places ≡ take id self.old.places) }
@@ -141,7 +141,7 @@ impl Table {
     }
 
     /// The node with this id, whose place was written.
-    pub(crate) fn read(&self, id: Id) -> Node
+    pub(crate) fn read(&self, id: u64) -> Node
         requires { IsFilled self.now.places id }
         ensures node { get_or self.now.places id None ≡ Some result }
         ensures small { length self.now.places < 2 ^ 63 }
@@ -152,7 +152,7 @@ impl Table {
     }
 
     /// Writes the node with this id, for which there is a place. No other place is touched.
-    pub(crate) fn write(&mut self, id: Id, node: Node)
+    pub(crate) fn write(&mut self, id: u64, node: Node)
         requires { id < length self.old.places }
         ensures places { self.new.places ≡ slice_set self.old.places id (Some node) }
         ensures chunks { self.new.chunks ≡ self.old.chunks }

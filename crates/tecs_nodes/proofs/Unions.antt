@@ -148,11 +148,11 @@ pub record IsStored (nodes : List Node) (id l r : ℕ) (q : Stamp) : Type 0 wher
   pub inside_r : r < length nodes
   pub right : q.pos ≡ (newest (tree nodes r)).pos
 
-pub stored : (nodes : List Node) → WellFormed nodes → (id l r k : ℕ) (x q : Stamp) → id < length nodes → slice_get nodes id ≡ Some (Union l r x q k) → IsStored nodes id l r q
+pub stored : (nodes : List Node) → WellFormed nodes → (id l r k : ℕ) (x q : Stamp) → id < length nodes → slice_get nodes id ≡ Some (Union l r k x q) → IsStored nodes id l r q
 stored nodes w id l r k x q inside at =
-    let t = w.true_fields id (Union l r x q k) at in
+    let t = w.true_fields id (Union l r k x q) at in
     let l_below = t.0 in let r_below = t.1 in
-    record { is = tree-at nodes w id (Union l r x q k) at; inside_l = omega arith; inside_r = omega arith; right = ap (λ (s : Stamp). s.pos) t.3 }
+    record { is = tree-at nodes w id (Union l r k x q) at; inside_l = omega arith; inside_r = omega arith; right = ap (λ (s : Stamp). s.pos) t.3 }
 
 pub is_chain : (nodes : List Node) (a b l r m s : ℕ) (q p : Stamp) → IsStored nodes a l r q → IsStored nodes b m s p → p.pos ≤ q.pos → united (tree nodes a) (tree nodes b) ≡ United (tree nodes l) (United (tree nodes m) (United (tree nodes r) (tree nodes s)))
 is_chain nodes a b l r m s q p u v order = rw (u.is, v.is) (united-chain (tree nodes l) (tree nodes r) (tree nodes m) (tree nodes s) (let e = u.right in let f = v.right in omega arith))
@@ -168,10 +168,10 @@ pub with_tree : {E : Type 0} (o : Result ℕ E) (new : List Node) (t u : SetTree
 with_tree o new t u e has = subst (λ (x : SetTree). IfOk o (λ id. HasNode new id x)) e has
 
 -- a node that is no union has depth 0
-pub no_union : (nodes : List Node) → WellFormed nodes → (id : ℕ) (n : Node) → slice_get nodes id ≡ Some n → ((l r : ℕ) (m q : Stamp) (k : ℕ) → n ≡ Union l r m q k → ⊥) → depth (tree nodes id) ≡ 0
+pub no_union : (nodes : List Node) → WellFormed nodes → (id : ℕ) (n : Node) → slice_get nodes id ≡ Some n → ((l r k : ℕ) (m q : Stamp) → n ≡ Union l r k m q → ⊥) → depth (tree nodes id) ≡ 0
 no_union nodes w id (Bottom s) at other = ap depth (tree-at nodes w id (Bottom s) at)
 no_union nodes w id (Output p c m k) at other = ap depth (tree-at nodes w id (Output p c m k) at)
-no_union nodes w id (Union l r m q k) at other = absurd (other l r m q k refl)
+no_union nodes w id (Union l r k m q) at other = absurd (other l r k m q refl)
 
 -- two that become one union in a single step can be joined
 pub can_join : (a b l r : SetTree) → IsWellFormedTree a → IsWellFormedTree b → CanUnite a b → united a b ≡ United l r → CanJoin l r

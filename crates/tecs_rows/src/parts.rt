@@ -17,7 +17,7 @@ use tecs_nodes::{bottom, extend, join, union};
 #[derive(Drop, Debug, Clone, Copy, PartialEq, Eq)]
 pub enum Part {
     /// A bottom, by the position where it starts and the clock there.
-    Start(Pos, i128),
+    Start(Pos, i64),
     /// The part at the place, extended by the position.
     Extend(usize, Pos),
     /// The parts at the two places joined, the first at the left.

@@ -11,7 +11,7 @@ use cea_determinise::table::State;
 use cer_base::bits::Bits;
 use cer_base::node::Stamp;
 use cer_base::steps::Steps;
-use cer_base::time::Time;
+use cer_base::time::{LowTime, Time};
 use cer_base::{Memory, Pos};
 use event_update::{Active, Stage, commit, prepare};
 use std::alloc::Global;
@@ -26,7 +26,7 @@ use union_lists::UList;
 /// later. Seen as the table of states.
 #[derive(Drop)]
 pub struct OpenMatches {
-    low: Time,
+    low: LowTime,
     det: Det,
     store: Arena,
     active: Active,
@@ -69,7 +69,7 @@ fn write_list<L: Ledger>(
 
 impl OpenMatches {
     /// No match, before the first event.
-    pub fn new(alloc: Global, cea: Cea, low: Time) -> OpenMatches
+    pub fn new(alloc: Global, cea: Cea, low: LowTime) -> OpenMatches
         requires { IsWellFormed cea }
         ensures { result.cea ≡ cea }
     {

@@ -1,13 +1,13 @@
 use Rattle.std.proofs.Common.{◌≡◌, rules, SFits, to_z, of_z}
-use Rattle.std.specs.Int.{w128}
+use Rattle.std.specs.Int.{w64}
 use Rattle.std.proofs.lemmas.Int.{to_z-of_z}
 use Rattle.tecs_rows.proofs.Made.{can_start, extend_inside, can_join, can_unite, made_start, made_extend, made_join, made_unite, bottom_nodes, bottom_trees, grown_nodes, grown_trees}
 use Rattle.tecs_rows.proofs.parts.make.Goals as goal
 
 pub bottom-requires-clause-in_step : goal.bottom-requires-clause-in_step
 bottom-requires-clause-in_step g c =
-    let small : SFits w128 c.in-Start.clock = search rules in
-    let same : to_z w128 (of_z w128 c.in-Start.clock) ≡ c.in-Start.clock = to_z-of_z _ _ small in
+    let small : SFits w64 c.in-Start.clock = search rules in
+    let same : to_z w64 (of_z w64 c.in-Start.clock) ≡ c.in-Start.clock = to_z-of_z _ _ small in
     rw (c.of-clock.ensures, same) (can_start _ _ _ _ c.in-Start.is c.requires.nodes c.requires.can)
 
 pub join-requires-clause-can : goal.join-requires-clause-can
@@ -21,8 +21,8 @@ returns-in-Start-clause-nodes g c = bottom_nodes c.bottom.result _ _ _ _ c.requi
 
 pub returns-in-Start-clause-trees : goal.returns-in-Start-clause-trees
 returns-in-Start-clause-trees g c =
-    let small : SFits w128 c.in-Start.clock = search rules in
-    let same : to_z w128 (of_z w128 c.in-Start.clock) ≡ c.in-Start.clock = to_z-of_z _ _ small in
+    let small : SFits w64 c.in-Start.clock = search rules in
+    let same : to_z w64 (of_z w64 c.in-Start.clock) ≡ c.in-Start.clock = to_z-of_z _ _ small in
     bottom_trees c.bottom.result _ _ _ _ _ (rw (c.of-clock.ensures, same) (made_start _ _ _ _ c.in-Start.is)) c.requires.nodes c.bottom.ensures.made c.bottom.ensures.appended
 
 pub returns-in-Extend-clause-nodes : goal.returns-in-Extend-clause-nodes

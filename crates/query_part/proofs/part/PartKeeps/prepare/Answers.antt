@@ -58,12 +58,12 @@ advance_own-requires-clause-in_step g c =
     let small : SFits w128 c.now-clock.result = search rules in
     let same : to_z w128 (of_z w128 c.now-clock.result) ≡ c.now-clock.result = to_z-of_z _ _ small in
     let clock = now_is c.self.inside.schema.value c.self.inside.query.window c.self.inside.clock.source c.args.event.now c.args.position c.now-clock.result (to_z w128 (of_z w128 c.now-clock.result)) c.self.invariant.0.clock c.now-clock.ensures.clock same in
-    rw c.of.ensures (starts_in_step c.self.inside.schema.value c.self.inside.query f.events c.args.event.now (part_of c.self.inside.matches (clock_at c.self.inside.floats c.self.inside.upto c.args.position c.self.inside.clock.last) (here_at c.self.inside.upto c.args.position c.self.inside.here)) (record { pos = c.args.position; clock = to_z w128 (of_z w128 c.now-clock.result) }) (sym f.count) f.in_time does (subst (λ p. HasClock c.self.inside.schema.value c.self.inside.query.window c.args.event.now p (to_z w128 (of_z w128 c.now-clock.result))) (sym f.count) clock) f.stands)
+    rw c.in_ok-start_clock.ensures (starts_in_step c.self.inside.schema.value c.self.inside.query f.events c.args.event.now (part_of c.self.inside.matches (clock_at c.self.inside.floats c.self.inside.upto c.args.position c.self.inside.clock.last) (here_at c.self.inside.upto c.args.position c.self.inside.here)) (record { pos = c.args.position; clock = to_z w128 (of_z w128 c.now-clock.result) }) (sym f.count) f.in_time does (subst (λ p. HasClock c.self.inside.schema.value c.self.inside.query.window c.args.event.now p (to_z w128 (of_z w128 c.now-clock.result))) (sym f.count) clock) f.stands)
 
 pub advance_own-requires-clause-can : goal.advance_own-requires-clause-can
 advance_own-requires-clause-can g c =
     let f = facts c.self.inside.schema.value c.self.inside.query c.args.event.now c.args.position c.self.inside.step c.self.inside.ready c.self.inside.matches c.self.inside.clock.last c.self.inside.here c.self.inside.upto c.self.inside.floats c.args.self.now c.self.view_is c.requires.idle c.requires.can in
-    rw c.of.ensures (can_take c.self.inside.schema.value c.self.inside.query f.events c.self.inside.matches (clock_at c.self.inside.floats c.self.inside.upto c.args.position c.self.inside.clock.last) (here_at c.self.inside.upto c.args.position c.self.inside.here) (record { pos = c.args.position; clock = to_z w128 (of_z w128 c.now-clock.result) }) (sym f.count) f.stands)
+    rw c.in_ok-start_clock.ensures (can_take c.self.inside.schema.value c.self.inside.query f.events c.self.inside.matches (clock_at c.self.inside.floats c.self.inside.upto c.args.position c.self.inside.clock.last) (here_at c.self.inside.upto c.args.position c.self.inside.here) (record { pos = c.args.position; clock = to_z w128 (of_z w128 c.now-clock.result) }) (sym f.count) f.stands)
 
 pub invariant_of-self-in-Err : goal.invariant_of-self-in-Err
 invariant_of-self-in-Err g c =
@@ -82,7 +82,7 @@ returns-then-self-position-2-clause-passed g c =
 
 pub invariant_of-self-in-Ok-Some : goal.invariant_of-self-in-Ok-Some
 invariant_of-self-in-Ok-Some g c =
-    let r = at_some (λ (r : Ready). IsOwnReady (record { pos = c.args.position; clock = to_z w128 (of_z w128 c.now-clock.result) }) c.of-low.result c.fill.new.into (key_there c.as_slice-table.result.now c.args.event.now) r.number r.staged c.self.inside.matches c.advance_own.new.matches) c.in-Ok-Some.field-0 c.in-Ok-Some.ready c.in-Ok-Some.field-0-is (rw c.of.ensures at c.in-Ok-Some.ensures.ready) in
+    let r = at_some (λ (r : Ready). IsOwnReady (record { pos = c.args.position; clock = to_z w128 (of_z w128 c.now-clock.result) }) c.of-low.result c.fill.new.into (key_there c.as_slice-table.result.now c.args.event.now) r.number r.staged c.self.inside.matches c.advance_own.new.matches) c.in-Ok-Some.field-0 c.in-Ok-Some.ready c.in-Ok-Some.field-0-is (rw c.in_ok-start_clock.ensures at c.in-Ok-Some.ensures.ready) in
     let m = at_some (λ (r : Ready). (cut r.sizes c.advance_own.new.matches ≡ c.self.inside.matches) × CanCut r.sizes c.advance_own.new.matches) c.in-Ok-Some.field-0 c.in-Ok-Some.ready c.in-Ok-Some.field-0-is c.in-Ok-Some.ensures.sizes in
     let small : SFits w128 c.now-clock.result = search rules in
     let same : to_z w128 (of_z w128 c.now-clock.result) ≡ c.now-clock.result = to_z-of_z _ _ small in (
@@ -147,7 +147,7 @@ returns-in-Ok-Some-clause-ready g c =
     let clock = now_is c.self.inside.schema.value c.self.inside.query.window c.self.inside.clock.source c.args.event.now c.args.position c.now-clock.result (to_z w128 (of_z w128 c.now-clock.result)) c.self.invariant.0.clock c.now-clock.ensures.clock same in
     let low = fits c.self.inside.schema.value c.self.inside.query.window c.self.inside.clock.source c.now-clock.result (to_z w128 (of_z w128 c.now-clock.result)) c.self.invariant.0.clock c.now-clock.ensures.fits same in
     let bits_are = (λ i k. c.fill.ensures.members k i) ∙ c.self.invariant.0.leaves c.args.event.now in
-    let r = at_some (λ (r : Ready). IsOwnReady (record { pos = c.args.position; clock = to_z w128 (of_z w128 c.now-clock.result) }) c.of-low.result c.fill.new.into (key_there c.as_slice-table.result.now c.args.event.now) r.number r.staged c.self.inside.matches c.advance_own.new.matches) c.in-Ok-Some.field-0 c.in-Ok-Some.ready c.in-Ok-Some.field-0-is (rw c.of.ensures at c.in-Ok-Some.ensures.ready) in
+    let r = at_some (λ (r : Ready). IsOwnReady (record { pos = c.args.position; clock = to_z w128 (of_z w128 c.now-clock.result) }) c.of-low.result c.fill.new.into (key_there c.as_slice-table.result.now c.args.event.now) r.number r.staged c.self.inside.matches c.advance_own.new.matches) c.in-Ok-Some.field-0 c.in-Ok-Some.ready c.in-Ok-Some.field-0-is (rw c.in_ok-start_clock.ensures at c.in-Ok-Some.ensures.ready) in
     let m = at_some (λ (r : Ready). (cut r.sizes c.advance_own.new.matches ≡ c.self.inside.matches) × CanCut r.sizes c.advance_own.new.matches) c.in-Ok-Some.field-0 c.in-Ok-Some.ready c.in-Ok-Some.field-0-is c.in-Ok-Some.ensures.sizes in
     let small_low : SFits w128 c.low_of.result = search rules in
     let low_is : c.of-low.result ≡ low_of c.self.inside.query.window (to_z w128 (of_z w128 c.now-clock.result)) = c.of-low.ensures ∙ to_z-of_z _ _ small_low ∙ c.low_of.ensures ∙ c.self.invariant.0.clock.low (to_z w128 (of_z w128 c.now-clock.result)) in

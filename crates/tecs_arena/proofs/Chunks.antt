@@ -116,21 +116,20 @@ module _ {X : Type 0} where
   filled_within (c ∷ cs) (suc i) h = omega (arith, filled_within cs i h)
 
   -- Memory has not as many bytes as that.
-  pub row_small : (m : ℕ) (table : List (Option (List (Option X)))) → AreChunks 1024 m table → m ≤ 53 → length (row table) < 2 ^ 63
+  pub row_small : (m : ℕ) (table : List (Option (List (Option X)))) → AreChunks 1024 m table → m ≤ 23 → length (row table) + 1024 ≤ 2 ^ 33
   row_small m table h le =
-      let a = row_length 1024 m table h in let b = size_sum 1024 m in let e = size_is 1024 m in let p : 2 ^ m ≤ 2 ^ 53 = pow_mono m 53 le in omega arith
+      let a = row_length 1024 m table h in let b = size_sum 1024 m in let e = size_is 1024 m in let p : 2 ^ m ≤ 2 ^ 23 = pow_mono m 23 le in omega arith
 
   -- what the code computes of the room: no shift loses a bit
-  pub row_room : (m : ℕ) (table : List (Option (List (Option X)))) → AreChunks 1024 m table → m ≤ 53 → ((1024 * 2 ^ m) % 2 ^ 64 ≡ 1024 * 2 ^ m) × (1024 * 2 ^ m ≡ length (row table) + 1024)
+  pub row_room : (m : ℕ) (table : List (Option (List (Option X)))) → AreChunks 1024 m table → m ≤ 23 → ((1024 * 2 ^ m) % 2 ^ 64 ≡ 1024 * 2 ^ m) × (1024 * 2 ^ m ≡ length (row table) + 1024)
   row_room m table h le =
-      let a = row_length 1024 m table h in let b = size_sum 1024 m in let e = size_is 1024 m in let p : 2 ^ m ≤ 2 ^ 53 = pow_mono m 53 le in
+      let a = row_length 1024 m table h in let b = size_sum 1024 m in let e = size_is 1024 m in let p : 2 ^ m ≤ 2 ^ 23 = pow_mono m 23 le in
       (shl_whole 1024 11 m 64 (lit< tt) (omega arith), omega arith)
 
   -- the table with one chunk more
-  pub grown_row : (m n : ℕ) (cs : List (Option X)) (table : List (Option (List (Option X)))) → AreChunks 1024 m table → m ≤ 53 → length table ≡ 64 → n < 2 ^ 63 → n ≡ (1024 * 2 ^ m) % 2 ^ 64 → cs ≡ replicate n None → (AreChunks 1024 (m + 1) (set table m (Some cs)) × (m + 1 ≤ 53)) × (row (set table m (Some cs)) ≡ row table ++ replicate (length (row table) + 1024) None)
-  grown_row m n cs table h le long small whole blank =
-      let r = row_room m table h le in let e = size_is 1024 m in
-      let few : m < 53 = elim (cases_lt m 53) [ inl lt ↦ lt | inr ge ↦ let top : m ≡ 53 = omega arith in let all : 1024 * 2 ^ m ≡ 2 ^ 63 = rw top refl in absurd (omega arith) ] in
+  pub grown_row : (m n : ℕ) (cs : List (Option X)) (table : List (Option (List (Option X)))) → AreChunks 1024 m table → m < 23 → length table ≡ 23 → n ≡ (1024 * 2 ^ m) % 2 ^ 64 → cs ≡ replicate n None → (AreChunks 1024 (m + 1) (set table m (Some cs)) × (m + 1 ≤ 23)) × (row (set table m (Some cs)) ≡ row table ++ replicate (length (row table) + 1024) None)
+  grown_row m n cs table h few long whole blank =
+      let r = row_room m table h (omega arith) in let e = size_is 1024 m in
       let have : cs ≡ replicate (length (row table) + 1024) None = blank ∙ ap (λ (k : ℕ). let z : Option X = None in replicate k z) (whole ∙ r.0 ∙ r.1) in
       let sized : length cs ≡ size 1024 m = ap length have ∙ length-replicate (length (row table) + 1024) None ∙ omega arith in
       ((rw add-one (chunks-grow 1024 m cs table h (omega arith) sized), omega arith), row_grow 1024 m cs table h (omega arith) ∙ ap (λ ds. row table ++ ds) have)

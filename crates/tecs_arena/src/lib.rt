@@ -54,11 +54,11 @@ impl Arena {
         }
     }
 
-    /// How many chunks were made, from 0 to 53. A push makes at most one, `cut_to` keeps them all,
+    /// How many chunks were made, from 0 to 23. A push makes at most one, `cut_to` keeps them all,
     /// and there is a place for each node. It takes no memory.
     pub fn chunks(&self) -> usize
         ensures room { length self.now ≤ places_of result }
-        ensures few { result < 54 }
+        ensures few { result < 24 }
     {
         self.nodes.chunks()
     }

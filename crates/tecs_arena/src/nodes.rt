@@ -14,8 +14,8 @@ use std::marker::Model;
 /// Nodes in chunks, seen as the list of the nodes, oldest first, and the count of the chunks.
 #[derive(Drop)]
 pub(crate) struct Nodes {
-    table: Table,
     len: Id,
+    table: Table,
     alloc: Global,
 }
 
@@ -43,18 +43,18 @@ impl Nodes {
         ensures chunks { result.chunks ≡ 0 }
     {
         Nodes {
-            table: Table::new(),
             len: 0,
+            table: Table::new(),
             alloc,
         }
     }
 
-    /// How many chunks were made: at most 53, with a place for each node.
+    /// How many chunks were made: at most 23, with a place for each node.
     #[inline]
     pub(crate) fn chunks(&self) -> usize
         ensures made { result ≡ self.now.chunks }
         ensures room { length self.now.nodes ≤ places_of result }
-        ensures few { result < 54 }
+        ensures few { result < 24 }
     {
         self.table.chunks()
     }

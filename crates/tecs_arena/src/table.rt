@@ -18,7 +18,7 @@ const FIRST: u64 = 1024;
 
 /// How many chunks there is a place for. A chunk of this number would take more bytes than memory
 /// has.
-const CHUNKS: usize = 64;
+const CHUNKS: usize = 23;
 
 /// The place of a node: its chunk, and the place in the chunk.
 #[derive(Drop, Debug, Clone, Copy, PartialEq, Eq)]
@@ -29,10 +29,10 @@ struct Spot {
 
 /// The place of the node with this id.
 fn spot_of(id: u64) -> Spot
-    requires { id < 2 ^ 63 }
+    requires { id + 1024 < 2 ^ 33 }
     ensures place { result.place < FIRST * 2 ^ result.chunk }
     ensures sum { id + FIRST ≡ FIRST * 2 ^ result.chunk + result.place }
-    ensures chunk { result.chunk < 54 }
+    ensures chunk { result.chunk < 23 }
 {
     let chunk = (id / FIRST + 1).ilog2();
     Spot {
@@ -66,8 +66,8 @@ fn write_in(chunk: &mut Option<Chunk>, place: usize, node: Node)
 /// The chunks in their order, seen as the row of all their places and the count of the chunks.
 #[derive(Drop)]
 pub(crate) struct Table {
-    chunks: [Option<Chunk>; CHUNKS],
     made: usize,
+    chunks: [Option<Chunk>; CHUNKS],
 }
 
 impl Model for Table {
@@ -79,7 +79,7 @@ impl Model for Table {
 
     ghost view = { λ t. record { places = row t.chunks; chunks = t.made } };
 
-    ghost invariant = { λ t. AreChunks 1024 t.made t.chunks × (t.made ≤ 53) };
+    ghost invariant = { λ t. AreChunks 1024 t.made t.chunks × (t.made ≤ 23) };
 }
 
 impl Table {
@@ -88,8 +88,8 @@ impl Table {
         ensures { (result.places ≡ []) × (result.chunks ≡ 0) }
     {
         Table {
-            chunks: array::from_fn(|_| None),
             made: 0,
+            chunks: array::from_fn(|_| None),
         }
     }
 
@@ -101,23 +101,26 @@ impl Table {
         (FIRST << self.made) - FIRST
     }
 
-    /// How many chunks there are, at most 53.
+    /// How many chunks there are, at most 23.
     pub(crate) fn chunks(&self) -> usize
         ensures made { result ≡ self.now.chunks }
         ensures room { length self.now.places ≡ places_of result }
-        ensures few { result < 54 }
+        ensures few { result < 24 }
     {
         self.made
     }
 
     /// Makes one more chunk, which has as many places as all before it and 1,024 more. `Memory`
-    /// where it cannot be had; then nothing is changed.
+    /// where it cannot be had, and where there are 23; then nothing is changed.
     pub(crate) fn grow(&mut self, alloc: Global) -> Result<(), Memory>
         ensures places { OnOk result (self.new.places
             ≡ self.old.places ++ replicate (length self.old.places + 1024) None) }
         ensures chunks { OnOk result (self.new.chunks ≡ self.old.chunks + 1) }
         ensures refused { OnErr result (self.new ≡ self.old) }
     {
+        if self.made == CHUNKS {
+            return Err(Memory);
+        }
         let chunk = Chunk::new(alloc, (FIRST << self.made) as usize)?;
         self.chunks[self.made] = Some(chunk);
         self.made += 1;
@@ -143,8 +146,7 @@ impl Table {
     /// The node with this id, whose place was written.
     pub(crate) fn read(&self, id: u64) -> Node
         requires { IsFilled self.now.places id }
-        ensures node { get_or self.now.places id None ≡ Some result }
-        ensures small { length self.now.places < 2 ^ 63 }
+        ensures { get_or self.now.places id None ≡ Some result }
     {
         let chunks = &self.chunks;
         let spot = spot_of(id);
@@ -156,7 +158,6 @@ impl Table {
         requires { id < length self.old.places }
         ensures places { self.new.places ≡ slice_set self.old.places id (Some node) }
         ensures chunks { self.new.chunks ≡ self.old.chunks }
-        ensures small { id < 2 ^ 63 }
     {
         let chunks = &mut self.chunks;
         let spot = spot_of(id);

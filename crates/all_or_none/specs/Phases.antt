@@ -6,7 +6,9 @@ use Rattle.stream_schema.specs.Events.{IsOfSchema}
 use Rattle.stream_schema.specs.declared.Event.{Event}
 use Rattle.cel_terms.specs.declared.Query.{Query}
 use Rattle.query_standing.specs.Bounds.{update_bound, MeetAtMost}
-use Rattle.cer_base.specs.Bits.{has}
+use Rattle.cer_base.specs.Bits.{has, room_for}
+use Rattle.query_leaves.specs.Expand.{tree_of}
+use Rattle.query_leaves.specs.Leaves.{occurrences}
 use Rattle.query_standing.specs.Clocks.{Reads, FallsBack}
 use Rattle.query_standing.specs.Keys.{leaves_reading}
 use Rattle.query_standing.specs.Kept.{Part, Extends, PartStands, roots_at}
@@ -116,10 +118,10 @@ pub record CanPrepare (event : Event) (position : ℕ) (p : Phase) : Type 0 wher
   pub in_time : InTime events event p
   pub stands : StandsAt events p
 
--- Some leaf of the part's query reads the event.
-pub record IsRead (event : Event) (p : Phase) : Type 0 where
-  pub leaf : ℕ
-  pub reads : leaves_reading p.schema p.query event leaf ≡ true
+-- The set is exactly that of the leaves of the part's query that read the event, by their numbers, with the room that its leaves take.
+pub record AreLeavesRead (event : Event) (leaves : List Bool) (p : Phase) : Type 0 where
+  pub each : (k : ℕ) → has leaves k ≡ leaves_reading p.schema p.query event k
+  pub room : length leaves ≡ room_for (length (occurrences (tree_of p.query)))
 
 -- no leaf of the part's query reads the event
 abbrev pub IsUnread : Event → Phase → Type 0
@@ -138,9 +140,9 @@ pub record AreLeft {P : Type 0} (phase : ℕ → P → Phase) (count : ℕ) (awa
 abbrev pub AreUnread : {P : Type 0} → (P → Phase) → Event → List Bool → List P → Type 0
 AreUnread phase event marked parts = (k : ℕ) (p : _) → slice_get parts k ≡ Some p → has marked k ≡ false → IsUnread event (phase p)
 
--- some leaf does of that of each part whose number is in the set
-abbrev pub AreRead : {P : Type 0} → (P → Phase) → Event → List Bool → List P → Type 0
-AreRead phase event read parts = (k : ℕ) (p : _) → slice_get parts k ≡ Some p → has read k ≡ true → IsRead event (phase p)
+-- of each part whose number is in the first set, the set of its number is that of the leaves of its query that read the event
+abbrev pub AreRead : {P : Type 0} → (P → Phase) → Event → List Bool → List (List Bool) → List P → Type 0
+AreRead phase event read leaves parts = (k : ℕ) (p : _) → slice_get parts k ≡ Some p → has read k ≡ true → AreLeavesRead event (slice_index_or leaves k []) (phase p)
 
 -- the parts that are not in the set are as they were
 abbrev pub AreUntouched : {P : Type 0} → List Bool → List P → List P → Type 0

@@ -9,12 +9,12 @@
 //! It stands on `query_standing`.
 #![tactic(auto)]
 
-ghost use Rattle.std.specs.Prelude.{◌≡◌, ◌≢◌, ℕ, ◌+◌, ◌^◌, ◌<◌, ◌≤◌, ◌==◌, ◌&&◌, not, true, false, List, [], ◌∷◌, ◌++◌, length, map, sum_by, All, Some, slice_get, IfSome, IfNone, IfOk, OnOk, OnErr};
+ghost use Rattle.std.specs.Prelude.{◌≡◌, ◌≢◌, ℕ, ◌+◌, ◌^◌, ◌<◌, ◌≤◌, true, false, List, [], ◌∷◌, ◌++◌, length, map, sum_by, All, Some, slice_get, IfSome, IfNone, IfOk, OnOk, OnErr};
 ghost use Rattle.std.specs.List.{AllZip};
 ghost use Rattle.cer_base.specs.Bits.{has};
 ghost use Rattle.stream_schema.specs.declared.Event.{Event};
 ghost use Rattle.query_standing.specs.Bounds.{update_bound};
-ghost use Rattle.all_or_none.specs.Phases.{Phase, CanPrepare, IsPrepared, IsIdle, IsQuiet, back, HasPassed, Rests, AreLeft, IsRead, AreRead, IsUnread, AreUnread, AreUntouched, AreOfMarked, AreOfEither, AreBack, IsSet, IsNoted, is_among, AreSet, MayAnswer, IsTaken, IsWithin, StandsAt, InTime, ready_bound, kept_bound, AreBounded, HasGrown};
+ghost use Rattle.all_or_none.specs.Phases.{Phase, CanPrepare, IsPrepared, IsIdle, IsQuiet, back, HasPassed, Rests, AreLeft, AreLeavesRead, AreRead, IsUnread, AreUnread, AreUntouched, AreOfMarked, AreOfEither, AreBack, IsSet, IsNoted, is_among, AreSet, MayAnswer, IsTaken, IsWithin, StandsAt, InTime, ready_bound, kept_bound, AreBounded, HasGrown};
 
 use cer_base::bits::Bits;
 use cer_base::steps::Steps;
@@ -24,7 +24,7 @@ use stream_schema::Event;
 
 /// What is kept of one query. Between `prepare` and `commit` it is still seen as what it was.
 pub trait Keeps {
-    ghost use Rattle.all_or_none.specs.Phases.{Phase, CanPrepare, Rests, IsRead, IsUnread, ready_bound, IsWithin};
+    ghost use Rattle.all_or_none.specs.Phases.{Phase, CanPrepare, Rests, AreLeavesRead, IsUnread, ready_bound, IsWithin};
 
     /// What it is after so many events.
     ghost phase: { ℕ → Self → Phase };
@@ -35,18 +35,20 @@ pub trait Keeps {
 
     /// Makes ready what the event changes, or tells that the event passes it by: it is then as it
     /// was, and takes the event by being left so. After `Memory` it is as it was. It is told whether
-    /// a leaf of its query reads the event: where none does, its leaves need no look, and where one
-    /// does and only one is of the event's type, it is that one.
+    /// a leaf of its query reads the event, and where one does the numbers of those that do; where
+    /// none does, that set says nothing.
     fn prepare<L: Ledger>(
         &mut self,
         event: &Event,
         position: Pos,
         reads: bool,
+        leaves: &Bits,
         steps: &mut Steps<L>,
     ) -> Result<bool, Memory>
         requires idle { IsIdle (phase position self.old) }
         requires can { CanPrepare event.now position (phase position self.old) }
-        requires read { reads ≡ true → IsRead event.now (phase position self.old) }
+        requires read { reads ≡ true → AreLeavesRead event.now leaves.now
+            (phase position self.old) }
         requires unread { reads ≡ false → IsUnread event.now (phase position self.old) }
         ensures kept { back (phase position self.new) ≡ back (phase position self.old) }
         ensures passed { IfOk result (λ by. by ≡ true → HasPassed event.now position
@@ -81,11 +83,13 @@ fn prepare_one<P: Keeps, L: Ledger>(
     event: &Event,
     position: Pos,
     reads: bool,
+    leaves: &Bits,
     steps: &mut Steps<L>,
 ) -> Result<(), Memory>
     requires idle { IsIdle (P.phase position part.old) }
     requires can { CanPrepare event.now position (P.phase position part.old) }
-    requires read { reads ≡ true → IsRead event.now (P.phase position part.old) }
+    requires read { reads ≡ true → AreLeavesRead event.now leaves.now
+        (P.phase position part.old) }
     requires unread { reads ≡ false → IsUnread event.now (P.phase position part.old) }
     ensures kept { back (P.phase position part.new) ≡ back (P.phase position part.old) }
     ensures noted { OnOk result (IsNoted event.now position number (P.phase position part.new)
@@ -97,7 +101,7 @@ fn prepare_one<P: Keeps, L: Ledger>(
     ensures within { IsWithin event.now position (P.phase position part.old)
         steps.old steps.new }
 {
-    let passed = part.prepare(event, position, reads, steps)?;
+    let passed = part.prepare(event, position, reads, leaves, steps)?;
     if reads || !passed {
         touched.push(number)?;
     }
@@ -119,12 +123,13 @@ fn find(marked: &Bits, from: usize, end: usize) -> Option<usize>
 
 /// Each marked part prepares that the event does not pass by, up to the first that cannot. The others
 /// rest, and no leaf of theirs reads the event. A leaf of a part reads it exactly where the part is
-/// among those read. The numbers of the prepared ones and of the read ones, from 1, are left in
-/// `touched`.
+/// among those read, and which do its set in `leaves` tells then. The numbers of the prepared ones and
+/// of the read ones, from 1, are left in `touched`.
 fn prepare_all<P: Keeps, L: Ledger>(
     parts: &mut [P],
     marked: &Bits,
     read: &Bits,
+    leaves: &[Bits],
     touched: &mut Vec<u64>,
     event: &Event,
     position: Pos,
@@ -134,8 +139,9 @@ fn prepare_all<P: Keeps, L: Ledger>(
     requires can { All (λ p. CanPrepare event.now position (P.phase position p)) parts.old }
     requires left { AreLeft P.phase position marked.now parts.old }
     requires unread { AreUnread (P.phase position) event.now marked.now parts.old }
-    requires reading { AreRead (P.phase position) event.now read.now parts.old }
+    requires reading { AreRead (P.phase position) event.now read.now leaves.now parts.old }
     requires told { AreUnread (P.phase position) event.now read.now parts.old }
+    requires leaves { length leaves.now ≡ length parts.old }
     ensures kept { map (λ p. back (P.phase position p)) parts.new
         ≡ map (λ p. back (P.phase position p)) parts.old }
     ensures set { OnOk result (AreSet (P.phase position) (P.phase (position + 1)) event.now
@@ -161,6 +167,7 @@ fn prepare_all<P: Keeps, L: Ledger>(
             event,
             position,
             reads,
+            &leaves[k],
             steps,
         )?;
         from = k + 1;
@@ -168,46 +175,24 @@ fn prepare_all<P: Keeps, L: Ledger>(
     Ok(())
 }
 
-/// Takes the number out. The other set has the same room, and is used for that.
-fn take_out(set: &mut Bits, spare: &mut Bits, k: usize)
-    requires inside { k < length set.old }
-    requires spare { length spare.old ≡ length set.old }
-    ensures members { (j : ℕ) → has set.new j ≡ has set.old j && not (j == k) }
-    ensures room { length set.new ≡ length set.old }
-    ensures spare { length spare.new ≡ length spare.old }
-{
-    spare.clear();
-    spare.insert(k);
-    set.subtract(spare);
-}
-
 /// The part commits. Its number, from 0, is in `awake` afterwards exactly where the part is not known
 /// to rest.
-fn commit_one<P: Keeps>(
-    part: &mut P,
-    k: usize,
-    awake: &mut Bits,
-    spare: &mut Bits,
-    event: &Event,
-    position: Pos,
-)
+fn commit_one<P: Keeps>(part: &mut P, k: usize, awake: &mut Bits, event: &Event, position: Pos)
     requires room { position + 1 < 2 ^ 64 }
     requires set { IsSet event.now position (P.phase position part.old)
         (P.phase (position + 1) part.old) }
     requires inside { k < length awake.old }
-    requires spare { length spare.old ≡ length awake.old }
     ensures taken { IsTaken event.now position (P.phase position part.old)
         (P.phase (position + 1) part.new) }
     ensures rest { has awake.new k ≡ false → Rests (λ n. P.phase n part.new) }
     ensures others { (j : ℕ) → j ≢ k → has awake.new j ≡ has awake.old j }
     ensures sets { length awake.new ≡ length awake.old }
-    ensures spare { length spare.new ≡ length spare.old }
 {
     part.commit(event, position);
-    if !part.rests() {
+    if part.rests() {
+        awake.remove(k);
+    } else {
         awake.insert(k);
-    } else if awake.contains(k) {
-        take_out(awake, spare, k);
     }
 }
 
@@ -217,7 +202,6 @@ fn commit_all<P: Keeps>(
     parts: &mut [P],
     numbers: &[u64],
     awake: &mut Bits,
-    spare: &mut Bits,
     event: &Event,
     position: Pos,
 )
@@ -225,7 +209,6 @@ fn commit_all<P: Keeps>(
     requires set { AreSet (P.phase position) (P.phase (position + 1)) event.now position
         (length parts.old) numbers.now parts.old }
     requires inside { (k : ℕ) → is_among numbers.now (k + 1) ≡ true → k < length awake.old }
-    requires spare { length spare.old ≡ length awake.old }
     ensures taken { AllZip (IsTaken event.now position) (map (P.phase position) parts.old)
         (map (P.phase (position + 1)) parts.new) }
     ensures answering { MayAnswer numbers.now (map (P.phase (position + 1)) parts.new) }
@@ -236,11 +219,10 @@ fn commit_all<P: Keeps>(
     ensures awake { (k : ℕ) → is_among numbers.now (k + 1) ≡ false → has awake.new k
         ≡ has awake.old k }
     ensures sets { length awake.new ≡ length awake.old }
-    ensures spare { length spare.new ≡ length spare.old }
 {
     for number in numbers {
         let k = *number as usize - 1;
-        commit_one(&mut parts[k], k, awake, spare, event, position);
+        commit_one(&mut parts[k], k, awake, event, position);
     }
 }
 
@@ -258,19 +240,18 @@ fn take_back_all<P: Keeps>(parts: &mut [P], marked: &Bits)
 /// All parts take the event as the next one, or none does. After `Memory` each part is as it was.
 ///
 /// It goes to the marked parts alone, by their numbers from 0. Each other part rests, and no leaf of
-/// its query reads the event. Those of which a leaf reads it are in `read`: where one is not, its
-/// leaves are not looked at. In `awake` is then each part that is not known to rest, for the next
-/// event, and after `Memory` each marked one beside those that were there. `touched` has then the
-/// numbers, from 1 and rising, of the parts that the event did not pass by, and of those that are read;
-/// no other may have an answer. They alone are asked whether they rest: what is marked beside them was
-/// awake, is as it was, and stays awake. The memory of `touched` is used again, and that of `spare`,
-/// which has the room of `awake`.
+/// its query reads the event. Those of which a leaf reads it are in `read`, and which leaves of one do
+/// its set in `leaves` tells; of the others that says nothing. In `awake` is then each part that is not
+/// known to rest, for the next event, and after `Memory` each marked one beside those that were there.
+/// `touched` has then the numbers, from 1 and rising, of the parts that the event did not pass by, and
+/// of those that are read; no other may have an answer. They alone are asked whether they rest: what is
+/// marked beside them was awake, is as it was, and stays awake. The memory of `touched` is used again.
 pub fn see<P: Keeps, L: Ledger>(
     parts: &mut [P],
     marked: &Bits,
     read: &Bits,
+    leaves: &[Bits],
     awake: &mut Bits,
-    spare: &mut Bits,
     touched: &mut Vec<u64>,
     event: &Event,
     position: Pos,
@@ -281,11 +262,11 @@ pub fn see<P: Keeps, L: Ledger>(
     requires can { All (λ p. CanPrepare event.now position (P.phase position p)) parts.old }
     requires left { AreLeft P.phase position marked.now parts.old }
     requires unread { AreUnread (P.phase position) event.now marked.now parts.old }
-    requires reading { AreRead (P.phase position) event.now read.now parts.old }
+    requires reading { AreRead (P.phase position) event.now read.now leaves.now parts.old }
     requires told { AreUnread (P.phase position) event.now read.now parts.old }
+    requires leaves { length leaves.now ≡ length parts.old }
     requires either { AreOfEither marked.now awake.old read.now }
     requires sets { length awake.old ≡ length marked.now }
-    requires spare { length spare.old ≡ length awake.old }
     ensures stands { OnOk result ((events : List Event) → length events ≡ position
         → All (λ p. InTime events event.now (P.phase position p)) parts.old
         → All (λ p. StandsAt events (P.phase position p)) parts.old
@@ -302,16 +283,15 @@ pub fn see<P: Keeps, L: Ledger>(
         ≡ map (P.phase position) parts.old) }
     ensures still_left { OnErr result (AreLeft P.phase position awake.new parts.new) }
     ensures sets { length awake.new ≡ length awake.old }
-    ensures spare { length spare.new ≡ length spare.old }
     ensures steps { OnOk result (steps.new
         ≤ steps.old + sum_by (λ p. kept_bound (P.phase (position + 1) p)) parts.new) }
     ensures within { (events : List Event) (most : List ℕ) → length events ≡ position
         → AreBounded events event.now (map (P.phase position) parts.old) most → steps.new
         ≤ steps.old + sum_by update_bound most }
 {
-    match prepare_all(parts, marked, read, touched, event, position, steps) {
+    match prepare_all(parts, marked, read, leaves, touched, event, position, steps) {
         Ok(()) => {
-            commit_all(parts, touched.as_slice(), awake, spare, event, position);
+            commit_all(parts, touched.as_slice(), awake, event, position);
             Ok(())
         }
         Err(refused) => {

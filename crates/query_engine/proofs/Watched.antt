@@ -1,8 +1,8 @@
 -- What is known of the parts that an event need not go to.
-use Rattle.std.proofs.Common.{◌≡◌, refl, sym, ap, subst, ◌∙◌, ℕ, ◌+◌, ◌<◌, ◌≤◌, inl, inr, Bool, true, false, ◌||◌, eqb, List, [], ◌∷◌, map, length, All, Option, Some, None, slice_get, slice_index_or, arith}
+use Rattle.std.proofs.Common.{◌≡◌, refl, sym, ap, subst, ◌∙◌, ℕ, zero, suc, ◌+◌, ◌<◌, ◌≤◌, inl, inr, Bool, true, false, ◌||◌, eqb, List, [], ◌∷◌, map, length, All, Option, Some, None, slice_get, slice_index_or, arith}
 use Rattle.std.specs.List.{AllZip}
 use Rattle.std.proofs.lemmas.Bool.{cases_lt, eq-eqb, false≢true, or_left, or_right}
-use Rattle.std.proofs.lemmas.Option.{slice_get-get_or}
+use Rattle.std.proofs.lemmas.Option.{slice_get-get_or, slice_get_within}
 use Rattle.std.proofs.lemmas.List.Elements.{All-nil, All-cons, All-head, All-tail}
 use Rattle.cer_base.specs.Bits.{has, room_for}
 use Rattle.stream_schema.specs.Types.{Declared}
@@ -14,10 +14,10 @@ use Rattle.cea_compile.specs.DeterminisedRuns.{reads_at}
 use Rattle.query_standing.specs.Keys.{leaves_reading}
 use Rattle.all_or_none.specs.Phases.{Phase, Rests, AreLeft, AreRead, AreUnread, AreOfEither}
 use Rattle.query_part.specs.Parts.{seen, woken, skipped}
-use Rattle.query_watch.specs.Rows.{Table, HasRow, AreExact, IsWatch}
+use Rattle.query_watch.specs.Rows.{Table, HasRow, AreReaders, HaveRooms, AreExact, IsWatch}
 use Rattle.query_engine.specs.Compacting.{IsCompacted}
 use Rattle.query_engine.specs.Running.{IsFirst}
-use Rattle.query_engine.specs.Watching.{IsWatching}
+use Rattle.query_engine.specs.Watching.{leaf_room, AreLeafSets, IsWatching}
 use Rattle.query_engine.proofs.Standing.{length_map, map_at, all_at}
 use Rattle.query_engine.proofs.Keeping.{seen_queries}
 
@@ -58,8 +58,8 @@ leaf_there schema None event e = absurd (false≢true e)
 leaf_there schema (Some o) event e = (o, refl, e)
 
 -- and no leaf of their queries can read the event
-pub unread_marked : (schema : Declared) (queries : List Query) (count : ℕ) (parts : List Phase) (table : Table) (awake marks reads marked : List Bool) (event : Event) → queries ≡ map (λ (p : Phase). p.query) (map (seen count) parts) → All (λ (p : Phase). p.schema ≡ schema) parts → IsWatching schema queries count parts table awake marks reads → ((k : ℕ) → HasRow table.rows table.leaves k event → has marked k ≡ true) → AreUnread (seen count) event marked parts
-unread_marked schema queries count parts table awake marks reads marked event queries_is schemas h marks_all k p at out j = by (leaves_reading p.schema p.query event j) refl
+pub unread_marked : (schema : Declared) (queries : List Query) (count : ℕ) (parts : List Phase) (table : Table) (awake marks reads marked : List Bool) (sets : List (List Bool)) (event : Event) → queries ≡ map (λ (p : Phase). p.query) (map (seen count) parts) → All (λ (p : Phase). p.schema ≡ schema) parts → IsWatching schema queries count parts table awake marks reads sets → ((k : ℕ) → HasRow table.rows table.leaves k event → has marked k ≡ true) → AreUnread (seen count) event marked parts
+unread_marked schema queries count parts table awake marks reads marked sets event queries_is schemas h marks_all k p at out j = by (leaves_reading p.schema p.query event j) refl
   where
     q_at : slice_get queries k ≡ Some p.query
     q_at = ap (λ qs. slice_get qs k) (queries_is ∙ seen_queries count parts) ∙ map_at (λ (x : Phase). x.query) parts k p at
@@ -70,25 +70,74 @@ unread_marked schema queries count parts table awake marks reads marked event qu
         let o = leaf_there p.schema (slice_get (occurrences (tree_of p.query)) j) event e in
         let same : p.schema ≡ schema = all_at (λ (x : Phase). x.schema ≡ schema) parts k p schemas at in
         let row = h.watch k p.query q_at event j o.0 o.1 (subst (λ s. occurrence_reads s o.0 event ≡ true) same o.2) in
-        absurd (false≢true (sym out ∙ marks_all k row))
+        absurd (false≢true (sym out ∙ marks_all k row.0))
 
--- where one is marked as read, a leaf of its query can read the event
-pub read_marked : (schema : Declared) (queries : List Query) (count : ℕ) (parts : List Phase) (table : Table) (awake marks reads read : List Bool) (event : Event) → queries ≡ map (λ (p : Phase). p.query) (map (seen count) parts) → All (λ (p : Phase). p.schema ≡ schema) parts → IsWatching schema queries count parts table awake marks reads → ((k : ℕ) → has read k ≡ true → HasRow table.rows table.leaves k event) → AreRead (seen count) event read parts
-read_marked schema queries count parts table awake marks reads read event queries_is schemas h rows k p at marked =
-    let q_at : slice_get queries k ≡ Some p.query = ap (λ qs. slice_get qs k) (queries_is ∙ seen_queries count parts) ∙ map_at (λ (x : Phase). x.query) parts k p at in
-    let same : p.schema ≡ schema = all_at (λ (x : Phase). x.schema ≡ schema) parts k p schemas at in
-    let o = h.exact k p.query q_at event (rows k marked) in
-    record { leaf = o.0; reads = ap (λ x. reads_at p.schema x (Some event)) o.2 ∙ subst (λ s. occurrence_reads s o.1 event ≡ true) (sym same) o.3 }
+-- the set of a query has room for its leaves
+set_room : (queries : List Query) (sets : List (List Bool)) (k : ℕ) (q : Query) → AreLeafSets queries sets → slice_get queries k ≡ Some q → length (slice_index_or sets k []) ≡ leaf_room q
+set_room [] sets k q are at = absurd cc
+set_room (x ∷ queries) [] k q are at = absurd cc
+set_room (x ∷ queries) (s ∷ sets) zero q are at = let head : length s ≡ leaf_room x = cc in let same : x ≡ q = cc in head ∙ ap leaf_room same
+set_room (x ∷ queries) (s ∷ sets) (suc k) q are at = let rest : map (λ (set : List Bool). length set) sets ≡ map leaf_room queries = cc in set_room queries sets k q rest at
+
+there_inside : {A : Type 0} (xs : List A) (k : ℕ) → k < length xs → (x : A) × (slice_get xs k ≡ Some x)
+there_inside [] k less = absurd (omega arith)
+there_inside (x ∷ xs) zero less = (x, refl)
+there_inside (x ∷ xs) (suc k) less = there_inside xs k (omega arith)
+
+-- so that of each has room for those that read an event
+pub rooms_there : (schema : Declared) (queries : List Query) (count : ℕ) (parts : List Phase) (table : Table) (awake marked read : List Bool) (sets : List (List Bool)) (event : Event) → IsWatching schema queries count parts table awake marked read sets → HaveRooms table.count table.rows table.leaves event sets
+rooms_there schema queries count parts table awake marked read sets event h query number less leaf =
+    let many = h.queries_are in
+    let q = there_inside queries query (omega arith) in
+    let o = h.exact query q.0 q.1 event number leaf in
+    let low = slice_get_within (occurrences (tree_of q.0)) number o.0 o.1 in
+    let room : length (slice_index_or sets query []) ≡ room_for (length (occurrences (tree_of q.0))) = set_room queries sets query q.0 h.leaves q.1 in
+    omega arith
+
+-- and there are as many as there are parts
+pub as_many_sets : (schema : Declared) (queries : List Query) (count : ℕ) (parts : List Phase) (table : Table) (awake marked read : List Bool) (sets more : List (List Bool)) → queries ≡ map (λ (p : Phase). p.query) (map (seen count) parts) → map (λ (set : List Bool). length set) more ≡ map (λ (set : List Bool). length set) sets → IsWatching schema queries count parts table awake marked read sets → length more ≡ length parts
+as_many_sets schema queries count parts table awake marked read sets more is same h =
+    sym (length_map (λ (set : List Bool). length set) more) ∙ (ap length (same ∙ h.leaves) ∙ (length_map leaf_room queries ∙ (ap length is ∙ (length_map (λ (p : Phase). p.query) (map (seen count) parts) ∙ length_map (seen count) parts))))
+
+both_ways : (a b : Bool) → (a ≡ true → b ≡ true) → (b ≡ true → a ≡ true) → a ≡ b
+both_ways false false f g = refl
+both_ways false true f g = g refl
+both_ways true false f g = sym (f refl)
+both_ways true true f g = refl
+
+-- where one is marked as read, its set is that of the leaves of its query that can read the event
+pub read_marked : (schema : Declared) (queries : List Query) (count : ℕ) (parts : List Phase) (table : Table) (awake marks reads read : List Bool) (sets more : List (List Bool)) (event : Event) → queries ≡ map (λ (p : Phase). p.query) (map (seen count) parts) → All (λ (p : Phase). p.schema ≡ schema) parts → IsWatching schema queries count parts table awake marks reads sets → map (λ (set : List Bool). length set) more ≡ map (λ (set : List Bool). length set) sets → ((k : ℕ) → has read k ≡ true → AreReaders table.rows table.leaves k event (slice_index_or more k [])) → AreRead (seen count) event read more parts
+read_marked schema queries count parts table awake marks reads read sets more event queries_is schemas h rooms readers k p at marked = record {
+  each = λ j. both_ways (has (slice_index_or more k []) j) (leaves_reading p.schema p.query event j) (in_set j) (reading j);
+  room = set_room queries more k p.query (rooms ∙ h.leaves) q_at;
+}
+  where
+    q_at : slice_get queries k ≡ Some p.query
+    q_at = ap (λ qs. slice_get qs k) (queries_is ∙ seen_queries count parts) ∙ map_at (λ (x : Phase). x.query) parts k p at
+
+    same : p.schema ≡ schema
+    same = all_at (λ (x : Phase). x.schema ≡ schema) parts k p schemas at
+
+    in_set : (j : ℕ) → has (slice_index_or more k []) j ≡ true → leaves_reading p.schema p.query event j ≡ true
+    in_set j is =
+        let o = h.exact k p.query q_at event j ((readers k marked).only j is) in
+        ap (λ x. reads_at p.schema x (Some event)) o.1 ∙ subst (λ s. occurrence_reads s o.0 event ≡ true) (sym same) o.2
+
+    reading : (j : ℕ) → leaves_reading p.schema p.query event j ≡ true → has (slice_index_or more k []) j ≡ true
+    reading j does =
+        let o = leaf_there p.schema (slice_get (occurrences (tree_of p.query)) j) event does in
+        (readers k marked).each j (h.watch k p.query q_at event j o.0 o.1 (subst (λ s. occurrence_reads s o.0 event ≡ true) same o.2))
 
 -- what is known of the same queries stays
-pub watching_same : (schema : Declared) (old new : List Query) (count later : ℕ) (parts after : List Phase) (table same_table : Table) (awake marked read more marks reads : List Bool) → new ≡ old → same_table ≡ table → length more ≡ length awake → length marks ≡ length marked → length reads ≡ length read → AreLeft seen later more after → IsWatching schema old count parts table awake marked read → IsWatching schema new later after same_table more marks reads
-watching_same schema old new count later parts after table same_table awake marked read more marks reads is table_is room sets same_reads left h = record {
+pub watching_same : (schema : Declared) (old new : List Query) (count later : ℕ) (parts after : List Phase) (table same_table : Table) (awake marked read more marks reads : List Bool) (sets others : List (List Bool)) → new ≡ old → same_table ≡ table → length more ≡ length awake → length marks ≡ length marked → length reads ≡ length read → map (λ (set : List Bool). length set) others ≡ map (λ (set : List Bool). length set) sets → AreLeft seen later more after → IsWatching schema old count parts table awake marked read sets → IsWatching schema new later after same_table more marks reads others
+watching_same schema old new count later parts after table same_table awake marked read more marks reads sets others is table_is room same_marks same_reads same_sets left h = record {
   watch = subst (λ (t : Table). IsWatch schema new t.rows t.leaves) (sym table_is) (subst (λ qs. IsWatch schema qs table.rows table.leaves) (sym is) h.watch);
   exact = subst (λ (t : Table). AreExact schema new t.rows t.leaves) (sym table_is) (subst (λ qs. AreExact schema qs table.rows table.leaves) (sym is) h.exact);
   queries_are = ap (λ (t : Table). t.count) table_is ∙ (h.queries_are ∙ ap length (sym is));
   room = room ∙ (h.room ∙ ap (λ qs. room_for (length qs)) (sym is));
-  sets = sets ∙ (h.sets ∙ sym room);
+  sets = same_marks ∙ (h.sets ∙ sym room);
   reads = same_reads ∙ (h.reads ∙ sym room);
+  leaves = same_sets ∙ (h.leaves ∙ ap (map leaf_room) (sym is));
   left = left;
 }
 
@@ -115,30 +164,31 @@ compacted_known count (o ∷ old) (n ∷ new) z =
     All-cons (λ (x : Phase). x.upto ≤ count) n new (omega arith) (compacted_known count old new z.1)
 
 -- the sets have room for each part
-pub room_there : (schema : Declared) (queries : List Query) (count : ℕ) (parts : List Phase) (table : Table) (awake marked read : List Bool) → IsWatching schema queries count parts table awake marked read → table.count ≤ length read
-room_there schema queries count parts table awake marked read h =
+pub room_there : (schema : Declared) (queries : List Query) (count : ℕ) (parts : List Phase) (table : Table) (awake marked read : List Bool) (sets : List (List Bool)) → IsWatching schema queries count parts table awake marked read sets → table.count ≤ length read
+room_there schema queries count parts table awake marked read sets h =
     let a = h.queries_are in
     let b = h.room in
     let c = h.reads in
     omega arith
 
-pub parts_within : (schema : Declared) (queries : List Query) (count many : ℕ) (parts : List Phase) (table : Table) (awake marked read : List Bool) → queries ≡ map (λ (p : Phase). p.query) (map (seen count) parts) → many ≡ length parts → IsWatching schema queries count parts table awake marked read → many ≤ length awake
-parts_within schema queries count many parts table awake marked read is many_is h =
+pub parts_within : (schema : Declared) (queries : List Query) (count many : ℕ) (parts : List Phase) (table : Table) (awake marked read : List Bool) (sets : List (List Bool)) → queries ≡ map (λ (p : Phase). p.query) (map (seen count) parts) → many ≡ length parts → IsWatching schema queries count parts table awake marked read sets → many ≤ length awake
+parts_within schema queries count many parts table awake marked read sets is many_is h =
     let b = h.room in
     let l : length queries ≡ length parts = ap length is ∙ (length_map (λ (p : Phase). p.query) (map (seen count) parts) ∙ length_map (seen count) parts) in
     omega arith
 
 -- before any event
-pub watching_first : (schema : Declared) (queries given : List Query) (parts : List Phase) (table : Table) (awake marked read : List Bool) → queries ≡ given → queries ≡ map (λ (p : Phase). p.query) (map (seen 0) parts) → IsWatch schema given table.rows table.leaves → AreExact schema given table.rows table.leaves → table.count ≡ length given → length awake ≡ room_for (length given) → length marked ≡ length awake → length read ≡ length awake → AreLeft seen 0 awake parts → IsWatching schema queries 0 parts table awake marked read
-watching_first schema queries given parts table awake marked read is are watch exact count room sets reads left =
+pub watching_first : (schema : Declared) (queries given : List Query) (parts : List Phase) (table : Table) (awake marked read : List Bool) (sets : List (List Bool)) → queries ≡ given → queries ≡ map (λ (p : Phase). p.query) (map (seen 0) parts) → IsWatch schema given table.rows table.leaves → AreExact schema given table.rows table.leaves → table.count ≡ length given → length awake ≡ room_for (length given) → length marked ≡ length awake → length read ≡ length awake → AreLeafSets given sets → AreLeft seen 0 awake parts → IsWatching schema queries 0 parts table awake marked read sets
+watching_first schema queries given parts table awake marked read sets is are watch exact count room marks reads leaves left =
     let m : length queries ≡ length given = ap length is in
     record {
       watch = subst (λ qs. IsWatch schema qs table.rows table.leaves) (sym is) watch;
       exact = subst (λ qs. AreExact schema qs table.rows table.leaves) (sym is) exact;
       queries_are = count ∙ sym m;
       room = room ∙ ap room_for (sym m);
-      sets = sets;
+      sets = marks;
       reads = reads;
+      leaves = leaves ∙ ap (map leaf_room) (sym is);
       left = left;
     }
 

@@ -1,15 +1,17 @@
 //! Which parts of an engine an event goes to.
 
-ghost use Rattle.std.specs.Prelude.{◌≡◌, ℕ, ◌≤◌, ◌||◌, false, true, Some, length, slice_get, IfOk};
+ghost use Rattle.std.specs.Prelude.{◌≡◌, ℕ, ◌≤◌, ◌||◌, false, true, [], Some, length, map, slice_get, slice_index_or, IfOk};
 ghost use Rattle.cer_base.specs.Bits.{has, room_for};
 ghost use Rattle.all_or_none.specs.Phases.{Phase, Rests, AreOfEither};
 ghost use Rattle.query_part.specs.Parts.{seen};
-ghost use Rattle.query_watch.specs.Rows.{AreExact, IsWatch, HasRow};
+ghost use Rattle.query_watch.specs.Rows.{AreExact, IsWatch, HasRow, AreReaders, HaveRooms};
+ghost use Rattle.query_engine.specs.Watching.{leaf_room, AreLeafSets};
 
 use all_or_none::Keeps;
 use cel_terms::Query;
 use cer_base::Memory;
 use cer_base::bits::Bits;
+use query_leaves::leaves_of;
 use query_part::Part;
 use query_watch::Watch;
 use std::alloc::Global;
@@ -26,8 +28,8 @@ pub struct Watching {
     pub marked: Bits,
     /// Those of them of whose queries a leaf can read the event, likewise.
     pub read: Bits,
-    /// For the number of a part that comes to rest, in memory that is used again.
-    pub spare: Bits,
+    /// For each query the numbers of its leaves that can read the event, where one can, likewise.
+    pub leaves: Vec<Bits>,
 }
 
 impl Watching {
@@ -41,33 +43,38 @@ impl Watching {
         ensures room { IfOk result (λ w. length w.awake ≡ room_for (length queries.now)) }
         ensures sets { IfOk result (λ w. length w.marked ≡ length w.awake) }
         ensures reads { IfOk result (λ w. length w.read ≡ length w.awake) }
-        ensures spare { IfOk result (λ w. length w.spare ≡ length w.awake) }
+        ensures leaves { IfOk result (λ w. AreLeafSets queries.now w.leaves.items) }
     {
         let watch = Watch::of(alloc, schema, queries)?;
         let awake = Bits::blank(alloc, queries.len())?;
         let marked = Bits::blank(alloc, queries.len())?;
         let read = Bits::blank(alloc, queries.len())?;
-        let spare = Bits::blank(alloc, queries.len())?;
+        let leaves = leaf_sets(alloc, schema, queries)?;
         Ok(Watching {
             watch,
             awake,
             marked,
             read,
-            spare,
+            leaves,
         })
     }
 
-    /// Marks the parts of whose queries a leaf can read the event as read, and where some part is not
-    /// known to rest, these and those as marked. Whether some part is not.
+    /// Marks the parts of whose queries a leaf can read the event as read, with the numbers of these
+    /// leaves, and where some part is not known to rest, these and those as marked. Whether some part is
+    /// not.
     #[inline(always)]
     pub fn mark(&mut self, event: &Event) -> bool
         requires room { self.old.watch.count ≤ length self.old.read }
         requires sets { length self.old.marked ≡ length self.old.awake }
         requires reads { length self.old.read ≡ length self.old.awake }
+        requires leaves { HaveRooms self.old.watch.count self.old.watch.rows self.old.watch.leaves
+            event.now self.old.leaves.items }
         ensures read { (k : ℕ) → HasRow self.old.watch.rows self.old.watch.leaves k
             event.now → has self.new.read k ≡ true }
         ensures only { (k : ℕ) → has self.new.read k ≡ true → HasRow self.old.watch.rows
             self.old.watch.leaves k event.now }
+        ensures leaves { (k : ℕ) → has self.new.read k ≡ true → AreReaders self.old.watch.rows
+            self.old.watch.leaves k event.now (slice_index_or self.new.leaves.items k []) }
         ensures marked { result ≡ true → (k : ℕ) → has self.new.read k ≡ true
             → has self.new.marked k ≡ true }
         ensures awake { result ≡ true → (k : ℕ) → has self.old.awake k ≡ true
@@ -75,13 +82,15 @@ impl Watching {
         ensures either { result ≡ true → AreOfEither self.new.marked self.old.awake
             self.new.read }
         ensures none { result ≡ false → (k : ℕ) → has self.old.awake k ≡ false }
-        ensures same { (self.new.watch ≡ self.old.watch) × (self.new.awake ≡ self.old.awake)
-            × (self.new.spare ≡ self.old.spare) }
+        ensures same { (self.new.watch ≡ self.old.watch) × (self.new.awake ≡ self.old.awake) }
         ensures sets { length self.new.marked ≡ length self.old.marked }
         ensures reads { length self.new.read ≡ length self.old.read }
+        ensures rooms { map (λ set. length set) self.new.leaves.items
+            ≡ map (λ set. length set) self.old.leaves.items }
     {
         self.read.clear();
-        self.watch.mark(event, &mut self.read);
+        let leaves = self.leaves.as_mut_slice();
+        self.watch.mark(event, &mut self.read, leaves);
         if self.awake.is_empty() {
             return false;
         }
@@ -97,11 +106,30 @@ impl Watching {
         ensures rest { (k : ℕ) (p : Phase) → slice_get parts.now k ≡ Some p
             → has self.new.awake k ≡ false → Rests (λ n. seen n p) }
         ensures same { (self.new.watch ≡ self.old.watch) × (self.new.marked ≡ self.old.marked)
-            × (self.new.read ≡ self.old.read) × (self.new.spare ≡ self.old.spare) }
+            × (self.new.read ≡ self.old.read) × (self.new.leaves ≡ self.old.leaves) }
         ensures room { length self.new.awake ≡ length self.old.awake }
     {
         look_all(&mut self.awake, parts);
     }
+}
+
+/// An empty set with room for the leaves of the query.
+fn leaf_set(alloc: Global, schema: &Schema, query: &Query) -> Result<Bits, Memory>
+    ensures { IfOk result (λ set. length set ≡ leaf_room query.now) }
+{
+    let found = leaves_of(alloc, schema, query)?;
+    Bits::blank(alloc, found.list.as_slice().len())
+}
+
+/// Such a set for each query.
+fn leaf_sets(alloc: Global, schema: &Schema, queries: &[Query]) -> Result<Vec<Bits>, Memory>
+    ensures { IfOk result (λ v. AreLeafSets queries.now v.items) }
+{
+    let mut sets = Vec::with_capacity(alloc, queries.len())?;
+    for query in queries {
+        sets.push(leaf_set(alloc, schema, query)?)?;
+    }
+    Ok(sets)
 }
 
 /// The parts that the event goes to: those that are marked where some part is not known to rest, else

@@ -1,21 +1,19 @@
 -- The tables of a query before any event.
-use Rattle.std.proofs.Common.{◌≡◌, ℕ, ◌<◌, ◌+◌, Bool, true, List, [], ◌∷◌, ◌++◌, length, refl, sym, ap, subst, ◌∙◌, None, slice_index_or, arith, inl, inr}
+use Rattle.std.proofs.Common.{◌≡◌, ℕ, ◌<◌, ◌+◌, Bool, false, true, List, [], ◌∷◌, ◌++◌, length, refl, sym, ap, subst, ◌∙◌, None, slice_index_or, arith, inl, inr}
 use Rattle.std.specs.Prelude.{Result, Ok, Err, IfOk}
 use Rattle.std.specs.List.{IsDistinct}
 use Rattle.std.proofs.lemmas.Bool.{cases_lt}
 use Rattle.std.proofs.lemmas.List.{get_or_push, get_or_append_left}
 use Rattle.std.proofs.lemmas.List.Elements.{All-nil}
 use Rattle.cer_base.specs.Nodes.{WellFormed}
-use Rattle.cer_base.specs.Bits.{room_for}
+use Rattle.cer_base.specs.Bits.{has, room_for}
 use Rattle.cer_base.specs.declared.node.Node.TheVariants.{Bottom}
 use Rattle.stream_schema.specs.Types.{Declared}
 use Rattle.cel_terms.specs.declared.Query.{Query}
-use Rattle.query_leaves.specs.declared.Leaf.{Leaf}
 use Rattle.query_leaves.specs.declared.Leaves.{Leaves}
 use Rattle.query_leaves.specs.Expand.{tree_of}
 use Rattle.query_leaves.specs.Leaves.{occurrences, numbered}
 use Rattle.query_leaves.specs.Shapes.{tree_of_shape, AreLeavesOf}
-use Rattle.query_leaves.specs.Conditions.{leaf_conditions}
 use Rattle.cea_determinise.specs.declared.cea.Cea.{Cea}
 use Rattle.cea_determinise.specs.declared.cea.StateSets.{StateSets}
 use Rattle.cea_determinise.specs.Runs.{Automaton}
@@ -34,13 +32,13 @@ use Rattle.query_part.specs.Matches.{Held, none_open}
 use Rattle.query_part.specs.Parts.{part_of, HasAutomaton, IsMachineOf, MayBePatient}
 
 -- what the leaves of a query tell is the query's
-pub machine_is : (schema : Declared) (q : Query) (l : Leaves) (listed : List Leaf) (bits : List Bool) (h : Held) → tree_of_shape l.shape ≡ numbered 0 (tree_of q) → AreLeavesOf schema (occurrences (tree_of q)) l.list → l.strict ≡ q.strict → listed ≡ l.list → length bits ≡ room_for (length l.list) → HasAutomaton (automaton_of_leaves l) l.strict h → IsMachineOf schema q listed bits h
-machine_is schema q l listed bits h shape list strict listed_is room m =
+pub machine_is : (schema : Declared) (q : Query) (l : Leaves) (bits : List Bool) (h : Held) → tree_of_shape l.shape ≡ numbered 0 (tree_of q) → AreLeavesOf schema (occurrences (tree_of q)) l.list → l.strict ≡ q.strict → ((k : ℕ) → has bits k ≡ false) → length bits ≡ room_for (length l.list) → HasAutomaton (automaton_of_leaves l) l.strict h → IsMachineOf q bits h
+machine_is schema q l bits h shape list strict empty room m =
     let told = leaves_tell schema q l shape list in
     let size : length l.list ≡ h.table.cea.size = ap (λ (a : Automaton). a.size) (sym m.automaton) in
     record {
-      leaves = λ event. ap (λ ls. leaf_conditions ls event) listed_is ∙ told.bits (event ∷ []) 0 event refl;
-      size = ap length listed_is ∙ size;
+      size = ap (λ (a : Automaton). a.size) (m.automaton ∙ told.automaton);
+      empty = empty;
       room = room ∙ ap room_for size;
       matches = record { automaton = m.automaton ∙ told.automaton; strict = m.strict ∙ strict; none = m.none };
     }
@@ -88,9 +86,9 @@ table_next told d table k len is ty less = elim (cases_lt ty k) [
 ]
 
 -- the same of what was made, where memory lasted
-pub machine_made : {E : Type 0} (schema : Declared) (q : Query) (l : Leaves) (r : Result Machine E) → tree_of_shape l.shape ≡ numbered 0 (tree_of q) → AreLeavesOf schema (occurrences (tree_of q)) l.list → l.strict ≡ q.strict → IfOk r (λ m. m.conditions ≡ l.list) → IfOk r (λ m. length m.bits ≡ room_for (length l.list)) → IfOk r (λ m. HasAutomaton (automaton_of_leaves l) l.strict m.matches) → IfOk r (λ m. IsMachineOf schema q m.conditions m.bits m.matches)
+pub machine_made : {E : Type 0} (schema : Declared) (q : Query) (l : Leaves) (r : Result Machine E) → tree_of_shape l.shape ≡ numbered 0 (tree_of q) → AreLeavesOf schema (occurrences (tree_of q)) l.list → l.strict ≡ q.strict → IfOk r (λ m. (k : ℕ) → has m.no_leaves k ≡ false) → IfOk r (λ m. length m.no_leaves ≡ room_for (length l.list)) → IfOk r (λ m. HasAutomaton (automaton_of_leaves l) l.strict m.matches) → IfOk r (λ m. IsMachineOf q m.no_leaves m.matches)
 machine_made schema q l (Err e) shape list strict a b c = tt
-machine_made schema q l (Ok m) shape list strict a b c = machine_is schema q l m.conditions m.bits m.matches shape list strict a b c
+machine_made schema q l (Ok m) shape list strict a b c = machine_is schema q l m.no_leaves m.matches shape list strict a b c
 
 -- likewise whether it is patient
 pub patient_made : {E : Type 0} (schema : Declared) (q : Query) (l : Leaves) (r : Result Machine E) → tree_of_shape l.shape ≡ numbered 0 (tree_of q) → AreLeavesOf schema (occurrences (tree_of q)) l.list → l.strict ≡ q.strict → IfOk r (λ m. m.patient ≡ true → IsPatient (automaton_of_leaves l) l.strict) → IfOk r (λ m. MayBePatient q m.patient)

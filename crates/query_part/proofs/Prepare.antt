@@ -6,7 +6,7 @@ use Rattle.std.proofs.lemmas.Option.{slice_get_within}
 use Rattle.cel_plain.specs.Below.{query_reads as reads}
 use Rattle.query_standing.specs.Clocks.{Reads}
 use Rattle.query_standing.proofs.Reading.{reads_is, is_read}
-use Rattle.cer_base.specs.Bits.{room_for}
+use Rattle.cer_base.specs.Bits.{has, room_for}
 use Rattle.cer_base.specs.declared.node.Stamp.{Stamp}
 use Rattle.stream_schema.specs.Types.{Declared, DeclaredType}
 use Rattle.stream_schema.specs.Names.{attr_at, attr_among, attr_index}
@@ -22,7 +22,6 @@ use Rattle.stream_schema.specs.declared.Value.TheVariants as value
 use Rattle.cel_terms.specs.declared.Query.{Query}
 use Rattle.cel_terms.specs.declared.Window.{Window}
 use Rattle.cel_terms.specs.declared.Window.TheVariants.{Free, Events, Clock}
-use Rattle.query_leaves.specs.declared.Leaf.{Leaf}
 use Rattle.cel_terms.specs.Predicate.{attr_value}
 use Rattle.cel_terms.specs.Answers.{HasClock, values_at}
 use Rattle.cea_determinise.specs.declared.cea.Cea.{Cea}
@@ -33,7 +32,7 @@ use Rattle.window_clock.specs.Clocks as clocks
 use Rattle.window_clock.specs.Places.{clock_in, low_in, IsOf}
 use Rattle.query_standing.specs.Clocks.{FallsBack, least, low_of}
 use Rattle.query_standing.specs.Kept.{PartStands}
-use Rattle.all_or_none.specs.Phases.{Phase, CanPrepare, IsIdle, IsRead, IsUnread}
+use Rattle.all_or_none.specs.Phases.{Phase, CanPrepare, IsIdle, AreLeavesRead, IsUnread}
 use Rattle.query_standing.specs.Keys.{leaves_reading}
 use Rattle.query_part.specs.declared.matches.Ready.{Ready}
 use Rattle.query_part.specs.declared.part.Step.{Step}
@@ -84,13 +83,25 @@ idle_part schema q step r h c n upto floats count p is idle = record {
   kept_is = ap (settled floats upto count) (sym (idle_kept step r h c n (ap (λ (x : Phase). x.ready) is ∙ idle))) ∙ ap (λ (x : Phase). (seen count x).kept) is;
 }
 
--- where no leaf of the part's query reads the event, none does of the query that it has
-pub unread_inside : (schema : Declared) (q : Query) (event : Event) (position : ℕ) (step : Option Step) (r : Option Ready) (h : Held) (c : Option ℤ) (n : Option ℕ) (upto : ℕ) (floats : Bool) (p : Phase) → record { schema = schema; query = q; kept = kept_of step r h c n; ready = ready_of step r h c n; upto = upto; floats = floats } ≡ p → IsUnread event (seen position p) → (k : ℕ) → leaves_reading schema q event k ≡ false
-unread_inside schema q event position step r h c n upto floats p is unread k = subst (λ (x : Phase). leaves_reading x.schema x.query event k ≡ false) (sym is) (unread k)
+-- What the lists are worked out with: the leaves of the query that read the event, in the room that the automaton asks for.
+pub record AreOwnLeaves (schema : Declared) (q : Query) (event : Event) (h : Held) (bits : List Bool) : Type 0 where
+  pub are : has bits ≡ leaves_reading schema q event
+  pub room : length bits ≡ room_for h.table.cea.size
 
--- where some leaf of the part's query does, one of the query that it has does
-pub read_inside : (schema : Declared) (q : Query) (event : Event) (position : ℕ) (step : Option Step) (r : Option Ready) (h : Held) (c : Option ℤ) (n : Option ℕ) (upto : ℕ) (floats : Bool) (p : Phase) → record { schema = schema; query = q; kept = kept_of step r h c n; ready = ready_of step r h c n; upto = upto; floats = floats } ≡ p → IsRead event (seen position p) → (k : ℕ) × (leaves_reading schema q event k ≡ true)
-read_inside schema q event position step r h c n upto floats p is read = (read.leaf, subst (λ (x : Phase). leaves_reading x.schema x.query event read.leaf ≡ true) (sym is) read.reads)
+-- those that are told where one reads the event, and else none
+pub own_leaves : (schema : Declared) (q : Query) (types : List Bool) (places : List (Option (List ℕ))) (source : Source) (event : Event) (position : ℕ) (step : Option Step) (r : Option Ready) (h : Held) (c : Option ℤ) (n : Option ℕ) (upto : ℕ) (floats : Bool) (p : Phase) (reads : Bool) (leaves none bits : List Bool) → record { schema = schema; query = q; kept = kept_of step r h c n; ready = ready_of step r h c n; upto = upto; floats = floats } ≡ p → IsMade schema q types places source none h → (reads ≡ true → AreLeavesRead event leaves (seen position p)) → (reads ≡ false → IsUnread event (seen position p)) → (reads ≡ true → bits ≡ leaves) → (reads ≡ false → bits ≡ none) → AreOwnLeaves schema q event h bits
+own_leaves schema q types places source event position step r h c n upto floats p true leaves none bits is m told unread some else =
+    let own : AreLeavesRead event leaves (seen position (record { schema = schema; query = q; kept = kept_of step r h c n; ready = ready_of step r h c n; upto = upto; floats = floats })) = subst (λ (x : Phase). AreLeavesRead event leaves (seen position x)) (sym is) (told refl) in
+    record {
+      are = (λ i k. (ap (λ (b : List Bool). has b k) (some refl) ∙ own.each k) i);
+      room = ap length (some refl) ∙ (own.room ∙ ap room_for (sym m.size));
+    }
+own_leaves schema q types places source event position step r h c n upto floats p false leaves none bits is m told unread some else =
+    let no : (k : ℕ) → leaves_reading schema q event k ≡ false = λ k. subst (λ (x : Phase). leaves_reading x.schema x.query event k ≡ false) (sym is) (unread refl k) in
+    record {
+      are = (λ i k. (ap (λ (b : List Bool). has b k) (else refl) ∙ (m.empty k ∙ sym (no k))) i);
+      room = ap length (else refl) ∙ m.room;
+    }
 
 -- its fields, where it is idle
 pub idle_fields : (schema : Declared) (q : Query) (step : Option Step) (r : Option Ready) (h : Held) (c : Option ℤ) (n : Option ℕ) (upto : ℕ) (floats : Bool) (p : Phase) → record { schema = schema; query = q; kept = kept_of step r h c n; ready = ready_of step r h c n; upto = upto; floats = floats } ≡ p → IsIdle p → record { schema = schema; query = q; kept = part_of h c n; ready = None; upto = upto; floats = floats } ≡ p
@@ -130,8 +141,8 @@ pub fits : (schema : Declared) (w : Window) (source : Source) (r z : ℤ) → Is
 fits schema w source r z of le e = subst (λ x. least ≤ℤ low_of w x) (sym e) (subst (λ x. least ≤ℤ x) (of.low r) le)
 
 -- the tables stay those of the query
-pub made_after : (schema : Declared) (q : Query) (types : List Bool) (places : List (Option (List ℕ))) (listed : List Leaf) (source : Source) (bits more : List Bool) (stamp : Stamp) (low : ℤ) (key : List Value) (number : ℕ) (staged : Staged) (old new : Held) → IsMade schema q types places listed source bits old → length more ≡ length bits → IsReady stamp low more key number staged old new → IsMade schema q types places listed source more new
-made_after schema q types places listed source bits more stamp low key number staged old new m same r =
+pub made_after : (schema : Declared) (q : Query) (types : List Bool) (places : List (Option (List ℕ))) (source : Source) (none bits : List Bool) (stamp : Stamp) (low : ℤ) (key : List Value) (number : ℕ) (staged : Staged) (old new : Held) → IsMade schema q types places source none old → IsReady stamp low bits key number staged old new → IsMade schema q types places source none new
+made_after schema q types places source none bits stamp low key number staged old new m r =
     let size = ap (λ (t : Table). t.cea.size) (mid_table old r.mid key r.takes) in
     let cea : new.table.cea.size ≡ r.mid.table.cea.size = ap (λ (c : Cea). c.size) r.table.cea in
     record {
@@ -139,14 +150,10 @@ made_after schema q types places listed source bits more stamp low key number st
       keys = m.keys;
       clock = m.clock;
       clocks = m.clocks;
-      leaves = m.leaves;
-      size = m.size ∙ sym (cea ∙ size);
-      room = same ∙ (m.room ∙ ap room_for (sym (cea ∙ size)));
+      size = (cea ∙ size) ∙ m.size;
+      empty = m.empty;
+      room = m.room ∙ ap room_for (sym (cea ∙ size));
     }
-
--- they stay so with another set of leaves
-pub made_filled : (schema : Declared) (q : Query) (types : List Bool) (places : List (Option (List ℕ))) (listed : List Leaf) (source : Source) (bits more : List Bool) (h : Held) → IsMade schema q types places listed source bits h → length more ≡ length bits → IsMade schema q types places listed source more h
-made_filled schema q types places listed source bits more h m same = record { types = m.types; keys = m.keys; clock = m.clock; clocks = m.clocks; leaves = m.leaves; size = m.size; room = same ∙ m.room }
 
 pub number_inside : (stamp : Stamp) (low : ℤ) (bits : List Bool) (key : List Value) (number : ℕ) (staged : Staged) (old new : Held) → IsReady stamp low bits key number staged old new → number < length new.rows
 number_inside stamp low bits key number staged old new r =

@@ -13,16 +13,14 @@ use Rattle.cea_determinise.specs.Runs.{Automaton}
 use Rattle.cea_determinise.specs.Cea.{automaton_of_cea}
 use Rattle.cea_compile.specs.Compiled.{automaton_of}
 use Rattle.all_or_none.specs.Phases.{Phase, StandsAt}
-use Rattle.query_leaves.specs.declared.Leaf.{Leaf}
-use Rattle.query_leaves.specs.Conditions.{leaf_conditions}
-use Rattle.cer_base.specs.Bits.{room_for}
+use Rattle.query_leaves.specs.Leaves.{occurrences}
+use Rattle.cer_base.specs.Bits.{has, room_for}
 use Rattle.event_update.specs.declared.Staged.{Staged}
 use Rattle.event_update.specs.Update.{rows_after}
 use Rattle.event_update.specs.Still.{IsPatient}
 use Rattle.window_clock.specs.declared.Source.{Source}
 use Rattle.window_clock.specs.Places.{clock_in, IsOf, IsNear}
 use Rattle.query_standing.specs.Clocks.{Reads}
-use Rattle.query_standing.specs.Keys.{leaves_reading}
 use Rattle.query_standing.specs.Kept.{Part}
 use Rattle.query_part.specs.declared.part.Step.{Step}
 use Rattle.query_part.specs.declared.part.Step.TheVariants.{Unread, NoChange, Keyed}
@@ -130,26 +128,26 @@ pub record HasAutomaton (a : Automaton) (is_strict : Bool) (h : Held) : Type 0 w
   pub strict : h.table.cea.strict ≡ is_strict
   pub none : h ≡ none_open h.table.cea
 
--- The leaves are the query's, their set has room, and no match is open of the query's automaton.
-pub record IsMachineOf (schema : Declared) (q : Query) (listed : List Leaf) (bits : List Bool) (h : Held) : Type 0 where
-  pub leaves : (event : Event) → leaf_conditions listed event ≡ leaves_reading schema q event
-  pub size : length listed ≡ h.table.cea.size
-  pub room : length bits ≡ room_for h.table.cea.size
+-- The set is empty and has room for the query's leaves, and no match is open of the query's automaton.
+pub record IsMachineOf (q : Query) (none : List Bool) (h : Held) : Type 0 where
+  pub size : h.table.cea.size ≡ length (occurrences (tree_of q))
+  pub empty : (k : ℕ) → has none k ≡ false
+  pub room : length none ≡ room_for h.table.cea.size
   pub matches : HasAutomaton (automaton_of (tree_of q)) q.strict h
 
 -- each event that the query reads has a clock
 abbrev pub HaveClocks : Declared → Query → Source → Type 0
 HaveClocks schema q source = (event : Event) (p : ℕ) → IsOfSchema schema event → Reads schema q event → clock_in source event p ≢ None
 
--- The tables are those of the query.
-pub record IsMade (schema : Declared) (q : Query) (table : List Bool) (places : List (Option (List ℕ))) (listed : List Leaf) (source : Source) (bits : List Bool) (h : Held) : Type 0 where
+-- The tables are those of the query, and the set is empty.
+pub record IsMade (schema : Declared) (q : Query) (table : List Bool) (places : List (Option (List ℕ))) (source : Source) (none : List Bool) (h : Held) : Type 0 where
   pub types : AreTypesRead schema q table
   pub keys : AreKeyPlaces schema q places
   pub clock : IsOf schema q.window source
   pub clocks : HaveClocks schema q source
-  pub leaves : (event : Event) → leaf_conditions listed event ≡ leaves_reading schema q event
-  pub size : length listed ≡ h.table.cea.size
-  pub room : length bits ≡ room_for h.table.cea.size
+  pub size : h.table.cea.size ≡ length (occurrences (tree_of q))
+  pub empty : (k : ℕ) → has none k ≡ false
+  pub room : length none ≡ room_for h.table.cea.size
 
 -- For some events the part is as it is.
 pub record HasEvents (p : Phase) : Type 0 where

@@ -4,8 +4,8 @@
 //! Promised: what stands for some events stands for one more once the event is committed, and a
 //! refusal leaves everything as it was; a cursor gives exactly the recent members of the lists of
 //! the last event's key; the steps and the nodes of an event are bounded by the states that were
-//! found. It stands on `event_update` for the lists of a key, `window_clock`, `partition_table` and
-//! `predicate_bits` for the event, and `all_or_none` for the two phases.
+//! found. It stands on `event_update` for the lists of a key, `window_clock` and `partition_table` for
+//! the event, and `all_or_none` for the two phases.
 #![tactic(auto)]
 
 pub mod lists;

@@ -1,11 +1,10 @@
 //! The tables that are made of a query before any event.
 
-ghost use Rattle.std.specs.Prelude.{◌≡◌, true, None, IfOk, length};
-ghost use Rattle.cer_base.specs.Bits.{room_for};
+ghost use Rattle.std.specs.Prelude.{◌≡◌, ℕ, false, true, None, IfOk, length};
+ghost use Rattle.cer_base.specs.Bits.{has, room_for};
 ghost use Rattle.cea_determinise.specs.Cea.{automaton_of_cea};
 ghost use Rattle.cea_compile.specs.LeafAutomaton.{automaton_of_leaves};
 ghost use Rattle.event_update.specs.Still.{IsPatient};
-ghost use Rattle.query_leaves.specs.declared.Leaf.{Leaf as LeafData};
 ghost use Rattle.query_leaves.specs.Lawful.{AreNumbered};
 ghost use Rattle.window_clock.specs.Places.{IsOf, HasWidth};
 ghost use Rattle.query_part.specs.Matches.{none_open};
@@ -20,7 +19,6 @@ use cel_terms::Query;
 use cer_base::Memory;
 use cer_base::bits::Bits;
 use event_update::still::is_patient;
-use predicate_bits::Conditions;
 use query_leaves::{Leaves, leaves_of};
 use std::alloc::Global;
 use stream_schema::Schema;
@@ -64,33 +62,30 @@ impl Reading {
     }
 }
 
-/// What finds the states: the leaves' conditions, a set for those that can read an event, the open
-/// matches, and whether the automaton is known to be patient.
+/// What finds the states: an empty set with room for the leaves, the open matches, and whether the
+/// automaton is known to be patient.
 #[derive(Drop)]
 pub struct Machine {
-    pub conditions: Conditions,
-    pub bits: Bits,
+    pub no_leaves: Bits,
     pub matches: Matches,
     pub patient: bool,
 }
 
-/// The leaves with the automaton that they tell, no match being open.
-fn machine_of(alloc: Global, leaves: Leaves) -> Result<Machine, Memory>
-    requires { AreNumbered leaves }
-    ensures leaves { IfOk result (λ m. m.conditions ≡ leaves.list) }
-    ensures room { IfOk result (λ m. length m.bits ≡ room_for (length leaves.list)) }
-    ensures matches { IfOk result (λ m. HasAutomaton (automaton_of_leaves leaves) leaves.strict
-        m.matches) }
+/// The automaton that the leaves tell, no match being open.
+fn machine_of(alloc: Global, leaves: &Leaves) -> Result<Machine, Memory>
+    requires { AreNumbered leaves.now }
+    ensures empty { IfOk result (λ m. (k : ℕ) → has m.no_leaves k ≡ false) }
+    ensures room { IfOk result (λ m. length m.no_leaves ≡ room_for (length leaves.now.list)) }
+    ensures matches { IfOk result (λ m. HasAutomaton (automaton_of_leaves leaves.now)
+        leaves.now.strict m.matches) }
     ensures patient { IfOk result (λ m. m.patient ≡ true
-        → IsPatient (automaton_of_leaves leaves) leaves.strict) }
+        → IsPatient (automaton_of_leaves leaves.now) leaves.now.strict) }
 {
-    let cea = compile(alloc, &leaves)?;
+    let cea = compile(alloc, leaves)?;
     let patient = is_patient(&cea);
     let matches = Matches::new(alloc, cea);
-    let conditions = Conditions::of(alloc, leaves.list)?;
     Ok(Machine {
-        bits: conditions.blank(alloc)?,
-        conditions,
+        no_leaves: Bits::blank(alloc, leaves.list.as_slice().len())?,
         matches,
         patient,
     })
@@ -99,11 +94,10 @@ fn machine_of(alloc: Global, leaves: Leaves) -> Result<Machine, Memory>
 impl Machine {
     /// That of the query.
     pub fn of(alloc: Global, schema: &Schema, query: &Query) -> Result<Machine, Memory>
-        ensures machine { IfOk result (λ m. IsMachineOf schema.now query.now m.conditions m.bits
-            m.matches) }
+        ensures machine { IfOk result (λ m. IsMachineOf query.now m.no_leaves m.matches) }
         ensures patient { IfOk result (λ m. MayBePatient query.now m.patient) }
     {
         let leaves = leaves_of(alloc, schema, query)?;
-        machine_of(alloc, leaves)
+        machine_of(alloc, &leaves)
     }
 }

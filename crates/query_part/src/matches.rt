@@ -60,18 +60,18 @@ pub struct Ready {
 #[derive(Drop)]
 pub struct Matches {
     alloc: Global,
-    det: Det,
-    store: Arena,
-    keys: Keys,
     /// For each key, by its number.
     lists: Vec<Lists>,
     /// How many of them are not known to rest.
     awake: u64,
+    /// Where the lists of an event are made.
+    stage: Stage,
     /// For each state, by its number, whether an event that no leaf can read is known to leave its
     /// list as it is.
     still: Vec<bool>,
-    /// Where the lists of an event are made.
-    stage: Stage,
+    keys: Keys,
+    det: Det,
+    store: Arena,
 }
 
 impl Model for Matches {

@@ -4,9 +4,7 @@ ghost use Rattle.std.specs.Prelude.{◌≡◌, ◌≢◌, ℕ, ◌+◌, ◌*◌,
 ghost use Rattle.stream_schema.specs.declared.Event.{Event as EventData};
 ghost use Rattle.stream_schema.specs.Events.{IsOfSchema};
 ghost use Rattle.cel_terms.specs.Checked.{IsChecked};
-ghost use Rattle.cer_base.specs.Bits.{has, room_for};
 ghost use Rattle.cer_base.specs.Nodes.{WellFormed};
-ghost use Rattle.query_leaves.specs.Conditions.{leaf_conditions};
 ghost use Rattle.tecs_enumerate.specs.Rest.{recent_of, rest, Fits};
 ghost use Rattle.query_standing.specs.Clocks.{Reads, FallsBack};
 ghost use Rattle.query_standing.specs.Kept.{PartStands, low_at, roots_at};
@@ -29,7 +27,6 @@ use cer_base::node::Stamp;
 use cer_base::steps::Steps;
 use cer_base::time::{LowTime, Time};
 use cer_base::{Memory, Pos};
-use predicate_bits::Conditions;
 use std::alloc::Global;
 use std::marker::Model;
 use std::rc::Rc;
@@ -52,7 +49,7 @@ pub enum Step {
 
 /// What is kept of one query.
 ///
-/// What each event passes stands first, for many queries over one stream.
+/// What an event reads or writes stands together, and first, for many queries over one stream.
 #[derive(Drop)]
 pub struct Part {
     alloc: Global,
@@ -63,21 +60,21 @@ pub struct Part {
     patient: bool,
     /// Whether it is known to have no partition: each of its events has the key of no values.
     whole: bool,
-    /// For each type whether the query reads it.
-    types: Vec<bool>,
-    step: Option<Step>,
     /// How many events there were when the last one had come that did not pass it by.
     upto: Pos,
     /// The number of that event's key, where it may have an answer.
     here: Option<u64>,
-    clock: Clock,
-    bits: Bits,
-    conditions: Conditions,
     /// For each type the places of the partition's attributes.
     keys: Vec<Option<Places>>,
-    matches: Matches,
+    clock: Clock,
+    step: Option<Step>,
     /// The lists that are ready, where the step has a key.
     ready: Option<Ready>,
+    matches: Matches,
+    /// An empty set, with room for the query's leaves: those that read an event that none reads.
+    no_leaves: Bits,
+    /// For each type whether the query reads it.
+    types: Vec<bool>,
     query: Query,
     /// That of the engine, which all parts share.
     schema: Rc<Schema>,
@@ -102,8 +99,8 @@ impl Model for Part {
       floats = p.floats;
     } };
 
-    ghost invariant = { λ p. IsMade p.schema.value p.query p.types.items p.keys.items p.conditions
-        p.clock.source p.bits p.matches × CanEnd p.step p.ready p.matches
+    ghost invariant = { λ p. IsMade p.schema.value p.query p.types.items p.keys.items
+        p.clock.source p.no_leaves p.matches × CanEnd p.step p.ready p.matches
         × MayFloat p.schema.value p.query p.clock.source p.types.items p.floats
         × MayBePatient p.query p.patient
         × MayBeWhole p.schema.value p.keys.items p.whole };
@@ -124,8 +121,7 @@ fn joined(
     requires blank { reading.clock.last ≡ None }
     requires floats { MayFloat schema.value query reading.clock.source reading.types.items
         reading.floats }
-    requires machine { IsMachineOf schema.value query machine.conditions machine.bits
-        machine.matches }
+    requires machine { IsMachineOf query machine.no_leaves machine.matches }
     requires patient { MayBePatient query machine.patient }
     requires whole { MayBeWhole schema.value reading.keys.items reading.whole }
     ensures given { (result.schema ≡ schema.value) × (result.query ≡ query) }
@@ -144,8 +140,7 @@ fn joined(
         upto: 0,
         here: None,
         clock: reading.clock,
-        bits: machine.bits,
-        conditions: machine.conditions,
+        no_leaves: machine.no_leaves,
         keys: reading.keys,
         matches: machine.matches,
         ready: None,
@@ -344,24 +339,13 @@ impl Part {
     }
 }
 
-/// Makes the set that of the numbers of the leaves that can read the event. It is told whether one can:
-/// where none does, none is looked at.
+/// The leaves that read the event: those that are told where one does, else none.
 #[inline(always)]
-fn fill(conditions: &Conditions, reads: bool, event: &Event, into: &mut Bits)
-    requires room { length into.old ≡ room_for (length conditions.now) }
-    requires read { reads ≡ true → (k : ℕ)
-        × (leaf_conditions conditions.now event.now k ≡ true) }
-    requires unread { reads ≡ false → (k : ℕ) → leaf_conditions conditions.now event.now k ≡ false }
-    ensures members { (k : ℕ) → has into.new k ≡ leaf_conditions conditions.now event.now k }
-    ensures room { length into.new ≡ length into.old }
+fn leaves_for<'a>(reads: bool, leaves: &'a Bits, none: &'a Bits) -> &'a Bits
+    ensures told { reads ≡ true → result.now ≡ leaves.now }
+    ensures none { reads ≡ false → result.now ≡ none.now }
 {
-    if reads {
-        conditions.fill_read(event, into);
-        return;
-    }
-    if !into.is_empty() {
-        into.clear();
-    }
+    if reads { leaves } else { none }
 }
 
 /// The clock of a start. `Memory` where it is none of 64 bits: a stamp has no place for it. A position
@@ -388,6 +372,7 @@ impl Keeps for Part {
         event: &Event,
         position: Pos,
         reads: bool,
+        leaves: &Bits,
         steps: &mut Steps<L>,
     ) -> Result<bool, Memory> {
         if !may_read(self.floats, self.types.as_slice(), event.ty) {
@@ -403,12 +388,12 @@ impl Keeps for Part {
             clock: start_clock(clock)?,
         };
         let low = LowTime::of(self.clock.low_of(clock));
-        fill(&self.conditions, reads, event, &mut self.bits);
+        let bits = leaves_for(reads, leaves, &self.no_leaves);
         let table = self.keys.as_slice();
         let matches = &mut self.matches;
         let (alloc, whole, patient) = (self.alloc, self.whole, self.patient);
         match advance_own(
-            matches, alloc, table, whole, event, &self.bits, patient, stamp, low, steps,
+            matches, alloc, table, whole, event, bits, patient, stamp, low, steps,
         ) {
             Err(refused) => Err(refused),
             Ok(None) => {

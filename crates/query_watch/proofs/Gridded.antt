@@ -14,8 +14,8 @@ use Rattle.query_watch.specs.declared.rows.Row.{Row}
 use Rattle.query_watch.specs.declared.rows.Watched.{Watched}
 use Rattle.query_watch.specs.declared.grid.Cell.{Cell}
 use Rattle.query_watch.specs.declared.grid.Grid.{Grid}
-use Rattle.query_watch.specs.Rows.{rows_of, IsRowBelow, HaveReader, Marks}
-use Rattle.query_watch.proofs.Listed.{list_found}
+use Rattle.query_watch.specs.Rows.{rows_of, IsRowBelow, HaveReader, HaveRoom, Marks}
+use Rattle.query_watch.proofs.Listed.{list_found, room_within}
 use Rattle.query_watch.specs.Grid.{IsApart, AreRowsIn, IsCell, IsGrid, AreGrids, Suffice}
 
 pub rows_in_none : (numbers : Range) → AreRowsIn [] numbers []
@@ -117,18 +117,22 @@ grids_next vs k v list grids new grid inside is read put made h = record {
 }
 
 -- What the rows that suffice mark is what all rows do.
-pub marks_sufficed : (list some : List Row) (leaves : List Watched) (event : Event) (count : ℕ) (before after : List Bool) → All (IsRowBelow count leaves) list → Suffice list event some → Marks some leaves event before after → Marks list leaves event before after
-marks_sufficed list some leaves event count before after below s m = record {
-  marked = λ k h. elim (s.others h.row h.listed) [
-    | inl there ↦ m.marked k (record { row = h.row; listed = there; leaf = h.leaf; at = h.at; numbered = h.numbered; holds = h.holds })
-    | inr none ↦ absurd (reads_not k h none)
-  ];
+pub marks_sufficed : (list some : List Row) (leaves : List Watched) (event : Event) (count : ℕ) (before after : List Bool) (had have : List (List Bool)) → All (IsRowBelow count leaves) list → Suffice list event some → Marks some leaves event before after had have → Marks list leaves event before after had have
+marks_sufficed list some leaves event count before after had have below s m = record {
+  marked = λ k h. m.marked k (there k h);
   only = λ k is. elim (m.only k is) [
     | inl was ↦ inl was
-    | inr h ↦ inr (record { row = h.row; listed = s.within h.row h.listed; leaf = h.leaf; at = h.at; numbered = h.numbered; holds = h.holds })
+    | inr h ↦ inr (within k h)
   ];
   kept = m.kept;
   room = m.room;
+  read = λ query k h. m.read query k (there query h.0, there_number query h.0 ∙ h.1);
+  read_before = m.read_before;
+  read_only = λ query k is now. elim (m.read_only query k is now) [
+    | inl was ↦ inl was
+    | inr h ↦ inr (within query h.0, h.1)
+  ];
+  rooms = m.rooms;
 }
   where
     below_there : (r : Row) → Contains list r → IsRowBelow count leaves r
@@ -141,11 +145,27 @@ marks_sufficed list some leaves event count before after below s m = record {
         let same : b.of.leaf ≡ h.leaf = cc in
         false≢true (sym (none (each_holds b.of.leaf.tests.items) b.of.range.asks) ∙ (ap (λ (l : Watched). each_holds l.tests.items event) same ∙ h.holds))
 
+    within : (k : ℕ) → HaveReader some leaves k event → HaveReader list leaves k event
+    within k h = record { row = h.row; listed = s.within h.row h.listed; leaf = h.leaf; at = h.at; numbered = h.numbered; holds = h.holds }
+
+    listed_there : (k : ℕ) (h : HaveReader list leaves k event) → Contains some h.row
+    listed_there k h = elim (s.others h.row h.listed) [ inl here ↦ here | inr none ↦ absurd (reads_not k h none) ]
+
+    there : (k : ℕ) → HaveReader list leaves k event → HaveReader some leaves k event
+    there k h = record { row = h.row; listed = listed_there k h; leaf = h.leaf; at = h.at; numbered = h.numbered; holds = h.holds }
+
+    there_number : (k : ℕ) (h : HaveReader list leaves k event) → (there k h).leaf.number ≡ h.leaf.number
+    there_number k h = refl
+
 -- and the rows that suffice are of queries below the number
 pub below_sufficed : (list some : List Row) (leaves : List Watched) (event : Event) (count : ℕ) → All (IsRowBelow count leaves) list → Suffice list event some → All (IsRowBelow count leaves) some
 below_sufficed list some leaves event count below s k d inside =
     let i = s.within (slice_index_or some k d) (Contains-get_or some k d inside) in
     subst (IsRowBelow count leaves) i.2 (below i.0 _ i.1)
+
+-- the sets that have room for the leaves of all rows have it for those of the rows that suffice
+pub room_sufficed : (list some : List Row) (leaves : List Watched) (event : Event) (sets : List (List Bool)) → Suffice list event some → HaveRoom list leaves event sets → HaveRoom some leaves event sets
+room_sufficed list some leaves event sets s h = room_within list some leaves event sets sets s.within refl h
 
 -- the grid of the list that is found
 pub grid_found : (vs : List (Vec Row Global)) (gs grids : List Grid) (ty : ℕ) (v : Vec Row Global) (list : List Row) → AreGrids (rows_of vs) gs → slice_get vs ty ≡ Some v → list ≡ v.items → grids ≡ gs → (grid : Grid) → slice_get grids ty ≡ Some grid → IsGrid list grid

@@ -1,9 +1,9 @@
 -- Rows that are put in, and looked at.
-use Rattle.std.proofs.Common.{◌≡◌, refl, sym, ap, subst, ◌∙◌, ℕ, zero, suc, ◌+◌, ◌<◌, ◌≤◌, ◌⊎◌, inl, inr, Bool, true, false, ◌&&◌, ◌||◌, eqb, List, [], ◌∷◌, ◌++◌, length, take, Option, Some, None, IfSome, Vec, slice_get, slice_index_or, slice_set, Contains, All, arith}
+use Rattle.std.proofs.Common.{◌≡◌, ◌≢◌, refl, sym, ap, subst, ◌∙◌, ℕ, zero, suc, ◌+◌, ◌<◌, ◌≤◌, ◌⊎◌, inl, inr, Bool, true, false, ◌&&◌, ◌||◌, eqb, List, [], ◌∷◌, ◌++◌, length, map, length-append, take, Option, Some, None, IfSome, Vec, slice_get, slice_index_or, slice_set, Contains, All, arith}
 use Rattle.std.specs.declared.alloc.Global.{Global}
 use Rattle.std.proofs.lemmas.Bool.{cases_lt, cases_eq, eq-eqb, eqb-true, false≢true, and_parts, or_cases, or_left, or_right}
-use Rattle.std.proofs.lemmas.List.Elements.{All-nil, All-push, All-weaker, Contains-append_left, Contains-append_right, Contains-append_cases, Contains-push, Contains-push_cases, Contains-get_or, All-get_or}
-use Rattle.std.proofs.lemmas.List.{take_more, take_all}
+use Rattle.std.proofs.lemmas.List.Elements.{Contains-append_left, Contains-append_right, Contains-append_cases, Contains-push, Contains-push_cases, Contains-get_or}
+use Rattle.std.proofs.lemmas.List.{take_more, take_all, length_push}
 use Rattle.std.proofs.lemmas.Option.{slice_get_within, slice_get-get_or, get_or_from_slice_get}
 use Rattle.cer_base.specs.Bits.{has}
 use Rattle.stream_schema.specs.Types.{Declared}
@@ -21,7 +21,7 @@ use Rattle.predicate_bits.specs.Checks.{all_checks_hold, ComesTo}
 use Rattle.query_watch.specs.declared.rows.Row.{Row}
 use Rattle.query_watch.specs.declared.rows.Watched.{Watched}
 use Rattle.query_watch.specs.Openings.{AsksToOpen}
-use Rattle.query_watch.specs.Rows.{Table, rows_of, IsListed, HasPut, HasAdded, HasAddedQuery, IsRangeOf, IsRowOf, IsRowOfLeaf, HasLeafRow, HaveRows, HaveReader, IsWatched, IsWatch, IsExact, AreExact, IsRowBelow, AreBelow, Marks}
+use Rattle.query_watch.specs.Rows.{Table, rows_of, IsListed, HasPut, HasAdded, HasAddedQuery, IsRangeOf, IsRowOf, IsRowOfLeaf, HasLeafRow, HaveRows, HaveReader, HaveLeaf, AreReaders, HaveRoom, HaveRooms, IsWatched, IsWatch, IsExact, AreExact, IsRowBelow, AreBelow, Marks}
 
 -- a list with nothing in it, put in last, changes no list
 pub same_more : (vs : List (Vec Row Global)) (v : Vec Row Global) → v.items ≡ [] → (t : ℕ) → slice_index_or (rows_of (vs ++ v ∷ [])) t [] ≡ slice_index_or (rows_of vs) t []
@@ -89,64 +89,90 @@ before_last [] l x k at = absurd cc
 before_last (y ∷ had) l x zero at = at
 before_last (y ∷ had) l x (suc k) at = before_last had l x k at
 
-pub added_none : (query : ℕ) (list : List Leaf) (rows : List (List Row)) (leaves : List Watched) → HasAdded query list rows leaves rows leaves
-added_none query list rows leaves = record { kept = λ t r h. h; leaves = λ k l at. at; only = λ t r h. inl h }
+-- what stands in a list, and in one after it
+at_left : {A : Type 0} (xs ys : List A) (k : ℕ) (x : A) → slice_get xs k ≡ Some x → slice_get (xs ++ ys) k ≡ Some x
+at_left [] ys k x at = absurd cc
+at_left (y ∷ xs) ys zero x at = at
+at_left (y ∷ xs) ys (suc k) x at = at_left xs ys k x at
+
+at_right : {A : Type 0} (xs ys : List A) (k : ℕ) (x : A) → slice_get ys k ≡ Some x → slice_get (xs ++ ys) (length xs + k) ≡ Some x
+at_right [] ys k x at = let here : k ≡ 0 + k = omega arith in subst (λ i. slice_get ys i ≡ Some x) here at
+at_right (y ∷ xs) ys k x at = let here : suc (length xs + k) ≡ suc (length xs) + k = omega arith in subst (λ i. slice_get (y ∷ (xs ++ ys)) i ≡ Some x) here (at_right xs ys k x at)
+
+pushed_at : {A : Type 0} (xs : List A) (l x : A) (k : ℕ) → slice_get (xs ++ l ∷ []) k ≡ Some x → (slice_get xs k ≡ Some x) ⊎ ((k ≡ length xs) × (l ≡ x))
+pushed_at [] l x zero at = inr (refl, cc)
+pushed_at [] l x (suc k) at = absurd cc
+pushed_at (y ∷ xs) l x zero at = inl at
+pushed_at (y ∷ xs) l x (suc k) at = elim (pushed_at xs l x k at) [ inl p ↦ inl p | inr q ↦ inr (ap suc q.0, q.1) ]
+
+pub added_none : (query first : ℕ) (rows : List (List Row)) (leaves : List Watched) → HasAdded query first [] rows leaves rows leaves
+added_none query first rows leaves = record { kept = λ t r h. h; leaves = λ k l at. at; count = omega arith; only = λ t r h. inl h }
 
 abbrev row_kept : (query : ℕ) (had have : List Watched) (row : Row) → ((k : ℕ) (l : Watched) → slice_get had k ≡ Some l → slice_get have k ≡ Some l) → IsRowOf query had row → IsRowOf query have row
 row_kept query had have row kept h = record { leaf = h.leaf; at = kept row.leaf h.leaf h.at; range = h.range; opening = h.opening; numbered = h.numbered }
 
-of_leaf_kept : (query : ℕ) (some more : List Leaf) (had have : List Watched) (ty : ℕ) (row : Row) → ((l : Leaf) → Contains some l → Contains more l) → ((k : ℕ) (l : Watched) → slice_get had k ≡ Some l → slice_get have k ≡ Some l) → IsRowOfLeaf query some had ty row → IsRowOfLeaf query more have ty row
-of_leaf_kept query some more had have ty row within kept h = record { of = row_kept query had have row kept h.of; leaf = h.leaf; listed = within h.leaf h.listed; type = h.type; tests = h.tests }
+-- the leaves of a list, and of one after it
+of_leaf_first : (query first : ℕ) (xs ys : List Leaf) (had have : List Watched) (ty : ℕ) (row : Row) → ((k : ℕ) (l : Watched) → slice_get had k ≡ Some l → slice_get have k ≡ Some l) → IsRowOfLeaf query first xs had ty row → IsRowOfLeaf query first (xs ++ ys) have ty row
+of_leaf_first query first xs ys had have ty row kept h = record { of = row_kept query had have row kept h.of; leaf = h.leaf; place = h.place; listed = at_left xs ys h.place h.leaf h.listed; own = h.own; type = h.type; tests = h.tests }
+
+of_leaf_later : (query first : ℕ) (xs ys : List Leaf) (have : List Watched) (ty : ℕ) (row : Row) → IsRowOfLeaf query (first + length xs) ys have ty row → IsRowOfLeaf query first (xs ++ ys) have ty row
+of_leaf_later query first xs ys have ty row h = record { of = h.of; leaf = h.leaf; place = length xs + h.place; listed = at_right xs ys h.place h.leaf h.listed; own = (let own = h.own in omega arith); type = h.type; tests = h.tests }
 
 -- one leaf and its row
-pub added_leaf : (query : ℕ) (row : Row) (leaf : Watched) (l : Leaf) (old new : List (List Row)) (had have : List Watched) → have ≡ had ++ leaf ∷ [] → row.leaf ≡ length had → leaf.query ≡ query → leaf.tests.items ≡ l.tests.items → IsRangeOf row.range leaf → AsksToOpen row.opening (each_holds leaf.tests.items) → HasPut l.ty row old new → HasAdded query (l ∷ []) old had new have
-added_leaf query row leaf l old new had have is numbered of tests range opening p = record {
+pub added_leaf : (query number : ℕ) (row : Row) (leaf : Watched) (l : Leaf) (old new : List (List Row)) (had have : List Watched) → have ≡ had ++ leaf ∷ [] → row.leaf ≡ length had → leaf.query ≡ query → leaf.number ≡ number → leaf.tests.items ≡ l.tests.items → IsRangeOf row.range leaf → AsksToOpen row.opening (each_holds leaf.tests.items) → HasPut l.ty row old new → HasAdded query number (l ∷ []) old had new have
+added_leaf query number row leaf l old new had have is placed of own tests range opening p = record {
   kept = p.kept;
   leaves = λ k x at. subst (λ ls. slice_get ls k ≡ Some x) (sym is) (before_last had leaf x k at);
+  count = ap length is ∙ length_push had leaf;
   only = λ t r now. elim (p.only t r now) [
     | inl was ↦ inl was
-    | inr one ↦ inr (subst (IsRowOfLeaf query (l ∷ []) have t) one.1 (record { of = record { leaf = leaf; at = ap (slice_get have) numbered ∙ last_leaf had have leaf is; range = range; opening = opening; numbered = of }; leaf = l; listed = Contains-push [] l; type = one.0; tests = tests }))
+    | inr one ↦ inr (subst (IsRowOfLeaf query number (l ∷ []) have t) one.1 (record { of = record { leaf = leaf; at = ap (slice_get have) placed ∙ last_leaf had have leaf is; range = range; opening = opening; numbered = of }; leaf = l; place = 0; listed = refl; own = omega arith; type = one.0; tests = tests }))
   ];
 }
 
-pub leaf_row : (query : ℕ) (row : Row) (leaf : Watched) (l : Leaf) (old new : List (List Row)) (had have : List Watched) → have ≡ had ++ leaf ∷ [] → row.leaf ≡ length had → leaf.query ≡ query → leaf.tests.items ≡ l.tests.items → HasPut l.ty row old new → HasLeafRow query new have l
-leaf_row query row leaf l old new had have is numbered of tests p = record {
+pub leaf_row : (query number : ℕ) (row : Row) (leaf : Watched) (l : Leaf) (old new : List (List Row)) (had have : List Watched) → have ≡ had ++ leaf ∷ [] → row.leaf ≡ length had → leaf.query ≡ query → leaf.number ≡ number → leaf.tests.items ≡ l.tests.items → HasPut l.ty row old new → HasLeafRow query number new have l
+leaf_row query number row leaf l old new had have is placed of own tests p = record {
   row = row;
   listed = p.more;
   leaf = leaf;
-  at = ap (slice_get have) numbered ∙ last_leaf had have leaf is;
+  at = ap (slice_get have) placed ∙ last_leaf had have leaf is;
   numbered = of;
+  own = own;
   tests = tests;
 }
 
-pub added_more : (query : ℕ) (xs ys : List Leaf) (old mid new : List (List Row)) (a b c : List Watched) → HasAdded query xs old a mid b → HasAdded query ys mid b new c → HasAdded query (xs ++ ys) old a new c
-added_more query xs ys old mid new a b c h p = record {
+pub added_more : (query first : ℕ) (xs ys : List Leaf) (old mid new : List (List Row)) (a b c : List Watched) → HasAdded query first xs old a mid b → HasAdded query (first + length xs) ys mid b new c → HasAdded query first (xs ++ ys) old a new c
+added_more query first xs ys old mid new a b c h p = record {
   kept = λ t r was. p.kept t r (h.kept t r was);
   leaves = λ k l at. p.leaves k l (h.leaves k l at);
+  count = (let one = h.count in let two = p.count in let both = length-append xs ys in omega arith);
   only = λ t r now. elim (p.only t r now) [
     | inl mid_is ↦ elim (h.only t r mid_is) [
       | inl was ↦ inl was
-      | inr one ↦ inr (of_leaf_kept query xs (xs ++ ys) b c t r (λ l i. Contains-append_left xs ys l i) p.leaves one)
+      | inr one ↦ inr (of_leaf_first query first xs ys b c t r p.leaves one)
     ]
-    | inr one ↦ inr (of_leaf_kept query ys (xs ++ ys) c c t r (λ l i. Contains-append_right xs ys l i) (λ k l at. at) one)
+    | inr one ↦ inr (of_leaf_later query first xs ys c t r one)
   ];
 }
 
-leaf_kept : (query other : ℕ) (list : List Leaf) (old new : List (List Row)) (had have : List Watched) (l : Leaf) → HasAdded other list old had new have → HasLeafRow query old had l → HasLeafRow query new have l
-leaf_kept query other list old new had have l added h = record { row = h.row; listed = added.kept l.ty h.row h.listed; leaf = h.leaf; at = added.leaves h.row.leaf h.leaf h.at; numbered = h.numbered; tests = h.tests }
+leaf_kept : (query number other first : ℕ) (list : List Leaf) (old new : List (List Row)) (had have : List Watched) (l : Leaf) → HasAdded other first list old had new have → HasLeafRow query number old had l → HasLeafRow query number new have l
+leaf_kept query number other first list old new had have l added h = record { row = h.row; listed = added.kept l.ty h.row h.listed; leaf = h.leaf; at = added.leaves h.row.leaf h.leaf h.at; numbered = h.numbered; own = h.own; tests = h.tests }
 
 -- the range of a leaf's tests, as the code reads them
-pub range_of_leaf : (query : ℕ) (range : Range) (checks : Option (Vec Check Global)) (tests : Vec Test Global) (xs ys : List Test) → xs ≡ tests.items → ys ≡ tests.items → AsksFor range (each_holds xs) → IfSome checks (λ cs. ComesTo range (each_holds ys) (all_checks_hold cs.items)) → IsRangeOf range (record { query = query; checks = checks; tests = tests })
-range_of_leaf query range checks tests xs ys x_is y_is asks come = record {
+pub range_of_leaf : (query number : ℕ) (range : Range) (checks : Option (Vec Check Global)) (tests : Vec Test Global) (xs ys : List Test) → xs ≡ tests.items → ys ≡ tests.items → AsksFor range (each_holds xs) → IfSome checks (λ cs. ComesTo range (each_holds ys) (all_checks_hold cs.items)) → IsRangeOf range (record { query = query; number = number; checks = checks; tests = tests })
+range_of_leaf query number range checks tests xs ys x_is y_is asks come = record {
   asks = subst (λ ts. AsksFor range (each_holds ts)) x_is asks;
   checks = subst (λ ts. IfSome checks (λ cs. ComesTo range (each_holds ts) (all_checks_hold cs.items))) y_is come;
 }
 
 pub rows_none : (query : ℕ) (rows : List (List Row)) (leaves : List Watched) → HaveRows query [] rows leaves
-rows_none query rows leaves = All-nil (HasLeafRow query rows leaves)
+rows_none query rows leaves k l at = absurd cc
 
-pub rows_next : (query : ℕ) (list : List Leaf) (l : Leaf) (old new : List (List Row)) (had have : List Watched) → HaveRows query list old had → HasAdded query (l ∷ []) old had new have → HasLeafRow query new have l → HaveRows query (list ++ l ∷ []) new have
-rows_next query list l old new had have h added one = All-push (HasLeafRow query new have) list l (All-weaker (HasLeafRow query old had) (HasLeafRow query new have) (λ x was. leaf_kept query query (l ∷ []) old new had have x added was) list h) one
+pub rows_next : (query : ℕ) (list : List Leaf) (l : Leaf) (old new : List (List Row)) (had have : List Watched) → HaveRows query list old had → HasAdded query (length list) (l ∷ []) old had new have → HasLeafRow query (length list) new have l → HaveRows query (list ++ l ∷ []) new have
+rows_next query list l old new had have h added one k x at = elim (pushed_at list l x k at) [
+  | inl was ↦ leaf_kept query k query (length list) (l ∷ []) old new had have x added (h k x was)
+  | inr is ↦ subst (λ z. HasLeafRow query k new have z) is.1 (subst (λ i. HasLeafRow query i new have l) (sym is.0) one)
+]
 
 -- the leaf of an occurrence
 leaf_there : (schema : Declared) (os : List Occurrence) (ls : List Leaf) (k : ℕ) (o : Occurrence) → AreLeavesOf schema os ls → slice_get os k ≡ Some o → (l : Leaf) × (slice_get ls k ≡ Some l) × IsLeafOf schema o l
@@ -159,25 +185,27 @@ leaf_there schema (x ∷ os) (l ∷ ls) (suc k) o of at = leaf_there schema os l
 pub watched : (schema : Declared) (q : Query) (number : ℕ) (list : List Leaf) (rows : List (List Row)) (leaves : List Watched) → AreLeavesOf schema (occurrences (tree_of q)) list → HaveRows number list rows leaves → IsWatched schema q number rows leaves
 watched schema q number list rows leaves of have event k o at reads =
     let l = leaf_there schema (occurrences (tree_of q)) list k o of at in
-    let less = slice_get_within list k l.0 l.1 in
-    let h : HasLeafRow number rows leaves l.0 = subst (HasLeafRow number rows leaves) (get_or_from_slice_get list k l.0 l.0 l.1) (All-get_or (HasLeafRow number rows leaves) list k l.0 less have) in
+    let h : HasLeafRow number k rows leaves l.0 = have k l.0 l.1 in
     let does : leaf_reads l.0 event ≡ true = l.2.reads event ∙ reads in
     let both = and_parts (eqb l.0.ty event.ty) (each_holds l.0.tests.items event) does in
-    let type : l.0.ty ≡ event.ty = eqb-true l.0.ty event.ty both.0 in
-    record {
-      row = h.row;
-      listed = subst (λ t. IsListed rows t h.row) type h.listed;
-      leaf = h.leaf;
-      at = h.at;
-      numbered = h.numbered;
-      holds = ap (λ ts. each_holds ts event) h.tests ∙ both.1;
-    }
+    let type : l.0.ty ≡ event.ty = eqb-true l.0.ty event.ty both.0 in (
+      record {
+        row = h.row;
+        listed = subst (λ t. IsListed rows t h.row) type h.listed;
+        leaf = h.leaf;
+        at = h.at;
+        numbered = h.numbered;
+        holds = ap (λ ts. each_holds ts event) h.tests ∙ both.1;
+      },
+      h.own,
+    )
 
 -- rows of another query leave a query watched
-pub watched_kept : (schema : Declared) (q : Query) (number other : ℕ) (list : List Leaf) (old new : List (List Row)) (had have : List Watched) → HasAdded other list old had new have → IsWatched schema q number old had → IsWatched schema q number new have
-watched_kept schema q number other list old new had have added h event k o at reads =
-    let was = h event k o at reads in
-    record { row = was.row; listed = added.kept event.ty was.row was.listed; leaf = was.leaf; at = added.leaves was.row.leaf was.leaf was.at; numbered = was.numbered; holds = was.holds }
+pub watched_kept : (schema : Declared) (q : Query) (number other first : ℕ) (list : List Leaf) (old new : List (List Row)) (had have : List Watched) → HasAdded other first list old had new have → IsWatched schema q number old had → IsWatched schema q number new have
+watched_kept schema q number other first list old new had have added h event k o at reads =
+    let found = h event k o at reads in
+    let was = found.0 in
+    (record { row = was.row; listed = added.kept event.ty was.row was.listed; leaf = was.leaf; at = added.leaves was.row.leaf was.leaf was.at; numbered = was.numbered; holds = was.holds }, found.1)
 
 -- The queries before a number are watched.
 pub record IsWatchUpTo (k : ℕ) (schema : Declared) (queries : List Query) (rows : List (List Row)) (leaves : List Watched) : Type 0 where
@@ -194,13 +222,15 @@ occurrence_there schema (o ∷ os) (x ∷ ls) zero l of at = let same : x ≡ l 
 occurrence_there schema (o ∷ os) (x ∷ ls) (suc k) l of at = occurrence_there schema os ls k l of.1 at
 
 -- a row of the query's leaves whose tests hold is of one that reads
-exact_here : (schema : Declared) (q : Query) (number : ℕ) (list : List Leaf) (have : List Watched) (event : Event) (row : Row) → AreLeavesOf schema (occurrences (tree_of q)) list → (n : IsRowOfLeaf number list have event.ty row) → each_holds n.of.leaf.tests.items event ≡ true → (k : ℕ) × (o : Occurrence) × (slice_get (occurrences (tree_of q)) k ≡ Some o) × (occurrence_reads schema o event ≡ true)
-exact_here schema q number list have event row are n holds =
-    let at : slice_get list n.listed.0 ≡ Some n.leaf = slice_get-get_or list n.listed.0 n.leaf n.listed.1 ∙ ap Some n.listed.2 in
-    let o = occurrence_there schema (occurrences (tree_of q)) list n.listed.0 n.leaf are at in
+exact_here : (schema : Declared) (q : Query) (number k : ℕ) (list : List Leaf) (have : List Watched) (event : Event) (row : Row) → AreLeavesOf schema (occurrences (tree_of q)) list → (n : IsRowOfLeaf number 0 list have event.ty row) → n.of.leaf.number ≡ k → each_holds n.of.leaf.tests.items event ≡ true → (o : Occurrence) × (slice_get (occurrences (tree_of q)) k ≡ Some o) × (occurrence_reads schema o event ≡ true)
+exact_here schema q number k list have event row are n own holds =
+    let first = n.own in
+    let place : n.place ≡ k = omega arith in
+    let at : slice_get list k ≡ Some n.leaf = subst (λ i. slice_get list i ≡ Some n.leaf) place n.listed in
+    let o = occurrence_there schema (occurrences (tree_of q)) list k n.leaf are at in
     let tests : each_holds n.leaf.tests.items event ≡ true = ap (λ ts. each_holds ts event) (sym n.tests) ∙ holds in
     let does : leaf_reads n.leaf event ≡ true = ap (λ b. b && each_holds n.leaf.tests.items event) (eq-eqb n.leaf.ty event.ty n.type) ∙ tests in
-    (n.listed.0, o.0, o.1, sym (o.2.reads event) ∙ does)
+    (o.0, o.1, sym (o.2.reads event) ∙ does)
 
 nothing_listed : (t : ℕ) (r : Row) → IsListed [] t r → ⊥
 nothing_listed zero r h = (let l = h.1 in omega arith)
@@ -216,7 +246,7 @@ watch_none schema queries rows leaves none = record {
 pub watch_next : (k : ℕ) (schema : Declared) (queries : List Query) (q : Query) (old new : List (List Row)) (had have : List Watched) → k < length queries → q ≡ slice_index_or queries k q → IsWatchUpTo k schema queries old had → IsWatched schema q k new have → HasAddedQuery schema q k old had new have → IsWatchUpTo (k + 1) schema queries new have
 watch_next k schema queries q old new had have less here h watched added = record {
   each = λ j p below at. elim (cases_lt j k) [
-    | inl low ↦ watched_kept schema p j k added.list old new had have added.added (h.each j p low at)
+    | inl low ↦ watched_kept schema p j k 0 added.list old new had have added.added (h.each j p low at)
     | inr high ↦ (
         let same : k ≡ j = omega arith in
         let there = slice_get-get_or queries k q less in
@@ -224,22 +254,24 @@ watch_next k schema queries q old new had have less here h watched added = recor
         subst (λ i. IsWatched schema p i new have) same (subst (λ z. IsWatched schema z k new have) one watched)
         )
   ];
-  exact = λ j p below at event r. elim (added.added.only event.ty r.row r.listed) [
-    | inl was ↦ (
-        let b = h.below event.ty r.row was in
-        let low = b.below in
-        let one : b.of.leaf ≡ r.leaf = (let both = sym (added.added.leaves r.row.leaf b.of.leaf b.of.at) ∙ r.at in cc) in
-        let number : b.query ≡ j = sym b.of.numbered ∙ (ap (λ (l : Watched). l.query) one ∙ r.numbered) in
-        h.exact j p (omega arith) at event (record { row = r.row; listed = was; leaf = b.of.leaf; at = b.of.at; numbered = b.of.numbered ∙ number; holds = ap (λ (l : Watched). each_holds l.tests.items event) one ∙ r.holds })
-        )
-    | inr n ↦ (
-        let one : n.of.leaf ≡ r.leaf = (let both = sym n.of.at ∙ r.at in cc) in
-        let same : k ≡ j = sym n.of.numbered ∙ (ap (λ (l : Watched). l.query) one ∙ r.numbered) in
-        let there = slice_get-get_or queries k q less in
-        let query : q ≡ p = (let both = sym (subst (λ i. slice_get queries i ≡ Some p) (sym same) at) ∙ there in cc) in
-        exact_here schema p k added.list have event r.row (subst (λ z. AreLeavesOf schema (occurrences (tree_of z)) added.list) query added.are) n (ap (λ (l : Watched). each_holds l.tests.items event) one ∙ r.holds)
-        )
-  ];
+  exact = λ j p below at event i found. (
+      let r = found.0 in
+      elim (added.added.only event.ty r.row r.listed) [
+        | inl was ↦ (
+            let b = h.below event.ty r.row was in
+            let low = b.below in
+            let one : b.of.leaf ≡ r.leaf = (let both = sym (added.added.leaves r.row.leaf b.of.leaf b.of.at) ∙ r.at in cc) in
+            let number : b.query ≡ j = sym b.of.numbered ∙ (ap (λ (l : Watched). l.query) one ∙ r.numbered) in
+            h.exact j p (omega arith) at event i (record { row = r.row; listed = was; leaf = b.of.leaf; at = b.of.at; numbered = b.of.numbered ∙ number; holds = ap (λ (l : Watched). each_holds l.tests.items event) one ∙ r.holds }, ap (λ (l : Watched). l.number) one ∙ found.1)
+            )
+        | inr n ↦ (
+            let one : n.of.leaf ≡ r.leaf = (let both = sym n.of.at ∙ r.at in cc) in
+            let same : k ≡ j = sym n.of.numbered ∙ (ap (λ (l : Watched). l.query) one ∙ r.numbered) in
+            let there = slice_get-get_or queries k q less in
+            let query : q ≡ p = (let both = sym (subst (λ i. slice_get queries i ≡ Some p) (sym same) at) ∙ there in cc) in
+            exact_here schema p k i added.list have event r.row (subst (λ z. AreLeavesOf schema (occurrences (tree_of z)) added.list) query added.are) n (ap (λ (l : Watched). l.number) one ∙ found.1) (ap (λ (l : Watched). each_holds l.tests.items event) one ∙ r.holds)
+            )
+      ]);
   below = λ t r now. elim (added.added.only t r now) [
     | inl was ↦ (
         let b = h.below t r was in
@@ -292,35 +324,85 @@ number_read count leaves row d h =
     let low = h.below in
     omega arith
 
+both_true : (a b : Bool) → a ≡ true → b ≡ true → (a && b) ≡ true
+both_true a b p q = ap (λ x. x && b) p ∙ q
+
+-- the set of the leaf's query has room for the leaf, where it reads
+pub room_of_leaf : (row : Row) (leaves : List Watched) (event : Event) (sets : List (List Bool)) (leaf : Watched) → slice_get leaves row.leaf ≡ Some leaf → each_holds leaf.tests.items event ≡ true → HaveRoom (row ∷ []) leaves event sets → leaf.number < length (slice_index_or sets leaf.query [])
+room_of_leaf row leaves event sets leaf at holds h = h leaf.query leaf.number (record { row = row; listed = Contains-push [] row; leaf = leaf; at = at; numbered = refl; holds = holds }, refl)
+
 -- a row whose leaf reads the event
-pub marks_row : (row : Row) (leaves : List Watched) (event : Event) (before after : List Bool) (leaf : Watched) → slice_get leaves row.leaf ≡ Some leaf → each_holds leaf.tests.items event ≡ true → ((j : ℕ) → has after j ≡ (eqb j leaf.query || has before j)) → length after ≡ length before → Marks (row ∷ []) leaves event before after
-marks_row row leaves event before after leaf at holds members room = record {
+pub marks_row : (row : Row) (leaves : List Watched) (event : Event) (before after : List Bool) (had have : List (List Bool)) (leaf : Watched) → slice_get leaves row.leaf ≡ Some leaf → each_holds leaf.tests.items event ≡ true → ((j : ℕ) → has after j ≡ (eqb j leaf.query || has before j)) → length after ≡ length before → ((k : ℕ) → has (slice_index_or have leaf.query []) k ≡ (eqb k leaf.number || (has before leaf.query && has (slice_index_or had leaf.query []) k))) → ((j : ℕ) → j ≢ leaf.query → slice_index_or have j [] ≡ slice_index_or had j []) → map (λ (set : List Bool). length set) have ≡ map (λ (set : List Bool). length set) had → Marks (row ∷ []) leaves event before after had have
+marks_row row leaves event before after had have leaf at holds members room set others rooms = record {
   marked = λ k h. members k ∙ or_left (eqb k leaf.query) (has before k) (eq-eqb k leaf.query (sym h.numbered ∙ ap (λ (l : Watched). l.query) (sym (same_leaf row leaves k event leaf at h))));
   only = λ k is. elim (or_cases (eqb k leaf.query) (has before k) (sym (members k) ∙ is)) [
-    | inl one ↦ inr (record { row = row; listed = Contains-push [] row; leaf = leaf; at = at; numbered = sym (eqb-true k leaf.query one); holds = holds })
+    | inl one ↦ inr (reader k (sym (eqb-true k leaf.query one)))
     | inr was ↦ inl was
   ];
   kept = λ k is. members k ∙ or_right (eqb k leaf.query) (has before k) is;
   room = room;
+  read = λ query k h. (
+      let one : leaf ≡ h.0.leaf = same_leaf row leaves query event leaf at h.0 in
+      let here : leaf.query ≡ query = ap (λ (l : Watched). l.query) one ∙ h.0.numbered in
+      let own : k ≡ leaf.number = sym (ap (λ (l : Watched). l.number) one ∙ h.1) in
+      subst (λ i. has (slice_index_or have i []) k ≡ true) here (set k ∙ or_left (eqb k leaf.number) (has before leaf.query && has (slice_index_or had leaf.query []) k) (eq-eqb k leaf.number own))
+      );
+  read_before = λ query k marked was. elim (cases_eq query leaf.query) [
+    | inl same ↦ subst (λ i. has (slice_index_or have i []) k ≡ true) (sym same) (set k ∙ or_right (eqb k leaf.number) (has before leaf.query && has (slice_index_or had leaf.query []) k) (both_true (has before leaf.query) (has (slice_index_or had leaf.query []) k) (ap (has before) (sym same) ∙ marked) (subst (λ i. has (slice_index_or had i []) k ≡ true) same was)))
+    | inr other ↦ ap (λ xs. has xs k) (others query other) ∙ was
+  ];
+  read_only = λ query k is was. elim (cases_eq query leaf.query) [
+    | inl same ↦ elim (or_cases (eqb k leaf.number) (has before leaf.query && has (slice_index_or had leaf.query []) k) (sym (set k) ∙ subst (λ i. has (slice_index_or have i []) k ≡ true) same was)) [
+      | inl one ↦ inr (reader query (sym same), sym (eqb-true k leaf.number one))
+      | inr both ↦ (
+          let parts = and_parts (has before leaf.query) (has (slice_index_or had leaf.query []) k) both in
+          inl (ap (has before) same ∙ parts.0, subst (λ i. has (slice_index_or had i []) k ≡ true) (sym same) parts.1)
+          )
+    ]
+    | inr other ↦ elim (or_cases (eqb query leaf.query) (has before query) (sym (members query) ∙ is)) [
+      | inl one ↦ absurd (other (eqb-true query leaf.query one))
+      | inr marked ↦ inl (marked, ap (λ xs. has xs k) (sym (others query other)) ∙ was)
+    ]
+  ];
+  rooms = rooms;
 }
+  where
+    reader : (k : ℕ) → leaf.query ≡ k → HaveReader (row ∷ []) leaves k event
+    reader k numbered = record { row = row; listed = Contains-push [] row; leaf = leaf; at = at; numbered = numbered; holds = holds }
 
 -- one whose leaf does not
-pub marks_not : (row : Row) (leaves : List Watched) (event : Event) (set : List Bool) (leaf : Watched) → slice_get leaves row.leaf ≡ Some leaf → each_holds leaf.tests.items event ≡ false → Marks (row ∷ []) leaves event set set
-marks_not row leaves event set leaf at fails = record {
-  marked = λ k h. absurd (false≢true (sym fails ∙ (ap (λ (l : Watched). each_holds l.tests.items event) (same_leaf row leaves k event leaf at h) ∙ h.holds)));
+pub marks_not : (row : Row) (leaves : List Watched) (event : Event) (set : List Bool) (sets : List (List Bool)) (leaf : Watched) → slice_get leaves row.leaf ≡ Some leaf → each_holds leaf.tests.items event ≡ false → Marks (row ∷ []) leaves event set set sets sets
+marks_not row leaves event set sets leaf at fails = record {
+  marked = λ k h. absurd (none k h);
   only = λ k is. inl is;
   kept = λ k is. is;
   room = refl;
+  read = λ query k h. absurd (none query h.0);
+  read_before = λ query k marked was. was;
+  read_only = λ query k is was. inl (is, was);
+  rooms = refl;
 }
+  where
+    none : (k : ℕ) → HaveReader (row ∷ []) leaves k event → ⊥
+    none k h = false≢true (sym fails ∙ (ap (λ (l : Watched). each_holds l.tests.items event) (same_leaf row leaves k event leaf at h) ∙ h.holds))
 
 -- and one whose range the event is not in, or whose text it does not have
-pub marks_past : (count : ℕ) (row : Row) (leaves : List Watched) (event : Event) (set : List Bool) → IsRowBelow count leaves row → ((holds : Event → Bool) → AsksFor row.range holds → AsksToOpen row.opening holds → holds event ≡ false) → Marks (row ∷ []) leaves event set set
-marks_past count row leaves event set h none = marks_not row leaves event set h.of.leaf h.of.at (none (each_holds h.of.leaf.tests.items) h.of.range.asks h.of.opening)
+pub marks_past : (count : ℕ) (row : Row) (leaves : List Watched) (event : Event) (set : List Bool) (sets : List (List Bool)) → IsRowBelow count leaves row → ((holds : Event → Bool) → AsksFor row.range holds → AsksToOpen row.opening holds → holds event ≡ false) → Marks (row ∷ []) leaves event set set sets sets
+marks_past count row leaves event set sets h none = marks_not row leaves event set sets h.of.leaf h.of.at (none (each_holds h.of.leaf.tests.items) h.of.range.asks h.of.opening)
 
-pub marks_none : (leaves : List Watched) (event : Event) (set : List Bool) → Marks [] leaves event set set
-marks_none leaves event set = record { marked = λ k h. absurd (let l = h.listed.1 in omega arith); only = λ k is. inl is; kept = λ k is. is; room = refl }
+pub marks_none : (leaves : List Watched) (event : Event) (set : List Bool) (sets : List (List Bool)) → Marks [] leaves event set set sets sets
+marks_none leaves event set sets = record {
+  marked = λ k h. absurd (let l = h.listed.1 in omega arith);
+  only = λ k is. inl is;
+  kept = λ k is. is;
+  room = refl;
+  read = λ query k h. absurd (let l = h.0.listed.1 in omega arith);
+  read_before = λ query k marked was. was;
+  read_only = λ query k is was. inl (is, was);
+  rooms = refl;
+}
 
-reader_within : (rows more : List Row) (leaves : List Watched) (k : ℕ) (event : Event) → ((r : Row) → Contains rows r → Contains more r) → HaveReader rows leaves k event → HaveReader more leaves k event
+abbrev reader_within : (rows more : List Row) (leaves : List Watched) (k : ℕ) (event : Event) → ((r : Row) → Contains rows r → Contains more r) → HaveReader rows leaves k event → HaveReader more leaves k event
 reader_within rows more leaves k event within h = record { row = h.row; listed = within h.row h.listed; leaf = h.leaf; at = h.at; numbered = h.numbered; holds = h.holds }
 
 reader_cases : (xs ys : List Row) (leaves : List Watched) (k : ℕ) (event : Event) → HaveReader (xs ++ ys) leaves k event → HaveReader xs leaves k event ⊎ HaveReader ys leaves k event
@@ -329,9 +411,18 @@ reader_cases xs ys leaves k event h = elim (Contains-append_cases xs ys h.row h.
   | inr r ↦ inr (record { row = h.row; listed = r; leaf = h.leaf; at = h.at; numbered = h.numbered; holds = h.holds })
 ]
 
+leaf_within : (rows more : List Row) (leaves : List Watched) (query k : ℕ) (event : Event) → ((r : Row) → Contains rows r → Contains more r) → HaveLeaf rows leaves query k event → HaveLeaf more leaves query k event
+leaf_within rows more leaves query k event within h = (reader_within rows more leaves query event within h.0, h.1)
+
+leaf_cases : (xs ys : List Row) (leaves : List Watched) (query k : ℕ) (event : Event) → HaveLeaf (xs ++ ys) leaves query k event → HaveLeaf xs leaves query k event ⊎ HaveLeaf ys leaves query k event
+leaf_cases xs ys leaves query k event h = elim (Contains-append_cases xs ys h.0.row h.0.listed) [
+  | inl l ↦ inl (record { row = h.0.row; listed = l; leaf = h.0.leaf; at = h.0.at; numbered = h.0.numbered; holds = h.0.holds }, h.1)
+  | inr r ↦ inr (record { row = h.0.row; listed = r; leaf = h.0.leaf; at = h.0.at; numbered = h.0.numbered; holds = h.0.holds }, h.1)
+]
+
 -- some rows, and those after them
-pub marks_more : (xs ys : List Row) (leaves : List Watched) (event : Event) (before mid after : List Bool) → Marks xs leaves event before mid → Marks ys leaves event mid after → Marks (xs ++ ys) leaves event before after
-marks_more xs ys leaves event before mid after a b = record {
+pub marks_more : (xs ys : List Row) (leaves : List Watched) (event : Event) (before mid after : List Bool) (had half have : List (List Bool)) → Marks xs leaves event before mid had half → Marks ys leaves event mid after half have → Marks (xs ++ ys) leaves event before after had have
+marks_more xs ys leaves event before mid after had half have a b = record {
   marked = λ k h. elim (reader_cases xs ys leaves k event h) [
     | inl l ↦ b.kept k (a.marked k l)
     | inr r ↦ b.marked k r
@@ -345,14 +436,60 @@ marks_more xs ys leaves event before mid after a b = record {
   ];
   kept = λ k is. b.kept k (a.kept k is);
   room = b.room ∙ a.room;
+  read = λ query k h. elim (leaf_cases xs ys leaves query k event h) [
+    | inl l ↦ b.read_before query k (a.marked query l.0) (a.read query k l)
+    | inr r ↦ b.read query k r
+  ];
+  read_before = λ query k is was. b.read_before query k (a.kept query is) (a.read_before query k is was);
+  read_only = λ query k is now. elim (b.read_only query k is now) [
+    | inl was ↦ elim (a.read_only query k was.0 was.1) [
+      | inl first ↦ inl first
+      | inr l ↦ inr (leaf_within xs (xs ++ ys) leaves query k event (λ r c. Contains-append_left xs ys r c) l)
+    ]
+    | inr r ↦ inr (leaf_within ys (xs ++ ys) leaves query k event (λ x c. Contains-append_right xs ys x c) r)
+  ];
+  rooms = b.rooms ∙ a.rooms;
 }
 
 -- one row more
-pub marks_next : (i : ℕ) (rows : List Row) (e : Row) (leaves : List Watched) (event : Event) (before mid after : List Bool) → i < length rows → Marks (take i rows) leaves event before mid → Marks (slice_index_or rows i e ∷ []) leaves event mid after → Marks (take (i + 1) rows) leaves event before after
-marks_next i rows e leaves event before mid after inside a b = subst (λ rs. Marks rs leaves event before after) (sym (take_more rows i e inside)) (marks_more (take i rows) (slice_index_or rows i e ∷ []) leaves event before mid after a b)
+pub marks_next : (i : ℕ) (rows : List Row) (e : Row) (leaves : List Watched) (event : Event) (before mid after : List Bool) (had half have : List (List Bool)) → i < length rows → Marks (take i rows) leaves event before mid had half → Marks (slice_index_or rows i e ∷ []) leaves event mid after half have → Marks (take (i + 1) rows) leaves event before after had have
+marks_next i rows e leaves event before mid after had half have inside a b = subst (λ rs. Marks rs leaves event before after had have) (sym (take_more rows i e inside)) (marks_more (take i rows) (slice_index_or rows i e ∷ []) leaves event before mid after had half have a b)
 
-pub marks_all : (i : ℕ) (rows : List Row) (leaves : List Watched) (event : Event) (before after : List Bool) → length rows ≤ i → Marks (take i rows) leaves event before after → Marks rows leaves event before after
-marks_all i rows leaves event before after end h = subst (λ rs. Marks rs leaves event before after) (take_all i rows end) h
+pub marks_all : (i : ℕ) (rows : List Row) (leaves : List Watched) (event : Event) (before after : List Bool) (had have : List (List Bool)) → length rows ≤ i → Marks (take i rows) leaves event before after had have → Marks rows leaves event before after had have
+marks_all i rows leaves event before after had have end h = subst (λ rs. Marks rs leaves event before after had have) (take_all i rows end) h
+
+-- what is put into the set of a query that was not marked before
+pub are_read : (rows : List (List Row)) (leaves : List Watched) (event : Event) (before after : List Bool) (had have : List (List Bool)) → Marks (slice_index_or rows event.ty []) leaves event before after had have → (query : ℕ) → has before query ≡ false → has after query ≡ true → AreReaders rows leaves query event (slice_index_or have query [])
+are_read rows leaves event before after had have m query fresh marked = record {
+  each = λ k h. m.read query k h;
+  only = λ k is. elim (m.read_only query k marked is) [
+    | inl was ↦ absurd (false≢true (sym fresh ∙ was.0))
+    | inr h ↦ h
+  ];
+}
+
+-- a set that is written is as large as it was
+pub same_rooms : (sets : List (List Bool)) (k : ℕ) (d set : List Bool) → length set ≡ length (slice_index_or sets k d) → map (λ (s : List Bool). length s) (slice_set sets k set) ≡ map (λ (s : List Bool). length s) sets
+same_rooms [] k d set same = refl
+same_rooms (x ∷ sets) zero d set same = ap (λ n. n ∷ map (λ (s : List Bool). length s) sets) same
+same_rooms (x ∷ sets) (suc k) d set same = ap (λ ns. length x ∷ ns) (same_rooms sets k d set same)
+
+room_at : (xs ys : List (List Bool)) (k : ℕ) → map (λ (s : List Bool). length s) xs ≡ map (λ (s : List Bool). length s) ys → length (slice_index_or xs k []) ≡ length (slice_index_or ys k [])
+room_at [] [] k same = refl
+room_at [] (y ∷ ys) k same = absurd cc
+room_at (x ∷ xs) [] k same = absurd cc
+room_at (x ∷ xs) (y ∷ ys) zero same = let head : length x ≡ length y = cc in head
+room_at (x ∷ xs) (y ∷ ys) (suc k) same = let rest : map (λ (s : List Bool). length s) xs ≡ map (λ (s : List Bool). length s) ys = cc in room_at xs ys k rest
+
+-- a set that has room for the leaves of some rows has it for those of some of them, and as long as no room changes
+pub room_within : (rows some : List Row) (leaves : List Watched) (event : Event) (had have : List (List Bool)) → ((r : Row) → Contains some r → Contains rows r) → map (λ (s : List Bool). length s) have ≡ map (λ (s : List Bool). length s) had → HaveRoom rows leaves event had → HaveRoom some leaves event have
+room_within rows some leaves event had have within same h query k l =
+    let room = h query k (leaf_within some rows leaves query k event within l) in
+    let as_large = room_at have had query same in
+    omega arith
+
+pub room_of_row : (rows : List Row) (i : ℕ) (e : Row) (leaves : List Watched) (event : Event) (had have : List (List Bool)) → i < length rows → map (λ (s : List Bool). length s) have ≡ map (λ (s : List Bool). length s) had → HaveRoom rows leaves event had → HaveRoom (slice_index_or rows i e ∷ []) leaves event have
+room_of_row rows i e leaves event had have inside same h = room_within rows (slice_index_or rows i e ∷ []) leaves event had have (λ r c. subst (Contains rows) (only_one (slice_index_or rows i e) r c) (Contains-get_or rows i e inside)) same h
 
 -- the query of a row is within the room of the set as it is now
 pub row_within : (rows : List Row) (i : ℕ) (e : Row) (leaves : List Watched) (before now : List Bool) → All (IsRowBelow (length before) leaves) rows → i < length rows → length now ≡ length before → IsRowBelow (length now) leaves (slice_index_or rows i e)
@@ -379,13 +516,30 @@ rows_below vs ls leaves count ty room v table list is below at list_is leaves_is
     record { query = b.query; of = subst (λ x. IsRowOf b.query x (slice_index_or list k d)) (sym leaves_is) b.of; below = omega arith }
 
 -- what the rows of the event's type mark is what the table says
-pub marks_found : (vs : List (Vec Row Global)) (ls leaves : List Watched) (count : ℕ) (v : Vec Row Global) (table : Table) (list : List Row) (event : Event) (before now : List Bool) → record { rows = rows_of vs; leaves = ls; count = count } ≡ table → slice_get vs event.ty ≡ Some v → list ≡ v.items → leaves ≡ ls → Marks list leaves event before now → Marks (slice_index_or table.rows event.ty []) table.leaves event before now
-marks_found vs ls leaves count v table list event before now is at list_is leaves_is marks =
-    subst (λ (t : Table). Marks (slice_index_or t.rows event.ty []) t.leaves event before now) is
-    (subst (λ x. Marks (slice_index_or (rows_of vs) event.ty []) x event before now) leaves_is
-    (subst (λ rs. Marks rs leaves event before now) (list_is ∙ sym (list_found vs event.ty v at)) marks))
+pub marks_found : (vs : List (Vec Row Global)) (ls leaves : List Watched) (count : ℕ) (v : Vec Row Global) (table : Table) (list : List Row) (event : Event) (before now : List Bool) (had have : List (List Bool)) → record { rows = rows_of vs; leaves = ls; count = count } ≡ table → slice_get vs event.ty ≡ Some v → list ≡ v.items → leaves ≡ ls → Marks list leaves event before now had have → Marks (slice_index_or table.rows event.ty []) table.leaves event before now had have
+marks_found vs ls leaves count v table list event before now had have is at list_is leaves_is marks =
+    subst (λ (t : Table). Marks (slice_index_or t.rows event.ty []) t.leaves event before now had have) is
+    (subst (λ x. Marks (slice_index_or (rows_of vs) event.ty []) x event before now had have) leaves_is
+    (subst (λ rs. Marks rs leaves event before now had have) (list_is ∙ sym (list_found vs event.ty v at)) marks))
 
-pub marks_no_list : (vs : List (Vec Row Global)) (ls : List Watched) (count : ℕ) (table : Table) (event : Event) (set : List Bool) → record { rows = rows_of vs; leaves = ls; count = count } ≡ table → slice_get vs event.ty ≡ None → Marks (slice_index_or table.rows event.ty []) table.leaves event set set
-marks_no_list vs ls count table event set is at =
-    subst (λ (t : Table). Marks (slice_index_or t.rows event.ty []) t.leaves event set set) is
-    (subst (λ rs. Marks rs ls event set set) (sym (none_found vs event.ty at)) (marks_none ls event set))
+pub marks_no_list : (vs : List (Vec Row Global)) (ls : List Watched) (count : ℕ) (table : Table) (event : Event) (set : List Bool) (sets : List (List Bool)) → record { rows = rows_of vs; leaves = ls; count = count } ≡ table → slice_get vs event.ty ≡ None → Marks (slice_index_or table.rows event.ty []) table.leaves event set set sets sets
+marks_no_list vs ls count table event set sets is at =
+    subst (λ (t : Table). Marks (slice_index_or t.rows event.ty []) t.leaves event set set sets sets) is
+    (subst (λ rs. Marks rs ls event set set sets sets) (sym (none_found vs event.ty at)) (marks_none ls event set sets))
+
+-- where each row is of one of the first so many queries, it is enough that their sets have room
+all_rooms : (count : ℕ) (rows : List (List Row)) (leaves : List Watched) (event : Event) (sets : List (List Bool)) → AreBelow count rows leaves → HaveRooms count rows leaves event sets → HaveRoom (slice_index_or rows event.ty []) leaves event sets
+all_rooms count rows leaves event sets below h query number l =
+    let b = below event.ty l.0.row l.0.listed in
+    let one : b.of.leaf ≡ l.0.leaf = (let both = sym b.of.at ∙ l.0.at in cc) in
+    let same : b.query ≡ query = sym b.of.numbered ∙ (ap (λ (w : Watched). w.query) one ∙ l.0.numbered) in
+    let low = b.below in
+    let less : query < count = omega arith in
+    h query number less l
+
+-- the room that the table asks for is that which the rows of the event's type do
+pub room_found : (vs : List (Vec Row Global)) (ls leaves : List Watched) (count : ℕ) (v : Vec Row Global) (table : Table) (list : List Row) (event : Event) (sets : List (List Bool)) → record { rows = rows_of vs; leaves = ls; count = count } ≡ table → AreBelow count (rows_of vs) ls → slice_get vs event.ty ≡ Some v → list ≡ v.items → leaves ≡ ls → HaveRooms table.count table.rows table.leaves event sets → HaveRoom list leaves event sets
+room_found vs ls leaves count v table list event sets is below at list_is leaves_is h =
+    subst (λ rs. HaveRoom rs leaves event sets) (sym (list_is ∙ sym (list_found vs event.ty v at)))
+    (subst (λ x. HaveRoom (slice_index_or (rows_of vs) event.ty []) x event sets) (sym leaves_is)
+    (all_rooms count (rows_of vs) ls event sets below (subst (λ (t : Table). HaveRooms t.count t.rows t.leaves event sets) (sym is) h)))

@@ -1,5 +1,5 @@
 -- What is looked at of the leaves of queries before an event is taken.
-use Rattle.std.specs.Prelude.{◌≡◌, ℕ, ◌<◌, ◌⊎◌, Bool, true, List, [], length, map, Some, All, Vec, slice_get, slice_index_or, Contains, IfSome}
+use Rattle.std.specs.Prelude.{◌≡◌, ℕ, ◌+◌, ◌<◌, ◌⊎◌, Bool, true, List, [], length, map, Some, Vec, slice_get, slice_index_or, Contains, IfSome}
 use Rattle.std.specs.declared.alloc.Global.{Global}
 use Rattle.cer_base.specs.Bits.{has}
 use Rattle.stream_schema.specs.Types.{Declared}
@@ -49,32 +49,36 @@ pub record IsRowOf (query : ℕ) (leaves : List Watched) (row : Row) : Type 0 wh
   pub opening : AsksToOpen row.opening (each_holds leaf.tests.items)
   pub numbered : leaf.query ≡ query
 
--- The row in the list of the type is of one of these leaves of the query, which has this type and these tests.
-pub record IsRowOfLeaf (query : ℕ) (list : List Leaf) (leaves : List Watched) (ty : ℕ) (row : Row) : Type 0 where
+-- The row in the list of the type is of one of these leaves of the query, which are numbered from this number on, and the leaf has this type and these tests.
+pub record IsRowOfLeaf (query first : ℕ) (list : List Leaf) (leaves : List Watched) (ty : ℕ) (row : Row) : Type 0 where
   pub of : IsRowOf query leaves row
   pub leaf : Leaf
-  pub listed : Contains list leaf
+  pub place : ℕ
+  pub listed : slice_get list place ≡ Some leaf
+  pub own : of.leaf.number ≡ first + place
   pub type : leaf.ty ≡ ty
   pub tests : of.leaf.tests.items ≡ leaf.tests.items
 
--- These leaves of one query came, and their rows.
-pub record HasAdded (query : ℕ) (list : List Leaf) (old : List (List Row)) (had : List Watched) (new : List (List Row)) (have : List Watched) : Type 0 where
+-- These leaves of one query came, numbered from this number on, and their rows.
+pub record HasAdded (query first : ℕ) (list : List Leaf) (old : List (List Row)) (had : List Watched) (new : List (List Row)) (have : List Watched) : Type 0 where
   pub kept : (t : ℕ) (r : Row) → IsListed old t r → IsListed new t r
   pub leaves : (k : ℕ) (l : Watched) → slice_get had k ≡ Some l → slice_get have k ≡ Some l
-  pub only : (t : ℕ) (r : Row) → IsListed new t r → IsListed old t r ⊎ IsRowOfLeaf query list have t r
+  pub count : length have ≡ length had + length list
+  pub only : (t : ℕ) (r : Row) → IsListed new t r → IsListed old t r ⊎ IsRowOfLeaf query first list have t r
 
--- Of a leaf of the query there is a row in the list of its type, with its tests.
-pub record HasLeafRow (query : ℕ) (rows : List (List Row)) (leaves : List Watched) (l : Leaf) : Type 0 where
+-- Of a leaf of the query, which has this number there, there is a row in the list of its type, with its tests.
+pub record HasLeafRow (query number : ℕ) (rows : List (List Row)) (leaves : List Watched) (l : Leaf) : Type 0 where
   pub row : Row
   pub listed : IsListed rows l.ty row
   pub leaf : Watched
   pub at : slice_get leaves row.leaf ≡ Some leaf
   pub numbered : leaf.query ≡ query
+  pub own : leaf.number ≡ number
   pub tests : leaf.tests.items ≡ l.tests.items
 
--- each leaf has such a row
+-- each leaf has such a row, by its place in the list
 abbrev pub HaveRows : ℕ → List Leaf → List (List Row) → List Watched → Type 0
-HaveRows query list rows leaves = All (HasLeafRow query rows leaves) list
+HaveRows query list rows leaves = (k : ℕ) (l : Leaf) → slice_get list k ≡ Some l → HasLeafRow query k rows leaves l
 
 -- Among the rows there is one of a leaf of the query whose tests hold of the event.
 pub record HaveReader (rows : List Row) (leaves : List Watched) (query : ℕ) (event : Event) : Type 0 where
@@ -85,27 +89,48 @@ pub record HaveReader (rows : List Row) (leaves : List Watched) (query : ℕ) (e
   pub numbered : leaf.query ≡ query
   pub holds : each_holds leaf.tests.items event ≡ true
 
+-- and that leaf has this number among those of the query
+abbrev pub HaveLeaf : List Row → List Watched → ℕ → ℕ → Event → Type 0
+HaveLeaf rows leaves query number event = (h : HaveReader rows leaves query event) × (h.leaf.number ≡ number)
+
 -- in the list of the event's type there is such a row
 abbrev pub HasRow : List (List Row) → List Watched → ℕ → Event → Type 0
 HasRow rows leaves query event = HaveReader (slice_index_or rows event.ty []) leaves query event
+
+-- and one of the leaf of this number
+abbrev pub HasLeaf : List (List Row) → List Watched → ℕ → ℕ → Event → Type 0
+HasLeaf rows leaves query number event = HaveLeaf (slice_index_or rows event.ty []) leaves query number event
+
+-- The set has exactly the numbers of the query's leaves that have such a row.
+pub record AreReaders (rows : List (List Row)) (leaves : List Watched) (query : ℕ) (event : Event) (set : List Bool) : Type 0 where
+  pub each : (k : ℕ) → HasLeaf rows leaves query k event → has set k ≡ true
+  pub only : (k : ℕ) → has set k ≡ true → HasLeaf rows leaves query k event
+
+-- the set of each query has room for the numbers of its leaves of which there is such a row among these
+abbrev pub HaveRoom : List Row → List Watched → Event → List (List Bool) → Type 0
+HaveRoom rows leaves event sets = (query number : ℕ) → HaveLeaf rows leaves query number event → number < length (slice_index_or sets query [])
+
+-- and that of each of the first so many queries for those of which there is one in the list of the event's type
+abbrev pub HaveRooms : ℕ → List (List Row) → List Watched → Event → List (List Bool) → Type 0
+HaveRooms count rows leaves event sets = (query number : ℕ) → query < count → HasLeaf rows leaves query number event → number < length (slice_index_or sets query [])
 
 -- The leaves of the query came, and their rows.
 pub record HasAddedQuery (schema : Declared) (q : Query) (query : ℕ) (old : List (List Row)) (had : List Watched) (new : List (List Row)) (have : List Watched) : Type 0 where
   pub list : List Leaf
   pub are : AreLeavesOf schema (occurrences (tree_of q)) list
-  pub added : HasAdded query list old had new have
+  pub added : HasAdded query 0 list old had new have
 
--- each event that a leaf of the query can read has such a row
+-- each event that a leaf of the query can read has such a row of that leaf
 abbrev pub IsWatched : Declared → Query → ℕ → List (List Row) → List Watched → Type 0
-IsWatched schema q query rows leaves = (event : Event) (k : ℕ) (o : Occurrence) → slice_get (occurrences (tree_of q)) k ≡ Some o → occurrence_reads schema o event ≡ true → HasRow rows leaves query event
+IsWatched schema q query rows leaves = (event : Event) (k : ℕ) (o : Occurrence) → slice_get (occurrences (tree_of q)) k ≡ Some o → occurrence_reads schema o event ≡ true → HasLeaf rows leaves query k event
 
 -- and that of each of the queries, by their numbers from 0
 abbrev pub IsWatch : Declared → List Query → List (List Row) → List Watched → Type 0
 IsWatch schema queries rows leaves = (query : ℕ) (q : Query) → slice_get queries query ≡ Some q → IsWatched schema q query rows leaves
 
--- each event that has such a row a leaf of the query can read
+-- each event that has such a row the leaf of the query that it is of can read
 abbrev pub IsExact : Declared → Query → ℕ → List (List Row) → List Watched → Type 0
-IsExact schema q query rows leaves = (event : Event) → HasRow rows leaves query event → (k : ℕ) × (o : Occurrence) × (slice_get (occurrences (tree_of q)) k ≡ Some o) × (occurrence_reads schema o event ≡ true)
+IsExact schema q query rows leaves = (event : Event) (k : ℕ) → HasLeaf rows leaves query k event → (o : Occurrence) × (slice_get (occurrences (tree_of q)) k ≡ Some o) × (occurrence_reads schema o event ≡ true)
 
 -- and that of each of the queries
 abbrev pub AreExact : Declared → List Query → List (List Row) → List Watched → Type 0
@@ -121,9 +146,13 @@ pub record IsRowBelow (count : ℕ) (leaves : List Watched) (row : Row) : Type 0
 abbrev pub AreBelow : ℕ → List (List Row) → List Watched → Type 0
 AreBelow count rows leaves = (t : ℕ) (r : Row) → IsListed rows t r → IsRowBelow count leaves r
 
--- The queries are marked of the rows whose leaf's tests hold of the event, and no others.
-pub record Marks (rows : List Row) (leaves : List Watched) (event : Event) (before after : List Bool) : Type 0 where
+-- The queries are marked of the rows whose leaf's tests hold of the event, and no others, and the numbers of these leaves are put into their queries' sets: into those that were there where the query was marked before, else into empty ones.
+pub record Marks (rows : List Row) (leaves : List Watched) (event : Event) (before after : List Bool) (had have : List (List Bool)) : Type 0 where
   pub marked : (k : ℕ) → HaveReader rows leaves k event → has after k ≡ true
   pub only : (k : ℕ) → has after k ≡ true → (has before k ≡ true) ⊎ HaveReader rows leaves k event
   pub kept : (k : ℕ) → has before k ≡ true → has after k ≡ true
   pub room : length after ≡ length before
+  pub read : (query k : ℕ) → HaveLeaf rows leaves query k event → has (slice_index_or have query []) k ≡ true
+  pub read_before : (query k : ℕ) → has before query ≡ true → has (slice_index_or had query []) k ≡ true → has (slice_index_or have query []) k ≡ true
+  pub read_only : (query k : ℕ) → has after query ≡ true → has (slice_index_or have query []) k ≡ true → ((has before query ≡ true) × (has (slice_index_or had query []) k ≡ true)) ⊎ HaveLeaf rows leaves query k event
+  pub rooms : map (λ (set : List Bool). length set) have ≡ map (λ (set : List Bool). length set) had

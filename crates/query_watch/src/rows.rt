@@ -28,6 +28,8 @@ pub struct Row {
 pub struct Watched {
     /// Its query's number, from 0.
     pub query: u64,
+    /// Its own number among the leaves of its query, from 0.
+    pub number: u64,
     /// What is left to test where an event has a number of the range, where that is known.
     pub checks: Option<Vec<Check>>,
     pub tests: Vec<Test>,
@@ -73,16 +75,18 @@ fn put(rows: &mut Vec<Vec<Row>>, alloc: Global, ty: TypeId, row: Row) -> Result<
     Ok(())
 }
 
-/// Puts in a row for the leaf of the query of this number, and the leaf's tests.
+/// Puts in a row for the leaf of the query of this number, and the leaf's own number and its tests.
 fn add_leaf(
     rows: &mut Vec<Vec<Row>>,
     leaves: &mut Vec<Watched>,
     alloc: Global,
     query: u64,
+    number: u64,
     leaf: Leaf,
 ) -> Result<(), Memory>
-    ensures row { OnOk result (HasLeafRow query (rows_of rows.new.items) leaves.new.items leaf) }
-    ensures added { OnOk result (HasAdded query (leaf ∷ []) (rows_of rows.old.items)
+    ensures row { OnOk result (HasLeafRow query number (rows_of rows.new.items)
+        leaves.new.items leaf) }
+    ensures added { OnOk result (HasAdded query number (leaf ∷ []) (rows_of rows.old.items)
         leaves.old.items (rows_of rows.new.items) leaves.new.items) }
 {
     let ty = leaf.ty;
@@ -90,9 +94,10 @@ fn add_leaf(
     let range = range_of(tests.as_slice());
     let opening = opening_of(tests.as_slice());
     let checks = checks_of(alloc, &range, tests.as_slice())?;
-    let number = leaves.len() as u64;
+    let place = leaves.len() as u64;
     leaves.push(Watched {
         query,
+        number,
         checks,
         tests,
     })?;
@@ -103,13 +108,13 @@ fn add_leaf(
         Row {
             range,
             opening,
-            leaf: number,
+            leaf: place,
         },
     )?;
     Ok(())
 }
 
-/// Puts in a row for each leaf of the query of this number.
+/// Puts in a row for each leaf of the query of this number, the leaves being numbered from 0.
 fn add_leaves(
     rows: &mut Vec<Vec<Row>>,
     leaves: &mut Vec<Watched>,
@@ -119,11 +124,13 @@ fn add_leaves(
 ) -> Result<(), Memory>
     ensures rows { OnOk result (HaveRows query list.items (rows_of rows.new.items)
         leaves.new.items) }
-    ensures added { OnOk result (HasAdded query list.items (rows_of rows.old.items)
+    ensures added { OnOk result (HasAdded query 0 list.items (rows_of rows.old.items)
         leaves.old.items (rows_of rows.new.items) leaves.new.items) }
 {
+    let first = leaves.len();
     for leaf in list {
-        add_leaf(rows, leaves, alloc, query, leaf)?;
+        let number = (leaves.len() - first) as u64;
+        add_leaf(rows, leaves, alloc, query, number, leaf)?;
     }
     Ok(())
 }

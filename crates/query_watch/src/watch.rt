@@ -1,6 +1,6 @@
 //! The leaves of all queries, and which queries an event can concern.
 
-ghost use Rattle.std.specs.Prelude.{◌≡◌, ℕ, ◌≤◌, ◌⊎◌, Bool, true, false, [], ◌∷◌, length, slice_get, Some, IfOk, All};
+ghost use Rattle.std.specs.Prelude.{◌≡◌, ◌≢◌, ℕ, ◌<◌, ◌≤◌, ◌==◌, ◌⊎◌, Bool, true, false, ◌&&◌, ◌||◌, [], ◌∷◌, length, map, slice_get, slice_index_or, Some, IfOk, All};
 ghost use Rattle.std.specs.Option.{option_copied};
 ghost use Rattle.cer_base.specs.Bits.{has};
 ghost use Rattle.stream_schema.specs.declared.Event.{Event as EventData};
@@ -9,7 +9,7 @@ ghost use Rattle.predicate_bits.specs.Ranges.{AsksFor};
 ghost use Rattle.query_watch.specs.Openings.{AsksToOpen};
 ghost use Rattle.query_watch.specs.declared.grid.Grid.{Grid as GridData};
 ghost use Rattle.query_watch.specs.Grid.{IsGrid, Suffice};
-ghost use Rattle.query_watch.specs.Rows.{rows_of, AreBelow, AreExact, IsRangeOf, IsRowBelow, IsWatch, HasRow, Marks};
+ghost use Rattle.query_watch.specs.Rows.{rows_of, AreBelow, AreExact, IsRangeOf, IsRowBelow, IsWatch, HasRow, AreReaders, HaveRoom, HaveRooms, Marks};
 
 use crate::grid::{Grid, few_of, grids_of};
 use crate::openings::may_open;
@@ -96,20 +96,27 @@ impl Watch {
     }
 
     /// Marks each query that has a leaf which can read the event, and no other. The set has room for
-    /// all numbers.
+    /// all numbers. Of each query that was not marked before and is now, the set of its number is then
+    /// that of the numbers of its leaves that can read the event; the sets have room for these.
     #[inline(always)]
-    pub fn mark(&self, event: &Event, into: &mut Bits)
-        requires { self.now.count ≤ length into.old }
+    pub fn mark(&self, event: &Event, into: &mut Bits, leaves: &mut [Bits])
+        requires count { self.now.count ≤ length into.old }
+        requires rooms { HaveRooms self.now.count self.now.rows self.now.leaves event.now
+            leaves.old }
         ensures marked { (number : ℕ) → HasRow self.now.rows self.now.leaves number event.now
             → has into.new number ≡ true }
         ensures only { (k : ℕ) → has into.new k ≡ true → (has into.old k ≡ true)
             ⊎ HasRow self.now.rows self.now.leaves k event.now }
         ensures kept { (k : ℕ) → has into.old k ≡ true → has into.new k ≡ true }
         ensures room { length into.new ≡ length into.old }
+        ensures read { (query : ℕ) → has into.old query ≡ false → has into.new query ≡ true
+            → AreReaders self.now.rows self.now.leaves query event.now
+            (slice_index_or leaves.new query []) }
+        ensures rooms { map (λ set. length set) leaves.new ≡ map (λ set. length set) leaves.old }
     {
         if let Some(rows) = list_of(self.rows.as_slice(), event.ty) {
             let few = rows_at(rows.as_slice(), self.grids.as_slice(), event);
-            mark_rows(few, self.leaves.as_slice(), event, into);
+            mark_rows(few, self.leaves.as_slice(), event, into, leaves);
         }
     }
 }
@@ -142,14 +149,37 @@ fn holds_of(range: &Range, leaf: &Watched, event: &Event) -> bool
     hold_by(range, &leaf.checks, leaf.tests.as_slice(), event)
 }
 
-/// Puts in the number of the row's query, if the tests of its leaf hold of the event.
-fn mark_leaf(row: &Row, leaves: &[Watched], event: &Event, into: &mut Bits)
-    requires { IsRowBelow (length into.old) leaves.now row.now }
-    ensures { Marks (row.now ∷ []) leaves.now event.now into.old into.new }
+/// Puts in the query's number, and the leaf's into the query's set, which is emptied where the query
+/// was not in.
+#[inline(always)]
+fn put_in(query: usize, leaf: usize, into: &mut Bits, sets: &mut [Bits])
+    requires inside { query < length into.old }
+    requires room { leaf < length (slice_index_or sets.old query []) }
+    ensures members { (k : ℕ) → has into.new k ≡ (k == query) || has into.old k }
+    ensures room { length into.new ≡ length into.old }
+    ensures set { (k : ℕ) → has (slice_index_or sets.new query []) k ≡ (k == leaf)
+        || (has into.old query && has (slice_index_or sets.old query []) k) }
+    ensures others { (k : ℕ) → k ≢ query → slice_index_or sets.new k []
+        ≡ slice_index_or sets.old k [] }
+    ensures rooms { map (λ set. length set) sets.new ≡ map (λ set. length set) sets.old }
+{
+    let set = &mut sets[query];
+    if !into.contains(query) {
+        set.clear();
+        into.insert(query);
+    }
+    set.insert(leaf);
+}
+
+/// Puts in the numbers of the row's query and of its leaf, if the leaf's tests hold of the event.
+fn mark_leaf(row: &Row, leaves: &[Watched], event: &Event, into: &mut Bits, sets: &mut [Bits])
+    requires below { IsRowBelow (length into.old) leaves.now row.now }
+    requires room { HaveRoom (row.now ∷ []) leaves.now event.now sets.old }
+    ensures { Marks (row.now ∷ []) leaves.now event.now into.old into.new sets.old sets.new }
 {
     let leaf = &leaves[row.leaf as usize];
     if holds_of(&row.range, leaf, event) {
-        into.insert(leaf.query as usize);
+        put_in(leaf.query as usize, leaf.number as usize, into, sets);
     }
 }
 
@@ -162,15 +192,16 @@ fn may_read(row: &Row, event: &Event) -> bool
     may_hold(&row.range, event) && may_open(&row.opening, event)
 }
 
-/// Puts in the number of the query of each row whose leaf's tests hold of the event.
+/// Puts in the numbers of the query and of the leaf of each row, if the leaf's tests hold of the event.
 #[inline(always)]
-fn mark_rows(rows: &[Row], leaves: &[Watched], event: &Event, into: &mut Bits)
-    requires { All (IsRowBelow (length into.old) leaves.now) rows.now }
-    ensures { Marks rows.now leaves.now event.now into.old into.new }
+fn mark_rows(rows: &[Row], leaves: &[Watched], event: &Event, into: &mut Bits, sets: &mut [Bits])
+    requires below { All (IsRowBelow (length into.old) leaves.now) rows.now }
+    requires room { HaveRoom rows.now leaves.now event.now sets.old }
+    ensures { Marks rows.now leaves.now event.now into.old into.new sets.old sets.new }
 {
     for row in rows {
         if may_read(row, event) {
-            mark_leaf(row, leaves, event, into);
+            mark_leaf(row, leaves, event, into, sets);
         }
     }
 }

@@ -1,4 +1,4 @@
-use Rattle.std.proofs.Common.{rules, ◌≡◌, ◌+◌, ◌-◌, ◌<◌, ◌∙◌, true, length, slice_index_or, sym, subst, refl, arith}
+use Rattle.std.proofs.Common.{rules, ◌≡◌, ◌+◌, ◌-◌, ◌<◌, true, length, slice_index_or, sym, subst, refl, arith}
 use Rattle.std.proofs.lemmas.List.{take_all}
 use Rattle.all_or_none.specs.Phases.{is_among}
 use Rattle.all_or_none.proofs.Awake.{AreLooked, looked_none, looked_next}
@@ -9,7 +9,6 @@ pub loop-number-init : goal.loop-number-init
 loop-number-init g c = record {
   committed = committed_none (g.P.Keeps.phase c.args.position) (g.P.Keeps.phase (c.args.position + 1)) c.args.event.now c.args.position c.args.parts.now;
   looked = looked_none g.P.Keeps.phase c.args.awake.now c.args.parts.now;
-  spare = refl;
 }
 
 pub commit_one-requires-clause-set : goal.commit_one-requires-clause-set
@@ -24,16 +23,12 @@ commit_one-requires-clause-inside g c =
     let inside = c.requires.inside (slice_index_or c.args.numbers.now c.loop-number.number-index 0 - 1) (subst (λ m. is_among c.args.numbers.now m ≡ true) (sym (back_again (g.P.Keeps.phase c.args.position) (g.P.Keeps.phase (c.args.position + 1)) c.args.event.now c.args.position c.args.numbers.now c.loop-number.number-index (slice_index_or c.args.numbers.now c.loop-number.number-index 0) c.args.parts.now c.loop-number.parts c.loop-number-test.true refl c.requires.set c.loop-number.invariant.committed)) among) in
     omega arith
 
-pub commit_one-requires-clause-spare : goal.commit_one-requires-clause-spare
-commit_one-requires-clause-spare g c = c.loop-number.invariant.spare ∙ (c.requires.spare ∙ sym c.loop-number.invariant.looked.room)
-
 pub loop-number-preserved : goal.loop-number-preserved
 loop-number-preserved g c = record {
   committed = committed_next (g.P.Keeps.phase c.args.position) (g.P.Keeps.phase (c.args.position + 1)) c.args.event.now c.args.position c.args.numbers.now c.loop-number.number-index (slice_index_or c.args.numbers.now c.loop-number.number-index 0) c.args.parts.now c.loop-number.parts c.loop-number-test.true refl c.requires.set c.loop-number.invariant.committed _ c.commit_one.new.part c.commit_one.ensures.taken;
   looked = looked_next g.P.Keeps.phase c.args.numbers.now c.loop-number.number-index (slice_index_or c.args.numbers.now c.loop-number.number-index 0) c.args.awake.now c.loop-number.awake c.commit_one.new.awake c.loop-number.parts c.commit_one.new.part c.loop-number-test.true refl
       (positive (g.P.Keeps.phase c.args.position) (g.P.Keeps.phase (c.args.position + 1)) c.args.event.now c.args.position c.args.numbers.now c.loop-number.number-index (slice_index_or c.args.numbers.now c.loop-number.number-index 0) c.args.parts.now c.loop-number.parts c.loop-number-test.true refl c.requires.set c.loop-number.invariant.committed)
       c.commit_one.ensures.rest c.commit_one.ensures.others c.commit_one.ensures.sets c.loop-number.invariant.looked;
-  spare = c.commit_one.ensures.spare ∙ c.loop-number.invariant.spare;
 }
 
 pub returns-clause-taken : goal.returns-clause-taken
@@ -69,6 +64,3 @@ returns-clause-awake g c = (subst (λ ns. AreLooked g.P.Keeps.phase ns c.args.aw
 
 pub returns-clause-sets : goal.returns-clause-sets
 returns-clause-sets g c = c.loop-number.invariant.looked.room
-
-pub returns-clause-spare : goal.returns-clause-spare
-returns-clause-spare g c = c.loop-number.invariant.spare

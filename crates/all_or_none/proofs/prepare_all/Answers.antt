@@ -1,7 +1,8 @@
-use Rattle.std.proofs.Common.{◌≡◌, ◌+◌, ◌<◌, ◌∙◌, true, false, length, sym, arith}
+use Rattle.std.proofs.Common.{◌≡◌, ◌+◌, ◌<◌, ◌∙◌, true, false, [], length, slice_index_or, subst, sym, arith}
+use Rattle.std.proofs.lemmas.List.{get_or_read}
 use Rattle.cer_base.specs.Bits.{has}
 use Rattle.query_standing.specs.Bounds.{update_bound}
-use Rattle.all_or_none.specs.Phases.{back, IsIdle, IsRead, IsUnread, CanPrepare, InTime, StandsAt, MeetsAtMost, ready_bound}
+use Rattle.all_or_none.specs.Phases.{back, IsIdle, AreLeavesRead, IsUnread, CanPrepare, InTime, StandsAt, MeetsAtMost, ready_bound}
 use Rattle.std.proofs.lemmas.List.Sums.{sum_by-take-le}
 use Rattle.all_or_none.proofs.LoopTurn.{all_here, said_here, same_whole, sum_next, pair_at, all_mapped}
 use Rattle.all_or_none.proofs.Marked.{CanTake, gone_none, skip_to, next_one, gone_all, sum_more, untouched_next, listed_next, listed_all}
@@ -41,7 +42,9 @@ prepare_one-requires-clause-read g c some =
     let inside : c.in-Some.k < length c.loop-k.parts = c.in-Some.ensures.found.1 in
     let asked : CanTake g.P.Keeps.phase c.args.event.now c.args.position c.args.marked.now c.args.parts.now = record { idle = c.requires.idle; can = c.requires.can; left = c.requires.left; unread = c.requires.unread } in
     let gone = skip_to phase c.args.event.now c.args.position c.args.marked.now c.args.parts.now asked c.loop-k.from c.in-Some.k c.loop-k.touched.items c.loop-k.parts c.in-Some.ensures.found.0 (omega arith) c.loop-k.invariant.gone c.in-Some.ensures.first in
-    said_here (λ j p. has c.args.read.now j ≡ true → IsRead c.args.event.now (phase c.args.position p)) c.loop-k.parts c.args.parts.now c.in-Some.k c.index-parts-k.result inside same gone.left c.requires.reading (sym c.contains-reads.ensures ∙ some)
+    let there : c.in-Some.k < length c.args.leaves.now = (let many = c.requires.leaves in omega arith) in
+    subst (λ ls. AreLeavesRead c.args.event.now ls (phase c.args.position (slice_index_or c.loop-k.parts c.in-Some.k c.index-parts-k.result))) (sym (get_or_read c.args.leaves.now c.in-Some.k c.index-leaves-k.result there c.index-leaves-k.is []))
+    (said_here (λ j p. has c.args.read.now j ≡ true → AreLeavesRead c.args.event.now (slice_index_or c.args.leaves.now j []) (phase c.args.position p)) c.loop-k.parts c.args.parts.now c.in-Some.k c.index-parts-k.result inside same gone.left c.requires.reading (sym c.contains-reads.ensures ∙ some))
 
 pub prepare_one-requires-clause-unread : goal.prepare_one-requires-clause-unread
 prepare_one-requires-clause-unread g c none =

@@ -6,5 +6,5 @@ invariant-loop-leaf l = record {
   next : (goal.iterator-loop-leaf).can_next l.leaf-iterator;
   finite : (goal.iterator-loop-leaf).is_finite l.leaf-iterator;
   rows : HaveRows l.query l.yielded (rows_of l.rows.items) l.leaves.items;
-  added : HasAdded l.query l.yielded (rows_of l.fn.rows.items) l.fn.leaves.items (rows_of l.rows.items) l.leaves.items;
+  added : HasAdded l.query 0 l.yielded (rows_of l.fn.rows.items) l.fn.leaves.items (rows_of l.rows.items) l.leaves.items;
 }

@@ -10,5 +10,5 @@ pub returns-clause-added : goal.returns-clause-added
 returns-clause-added c = record {
   list = c.in_ok-found.found.list;
   are = c.in_ok-found.ensures.list;
-  added = subst (λ ls. HasAdded c.args.number ls (rows_of c.args.rows.now.items) c.args.leaves.now.items (rows_of c.add_leaves.new.rows.items) c.add_leaves.new.leaves.items) c.into_vec.ensures c.in_ok-add_leaves.ensures.added;
+  added = subst (λ ls. HasAdded c.args.number 0 ls (rows_of c.args.rows.now.items) c.args.leaves.now.items (rows_of c.add_leaves.new.rows.items) c.add_leaves.new.leaves.items) c.into_vec.ensures c.in_ok-add_leaves.ensures.added;
 }

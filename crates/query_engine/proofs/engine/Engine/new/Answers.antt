@@ -1,4 +1,4 @@
-use Rattle.std.proofs.Common.{◌≤◌, ◌∙◌, List, Bool, arith, map, length, refl, sym, ap, subst, All}
+use Rattle.std.proofs.Common.{◌≤◌, ◌∙◌, List, Vec, Global, Bool, arith, map, length, refl, sym, ap, subst, All}
 use Rattle.stream_schema.specs.Types.{Declared}
 use Rattle.all_or_none.specs.Phases.{Phase}
 use Rattle.query_part.specs.Parts.{seen}
@@ -27,7 +27,7 @@ invariant_of-result c =
       noted_first parts (map (seen 0) parts) (map (λ (p : Phase). p.query) (map (seen 0) parts)) c.in_ok-touched.touched.items c.in_ok-all.all.items c.in_ok-timed.timed.items (seen_queries 0 parts)
           (subst (λ (ps : List Phase). AreNamed (λ (p : Phase). ⊥) (length ps) ps c.in_ok-all.all.items) c.as_slice-3.ensures.value c.in_ok-all.ensures)
           (subst (λ (ps : List Phase). AreNamed (λ (p : Phase). HasNoClock p.query) (length ps) ps c.in_ok-timed.timed.items) c.as_slice-4.ensures.value c.in_ok-timed.ensures),
-      watching_first c.args.schema (map (λ (p : Phase). p.query) (map (seen 0) parts)) c.as_slice-listed.result.now parts c.look.new.self.watch c.look.new.self.awake c.look.new.self.marked c.look.new.self.read
+      watching_first c.args.schema (map (λ (p : Phase). p.query) (map (seen 0) parts)) c.as_slice-listed.result.now parts c.look.new.self.watch c.look.new.self.awake c.look.new.self.marked c.look.new.self.read c.look.new.self.leaves.items
           (seen_queries 0 parts ∙ (c.in_ok-add_parts.ensures.queries ∙ (c.into_vec.ensures ∙ sym c.as_slice-listed.ensures))) refl
           (subst (λ (t : Table). IsWatch c.args.schema c.as_slice-listed.result.now t.rows t.leaves) (sym c.look.ensures.same.0) c.in_ok-watching.ensures.watch)
           (subst (λ (t : Table). AreExact c.args.schema c.as_slice-listed.result.now t.rows t.leaves) (sym c.look.ensures.same.0) c.in_ok-watching.ensures.exact)
@@ -35,8 +35,8 @@ invariant_of-result c =
           (c.look.ensures.room ∙ c.in_ok-watching.ensures.room)
           (ap (λ (b : List Bool). length b) c.look.ensures.same.1 ∙ (c.in_ok-watching.ensures.sets ∙ sym c.look.ensures.room))
           (ap (λ (b : List Bool). length b) c.look.ensures.same.2 ∙ (c.in_ok-watching.ensures.reads ∙ sym c.look.ensures.room))
+          (ap (λ (v : Vec (List Bool) Global). map (λ (set : List Bool). length set) v.items) c.look.ensures.same.3 ∙ c.in_ok-watching.ensures.leaves)
           (left_looked 0 c.as_slice.result.now parts c.look.new.self.awake (sym c.as_slice.ensures.value) (subst (All (λ (p : Phase). p.upto ≤ 0)) (sym c.as_slice.ensures.value) (first_known c.args.schema parts first)) c.look.ensures.rest),
-      ap (λ (b : List Bool). length b) c.look.ensures.same.3 ∙ (c.in_ok-watching.ensures.spare ∙ sym c.look.ensures.room),
     )
 
 pub look-requires : goal.look-requires

@@ -9,14 +9,17 @@ use Rattle.query_engine.proofs.Taking.{took, can_take, took_running, took_stands
 use Rattle.query_engine.proofs.Added.{took_added}
 use Rattle.query_engine.proofs.Growth.{same_queries}
 use Rattle.query_engine.proofs.Named.{noted_same}
-use Rattle.query_engine.proofs.Watched.{goes, left_marked, read_marked, unread_marked, watching_same, room_there}
+use Rattle.query_engine.proofs.Watched.{goes, left_marked, read_marked, unread_marked, watching_same, room_there, rooms_there, as_many_sets}
 use Rattle.query_engine.proofs.engine.Engine.take.Goals as goal
 
 pub see-requires-clause-can : goal.see-requires-clause-can
 see-requires-clause-can g c = can_take c.self.inside.schema c.self.inside.count c.self.inside.parts.items c.as_mut_slice-parts.result.now c.self.inside.peaks.items c.args.self.now c.args.event.now c.self.view_is c.self.invariant.0 c.requires.of_schema c.requires.in_time c.as_mut_slice-parts.ensures.value
 
 pub mark-some_awake-requires-clause-room : goal.mark-some_awake-requires-clause-room
-mark-some_awake-requires-clause-room g c = room_there c.self.inside.schema (map (λ (p : Phase). p.query) (map (seen c.self.inside.count) c.self.inside.parts.items)) c.self.inside.count c.self.inside.parts.items c.self.inside.watching.watch c.self.inside.watching.awake c.self.inside.watching.marked c.self.inside.watching.read c.self.invariant.2
+mark-some_awake-requires-clause-room g c = room_there c.self.inside.schema (map (λ (p : Phase). p.query) (map (seen c.self.inside.count) c.self.inside.parts.items)) c.self.inside.count c.self.inside.parts.items c.self.inside.watching.watch c.self.inside.watching.awake c.self.inside.watching.marked c.self.inside.watching.read c.self.inside.watching.leaves.items c.self.invariant.2
+
+pub mark-some_awake-requires-clause-leaves : goal.mark-some_awake-requires-clause-leaves
+mark-some_awake-requires-clause-leaves g c = rooms_there c.self.inside.schema (map (λ (p : Phase). p.query) (map (seen c.self.inside.count) c.self.inside.parts.items)) c.self.inside.count c.self.inside.parts.items c.self.inside.watching.watch c.self.inside.watching.awake c.self.inside.watching.marked c.self.inside.watching.read c.self.inside.watching.leaves.items c.args.event.now c.self.invariant.2
 
 pub mark-some_awake-requires-clause-sets : goal.mark-some_awake-requires-clause-sets
 mark-some_awake-requires-clause-sets g c = c.self.invariant.2.sets
@@ -32,26 +35,30 @@ see-requires-clause-left g c =
 pub see-requires-clause-unread : goal.see-requires-clause-unread
 see-requires-clause-unread g c =
     subst (λ (ps : List Phase). AreUnread (seen c.self.inside.count) c.args.event.now c.goes_to-marked.result.now ps) (sym c.as_mut_slice-parts.ensures.value)
-    (unread_marked c.self.inside.schema (map (λ (p : Phase). p.query) (map (seen c.self.inside.count) c.self.inside.parts.items)) c.self.inside.count c.self.inside.parts.items c.self.inside.watching.watch c.self.inside.watching.awake c.self.inside.watching.marked c.self.inside.watching.read c.goes_to-marked.result.now c.args.event.now refl c.self.invariant.0.schemas c.self.invariant.2 (λ k row. (goes c.mark-some_awake.result c.self.inside.watching.awake c.mark-some_awake.new.self.marked c.mark-some_awake.new.self.read c.goes_to-marked.result.now c.mark-some_awake.ensures.awake c.mark-some_awake.ensures.marked c.mark-some_awake.ensures.either c.mark-some_awake.ensures.none (c.mark-some_awake.ensures.sets ∙ c.self.invariant.2.sets) (c.mark-some_awake.ensures.reads ∙ c.self.invariant.2.reads) c.goes_to-marked.ensures.awake c.goes_to-marked.ensures.none).reads k (c.mark-some_awake.ensures.read k row)))
+    (unread_marked c.self.inside.schema (map (λ (p : Phase). p.query) (map (seen c.self.inside.count) c.self.inside.parts.items)) c.self.inside.count c.self.inside.parts.items c.self.inside.watching.watch c.self.inside.watching.awake c.self.inside.watching.marked c.self.inside.watching.read c.goes_to-marked.result.now c.self.inside.watching.leaves.items c.args.event.now refl c.self.invariant.0.schemas c.self.invariant.2 (λ k row. (goes c.mark-some_awake.result c.self.inside.watching.awake c.mark-some_awake.new.self.marked c.mark-some_awake.new.self.read c.goes_to-marked.result.now c.mark-some_awake.ensures.awake c.mark-some_awake.ensures.marked c.mark-some_awake.ensures.either c.mark-some_awake.ensures.none (c.mark-some_awake.ensures.sets ∙ c.self.invariant.2.sets) (c.mark-some_awake.ensures.reads ∙ c.self.invariant.2.reads) c.goes_to-marked.ensures.awake c.goes_to-marked.ensures.none).reads k (c.mark-some_awake.ensures.read k row)))
 
 pub see-requires-clause-reading : goal.see-requires-clause-reading
 see-requires-clause-reading g c =
-    subst (λ (ps : List Phase). AreRead (seen c.self.inside.count) c.args.event.now c.mark-some_awake.new.self.read ps) (sym c.as_mut_slice-parts.ensures.value)
-    (read_marked c.self.inside.schema (map (λ (p : Phase). p.query) (map (seen c.self.inside.count) c.self.inside.parts.items)) c.self.inside.count c.self.inside.parts.items c.self.inside.watching.watch c.self.inside.watching.awake c.self.inside.watching.marked c.self.inside.watching.read c.mark-some_awake.new.self.read c.args.event.now refl c.self.invariant.0.schemas c.self.invariant.2 c.mark-some_awake.ensures.only)
+    subst (λ (sets : List (List Bool)). AreRead (seen c.self.inside.count) c.args.event.now c.mark-some_awake.new.self.read sets c.as_mut_slice-parts.result.now) (sym c.as_slice-leaves.ensures.value)
+    (subst (λ (ps : List Phase). AreRead (seen c.self.inside.count) c.args.event.now c.mark-some_awake.new.self.read c.mark-some_awake.new.self.leaves.items ps) (sym c.as_mut_slice-parts.ensures.value)
+    (read_marked c.self.inside.schema (map (λ (p : Phase). p.query) (map (seen c.self.inside.count) c.self.inside.parts.items)) c.self.inside.count c.self.inside.parts.items c.self.inside.watching.watch c.self.inside.watching.awake c.self.inside.watching.marked c.self.inside.watching.read c.mark-some_awake.new.self.read c.self.inside.watching.leaves.items c.mark-some_awake.new.self.leaves.items c.args.event.now refl c.self.invariant.0.schemas c.self.invariant.2 c.mark-some_awake.ensures.rooms c.mark-some_awake.ensures.leaves))
+
+pub see-requires-clause-leaves : goal.see-requires-clause-leaves
+see-requires-clause-leaves g c =
+    ap (λ (sets : List (List Bool)). length sets) c.as_slice-leaves.ensures.value
+    ∙ (as_many_sets c.self.inside.schema (map (λ (p : Phase). p.query) (map (seen c.self.inside.count) c.self.inside.parts.items)) c.self.inside.count c.self.inside.parts.items c.self.inside.watching.watch c.self.inside.watching.awake c.self.inside.watching.marked c.self.inside.watching.read c.self.inside.watching.leaves.items c.mark-some_awake.new.self.leaves.items refl c.mark-some_awake.ensures.rooms c.self.invariant.2
+    ∙ ap (λ (ps : List Phase). length ps) (sym c.as_mut_slice-parts.ensures.value))
 
 pub see-requires-clause-told : goal.see-requires-clause-told
 see-requires-clause-told g c =
     subst (λ (ps : List Phase). AreUnread (seen c.self.inside.count) c.args.event.now c.mark-some_awake.new.self.read ps) (sym c.as_mut_slice-parts.ensures.value)
-    (unread_marked c.self.inside.schema (map (λ (p : Phase). p.query) (map (seen c.self.inside.count) c.self.inside.parts.items)) c.self.inside.count c.self.inside.parts.items c.self.inside.watching.watch c.self.inside.watching.awake c.self.inside.watching.marked c.self.inside.watching.read c.mark-some_awake.new.self.read c.args.event.now refl c.self.invariant.0.schemas c.self.invariant.2 c.mark-some_awake.ensures.read)
+    (unread_marked c.self.inside.schema (map (λ (p : Phase). p.query) (map (seen c.self.inside.count) c.self.inside.parts.items)) c.self.inside.count c.self.inside.parts.items c.self.inside.watching.watch c.self.inside.watching.awake c.self.inside.watching.marked c.self.inside.watching.read c.mark-some_awake.new.self.read c.self.inside.watching.leaves.items c.args.event.now refl c.self.invariant.0.schemas c.self.invariant.2 c.mark-some_awake.ensures.read)
 
 pub see-requires-clause-sets : goal.see-requires-clause-sets
 see-requires-clause-sets g c = ap (λ (b : List Bool). length b) c.mark-some_awake.ensures.same.1 ∙ sym (goes c.mark-some_awake.result c.self.inside.watching.awake c.mark-some_awake.new.self.marked c.mark-some_awake.new.self.read c.goes_to-marked.result.now c.mark-some_awake.ensures.awake c.mark-some_awake.ensures.marked c.mark-some_awake.ensures.either c.mark-some_awake.ensures.none (c.mark-some_awake.ensures.sets ∙ c.self.invariant.2.sets) (c.mark-some_awake.ensures.reads ∙ c.self.invariant.2.reads) c.goes_to-marked.ensures.awake c.goes_to-marked.ensures.none).room
 
 pub see-requires-clause-either : goal.see-requires-clause-either
 see-requires-clause-either g c = subst (λ (b : List Bool). AreOfEither c.goes_to-marked.result.now b c.mark-some_awake.new.self.read) (sym c.mark-some_awake.ensures.same.1) (goes c.mark-some_awake.result c.self.inside.watching.awake c.mark-some_awake.new.self.marked c.mark-some_awake.new.self.read c.goes_to-marked.result.now c.mark-some_awake.ensures.awake c.mark-some_awake.ensures.marked c.mark-some_awake.ensures.either c.mark-some_awake.ensures.none (c.mark-some_awake.ensures.sets ∙ c.self.invariant.2.sets) (c.mark-some_awake.ensures.reads ∙ c.self.invariant.2.reads) c.goes_to-marked.ensures.awake c.goes_to-marked.ensures.none).either
-
-pub see-requires-clause-spare : goal.see-requires-clause-spare
-see-requires-clause-spare g c = ap (λ (b : List Bool). length b) c.mark-some_awake.ensures.same.2 ∙ (c.self.invariant.3 ∙ sym (ap (λ (b : List Bool). length b) c.mark-some_awake.ensures.same.1))
 
 pub invariant_of-self : goal.invariant_of-self
 invariant_of-self g c =
@@ -65,9 +72,8 @@ invariant_of-self g c =
       keeping c.self.inside.schema (c.self.inside.count + 1) new c.self.inside.peaks.items (took_running c.self.inside.schema c.self.inside.count (map (seen c.self.inside.count) c.self.inside.parts.items) c.self.inside.peaks.items c.args.event.now (map (seen (c.self.inside.count + 1)) new) t c.args.self.now c.self.view_is),
       noted_same (map (λ (p : Phase). p.query) old) (map (λ (p : Phase). p.query) after) old after c.self.inside.told true c.self.inside.touched.items c.see.new.touched.items c.self.inside.all.items c.self.inside.timed.items queries c.self.invariant.1
           (λ told. subst (λ (ps : List Phase). MayAnswer c.see.new.touched.items (map (seen (c.self.inside.count + 1)) ps)) (sym is) c.in-Ok.ensures.answering),
-      watching_same c.self.inside.schema (map (λ (p : Phase). p.query) old) (map (λ (p : Phase). p.query) after) c.self.inside.count (c.self.inside.count + 1) c.self.inside.parts.items new c.self.inside.watching.watch c.mark-some_awake.new.self.watch c.self.inside.watching.awake c.self.inside.watching.marked c.self.inside.watching.read c.see.new.awake c.mark-some_awake.new.self.marked c.mark-some_awake.new.self.read queries
-          c.mark-some_awake.ensures.same.0 (c.see.ensures.sets ∙ ap (λ (b : List Bool). length b) c.mark-some_awake.ensures.same.1) c.mark-some_awake.ensures.sets c.mark-some_awake.ensures.reads (subst (λ (ps : List Phase). AreLeft seen (c.self.inside.count + 1) c.see.new.awake ps) (sym is) c.in-Ok.ensures.left) c.self.invariant.2,
-      c.see.ensures.spare ∙ (ap (λ (b : List Bool). length b) c.mark-some_awake.ensures.same.2 ∙ (c.self.invariant.3 ∙ (sym (ap (λ (b : List Bool). length b) c.mark-some_awake.ensures.same.1) ∙ sym c.see.ensures.sets))),
+      watching_same c.self.inside.schema (map (λ (p : Phase). p.query) old) (map (λ (p : Phase). p.query) after) c.self.inside.count (c.self.inside.count + 1) c.self.inside.parts.items new c.self.inside.watching.watch c.mark-some_awake.new.self.watch c.self.inside.watching.awake c.self.inside.watching.marked c.self.inside.watching.read c.see.new.awake c.mark-some_awake.new.self.marked c.mark-some_awake.new.self.read c.self.inside.watching.leaves.items c.mark-some_awake.new.self.leaves.items queries
+          c.mark-some_awake.ensures.same.0 (c.see.ensures.sets ∙ ap (λ (b : List Bool). length b) c.mark-some_awake.ensures.same.1) c.mark-some_awake.ensures.sets c.mark-some_awake.ensures.reads c.mark-some_awake.ensures.rooms (subst (λ (ps : List Phase). AreLeft seen (c.self.inside.count + 1) c.see.new.awake ps) (sym is) c.in-Ok.ensures.left) c.self.invariant.2,
     )
 
 pub returns-in-Ok-clause-stands : goal.returns-in-Ok-clause-stands
@@ -144,9 +150,8 @@ invariant_of-self-in-Err g c =
       kept_back c.self.inside.schema c.self.inside.count c.self.inside.parts.items c.as_mut_slice-parts.result.now c.see.new.parts new c.self.inside.peaks.items c.self.invariant.0 c.as_mut_slice-parts.ensures.value is c.in-Err.ensures.unchanged,
       noted_same (map (λ (p : Phase). p.query) old) (map (λ (p : Phase). p.query) after) old after c.self.inside.told false c.self.inside.touched.items c.see.new.touched.items c.self.inside.all.items c.self.inside.timed.items (ap (map (λ (p : Phase). p.query)) same) c.self.invariant.1
           (λ told. absurd (false≢true told)),
-      watching_same c.self.inside.schema (map (λ (p : Phase). p.query) old) (map (λ (p : Phase). p.query) after) c.self.inside.count c.self.inside.count c.self.inside.parts.items new c.self.inside.watching.watch c.mark-some_awake.new.self.watch c.self.inside.watching.awake c.self.inside.watching.marked c.self.inside.watching.read c.see.new.awake c.mark-some_awake.new.self.marked c.mark-some_awake.new.self.read (ap (map (λ (p : Phase). p.query)) same)
-          c.mark-some_awake.ensures.same.0 (c.see.ensures.sets ∙ ap (λ (b : List Bool). length b) c.mark-some_awake.ensures.same.1) c.mark-some_awake.ensures.sets c.mark-some_awake.ensures.reads (subst (λ (ps : List Phase). AreLeft seen c.self.inside.count c.see.new.awake ps) (sym is) c.in-Err.ensures.still_left) c.self.invariant.2,
-      c.see.ensures.spare ∙ (ap (λ (b : List Bool). length b) c.mark-some_awake.ensures.same.2 ∙ (c.self.invariant.3 ∙ (sym (ap (λ (b : List Bool). length b) c.mark-some_awake.ensures.same.1) ∙ sym c.see.ensures.sets))),
+      watching_same c.self.inside.schema (map (λ (p : Phase). p.query) old) (map (λ (p : Phase). p.query) after) c.self.inside.count c.self.inside.count c.self.inside.parts.items new c.self.inside.watching.watch c.mark-some_awake.new.self.watch c.self.inside.watching.awake c.self.inside.watching.marked c.self.inside.watching.read c.see.new.awake c.mark-some_awake.new.self.marked c.mark-some_awake.new.self.read c.self.inside.watching.leaves.items c.mark-some_awake.new.self.leaves.items (ap (map (λ (p : Phase). p.query)) same)
+          c.mark-some_awake.ensures.same.0 (c.see.ensures.sets ∙ ap (λ (b : List Bool). length b) c.mark-some_awake.ensures.same.1) c.mark-some_awake.ensures.sets c.mark-some_awake.ensures.reads c.mark-some_awake.ensures.rooms (subst (λ (ps : List Phase). AreLeft seen c.self.inside.count c.see.new.awake ps) (sym is) c.in-Err.ensures.still_left) c.self.invariant.2,
     )
 
 pub returns-in-Err-clause-unchanged : goal.returns-in-Err-clause-unchanged

@@ -45,8 +45,8 @@ invariant_of-self g c =
         keys = m.keys;
         clock = m.clock;
         clocks = m.clocks;
-        leaves = m.leaves;
-        size = m.size ∙ ap (λ (t : Table). t.cea.size) (sym same);
+        size = ap (λ (t : Table). t.cea.size) same ∙ m.size;
+        empty = m.empty;
         room = m.room ∙ ap (λ (t : Table). room_for t.cea.size) (sym same);
       },
       tt,

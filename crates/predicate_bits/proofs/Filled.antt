@@ -1,9 +1,8 @@
 -- A set that is filled with the leaves of a group whose tests hold.
-use Rattle.std.proofs.Common.{◌≡◌, refl, sym, ap, subst, ◌∙◌, [], ◌∷◌, ℕ, ◌+◌, ◌<◌, ◌≤◌, ◌⊎◌, inl, inr, Bool, true, false, ◌&&◌, ◌||◌, List, length, Option, Some, None, slice_get, slice_index_or, Contains, eqb, arith}
+use Rattle.std.proofs.Common.{◌≡◌, refl, sym, ap, ◌∙◌, ℕ, ◌+◌, ◌<◌, ◌≤◌, ◌⊎◌, inl, inr, Bool, true, false, ◌&&◌, ◌||◌, List, length, Option, Some, None, slice_get, slice_index_or, Contains, eqb, arith}
 use Rattle.std.proofs.lemmas.Bool.{cases_lt, eqb-true, eq-eqb, false≢true, and_parts, or_cases, or_left, or_right}
 use Rattle.std.proofs.lemmas.Option.{slice_get_within}
 use Rattle.std.proofs.lemmas.List.{get_or_default}
-use Rattle.std.proofs.lemmas.List.Elements.{Contains-push, Contains-push_cases}
 use Rattle.cer_base.specs.Bits.{has, room_for}
 use Rattle.stream_schema.specs.declared.Event.{Event}
 use Rattle.query_leaves.specs.declared.Leaf.{Leaf}
@@ -11,7 +10,7 @@ use Rattle.query_leaves.specs.Shapes.{each_holds}
 use Rattle.query_leaves.specs.Conditions.{can_read, leaf_conditions}
 use Rattle.std.specs.Prelude.{Vec}
 use Rattle.std.specs.declared.alloc.Global.{Global}
-use Rattle.predicate_bits.specs.Groups.{IsGroup, AreGrouped, HasOne}
+use Rattle.predicate_bits.specs.Groups.{IsGroup, AreGrouped}
 
 -- the set has those of the first numbers whose leaf can read the event, and no other number
 pub record IsFilledUpTo (n : ℕ) (list : List Leaf) (event : Event) (numbers : List ℕ) (set : List Bool) : Type 0 where
@@ -139,40 +138,3 @@ none_grouped list event find grouped none k = by (slice_get list k) refl (leaf_c
     by (Some l) e true bit =
         let parts = and_parts (eqb l.ty event.ty) (each_holds l.tests.items event) (sym (ap (λ x. can_read x event) e) ∙ bit) in
         absurd (grouped.whole k l e (ap find (eqb-true l.ty event.ty parts.0) ∙ none))
-
--- where some leaf can read the event, and one alone is of its type, it is that one
-single : (n k : ℕ) → Contains (n ∷ []) k → n ≡ k
-single n k h = elim (Contains-push_cases [] n k h) [
-  | inl none ↦ absurd (let l = none.1 in omega arith)
-  | inr is ↦ is
-]
-
-reads_one : (list : List Leaf) (event : Event) (find : ℕ → Option (Vec ℕ Global)) (n k : ℕ) → AreGrouped list find → HasOne find event.ty n → leaf_conditions list event k ≡ true → n ≡ k
-reads_one list event find n k grouped one reads = by (slice_get list k) refl
-  where
-    by : (o : Option Leaf) → slice_get list k ≡ o → n ≡ k
-    by None e = absurd (false≢true (sym (ap (λ x. can_read x event) e) ∙ reads))
-    by (Some l) e =
-        let parts = and_parts (eqb l.ty event.ty) (each_holds l.tests.items event) (sym (ap (λ x. can_read x event) e) ∙ reads) in
-        single n k (subst (λ ns. Contains ns k) one.one ((grouped.groups event.ty one.group one.found).whole k l e (eqb-true l.ty event.ty parts.0)))
-
-pub one_inside : (list : List Leaf) (find : ℕ → Option (Vec ℕ Global)) (ty n : ℕ) → AreGrouped list find → HasOne find ty n → n < length list
-one_inside list find ty n grouped one =
-    let l = (grouped.groups ty one.group one.found).sound n (subst (λ ns. Contains ns n) (sym one.one) (Contains-push [] n)) in
-    slice_get_within list n l.0 l.1
-
-pub filled_one : (list : List Leaf) (event : Event) (find : ℕ → Option (Vec ℕ Global)) (n k : ℕ) (set after : List Bool) → AreGrouped list find → HasOne find event.ty n → leaf_conditions list event k ≡ true → ((j : ℕ) → has set j ≡ false) → ((j : ℕ) → has after j ≡ (eqb j n || has set j)) → (j : ℕ) → has after j ≡ leaf_conditions list event j
-filled_one list event find n k set after grouped one reads empty members j = members j ∙ (ap (λ b. eqb j n || b) (empty j) ∙ by (eqb j n) (leaf_conditions list event j) refl refl)
-  where
-    here : leaf_conditions list event n ≡ true
-    here = ap (leaf_conditions list event) (reads_one list event find n k grouped one reads) ∙ reads
-
-    by : (a b : Bool) → eqb j n ≡ a → leaf_conditions list event j ≡ b → (eqb j n || false) ≡ leaf_conditions list event j
-    by true b is bit = ap (λ x. x || false) is ∙ sym (ap (leaf_conditions list event) (eqb-true j n is) ∙ here)
-    by false false is bit = ap (λ x. x || false) is ∙ sym bit
-    by false true is bit = absurd (false≢true (sym is ∙ eq-eqb j n (sym (reads_one list event find n j grouped one bit))))
-
-pub one_long : (xs : List ℕ) (n : ℕ) → length xs ≡ 1 → n ≡ slice_index_or xs 0 n → xs ≡ n ∷ []
-one_long [] n long read = absurd (omega arith)
-one_long (x ∷ []) n long read = ap (λ y. y ∷ []) (sym read)
-one_long (x ∷ y ∷ ys) n long read = absurd (omega arith)

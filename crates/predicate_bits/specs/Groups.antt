@@ -18,9 +18,3 @@ pub record HasOneMore (old new : List (Vec ℕ Global)) (ty number : ℕ) : Type
   pub count : length new ≡ length old
   pub others : (t : ℕ) → t ≢ ty → slice_get new t ≡ slice_get old t
   pub more : (v : Vec ℕ Global) → slice_get new ty ≡ Some v → (w : Vec ℕ Global) × (slice_get old ty ≡ Some w) × (v.items ≡ w.items ++ number ∷ [])
-
--- The group of the type is found, and has this number alone.
-pub record HasOne (find : ℕ → Option (Vec ℕ Global)) (ty number : ℕ) : Type 0 where
-  pub group : Vec ℕ Global
-  pub found : find ty ≡ Some group
-  pub one : group.items ≡ number ∷ []

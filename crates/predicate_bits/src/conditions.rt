@@ -1,12 +1,12 @@
 //! The conditions of a query's leaves.
 
-ghost use Rattle.std.specs.Prelude.{◌≡◌, ℕ, ◌<◌, Some, false, true, length, slice_get, IfOk, IfSome};
+ghost use Rattle.std.specs.Prelude.{◌≡◌, ℕ, ◌<◌, Some, false, true, length, slice_get, IfOk};
 ghost use Rattle.std.specs.Option.{option_copied};
 ghost use Rattle.cer_base.specs.Bits.{has, room_for};
 ghost use Rattle.query_leaves.specs.Conditions.{leaf_conditions};
 ghost use Rattle.query_leaves.specs.declared.Leaf.{Leaf};
 ghost use Rattle.query_leaves.specs.Shapes.{each_holds as tests_hold};
-ghost use Rattle.predicate_bits.specs.Groups.{IsGroup, HasOne};
+ghost use Rattle.predicate_bits.specs.Groups.{IsGroup};
 ghost use Rattle.predicate_bits.specs.Checks.{AreSieves};
 
 use crate::checks::{Sieve, hold_by, sieves_of};
@@ -88,23 +88,6 @@ impl Conditions {
             );
         }
     }
-
-    /// The same, where it is known that some leaf can read the event: where only one leaf is of its type,
-    /// it is that one, and no test is made.
-    pub fn fill_read(&self, event: &Event, into: &mut Bits)
-        requires some { (k : ℕ) × (leaf_conditions self.now event.now k ≡ true) }
-        requires room { length into.old ≡ room_for (length self.now) }
-        ensures members { (k : ℕ) → has into.new k ≡ leaf_conditions self.now event.now k }
-        ensures room { length into.new ≡ length into.old }
-    {
-        match only_one(self.groups.as_slice(), event.ty) {
-            Some(number) => {
-                empty_out(into);
-                into.insert(number);
-            }
-            None => self.fill(event, into),
-        }
-    }
 }
 
 /// Takes all numbers out. Most events leave none, so that is tested first.
@@ -123,22 +106,6 @@ fn group_of(groups: &[Vec<usize>], ty: TypeId) -> Option<&Vec<usize>>
     ensures { option_copied result ≡ slice_get groups.now ty }
 {
     groups.get(ty as usize)
-}
-
-/// The number of the leaf of the type, where there is one alone.
-fn only_one(groups: &[Vec<usize>], ty: TypeId) -> Option<usize>
-    ensures { IfSome result (HasOne (slice_get groups.now) ty) }
-{
-    match group_of(groups, ty) {
-        Some(numbers) => {
-            if numbers.len() == 1 {
-                Some(numbers[0])
-            } else {
-                None
-            }
-        }
-        None => None,
-    }
 }
 
 /// Whether the tests of the leaf of this number hold of the event.

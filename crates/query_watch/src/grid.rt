@@ -18,9 +18,9 @@ use std::alloc::Global;
 use stream_schema::{Event, Value};
 
 /// Where a type has fewer rows, all of them are looked at.
-const FEWEST: usize = 8;
+const FEWEST: usize = 4;
 
-/// The most cells that are asked for.
+/// The most cells between the least and the greatest end of the ranges, as a power of two.
 const MOST_CELLS_LOG: u32 = 6;
 
 /// How many rows all cells of a type may have, for each row of the type.

@@ -35,22 +35,22 @@ const FIRST_CLASSES: usize = 8;
 /// state and class is worked out once, and after that it is one look-up of two numbers.
 #[derive(Drop)]
 pub struct Det {
-    alloc: Global,
-    cea: Cea,
-    states: IndexSet<StateSets>,
-    /// For each state other than the start, by its number, whether it accepts, where there was memory
-    /// for it.
-    accepting: Vec<bool>,
-    /// For each class the leaves that can read its events.
-    classes: IndexSet<Bits>,
-    transitions: IndexMap<TransitionKey, Successors>,
-    /// Where a pair may stand among the transitions, which is then tried before its hash is made.
-    places: Places,
+    /// Rows of states whose transitions are known.
+    rows: KnownRows,
     /// How many states, pairs and classes there are, in one place: they are asked for before each
     /// event.
     counts: Sizes,
-    /// Rows of states whose transitions are known.
-    rows: KnownRows,
+    /// For each class the leaves that can read its events.
+    classes: IndexSet<Bits>,
+    /// For each state other than the start, by its number, whether it accepts, where there was memory
+    /// for it.
+    accepting: Vec<bool>,
+    /// Where a pair may stand among the transitions, which is then tried before its hash is made.
+    places: Places,
+    transitions: IndexMap<TransitionKey, Successors>,
+    states: IndexSet<StateSets>,
+    cea: Cea,
+    alloc: Global,
 }
 
 impl Model for Det {
@@ -85,19 +85,19 @@ impl Det {
         ensures { result ≡ record { cea = cea; states = []; classes = []; transitions = [] } }
     {
         Det {
-            alloc,
-            cea,
-            states: IndexSet::new(alloc),
-            accepting: Vec::new(alloc),
-            classes: IndexSet::new(alloc),
-            transitions: IndexMap::new(alloc),
-            places: Places::new(alloc),
+            rows: KnownRows::new(alloc),
             counts: Sizes {
                 states: 0,
                 pairs: 0,
                 classes: 0,
             },
-            rows: KnownRows::new(alloc),
+            classes: IndexSet::new(alloc),
+            accepting: Vec::new(alloc),
+            places: Places::new(alloc),
+            transitions: IndexMap::new(alloc),
+            states: IndexSet::new(alloc),
+            cea,
+            alloc,
         }
     }
 

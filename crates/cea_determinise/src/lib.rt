@@ -6,7 +6,8 @@
 //! class that is known is then one look-up of two numbers, without memory. What a whole row of states
 //! does on a class may be kept, and is then found at once.
 //!
-//! It stands on `cer_base` for sets of leaves and counts of steps, and on `indexmap` for its tables.
+//! It stands on `cer_base` for sets of leaves and counts of steps, on `indexmap` for its tables, and on
+//! `smallvec` for the rows of states.
 #![tactic(auto)]
 
 pub mod cea;

@@ -6,12 +6,16 @@ ghost use Rattle.cea_determinise.specs.Rows.{IsListed};
 
 use crate::table::{EventClass, State, Successors};
 use cer_base::Memory;
+use smallvec::SmallVec;
 use std::alloc::Global;
 use std::marker::Model;
 use std::rc::Rc;
 
-/// So many rows are kept.
+/// So many rows are kept, fewer than `NO_ROW`.
 const KEPT_ROWS: usize = 64;
+
+/// The place of a number that has no row.
+const NO_ROW: u8 = 255;
 
 /// So many numbers may have a row, from 0.
 pub const ROW_NUMBERS: u64 = 256;
@@ -28,14 +32,15 @@ pub enum Effect {
     Changes,
 }
 
-/// Some states other than the start, in order, with what events of a class do to them.
+/// Some states other than the start, in order, with what events of a class do to them. What is compared
+/// stands first, and up to three states in the row itself.
 #[derive(Drop)]
 pub struct KnownRow {
     pub class: EventClass,
-    pub states: Vec<State>,
-    /// The successors of the start, then of each state.
-    pub successors: Vec<Successors>,
     pub effect: Effect,
+    pub states: SmallVec<State, 3>,
+    /// The successors of the start, then of each state.
+    pub successors: SmallVec<Successors, 4>,
 }
 
 /// Rows by numbers that their owner gives them: seen as the list of the rows.
@@ -43,7 +48,7 @@ pub struct KnownRow {
 pub struct KnownRows {
     rows: Vec<KnownRow>,
     /// For each number where its row may stand.
-    places: Vec<usize>,
+    places: Vec<u8>,
 }
 
 impl Model for KnownRows {
@@ -56,21 +61,21 @@ impl Model for KnownRows {
 }
 
 /// Where the row of the number may stand.
-fn place(places: &[usize], number: u64) -> usize {
+fn place(places: &[u8], number: u64) -> usize {
     if number < places.len() as u64 {
-        places[number as usize]
+        places[number as usize] as usize
     } else {
-        usize::MAX
+        NO_ROW as usize
     }
 }
 
 /// Notes where the row of the number stands.
-fn tell(places: &mut Vec<usize>, number: u64, place: usize) -> Result<(), Memory> {
+fn tell(places: &mut Vec<u8>, number: u64, place: u8) -> Result<(), Memory> {
     if ROW_NUMBERS <= number {
         return Ok(());
     }
     if places.len() as u64 <= number {
-        places.resize(number as usize + 1, usize::MAX)?;
+        places.resize(number as usize + 1, NO_ROW)?;
     }
     places[number as usize] = place;
     Ok(())
@@ -119,7 +124,7 @@ impl KnownRows {
             self.rows[known] = row;
         } else if len < KEPT_ROWS {
             // Where this has no memory, the row is looked up state by state.
-            let _told = tell(&mut self.places, number, len);
+            let _told = tell(&mut self.places, number, len as u8);
             let _kept = self.rows.push(row);
         }
     }

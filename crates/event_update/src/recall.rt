@@ -12,6 +12,7 @@ use cea_determinise::det::Det;
 use cea_determinise::rows::{Effect, KnownRow, ROW_NUMBERS};
 use cea_determinise::table::{EventClass, State, Successors};
 use cer_base::Memory;
+use smallvec::SmallVec;
 use std::rc::Rc;
 
 /// A number below `ROW_NUMBERS` for the states and the class, the same for the same ones.
@@ -63,11 +64,11 @@ pub fn recall<'a>(
 }
 
 /// The states in order.
-fn states_of(active: &Active) -> Result<Vec<State>, Memory>
+fn states_of(active: &Active) -> Result<SmallVec<State, 3>, Memory>
     ensures { IfOk result (λ states. states.items ≡ keys active.now) }
 {
     let len = active.len();
-    let mut states = Vec::with_capacity(*active.allocator(), len)?;
+    let mut states = SmallVec::with_capacity(*active.allocator(), len)?;
     for k in 0..len {
         states.push(active.state(k))?;
     }
@@ -101,12 +102,12 @@ pub fn row_of(active: &Active, class: EventClass, moves: &[Successors]) -> Resul
     ensures successors { IfOk result (λ r. r.successors.items ≡ moves.now) }
 {
     let states = states_of(active)?;
-    let successors = Vec::from_slice(*active.allocator(), moves)?;
+    let successors = SmallVec::from_slice(*active.allocator(), moves)?;
     let effect = effect_of(active, moves)?;
     Ok(KnownRow {
         class,
+        effect,
         states,
         successors,
-        effect,
     })
 }

@@ -39,7 +39,8 @@ pub returns-in-Some-clause-steps : goal.returns-in-Some-clause-steps
 returns-in-Some-clause-steps g c =
     let found = length c.args.det.now.states in
     let few = few_states c.args.det.now c.args.active.now.entries c.len-len.ensures.unique c.requires.can.states in
-    let one = c.tick_times.ensures in
+    let one = c.tick.ensures in
+    let each = c.tick_times.ensures in
     let long = c.len-len.ensures.len in
     let p = c.work_out.ensures.steps (found + 1) (found + 1) c.requires.can.narrow (omega arith) (omega arith) in
     let b = much (length c.args.active.now.entries) found (omega arith) in
@@ -47,8 +48,9 @@ returns-in-Some-clause-steps g c =
 
 pub returns-in-Some-clause-counted : goal.returns-in-Some-clause-counted
 returns-in-Some-clause-counted g c =
-    let one = c.tick_times.ensures in
-    if_ok c.work_out.result _ _ (λ s counted. omega (arith, one, counted)) c.work_out.ensures.counted
+    let one = c.tick.ensures in
+    let each = c.tick_times.ensures in
+    if_ok c.work_out.result _ _ (λ s counted. omega (arith, one, each, counted)) c.work_out.ensures.counted
 
 pub returns-in-Some-clause-passed : goal.returns-in-Some-clause-passed
 returns-in-Some-clause-passed g c = if_ok c.work_out.result _ _ (λ s go is. all_passed c.args.det.now c.args.class c.args.active.now.entries c.in-Some.row.now.successors.items c.in-Some.ensures.known (go is)) c.work_out.ensures.passed

@@ -4,6 +4,7 @@
 
 ghost use Rattle.std.specs.Prelude.{◌≡◌, ◌∷◌, ◌<◌, ◌≤◌, [], true, false, length, take, drop, get_or, IfSome, Ok, Some};
 ghost use Rattle.std.specs.List.{list_any};
+ghost use Rattle.std.specs.Str.{IsAscii};
 ghost use Rattle.std.specs.Str.Parse.{starts_with_minus};
 ghost use Rattle.stream_schema.specs.declared.Kind.TheVariants as kind;
 ghost use Rattle.stream_schema.specs.declared.Value.TheVariants.{Int};
@@ -13,7 +14,7 @@ ghost use Rattle.event_reader.specs.CommonLines.{IsCell, IsNumeralUpTo, IsFieldU
 
 use crate::numbers::{signed, without_sign};
 use crate::types::Guesses;
-use crate::values::{put_text, read_value};
+use crate::values::{put_ascii, put_text, read_value};
 use cer_base::bytes::{CARRIAGE_RETURN, COMMA, QUOTE};
 use std::alloc::Global;
 use stream_schema::{Kind, Schema, TypeId, Value};
@@ -69,6 +70,29 @@ fn cell_end(text: &[u8]) -> Option<usize>
             return Some(i);
         }
         if *byte == QUOTE || *byte == CARRIAGE_RETURN {
+            return None;
+        }
+    }
+    Some(text.len())
+}
+
+/// The same, unless it has a quote, a carriage return or a byte of 128 or more.
+#[inline]
+#[tactic(auto, using(crate::proofs::Texts::ascii_more))]
+fn ascii_end(text: &[u8]) -> Option<usize>
+    ensures within { IfSome result (λ end. end ≤ length text.now) }
+    ensures cell { IfSome result (λ end. IsCell (take end text.now)) }
+    ensures ascii { IfSome result (λ end. IsAscii (take end text.now)) }
+{
+    for (i, byte) in text.iter().enumerate() {
+        // A letter, a digit and most marks: one comparison of the byte as a signed number.
+        if *byte > COMMA && *byte < 128 {
+            continue;
+        }
+        if *byte == COMMA {
+            return Some(i);
+        }
+        if *byte >= 128 || *byte == QUOTE || *byte == CARRIAGE_RETURN {
             return None;
         }
     }
@@ -235,9 +259,24 @@ fn read_digits(text: &[u8]) -> Option<(u64, usize)>
     if most == 0 { None } else { Some((size, most)) }
 }
 
-/// The same of a text.
+/// The same of a text. Bytes that are all below 128 are one, so that they are gone through once.
 #[inline(never)]
 fn read_text(alloc: Global, text: &[u8], value: &mut Value) -> Option<usize>
+    ensures { IfSome result (λ end. IsFieldUpTo kind.Text text.now value.new end) }
+{
+    let Some(end) = ascii_end(text) else {
+        return read_any_text(alloc, text, value);
+    };
+    if put_ascii(alloc, &text[..end], value) {
+        Some(end)
+    } else {
+        None
+    }
+}
+
+/// The same, whatever the bytes of the text are.
+#[inline(never)]
+fn read_any_text(alloc: Global, text: &[u8], value: &mut Value) -> Option<usize>
     ensures { IfSome result (λ end. IsFieldUpTo kind.Text text.now value.new end) }
 {
     let Some(end) = cell_end(text) else {

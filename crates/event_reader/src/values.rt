@@ -2,12 +2,14 @@
 
 ghost use Rattle.std.specs.Prelude.{◌≡◌, true, map, Some, IfOk};
 ghost use Rattle.std.specs.Char.{to_ascii_lowercase};
+ghost use Rattle.std.specs.Str.{IsAscii};
 ghost use Rattle.stream_schema.specs.declared.Kind.TheVariants as kind;
 ghost use Rattle.stream_schema.specs.declared.Value.TheVariants as value;
 ghost use Rattle.event_reader.specs.Values.{value_of, flag};
 
 use crate::numbers::scaled;
 use cer_base::{Memory, Text};
+use percent_encoding::ascii_str;
 use std::alloc::Global;
 use stream_schema::{Kind, Value};
 
@@ -48,7 +50,18 @@ pub fn put_text(alloc: Global, field: &[u8], held: &mut Value) -> bool
     }
 }
 
+/// The same of a field whose bytes are all below 128, which makes them a text.
+#[inline]
+#[tactic(auto, using(crate::proofs::Texts::ascii_is))]
+pub fn put_ascii(alloc: Global, field: &[u8], held: &mut Value) -> bool
+    requires { IsAscii field.now }
+    ensures { result ≡ true → value_of kind.Text field.now ≡ Some held.new }
+{
+    put_copy(alloc, ascii_str(field), held)
+}
+
 /// Makes it a copy of the text, in the same way.
+#[inline]
 fn put_copy(alloc: Global, text: &str, held: &mut Value) -> bool
     ensures { result ≡ true → held.new ≡ value.Text text.now }
 {

@@ -160,3 +160,54 @@ fn whole_numbers_of_any_length(rt: HostRuntime) -> Result<(), Fail> {
     assert_eq!(rt; wrong.as_str(), "");
     Ok(())
 }
+
+/// Lines with a text, of bytes below 128 and others, and what is read of each.
+const TEXTS: &[(&[u8], &str)] = &[
+    (b"N,abc", "1 abc"),
+    (b"N,a b-c~", "1 a b-c~"),
+    (b"N,\x7f", "1 \u{7f}"),
+    (b"N,caf\xc3\xa9", "1 caf\u{e9}"),
+    (b"N,\xe2\x82\xac 5", "1 \u{20ac} 5"),
+    (b"N,abc", "1 abc"),
+    (b"N,ab\x80", "field 1 is of another kind"),
+    (b"N,ab\xff", "field 1 is of another kind"),
+    (b"N,ab\xc3", "field 1 is of another kind"),
+    (b"N,\xe2\x82 5", "field 1 is of another kind"),
+    (b"M,1,ab,true,0", "6 1 ab true 0/2"),
+    (b"M,1,\xc3\xbcb,true,0", "6 1 \u{fc}b true 0/2"),
+    (b"M,1,a\xffb,true,0", "field 2 is of another kind"),
+    (b"M,1,ab\xc3,true,0", "field 2 is of another kind"),
+    (b"M,1,,true,0", "6 1  true 0/2"),
+];
+
+// What the first line gives that is read as something else than what stands beside it.
+fn first_wrong_text(
+    alloc: Global,
+    schema: &Schema,
+    row: &mut Row,
+    table: &[(&[u8], &str)],
+) -> Result<String, AllocError> {
+    for &(line, wanted) in table {
+        let words = words_of(alloc, schema, line, row)?;
+        if words.as_str() != wanted {
+            return format!(in alloc; "{} for {wanted}", words.as_str());
+        }
+    }
+    Ok(String::new(alloc))
+}
+
+fn texts_wrong(alloc: Global, table: &[(&[u8], &str)]) -> Result<String, AllocError> {
+    let Ok(schema) = seven_types(alloc) else {
+        return "seven types".to_string(alloc);
+    };
+    let mut row = Row::new(alloc);
+    first_wrong_text(alloc, &schema, &mut row, table)
+}
+
+#[test]
+fn texts_of_any_bytes(rt: HostRuntime) -> Result<(), Fail> {
+    let alloc = rt.alloc();
+    let wrong = texts_wrong(alloc, TEXTS)?;
+    assert_eq!(rt; wrong.as_str(), "");
+    Ok(())
+}

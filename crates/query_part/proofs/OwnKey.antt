@@ -21,6 +21,7 @@ use Rattle.query_standing.proofs.KeyCases.{at_one_place}
 use Rattle.query_standing.proofs.Lists.{got}
 use Rattle.all_or_none.specs.Phases.{Phase, IsStep, IsWithin, HasPassed, IsIdle}
 use Rattle.query_part.specs.declared.matches.Ready.{Ready}
+use Rattle.query_part.specs.declared.matches.Sizes.{Sizes}
 use Rattle.query_part.specs.declared.part.Step.{Step}
 use Rattle.query_part.specs.KeyPlaces.{values_there, key_there, AreKeyPlaces}
 use Rattle.query_part.specs.Matches.{Held, HasKeyThere, OwnRest, Stays, IsOwnReady, HasOwnWorked}
@@ -88,14 +89,15 @@ stays_pass schema q source types table bits patient event position h c n upto fl
     (f.low position) bits_are patient_so stays)
 
 -- the part by its fields
-abbrev pub seen_as : Declared → Query → Option Step → Option Ready → Held → Option ℤ → Option ℕ → ℕ → Bool → Phase
-seen_as schema q step r h c n upto floats = record { schema = schema; query = q; kept = kept_of step r h c n; ready = ready_of step r h c n; upto = upto; floats = floats }
+abbrev pub seen_as : Declared → Query → Option Step → Option Ready → Sizes → Held → Option ℤ → Option ℕ → ℕ → Bool → Phase
+seen_as schema q step r z h c n upto floats = record { schema = schema; query = q; kept = kept_of step r z h c n; ready = ready_of step r h c n; upto = upto; floats = floats }
 
 -- What passes the idle part by passes it by as it is now, with the same lists.
-pub passed_now : (schema : Declared) (q : Query) (event : Event) (position : ℕ) (step : Option Step) (r : Option Ready) (h m : Held) (c : Option ℤ) (n : Option ℕ) (upto : ℕ) (floats : Bool) (p : Phase) → seen_as schema q step r h c n upto floats ≡ p → IsIdle p → m ≡ h → HasPassed event position (seen position (sleeper schema q h c n upto floats)) (seen (position + 1) (sleeper schema q h c n upto floats)) → HasPassed event position (seen position (seen_as schema q step r m c n upto floats)) (seen (position + 1) (seen_as schema q step r m c n upto floats))
-passed_now schema q event position step r h m c n upto floats p view idle same passed =
-    subst (λ (x : Held). HasPassed event position (seen position (seen_as schema q step r x c n upto floats)) (seen (position + 1) (seen_as schema q step r x c n upto floats))) (sym same)
-    (subst (λ (x : Phase). HasPassed event position (seen position x) (seen (position + 1) x)) (idle_fields schema q step r h c n upto floats p view idle ∙ sym view) passed)
+pub passed_now : (schema : Declared) (q : Query) (event : Event) (position : ℕ) (step : Option Step) (r : Option Ready) (z y : Sizes) (h m : Held) (c : Option ℤ) (n : Option ℕ) (upto : ℕ) (floats : Bool) (p : Phase) → seen_as schema q step r z h c n upto floats ≡ p → IsIdle p → m ≡ h → HasPassed event position (seen position (sleeper schema q h c n upto floats)) (seen (position + 1) (sleeper schema q h c n upto floats)) → HasPassed event position (seen position (seen_as schema q step r y m c n upto floats)) (seen (position + 1) (seen_as schema q step r y m c n upto floats))
+passed_now schema q event position step r z y h m c n upto floats p view idle same passed =
+    let rest : ready_of step r h c n ≡ None = ap (λ (x : Phase). x.ready) view ∙ idle in
+    subst (λ (x : Held). HasPassed event position (seen position (seen_as schema q step r y x c n upto floats)) (seen (position + 1) (seen_as schema q step r y x c n upto floats))) (sym same)
+    (subst (λ (x : Phase). HasPassed event position (seen position x) (seen (position + 1) x)) (idle_fields schema q step r y h c n upto floats (seen_as schema q step r y h c n upto floats) refl rest) passed)
 
 -- Where its lists are worked out, they are those of its key.
 pub ready_step : (schema : Declared) (q : Query) (table : List (Option (List ℕ))) (low : ℤ) (bits : List Bool) (event : Event) (position : ℕ) (number : ℕ) (staged : Staged) (old new : Held) (c : Option ℤ) (n : Option ℕ) (now : ℤ) → AreKeyPlaces schema q table → IsOfSchema schema event → Reads schema q event → HasClock schema q.window event position now → least ≤ℤ low_of q.window now → has bits ≡ leaves_reading schema q event → low ≤ℤ low_of q.window now → IsOwnReady (record { pos = position; clock = now }) low bits (key_there table event) number staged old new → IsStep schema q event position (part_of old c n) (part_of (put_in number staged new) (Some now) (Some number))

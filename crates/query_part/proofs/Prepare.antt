@@ -35,20 +35,29 @@ use Rattle.query_standing.specs.Kept.{PartStands}
 use Rattle.all_or_none.specs.Phases.{Phase, CanPrepare, IsIdle, AreLeavesRead, IsUnread}
 use Rattle.query_standing.specs.Keys.{leaves_reading}
 use Rattle.query_part.specs.declared.matches.Ready.{Ready}
+use Rattle.query_part.specs.declared.matches.Sizes.{Sizes}
 use Rattle.query_part.specs.declared.part.Step.{Step}
 use Rattle.query_part.specs.declared.part.Step.TheVariants.{Unread, NoChange, Keyed}
 use Rattle.query_part.specs.Matches.{Held, IsReady}
-use Rattle.query_part.specs.Parts.{part_of, kept_of, ready_of, clock_at, here_at, settled, seen, AreTypesRead, IsMade}
+use Rattle.query_part.specs.Parts.{part_of, kept_of, ready_of, CanEnd, clock_at, here_at, settled, seen, AreTypesRead, IsMade}
 use Rattle.partition_table.specs.Keys.{is_at, are_at}
 use Rattle.stream_schema.specs.Equality.{Decides-value}
 use Rattle.query_part.proofs.Cuts.{mid_table}
 
-idle_kept : (step : Option Step) (r : Option Ready) (h : Held) (c : Option ℤ) (n : Option ℕ) → ready_of step r h c n ≡ None → kept_of step r h c n ≡ part_of h c n
-idle_kept None r h c n e = refl
-idle_kept (Some Unread) r h c n e = absurd cc
-idle_kept (Some (NoChange now)) r h c n e = absurd cc
-idle_kept (Some (Keyed now)) None h c n e = refl
-idle_kept (Some (Keyed now)) (Some r) h c n e = absurd cc
+idle_kept : (step : Option Step) (r : Option Ready) (z : Sizes) (h : Held) (c : Option ℤ) (n : Option ℕ) → ready_of step r h c n ≡ None → kept_of step r z h c n ≡ part_of h c n
+idle_kept None r z h c n e = refl
+idle_kept (Some Unread) r z h c n e = absurd cc
+idle_kept (Some (NoChange now)) r z h c n e = absurd cc
+idle_kept (Some (Keyed now)) None z h c n e = refl
+idle_kept (Some (Keyed now)) (Some r) z h c n e = absurd cc
+
+-- so it can end, whatever the sizes are
+pub idle_ends : (step : Option Step) (r : Option Ready) (z : Sizes) (h : Held) (c : Option ℤ) (n : Option ℕ) → ready_of step r h c n ≡ None → CanEnd step r z h
+idle_ends None r z h c n e = tt
+idle_ends (Some Unread) r z h c n e = tt
+idle_ends (Some (NoChange now)) r z h c n e = absurd cc
+idle_ends (Some (Keyed now)) None z h c n e = tt
+idle_ends (Some (Keyed now)) (Some r) z h c n e = absurd cc
 
 -- For some events the part is as it is.
 pub record Facts (schema : Declared) (q : Query) (event : Event) (position : ℕ) (h : Held) (c : Option ℤ) (n : Option ℕ) : Type 0 where
@@ -58,16 +67,16 @@ pub record Facts (schema : Declared) (q : Query) (event : Event) (position : ℕ
   pub in_time : (before now : ℤ) → FallsBack schema q events event before now → ⊥
   pub stands : PartStands schema q events (part_of h c n)
 
-pub facts : (schema : Declared) (q : Query) (event : Event) (position : ℕ) (step : Option Step) (r : Option Ready) (h : Held) (c : Option ℤ) (n : Option ℕ) (upto : ℕ) (floats : Bool) (p : Phase) → record { schema = schema; query = q; kept = kept_of step r h c n; ready = ready_of step r h c n; upto = upto; floats = floats } ≡ p → IsIdle (seen position p) → CanPrepare event position (seen position p) → Facts schema q event position h (clock_at floats upto position c) (here_at upto position n)
-facts schema q event position step r h c n upto floats p is idle can =
+pub facts : (schema : Declared) (q : Query) (event : Event) (position : ℕ) (step : Option Step) (r : Option Ready) (z : Sizes) (h : Held) (c : Option ℤ) (n : Option ℕ) (upto : ℕ) (floats : Bool) (p : Phase) → record { schema = schema; query = q; kept = kept_of step r z h c n; ready = ready_of step r h c n; upto = upto; floats = floats } ≡ p → IsIdle (seen position p) → CanPrepare event position (seen position p) → Facts schema q event position h (clock_at floats upto position c) (here_at upto position n)
+facts schema q event position step r z h c n upto floats p is idle can =
     let rest : ready_of step r h c n ≡ None = subst IsIdle (sym is) idle in
-    let know : CanPrepare event position (seen position (record { schema = schema; query = q; kept = kept_of step r h c n; ready = ready_of step r h c n; upto = upto; floats = floats })) = subst (λ (x : Phase). CanPrepare event position (seen position x)) (sym is) can in
+    let know : CanPrepare event position (seen position (record { schema = schema; query = q; kept = kept_of step r z h c n; ready = ready_of step r h c n; upto = upto; floats = floats })) = subst (λ (x : Phase). CanPrepare event position (seen position x)) (sym is) can in
     record {
       events = know.events;
       count = know.count;
       of_schema = know.of_schema;
       in_time = know.in_time;
-      stands = subst (λ k. PartStands schema q know.events (settled floats upto position k)) (idle_kept step r h c n rest) know.stands;
+      stands = subst (λ k. PartStands schema q know.events (settled floats upto position k)) (idle_kept step r z h c n rest) know.stands;
     }
 
 -- where the part is idle, it is as it is for some events
@@ -76,11 +85,11 @@ pub record Idle (schema : Declared) (q : Query) (h : Held) (c : Option ℤ) (n :
   pub query_is : q ≡ p.query
   pub kept_is : part_of h c n ≡ p.kept
 
-pub idle_part : (schema : Declared) (q : Query) (step : Option Step) (r : Option Ready) (h : Held) (c : Option ℤ) (n : Option ℕ) (upto : ℕ) (floats : Bool) (count : ℕ) (p : Phase) → record { schema = schema; query = q; kept = kept_of step r h c n; ready = ready_of step r h c n; upto = upto; floats = floats } ≡ p → IsIdle p → Idle schema q h (clock_at floats upto count c) (here_at upto count n) (seen count p)
-idle_part schema q step r h c n upto floats count p is idle = record {
+pub idle_part : (schema : Declared) (q : Query) (step : Option Step) (r : Option Ready) (z : Sizes) (h : Held) (c : Option ℤ) (n : Option ℕ) (upto : ℕ) (floats : Bool) (count : ℕ) (p : Phase) → record { schema = schema; query = q; kept = kept_of step r z h c n; ready = ready_of step r h c n; upto = upto; floats = floats } ≡ p → IsIdle p → Idle schema q h (clock_at floats upto count c) (here_at upto count n) (seen count p)
+idle_part schema q step r z h c n upto floats count p is idle = record {
   schema_is = ap (λ (x : Phase). x.schema) is;
   query_is = ap (λ (x : Phase). x.query) is;
-  kept_is = ap (settled floats upto count) (sym (idle_kept step r h c n (ap (λ (x : Phase). x.ready) is ∙ idle))) ∙ ap (λ (x : Phase). (seen count x).kept) is;
+  kept_is = ap (settled floats upto count) (sym (idle_kept step r z h c n (ap (λ (x : Phase). x.ready) is ∙ idle))) ∙ ap (λ (x : Phase). (seen count x).kept) is;
 }
 
 -- What the lists are worked out with: the leaves of the query that read the event, in the room that the automaton asks for.
@@ -89,14 +98,14 @@ pub record AreOwnLeaves (schema : Declared) (q : Query) (event : Event) (h : Hel
   pub room : length bits ≡ room_for h.table.cea.size
 
 -- those that are told where one reads the event, and else none
-pub own_leaves : (schema : Declared) (q : Query) (types : List Bool) (places : List (Option (List ℕ))) (source : Source) (event : Event) (position : ℕ) (step : Option Step) (r : Option Ready) (h : Held) (c : Option ℤ) (n : Option ℕ) (upto : ℕ) (floats : Bool) (p : Phase) (reads : Bool) (leaves none bits : List Bool) → record { schema = schema; query = q; kept = kept_of step r h c n; ready = ready_of step r h c n; upto = upto; floats = floats } ≡ p → IsMade schema q types places source none h → (reads ≡ true → AreLeavesRead event leaves (seen position p)) → (reads ≡ false → IsUnread event (seen position p)) → (reads ≡ true → bits ≡ leaves) → (reads ≡ false → bits ≡ none) → AreOwnLeaves schema q event h bits
-own_leaves schema q types places source event position step r h c n upto floats p true leaves none bits is m told unread some else =
-    let own : AreLeavesRead event leaves (seen position (record { schema = schema; query = q; kept = kept_of step r h c n; ready = ready_of step r h c n; upto = upto; floats = floats })) = subst (λ (x : Phase). AreLeavesRead event leaves (seen position x)) (sym is) (told refl) in
+pub own_leaves : (schema : Declared) (q : Query) (types : List Bool) (places : List (Option (List ℕ))) (source : Source) (event : Event) (position : ℕ) (step : Option Step) (r : Option Ready) (z : Sizes) (h : Held) (c : Option ℤ) (n : Option ℕ) (upto : ℕ) (floats : Bool) (p : Phase) (reads : Bool) (leaves none bits : List Bool) → record { schema = schema; query = q; kept = kept_of step r z h c n; ready = ready_of step r h c n; upto = upto; floats = floats } ≡ p → IsMade schema q types places source none h → (reads ≡ true → AreLeavesRead event leaves (seen position p)) → (reads ≡ false → IsUnread event (seen position p)) → (reads ≡ true → bits ≡ leaves) → (reads ≡ false → bits ≡ none) → AreOwnLeaves schema q event h bits
+own_leaves schema q types places source event position step r z h c n upto floats p true leaves none bits is m told unread some else =
+    let own : AreLeavesRead event leaves (seen position (record { schema = schema; query = q; kept = kept_of step r z h c n; ready = ready_of step r h c n; upto = upto; floats = floats })) = subst (λ (x : Phase). AreLeavesRead event leaves (seen position x)) (sym is) (told refl) in
     record {
       are = (λ i k. (ap (λ (b : List Bool). has b k) (some refl) ∙ own.each k) i);
       room = ap length (some refl) ∙ (own.room ∙ ap room_for (sym m.size));
     }
-own_leaves schema q types places source event position step r h c n upto floats p false leaves none bits is m told unread some else =
+own_leaves schema q types places source event position step r z h c n upto floats p false leaves none bits is m told unread some else =
     let no : (k : ℕ) → leaves_reading schema q event k ≡ false = λ k. subst (λ (x : Phase). leaves_reading x.schema x.query event k ≡ false) (sym is) (unread refl k) in
     record {
       are = (λ i k. (ap (λ (b : List Bool). has b k) (else refl) ∙ (m.empty k ∙ sym (no k))) i);
@@ -104,17 +113,17 @@ own_leaves schema q types places source event position step r h c n upto floats 
     }
 
 -- its fields, where it is idle
-pub idle_fields : (schema : Declared) (q : Query) (step : Option Step) (r : Option Ready) (h : Held) (c : Option ℤ) (n : Option ℕ) (upto : ℕ) (floats : Bool) (p : Phase) → record { schema = schema; query = q; kept = kept_of step r h c n; ready = ready_of step r h c n; upto = upto; floats = floats } ≡ p → IsIdle p → record { schema = schema; query = q; kept = part_of h c n; ready = None; upto = upto; floats = floats } ≡ p
-idle_fields schema q step r h c n upto floats p is idle =
+pub idle_fields : (schema : Declared) (q : Query) (step : Option Step) (r : Option Ready) (z : Sizes) (h : Held) (c : Option ℤ) (n : Option ℕ) (upto : ℕ) (floats : Bool) (p : Phase) → record { schema = schema; query = q; kept = kept_of step r z h c n; ready = ready_of step r h c n; upto = upto; floats = floats } ≡ p → IsIdle p → record { schema = schema; query = q; kept = part_of h c n; ready = None; upto = upto; floats = floats } ≡ p
+idle_fields schema q step r z h c n upto floats p is idle =
     let rest : ready_of step r h c n ≡ None = ap (λ (x : Phase). x.ready) is ∙ idle in
-    (λ i. record { schema = schema; query = q; kept = sym (idle_kept step r h c n rest) i; ready = sym rest i; upto = upto; floats = floats }) ∙ is
+    (λ i. record { schema = schema; query = q; kept = sym (idle_kept step r z h c n rest) i; ready = sym rest i; upto = upto; floats = floats }) ∙ is
 
 -- the same once the last event had come that did not pass it by
-pub idle_awake : (schema : Declared) (q : Query) (step : Option Step) (r : Option Ready) (h : Held) (c : Option ℤ) (n : Option ℕ) (upto : ℕ) (floats : Bool) (p : Phase) → record { schema = schema; query = q; kept = kept_of step r h c n; ready = ready_of step r h c n; upto = upto; floats = floats } ≡ p → IsIdle p → Idle schema q h c n p
-idle_awake schema q step r h c n upto floats p is idle = record {
+pub idle_awake : (schema : Declared) (q : Query) (step : Option Step) (r : Option Ready) (z : Sizes) (h : Held) (c : Option ℤ) (n : Option ℕ) (upto : ℕ) (floats : Bool) (p : Phase) → record { schema = schema; query = q; kept = kept_of step r z h c n; ready = ready_of step r h c n; upto = upto; floats = floats } ≡ p → IsIdle p → Idle schema q h c n p
+idle_awake schema q step r z h c n upto floats p is idle = record {
   schema_is = ap (λ (x : Phase). x.schema) is;
   query_is = ap (λ (x : Phase). x.query) is;
-  kept_is = sym (idle_kept step r h c n (ap (λ (x : Phase). x.ready) is ∙ idle)) ∙ ap (λ (x : Phase). x.kept) is;
+  kept_is = sym (idle_kept step r z h c n (ap (λ (x : Phase). x.ready) is ∙ idle)) ∙ ap (λ (x : Phase). x.kept) is;
 }
 
 -- what stands for events, seen from within

@@ -21,6 +21,7 @@ use Rattle.query_standing.specs.Kept.{roots_for}
 use Rattle.query_standing.proofs.Windows.{clock_is_one}
 use Rattle.all_or_none.specs.Phases.{Phase, IsStep, HasPassed, IsUnread, Rests}
 use Rattle.query_part.specs.declared.matches.Ready.{Ready}
+use Rattle.query_part.specs.declared.matches.Sizes.{Sizes}
 use Rattle.query_part.specs.declared.part.Step.{Step}
 use Rattle.query_part.specs.Matches.{Held}
 use Rattle.query_part.specs.Parts.{part_of, kept_of, ready_of, clock_at, here_at, seen, Floats, MayBePatient, MayFloat, AreTypesRead, HasEvents}
@@ -145,10 +146,10 @@ passes_resting schema q source types event position h c n upto floats is may are
         (alone schema q event h (clock_at true upto position c) (here_at upto position n) all)
 
 -- So does each later one.
-pub part_rests : (schema : Declared) (q : Query) (source : Source) (types : List Bool) (step : Option Step) (r : Option Ready) (h : Held) (c : Option ℤ) (n : Option ℕ) (upto : ℕ) (floats : Bool) (p : Phase) → record { schema = schema; query = q; kept = kept_of step r h c n; ready = ready_of step r h c n; upto = upto; floats = floats } ≡ p → floats ≡ true → MayFloat schema q source types floats → AreTypesRead schema q types → IsOf schema q.window source → LetsPass q h → Rests (λ count. seen count p)
-part_rests schema q source types step r h c n upto floats p view is may are of all = record {
+pub part_rests : (schema : Declared) (q : Query) (source : Source) (types : List Bool) (step : Option Step) (r : Option Ready) (z : Sizes) (h : Held) (c : Option ℤ) (n : Option ℕ) (upto : ℕ) (floats : Bool) (p : Phase) → record { schema = schema; query = q; kept = kept_of step r z h c n; ready = ready_of step r h c n; upto = upto; floats = floats } ≡ p → floats ≡ true → MayFloat schema q source types floats → AreTypesRead schema q types → IsOf schema q.window source → LetsPass q h → Rests (λ count. seen count p)
+part_rests schema q source types step r z h c n upto floats p view is may are of all = record {
   passes = λ event position le idle can unread. (
-      let fields = idle_fields schema q step r h c n upto floats p view idle in
+      let fields = idle_fields schema q step r z h c n upto floats p view idle in
       let started = subst (λ (x : Phase). x.upto ≤ position) (sym view) le in
       let of_schema = subst (λ (x : Phase). IsOfSchema x.schema event) (sym view) can.of_schema in
       let none = subst (λ (x : Phase). IsUnread event x) (sym view) unread in

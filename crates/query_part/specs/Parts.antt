@@ -27,6 +27,7 @@ use Rattle.query_part.specs.declared.part.Step.TheVariants.{Unread, NoChange, Ke
 use Rattle.query_part.specs.KeyPlaces.{AreKeyPlaces}
 use Rattle.query_part.specs.Matches.{Held, none_open, cut, CanCut}
 use Rattle.query_part.specs.declared.matches.Ready.{Ready}
+use Rattle.query_part.specs.declared.matches.Sizes.{Sizes}
 
 abbrev pub part_of : Held → Option ℤ → Option ℕ → Part
 part_of h clock here = record { table = h.table; nodes = h.nodes; keys = h.keys; rows = h.rows; clock = clock; here = here }
@@ -36,12 +37,12 @@ abbrev pub put_in : ℕ → Staged → Held → Held
 put_in number staged h = record h { rows = slice_set h.rows number (rows_after (slice_index_or h.rows number []) staged) }
 
 -- what it was before the event was prepared
-abbrev pub kept_of : Option Step → Option Ready → Held → Option ℤ → Option ℕ → Part
-kept_of None ready h clock here = part_of h clock here
-kept_of (Some Unread) ready h clock here = part_of h clock here
-kept_of (Some (NoChange now)) ready h clock here = part_of h clock here
-kept_of (Some (Keyed now)) None h clock here = part_of h clock here
-kept_of (Some (Keyed now)) (Some r) h clock here = part_of (cut r.sizes h) clock here
+abbrev pub kept_of : Option Step → Option Ready → Sizes → Held → Option ℤ → Option ℕ → Part
+kept_of None ready sizes h clock here = part_of h clock here
+kept_of (Some Unread) ready sizes h clock here = part_of h clock here
+kept_of (Some (NoChange now)) ready sizes h clock here = part_of h clock here
+kept_of (Some (Keyed now)) None sizes h clock here = part_of h clock here
+kept_of (Some (Keyed now)) (Some r) sizes h clock here = part_of (cut sizes h) clock here
 
 -- what a commit makes of it
 abbrev pub ready_of : Option Step → Option Ready → Held → Option ℤ → Option ℕ → Option Part
@@ -52,12 +53,12 @@ ready_of (Some (Keyed now)) None h clock here = None
 ready_of (Some (Keyed now)) (Some r) h clock here = Some (part_of (put_in r.number r.staged h) (Some now) (Some r.number))
 
 -- what was prepared can be put in, and taken back
-abbrev pub CanEnd : Option Step → Option Ready → Held → Type 0
-CanEnd None ready h = Unit {0}
-CanEnd (Some Unread) ready h = Unit {0}
-CanEnd (Some (NoChange now)) ready h = IsNear now
-CanEnd (Some (Keyed now)) None h = Unit {0}
-CanEnd (Some (Keyed now)) (Some r) h = IsNear now × CanCut r.sizes h × (r.number < length h.rows)
+abbrev pub CanEnd : Option Step → Option Ready → Sizes → Held → Type 0
+CanEnd None ready sizes h = Unit {0}
+CanEnd (Some Unread) ready sizes h = Unit {0}
+CanEnd (Some (NoChange now)) ready sizes h = IsNear now
+CanEnd (Some (Keyed now)) None sizes h = Unit {0}
+CanEnd (Some (Keyed now)) (Some r) sizes h = IsNear now × CanCut sizes h × (r.number < length h.rows)
 
 -- the last clock after so many events
 abbrev pub clock_at : Bool → ℕ → ℕ → Option ℤ → Option ℤ

@@ -48,10 +48,9 @@ pub struct Sizes {
     pub keys: u64,
 }
 
-/// The lists of a key after an event, not in place yet, and how many of each there were before.
+/// The lists of a key after an event, not in place yet.
 #[derive(Drop)]
 pub struct Ready {
-    pub sizes: Sizes,
     pub number: u64,
     pub staged: Staged,
 }
@@ -120,7 +119,8 @@ impl Matches {
         Sizes {
             det: self.det.sizes(),
             nodes: self.store.len(),
-            keys: self.keys.len(),
+            // Each key has its lists, which are read next.
+            keys: self.lists.len() as u64,
         }
     }
 
@@ -193,34 +193,34 @@ impl Matches {
         ensures rest { result ≡ true → (rows : Rows) × (slice_get self.now.rows number ≡ Some rows)
             × Rest self.now.table rows }
     {
-        bits.is_empty() && self.lists[number as usize].rests
+        self.lists[number as usize].rests && bits.is_empty()
     }
 
     /// Works out the lists of the key of this number after an event of it. After `Memory` there is
     /// what there was at the sizes.
     fn work<L: Ledger>(
         &mut self,
-        sizes: Sizes,
+        sizes: &Sizes,
         number: u64,
         bits: &Bits,
         stamp: Stamp,
         low: LowTime,
         steps: &mut Steps<L>,
     ) -> Result<Ready, Memory>
-        requires begun { HasBegun sizes number self.old }
+        requires begun { HasBegun sizes.now number self.old }
         requires well_formed { WellFormed self.old.nodes }
         requires in_step { AreInStep (self.old.nodes ++ Bottom stamp ∷ []) }
         requires bits { length bits.now ≡ room_for self.old.table.cea.size }
         requires can { CanTake stamp self.old }
-        ensures ready { IfOk result (λ r. (b : HasBegun sizes number self.old) → IsReady stamp low
+        ensures ready { IfOk result (λ r. (b : HasBegun sizes.now number self.old) → IsReady stamp low
             bits.now b.key r.number r.staged b.before self.new) }
-        ensures sizes { IfOk result (λ r. ((b : HasBegun sizes number self.old)
-            → cut r.sizes self.new ≡ b.before) × CanCut r.sizes self.new) }
-        ensures refused { OnErr result ((b : HasBegun sizes number self.old)
+        ensures sizes { IfOk result (λ r. ((b : HasBegun sizes.now number self.old)
+            → cut sizes.now self.new ≡ b.before) × CanCut sizes.now self.new) }
+        ensures refused { OnErr result ((b : HasBegun sizes.now number self.old)
             → self.new ≡ b.before) }
         ensures steps { OnOk result (steps.new
             ≤ steps.old + work_bound (length self.new.table.states)) }
-        ensures worked { (b : HasBegun sizes number self.old) → HasWorked bits.now b.key b.before
+        ensures worked { (b : HasBegun sizes.now number self.old) → HasWorked bits.now b.key b.before
             steps.old steps.new }
         ensures passed { IfOk result (λ r. r.staged ≡ Unchanged → (rows : Rows)
             → slice_get self.new.rows r.number ≡ Some rows
@@ -241,14 +241,10 @@ impl Matches {
                 let _sizes = self.det.sizes();
                 let _found = self.det.found();
                 note(&mut self.still, active, bits, &staged);
-                Ok(Ready {
-                    sizes,
-                    number,
-                    staged,
-                })
+                Ok(Ready { number, staged })
             }
             Err(refused) => {
-                self.cut_to(sizes);
+                self.cut_to(*sizes);
                 Err(refused)
             }
         }
@@ -268,9 +264,11 @@ impl Matches {
         }
     }
 
-    /// Works out the key's lists after an event of it. After `Memory` nothing has changed.
+    /// Works out the key's lists after an event of it. After `Memory` nothing has changed. The sizes are
+    /// then those from before.
     pub fn advance<L: Ledger>(
         &mut self,
+        sizes: &mut Sizes,
         key: &Key,
         bits: &Bits,
         stamp: Stamp,
@@ -283,15 +281,15 @@ impl Matches {
         requires can { CanTake stamp self.old }
         ensures ready { IfOk result (λ r. IsReady stamp low bits.now key.now r.number r.staged self.old
             self.new) }
-        ensures sizes { IfOk result (λ r. (cut r.sizes self.new ≡ self.old)
-            × CanCut r.sizes self.new) }
+        ensures sizes { OnOk result ((cut sizes.new self.new ≡ self.old)
+            × CanCut sizes.new self.new) }
         ensures refused { OnErr result (self.new ≡ self.old) }
         ensures steps { OnOk result (steps.new
             ≤ steps.old + work_bound (length self.new.table.states)) }
         ensures worked { (steps.new ≡ steps.old)
             ⊎ HasWorked bits.now key.now self.old steps.old steps.new }
     {
-        let sizes = self.sizes();
+        *sizes = self.sizes();
         let number = self.number(key)?;
         self.work(sizes, number, bits, stamp, low, steps)
     }
@@ -300,6 +298,7 @@ impl Matches {
     /// leave its lists as they are, it takes no step.
     pub fn advance_at<L: Ledger>(
         &mut self,
+        sizes: &mut Sizes,
         number: u64,
         bits: &Bits,
         stamp: Stamp,
@@ -313,19 +312,18 @@ impl Matches {
         requires can { CanTake stamp self.old }
         ensures ready { IfOk result (λ r. (key : List Datum) → slice_get self.old.keys number
             ≡ Some key → IsReady stamp low bits.now key r.number r.staged self.old self.new) }
-        ensures sizes { IfOk result (λ r. (cut r.sizes self.new ≡ self.old)
-            × CanCut r.sizes self.new) }
+        ensures sizes { OnOk result ((cut sizes.new self.new ≡ self.old)
+            × CanCut sizes.new self.new) }
         ensures refused { OnErr result (self.new ≡ self.old) }
         ensures steps { OnOk result (steps.new
             ≤ steps.old + work_bound (length self.new.table.states)) }
         ensures worked { (key : List Datum) → slice_get self.old.keys number ≡ Some key
             → HasWorked bits.now key self.old steps.old steps.new }
     {
-        let sizes = self.sizes();
+        *sizes = self.sizes();
         let _found = self.det.found();
         if self.lists[number as usize].let_pass(bits) {
             return Ok(Ready {
-                sizes,
                 number,
                 staged: Staged::Unchanged,
             });

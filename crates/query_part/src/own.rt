@@ -8,7 +8,7 @@ ghost use Rattle.event_update.specs.Update.{work_bound};
 ghost use Rattle.query_part.specs.KeyPlaces.{key_there};
 ghost use Rattle.query_part.specs.Matches.{HasKeyThere, CanTake, cut, CanCut, Stays, IsOwnReady, HasOwnWorked};
 
-use crate::matches::{Matches, Ready};
+use crate::matches::{Matches, Ready, Sizes};
 use crate::reading::{Places, key_of, places_of};
 use cer_base::Memory;
 use cer_base::bits::Bits;
@@ -40,10 +40,12 @@ fn known(matches: &Matches, table: &[Option<Places>], whole: bool, event: &Event
 /// Works out the lists of the event's key, by the set of the leaves that can read the event. `None`
 /// where no list changes: where it has no key, and where no leaf can read it and its key's lists are
 /// known to rest, or the automaton is told to be patient. It is told whether the query has no
-/// partition. After `Memory` nothing has changed.
+/// partition. After `Memory` nothing has changed. Where some list may change, the sizes are then those
+/// from before.
 #[inline(always)]
 pub fn advance_own<L: Ledger>(
     matches: &mut Matches,
+    sizes: &mut Sizes,
     alloc: Global,
     table: &[Option<Places>],
     whole: bool,
@@ -64,8 +66,8 @@ pub fn advance_own<L: Ledger>(
         × Stays matches.old (key_there table.now event.now) bits.now patient)) }
     ensures ready { IfOk result (λ o. IfSome o (λ r. IsOwnReady stamp low bits.now
         (key_there table.now event.now) r.number r.staged matches.old matches.new)) }
-    ensures sizes { IfOk result (λ o. IfSome o (λ r. (cut r.sizes matches.new ≡ matches.old)
-        × CanCut r.sizes matches.new)) }
+    ensures sizes { IfOk result (λ o. IfSome o (λ r. (cut sizes.new matches.new ≡ matches.old)
+        × CanCut sizes.new matches.new)) }
     ensures refused { OnErr result (matches.new ≡ matches.old) }
     ensures steps { OnOk result (steps.new
         ≤ steps.old + work_bound (length matches.new.table.states)) }
@@ -79,13 +81,13 @@ pub fn advance_own<L: Ledger>(
         if matches.resting(number, bits) {
             return Ok(None);
         }
-        let ready = matches.advance_at(number, bits, stamp, low, steps)?;
+        let ready = matches.advance_at(sizes, number, bits, stamp, low, steps)?;
         return Ok(Some(ready));
     }
     match key_of(alloc, table, event)? {
         None => Ok(None),
         Some(key) => {
-            let ready = matches.advance(&key, bits, stamp, low, steps)?;
+            let ready = matches.advance(sizes, &key, bits, stamp, low, steps)?;
             Ok(Some(ready))
         }
     }

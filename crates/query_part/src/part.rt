@@ -16,7 +16,7 @@ ghost use Rattle.query_part.specs.Compacting.{HasStatesOnce, PartCompacted};
 ghost use Rattle.arena_compact.specs.Roots.{places};
 
 use crate::machine::{Machine, Reading};
-use crate::matches::{Matches, Ready};
+use crate::matches::{Matches, Ready, Sizes};
 use crate::own::advance_own;
 use crate::reading::{Places, is_read, may_read};
 use all_or_none::Keeps;
@@ -70,6 +70,8 @@ pub struct Part {
     step: Option<Step>,
     /// The lists that are ready, where the step has a key.
     ready: Option<Ready>,
+    /// How many of each there were before the last event whose lists were made ready.
+    sizes: Sizes,
     matches: Matches,
     /// An empty set, with room for the query's leaves: those that read an event that none reads.
     no_leaves: Bits,
@@ -93,14 +95,14 @@ impl Model for Part {
     ghost view = { λ p. record {
       schema = p.schema.value;
       query = p.query;
-      kept = kept_of p.step p.ready p.matches p.clock.last p.here;
+      kept = kept_of p.step p.ready p.sizes p.matches p.clock.last p.here;
       ready = ready_of p.step p.ready p.matches p.clock.last p.here;
       upto = p.upto;
       floats = p.floats;
     } };
 
     ghost invariant = { λ p. IsMade p.schema.value p.query p.types.items p.keys.items
-        p.clock.source p.no_leaves p.matches × CanEnd p.step p.ready p.matches
+        p.clock.source p.no_leaves p.matches × CanEnd p.step p.ready p.sizes p.matches
         × MayFloat p.schema.value p.query p.clock.source p.types.items p.floats
         × MayBePatient p.query p.patient
         × MayBeWhole p.schema.value p.keys.items p.whole };
@@ -130,6 +132,7 @@ fn joined(
     ensures none { result.kept.nodes ≡ [] }
     ensures stands { StandsAt [] result }
 {
+    let sizes = machine.matches.sizes();
     Part {
         alloc,
         floats: reading.floats,
@@ -144,6 +147,7 @@ fn joined(
         keys: reading.keys,
         matches: machine.matches,
         ready: None,
+        sizes,
         query,
         schema,
     }
@@ -391,9 +395,10 @@ impl Keeps for Part {
         let bits = leaves_for(reads, leaves, &self.no_leaves);
         let table = self.keys.as_slice();
         let matches = &mut self.matches;
+        let sizes = &mut self.sizes;
         let (alloc, whole, patient) = (self.alloc, self.whole, self.patient);
         match advance_own(
-            matches, alloc, table, whole, event, bits, patient, stamp, low, steps,
+            matches, sizes, alloc, table, whole, event, bits, patient, stamp, low, steps,
         ) {
             Err(refused) => Err(refused),
             Ok(None) => {
@@ -439,8 +444,8 @@ impl Keeps for Part {
         match self.step.take() {
             Some(Step::Keyed(_)) => match self.ready.take() {
                 None => {}
-                Some(ready) => {
-                    self.matches.cut_to(ready.sizes);
+                Some(_) => {
+                    self.matches.cut_to(self.sizes);
                 }
             },
             _ => {}

@@ -24,7 +24,7 @@ cut_to-requires g c =
     let b = c.requires.begun in
     let takes = subst (TakesKey b.before b.key) (sym c.self.view_is) b.takes in
     let same = same_before b.before _ b.key takes (c.self.invariant.0 ∙ sym (length_map _ c.self.inside.lists.items)) in
-    can_cut c.args.sizes b.key b.before _ b.are same takes _ c.args.bits.now c.prepare.new.det c.prepare.ensures.det c.prepare.new.store c.prepare.ensures.grows.more c.prepare.ensures.grows.appended (sound_mid b.before _ b.key takes b.sound)
+    can_cut c.args.sizes.now b.key b.before _ b.are same takes _ c.args.bits.now c.prepare.new.det c.prepare.ensures.det c.prepare.new.store c.prepare.ensures.grows.more c.prepare.ensures.grows.appended (sound_mid b.before _ b.key takes b.sound)
 
 pub returns-in-Ok-clause-ready : goal.returns-in-Ok-clause-ready
 returns-in-Ok-clause-ready g c b =
@@ -55,13 +55,13 @@ returns-in-Ok-clause-sizes g c = (
   λ b. (
       let takes = subst (TakesKey b.before b.key) (sym c.self.view_is) b.takes in
       let same = same_before b.before _ b.key takes (c.self.invariant.0 ∙ sym (length_map _ c.self.inside.lists.items)) in
-      cut_back c.args.sizes b.key b.before _ b.are same takes _ c.args.bits.now c.prepare.new.det c.prepare.ensures.det c.prepare.new.store c.prepare.ensures.grows.more c.prepare.ensures.grows.appended
+      cut_back c.args.sizes.now b.key b.before _ b.are same takes _ c.args.bits.now c.prepare.new.det c.prepare.ensures.det c.prepare.new.store c.prepare.ensures.grows.more c.prepare.ensures.grows.appended
       ),
   (
       let b = c.requires.begun in
       let takes = subst (TakesKey b.before b.key) (sym c.self.view_is) b.takes in
       let same = same_before b.before _ b.key takes (c.self.invariant.0 ∙ sym (length_map _ c.self.inside.lists.items)) in
-      can_cut c.args.sizes b.key b.before _ b.are same takes _ c.args.bits.now c.prepare.new.det c.prepare.ensures.det c.prepare.new.store c.prepare.ensures.grows.more c.prepare.ensures.grows.appended (sound_mid b.before _ b.key takes b.sound)
+      can_cut c.args.sizes.now b.key b.before _ b.are same takes _ c.args.bits.now c.prepare.new.det c.prepare.ensures.det c.prepare.new.store c.prepare.ensures.grows.more c.prepare.ensures.grows.appended (sound_mid b.before _ b.key takes b.sound)
       ),
 )
 
@@ -69,7 +69,7 @@ pub returns-in-Err-clause-refused : goal.returns-in-Err-clause-refused
 returns-in-Err-clause-refused g c b =
     let takes = subst (TakesKey b.before b.key) (sym c.self.view_is) b.takes in
     let same = same_before b.before _ b.key takes (c.self.invariant.0 ∙ sym (length_map _ c.self.inside.lists.items)) in
-    c.cut_to.ensures ∙ cut_back c.args.sizes b.key b.before _ b.are same takes _ c.args.bits.now c.prepare.new.det c.prepare.ensures.det c.prepare.new.store c.prepare.ensures.grows.more c.prepare.ensures.grows.appended
+    c.cut_to.ensures ∙ cut_back c.args.sizes.now b.key b.before _ b.are same takes _ c.args.bits.now c.prepare.new.det c.prepare.ensures.det c.prepare.new.store c.prepare.ensures.grows.more c.prepare.ensures.grows.appended
 
 pub returns-in-Ok-clause-worked : goal.returns-in-Ok-clause-worked
 returns-in-Ok-clause-worked g c b =

@@ -15,26 +15,26 @@ use Rattle.query_part.proofs.part.Part.compact.Goals as goal
 
 pub compact-requires-clause-well_formed : goal.compact-requires-clause-well_formed
 compact-requires-clause-well_formed g c =
-    let i = idle_awake c.self.inside.schema.value c.self.inside.query c.self.inside.step c.self.inside.ready c.self.inside.matches c.self.inside.clock.last c.self.inside.here c.self.inside.upto c.self.inside.floats c.args.self.now c.self.view_is c.requires.idle in
+    let i = idle_awake c.self.inside.schema.value c.self.inside.query c.self.inside.step c.self.inside.ready c.self.inside.sizes c.self.inside.matches c.self.inside.clock.last c.self.inside.here c.self.inside.upto c.self.inside.floats c.args.self.now c.self.view_is c.requires.idle in
     let e = c.requires.events in
     let s = inner_stands c.self.inside.schema.value c.self.inside.query c.self.inside.matches c.self.inside.clock.last c.self.inside.here c.args.self.now i e.events e.stands in
     s.nodes
 
 pub compact-requires-clause-lists : goal.compact-requires-clause-lists
 compact-requires-clause-lists g c =
-    let i = idle_awake c.self.inside.schema.value c.self.inside.query c.self.inside.step c.self.inside.ready c.self.inside.matches c.self.inside.clock.last c.self.inside.here c.self.inside.upto c.self.inside.floats c.args.self.now c.self.view_is c.requires.idle in
+    let i = idle_awake c.self.inside.schema.value c.self.inside.query c.self.inside.step c.self.inside.ready c.self.inside.sizes c.self.inside.matches c.self.inside.clock.last c.self.inside.here c.self.inside.upto c.self.inside.floats c.args.self.now c.self.view_is c.requires.idle in
     let e = c.requires.events in
     let s = inner_stands c.self.inside.schema.value c.self.inside.query c.self.inside.matches c.self.inside.clock.last c.self.inside.here c.args.self.now i e.events e.stands in
     part_lists c.self.inside.schema.value c.self.inside.query e.events c.self.inside.matches c.self.inside.clock.last c.self.inside.here s
 
 pub compact-requires-clause-cursors : goal.compact-requires-clause-cursors
 compact-requires-clause-cursors g c =
-    let i = idle_awake c.self.inside.schema.value c.self.inside.query c.self.inside.step c.self.inside.ready c.self.inside.matches c.self.inside.clock.last c.self.inside.here c.self.inside.upto c.self.inside.floats c.args.self.now c.self.view_is c.requires.idle in
+    let i = idle_awake c.self.inside.schema.value c.self.inside.query c.self.inside.step c.self.inside.ready c.self.inside.sizes c.self.inside.matches c.self.inside.clock.last c.self.inside.here c.self.inside.upto c.self.inside.floats c.args.self.now c.self.view_is c.requires.idle in
     subst (λ (x : Part). All (λ (w : CursorState). w.query ≡ c.args.number → Fits w x.nodes) (map g.C.HasCursor.walk c.args.cursors.now)) (sym i.kept_is) c.requires.cursors
 
 pub compact-requires-clause-room : goal.compact-requires-clause-room
 compact-requires-clause-room g c =
-    let i = idle_awake c.self.inside.schema.value c.self.inside.query c.self.inside.step c.self.inside.ready c.self.inside.matches c.self.inside.clock.last c.self.inside.here c.self.inside.upto c.self.inside.floats c.args.self.now c.self.view_is c.requires.idle in
+    let i = idle_awake c.self.inside.schema.value c.self.inside.query c.self.inside.step c.self.inside.ready c.self.inside.sizes c.self.inside.matches c.self.inside.clock.last c.self.inside.here c.self.inside.upto c.self.inside.floats c.args.self.now c.self.view_is c.requires.idle in
     subst (λ (x : Part). length x.nodes ≤ c.args.room.now) (sym i.kept_is) c.requires.room
 
 pub invariant_of-self : goal.invariant_of-self
@@ -57,12 +57,12 @@ invariant_of-self g c =
 
 pub returns-clause-same : goal.returns-clause-same
 returns-clause-same g c =
-    let i = idle_awake c.self.inside.schema.value c.self.inside.query c.self.inside.step c.self.inside.ready c.self.inside.matches c.self.inside.clock.last c.self.inside.here c.self.inside.upto c.self.inside.floats c.args.self.now c.self.view_is c.requires.idle in
+    let i = idle_awake c.self.inside.schema.value c.self.inside.query c.self.inside.step c.self.inside.ready c.self.inside.sizes c.self.inside.matches c.self.inside.clock.last c.self.inside.here c.self.inside.upto c.self.inside.floats c.args.self.now c.self.view_is c.requires.idle in
     (i.schema_is, i.query_is)
 
 pub returns-clause-stands : goal.returns-clause-stands
 returns-clause-stands g c =
-    let i = idle_awake c.self.inside.schema.value c.self.inside.query c.self.inside.step c.self.inside.ready c.self.inside.matches c.self.inside.clock.last c.self.inside.here c.self.inside.upto c.self.inside.floats c.args.self.now c.self.view_is c.requires.idle in
+    let i = idle_awake c.self.inside.schema.value c.self.inside.query c.self.inside.step c.self.inside.ready c.self.inside.sizes c.self.inside.matches c.self.inside.clock.last c.self.inside.here c.self.inside.upto c.self.inside.floats c.args.self.now c.self.view_is c.requires.idle in
     let small : SFits w128 c.low-low.result = search rules in
     let same : to_z w128 (of_z w128 c.low-low.result) ≡ c.low-low.result = to_z-of_z _ _ small in
     let low = low_is c.self.inside.schema.value c.self.inside.query c.self.inside.matches c.self.inside.clock.last c.self.inside.here c.args.self.now c.self.inside.clock.source (to_z w128 (of_z w128 c.low-low.result)) i c.self.invariant.0.clock (same ∙ c.low-low.ensures.low) in
@@ -77,7 +77,7 @@ returns-clause-stands g c =
 
 pub returns-clause-compacted : goal.returns-clause-compacted
 returns-clause-compacted g c =
-    let i = idle_awake c.self.inside.schema.value c.self.inside.query c.self.inside.step c.self.inside.ready c.self.inside.matches c.self.inside.clock.last c.self.inside.here c.self.inside.upto c.self.inside.floats c.args.self.now c.self.view_is c.requires.idle in
+    let i = idle_awake c.self.inside.schema.value c.self.inside.query c.self.inside.step c.self.inside.ready c.self.inside.sizes c.self.inside.matches c.self.inside.clock.last c.self.inside.here c.self.inside.upto c.self.inside.floats c.args.self.now c.self.view_is c.requires.idle in
     let small : SFits w128 c.low-low.result = search rules in
     let same : to_z w128 (of_z w128 c.low-low.result) ≡ c.low-low.result = to_z-of_z _ _ small in
     let low = low_is c.self.inside.schema.value c.self.inside.query c.self.inside.matches c.self.inside.clock.last c.self.inside.here c.args.self.now c.self.inside.clock.source (to_z w128 (of_z w128 c.low-low.result)) i c.self.invariant.0.clock (same ∙ c.low-low.ensures.low) in
@@ -92,7 +92,7 @@ returns-clause-compacted g c =
 
 pub returns-clause-fewer : goal.returns-clause-fewer
 returns-clause-fewer g c =
-    let i = idle_awake c.self.inside.schema.value c.self.inside.query c.self.inside.step c.self.inside.ready c.self.inside.matches c.self.inside.clock.last c.self.inside.here c.self.inside.upto c.self.inside.floats c.args.self.now c.self.view_is c.requires.idle in
+    let i = idle_awake c.self.inside.schema.value c.self.inside.query c.self.inside.step c.self.inside.ready c.self.inside.sizes c.self.inside.matches c.self.inside.clock.last c.self.inside.here c.self.inside.upto c.self.inside.floats c.args.self.now c.self.view_is c.requires.idle in
     let small : SFits w128 c.low-low.result = search rules in
     let same : to_z w128 (of_z w128 c.low-low.result) ≡ c.low-low.result = to_z-of_z _ _ small in
     let low = low_is c.self.inside.schema.value c.self.inside.query c.self.inside.matches c.self.inside.clock.last c.self.inside.here c.args.self.now c.self.inside.clock.source (to_z w128 (of_z w128 c.low-low.result)) i c.self.invariant.0.clock (same ∙ c.low-low.ensures.low) in
@@ -107,6 +107,6 @@ returns-clause-fewer g c =
 
 pub returns-clause-steps : goal.returns-clause-steps
 returns-clause-steps g c =
-    let i = idle_awake c.self.inside.schema.value c.self.inside.query c.self.inside.step c.self.inside.ready c.self.inside.matches c.self.inside.clock.last c.self.inside.here c.self.inside.upto c.self.inside.floats c.args.self.now c.self.view_is c.requires.idle in
+    let i = idle_awake c.self.inside.schema.value c.self.inside.query c.self.inside.step c.self.inside.ready c.self.inside.sizes c.self.inside.matches c.self.inside.clock.last c.self.inside.here c.self.inside.upto c.self.inside.floats c.args.self.now c.self.view_is c.requires.idle in
     let paid = c.compact.ensures.steps in
     subst (λ (x : Part). c.compact.new.steps ≤ c.args.steps.now + 8 * length x.nodes + 4 * places x.rows) i.kept_is paid

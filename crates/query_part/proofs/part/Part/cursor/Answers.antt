@@ -16,7 +16,7 @@ pub cursor-requires-2-clause-stands : goal.cursor-requires-2-clause-stands
 cursor-requires-2-clause-stands g c =
     let same : c.self.inside.upto ≡ c.args.count = search rules in
     let fresh : c.args.self.now.upto ≡ c.args.count = ap (λ (p : Phase). p.upto) (sym c.self.view_is) ∙ same in
-    let i = idle_awake c.self.inside.schema.value c.self.inside.query c.self.inside.step c.self.inside.ready c.self.inside.matches c.self.inside.clock.last c.self.inside.here c.self.inside.upto c.self.inside.floats c.args.self.now c.self.view_is c.requires.idle in
+    let i = idle_awake c.self.inside.schema.value c.self.inside.query c.self.inside.step c.self.inside.ready c.self.inside.sizes c.self.inside.matches c.self.inside.clock.last c.self.inside.here c.self.inside.upto c.self.inside.floats c.args.self.now c.self.view_is c.requires.idle in
     let e = fresh_events c.args.count c.args.self.now fresh c.requires.events in
     let s = inner_stands c.self.inside.schema.value c.self.inside.query c.self.inside.matches c.self.inside.clock.last c.self.inside.here c.args.self.now i e.events e.stands in
     can_list c.self.inside.schema.value c.self.inside.query e.events c.self.inside.matches c.self.inside.clock.last c.self.inside.here s
@@ -25,7 +25,7 @@ pub returns-clause-rest : goal.returns-clause-rest
 returns-clause-rest g c =
     let same : c.self.inside.upto ≡ c.args.count = search rules in
     let fresh : c.args.self.now.upto ≡ c.args.count = ap (λ (p : Phase). p.upto) (sym c.self.view_is) ∙ same in
-    let i = idle_awake c.self.inside.schema.value c.self.inside.query c.self.inside.step c.self.inside.ready c.self.inside.matches c.self.inside.clock.last c.self.inside.here c.self.inside.upto c.self.inside.floats c.args.self.now c.self.view_is c.requires.idle in
+    let i = idle_awake c.self.inside.schema.value c.self.inside.query c.self.inside.step c.self.inside.ready c.self.inside.sizes c.self.inside.matches c.self.inside.clock.last c.self.inside.here c.self.inside.upto c.self.inside.floats c.args.self.now c.self.view_is c.requires.idle in
     let e = fresh_events c.args.count c.args.self.now fresh c.requires.events in
     let s = inner_stands c.self.inside.schema.value c.self.inside.query c.self.inside.matches c.self.inside.clock.last c.self.inside.here c.args.self.now i e.events e.stands in
     let small : SFits w128 c.low-2.result = search rules in

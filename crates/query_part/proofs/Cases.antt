@@ -4,7 +4,7 @@ use Rattle.std.specs.Prelude.{IfSome, IfNone, int_lt}
 use Rattle.std.proofs.Math.Nat.{pow-zero}
 use Rattle.std.proofs.lemmas.Int.{ints}
 use Rattle.std.proofs.lemmas.Bool.{cases_lt}
-use Rattle.std.proofs.lemmas.Option.{slice_get_within}
+use Rattle.std.proofs.lemmas.Option.{slice_get_within, slice_get-get_or}
 use Rattle.std.proofs.lemmas.List.Elements.{All-nil, All-contains, Contains-push_cases}
 use Rattle.cer_base.specs.Bits.{has}
 use Rattle.cer_base.specs.declared.node.Stamp.{Stamp}
@@ -25,26 +25,31 @@ use Rattle.event_update.specs.Still.{Rest, IsPatient}
 use Rattle.query_standing.proofs.Lists.{got}
 use Rattle.event_update.specs.Reach.{Seen}
 use Rattle.event_update.specs.Stands.{seen}
-use Rattle.event_update.specs.Update.{Discovers, rows_after, work_bound}
+use Rattle.event_update.specs.Update.{Discovers, rows_after, work_bound, accepted_entries}
+use Rattle.event_update.specs.declared.Staged.TheVariants.{Unchanged}
+use Rattle.tecs_enumerate.specs.Rest.{recent_of}
 use Rattle.event_update.proofs.Before.{can_advance}
 use Rattle.query_standing.specs.Bounds.{IsMet}
 use Rattle.query_standing.specs.Clocks.{Reads, HasClockAt, IsLastClock, FallsBack, least, low_of}
 use Rattle.query_standing.specs.Keys.{leaves_reading}
-use Rattle.query_standing.specs.Kept.{Rows, Part, low_at, PartStands}
+use Rattle.query_standing.specs.Kept.{Rows, Part, low_at, PartStands, roots_at}
+use Rattle.query_standing.specs.Holding.{answer_of}
 use Rattle.query_standing.specs.Steps.{Advances, OwnListsRest, HasKeyOf}
 use Rattle.query_standing.proofs.Growing.{all_earlier}
 use Rattle.query_standing.proofs.Grown.{some_at}
-use Rattle.query_standing.proofs.Parts.{part_unread}
+use Rattle.query_standing.proofs.Parts.{part_unread, part_gives}
 use Rattle.query_standing.proofs.Passing.{all_front, all_below}
 use Rattle.query_standing.proofs.PartSteps.{part_no_key, part_resting, part_keyed, part_with_key}
 use Rattle.query_standing.proofs.KeyCases.{at_one_place}
 use Rattle.query_standing.specs.Bounds.{update_bound}
 use Rattle.all_or_none.specs.Phases.{Grows, IsStep}
-use Rattle.query_part.specs.Matches.{Held, TakesKey, CanTake, IsReady}
+use Rattle.query_part.specs.Matches.{Held, TakesKey, CanTake, MayPass, IsReady}
 use Rattle.query_part.specs.Parts.{part_of, put_in}
 use Rattle.cea_determinise.specs.Det.{Table}
 use Rattle.query_part.proofs.Cuts.{mid_table, mid_nodes}
 use Rattle.query_part.proofs.Discovered.{discovered_met}
+use Rattle.query_part.proofs.Passed.{ready_passed}
+use Rattle.query_part.proofs.Giving.{roots_same}
 
 append_none : {X : Type 0} (xs : List X) → xs ++ [] ≡ xs
 append_none [] = refl
@@ -197,6 +202,51 @@ pub keyed_step : (schema : Declared) (q : Query) (event : Event) (position : ℕ
 keyed_step schema q event position low bits key number staged old new c n now reads clock fits has_key bits_are recent r = record {
   stands = λ events len time s. keyed_stands schema q events event (record { pos = position; clock = now }) low bits key number staged old new c n now reads (subst (λ p. HasClock schema q.window event p now) (sym len) clock) fits has_key bits_are (ap (λ p. record { pos = p; clock = now }) (sym len)) recent r time s;
   grows = keyed_grows schema q event (record { pos = position; clock = now }) low bits key number staged old new c n now reads r;
+}
+
+-- What is put back is what was there.
+set_back : {X : Type 0} (xs : List X) (n : ℕ) (d : X) → slice_set xs n (slice_index_or xs n d) ≡ xs
+set_back [] n d = refl
+set_back (x ∷ xs) zero d = refl
+set_back (x ∷ xs) (suc n) d = ap (λ zs. x ∷ zs) (set_back xs n d)
+
+-- Where no state of the last event's key accepts, that event has no answer, and its key need not be told.
+here_none : (schema : Declared) (q : Query) (events : List Event) (h : Held) (c : Option ℤ) (n : ℕ) → PartStands schema q events (part_of h c (Some n)) → accepted_entries h.table (slice_index_or h.rows n []) ≡ [] → PartStands schema q events (part_of h c None)
+here_none schema q events h c n s none = record {
+  states = s.states;
+  nodes = s.nodes;
+  starts = s.starts;
+  never_falls = s.never_falls;
+  clock = s.clock;
+  unread = s.unread;
+  keys = record {
+    distinct = s.keys.distinct;
+    others = λ key fresh. (let k = s.keys.others key fresh in record { seen = k.seen; are_seen = k.are_seen; stands = k.stands });
+    lists = s.keys.lists;
+  };
+  here = λ end answer ends is. (
+      let roots : roots_at q (part_of h c (Some n)) ≡ [] = sym (roots_same q h c (Some n) (Some n) s.states.automaton) ∙ none in
+      let given = part_gives schema q events end (part_of h c (Some n)) (omega arith) s in
+      let among = subst (λ rs. Contains (map answer_of (recent_of (low_at q c) h.nodes rs)) answer) roots (given.all answer is) in
+      let inside = among.1 in
+      omega arith
+      );
+  each = λ m key rows at lists. (let k = s.each m key rows at lists in record { taken = k.taken; passed = k.passed; are_seen = k.are_seen; silent = k.silent; patient = k.patient; stands = k.stands });
+  last = λ m key rows is at lists. (let none : None ≡ Some m = is in absurd cc);
+}
+
+-- one that passes the lists of its key, none of which accepts
+pub passed_step : (schema : Declared) (q : Query) (event : Event) (position : ℕ) (bits : List Bool) (key : List Value) (number : ℕ) (h : Held) (c : Option ℤ) (n : Option ℕ) (now : ℤ) → Reads schema q event → HasClock schema q.window event position now → least ≤ℤ low_of q.window now → HasKey schema q event key → has bits ≡ leaves_reading schema q event → slice_get h.keys number ≡ Some key → MayPass h number bits → IsStep schema q event position (part_of h c n) (part_of h (Some now) None)
+passed_step schema q event position bits key number h c n now reads clock fits has_key bits_are numbered p = record {
+  stands = λ events len time s. (
+      let now_is : HasClock schema q.window event (length events) now = subst (λ p. HasClock schema q.window event p now) (sym len) clock in
+      let ready = ready_passed h (record { pos = length events; clock = now }) (low_of q.window now) bits key number p.rows numbered p.at p.sound p.distinct s.nodes p.passed in
+      let after = keyed_stands schema q events event (record { pos = length events; clock = now }) (low_of q.window now) bits key number Unchanged h h c n now reads now_is fits has_key bits_are refl (omega (arith, ints)) ready time s in
+      let same : put_in number Unchanged h ≡ h = (λ i. record h { rows = set_back h.rows number [] i }) in
+      let rows : slice_index_or h.rows number [] ≡ p.rows = (let both = sym (slice_get-get_or h.rows number [] (slice_get_within h.rows number p.rows p.at)) ∙ p.at in cc) in
+      here_none schema q (events ++ event ∷ []) h (Some now) number (subst (λ g. PartStands schema q (events ++ event ∷ []) (part_of g (Some now) (Some number))) same after) (ap (accepted_entries h.table) rows ∙ p.none)
+      );
+  grows = nothing_new schema q event h c n (Some now) None;
 }
 
 -- the automaton is patient, or the lists of the event's key rest

@@ -24,10 +24,10 @@ use Rattle.query_part.specs.declared.matches.Ready.{Ready}
 use Rattle.query_part.specs.declared.matches.Sizes.{Sizes}
 use Rattle.query_part.specs.declared.part.Step.{Step}
 use Rattle.query_part.specs.KeyPlaces.{values_there, key_there, AreKeyPlaces}
-use Rattle.query_part.specs.Matches.{Held, HasKeyThere, OwnRest, Stays, IsOwnReady, HasOwnWorked}
+use Rattle.query_part.specs.Matches.{Held, HasKeyThere, OwnRest, MayPass, Stays, IsOwnReady, HasOwnWorked}
 use Rattle.query_part.specs.Parts.{part_of, kept_of, ready_of, put_in, clock_at, here_at, seen, Floats, MayBePatient, MayFloat, AreTypesRead}
 use Rattle.query_part.proofs.Prepare.{Idle, idle_fields, now_is, does_read, key_through, values_are}
-use Rattle.query_part.proofs.Cases.{no_key_step, resting_step, keyed_step}
+use Rattle.query_part.proofs.Cases.{no_key_step, resting_step, passed_step, keyed_step}
 use Rattle.query_part.proofs.Worked.{worked_within}
 use Rattle.query_part.proofs.Sleeping.{sleeper, reads_all, unread_bits, passes_step}
 
@@ -61,8 +61,12 @@ one_stays h table event bits patient places number here k quiet r = inr (inl (on
 
 -- where those of each key do, or the automaton is patient
 pub all_stay : (h : Held) (own : Option (List Value)) (bits : List Bool) (patient : Bool) → IsQuiet bits → (patient ≡ true) ⊎ All (Rest h.table) h.rows → Stays h own bits patient
-all_stay h own bits patient quiet (inl is) = inr (inr (quiet, is))
+all_stay h own bits patient quiet (inl is) = inr (inr (inl (quiet, is)))
 all_stay h own bits patient quiet (inr all) = inr (inl (record { quiet = quiet; rest = λ distinct key number rows is numbered at. All-contains (Rest h.table) h.rows rows all (got h.rows number rows at) }))
+
+-- where it passes those of its own key
+pub one_passes : (h : Held) (table : List (Option (List ℕ))) (event : Event) (bits : List Bool) (patient : Bool) (places : List ℕ) (number : ℕ) → slice_index_or table event.ty None ≡ Some places → HasKeyThere h places event.values number → MayPass h number bits → Stays h (key_there table event) bits patient
+one_passes h table event bits patient places number here k pass = inr (inr (inr (record { key = k.key; own_is = own_key table event places k.key here k.has; number = number; numbered = k.numbered; pass = pass })))
 
 -- It is taken by the clock alone.
 pub stays_step : (schema : Declared) (q : Query) (table : List (Option (List ℕ))) (bits : List Bool) (patient : Bool) (event : Event) (position : ℕ) (h : Held) (c : Option ℤ) (n : Option ℕ) (now : ℤ) → AreKeyPlaces schema q table → IsOfSchema schema event → Reads schema q event → HasClock schema q.window event position now → least ≤ℤ low_of q.window now → has bits ≡ leaves_reading schema q event → MayBePatient q patient → Stays h (key_there table event) bits patient → IsStep schema q event position (part_of h c n) (part_of h (Some now) None)
@@ -73,10 +77,12 @@ stays_step schema q table bits patient event position h c n now are of reads clo
     resting_step schema q event position h c n now reads clock fits
     (unread_bits bits (leaves_reading schema q event) bits_are own.quiet)
     (inr (λ events s key number rows k numbered at. own.rest s.keys.distinct key number rows (key_through schema q table event are of ∙ k.1) numbered at))
-stays_step schema q table bits patient event position h c n now are of reads clock fits bits_are may (inr (inr passes)) =
+stays_step schema q table bits patient event position h c n now are of reads clock fits bits_are may (inr (inr (inl passes))) =
     resting_step schema q event position h c n now reads clock fits
     (unread_bits bits (leaves_reading schema q event) bits_are passes.0)
     (inl (may passes.1))
+stays_step schema q table bits patient event position h c n now are of reads clock fits bits_are may (inr (inr (inr own))) =
+    passed_step schema q event position bits own.key own.number h c n now reads clock fits (reads, sym (key_through schema q table event are of) ∙ own.own_is) bits_are own.numbered own.pass
 
 -- It passes by, where the clock floats.
 pub stays_pass : (schema : Declared) (q : Query) (source : Source) (types : List Bool) (table : List (Option (List ℕ))) (bits : List Bool) (patient : Bool) (event : Event) (position : ℕ) (h : Held) (c : Option ℤ) (n : Option ℕ) (upto : ℕ) (floats : Bool) → floats ≡ true → upto ≤ position → MayBePatient q patient → MayFloat schema q source types floats → AreTypesRead schema q types → IsOf schema q.window source → AreKeyPlaces schema q table → IsOfSchema schema event → has bits ≡ leaves_reading schema q event → Stays h (key_there table event) bits patient → HasPassed event position (seen position (sleeper schema q h c n upto floats)) (seen (position + 1) (sleeper schema q h c n upto floats))

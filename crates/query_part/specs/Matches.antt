@@ -53,9 +53,26 @@ pub record OwnRest (h : Held) (own : Option (List Value)) (bits : List Bool) : T
   pub quiet : IsQuiet bits
   pub rest : HasNoRepeats h.keys → (key : List Value) (number : ℕ) (rows : Rows) → own ≡ Some key → slice_get h.keys number ≡ Some key → slice_get h.rows number ≡ Some rows → Rest h.table rows
 
--- The event leaves all lists as they are: it has no key, or no leaf can read it and the lists of its key rest or the automaton is patient.
+-- Events of these leaves pass the lists of the key of this number, and no state of them accepts.
+pub record MayPass (h : Held) (number : ℕ) (bits : List Bool) : Type 0 where
+  pub rows : Rows
+  pub at : slice_get h.rows number ≡ Some rows
+  pub passed : ArePassed h.table bits rows
+  pub none : accepted_entries h.table rows ≡ []
+  pub sound : IsSound h.table
+  pub distinct : IsDistinct are_same_sets h.table.states
+
+-- The event passes the lists of its key, which is there, and no state of them accepts.
+pub record OwnPass (h : Held) (own : Option (List Value)) (bits : List Bool) : Type 0 where
+  pub key : List Value
+  pub own_is : own ≡ Some key
+  pub number : ℕ
+  pub numbered : slice_get h.keys number ≡ Some key
+  pub pass : MayPass h number bits
+
+-- The event leaves all lists as they are: it has no key, or no leaf can read it and the lists of its key rest or the automaton is patient, or it passes the lists of its key.
 abbrev pub Stays : Held → Option (List Value) → List Bool → Bool → Type 0
-Stays h own bits patient = (own ≡ None) ⊎ (OwnRest h own bits ⊎ (IsQuiet bits × (patient ≡ true)))
+Stays h own bits patient = (own ≡ None) ⊎ (OwnRest h own bits ⊎ ((IsQuiet bits × (patient ≡ true)) ⊎ OwnPass h own bits))
 
 -- no open match, and no state met
 abbrev pub none_open : Cea → Held

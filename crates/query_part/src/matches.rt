@@ -17,7 +17,7 @@ ghost use Rattle.union_lists.specs.Lists.{IsUnionList};
 ghost use Rattle.arena_compact.specs.Roots.{places};
 ghost use Rattle.arena_compact.specs.Compacted.{least_of, roots_of, Compacted, KeysCompacted, CursorCompacted};
 ghost use Rattle.query_part.specs.Compacting.{HasStatesOnce};
-ghost use Rattle.query_part.specs.Matches.{Held, MayRest, awake_in, AreStill, HasKeyThere, HasBegun, none_open, cut, CanCut, AreSizes, TakesKey, CanTake, IsReady, HasWorked, CanList, entries_for};
+ghost use Rattle.query_part.specs.Matches.{Held, MayRest, awake_in, AreStill, HasKeyThere, HasBegun, MayPass, none_open, cut, CanCut, AreSizes, TakesKey, CanTake, IsReady, HasWorked, CanList, entries_for};
 
 use crate::lists::{Lists, is_unchanged, look_over, note, put_lists, states_once};
 use arena_compact::{HasCursor, Room, compact};
@@ -196,6 +196,18 @@ impl Matches {
         self.lists[number as usize].rests && bits.is_empty()
     }
 
+    /// Whether events of these leaves are known to leave the lists of the key of this number as they are,
+    /// and no state of them accepts, so that one may pass. It takes no step.
+    pub fn lets_own_pass(&self, number: u64, bits: &Bits) -> bool
+        requires { number < length self.now.rows }
+        ensures { result ≡ true → MayPass self.now number bits.now }
+    {
+        let _sizes = self.det.sizes();
+        let _found = self.det.found();
+        let lists = &self.lists[number as usize];
+        lists.let_pass(bits) && !some_accepts(&lists.active, &self.det)
+    }
+
     /// Works out the lists of the key of this number after an event of it. After `Memory` there is
     /// what there was at the sizes.
     fn work<L: Ledger>(
@@ -294,8 +306,7 @@ impl Matches {
         self.work(sizes, number, bits, stamp, low, steps)
     }
 
-    /// The same for the key of this number, which is there. Where events of the same leaves are known to
-    /// leave its lists as they are, it takes no step.
+    /// The same for the key of this number, which is there.
     pub fn advance_at<L: Ledger>(
         &mut self,
         sizes: &mut Sizes,
@@ -321,13 +332,6 @@ impl Matches {
             → HasWorked bits.now key self.old steps.old steps.new }
     {
         *sizes = self.sizes();
-        let _found = self.det.found();
-        if self.lists[number as usize].let_pass(bits) {
-            return Ok(Ready {
-                number,
-                staged: Staged::Unchanged,
-            });
-        }
         match self.work(sizes, number, bits, stamp, low, steps) {
             Ok(ready) => {
                 self.learn(ready.number, bits, &ready.staged);

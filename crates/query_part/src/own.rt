@@ -38,8 +38,9 @@ fn known(matches: &Matches, table: &[Option<Places>], whole: bool, event: &Event
 }
 
 /// Works out the lists of the event's key, by the set of the leaves that can read the event. `None`
-/// where no list changes: where it has no key, and where no leaf can read it and its key's lists are
-/// known to rest, or the automaton is told to be patient. It is told whether the query has no
+/// where no list changes: where it has no key, where no leaf can read it and its key's lists are known
+/// to rest, or the automaton is told to be patient, and where it is known to pass its key's lists, none
+/// of which accepts. It is told whether the query has no
 /// partition. After `Memory` nothing has changed. Where some list may change, the sizes are then those
 /// from before.
 #[inline(always)]
@@ -79,6 +80,9 @@ pub fn advance_own<L: Ledger>(
     }
     if let Some(number) = known(matches, table, whole, event) {
         if matches.resting(number, bits) {
+            return Ok(None);
+        }
+        if matches.lets_own_pass(number, bits) {
             return Ok(None);
         }
         let ready = matches.advance_at(sizes, number, bits, stamp, low, steps)?;

@@ -41,7 +41,7 @@ pub enum Step {
     /// It is not read.
     Unread,
     /// It changes no list: it has no key, or no leaf can read it and its key's lists rest or the
-    /// automaton is patient. Its clock.
+    /// automaton is patient, or it passes its key's lists, none of which accepts. Its clock.
     NoChange(i128),
     /// It has a key, whose lists are ready. Its clock.
     Keyed(i128),

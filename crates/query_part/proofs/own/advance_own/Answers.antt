@@ -1,5 +1,5 @@
 use Rattle.std.proofs.Common.{◌≡◌, true, rules, inr, refl}
-use Rattle.query_part.proofs.OwnKey.{own_key, one_stays}
+use Rattle.query_part.proofs.OwnKey.{own_key, one_stays, one_passes}
 use Rattle.query_part.proofs.own.advance_own.Goals as goal
 
 pub returns-then-resting-clause-stays : goal.returns-then-resting-clause-stays
@@ -7,6 +7,12 @@ returns-then-resting-clause-stays g c =
     let k = c.in-Some.ensures in
     let known : c.resting.result ≡ true = search rules in
     (refl, refl, one_stays c.args.matches.now c.args.table.now c.args.event.now c.args.bits.now c.args.patient k.0 c.in-Some.number k.1 k.2 (c.resting.ensures.quiet known) (c.resting.ensures.rest known))
+
+pub returns-then-lets_own_pass-clause-stays : goal.returns-then-lets_own_pass-clause-stays
+returns-then-lets_own_pass-clause-stays g c =
+    let k = c.in-Some.ensures in
+    let known : c.lets_own_pass.result ≡ true = search rules in
+    (refl, refl, one_passes c.args.matches.now c.args.table.now c.args.event.now c.args.bits.now c.args.patient k.0 c.in-Some.number k.1 k.2 (c.lets_own_pass.ensures known))
 
 pub returns-in_err-ready-clause-worked : goal.returns-in_err-ready-clause-worked
 returns-in_err-ready-clause-worked g c =

@@ -7,7 +7,7 @@ use Rattle.std.proofs.lemmas.Option.{slice_get_within, slice_get-get_or, slice_g
 use Rattle.std.proofs.lemmas.List.{get_or-take}
 use Rattle.stream_schema.specs.declared.Event.{Event}
 use Rattle.query_standing.specs.Kept.{roots_at}
-use Rattle.all_or_none.specs.Phases.{Phase, HasPassed, IsSet, IsTaken, is_among, AreRising, AreSet, MayAnswer}
+use Rattle.all_or_none.specs.Phases.{Phase, HasPassed, IsPrepared, IsTaken, is_among, AreRising, AreSet, MayAnswer}
 use Rattle.all_or_none.proofs.Numbers.{read_other, read_there, as_long, among_next, among_at, found_at}
 
 pub record HasCommitted {P : Type 0} (before after : P → Phase) (event : Event) (position : ℕ) (numbers : List ℕ) (old new : List P) : Type 0 where
@@ -60,8 +60,8 @@ module _ {P : Type 0} (before after : P → Phase) (event : Event) (position : �
   as_it_was : (d : P) → slice_get old (n - 1) ≡ Some (slice_index_or cur (n - 1) d)
   as_it_was d = sym (h.left (n - 1) first_time) ∙ slice_get-get_or cur (n - 1) d next_within
 
-  pub next_set : (d : P) → IsSet event position (before (slice_index_or cur (n - 1) d)) (after (slice_index_or cur (n - 1) d))
-  next_set d =
+  pub next_prepared : (d : P) → IsPrepared event position (before (slice_index_or cur (n - 1) d))
+  next_prepared d =
       let at = as_it_was d in
       set.named (n - 1) (slice_index_or cur (n - 1) d) (slice_get_within old (n - 1) (slice_index_or cur (n - 1) d) at) at (subst (λ m. is_among numbers m ≡ true) (sym back_again) is_listed)
 

@@ -1,14 +1,14 @@
 -- A walk over the marked parts: between two of them each part rests, and the event passes it by.
-use Rattle.std.proofs.Common.{◌≡◌, refl, sym, ap, subst, ◌∙◌, ℕ, zero, suc, ◌+◌, ◌-◌, ◌<◌, ◌≤◌, inl, inr, Bool, true, false, ◌||◌, eqb, List, [], ◌∷◌, ◌++◌, length, map, take, take_all, drop, All, Some, None, slice_get, slice_index_or, slice_set, arith}
+use Rattle.std.proofs.Common.{◌≡◌, refl, sym, ap, subst, ◌∙◌, ℕ, zero, suc, ◌+◌, ◌-◌, ◌<◌, ◌≤◌, ◌⊎◌, inl, inr, Bool, true, false, ◌||◌, eqb, List, [], ◌∷◌, ◌++◌, length, map, take, take_all, drop, All, Some, None, slice_get, slice_index_or, slice_set, arith}
 use Rattle.std.specs.Prelude.{sum_by}
 use Rattle.std.specs.List.{AllZip}
-use Rattle.std.proofs.lemmas.Bool.{cases_lt, eqb-true, eq-eqb, false≢true, or_cases, or_left, or_right}
+use Rattle.std.proofs.lemmas.Bool.{cases_lt, cases_eq, eqb-true, eq-eqb, false≢true, or_cases, or_left, or_right}
 use Rattle.std.proofs.lemmas.Option.{slice_get-get_or}
 use Rattle.std.proofs.lemmas.List.Elements.{All-nil, All-cons, All-head, All-tail, All-map}
 use Rattle.std.proofs.lemmas.List.Sums.{sum_by-cons}
 use Rattle.stream_schema.specs.declared.Event.{Event}
 use Rattle.cer_base.specs.Bits.{has}
-use Rattle.all_or_none.specs.Phases.{Phase, IsIdle, CanPrepare, HasPassed, IsNoted, back, is_among, AreSet, IsTaken, Rests, AreLeft, AreUnread, AreUntouched, AreOfMarked, AreOfEither, AreBack}
+use Rattle.all_or_none.specs.Phases.{Phase, IsIdle, CanPrepare, HasPassed, IsNoted, back, is_among, AreSet, IsTaken, Rests, AreLeft, IsUnread, AreUnread, AreUntouched, IsUnchanged, AreUnchanged, AreOfMarked, AreBack}
 use Rattle.all_or_none.proofs.LoopTurn.{same_next, left_next, all_mapped}
 use Rattle.all_or_none.proofs.BothPhases.{map_map}
 use Rattle.all_or_none.proofs.Numbers.{read_other, read_there, as_long, among_push, set_none, set_next}
@@ -206,28 +206,43 @@ module _ {P : Type 0} (k : ℕ) (phase : ℕ → P → Phase) (marked : List Boo
     ];
   }
 
--- After the event each part that is not among those awake rests: of the numbers' parts that was looked at, and the others are as they were.
-pub left_after : {P : Type 0} (phase : ℕ → P → Phase) (count : ℕ) (marked read before awake : List Bool) (numbers : List ℕ) (old new : List P) → All (λ p. (phase (count + 1) p).upto ≤ count + 1) new → AreUntouched marked old new → AreLeft phase count marked old → AreOfEither marked before read → ((k : ℕ) → k < length new → has marked k ≡ true → has read k ≡ true → is_among numbers (k + 1) ≡ true) → ((k : ℕ) (p : P) → slice_get new k ≡ Some p → is_among numbers (k + 1) ≡ true → has awake k ≡ false → Rests (λ n. phase n p)) → ((k : ℕ) → is_among numbers (k + 1) ≡ false → has awake k ≡ has before k) → AreLeft phase (count + 1) awake new
-left_after phase count marked read before awake numbers old new known same left either listed rest stay = record { known = known; others = λ k p at out. by k p at out (is_among numbers (k + 1)) refl (has marked k) refl }
+-- a part that is what it was rests as it did
+rests_as : {P : Type 0} (phase : ℕ → P → Phase) (old new : P) → IsUnchanged phase old new → Rests (λ n. phase n old) → Rests (λ n. phase n new)
+rests_as phase old new same h = record {
+  passes = λ event position. subst (λ a. a.upto ≤ position → IsIdle a → CanPrepare event position a → IsUnread event a → HasPassed event position a (phase (position + 1) new)) (sym (same position))
+      (subst (λ b. (phase position old).upto ≤ position → IsIdle (phase position old) → CanPrepare event position (phase position old) → IsUnread event (phase position old) → HasPassed event position (phase position old) b) (sym (same (position + 1))) (h.passes event position));
+}
+
+-- each part that is not among more numbers rests where it is not among fewer
+pub left_more : {P : Type 0} (phase : ℕ → P → Phase) (count : ℕ) (awake marked : List Bool) (parts : List P) → ((k : ℕ) → has awake k ≡ true → has marked k ≡ true) → AreLeft phase count awake parts → AreLeft phase count marked parts
+left_more phase count awake marked parts among left = record { known = left.known; others = λ k p at out. left.others k p at (by k out (has awake k) refl) }
   where
-    by : (k : ℕ) (p : _) → slice_get new k ≡ Some p → has awake k ≡ false → (b : Bool) → is_among numbers (k + 1) ≡ b → (m : Bool) → has marked k ≡ m → Rests (λ n. phase n p)
-    by k p at out true among m is = rest k p at among out
-    by k p at out false among false is = left.others k p (sym (same k is) ∙ at) is
-    by k p at out false among true is = elim (or_cases (has before k) (has read k) (either k is)) [
-      | inl was ↦ absurd (false≢true (sym out ∙ (stay k among ∙ was)))
-      | inr reads ↦ absurd (false≢true (sym among ∙ listed k (get_within new k p at) is reads))
-    ]
+    by : (k : ℕ) → has marked k ≡ false → (b : Bool) → has awake k ≡ b → has awake k ≡ false
+    by k out false e = e
+    by k out true e = absurd (false≢true (sym out ∙ among k e))
+
+-- After the event each part that is not among those awake rests: of the numbers' parts that was looked at, and the others are as they were.
+pub left_after : {P : Type 0} (phase : ℕ → P → Phase) (count : ℕ) (before awake : List Bool) (numbers : List ℕ) (old prepared new : List P) → length prepared ≡ length old → All (λ p. (phase (count + 1) p).upto ≤ count + 1) new → AreLeft phase count before old → AreUnchanged phase numbers old prepared → ((k : ℕ) → is_among numbers (k + 1) ≡ false → slice_get new k ≡ slice_get prepared k) → ((k : ℕ) (p : P) → slice_get new k ≡ Some p → is_among numbers (k + 1) ≡ true → has awake k ≡ false → Rests (λ n. phase n p)) → ((k : ℕ) → is_among numbers (k + 1) ≡ false → has awake k ≡ has before k) → AreLeft phase (count + 1) awake new
+left_after phase count before awake numbers old prepared new long known left unchanged others rest stay = record { known = known; others = λ k p at out. by k p at out (is_among numbers (k + 1)) refl }
+  where
+    by : (k : ℕ) (p : _) → slice_get new k ≡ Some p → has awake k ≡ false → (b : Bool) → is_among numbers (k + 1) ≡ b → Rests (λ n. phase n p)
+    by k p at out true among = rest k p at among out
+    by k p at out false among =
+        let is = sym (others k among) ∙ at in
+        let less = get_within prepared k p is in
+        let was = there old k (omega arith) in
+        rests_as phase was.0 p (unchanged k was.0 p was.1 is among) (left.others k was.0 was.1 (sym (stay k among) ∙ out))
 
 -- and after a refusal, where the marked ones stay awake
-pub left_again : {P : Type 0} (phase : ℕ → P → Phase) (count : ℕ) (marked before awake : List Bool) (old new : List P) → map (phase count) new ≡ map (phase count) old → AreUntouched marked old new → AreLeft phase count marked old → ((k : ℕ) → has awake k ≡ (has before k || has marked k)) → AreLeft phase count awake new
+pub left_again : {P : Type 0} (phase : ℕ → P → Phase) (count : ℕ) (marked before awake : List Bool) (old new : List P) → map (phase count) new ≡ map (phase count) old → AreUntouched marked old new → AreLeft phase count before old → ((k : ℕ) → has awake k ≡ (has before k || has marked k)) → AreLeft phase count awake new
 left_again phase count marked before awake old new unchanged same left members = record {
   known = all_mapped (λ (p : Phase). p.upto ≤ count) (phase count) new (subst (All (λ (p : Phase). p.upto ≤ count)) (sym unchanged) (All-map (λ (p : Phase). p.upto ≤ count) (phase count) old left.known));
-  others = λ k p at out. (let unmarked = second (has before k) (has marked k) (sym (members k) ∙ out) in left.others k p (sym (same k unmarked) ∙ at) unmarked);
+  others = λ k p at out. (let neither = both (has before k) (has marked k) (sym (members k) ∙ out) in left.others k p (sym (same k neither.1) ∙ at) neither.0);
 }
   where
-    second : (a b : Bool) → (a || b) ≡ false → b ≡ false
-    second true b e = absurd (false≢true (sym e))
-    second false b e = e
+    both : (a b : Bool) → (a || b) ≡ false → (a ≡ false) × (b ≡ false)
+    both true b e = absurd (false≢true (sym e))
+    both false b e = (refl, e)
 
 taken_upto : (event : Event) (position : ℕ) (o n : Phase) → IsTaken event position o n → o.upto ≤ position → n.upto ≤ position + 1
 taken_upto event position o n (inl done) le = let e = done.1.upto in omega arith
@@ -256,14 +271,6 @@ known_after phase event position at_first prepared new kept taken known =
     all_mapped (λ (p : Phase). p.upto ≤ position + 1) (phase (position + 1)) new
     (taken_all event position (map (phase position) prepared) (map (phase (position + 1)) new) taken
     (back_upto position (map (phase position) at_first) (map (phase position) prepared) (sym (map_map back (phase position) prepared) ∙ (kept ∙ map_map back (phase position) at_first)) (All-map (λ (p : Phase). p.upto ≤ position) (phase position) at_first known)))
-
--- the parts that are not among the numbers commit nothing
-pub untouched_all : {P : Type 0} (marked : List Bool) (numbers : List ℕ) (old prepared new : List P) → AreOfMarked marked numbers → AreUntouched marked old prepared → ((k : ℕ) → is_among numbers (k + 1) ≡ false → slice_get new k ≡ slice_get prepared k) → AreUntouched marked old new
-untouched_all marked numbers old prepared new listed same others k unmarked = by (is_among numbers (k + 1)) refl
-  where
-    by : (b : Bool) → is_among numbers (k + 1) ≡ b → slice_get new k ≡ slice_get old k
-    by false e = others k e ∙ same k unmarked
-    by true e = absurd (false≢true (sym unmarked ∙ listed k e))
 
 -- after a refusal each part is as it was
 pub unchanged_after : {P : Type 0} (phase : ℕ → P → Phase) (position : ℕ) (marked : List Bool) (at_first prepared new : List P) → All (λ p. IsIdle (phase position p)) at_first → map (λ p. back (phase position p)) prepared ≡ map (λ p. back (phase position p)) at_first → AreUntouched marked at_first prepared → AreBack phase marked prepared new → map (phase position) new ≡ map (phase position) at_first
@@ -307,32 +314,30 @@ has_within [] k is = absurd (false≢true is)
 has_within (b ∷ bs) zero is = omega arith
 has_within (b ∷ bs) (suc k) is = let r = has_within bs k is in omega arith
 
-none_between : (marked : List Bool) (from k j : ℕ) → ((i : ℕ) → from ≤ i → i < k → has marked i ≡ false) → j < k → has marked j ≡ true → j < from
-none_between marked from k j first less is = elim (cases_lt j from) [
-  | inl low ↦ low
-  | inr high ↦ absurd (false≢true (sym (first j high less) ∙ is))
-]
-
--- of the first so many, the marked ones that are read are among the numbers
-abbrev pub HaveListed : List Bool → List Bool → List ℕ → ℕ → Type 0
-HaveListed marked read numbers k = (j : ℕ) → j < k → has marked j ≡ true → has read j ≡ true → is_among numbers (j + 1) ≡ true
-
 still_among : (event : Event) (position number : ℕ) (before after : Phase) (numbers more : List ℕ) (m : ℕ) → IsNoted event position number before after numbers more → is_among numbers m ≡ true → is_among more m ≡ true
 still_among event position number before after numbers more m (inl noted) was = subst (λ ns. is_among ns m ≡ true) (sym noted.1) (among_push numbers number m ∙ or_left (is_among numbers m) (eqb number m) was)
 still_among event position number before after numbers more m (inr passed) was = subst (λ ns. is_among ns m ≡ true) (sym passed.1) was
 
--- and of one more
-pub listed_next : (marked read : List Bool) (event : Event) (position : ℕ) (before after : Phase) (numbers more : List ℕ) (from k : ℕ) (reads : Bool) → reads ≡ has read k → ((i : ℕ) → from ≤ i → i < k → has marked i ≡ false) → IsNoted event position (k + 1) before after numbers more → (reads ≡ true → more ≡ numbers ++ (k + 1) ∷ []) → HaveListed marked read numbers from → HaveListed marked read more (k + 1)
-listed_next marked read event position before after numbers more from k reads told first noted listed h j less is does = elim (cases_lt j k) [
-  | inl low ↦ still_among event position (k + 1) before after numbers more (j + 1) noted (h j (none_between marked from k j first low is) is does)
-  | inr high ↦ (
-      let same : j ≡ k = omega arith in
-      let last : k + 1 ≡ j + 1 = omega arith in
-      let new = listed (told ∙ (ap (has read) (sym same) ∙ does)) in
-      subst (λ ns. is_among ns (j + 1) ≡ true) (sym new) (among_push numbers (k + 1) (j + 1) ∙ or_right (is_among numbers (j + 1)) (eqb (k + 1) (j + 1)) (eq-eqb (k + 1) (j + 1) last))
-      )
+-- where one part more is prepared, or the event passes it by
+pub unchanged_next : {P : Type 0} (phase : ℕ → P → Phase) (event : Event) (position k : ℕ) (numbers more : List ℕ) (old cur : List P) (v d : P) → IsNoted event position (k + 1) (phase position v) (phase (position + 1) v) numbers more → (more ≡ numbers ++ (k + 1) ∷ []) ⊎ IsUnchanged phase (slice_index_or cur k d) v → k < length cur → drop k cur ≡ drop k old → AreUnchanged phase numbers old cur → AreUnchanged phase more old (slice_set cur k v)
+unchanged_next phase event position k numbers more old cur v d noted left inside ahead h j o n at is out = elim (cases_eq j k) [
+  | inl same ↦ here same left
+  | inr other ↦ h j o n at (sym (read_other cur k j v other) ∙ is) (was (is_among numbers (j + 1)) refl)
 ]
+  where
+    was : (b : Bool) → is_among numbers (j + 1) ≡ b → is_among numbers (j + 1) ≡ false
+    was false e = e
+    was true e = absurd (false≢true (sym out ∙ still_among event position (k + 1) (phase position v) (phase (position + 1) v) numbers more (j + 1) noted e))
 
--- all of them
-pub listed_all : (marked read : List Bool) (numbers : List ℕ) (from count : ℕ) → ((i : ℕ) → from ≤ i → i < count → has marked i ≡ false) → HaveListed marked read numbers from → (k : ℕ) → k < count → has marked k ≡ true → has read k ≡ true → is_among numbers (k + 1) ≡ true
-listed_all marked read numbers from count none h k less is does = h k (none_between marked from count k none less is) is does
+    here : j ≡ k → (more ≡ numbers ++ (k + 1) ∷ []) ⊎ IsUnchanged phase (slice_index_or cur k d) v → IsUnchanged phase o n
+    here same (inl pushed) =
+        let last : k + 1 ≡ j + 1 = omega arith in
+        absurd (false≢true (sym out ∙ (ap (λ ns. is_among ns (j + 1)) pushed ∙ (among_push numbers (k + 1) (j + 1) ∙ or_right (is_among numbers (j + 1)) (eqb (k + 1) (j + 1)) (eq-eqb (k + 1) (j + 1) last)))))
+    here same (inr as_was) =
+        let new : n ≡ v = read_there cur k v n (subst (λ i. slice_get (slice_set cur k v) i ≡ Some n) same is) in
+        let first : slice_index_or cur k d ≡ o = at_ahead cur old k d o inside ahead (subst (λ i. slice_get old i ≡ Some o) same at) in
+        λ count. ap (phase count) new ∙ (as_was count ∙ ap (phase count) first)
+
+-- no part changed yet
+pub unchanged_none : {P : Type 0} (phase : ℕ → P → Phase) (numbers : List ℕ) (xs : List P) → AreUnchanged phase numbers xs xs
+unchanged_none phase numbers xs k o n at is out = let same : n ≡ o = (let both = sym is ∙ at in cc) in λ count. ap (phase count) same

@@ -5,7 +5,7 @@ use Rattle.std.proofs.lemmas.List.{get_or_append_left, get_or_push}
 use Rattle.std.proofs.lemmas.List.Folds.{list_any-append, list_any_more}
 use Rattle.stream_schema.specs.declared.Event.{Event}
 use Rattle.query_standing.proofs.Parts.{length_more}
-use Rattle.all_or_none.specs.Phases.{Phase, HasPassed, IsSet, IsNoted, is_among, AreRising, AreSet}
+use Rattle.all_or_none.specs.Phases.{Phase, HasPassed, IsPrepared, IsNoted, is_among, AreRising, AreSet}
 
 -- what is read of a list in which an element was written
 pub read_other : {A : Type 0} (xs : List A) (i j : ℕ) (x : A) → (j ≡ i → ⊥) → slice_get (slice_set xs i x) j ≡ slice_get xs j
@@ -102,13 +102,13 @@ module _ {P : Type 0} (before after : P → Phase) (event : Event) (position k :
     | inr new ↦ (let same = eqb-true (k + 1) n new in (omega arith, omega arith))
   ]
 
-  set_noted : IsSet event position (before v) (after v) → AreSet before after event position (k + 1) (numbers ++ (k + 1) ∷ []) (slice_set xs k v)
+  set_noted : IsPrepared event position (before v) → AreSet before after event position (k + 1) (numbers ++ (k + 1) ∷ []) (slice_set xs k v)
   set_noted here = record {
     rising = rising_push numbers (k + 1) h.rising (λ m among. (let high = (h.within m among).1 in omega arith));
     within = noted_within;
     named = λ j p less at among. elim (cases_lt j k) [
       | inl low ↦ h.named j p low (sym (read_other xs k j v (λ same. omega arith)) ∙ at) (was_among j low among)
-      | inr high ↦ (let same : j ≡ k = omega arith in subst (λ z. IsSet event position (before z) (after z)) (sym (read_there xs k v p (subst (λ i. slice_get (slice_set xs k v) i ≡ Some p) same at))) here)
+      | inr high ↦ (let same : j ≡ k = omega arith in subst (λ z. IsPrepared event position (before z)) (sym (read_there xs k v p (subst (λ i. slice_get (slice_set xs k v) i ≡ Some p) same at))) here)
     ];
     others = λ j p less at among. elim (cases_lt j k) [
       | inl low ↦ h.others j p low (sym (read_other xs k j v (λ same. omega arith)) ∙ at) (was_other j among)

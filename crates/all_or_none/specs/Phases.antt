@@ -1,5 +1,5 @@
 -- One event over the parts of several queries, in two phases.
-use Rattle.std.specs.Prelude.{◌≡◌, ◌≢◌, ℕ, ◌+◌, ◌<◌, ◌≤◌, ◌==◌, ◌⊎◌, ℤ, Bool, true, false, ◌||◌, List, [], ◌∷◌, ◌++◌, length, All, Option, Some, None, IsSomeAnd, slice_get, slice_index_or}
+use Rattle.std.specs.Prelude.{◌≡◌, ◌≢◌, ℕ, ◌+◌, ◌<◌, ◌≤◌, ◌==◌, ◌⊎◌, ℤ, Bool, true, false, List, [], ◌∷◌, ◌++◌, length, All, Option, Some, None, IsSomeAnd, slice_get, slice_index_or}
 use Rattle.std.specs.List.{AllZip, list_any}
 use Rattle.stream_schema.specs.Types.{Declared}
 use Rattle.stream_schema.specs.Events.{IsOfSchema}
@@ -70,13 +70,9 @@ pub record HasPassed (event : Event) (position : ℕ) (old new : Phase) : Type 0
   pub upto : new.upto ≡ old.upto
   pub step : IsStep old.schema old.query event position old.kept new.kept
 
--- It is prepared for the event, or may be left as it is.
-abbrev pub IsSet : Event → ℕ → Phase → Phase → Type 0
-IsSet event position old new = IsPrepared event position old ⊎ HasPassed event position old new
-
--- Its number is put in last, or the event may pass it by.
+-- It is prepared for the event and its number is put in last, or the event passes it by.
 abbrev pub IsNoted : Event → ℕ → ℕ → Phase → Phase → List ℕ → List ℕ → Type 0
-IsNoted event position number before after old new = (IsSet event position before after × (new ≡ old ++ number ∷ [])) ⊎ (HasPassed event position before after × (new ≡ old))
+IsNoted event position number before after old new = (IsPrepared event position before × (new ≡ old ++ number ∷ [])) ⊎ (HasPassed event position before after × (new ≡ old))
 
 -- whether the number is among these
 abbrev pub is_among : List ℕ → ℕ → Bool
@@ -86,11 +82,11 @@ is_among numbers number = list_any (λ n. n == number) numbers
 abbrev pub AreRising : List ℕ → Type 0
 AreRising numbers = (i j : ℕ) → i < j → j < length numbers → slice_index_or numbers i 0 < slice_index_or numbers j 0
 
--- The numbers, from 1 and rising, are of the first so many parts, with those of all that are prepared; the event may pass by the others.
+-- The numbers, from 1 and rising, are those of the first so many parts that are prepared; the event passes by the others.
 pub record AreSet {P : Type 0} (before after : P → Phase) (event : Event) (position count : ℕ) (numbers : List ℕ) (parts : List P) : Type 0 where
   pub rising : AreRising numbers
   pub within : (n : ℕ) → is_among numbers n ≡ true → (1 ≤ n) × (n ≤ count)
-  pub named : (k : ℕ) (p : P) → k < count → slice_get parts k ≡ Some p → is_among numbers (k + 1) ≡ true → IsSet event position (before p) (after p)
+  pub named : (k : ℕ) (p : P) → k < count → slice_get parts k ≡ Some p → is_among numbers (k + 1) ≡ true → IsPrepared event position (before p)
   pub others : (k : ℕ) (p : P) → k < count → slice_get parts k ≡ Some p → is_among numbers (k + 1) ≡ false → HasPassed event position (before p) (after p)
 
 -- The numbers, from 1 and rising, are those of parts, and no part but these may have an answer.
@@ -148,13 +144,17 @@ AreRead phase event read leaves parts = (k : ℕ) (p : _) → slice_get parts k 
 abbrev pub AreUntouched : {P : Type 0} → List Bool → List P → List P → Type 0
 AreUntouched marked old new = (k : ℕ) → has marked k ≡ false → slice_get new k ≡ slice_get old k
 
+-- after each number of events the part is what it was
+abbrev pub IsUnchanged : {P : Type 0} → (ℕ → P → Phase) → P → P → Type 0
+IsUnchanged phase old new = (count : ℕ) → phase count new ≡ phase count old
+
+-- the parts whose numbers, from 1, are not among these are unchanged
+abbrev pub AreUnchanged : {P : Type 0} → (ℕ → P → Phase) → List ℕ → List P → List P → Type 0
+AreUnchanged phase numbers old new = (k : ℕ) (o n : _) → slice_get old k ≡ Some o → slice_get new k ≡ Some n → is_among numbers (k + 1) ≡ false → IsUnchanged phase o n
+
 -- the numbers, from 1, are of parts that are in the set
 abbrev pub AreOfMarked : List Bool → List ℕ → Type 0
 AreOfMarked marked numbers = (k : ℕ) → is_among numbers (k + 1) ≡ true → has marked k ≡ true
-
--- each number of the first set is in one of the others
-abbrev pub AreOfEither : List Bool → List Bool → List Bool → Type 0
-AreOfEither marked awake read = (k : ℕ) → has marked k ≡ true → (has awake k || has read k) ≡ true
 
 -- The parts that are in the set are taken back, and the others are as they were.
 pub record AreBack {P : Type 0} (phase : ℕ → P → Phase) (marked : List Bool) (old new : List P) : Type 0 where

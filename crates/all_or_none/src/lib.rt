@@ -9,12 +9,12 @@
 //! It stands on `query_standing`.
 #![tactic(auto)]
 
-ghost use Rattle.std.specs.Prelude.{◌≡◌, ◌≢◌, ℕ, ◌+◌, ◌^◌, ◌<◌, ◌≤◌, true, false, List, [], ◌∷◌, ◌++◌, length, map, sum_by, All, Some, slice_get, IfSome, IfNone, IfOk, OnOk, OnErr};
+ghost use Rattle.std.specs.Prelude.{◌≡◌, ◌≢◌, ℕ, ◌+◌, ◌^◌, ◌<◌, ◌≤◌, ◌⊎◌, true, false, List, [], ◌∷◌, ◌++◌, length, map, sum_by, All, Some, slice_get, IfSome, IfNone, IfOk, OnOk, OnErr};
 ghost use Rattle.std.specs.List.{AllZip};
 ghost use Rattle.cer_base.specs.Bits.{has};
 ghost use Rattle.stream_schema.specs.declared.Event.{Event};
 ghost use Rattle.query_standing.specs.Bounds.{update_bound};
-ghost use Rattle.all_or_none.specs.Phases.{Phase, CanPrepare, IsPrepared, IsIdle, IsQuiet, back, HasPassed, Rests, AreLeft, AreLeavesRead, AreRead, IsUnread, AreUnread, AreUntouched, AreOfMarked, AreOfEither, AreBack, IsSet, IsNoted, is_among, AreSet, MayAnswer, IsTaken, IsWithin, StandsAt, InTime, ready_bound, kept_bound, AreBounded, HasGrown};
+ghost use Rattle.all_or_none.specs.Phases.{Phase, CanPrepare, IsPrepared, IsCommitted, IsIdle, IsQuiet, back, HasPassed, Rests, AreLeft, AreLeavesRead, AreRead, IsUnread, AreUnread, AreUntouched, IsUnchanged, AreUnchanged, AreOfMarked, AreBack, IsNoted, is_among, AreSet, MayAnswer, IsTaken, IsWithin, StandsAt, InTime, ready_bound, kept_bound, AreBounded, HasGrown};
 
 use cer_base::bits::Bits;
 use cer_base::steps::Steps;
@@ -24,7 +24,7 @@ use stream_schema::Event;
 
 /// What is kept of one query. Between `prepare` and `commit` it is still seen as what it was.
 pub trait Keeps {
-    ghost use Rattle.all_or_none.specs.Phases.{Phase, CanPrepare, Rests, AreLeavesRead, IsUnread, ready_bound, IsWithin};
+    ghost use Rattle.all_or_none.specs.Phases.{Phase, CanPrepare, Rests, AreLeavesRead, IsUnchanged, IsUnread, ready_bound, IsWithin};
 
     /// What it is after so many events.
     ghost phase: { ℕ → Self → Phase };
@@ -53,6 +53,7 @@ pub trait Keeps {
         ensures kept { back (phase position self.new) ≡ back (phase position self.old) }
         ensures passed { IfOk result (λ by. by ≡ true → HasPassed event.now position
             (phase position self.new) (phase (position + 1) self.new)) }
+        ensures left { IfOk result (λ by. by ≡ true → IsUnchanged phase self.old self.new) }
         ensures ready { IfOk result (λ by. by ≡ false → IsPrepared event.now position
             (phase position self.new)) }
         ensures refused { OnErr result (IsIdle (phase position self.new)) }
@@ -61,12 +62,11 @@ pub trait Keeps {
         ensures within { IsWithin event.now position (phase position self.old)
             steps.old steps.new };
 
-    /// Puts in what was made ready, if anything was. It takes no memory.
+    /// Puts in what was made ready. It takes no memory.
     fn commit(&mut self, event: &Event, position: Pos)
         requires room { position + 1 < 2 ^ 64 }
-        requires set { IsSet event.now position (phase position self.old)
-            (phase (position + 1) self.old) }
-        ensures { IsTaken event.now position (phase position self.old)
+        requires prepared { IsPrepared event.now position (phase position self.old) }
+        ensures { IsCommitted position (phase position self.old)
             (phase (position + 1) self.new) };
 
     /// Gives up what was made ready. It takes no memory.
@@ -74,8 +74,8 @@ pub trait Keeps {
         ensures { (count : ℕ) → phase count self.new ≡ back (phase count self.old) };
 }
 
-/// The part prepares. Its number is put in last where the event does not pass it by, and where a leaf
-/// of it reads the event: one that rested is then asked anew whether it rests.
+/// The part prepares. Its number is put in last where the event does not pass it by, and where it
+/// does the part is left as it was.
 fn prepare_one<P: Keeps, L: Ledger>(
     part: &mut P,
     number: u64,
@@ -94,15 +94,15 @@ fn prepare_one<P: Keeps, L: Ledger>(
     ensures kept { back (P.phase position part.new) ≡ back (P.phase position part.old) }
     ensures noted { OnOk result (IsNoted event.now position number (P.phase position part.new)
         (P.phase (position + 1) part.new) touched.old.items touched.new.items) }
-    ensures listed { OnOk result (reads ≡ true → touched.new.items
-        ≡ touched.old.items ++ number ∷ []) }
+    ensures left { OnOk result ((touched.new.items ≡ touched.old.items ++ number ∷ [])
+        ⊎ IsUnchanged P.phase part.old part.new) }
     ensures steps { OnOk result (steps.new
         ≤ steps.old + ready_bound (P.phase position part.new)) }
     ensures within { IsWithin event.now position (P.phase position part.old)
         steps.old steps.new }
 {
     let passed = part.prepare(event, position, reads, leaves, steps)?;
-    if reads || !passed {
+    if !passed {
         touched.push(number)?;
     }
     Ok(())
@@ -123,8 +123,8 @@ fn find(marked: &Bits, from: usize, end: usize) -> Option<usize>
 
 /// Each marked part prepares that the event does not pass by, up to the first that cannot. The others
 /// rest, and no leaf of theirs reads the event. A leaf of a part reads it exactly where the part is
-/// among those read, and which do its set in `leaves` tells then. The numbers of the prepared ones and
-/// of the read ones, from 1, are left in `touched`.
+/// among those read, and which do its set in `leaves` tells then. The numbers of the prepared ones,
+/// from 1, are left in `touched`, and each other part is as it was.
 fn prepare_all<P: Keeps, L: Ledger>(
     parts: &mut [P],
     marked: &Bits,
@@ -147,8 +147,7 @@ fn prepare_all<P: Keeps, L: Ledger>(
     ensures set { OnOk result (AreSet (P.phase position) (P.phase (position + 1)) event.now
         position (length parts.new) touched.new.items parts.new) }
     ensures marked { OnOk result (AreOfMarked marked.now touched.new.items) }
-    ensures listed { OnOk result ((k : ℕ) → k < length parts.new → has marked.now k ≡ true
-        → has read.now k ≡ true → is_among touched.new.items (k + 1) ≡ true) }
+    ensures left { OnOk result (AreUnchanged P.phase touched.new.items parts.old parts.new) }
     ensures others { AreUntouched marked.now parts.old parts.new }
     ensures steps { OnOk result (steps.new
         ≤ steps.old + sum_by (λ p. ready_bound (P.phase position p)) parts.new) }
@@ -179,8 +178,7 @@ fn prepare_all<P: Keeps, L: Ledger>(
 /// to rest.
 fn commit_one<P: Keeps>(part: &mut P, k: usize, awake: &mut Bits, event: &Event, position: Pos)
     requires room { position + 1 < 2 ^ 64 }
-    requires set { IsSet event.now position (P.phase position part.old)
-        (P.phase (position + 1) part.old) }
+    requires prepared { IsPrepared event.now position (P.phase position part.old) }
     requires inside { k < length awake.old }
     ensures taken { IsTaken event.now position (P.phase position part.old)
         (P.phase (position + 1) part.new) }
@@ -196,8 +194,8 @@ fn commit_one<P: Keeps>(part: &mut P, k: usize, awake: &mut Bits, event: &Event,
     }
 }
 
-/// The parts of these numbers commit: those that are prepared, and some that the event passes by.
-/// Those of them that are not known to rest are in `awake` afterwards, with the others that were there.
+/// The parts of these numbers, which are those that are prepared, commit. Those of them that are not
+/// known to rest are in `awake` afterwards, with the others that were there.
 fn commit_all<P: Keeps>(
     parts: &mut [P],
     numbers: &[u64],
@@ -239,13 +237,13 @@ fn take_back_all<P: Keeps>(parts: &mut [P], marked: &Bits)
 
 /// All parts take the event as the next one, or none does. After `Memory` each part is as it was.
 ///
-/// It goes to the marked parts alone, by their numbers from 0. Each other part rests, and no leaf of
-/// its query reads the event. Those of which a leaf reads it are in `read`, and which leaves of one do
-/// its set in `leaves` tells; of the others that says nothing. In `awake` is then each part that is not
-/// known to rest, for the next event, and after `Memory` each marked one beside those that were there.
-/// `touched` has then the numbers, from 1 and rising, of the parts that the event did not pass by, and
-/// of those that are read; no other may have an answer. They alone are asked whether they rest: what is
-/// marked beside them was awake, is as it was, and stays awake. The memory of `touched` is used again.
+/// It goes to the marked parts alone, by their numbers from 0. Among them are those in `awake`, which
+/// has each part that is not known to rest. No leaf of the query of another part reads the event. Those
+/// of which a leaf reads it are in `read`, and which leaves of one do its set in `leaves` tells; of the
+/// others that says nothing. In `awake` is then each part that is not known to rest, for the next event,
+/// and after `Memory` each marked one beside those that were there. `touched` has then the numbers, from
+/// 1 and rising, of the parts that the event did not pass by; no other may have an answer. They alone
+/// are asked whether they rest: each other part is as it was. The memory of `touched` is used again.
 pub fn see<P: Keeps, L: Ledger>(
     parts: &mut [P],
     marked: &Bits,
@@ -260,12 +258,12 @@ pub fn see<P: Keeps, L: Ledger>(
     requires room { position + 1 < 2 ^ 64 }
     requires idle { All (λ p. IsIdle (P.phase position p)) parts.old }
     requires can { All (λ p. CanPrepare event.now position (P.phase position p)) parts.old }
-    requires left { AreLeft P.phase position marked.now parts.old }
+    requires left { AreLeft P.phase position awake.old parts.old }
+    requires awake { (k : ℕ) → has awake.old k ≡ true → has marked.now k ≡ true }
     requires unread { AreUnread (P.phase position) event.now marked.now parts.old }
     requires reading { AreRead (P.phase position) event.now read.now leaves.now parts.old }
     requires told { AreUnread (P.phase position) event.now read.now parts.old }
     requires leaves { length leaves.now ≡ length parts.old }
-    requires either { AreOfEither marked.now awake.old read.now }
     requires sets { length awake.old ≡ length marked.now }
     ensures stands { OnOk result ((events : List Event) → length events ≡ position
         → All (λ p. InTime events event.now (P.phase position p)) parts.old

@@ -1,7 +1,7 @@
 -- What is known of the parts that an event need not go to.
 use Rattle.std.proofs.Common.{◌≡◌, refl, sym, ap, subst, ◌∙◌, ℕ, zero, suc, ◌+◌, ◌<◌, ◌≤◌, inl, inr, Bool, true, false, ◌||◌, eqb, List, [], ◌∷◌, map, length, All, Option, Some, None, slice_get, slice_index_or, arith}
 use Rattle.std.specs.List.{AllZip}
-use Rattle.std.proofs.lemmas.Bool.{cases_lt, eq-eqb, false≢true, or_left, or_right}
+use Rattle.std.proofs.lemmas.Bool.{cases_lt, eq-eqb, false≢true, or_left}
 use Rattle.std.proofs.lemmas.Option.{slice_get-get_or, slice_get_within}
 use Rattle.std.proofs.lemmas.List.Elements.{All-nil, All-cons, All-head, All-tail}
 use Rattle.cer_base.specs.Bits.{has, room_for}
@@ -12,7 +12,7 @@ use Rattle.query_leaves.specs.Expand.{Occurrence, tree_of}
 use Rattle.query_leaves.specs.Leaves.{occurrences, occurrence_reads}
 use Rattle.cea_compile.specs.DeterminisedRuns.{reads_at}
 use Rattle.query_standing.specs.Keys.{leaves_reading}
-use Rattle.all_or_none.specs.Phases.{Phase, Rests, AreLeft, AreRead, AreUnread, AreOfEither}
+use Rattle.all_or_none.specs.Phases.{Phase, Rests, AreLeft, AreRead, AreUnread}
 use Rattle.query_part.specs.Parts.{seen, woken, skipped}
 use Rattle.query_watch.specs.Rows.{Table, HasRow, AreReaders, HaveRooms, AreExact, IsWatch}
 use Rattle.query_engine.specs.Compacting.{IsCompacted}
@@ -21,37 +21,23 @@ use Rattle.query_engine.specs.Watching.{leaf_room, AreLeafSets, IsWatching}
 use Rattle.query_engine.proofs.Standing.{length_map, map_at, all_at}
 use Rattle.query_engine.proofs.Keeping.{seen_queries}
 
-not_in : (a b : List Bool) (k : ℕ) → (has a k ≡ true → has b k ≡ true) → has b k ≡ false → has a k ≡ false
-not_in a b k within out = by (has a k) refl
-  where
-    by : (x : Bool) → has a k ≡ x → has a k ≡ false
-    by false e = e
-    by true e = absurd (false≢true (sym out ∙ within e))
-
 -- What an event goes to: what is marked, or where none is awake what is read.
 pub record GoesTo (some_awake : Bool) (awake marked read to : List Bool) : Type 0 where
   pub within : (k : ℕ) → has awake k ≡ true → has to k ≡ true
   pub reads : (k : ℕ) → has read k ≡ true → has to k ≡ true
   pub room : length to ≡ length awake
-  pub either : AreOfEither to awake read
 
-pub goes : (some_awake : Bool) (awake marked read to : List Bool) → (some_awake ≡ true → (k : ℕ) → has awake k ≡ true → has marked k ≡ true) → (some_awake ≡ true → (k : ℕ) → has read k ≡ true → has marked k ≡ true) → (some_awake ≡ true → AreOfEither marked awake read) → (some_awake ≡ false → (k : ℕ) → has awake k ≡ false) → length marked ≡ length awake → length read ≡ length awake → (some_awake ≡ true → to ≡ marked) → (some_awake ≡ false → to ≡ read) → GoesTo some_awake awake marked read to
-goes true awake marked read to within reads either none sets rooms is_marked is_read = record {
+pub goes : (some_awake : Bool) (awake marked read to : List Bool) → (some_awake ≡ true → (k : ℕ) → has awake k ≡ true → has marked k ≡ true) → (some_awake ≡ true → (k : ℕ) → has read k ≡ true → has marked k ≡ true) → (some_awake ≡ false → (k : ℕ) → has awake k ≡ false) → length marked ≡ length awake → length read ≡ length awake → (some_awake ≡ true → to ≡ marked) → (some_awake ≡ false → to ≡ read) → GoesTo some_awake awake marked read to
+goes true awake marked read to within reads none sets rooms is_marked is_read = record {
   within = λ k h. ap (λ (b : List Bool). has b k) (is_marked refl) ∙ within refl k h;
   reads = λ k h. ap (λ (b : List Bool). has b k) (is_marked refl) ∙ reads refl k h;
   room = ap length (is_marked refl) ∙ sets;
-  either = λ k h. either refl k (ap (λ (b : List Bool). has b k) (sym (is_marked refl)) ∙ h);
 }
-goes false awake marked read to within reads either none sets rooms is_marked is_read = record {
+goes false awake marked read to within reads none sets rooms is_marked is_read = record {
   within = λ k h. absurd (false≢true (sym (none refl k) ∙ h));
   reads = λ k h. ap (λ (b : List Bool). has b k) (is_read refl) ∙ h;
   room = ap length (is_read refl) ∙ rooms;
-  either = λ k h. or_right (has awake k) (has read k) (ap (λ (b : List Bool). has b k) (sym (is_read refl)) ∙ h);
 }
-
--- those that are not marked are not awake, so they rest
-pub left_marked : (count : ℕ) (parts : List Phase) (awake marked : List Bool) → ((k : ℕ) → has awake k ≡ true → has marked k ≡ true) → AreLeft seen count awake parts → AreLeft seen count marked parts
-left_marked count parts awake marked within h = record { known = h.known; others = λ k p at out. h.others k p at (not_in awake marked k (within k) out) }
 
 leaf_there : (schema : Declared) (x : Option Occurrence) (event : Event) → reads_at schema x (Some event) ≡ true → (o : Occurrence) × (x ≡ Some o) × (occurrence_reads schema o event ≡ true)
 leaf_there schema None event e = absurd (false≢true e)

@@ -2,10 +2,10 @@
 
 ghost use Rattle.std.specs.Prelude.{◌≡◌, ℕ, ◌≤◌, ◌||◌, false, true, [], Some, length, map, slice_get, slice_index_or, IfOk};
 ghost use Rattle.cer_base.specs.Bits.{has, room_for};
-ghost use Rattle.all_or_none.specs.Phases.{Phase, Rests, AreOfEither};
+ghost use Rattle.all_or_none.specs.Phases.{Phase, Rests};
 ghost use Rattle.query_part.specs.Parts.{seen};
 ghost use Rattle.query_watch.specs.Rows.{AreExact, IsWatch, HasRow, AreReaders, HaveRooms};
-ghost use Rattle.query_engine.specs.Watching.{leaf_room, AreLeafSets};
+ghost use Rattle.query_engine.specs.Watching.{leaf_room, AreLeafSets, AreOfEither};
 
 use all_or_none::Keeps;
 use cel_terms::Query;

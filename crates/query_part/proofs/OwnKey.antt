@@ -98,12 +98,12 @@ stays_pass schema q source types table bits patient event position h c n upto fl
 abbrev pub seen_as : Declared → Query → Option Step → Option Ready → Sizes → Held → Option ℤ → Option ℕ → ℕ → Bool → Phase
 seen_as schema q step r z h c n upto floats = record { schema = schema; query = q; kept = kept_of step r z h c n; ready = ready_of step r h c n; upto = upto; floats = floats }
 
--- What passes the idle part by passes it by as it is now, with the same lists.
-pub passed_now : (schema : Declared) (q : Query) (event : Event) (position : ℕ) (step : Option Step) (r : Option Ready) (z y : Sizes) (h m : Held) (c : Option ℤ) (n : Option ℕ) (upto : ℕ) (floats : Bool) (p : Phase) → seen_as schema q step r z h c n upto floats ≡ p → IsIdle p → m ≡ h → HasPassed event position (seen position (sleeper schema q h c n upto floats)) (seen (position + 1) (sleeper schema q h c n upto floats)) → HasPassed event position (seen position (seen_as schema q step r y m c n upto floats)) (seen (position + 1) (seen_as schema q step r y m c n upto floats))
-passed_now schema q event position step r z y h m c n upto floats p view idle same passed =
+-- The idle part is what it was where its lists are, whatever the sizes are.
+pub as_it_was : (schema : Declared) (q : Query) (step : Option Step) (r : Option Ready) (z y : Sizes) (h m : Held) (c : Option ℤ) (n : Option ℕ) (upto : ℕ) (floats : Bool) (p : Phase) → seen_as schema q step r z h c n upto floats ≡ p → IsIdle p → m ≡ h → seen_as schema q step r y m c n upto floats ≡ p
+as_it_was schema q step r z y h m c n upto floats p view idle same =
     let rest : ready_of step r h c n ≡ None = ap (λ (x : Phase). x.ready) view ∙ idle in
-    subst (λ (x : Held). HasPassed event position (seen position (seen_as schema q step r y x c n upto floats)) (seen (position + 1) (seen_as schema q step r y x c n upto floats))) (sym same)
-    (subst (λ (x : Phase). HasPassed event position (seen position x) (seen (position + 1) x)) (idle_fields schema q step r y h c n upto floats (seen_as schema q step r y h c n upto floats) refl rest) passed)
+    ap (λ (x : Held). seen_as schema q step r y x c n upto floats) same
+    ∙ (sym (idle_fields schema q step r y h c n upto floats (seen_as schema q step r y h c n upto floats) refl rest) ∙ idle_fields schema q step r z h c n upto floats p view idle)
 
 -- Where its lists are worked out, they are those of its key.
 pub ready_step : (schema : Declared) (q : Query) (table : List (Option (List ℕ))) (low : ℤ) (bits : List Bool) (event : Event) (position : ℕ) (number : ℕ) (staged : Staged) (old new : Held) (c : Option ℤ) (n : Option ℕ) (now : ℤ) → AreKeyPlaces schema q table → IsOfSchema schema event → Reads schema q event → HasClock schema q.window event position now → least ≤ℤ low_of q.window now → has bits ≡ leaves_reading schema q event → low ≤ℤ low_of q.window now → IsOwnReady (record { pos = position; clock = now }) low bits (key_there table event) number staged old new → IsStep schema q event position (part_of old c n) (part_of (put_in number staged new) (Some now) (Some number))

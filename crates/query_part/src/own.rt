@@ -7,6 +7,7 @@ ghost use Rattle.cer_base.specs.declared.node.Node.TheVariants.{Bottom};
 ghost use Rattle.event_update.specs.Update.{work_bound};
 ghost use Rattle.query_part.specs.KeyPlaces.{key_there};
 ghost use Rattle.query_part.specs.Matches.{HasKeyThere, CanTake, cut, CanCut, Stays, IsOwnReady, HasOwnWorked};
+ghost use Rattle.query_part.specs.Own.{IsOwn};
 
 use crate::matches::{Matches, Ready, Sizes};
 use crate::reading::{Places, key_of, places_of};
@@ -37,19 +38,65 @@ fn known(matches: &Matches, table: &[Option<Places>], whole: bool, event: &Event
     }
 }
 
-/// Works out the lists of the event's key, by the set of the leaves that can read the event. `None`
-/// where no list changes: where it has no key, where no leaf can read it and its key's lists are known
-/// to rest, or the automaton is told to be patient, and where it is known to pass its key's lists, none
-/// of which accepts. It is told whether the query has no
-/// partition. After `Memory` nothing has changed. Where some list may change, the sizes are then those
-/// from before.
+/// What is known of an event before the lists of its key are worked out.
+#[derive(Drop, Clone, Copy)]
+pub enum Own {
+    /// It changes no list.
+    Passes,
+    /// Its key has this number.
+    At(u64),
+    /// Nothing more.
+    Unknown,
+}
+
+/// What is known of the event, by the set of the leaves that can read it. It changes no list where it has
+/// no key, where no leaf can read it and its key's lists are known to rest, or the automaton is told to be
+/// patient, and where it is known to pass its key's lists, none of which accepts. It is told whether the
+/// query has no partition. It takes no step and no memory.
+#[inline(always)]
+pub fn look(
+    matches: &Matches,
+    table: &[Option<Places>],
+    whole: bool,
+    event: &Event,
+    bits: &Bits,
+    patient: bool,
+) -> Own
+    requires whole { whole ≡ true → slice_index_or table.now event.now.ty None ≡ Some [] }
+    ensures { IsOwn result matches.now table.now event.now bits.now patient }
+{
+    if bits.is_empty() && matches.lets_pass(patient) {
+        return Own::Passes;
+    }
+    match known(matches, table, whole, event) {
+        None => {
+            if places_of(table, event.ty).is_none() {
+                return Own::Passes;
+            }
+            Own::Unknown
+        }
+        Some(number) => {
+            if matches.resting(number, bits) {
+                return Own::Passes;
+            }
+            if matches.lets_own_pass(number, bits) {
+                return Own::Passes;
+            }
+            Own::At(number)
+        }
+    }
+}
+
+/// Works out the lists of the event's key, by the set of the leaves that can read the event, and by what
+/// is known of it. `None` where no list changes: where that is known, and where it has no key. After
+/// `Memory` nothing has changed. Where some list may change, the sizes are then those from before.
 #[inline(always)]
 pub fn advance_own<L: Ledger>(
+    own: Own,
     matches: &mut Matches,
     sizes: &mut Sizes,
     alloc: Global,
     table: &[Option<Places>],
-    whole: bool,
     event: &Event,
     bits: &Bits,
     patient: bool,
@@ -57,7 +104,7 @@ pub fn advance_own<L: Ledger>(
     low: LowTime,
     steps: &mut Steps<L>,
 ) -> Result<Option<Ready>, Memory>
-    requires whole { whole ≡ true → slice_index_or table.now event.now.ty None ≡ Some [] }
+    requires own { IsOwn own matches.old table.now event.now bits.now patient }
     requires well_formed { WellFormed matches.old.nodes }
     requires in_step { AreInStep (matches.old.nodes ++ Bottom stamp ∷ []) }
     requires bits { length bits.now ≡ room_for matches.old.table.cea.size }
@@ -75,24 +122,18 @@ pub fn advance_own<L: Ledger>(
     ensures worked { (steps.new ≡ steps.old) ⊎ HasOwnWorked bits.now
         (key_there table.now event.now) matches.old steps.old steps.new }
 {
-    if bits.is_empty() && matches.lets_pass(patient) {
-        return Ok(None);
-    }
-    if let Some(number) = known(matches, table, whole, event) {
-        if matches.resting(number, bits) {
-            return Ok(None);
-        }
-        if matches.lets_own_pass(number, bits) {
-            return Ok(None);
-        }
-        let ready = matches.advance_at(sizes, number, bits, stamp, low, steps)?;
-        return Ok(Some(ready));
-    }
-    match key_of(alloc, table, event)? {
-        None => Ok(None),
-        Some(key) => {
-            let ready = matches.advance(sizes, &key, bits, stamp, low, steps)?;
+    match own {
+        Own::Passes => Ok(None),
+        Own::At(number) => {
+            let ready = matches.advance_at(sizes, number, bits, stamp, low, steps)?;
             Ok(Some(ready))
         }
+        Own::Unknown => match key_of(alloc, table, event)? {
+            None => Ok(None),
+            Some(key) => {
+                let ready = matches.advance(sizes, &key, bits, stamp, low, steps)?;
+                Ok(Some(ready))
+            }
+        },
     }
 }

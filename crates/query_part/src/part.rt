@@ -17,7 +17,7 @@ ghost use Rattle.arena_compact.specs.Roots.{places};
 
 use crate::machine::{Machine, Reading};
 use crate::matches::{Matches, Ready, Sizes};
-use crate::own::advance_own;
+use crate::own::{Own, advance_own, look};
 use crate::reading::{Places, is_read, may_read};
 use all_or_none::Keeps;
 use arena_compact::{HasCursor, Room};
@@ -386,25 +386,28 @@ impl Keeps for Part {
             self.step = Some(Step::Unread);
             return Ok(false);
         }
+        let bits = leaves_for(reads, leaves, &self.no_leaves);
+        let table = self.keys.as_slice();
+        let (alloc, whole, patient) = (self.alloc, self.whole, self.patient);
+        let own = look(&self.matches, table, whole, event, bits, patient);
+        if let Own::Passes = own {
+            if self.floats && self.upto <= position {
+                return Ok(true);
+            }
+        }
         let clock = self.clock.now(event, position);
         let stamp = Stamp {
             pos: position,
             clock: start_clock(clock)?,
         };
         let low = LowTime::of(self.clock.low_of(clock));
-        let bits = leaves_for(reads, leaves, &self.no_leaves);
-        let table = self.keys.as_slice();
         let matches = &mut self.matches;
         let sizes = &mut self.sizes;
-        let (alloc, whole, patient) = (self.alloc, self.whole, self.patient);
         match advance_own(
-            matches, sizes, alloc, table, whole, event, bits, patient, stamp, low, steps,
+            own, matches, sizes, alloc, table, event, bits, patient, stamp, low, steps,
         ) {
             Err(refused) => Err(refused),
             Ok(None) => {
-                if self.floats && self.upto <= position {
-                    return Ok(true);
-                }
                 self.step = Some(Step::NoChange(clock));
                 Ok(false)
             }

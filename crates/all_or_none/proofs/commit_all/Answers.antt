@@ -2,7 +2,7 @@ use Rattle.std.proofs.Common.{rules, ◌≡◌, ◌+◌, ◌-◌, ◌<◌, true,
 use Rattle.std.proofs.lemmas.List.{take_all}
 use Rattle.all_or_none.specs.Phases.{is_among}
 use Rattle.all_or_none.proofs.Awake.{AreLooked, looked_none, looked_next}
-use Rattle.all_or_none.proofs.Committed.{HasCommitted, committed_none, is_listed, positive, back_again, next_within, next_set, committed_next, committed_all, may_answer}
+use Rattle.all_or_none.proofs.Committed.{HasCommitted, committed_none, is_listed, positive, back_again, next_within, next_prepared, committed_next, committed_all, may_answer}
 use Rattle.all_or_none.proofs.commit_all.Goals as goal
 
 pub loop-number-init : goal.loop-number-init
@@ -11,9 +11,9 @@ loop-number-init g c = record {
   looked = looked_none g.P.Keeps.phase c.args.awake.now c.args.parts.now;
 }
 
-pub commit_one-requires-clause-set : goal.commit_one-requires-clause-set
-commit_one-requires-clause-set g c =
-    next_set (g.P.Keeps.phase c.args.position) (g.P.Keeps.phase (c.args.position + 1)) c.args.event.now c.args.position c.args.numbers.now c.loop-number.number-index (slice_index_or c.args.numbers.now c.loop-number.number-index 0) c.args.parts.now c.loop-number.parts c.loop-number-test.true refl c.requires.set c.loop-number.invariant.committed _
+pub commit_one-requires-clause-prepared : goal.commit_one-requires-clause-prepared
+commit_one-requires-clause-prepared g c =
+    next_prepared (g.P.Keeps.phase c.args.position) (g.P.Keeps.phase (c.args.position + 1)) c.args.event.now c.args.position c.args.numbers.now c.loop-number.number-index (slice_index_or c.args.numbers.now c.loop-number.number-index 0) c.args.parts.now c.loop-number.parts c.loop-number-test.true refl c.requires.set c.loop-number.invariant.committed _
 
 pub commit_one-requires-clause-inside : goal.commit_one-requires-clause-inside
 commit_one-requires-clause-inside g c =

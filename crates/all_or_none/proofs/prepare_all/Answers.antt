@@ -1,18 +1,18 @@
-use Rattle.std.proofs.Common.{◌≡◌, ◌+◌, ◌<◌, ◌∙◌, true, false, [], length, slice_index_or, subst, sym, arith}
+use Rattle.std.proofs.Common.{◌≡◌, ◌<◌, ◌∙◌, true, false, [], length, slice_index_or, subst, sym, arith}
 use Rattle.std.proofs.lemmas.List.{get_or_read}
 use Rattle.cer_base.specs.Bits.{has}
 use Rattle.query_standing.specs.Bounds.{update_bound}
 use Rattle.all_or_none.specs.Phases.{back, IsIdle, AreLeavesRead, IsUnread, CanPrepare, InTime, StandsAt, MeetsAtMost, ready_bound}
 use Rattle.std.proofs.lemmas.List.Sums.{sum_by-take-le}
 use Rattle.all_or_none.proofs.LoopTurn.{all_here, said_here, same_whole, sum_next, pair_at, all_mapped}
-use Rattle.all_or_none.proofs.Marked.{CanTake, gone_none, skip_to, next_one, gone_all, sum_more, untouched_next, listed_next, listed_all}
+use Rattle.all_or_none.proofs.Marked.{CanTake, gone_none, skip_to, next_one, gone_all, sum_more, untouched_next, unchanged_none, unchanged_next}
 use Rattle.all_or_none.proofs.prepare_all.Goals as goal
 
 pub loop-k-init : goal.loop-k-init
 loop-k-init g c = record {
   low = omega arith;
   gone = gone_none g.P.Keeps.phase c.args.event.now c.args.position c.args.marked.now c.clear.new.self.items c.args.parts.now c.clear.ensures.items;
-  listed = λ j less. absurd (omega arith);
+  unchanged = unchanged_none g.P.Keeps.phase c.clear.new.self.items c.args.parts.now;
   steps = omega arith;
   within = λ events most count bounded. omega arith;
 }
@@ -98,7 +98,7 @@ loop-k-preserved g c =
     record {
       low = omega arith;
       gone = next_one phase event c.args.position c.args.marked.now c.args.parts.now asked c.in-Some.k c.loop-k.touched.items c.prepare_one.new.touched.items c.loop-k.parts c.prepare_one.new.part c.index-parts-k.result gone inside c.in-Some.ensures.found.2 c.prepare_one.ensures.kept c.in_ok-prepare_one.ensures.noted;
-      listed = listed_next c.args.marked.now c.args.read.now event c.args.position (at c.prepare_one.new.part) (phase (c.args.position + 1) c.prepare_one.new.part) c.loop-k.touched.items c.prepare_one.new.touched.items c.loop-k.from c.in-Some.k c.contains-reads.result c.contains-reads.ensures c.in-Some.ensures.first c.in_ok-prepare_one.ensures.noted c.in_ok-prepare_one.ensures.listed c.loop-k.invariant.listed;
+      unchanged = unchanged_next phase event c.args.position c.in-Some.k c.loop-k.touched.items c.prepare_one.new.touched.items c.args.parts.now c.loop-k.parts c.prepare_one.new.part c.index-parts-k.result c.in_ok-prepare_one.ensures.noted c.in_ok-prepare_one.ensures.left inside gone.left c.loop-k.invariant.unchanged;
       steps = (
           let sum = sum_next (λ p. ready_bound (at p)) c.loop-k.parts c.in-Some.k c.prepare_one.new.part inside in
           let before = c.loop-k.invariant.steps in
@@ -128,8 +128,8 @@ returns-clause-set g c =
     let asked : CanTake g.P.Keeps.phase c.args.event.now c.args.position c.args.marked.now c.args.parts.now = record { idle = c.requires.idle; can = c.requires.can; left = c.requires.left; unread = c.requires.unread } in
     (gone_all g.P.Keeps.phase c.args.event.now c.args.position c.args.marked.now c.args.parts.now asked c.loop-k.from c.loop-k.touched.items c.loop-k.parts c.loop-k.invariant.low c.loop-k.invariant.gone c.in_default.ensures.none).set
 
-pub returns-clause-listed : goal.returns-clause-listed
-returns-clause-listed g c = listed_all c.args.marked.now c.args.read.now c.loop-k.touched.items c.loop-k.from (length c.loop-k.parts) c.in_default.ensures.none c.loop-k.invariant.listed
+pub returns-clause-left : goal.returns-clause-left
+returns-clause-left g c = c.loop-k.invariant.unchanged
 
 pub returns-clause-steps : goal.returns-clause-steps
 returns-clause-steps g c =

@@ -2,15 +2,15 @@ use Rattle.std.proofs.Common.{◌≡◌, ℕ, ◌+◌, ◌-◌, ◌≤◌, List,
 use Rattle.std.specs.Prelude.{sum_by}
 use Rattle.stream_schema.specs.declared.Event.{Event}
 use Rattle.query_standing.specs.Bounds.{update_bound}
-use Rattle.all_or_none.specs.Phases.{ready_bound, AreBounded}
-use Rattle.all_or_none.proofs.Marked.{HaveGone, HaveListed}
+use Rattle.all_or_none.specs.Phases.{ready_bound, AreBounded, AreUnchanged}
+use Rattle.all_or_none.proofs.Marked.{HaveGone}
 use Rattle.all_or_none.proofs.prepare_all.Given as goal
 
 abbrev pub invariant-loop-k : goal.invariant-loop-k
 invariant-loop-k g l = record {
   low : l.from ≤ length l.fn.parts;
   gone : HaveGone g.P.Keeps.phase l.event l.position l.marked l.from l.touched.items l.fn.parts l.parts;
-  listed : HaveListed l.marked l.read l.touched.items l.from;
+  unchanged : AreUnchanged g.P.Keeps.phase l.touched.items l.fn.parts l.parts;
   steps : l.steps ≤ l.fn.steps + sum_by (λ p. ready_bound (g.P.Keeps.phase l.position p)) (take l.from l.parts);
   within : (events : List Event) (most : List ℕ) → length events ≡ l.position → AreBounded events l.event (map (g.P.Keeps.phase l.position) l.fn.parts) most → l.steps ≤ l.fn.steps + sum_by update_bound (take l.from most);
 }

@@ -1,7 +1,7 @@
-use Rattle.std.proofs.Common.{◌≡◌, ◌+◌, ◌∙◌, true, length, map, subst, sym, arith}
-use Rattle.all_or_none.specs.Phases.{is_among, AreSet, MayAnswer, AreOfMarked}
+use Rattle.std.proofs.Common.{◌+◌, ◌∙◌, length, map, subst, sym, arith}
+use Rattle.all_or_none.specs.Phases.{AreSet, MayAnswer, AreUnchanged, AreOfMarked}
 use Rattle.all_or_none.proofs.BothPhases.{stands_after, idle_after, quiet_after, grown_after, bounds_after}
-use Rattle.all_or_none.proofs.Marked.{has_within, known_after, untouched_all, left_after, left_again, unchanged_after}
+use Rattle.all_or_none.proofs.Marked.{has_within, known_after, left_after, left_again, left_more, unchanged_after}
 use Rattle.all_or_none.proofs.see.Goals as goal
 
 pub returns-in-Ok-clause-stands : goal.returns-in-Ok-clause-stands
@@ -38,16 +38,16 @@ commit_all-requires-clause-inside g c k among =
     let same = c.requires.sets in
     omega arith
 
+pub prepare_all-requires-clause-left : goal.prepare_all-requires-clause-left
+prepare_all-requires-clause-left g c = left_more g.P.Keeps.phase c.args.position c.args.awake.now c.args.marked.now c.args.parts.now c.requires.awake c.requires.left
+
 pub returns-in-Ok-clause-left : goal.returns-in-Ok-clause-left
 returns-in-Ok-clause-left g c =
-    let numbers = c.as_slice.result.now in
-    let listed = subst (AreOfMarked c.args.marked.now) (sym c.as_slice.ensures.value) c.in-Ok.ensures.marked in
-    left_after g.P.Keeps.phase c.args.position c.args.marked.now c.args.read.now c.args.awake.now c.commit_all.new.awake numbers c.args.parts.now c.commit_all.new.parts
+    left_after g.P.Keeps.phase c.args.position c.args.awake.now c.commit_all.new.awake c.as_slice.result.now c.args.parts.now c.prepare_all.new.parts c.commit_all.new.parts c.prepare_all.auto.parts
     (known_after g.P.Keeps.phase c.args.event.now c.args.position c.args.parts.now c.prepare_all.new.parts c.commit_all.new.parts c.in-Ok.ensures.kept c.commit_all.ensures.taken c.requires.left.known)
-    (untouched_all c.args.marked.now numbers c.args.parts.now c.prepare_all.new.parts c.commit_all.new.parts listed c.in-Ok.ensures.others c.commit_all.ensures.others)
-    c.requires.left c.requires.either
-    (λ k less is reads. subst (λ ns. is_among ns (k + 1) ≡ true) (sym c.as_slice.ensures.value) (c.in-Ok.ensures.listed k (let same = c.commit_all.auto.parts in omega arith) is reads))
-    c.commit_all.ensures.rest c.commit_all.ensures.awake
+    c.requires.left
+    (subst (λ ns. AreUnchanged g.P.Keeps.phase ns c.args.parts.now c.prepare_all.new.parts) (sym c.as_slice.ensures.value) c.in-Ok.ensures.left)
+    c.commit_all.ensures.others c.commit_all.ensures.rest c.commit_all.ensures.awake
 
 pub returns-in-Err-clause-still_left : goal.returns-in-Err-clause-still_left
 returns-in-Err-clause-still_left g c =

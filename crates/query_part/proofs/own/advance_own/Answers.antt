@@ -1,30 +1,20 @@
-use Rattle.std.proofs.Common.{◌≡◌, true, rules, inr, refl}
-use Rattle.query_part.proofs.OwnKey.{own_key, one_stays, one_passes}
+use Rattle.std.proofs.Common.{inr, subst}
+use Rattle.query_part.specs.declared.own.Own.{Own}
+use Rattle.query_part.specs.Own.{HasOwnNumber, IsOwn}
+use Rattle.query_part.proofs.OwnKey.{own_key}
 use Rattle.query_part.proofs.own.advance_own.Goals as goal
 
-pub returns-then-resting-clause-stays : goal.returns-then-resting-clause-stays
-returns-then-resting-clause-stays g c =
-    let k = c.in-Some.ensures in
-    let known : c.resting.result ≡ true = search rules in
-    (refl, refl, one_stays c.args.matches.now c.args.table.now c.args.event.now c.args.bits.now c.args.patient k.0 c.in-Some.number k.1 k.2 (c.resting.ensures.quiet known) (c.resting.ensures.rest known))
+pub returns-in_err-ready-in-At-clause-worked : goal.returns-in_err-ready-in-At-clause-worked
+returns-in_err-ready-in-At-clause-worked g c =
+    let k : HasOwnNumber c.args.matches.now c.args.table.now c.args.event.now c.in-At.number = subst (λ (o : Own). IsOwn o c.args.matches.now c.args.table.now c.args.event.now c.args.bits.now c.args.patient) c.in-At.is c.requires.own in
+    inr (k.there.key, own_key c.args.table.now c.args.event.now k.places k.there.key k.places_are k.there.has, c.advance_at.ensures.worked k.there.key k.there.numbered)
 
-pub returns-then-lets_own_pass-clause-stays : goal.returns-then-lets_own_pass-clause-stays
-returns-then-lets_own_pass-clause-stays g c =
-    let k = c.in-Some.ensures in
-    let known : c.lets_own_pass.result ≡ true = search rules in
-    (refl, refl, one_passes c.args.matches.now c.args.table.now c.args.event.now c.args.bits.now c.args.patient k.0 c.in-Some.number k.1 k.2 (c.lets_own_pass.ensures known))
+pub returns-in_ok-ready-in-At-clause-ready : goal.returns-in_ok-ready-in-At-clause-ready
+returns-in_ok-ready-in-At-clause-ready g c =
+    let k : HasOwnNumber c.args.matches.now c.args.table.now c.args.event.now c.in-At.number = subst (λ (o : Own). IsOwn o c.args.matches.now c.args.table.now c.args.event.now c.args.bits.now c.args.patient) c.in-At.is c.requires.own in
+    (k.there.key, own_key c.args.table.now c.args.event.now k.places k.there.key k.places_are k.there.has, c.in_ok-ready-in-At.ensures.ready k.there.key k.there.numbered)
 
-pub returns-in_err-ready-clause-worked : goal.returns-in_err-ready-clause-worked
-returns-in_err-ready-clause-worked g c =
-    let k = c.in-Some.ensures in
-    inr (k.2.key, own_key c.args.table.now c.args.event.now k.0 k.2.key k.1 k.2.has, c.advance_at.ensures.worked k.2.key k.2.numbered)
-
-pub returns-in-Some-clause-ready : goal.returns-in-Some-clause-ready
-returns-in-Some-clause-ready g c =
-    let k = c.in-Some.ensures in
-    (k.2.key, own_key c.args.table.now c.args.event.now k.0 k.2.key k.1 k.2.has, c.in_ok-ready.ensures.ready k.2.key k.2.numbered)
-
-pub returns-in-Some-clause-worked : goal.returns-in-Some-clause-worked
-returns-in-Some-clause-worked g c =
-    let k = c.in-Some.ensures in
-    inr (k.2.key, own_key c.args.table.now c.args.event.now k.0 k.2.key k.1 k.2.has, c.advance_at.ensures.worked k.2.key k.2.numbered)
+pub returns-in_ok-ready-in-At-clause-worked : goal.returns-in_ok-ready-in-At-clause-worked
+returns-in_ok-ready-in-At-clause-worked g c =
+    let k : HasOwnNumber c.args.matches.now c.args.table.now c.args.event.now c.in-At.number = subst (λ (o : Own). IsOwn o c.args.matches.now c.args.table.now c.args.event.now c.args.bits.now c.args.patient) c.in-At.is c.requires.own in
+    inr (k.there.key, own_key c.args.table.now c.args.event.now k.places k.there.key k.places_are k.there.has, c.advance_at.ensures.worked k.there.key k.there.numbered)

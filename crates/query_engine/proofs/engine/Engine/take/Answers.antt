@@ -2,14 +2,15 @@ use Rattle.std.proofs.Common.{◌≡◌, ◌+◌, ◌∙◌, List, Bool, map, le
 use Rattle.std.proofs.lemmas.Bool.{false≢true}
 use Rattle.std.specs.Vec.{with_items}
 use Rattle.std.proofs.lemmas.List.{with_items_is}
-use Rattle.all_or_none.specs.Phases.{Phase, MayAnswer, AreLeft, AreRead, AreUnread, AreOfEither}
+use Rattle.cer_base.specs.Bits.{has}
+use Rattle.all_or_none.specs.Phases.{Phase, MayAnswer, AreLeft, AreRead, AreUnread}
 use Rattle.query_part.specs.Parts.{seen}
 use Rattle.query_engine.proofs.Keeping.{running, keeping, kept_back, state_back}
 use Rattle.query_engine.proofs.Taking.{took, can_take, took_running, took_stands, took_cursors, took_same, took_growth, took_unread, took_peak, steps_within, steps_wanted}
 use Rattle.query_engine.proofs.Added.{took_added}
 use Rattle.query_engine.proofs.Growth.{same_queries}
 use Rattle.query_engine.proofs.Named.{noted_same}
-use Rattle.query_engine.proofs.Watched.{goes, left_marked, read_marked, unread_marked, watching_same, room_there, rooms_there, as_many_sets}
+use Rattle.query_engine.proofs.Watched.{goes, read_marked, unread_marked, watching_same, room_there, rooms_there, as_many_sets}
 use Rattle.query_engine.proofs.engine.Engine.take.Goals as goal
 
 pub see-requires-clause-can : goal.see-requires-clause-can
@@ -29,13 +30,16 @@ mark-some_awake-requires-clause-reads g c = c.self.invariant.2.reads
 
 pub see-requires-clause-left : goal.see-requires-clause-left
 see-requires-clause-left g c =
-    subst (λ (ps : List Phase). AreLeft seen c.self.inside.count c.goes_to-marked.result.now ps) (sym c.as_mut_slice-parts.ensures.value)
-    (left_marked c.self.inside.count c.self.inside.parts.items c.self.inside.watching.awake c.goes_to-marked.result.now (goes c.mark-some_awake.result c.self.inside.watching.awake c.mark-some_awake.new.self.marked c.mark-some_awake.new.self.read c.goes_to-marked.result.now c.mark-some_awake.ensures.awake c.mark-some_awake.ensures.marked c.mark-some_awake.ensures.either c.mark-some_awake.ensures.none (c.mark-some_awake.ensures.sets ∙ c.self.invariant.2.sets) (c.mark-some_awake.ensures.reads ∙ c.self.invariant.2.reads) c.goes_to-marked.ensures.awake c.goes_to-marked.ensures.none).within c.self.invariant.2.left)
+    subst (λ (b : List Bool). AreLeft seen c.self.inside.count b c.as_mut_slice-parts.result.now) (sym c.mark-some_awake.ensures.same.1)
+    (subst (λ (ps : List Phase). AreLeft seen c.self.inside.count c.self.inside.watching.awake ps) (sym c.as_mut_slice-parts.ensures.value) c.self.invariant.2.left)
+
+pub see-requires-clause-awake : goal.see-requires-clause-awake
+see-requires-clause-awake g c k is = (goes c.mark-some_awake.result c.self.inside.watching.awake c.mark-some_awake.new.self.marked c.mark-some_awake.new.self.read c.goes_to-marked.result.now c.mark-some_awake.ensures.awake c.mark-some_awake.ensures.marked c.mark-some_awake.ensures.none (c.mark-some_awake.ensures.sets ∙ c.self.invariant.2.sets) (c.mark-some_awake.ensures.reads ∙ c.self.invariant.2.reads) c.goes_to-marked.ensures.awake c.goes_to-marked.ensures.none).within k (subst (λ (b : List Bool). has b k ≡ true) c.mark-some_awake.ensures.same.1 is)
 
 pub see-requires-clause-unread : goal.see-requires-clause-unread
 see-requires-clause-unread g c =
     subst (λ (ps : List Phase). AreUnread (seen c.self.inside.count) c.args.event.now c.goes_to-marked.result.now ps) (sym c.as_mut_slice-parts.ensures.value)
-    (unread_marked c.self.inside.schema (map (λ (p : Phase). p.query) (map (seen c.self.inside.count) c.self.inside.parts.items)) c.self.inside.count c.self.inside.parts.items c.self.inside.watching.watch c.self.inside.watching.awake c.self.inside.watching.marked c.self.inside.watching.read c.goes_to-marked.result.now c.self.inside.watching.leaves.items c.args.event.now refl c.self.invariant.0.schemas c.self.invariant.2 (λ k row. (goes c.mark-some_awake.result c.self.inside.watching.awake c.mark-some_awake.new.self.marked c.mark-some_awake.new.self.read c.goes_to-marked.result.now c.mark-some_awake.ensures.awake c.mark-some_awake.ensures.marked c.mark-some_awake.ensures.either c.mark-some_awake.ensures.none (c.mark-some_awake.ensures.sets ∙ c.self.invariant.2.sets) (c.mark-some_awake.ensures.reads ∙ c.self.invariant.2.reads) c.goes_to-marked.ensures.awake c.goes_to-marked.ensures.none).reads k (c.mark-some_awake.ensures.read k row)))
+    (unread_marked c.self.inside.schema (map (λ (p : Phase). p.query) (map (seen c.self.inside.count) c.self.inside.parts.items)) c.self.inside.count c.self.inside.parts.items c.self.inside.watching.watch c.self.inside.watching.awake c.self.inside.watching.marked c.self.inside.watching.read c.goes_to-marked.result.now c.self.inside.watching.leaves.items c.args.event.now refl c.self.invariant.0.schemas c.self.invariant.2 (λ k row. (goes c.mark-some_awake.result c.self.inside.watching.awake c.mark-some_awake.new.self.marked c.mark-some_awake.new.self.read c.goes_to-marked.result.now c.mark-some_awake.ensures.awake c.mark-some_awake.ensures.marked c.mark-some_awake.ensures.none (c.mark-some_awake.ensures.sets ∙ c.self.invariant.2.sets) (c.mark-some_awake.ensures.reads ∙ c.self.invariant.2.reads) c.goes_to-marked.ensures.awake c.goes_to-marked.ensures.none).reads k (c.mark-some_awake.ensures.read k row)))
 
 pub see-requires-clause-reading : goal.see-requires-clause-reading
 see-requires-clause-reading g c =
@@ -55,10 +59,7 @@ see-requires-clause-told g c =
     (unread_marked c.self.inside.schema (map (λ (p : Phase). p.query) (map (seen c.self.inside.count) c.self.inside.parts.items)) c.self.inside.count c.self.inside.parts.items c.self.inside.watching.watch c.self.inside.watching.awake c.self.inside.watching.marked c.self.inside.watching.read c.mark-some_awake.new.self.read c.self.inside.watching.leaves.items c.args.event.now refl c.self.invariant.0.schemas c.self.invariant.2 c.mark-some_awake.ensures.read)
 
 pub see-requires-clause-sets : goal.see-requires-clause-sets
-see-requires-clause-sets g c = ap (λ (b : List Bool). length b) c.mark-some_awake.ensures.same.1 ∙ sym (goes c.mark-some_awake.result c.self.inside.watching.awake c.mark-some_awake.new.self.marked c.mark-some_awake.new.self.read c.goes_to-marked.result.now c.mark-some_awake.ensures.awake c.mark-some_awake.ensures.marked c.mark-some_awake.ensures.either c.mark-some_awake.ensures.none (c.mark-some_awake.ensures.sets ∙ c.self.invariant.2.sets) (c.mark-some_awake.ensures.reads ∙ c.self.invariant.2.reads) c.goes_to-marked.ensures.awake c.goes_to-marked.ensures.none).room
-
-pub see-requires-clause-either : goal.see-requires-clause-either
-see-requires-clause-either g c = subst (λ (b : List Bool). AreOfEither c.goes_to-marked.result.now b c.mark-some_awake.new.self.read) (sym c.mark-some_awake.ensures.same.1) (goes c.mark-some_awake.result c.self.inside.watching.awake c.mark-some_awake.new.self.marked c.mark-some_awake.new.self.read c.goes_to-marked.result.now c.mark-some_awake.ensures.awake c.mark-some_awake.ensures.marked c.mark-some_awake.ensures.either c.mark-some_awake.ensures.none (c.mark-some_awake.ensures.sets ∙ c.self.invariant.2.sets) (c.mark-some_awake.ensures.reads ∙ c.self.invariant.2.reads) c.goes_to-marked.ensures.awake c.goes_to-marked.ensures.none).either
+see-requires-clause-sets g c = ap (λ (b : List Bool). length b) c.mark-some_awake.ensures.same.1 ∙ sym (goes c.mark-some_awake.result c.self.inside.watching.awake c.mark-some_awake.new.self.marked c.mark-some_awake.new.self.read c.goes_to-marked.result.now c.mark-some_awake.ensures.awake c.mark-some_awake.ensures.marked c.mark-some_awake.ensures.none (c.mark-some_awake.ensures.sets ∙ c.self.invariant.2.sets) (c.mark-some_awake.ensures.reads ∙ c.self.invariant.2.reads) c.goes_to-marked.ensures.awake c.goes_to-marked.ensures.none).room
 
 pub invariant_of-self : goal.invariant_of-self
 invariant_of-self g c =

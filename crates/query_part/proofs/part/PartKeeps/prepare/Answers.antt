@@ -11,11 +11,13 @@ use Rattle.all_or_none.specs.Phases.{Phase, IsIdle, IsStep, HasPassed, back}
 use Rattle.query_part.specs.KeyPlaces.{key_there}
 use Rattle.query_part.specs.declared.matches.Ready.{Ready}
 use Rattle.query_part.specs.Matches.{Held, cut, CanCut, Stays, IsOwnReady, HasOwnWorked}
+use Rattle.query_part.specs.declared.own.Own.{Own}
+use Rattle.query_part.specs.Own.{IsOwn}
 use Rattle.query_part.specs.Parts.{part_of, put_in, ready_of, clock_at, here_at, seen, IsMade, CanEnd, MayBePatient, MayBeWhole, MayFloat}
 use Rattle.query_part.proofs.Cases.{unread_step, can_take, starts_in_step}
 use Rattle.query_part.proofs.Prepare.{facts, idle_fields, idle_ends, now_is, fits, made_after, own_leaves, number_inside, not_read, idle_part}
 use Rattle.query_part.proofs.Sleeping.{may_reads, neither, passes_unread, sleeper}
-use Rattle.query_part.proofs.OwnKey.{at_none, at_some, passed_now, stays_pass, stays_step, ready_step, own_within}
+use Rattle.query_part.proofs.OwnKey.{at_none, at_some, as_it_was, stays_pass, stays_step, ready_step, own_within}
 use Rattle.query_part.proofs.part.PartKeeps.prepare.Goals as goal
 
 pub returns-then-self-position-clause-passed : goal.returns-then-self-position-clause-passed
@@ -70,11 +72,12 @@ pub returns-then-self-position-2-clause-passed : goal.returns-then-self-position
 returns-then-self-position-2-clause-passed g c =
     let f = facts c.self.inside.schema.value c.self.inside.query c.args.event.now c.args.position c.self.inside.step c.self.inside.ready c.self.inside.sizes c.self.inside.matches c.self.inside.clock.last c.self.inside.here c.self.inside.upto c.self.inside.floats c.args.self.now c.self.view_is c.requires.idle c.requires.can in
     let bits_are = (own_leaves c.self.inside.schema.value c.self.inside.query c.self.inside.types.items c.self.inside.keys.items c.self.inside.clock.source c.args.event.now c.args.position c.self.inside.step c.self.inside.ready c.self.inside.sizes c.self.inside.matches c.self.inside.clock.last c.self.inside.here c.self.inside.upto c.self.inside.floats c.args.self.now c.args.reads c.args.leaves.now c.self.inside.no_leaves c.leaves_for-bits.result.now c.self.view_is c.self.invariant.0 c.requires.read c.requires.unread c.leaves_for-bits.ensures.told c.leaves_for-bits.ensures.none).are in
-    let kept = at_none ((c.advance_own.new.matches ≡ c.self.inside.matches) × (c.advance_own.new.steps ≡ c.args.steps.now) × Stays c.self.inside.matches (key_there c.as_slice-table.result.now c.args.event.now) c.leaves_for-bits.result.now c.self.inside.patient) c.in-Ok-None.field-0 c.in-Ok-None.field-0-is c.in-Ok-None.ensures.stays in
-    let stays = subst (λ (t : List (Option (List ℕ))). Stays c.self.inside.matches (key_there t c.args.event.now) c.leaves_for-bits.result.now c.self.inside.patient) c.as_slice-table.ensures.value kept.2 in
+    let stays = subst (λ (t : List (Option (List ℕ))). Stays c.self.inside.matches (key_there t c.args.event.now) c.leaves_for-bits.result.now c.self.inside.patient) c.as_slice-table.ensures.value
+    (subst (λ (o : Own). IsOwn o c.self.inside.matches c.as_slice-table.result.now c.args.event.now c.leaves_for-bits.result.now c.self.inside.patient) c.in-Passes.is c.look-own.ensures) in
     let is : c.self.inside.floats ≡ true = search rules in
     let le : c.self.inside.upto ≤ c.args.position = search rules in
-    λ by. passed_now c.self.inside.schema.value c.self.inside.query c.args.event.now c.args.position c.self.inside.step c.self.inside.ready c.self.inside.sizes c.advance_own.new.sizes c.self.inside.matches c.advance_own.new.matches c.self.inside.clock.last c.self.inside.here c.self.inside.upto c.self.inside.floats c.args.self.now c.self.view_is c.requires.idle kept.0 (stays_pass c.self.inside.schema.value c.self.inside.query c.self.inside.clock.source c.self.inside.types.items c.self.inside.keys.items c.leaves_for-bits.result.now c.self.inside.patient c.args.event.now c.args.position c.self.inside.matches c.self.inside.clock.last c.self.inside.here c.self.inside.upto c.self.inside.floats is le c.self.invariant.3 c.self.invariant.2 c.self.invariant.0.types c.self.invariant.0.clock c.self.invariant.0.keys f.of_schema bits_are stays)
+    λ by. subst (λ (p : Phase). HasPassed c.args.event.now c.args.position (seen c.args.position p) (seen (c.args.position + 1) p)) (idle_fields c.self.inside.schema.value c.self.inside.query c.self.inside.step c.self.inside.ready c.self.inside.sizes c.self.inside.matches c.self.inside.clock.last c.self.inside.here c.self.inside.upto c.self.inside.floats c.args.self.now c.self.view_is c.requires.idle)
+    (stays_pass c.self.inside.schema.value c.self.inside.query c.self.inside.clock.source c.self.inside.types.items c.self.inside.keys.items c.leaves_for-bits.result.now c.self.inside.patient c.args.event.now c.args.position c.self.inside.matches c.self.inside.clock.last c.self.inside.here c.self.inside.upto c.self.inside.floats is le c.self.invariant.3 c.self.invariant.2 c.self.invariant.0.types c.self.invariant.0.clock c.self.invariant.0.keys f.of_schema bits_are stays)
 
 pub invariant_of-self-in-Ok-Some : goal.invariant_of-self-in-Ok-Some
 invariant_of-self-in-Ok-Some g c =
@@ -119,8 +122,8 @@ returns-in-Ok-Some-clause-within g c =
     own_within c.self.inside.schema.value c.self.inside.query c.self.inside.keys.items c.leaves_for-bits.result.now c.args.event.now c.args.position c.self.inside.matches (clock_at c.self.inside.floats c.self.inside.upto c.args.position c.self.inside.clock.last) (here_at c.self.inside.upto c.args.position c.self.inside.here) (seen c.args.position c.args.self.now) (to_z w128 (of_z w128 c.now-clock.result)) c.args.steps.now c.advance_own.new.steps i c.self.invariant.0.keys f.of_schema does clock bits_are
     (subst (λ (t : List (Option (List ℕ))). (c.advance_own.new.steps ≡ c.args.steps.now) ⊎ HasOwnWorked c.leaves_for-bits.result.now (key_there t c.args.event.now) c.self.inside.matches c.args.steps.now c.advance_own.new.steps) c.as_slice-table.ensures.value c.advance_own.ensures.worked)
 
-pub returns-else-self-clause-ready : goal.returns-else-self-clause-ready
-returns-else-self-clause-ready g c =
+pub returns-in-Ok-None-clause-ready : goal.returns-in-Ok-None-clause-ready
+returns-in-Ok-None-clause-ready g c =
     let f = facts c.self.inside.schema.value c.self.inside.query c.args.event.now c.args.position c.self.inside.step c.self.inside.ready c.self.inside.sizes c.self.inside.matches c.self.inside.clock.last c.self.inside.here c.self.inside.upto c.self.inside.floats c.args.self.now c.self.view_is c.requires.idle c.requires.can in
     let told : (c.self.inside.floats || slice_index_or c.self.inside.types.items c.args.event.now.ty false) ≡ true = search rules in
     let does = may_reads c.self.inside.schema.value c.self.inside.query c.self.inside.clock.source c.self.inside.types.items c.self.inside.floats c.args.event.now c.self.invariant.2 c.self.invariant.0.types f.of_schema told in
@@ -167,4 +170,17 @@ pub returns-in-Ok-Some-clause-kept : goal.returns-in-Ok-Some-clause-kept
 returns-in-Ok-Some-clause-kept g c =
     let m = at_some (λ (r : Ready). (cut c.advance_own.new.sizes c.advance_own.new.matches ≡ c.self.inside.matches) × CanCut c.advance_own.new.sizes c.advance_own.new.matches) c.in-Ok-Some.field-0 c.in-Ok-Some.ready c.in-Ok-Some.field-0-is c.in-Ok-Some.ensures.sizes in
     ap (λ (h : Held). back (seen c.args.position (sleeper c.self.inside.schema.value c.self.inside.query h c.self.inside.clock.last c.self.inside.here c.self.inside.upto c.self.inside.floats))) m.0
+    ∙ ap (λ (p : Phase). back (seen c.args.position p)) (idle_fields c.self.inside.schema.value c.self.inside.query c.self.inside.step c.self.inside.ready c.self.inside.sizes c.self.inside.matches c.self.inside.clock.last c.self.inside.here c.self.inside.upto c.self.inside.floats c.args.self.now c.self.view_is c.requires.idle)
+
+pub advance_own-requires-clause-well_formed : goal.advance_own-requires-clause-well_formed
+advance_own-requires-clause-well_formed g c = (facts c.self.inside.schema.value c.self.inside.query c.args.event.now c.args.position c.self.inside.step c.self.inside.ready c.self.inside.sizes c.self.inside.matches c.self.inside.clock.last c.self.inside.here c.self.inside.upto c.self.inside.floats c.args.self.now c.self.view_is c.requires.idle c.requires.can).stands.nodes
+
+pub returns-in-Err-clause-kept : goal.returns-in-Err-clause-kept
+returns-in-Err-clause-kept g c =
+    ap (λ (p : Phase). back (seen c.args.position p)) (as_it_was c.self.inside.schema.value c.self.inside.query c.self.inside.step c.self.inside.ready c.self.inside.sizes c.advance_own.new.sizes c.self.inside.matches c.advance_own.new.matches c.self.inside.clock.last c.self.inside.here c.self.inside.upto c.self.inside.floats c.args.self.now c.self.view_is c.requires.idle c.in-Err.ensures.refused)
+
+pub returns-in-Ok-None-clause-kept : goal.returns-in-Ok-None-clause-kept
+returns-in-Ok-None-clause-kept g c =
+    let kept = at_none ((c.advance_own.new.matches ≡ c.self.inside.matches) × (c.advance_own.new.steps ≡ c.args.steps.now) × Stays c.self.inside.matches (key_there c.as_slice-table.result.now c.args.event.now) c.leaves_for-bits.result.now c.self.inside.patient) c.in-Ok-None.field-0 c.in-Ok-None.field-0-is c.in-Ok-None.ensures.stays in
+    ap (λ (h : Held). back (seen c.args.position (sleeper c.self.inside.schema.value c.self.inside.query h c.self.inside.clock.last c.self.inside.here c.self.inside.upto c.self.inside.floats))) kept.0
     ∙ ap (λ (p : Phase). back (seen c.args.position p)) (idle_fields c.self.inside.schema.value c.self.inside.query c.self.inside.step c.self.inside.ready c.self.inside.sizes c.self.inside.matches c.self.inside.clock.last c.self.inside.here c.self.inside.upto c.self.inside.floats c.args.self.now c.self.view_is c.requires.idle)

@@ -88,6 +88,22 @@ SELECT * FROM S WHERE A ; B ; C FILTER A[v < 300] AND B[v < 300] AND C[v < 300] 
     return text, events()
 
 
+def choices(dice, count):
+    """64 queries whose conditions are choices of numbers and of texts, over a type for each."""
+    words = [f"word{k}" for k in range(60)]
+    text = "".join(f"DECLARE EVENT {it}(v INT, s STRING)\n" for it in "ABC") + "DECLARE STREAM S(A, B, C)\n"
+    for _ in range(64):
+        numbers = " OR ".join(f"v = {it}" for it in dice.sample(range(1000), 3))
+        texts = " OR ".join(f"s = '{it}'" for it in dice.sample(words, 2))
+        text += f"SELECT * FROM S WHERE A ; B FILTER A[{numbers}] AND B[{texts}] WITHIN 100 EVENTS\n"
+
+    def events():
+        for _ in range(count):
+            yield f"{dice.choice('ABC')},{dice.randint(0, 999)},{dice.choice(words)}"
+
+    return text, events()
+
+
 ALL = {
     "sequence": sequence,
     "window-100": window(100),
@@ -98,6 +114,7 @@ ALL = {
     "queries": many(64),
     "answers": answers,
     "partitions": partitions,
+    "choices": choices,
 }
 
 

@@ -26,11 +26,13 @@ pub record Phase : Type 0 where
 abbrev pub part_bound : Part → ℕ
 part_bound part = update_bound (length part.table.states)
 
--- States and nodes are added, and no more nodes than the states allow; none where the query does not read the event.
+-- States and nodes are added, and no more nodes than the states allow; and one key at most. Where the query does not read the event no node and no key is.
 pub record Grows (schema : Declared) (q : Query) (event : Event) (old new : Part) : Type 0 where
   pub extends : Extends old new
   pub growth : length new.nodes ≤ length old.nodes + part_bound new
   pub unread : (Reads schema q event → ⊥) → length new.nodes ≡ length old.nodes
+  pub key : length new.keys ≤ length old.keys + 1
+  pub no_key : (Reads schema q event → ⊥) → length new.keys ≡ length old.keys
 
 -- What stands for the events becomes what stands for one more, where time does not fall.
 pub record IsStep (schema : Declared) (q : Query) (event : Event) (position : ℕ) (old new : Part) : Type 0 where

@@ -9,6 +9,7 @@ use Rattle.std.proofs.lemmas.Bool.{cases_eq}
 use Rattle.std.proofs.lemmas.Option.{slice_get_within, get_or_from_slice_get, slice_get-get_or}
 use Rattle.cer_base.specs.declared.node.Root.{Root}
 use Rattle.cer_base.specs.declared.node.Node.{Node}
+use Rattle.event_update.specs.Update.{entries_in}
 use Rattle.arena_compact.specs.Roots.{recent_entries, with_row, kept_rows, EntriesMoved, RowsMoved, MovedAt, Stays, Goes}
 
 -- The first k rows are moved, and those that stay come first.
@@ -42,6 +43,34 @@ some_alone n (e ∷ es) lt = refl
 
 take_next : (rows : List (ℕ × List Root)) (k : ℕ) (r : ℕ × List Root) → slice_get rows k ≡ Some r → take (k + 1) rows ≡ take k rows ++ r ∷ []
 take_next rows k r h = take_more rows k r (slice_get_within rows k r h) ∙ ap (λ s. take k rows ++ s ∷ []) (get_or_from_slice_get rows k r r h)
+
+with_entries : (n : ℕ) (es : List Root) (rows : List (ℕ × List Root)) → entries_in (with_row n es rows) ≡ length es + entries_in rows
+with_entries n [] rows = omega arith
+with_entries n (e ∷ es) rows = omega arith
+
+recent_after : (low : ℤ) (rows : List (ℕ × List Root)) (r : ℕ × List Root) → entries_in (kept_rows low (rows ++ r ∷ [])) ≡ entries_in (kept_rows low rows) + length (recent_entries low r.1)
+recent_after low [] r = with_entries r.0 (recent_entries low r.1) [] ∙ omega arith
+recent_after low (s ∷ rows) r =
+    let one = with_entries s.0 (recent_entries low s.1) (kept_rows low (rows ++ r ∷ [])) in
+    let two = with_entries s.0 (recent_entries low s.1) (kept_rows low rows) in
+    let rest = recent_after low rows r in omega arith
+
+-- how many recent entries one row more has
+pub recent_more : (low : ℤ) (rows : List (ℕ × List Root)) (k : ℕ) (r : ℕ × List Root) → slice_get rows k ≡ Some r → entries_in (kept_rows low (take (k + 1) rows)) ≡ entries_in (kept_rows low (take k rows)) + length (recent_entries low r.1)
+recent_more low rows k r at = ap (λ (rs : List (ℕ × List Root)). entries_in (kept_rows low rs)) (take_next rows k r at) ∙ recent_after low (take k rows) r
+
+entries_moved : (nodes : List Node) (table : List (Option ℕ)) (es fs : List Root) → EntriesMoved nodes table es fs → length fs ≡ length es
+entries_moved nodes table [] [] m = refl
+entries_moved nodes table [] (f ∷ fs) m = absurd m
+entries_moved nodes table (e ∷ es) [] m = absurd m
+entries_moved nodes table (e ∷ es) (f ∷ fs) m = let rest = entries_moved nodes table es fs m.1 in omega arith
+
+-- moved rows have as many entries as before
+pub as_many_entries : (nodes : List Node) (table : List (Option ℕ)) (ls ms : List (ℕ × List Root)) → RowsMoved nodes table ls ms → entries_in ms ≡ entries_in ls
+as_many_entries nodes table [] [] m = refl
+as_many_entries nodes table [] (y ∷ ms) m = absurd m
+as_many_entries nodes table (x ∷ ls) [] m = absurd m
+as_many_entries nodes table (x ∷ ls) (y ∷ ms) m = let one = entries_moved nodes table x.1 y.1 m.1 in let rest = as_many_entries nodes table ls ms m.2 in omega arith
 
 -- after the swap the row stands after those that stay
 front_swapped : (cur : List (ℕ × List Root)) (kept k : ℕ) (fs : ℕ × List Root) → kept ≤ k → k < length cur → (take (kept + 1) (swap (set cur k fs) kept k) ≡ take kept cur ++ fs ∷ []) × (drop (k + 1) (swap (set cur k fs) kept k) ≡ drop (k + 1) cur)

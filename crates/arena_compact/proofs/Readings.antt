@@ -58,6 +58,10 @@ entries_more rows k r lt e = ap entries_in (take_read rows k r lt e) ∙ entries
 pub places_more : (keys : List (List (ℕ × List Root))) (k : ℕ) (rows : List (ℕ × List Root)) → k < length keys → rows ≡ get_or keys k rows → places (take (k + 1) keys) ≡ places (take k keys) + entries_in rows
 places_more keys k rows lt e = ap places (take_read keys k rows lt e) ∙ sum_by-append entries_in (take k keys) (rows ∷ []) ∙ omega arith
 
+-- another key's rows at a place, after those before it
+pub places_set : (keys : List (List (ℕ × List Root))) (k : ℕ) (rows : List (ℕ × List Root)) → k < length keys → places (take (k + 1) (set keys k rows)) ≡ places (take k keys) + entries_in rows
+places_set keys k rows lt = ap places (take_more_set keys k rows lt) ∙ sum_by-append entries_in (take k keys) (rows ∷ []) ∙ omega arith
+
 -- The first k cursors are moved.
 pub record CursorsMoved (query : ℕ) (table : List (Option ℕ)) (old cur : List CursorState) (k : ℕ) : Type 0 where
   pub long : length cur ≡ length old

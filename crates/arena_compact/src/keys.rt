@@ -77,7 +77,8 @@ pub fn keep_keys<K: HasLists, L: Ledger>(
     }
 }
 
-/// Moves the recent entries of a key's lists. At most three steps for each entry.
+/// Moves the recent entries of a key's lists. At most three steps for each entry, and at least three
+/// for each that stays.
 fn move_key<S: NodeStore, K: HasLists, L: Ledger>(
     store: &S,
     low: i128,
@@ -91,12 +92,14 @@ fn move_key<S: NodeStore, K: HasLists, L: Ledger>(
     ensures moved { RowsMoved (S.nodes store.now) table.now (kept_rows low (K.rows key.old))
         (K.rows key.new) }
     ensures steps { steps.new ≤ steps.old + 3 * entries_in (K.rows key.old) }
+    ensures counted { 3 * entries_in (K.rows key.new) + steps.old ≤ steps.new }
 {
     let lists = move_rows(store, low, key.take(), table, steps);
     key.put(lists);
 }
 
-/// Moves the recent entries of all keys' lists. At most three steps for each entry.
+/// Moves the recent entries of all keys' lists. At most three steps for each entry, and at least three
+/// for each that stays.
 pub fn move_keys<S: NodeStore, K: HasLists, L: Ledger>(
     store: &S,
     low: i128,
@@ -110,6 +113,7 @@ pub fn move_keys<S: NodeStore, K: HasLists, L: Ledger>(
     ensures moved { KeysMoved low (S.nodes store.now) table.now (map K.rows keys.old)
         (map K.rows keys.new) }
     ensures steps { steps.new ≤ steps.old + 3 * places (map K.rows keys.old) }
+    ensures counted { 3 * places (map K.rows keys.new) + steps.old ≤ steps.new }
 {
     for k in 0..keys.len() {
         move_key(store, low, &mut keys[k], table, steps);

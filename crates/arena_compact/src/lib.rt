@@ -82,7 +82,8 @@ impl Room {
     }
 }
 
-/// Marks all nodes that are needed. At most one step for each node and each entry.
+/// Marks all nodes that are needed. At most one step for each node and each entry, and at least one for
+/// each entry.
 fn keep_all<S: NodeStore, K: HasLists, C: HasCursor, L: Ledger>(
     store: &S,
     query: u64,
@@ -105,6 +106,7 @@ fn keep_all<S: NodeStore, K: HasLists, C: HasCursor, L: Ledger>(
     ensures long { length table.new ≡ length table.old }
     ensures steps { steps.new
         ≤ steps.old + places (map K.rows keys.now) + length (S.nodes store.now) }
+    ensures counted { places (map K.rows keys.now) + steps.old ≤ steps.new }
 {
     keep_keys(keys, least, table, steps);
     keep_cursors(cursors, query, table);
@@ -112,7 +114,8 @@ fn keep_all<S: NodeStore, K: HasLists, C: HasCursor, L: Ledger>(
 }
 
 /// Moves all nodes that are needed, and with them the entries of the lists and the stacks of the
-/// query's cursors. At most four steps for each node and three for each entry.
+/// query's cursors. At most four steps for each node and three for each entry, and at least three for
+/// each entry that stays.
 fn move_all<S: NodeStore, K: HasLists, C: HasCursor, L: Ledger>(
     store: &mut S,
     query: u64,
@@ -142,6 +145,7 @@ fn move_all<S: NodeStore, K: HasLists, C: HasCursor, L: Ledger>(
     ensures count { length cursors.new ≡ length cursors.old }
     ensures steps { steps.new
         ≤ steps.old + 4 * length (S.nodes store.old) + 3 * places (map K.rows keys.old) }
+    ensures counted { 3 * places (map K.rows keys.new) + steps.old ≤ steps.new }
 {
     move_nodes(store, least, table, steps);
     move_cursors(cursors, query, table);
@@ -185,6 +189,8 @@ fn compact_in<S: NodeStore, K: HasLists, C: HasCursor, L: Ledger>(
     ensures count { length cursors.new ≡ length cursors.old }
     ensures steps { steps.new
         ≤ steps.old + 8 * length (S.nodes store.old) + 4 * places (map K.rows keys.old) }
+    ensures counted { places (map K.rows keys.old) + 3 * places (map K.rows keys.new) + steps.old
+        ≤ steps.new }
 {
     let least = least_low(cursors, query, low);
     blank(table);
@@ -200,7 +206,7 @@ fn compact_in<S: NodeStore, K: HasLists, C: HasCursor, L: Ledger>(
 /// in their order; a cursor of the query has the same answers left, and one of another query is not
 /// touched. Nodes get other ids, so a list or a cursor of the query that is not among these no longer
 /// goes with the store. It takes no memory, at most eight steps for each node and four for each
-/// entry.
+/// entry, and at least one for each entry and three more for each that stays.
 pub fn compact<S: NodeStore, K: HasLists, C: HasCursor, L: Ledger>(
     store: &mut S,
     query: u64,
@@ -228,6 +234,8 @@ pub fn compact<S: NodeStore, K: HasLists, C: HasCursor, L: Ledger>(
     ensures room { room.new ≡ room.old }
     ensures steps { steps.new
         ≤ steps.old + 8 * length (S.nodes store.old) + 4 * places (map K.rows keys.old) }
+    ensures counted { places (map K.rows keys.old) + 3 * places (map K.rows keys.new) + steps.old
+        ≤ steps.new }
 {
     let count = store.len() as usize;
     let table = &mut room.places.as_mut_slice()[..count];

@@ -41,7 +41,8 @@ pub fn keep_list<L: Ledger>(list: &UList, low: i128, table: &mut [Option<Id>], s
     }
 }
 
-/// Moves an entry, if it is recent, and tells whether it is. At most three steps.
+/// Moves an entry, if it is recent, and tells whether it is. One step to read it, and where it is
+/// recent one to read its node and one to write it.
 fn move_entry<S: NodeStore, L: Ledger>(
     store: &S,
     low: i128,
@@ -59,6 +60,8 @@ fn move_entry<S: NodeStore, L: Ledger>(
     ensures old { result ≡ false → (e : Root) × (slice_get list.old k ≡ Some e)
         × (int_le low e.max.clock ≡ false) × (list.new ≡ list.old) }
     ensures steps { steps.new ≤ steps.old + 3 }
+    ensures counted { result ≡ true → steps.old + 3 ≤ steps.new }
+    ensures looked { steps.old + 1 ≤ steps.new }
 {
     steps.tick();
     let entry = list.entry(k);
@@ -73,7 +76,7 @@ fn move_entry<S: NodeStore, L: Ledger>(
 }
 
 /// Moves the recent entries of a list and cuts the others off. False where none is recent. At most
-/// three steps for each entry.
+/// three steps for each entry, and at least three for each recent one.
 pub fn move_list<S: NodeStore, L: Ledger>(
     store: &S,
     low: i128,
@@ -89,6 +92,7 @@ pub fn move_list<S: NodeStore, L: Ledger>(
     ensures some { result ≡ true → 0 < length (recent_entries low list.old) }
     ensures old { result ≡ false → recent_entries low list.old ≡ [] }
     ensures steps { steps.new ≤ steps.old + 3 * length list.old }
+    ensures counted { 3 * length (recent_entries low list.old) + steps.old ≤ steps.new }
 {
     for k in 0..list.len() {
         if !move_entry(store, low, list, k, table, steps) {

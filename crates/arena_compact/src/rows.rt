@@ -39,7 +39,8 @@ pub fn keep_rows<L: Ledger>(
 }
 
 /// Moves the recent entries of row k, and gives how many rows stay: those before `kept`, and row k
-/// after them where it has one. At most three steps for each entry.
+/// after them where it has one. At most three steps for each entry, and at least three for each recent
+/// one.
 fn move_row<S: NodeStore, L: Ledger>(
     store: &S,
     low: i128,
@@ -57,6 +58,8 @@ fn move_row<S: NodeStore, L: Ledger>(
     ensures moved { MovedAt low (S.nodes store.now) table.now rows.old kept k result rows.new }
     ensures steps { (r : ℕ × List Root) → slice_get rows.old k ≡ Some r
         → steps.new ≤ steps.old + 3 * length r.1 }
+    ensures counted { (r : ℕ × List Root) → slice_get rows.old k ≡ Some r
+        → 3 * length (recent_entries low r.1) + steps.old ≤ steps.new }
 {
     if !move_list(store, low, &mut rows[k].1, table, steps) {
         return kept;
@@ -66,7 +69,8 @@ fn move_row<S: NodeStore, L: Ledger>(
 }
 
 /// Moves the recent entries of a key's lists. The rows that have one come first then, in their
-/// order; the answer is how many they are. At most three steps for each entry.
+/// order; the answer is how many they are. At most three steps for each entry, and at least three for
+/// each recent one.
 fn move_each<S: NodeStore, L: Ledger>(
     store: &S,
     low: i128,
@@ -81,6 +85,7 @@ fn move_each<S: NodeStore, L: Ledger>(
         (take result rows.new) }
     ensures upto { result ≤ length rows.new }
     ensures steps { steps.new ≤ steps.old + 3 * entries_in rows.old }
+    ensures counted { 3 * entries_in (kept_rows low rows.old) + steps.old ≤ steps.new }
 {
     let mut kept = 0;
     for k in 0..rows.len() {
@@ -90,7 +95,7 @@ fn move_each<S: NodeStore, L: Ledger>(
 }
 
 /// Moves the recent entries of a key's lists, and keeps the rows that have one alone, in their
-/// order. At most three steps for each entry.
+/// order. At most three steps for each entry, and at least three for each recent one.
 fn move_some<S: NodeStore, L: Ledger>(
     store: &S,
     low: i128,
@@ -104,6 +109,7 @@ fn move_some<S: NodeStore, L: Ledger>(
     ensures moved { RowsMoved (S.nodes store.now) table.now (kept_rows low rows.items)
         result.items }
     ensures steps { steps.new ≤ steps.old + 3 * entries_in rows.items }
+    ensures counted { 3 * entries_in (kept_rows low rows.items) + steps.old ≤ steps.new }
 {
     let kept = move_each(store, low, rows.as_mut_slice(), table, steps);
     rows.truncate(kept);
@@ -111,7 +117,7 @@ fn move_some<S: NodeStore, L: Ledger>(
 }
 
 /// Moves the recent entries of a key's lists, and keeps the lists that have one alone, in their
-/// order. At most three steps for each entry.
+/// order. At most three steps for each entry, and at least three for each recent one.
 pub fn move_rows<S: NodeStore, L: Ledger>(
     store: &S,
     low: i128,
@@ -125,6 +131,7 @@ pub fn move_rows<S: NodeStore, L: Ledger>(
     ensures moved { RowsMoved (S.nodes store.now) table.now (kept_rows low active.entries)
         result.entries }
     ensures steps { steps.new ≤ steps.old + 3 * entries_in active.entries }
+    ensures counted { 3 * entries_in (kept_rows low active.entries) + steps.old ≤ steps.new }
 {
     let rows = active.into_rows();
     let kept = move_some(store, low, rows, table, steps);

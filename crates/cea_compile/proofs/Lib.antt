@@ -32,3 +32,7 @@ pub mod Sets
 pub mod Below
 -- the automaton that is built is that of the leaves
 pub mod Built
+-- the ends of a chain and of a choice, part by part
+pub mod Joined
+-- the parts of a shape are lower than the shape
+pub mod Lower

@@ -1,5 +1,5 @@
 -- The entries of a determinised run tell the events of a substream, and its marks are those of an answer.
-use Rattle.std.specs.Prelude.{◌≡◌, ℕ, ◌<◌, ◌≤◌, ◌⊎◌, ◌↔◌, Bool, true, List, [], ◌∷◌, Contains}
+use Rattle.std.specs.Prelude.{◌≡◌, ℕ, ◌<◌, ◌≤◌, ◌⊎◌, ◌↔◌, true, List, [], ◌∷◌, Contains}
 use Rattle.cel_terms.specs.Meaning.{Stream}
 use Rattle.cel_terms.specs.Answers.{IsAscending}
 use Rattle.cea_determinise.specs.Runs.{LeafSet, Entry}

@@ -5,3 +5,5 @@ pub mod Compiled
 pub mod DeterminisedRuns
 pub mod LeafAutomaton
 pub mod Found
+pub mod Ended
+pub mod Heights

@@ -19,6 +19,7 @@ use crate::successor::successor;
 use crate::table::{Both, EventClass, Sizes, State, Successors, TransitionKey};
 use cer_base::Memory;
 use cer_base::bits::Bits;
+use cer_base::seed::Seed;
 use cer_base::steps::Steps;
 use indexmap::{IndexMap, IndexSet};
 use std::alloc::Global;
@@ -41,14 +42,14 @@ pub struct Det {
     /// event.
     counts: Sizes,
     /// For each class the leaves that can read its events.
-    classes: IndexSet<Bits>,
+    classes: IndexSet<Bits, Seed>,
     /// For each state other than the start, by its number, whether it accepts, where there was memory
     /// for it.
     accepting: Vec<bool>,
     /// Where a pair may stand among the transitions, which is then tried before its hash is made.
     places: Places,
-    transitions: IndexMap<TransitionKey, Successors>,
-    states: IndexSet<StateSets>,
+    transitions: IndexMap<TransitionKey, Successors, Seed>,
+    states: IndexSet<StateSets, Seed>,
     cea: Cea,
     alloc: Global,
 }
@@ -79,8 +80,8 @@ impl Model for Det {
 }
 
 impl Det {
-    /// The automaton with no state met yet. It takes no memory.
-    pub fn new(alloc: Global, cea: Cea) -> Det
+    /// The automaton with no state met yet, whose tables hash by the seed. It takes no memory.
+    pub fn new(alloc: Global, seed: Seed, cea: Cea) -> Det
         requires { IsWellFormed cea }
         ensures { result ≡ record { cea = cea; states = []; classes = []; transitions = [] } }
     {
@@ -91,11 +92,11 @@ impl Det {
                 pairs: 0,
                 classes: 0,
             },
-            classes: IndexSet::new(alloc),
+            classes: IndexSet::with_hasher(alloc, seed),
             accepting: Vec::new(alloc),
             places: Places::new(alloc),
-            transitions: IndexMap::new(alloc),
-            states: IndexSet::new(alloc),
+            transitions: IndexMap::with_hasher(alloc, seed),
+            states: IndexSet::with_hasher(alloc, seed),
             cea,
             alloc,
         }
@@ -261,11 +262,13 @@ impl Det {
         }
     }
 
-    /// The row that was kept under the number, or another one.
-    pub fn known_row(&self, number: u64) -> Option<&KnownRow>
+    /// The row that was kept under the number, or another one. One step, also where there is none.
+    pub fn known_row<L: Ledger>(&self, number: u64, steps: &mut Steps<L>) -> Option<&KnownRow>
         ensures listed { IfSome result (λ r. IsListed self.now.transitions r.now) }
         ensures sound { IsSound self.now }
+        ensures steps { steps.new ≡ steps.old + 1 }
     {
+        steps.tick();
         self.rows.get(number)
     }
 
@@ -365,7 +368,7 @@ impl Det {
 
 /// The number of the state, which is the next one where the state is new. The states are counted.
 fn number(
-    states: &mut IndexSet<StateSets>,
+    states: &mut IndexSet<StateSets, Seed>,
     count: &mut u64,
     state_sets: Option<StateSets>,
 ) -> Result<Option<State>, Memory>
@@ -388,7 +391,7 @@ fn number(
 fn tell_accepting(
     accepting: &mut Vec<bool>,
     cea: &Cea,
-    states: &IndexSet<StateSets>,
+    states: &IndexSet<StateSets, Seed>,
 ) -> Result<(), Memory>
     requires well_formed { IsWellFormed cea.now }
     requires states { All (HasLeavesBelow cea.now.size) states.now.keys }

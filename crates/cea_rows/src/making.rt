@@ -7,6 +7,7 @@ use cea_determinise::det::Det;
 use cea_determinise::table::{State, Successors};
 use cel_terms::Query;
 use cer_base::Memory;
+use cer_base::seed::Seed;
 use cer_base::steps::Steps;
 use predicate_bits::Conditions;
 use query_leaves::leaves_of;
@@ -37,7 +38,7 @@ impl Machine {
     /// The machine of the query, with no state met yet.
     pub fn of(alloc: Global, schema: &Schema, query: &Query) -> Result<Machine, Memory> {
         let leaves = leaves_of(alloc, schema, query)?;
-        let det = Det::new(alloc, compile(alloc, &leaves)?);
+        let det = Det::new(alloc, Seed::default(), compile(alloc, &leaves)?);
         let conditions = Conditions::of(alloc, leaves.list)?;
         Ok(Machine { conditions, det })
     }

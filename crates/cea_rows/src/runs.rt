@@ -1,16 +1,16 @@
 //! Runs of a sample's machine, beside the plain evaluator's answers.
 
-ghost use Rattle.std.specs.Prelude.{◌≡◌, ◌<◌};
+ghost use Rattle.std.specs.Prelude.{◌≡◌};
 
 use crate::formulas::{Sample, answers_at, event, events, machine};
 use crate::making::Machine;
 use cea_determinise::table::State;
 use cel_plain::answers::ComplexEvent;
 use cer_base::Memory;
-use cer_base::steps::Steps;
+use cer_base::steps::{Opening, Steps};
 use std::alloc::Global;
 use std::marker::Brand;
-use std::sync::ledger::{Blank, Ledger};
+use std::sync::ledger::Ledger;
 use stream_schema::Event;
 
 /// The state after the event, None where there is none.
@@ -150,13 +150,12 @@ fn agree<L: Ledger>(
     alloc: Global,
     sample: Sample,
     events: &[Event],
-    blank: Blank,
+    opening: Opening,
 ) -> Result<bool, Memory>
-    requires name { blank.name ≡ L.name }
-    requires parts { blank.parts ≡ L.parts }
-    requires some { 0 < blank.parts }
+    requires name { opening.name ≡ L.name }
+    requires parts { opening.parts ≡ L.parts }
 {
-    let mut steps = Steps::<L>::start(blank);
+    let mut steps = Steps::<L>::start(opening);
     match machine(alloc, sample)? {
         Some(mut machine) => agree_to_each(alloc, &mut machine, sample, events, &mut steps),
         None => Ok(false),
@@ -169,9 +168,10 @@ pub fn runs_are_answers(
     alloc: Global,
     sample: Sample,
     given: &[(u64, i64)],
+    runtime: &HostRuntime,
 ) -> Result<bool, Memory> {
     let events = events(alloc, given)?;
-    agree::<Brand>(alloc, sample, events.as_slice(), Blank::new(1))
+    agree::<Brand>(alloc, sample, events.as_slice(), Opening::new(runtime))
 }
 
 fn count_on<L: Ledger>(
@@ -214,17 +214,16 @@ fn count_in<L: Ledger>(
     }
 }
 
-fn counted<L: Ledger>(alloc: Global, sample: Sample, blank: Blank) -> Result<(u64, u64), Memory>
-    requires name { blank.name ≡ L.name }
-    requires parts { blank.parts ≡ L.parts }
-    requires some { 0 < blank.parts }
+fn counted<L: Ledger>(alloc: Global, sample: Sample, opening: Opening) -> Result<(u64, u64), Memory>
+    requires name { opening.name ≡ L.name }
+    requires parts { opening.parts ≡ L.parts }
 {
-    let mut steps = Steps::<L>::start(blank);
+    let mut steps = Steps::<L>::start(opening);
     count_in(alloc, sample, &mut steps)
 }
 
 /// How many events of type A are taken as marked, each at the state before, at most 100, and how many
 /// of their states accept.
-pub fn taken(alloc: Global, sample: Sample) -> Result<(u64, u64), Memory> {
-    counted::<Brand>(alloc, sample, Blank::new(1))
+pub fn taken(alloc: Global, sample: Sample, runtime: &HostRuntime) -> Result<(u64, u64), Memory> {
+    counted::<Brand>(alloc, sample, Opening::new(runtime))
 }

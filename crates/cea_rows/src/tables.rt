@@ -1,15 +1,15 @@
 //! Tables of successors, and whether the machine of a sample has them.
 
-ghost use Rattle.std.specs.Prelude.{◌≡◌, ◌<◌};
+ghost use Rattle.std.specs.Prelude.{◌≡◌};
 
 use crate::formulas::{Sample, event, machine};
 use crate::making::Machine;
 use cea_determinise::table::{State, Successors};
 use cer_base::Memory;
-use cer_base::steps::Steps;
+use cer_base::steps::{Opening, Steps};
 use std::alloc::Global;
 use std::marker::Brand;
-use std::sync::ledger::{Blank, Ledger};
+use std::sync::ledger::Ledger;
 
 /// One look at the table: the state, the event's type and value, the marked and the unmarked successor.
 pub type Look = (State, u64, i64, Option<State>, Option<State>);
@@ -83,13 +83,12 @@ fn agrees<L: Ledger>(
     looks: &[Look],
     accepting: &[State],
     found: u64,
-    blank: Blank,
+    opening: Opening,
 ) -> Result<bool, Memory>
-    requires name { blank.name ≡ L.name }
-    requires parts { blank.parts ≡ L.parts }
-    requires some { 0 < blank.parts }
+    requires name { opening.name ≡ L.name }
+    requires parts { opening.parts ≡ L.parts }
 {
-    let mut steps = Steps::<L>::start(blank);
+    let mut steps = Steps::<L>::start(opening);
     agrees_in(alloc, sample, looks, accepting, found, &mut steps)
 }
 
@@ -100,6 +99,14 @@ pub fn has_table(
     looks: &[Look],
     accepting: &[State],
     found: u64,
+    runtime: &HostRuntime,
 ) -> Result<bool, Memory> {
-    agrees::<Brand>(alloc, sample, looks, accepting, found, Blank::new(1))
+    agrees::<Brand>(
+        alloc,
+        sample,
+        looks,
+        accepting,
+        found,
+        Opening::new(runtime),
+    )
 }

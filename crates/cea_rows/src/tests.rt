@@ -74,37 +74,62 @@ fn table_holds(
     looks: &[Look],
     accepting: &[State],
     found: u64,
+    runtime: &HostRuntime,
 ) -> Result<(), Memory> {
-    assert!(rt; has_table(alloc, sample, looks, accepting, found)?);
+    assert!(rt; has_table(alloc, sample, looks, accepting, found, runtime)?);
     Ok(())
 }
 
 #[test]
 fn the_65th_leaf_of_a_chain_alone_accepts(rt: HostRuntime) -> Result<(), Memory> {
-    let (count, accepting) = taken(rt.alloc(), Sample::LongChain)?;
+    let (count, accepting) = taken(rt.alloc(), Sample::LongChain, &rt)?;
     assert!(rt; count == 65 && accepting == 1);
     Ok(())
 }
 
 #[test]
 fn sequences_wait_for_any_later_event(rt: HostRuntime) -> Result<(), Memory> {
-    table_holds(&rt, rt.alloc(), Sample::Sequence, SEQUENCE, &[2], 2)
+    table_holds(&rt, rt.alloc(), Sample::Sequence, SEQUENCE, &[2], 2, &rt)
 }
 
 #[test]
 fn repetitions_go_back_to_where_they_begin(rt: HostRuntime) -> Result<(), Memory> {
-    table_holds(&rt, rt.alloc(), Sample::Repeated, REPEATED, &[1], 2)
+    table_holds(&rt, rt.alloc(), Sample::Repeated, REPEATED, &[1], 2, &rt)
 }
 
 #[test]
 fn repeating_twice_adds_nothing(rt: HostRuntime) -> Result<(), Memory> {
-    table_holds(&rt, rt.alloc(), Sample::RepeatedTwice, REPEATED, &[1], 2)
+    table_holds(
+        &rt,
+        rt.alloc(),
+        Sample::RepeatedTwice,
+        REPEATED,
+        &[1],
+        2,
+        &rt,
+    )
 }
 
 #[test]
 fn repetitions_are_tight_where_both_are(rt: HostRuntime) -> Result<(), Memory> {
-    table_holds(&rt, rt.alloc(), Sample::RepeatedThenNext, REPEATED, &[1], 2)?;
-    table_holds(&rt, rt.alloc(), Sample::NextThenRepeated, REPEATED, &[1], 2)?;
+    table_holds(
+        &rt,
+        rt.alloc(),
+        Sample::RepeatedThenNext,
+        REPEATED,
+        &[1],
+        2,
+        &rt,
+    )?;
+    table_holds(
+        &rt,
+        rt.alloc(),
+        Sample::NextThenRepeated,
+        REPEATED,
+        &[1],
+        2,
+        &rt,
+    )?;
     table_holds(
         &rt,
         rt.alloc(),
@@ -112,12 +137,13 @@ fn repetitions_are_tight_where_both_are(rt: HostRuntime) -> Result<(), Memory> {
         NEXT_REPEATED,
         &[1],
         1,
+        &rt,
     )
 }
 
 #[test]
 fn tight_followers_let_nothing_pass(rt: HostRuntime) -> Result<(), Memory> {
-    table_holds(&rt, rt.alloc(), Sample::Next, NEXT, &[2], 2)
+    table_holds(&rt, rt.alloc(), Sample::Next, NEXT, &[2], 2, &rt)
 }
 
 #[test]
@@ -129,17 +155,26 @@ fn tight_repetitions_let_nothing_pass(rt: HostRuntime) -> Result<(), Memory> {
         NEXT_REPEATED,
         &[1],
         1,
+        &rt,
     )
 }
 
 #[test]
 fn a_leaf_of_no_selected_name_is_unmarked(rt: HostRuntime) -> Result<(), Memory> {
-    table_holds(&rt, rt.alloc(), Sample::ChoiceOfOneName, CHOICE, &[1, 2], 2)
+    table_holds(
+        &rt,
+        rt.alloc(),
+        Sample::ChoiceOfOneName,
+        CHOICE,
+        &[1, 2],
+        2,
+        &rt,
+    )
 }
 
 #[test]
 fn strict_marks_stand_in_one_run(rt: HostRuntime) -> Result<(), Memory> {
-    table_holds(&rt, rt.alloc(), Sample::Strict, STRICT, &[2], 3)
+    table_holds(&rt, rt.alloc(), Sample::Strict, STRICT, &[2], 3, &rt)
 }
 
 #[test]
@@ -151,6 +186,7 @@ fn alternatives_of_a_filter_are_copies(rt: HostRuntime) -> Result<(), Memory> {
         FILTERED,
         &[3, 4],
         4,
+        &rt,
     )
 }
 
@@ -173,7 +209,7 @@ const SHORT: &[Sample] = &[
 #[test]
 fn accepted_runs_are_the_answers(rt: HostRuntime) -> Result<(), Memory> {
     for &sample in SHORT {
-        assert!(rt; runs_are_answers(rt.alloc(), sample, EVENTS)?);
+        assert!(rt; runs_are_answers(rt.alloc(), sample, EVENTS, &rt)?);
     }
     Ok(())
 }

@@ -41,6 +41,7 @@ fn check_type(alloc: Global, types: &QueryTypes, name: &Name) -> Checked
     unless_named(alloc, known, Wrong::UnknownType, name)
 }
 
+#[inline(never)]
 fn check_named_type(alloc: Global, types: &QueryTypes, name: &Name) -> NamesOrFault
     ensures told { FindsFault result (unless_named
         (is_type_name types.now name.now.text) UnknownType name.now) }
@@ -111,6 +112,7 @@ fn check_postfix(
 }
 
 /// The names after the postfixes of a formula that has these names, or the first fault.
+#[inline(never)]
 fn check_postfixes(
     alloc: Global,
     types: &QueryTypes,
@@ -131,6 +133,7 @@ fn check_postfixes(
 }
 
 /// Answers the first fault of filters of a formula with these names, and hands the names back.
+#[inline(never)]
 fn check_filtered(
     alloc: Global,
     types: &QueryTypes,

@@ -18,6 +18,7 @@ pub mod bytes;
 pub mod digits;
 pub mod limits;
 pub mod node;
+pub mod seed;
 pub mod steps;
 pub mod store;
 #[cfg(test)]
@@ -35,7 +36,9 @@ pub struct Place {
     pub col: u64,
 }
 
-/// An allocation was refused. It may come at any growth.
+/// An allocation was refused, which may come at any growth; or there is no room for more where an
+/// engine counts in fewer bits than its events: a query has 2^32 - 1 nodes, which a compaction may
+/// mend, or a position does not fit 63 bits, which nothing mends.
 #[derive(Debug, Clone, Copy, PartialEq, Eq)]
 pub struct Memory;
 

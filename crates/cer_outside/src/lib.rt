@@ -14,6 +14,7 @@ ghost use Rattle.cer_outside.specs.Content.{Content, HasOpened};
 ghost use Rattle.cer_outside.specs.Bytes.{Reads, Takes};
 
 use cer_base::Memory;
+use cer_base::seed::Seed;
 use std::alloc::Global;
 
 pub mod calls;
@@ -116,6 +117,12 @@ pub trait Host {
     /// How often a call for this name failed; the counter stays at its last value.
     fn fault_count(&self, name: &str) -> u64
         ensures { result ≡ faults self.now name.now };
+
+    /// What the hashes of tables begin with that hold what the outside chooses: two numbers that it
+    /// cannot know, where the host has them, and zeros where it has none. No answer depends on them.
+    fn seed(&self) -> Seed {
+        Seed::default()
+    }
 }
 
 /// The sink failed before it had taken all.

@@ -8,11 +8,11 @@ ghost use Rattle.union_lists.specs.Lists.{IsUnionList};
 use arena_compact::{Room, compact};
 use cer_base::Memory;
 use cer_base::node::Root;
-use cer_base::steps::Steps;
+use cer_base::steps::{Opening, Steps};
 use cer_base::store::NodeStore;
 use event_update::Active;
 use std::alloc::Global;
-use std::sync::ledger::{Blank, Ledger};
+use std::sync::ledger::Ledger;
 use tecs_arena::Arena;
 use tecs_enumerate::Cursor;
 use tecs_rows::parts::{Part, make_all, root_of};
@@ -159,11 +159,11 @@ fn compact_and_tell<S: NodeStore, L: Ledger>(
 pub fn with_a_held_cursor<L: Ledger>(
     alloc: Global,
     low: i128,
-    blank: Blank,
+    opening: Opening,
 ) -> Result<Outcome, Memory>
-    requires { Opens blank.name blank.parts L.name L.parts }
+    requires { Opens opening.name opening.parts L.name L.parts }
 {
-    let mut steps = Steps::<L>::start(blank);
+    let mut steps = Steps::<L>::start(opening);
     let mut store = Arena::new(alloc);
     let mut keys = Vec::new(alloc);
     let root = three_events(alloc, &mut store, &mut keys, &mut steps)?;
@@ -182,10 +182,14 @@ pub fn with_a_held_cursor<L: Ledger>(
 }
 
 /// The same with no cursor held.
-pub fn with_none_held<L: Ledger>(alloc: Global, low: i128, blank: Blank) -> Result<Outcome, Memory>
-    requires { Opens blank.name blank.parts L.name L.parts }
+pub fn with_none_held<L: Ledger>(
+    alloc: Global,
+    low: i128,
+    opening: Opening,
+) -> Result<Outcome, Memory>
+    requires { Opens opening.name opening.parts L.name L.parts }
 {
-    let mut steps = Steps::<L>::start(blank);
+    let mut steps = Steps::<L>::start(opening);
     let mut store = Arena::new(alloc);
     let mut keys = Vec::new(alloc);
     let _root = three_events(alloc, &mut store, &mut keys, &mut steps)?;

@@ -3,14 +3,14 @@
 ghost use Rattle.std.specs.Prelude.{◌≡◌, ◌<◌};
 
 use cer_base::Text;
-use cer_base::steps::Steps;
+use cer_base::steps::{Opening, Steps};
 use cer_outside::files::{MemFile, SureFile};
 use cer_outside::hosts::{MemHost, SureHost};
 use cer_outside::sinks::MemSink;
 use core_top::core_main;
 use std::alloc::{AllocError, Global};
 use std::marker::Brand;
-use std::sync::ledger::{Blank, Ledger};
+use std::sync::ledger::Ledger;
 
 /// A room that holds all of every output.
 pub const AMPLE: usize = 4000;
@@ -60,11 +60,10 @@ fn answer<L: Ledger>(
     words: Vec<String>,
     host: &mut MemHost,
     sinks: Sinks,
-    blank: Blank,
+    opening: Opening,
 ) -> Result<String, AllocError>
-    requires name { blank.name ≡ L.name }
-    requires parts { blank.parts ≡ L.parts }
-    requires some { 0 < blank.parts }
+    requires name { opening.name ≡ L.name }
+    requires parts { opening.parts ≡ L.parts }
     requires piece { 0 < sinks.piece }
 {
     let fails = Vec::from_slice(alloc, &[sinks.write])?;
@@ -75,7 +74,7 @@ fn answer<L: Ledger>(
     let Ok(mut notes) = MemSink::new(alloc, 7, AMPLE, fails) else {
         return Err(AllocError);
     };
-    let mut steps: Steps<L> = Steps::start(blank);
+    let mut steps: Steps<L> = Steps::start(opening);
     let status = status_of(alloc, words, host, &mut out, &mut notes, &mut steps);
     let mut text = format!(in alloc; "{status}|")?;
     push_bytes(&mut text, out.as_slice())?;
@@ -90,10 +89,11 @@ pub fn over_host(
     words: Vec<String>,
     host: &mut MemHost,
     sinks: Sinks,
+    runtime: &HostRuntime,
 ) -> Result<String, AllocError>
     requires piece { 0 < sinks.piece }
 {
-    answer::<Brand>(alloc, words, host, sinks, Blank::new(1))
+    answer::<Brand>(alloc, words, host, sinks, Opening::new(runtime))
 }
 
 /// The host that has the query text as `q` and the events as `e`, each read in pieces of 4 bytes.
@@ -165,6 +165,7 @@ pub fn resumed_well(
     queries: &[u8],
     checkpoint: &[u8],
     events: &[u8],
+    runtime: &HostRuntime,
 ) -> Result<String, AllocError> {
     let sinks = Sinks {
         room: AMPLE,
@@ -173,7 +174,7 @@ pub fn resumed_well(
         note: 0,
     };
     let mut host = failing_resume_host(alloc, queries, checkpoint, events, 0, 0, 0)?;
-    over_host(alloc, words_of(alloc, words)?, &mut host, sinks)
+    over_host(alloc, words_of(alloc, words)?, &mut host, sinks, runtime)
 }
 
 /// What a call answers where all goes well outside.
@@ -182,6 +183,7 @@ pub fn done_well(
     words: &str,
     queries: &[u8],
     events: &[u8],
+    runtime: &HostRuntime,
 ) -> Result<String, AllocError> {
     let sinks = Sinks {
         room: AMPLE,
@@ -190,5 +192,5 @@ pub fn done_well(
         note: 0,
     };
     let mut host = failing_host(alloc, queries, events, 0, 0, 0)?;
-    over_host(alloc, words_of(alloc, words)?, &mut host, sinks)
+    over_host(alloc, words_of(alloc, words)?, &mut host, sinks, runtime)
 }

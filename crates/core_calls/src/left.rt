@@ -1,16 +1,16 @@
 //! What a call leaves.
 
-ghost use Rattle.std.specs.Prelude.{◌≡◌, ◌<◌};
+ghost use Rattle.std.specs.Prelude.{◌≡◌};
 
 use crate::calls::{sure_host, words_of};
-use cer_base::steps::Steps;
+use cer_base::steps::{Opening, Steps};
 use cer_outside::hosts::SureHost;
 use cer_outside::sinks::MemSink;
 use core_top::core_main;
 use query_engine::Engine;
 use std::alloc::{AllocError, Global};
 use std::marker::Brand;
-use std::sync::ledger::{Blank, Ledger};
+use std::sync::ledger::Ledger;
 
 /// How many nodes an engine has of all queries, and how many there were at most after an event.
 fn nodes_of(engine: &Engine) -> (u64, u64) {
@@ -28,11 +28,10 @@ fn nodes_left<L: Ledger>(
     alloc: Global,
     words: Vec<String>,
     host: &mut SureHost,
-    blank: Blank,
+    opening: Opening,
 ) -> Result<Option<(u64, u64)>, AllocError>
-    requires name { blank.name ≡ L.name }
-    requires parts { blank.parts ≡ L.parts }
-    requires some { 0 < blank.parts }
+    requires name { opening.name ≡ L.name }
+    requires parts { opening.parts ≡ L.parts }
 {
     let Ok(mut out) = MemSink::new(alloc, 65_536, 1_048_576, Vec::new(alloc)) else {
         return Err(AllocError);
@@ -40,7 +39,7 @@ fn nodes_left<L: Ledger>(
     let Ok(mut notes) = MemSink::new(alloc, 65_536, 65_536, Vec::new(alloc)) else {
         return Err(AllocError);
     };
-    let mut steps: Steps<L> = Steps::start(blank);
+    let mut steps: Steps<L> = Steps::start(opening);
     let done = core_main(alloc, words, host, &mut out, &mut notes, &mut steps);
     Ok(match &done.left {
         Some(engine) => Some(nodes_of(engine)),
@@ -55,7 +54,13 @@ pub fn left_by(
     words: &str,
     queries: &[u8],
     events: &[u8],
+    runtime: &HostRuntime,
 ) -> Result<Option<(u64, u64)>, AllocError> {
     let mut host = sure_host(alloc, queries, events)?;
-    nodes_left::<Brand>(alloc, words_of(alloc, words)?, &mut host, Blank::new(1))
+    nodes_left::<Brand>(
+        alloc,
+        words_of(alloc, words)?,
+        &mut host,
+        Opening::new(runtime),
+    )
 }

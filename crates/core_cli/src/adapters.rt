@@ -6,6 +6,7 @@ ghost use Rattle.std.specs.Prelude.{◌≡◌, ◌⊎◌, None};
 ghost use Rattle.cer_outside.specs.Content.{Untold};
 ghost use Rattle.cer_outside.specs.Causes.{Rose};
 
+use cer_base::seed::Seed;
 use cer_outside::calls::one_more;
 use cer_outside::{Failed, Host, OpenError, Sink, Source};
 use std::alloc::Global;
@@ -75,17 +76,23 @@ impl<W: Write + Drop> Sink for CountedWriter<W> {
     }
 }
 
-/// The files of the system, with one count of errors for every name.
+/// The files of the system, with one count of errors for every name, and a seed for the hashes of
+/// tables.
 #[derive(Drop)]
 pub struct SystemFiles<R: Files + Drop> {
     files: R,
     faults: u64,
+    seed: Seed,
 }
 
 impl<R: Files + Drop> SystemFiles<R> {
     /// The files, with no errors so far.
-    pub fn new(files: R) -> SystemFiles<R> {
-        SystemFiles { files, faults: 0 }
+    pub fn new(files: R, seed: Seed) -> SystemFiles<R> {
+        SystemFiles {
+            files,
+            faults: 0,
+            seed,
+        }
     }
 }
 
@@ -115,5 +122,9 @@ impl<R: Files + Drop> Host for SystemFiles<R> {
 
     fn fault_count(&self, name: &str) -> u64 {
         self.faults
+    }
+
+    fn seed(&self) -> Seed {
+        self.seed
     }
 }

@@ -4,20 +4,22 @@
 //! proved, which count each error and tell no bytes.
 #![tactic(auto)]
 
-ghost use Rattle.std.specs.Prelude.{◌≡◌, ◌<◌};
+ghost use Rattle.std.specs.Prelude.{◌≡◌};
 
 mod adapters;
 
 use adapters::{CountedWriter, SystemFiles};
-use cer_base::steps::Steps;
+use cer_base::seed::Seed;
+use cer_base::steps::{Opening, Steps};
 use core_top::core_main;
 use std::alloc::Global;
 use std::env;
 use std::io::Write;
 use std::marker::Brand;
 use std::process::ExitCode;
+use std::random::RandomSource;
 use std::rt::Files;
-use std::sync::ledger::{Blank, Ledger};
+use std::sync::ledger::Ledger;
 
 /// The status where the words cannot be held.
 const OUT_OF_MEMORY: u8 = 7;
@@ -34,29 +36,41 @@ fn main(rt: HostRuntime) -> ExitCode {
     ExitCode::from(run::<&HostRuntime, _, _, Brand>(
         rt.alloc(),
         words,
-        &rt,
+        SystemFiles::new(&rt, seed_from(&rt)),
         out,
         notes,
-        Blank::new(1),
+        Opening::new(&rt),
     ))
+}
+
+/// A number from the system that nobody outside can know, or 0 where it gives none.
+fn number_from(source: &impl RandomSource) -> u64 {
+    let mut bytes = [0; 8];
+    match source.fill_bytes(&mut bytes) {
+        Ok(()) => u64::from_le_bytes(bytes),
+        Err(_) => 0,
+    }
+}
+
+/// What the hashes of tables begin with.
+fn seed_from(source: &impl RandomSource) -> Seed {
+    Seed::of(number_from(source), number_from(source))
 }
 
 /// The status of the top call over these files and streams.
 fn run<R: Files + Drop, O: Write + Drop, E: Write + Drop, L: Ledger>(
     alloc: Global,
     words: Vec<String>,
-    files: R,
+    mut files: SystemFiles<R>,
     out: O,
     notes: E,
-    blank: Blank,
+    opening: Opening,
 ) -> u8
-    requires name { blank.name ≡ L.name }
-    requires parts { blank.parts ≡ L.parts }
-    requires some { 0 < blank.parts }
+    requires name { opening.name ≡ L.name }
+    requires parts { opening.parts ≡ L.parts }
 {
-    let mut steps: Steps<L> = Steps::start(blank);
-    let mut host = SystemFiles::new(files);
+    let mut steps: Steps<L> = Steps::start(opening);
     let mut out = CountedWriter::new(out);
     let mut notes = CountedWriter::new(notes);
-    core_main(alloc, words, &mut host, &mut out, &mut notes, &mut steps).status
+    core_main(alloc, words, &mut files, &mut out, &mut notes, &mut steps).status
 }

@@ -1,4 +1,4 @@
--- How a call of the program ends, as its parts tell it to each other. Private clauses alone cite this file.
+-- How a call of the program ends, as its parts tell it to each other. Private clauses alone cite this file, but for `left_by`.
 use Rattle.std.specs.Prelude.{◌≡◌, ◌≢◌, ℕ, ◌⊎◌, List, Option, Some, None, IsSomeAnd}
 use Rattle.cer_outside.specs.Causes.{Rose, AllStay, RoseAt}
 use Rattle.cer_outside.specs.Content.{Content, Missing, Holds, HasOpened, OfOpened}

@@ -10,7 +10,7 @@ use cer_base::{Memory, OrMemory};
 use cer_outside::{Failed, Source};
 use std::alloc::Global;
 
-/// The most bytes of a file that are read: one more than a file of the first form has.
+/// The most bytes of a file that are read: one more than a query text may have.
 pub const MOST_READ: usize = LONGEST_TEXT + 1;
 
 /// The most bytes that one read asks for.

@@ -95,7 +95,8 @@ pub fn resume_files<H: Host, K: Sink, L: Ledger>(
         Ok(history) => history,
         Err(stop) => return stop,
     };
-    let mut engine = match Engine::new(alloc, accepted.schema, accepted.queries) {
+    let seed = host.seed();
+    let mut engine = match Engine::seeded(alloc, seed, accepted.schema, accepted.queries) {
         Ok(engine) => engine,
         Err(Memory) => return Stop::of(Cause::Memory),
     };

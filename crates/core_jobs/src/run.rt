@@ -138,7 +138,7 @@ pub fn read_engine<H: Host>(
         Ok(accepted) => accepted,
         Err(stop) => return Err(stop),
     };
-    match Engine::new(alloc, accepted.schema, accepted.queries) {
+    match Engine::seeded(alloc, host.seed(), accepted.schema, accepted.queries) {
         Ok(engine) => Ok(engine),
         Err(Memory) => Err(Stop::of(Cause::Memory)),
     }

@@ -13,6 +13,7 @@ use super::queries::read_accepted;
 use super::{Cause, File};
 use ceql_parser::Accepted;
 use cer_base::OrMemory;
+use cer_base::seed::Seed;
 use cer_base::steps::Steps;
 use cer_outside::{Host, Sink, Source};
 use session_script::play_script;
@@ -78,7 +79,7 @@ fn play_file<H: Host, K: Sink, L: Ledger>(
     ensures kept { (any : List ℕ) → H.content host.new any ≡ H.content host.old any }
 {
     match open(alloc, host, File::Events, script) {
-        Ok(source) => play_source(alloc, accepted, source, out, steps),
+        Ok(source) => play_source(alloc, host.seed(), accepted, source, out, steps),
         Err(stop) => stop,
     }
 }
@@ -86,6 +87,7 @@ fn play_file<H: Host, K: Sink, L: Ledger>(
 /// Carries out the commands of what the source has left.
 fn play_source<S: Source + Drop, K: Sink, L: Ledger>(
     alloc: Global,
+    seed: Seed,
     accepted: Accepted,
     mut source: S,
     out: &mut K,
@@ -108,6 +110,7 @@ fn play_source<S: Source + Drop, K: Sink, L: Ledger>(
     let before = out.fault_count();
     match play_script(
         alloc,
+        seed,
         accepted.schema,
         accepted.queries,
         &mut source,

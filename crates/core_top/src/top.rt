@@ -127,8 +127,8 @@ pub fn core_main<H: Host, K: Sink, N: Sink, L: Ledger>(
         → H.content host.old (event_file_of job) ≡ Holds lines
         → JobStops job text kept lines stop.End → IsFineOrOutside result.cause }
 
-    // Each file is opened once and in its turn, and no other name; no call failed but the one that
-    // is the cause.
+    // Each file is opened once and in its turn, and the host is asked by no other call; no call failed
+    // but the one that is the cause.
     ensures opens { (job : Job) → AsksJob (map string_bytes words.items) job
         → OpensInTurn H.opens (H.content host.old) job result.cause host.old host.new }
     ensures unopened { AskNothing (map string_bytes words.items) → host.new ≡ host.old }

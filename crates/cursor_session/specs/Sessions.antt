@@ -19,7 +19,7 @@ use Rattle.cursor_session.specs.declared.command.Command.TheVariants as command
 use Rattle.cursor_session.specs.declared.session.RunFault.{RunFault}
 use Rattle.cursor_session.specs.declared.session.RunFault.TheVariants.{Refused, WriteFault, Memory}
 use Rattle.cursor_session.specs.declared.opened.Opened.{Opened}
-use Rattle.cursor_session.specs.Machine.{Machine, OpenCursor, IsStep, IsRefused, cursor_place}
+use Rattle.cursor_session.specs.Machine.{Machine, OpenCursor, at_first, IsStep, IsRefused, cursor_place}
 
 -- What contracts see of a session: its engine, the numbers of its open cursors with the positions at which they were opened, the cursors in the same order, and whether it is closed.
 pub record Session : Type 0 where
@@ -45,6 +45,13 @@ cursors_seen engine (o ∷ opened) (c ∷ cursors) = cursor_seen engine o c ∷ 
 pub record Stands (session : Session) (machine : Machine) : Type 0 where
   pub events : StandsFor session.engine machine.events
   pub cursors : machine.cursors ≡ cursors_seen session.engine session.opened session.cursors
+
+-- The session has the schema and the queries, took no event, and has no open cursor.
+pub record IsNew (schema : Declared) (queries : List Query) (session : Session) : Type 0 where
+  pub given : (session.engine.schema ≡ schema) × (session.engine.queries ≡ queries)
+  pub stands : Stands session at_first
+  pub count : count_of session.engine ≡ 0
+  pub going : session.closed ≡ false
 
 -- What a session keeps: each cursor has a number, and can be pulled from the engine.
 pub record IsKept (engine : State) (opened : List Opened) (cursors : List Open) : Type 0 where

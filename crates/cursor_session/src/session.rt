@@ -8,12 +8,13 @@ ghost use Rattle.query_engine.specs.Engine.{SameQueries, count_of, found_of};
 ghost use Rattle.query_engine.specs.Compacting.{IsLeft, compact_bounds};
 ghost use Rattle.cursor_session.specs.Commands.{HasEventOf};
 ghost use Rattle.cursor_session.specs.Machine.{Machine, at_first};
-ghost use Rattle.cursor_session.specs.Sessions.{Stands, Ended, HasRoom, HasRunCause, IsWithin, EventIsWithin, as_run_fault};
+ghost use Rattle.cursor_session.specs.Sessions.{Stands, IsNew, Ended, HasRoom, HasRunCause, IsWithin, EventIsWithin, as_run_fault};
 ghost use Rattle.cursor_session.specs.declared.command.Command.TheVariants as commands;
 
 use crate::command::Command;
 use crate::opened::{Opened, place_among};
 use crate::pulling::{write_at, write_pull};
+use cer_base::seed::Seed;
 use cer_base::steps::Steps;
 use cer_base::{Memory, OrMemory};
 use cer_outside::{Sink, WriteFault};
@@ -94,16 +95,26 @@ fn stopped(stop: OrMemory<WriteFault>) -> RunFault
 
 impl Session {
     /// A session that took no event, and has no open cursor. The queries are checked for the schema.
+    /// Its engine is that of `Engine::new`.
     pub fn new(alloc: Global, schema: Schema, queries: Queries) -> Result<Session, Memory>
         requires checked { All (IsChecked schema) queries }
-        ensures given { IfOk result (λ s. (s.engine.schema ≡ schema)
-            × (s.engine.queries ≡ queries)) }
-        ensures stands { IfOk result (λ s. Stands s at_first) }
-        ensures count { IfOk result (λ s. count_of s.engine ≡ 0) }
-        ensures going { IfOk result (λ s. s.closed ≡ false) }
+        ensures { IfOk result (IsNew schema queries) }
+    {
+        Session::seeded(alloc, Seed::default(), schema, queries)
+    }
+
+    /// The same over an engine whose tables hash by the seed. No answer depends on it.
+    pub fn seeded(
+        alloc: Global,
+        seed: Seed,
+        schema: Schema,
+        queries: Queries,
+    ) -> Result<Session, Memory>
+        requires checked { All (IsChecked schema) queries }
+        ensures { IfOk result (IsNew schema queries) }
     {
         Ok(Session {
-            engine: Engine::new(alloc, schema, queries)?,
+            engine: Engine::seeded(alloc, seed, schema, queries)?,
             opened: Vec::new(alloc),
             cursors: Vec::new(alloc),
             buffer: Vec::new(alloc),

@@ -3,10 +3,10 @@ ghost use Rattle.std.specs.Prelude.{◌≡◌, ◌<◌, IfOk, OnOk};
 ghost use Rattle.query_engine.specs.Engine.{Fits, KeepsCursors};
 
 use crate::rows::{RowFault, event_of, write_answer};
-use cer_base::steps::Steps;
+use cer_base::steps::{Opening, Steps};
 use query_engine::{Cursor, Engine};
 use std::alloc::Global;
-use std::sync::ledger::{Blank, Ledger};
+use std::sync::ledger::Ledger;
 
 /// Takes the event of the line.
 fn take_line<L: Ledger>(
@@ -91,13 +91,12 @@ pub fn held_over_a_compaction<L: Ledger>(
     engine: &mut Engine,
     lines: &[u8],
     line: &[u8],
-    blank: Blank,
+    opening: Opening,
 ) -> Result<String, RowFault>
-    requires name { blank.name ≡ L.name }
-    requires parts { blank.parts ≡ L.parts }
-    requires some { 0 < blank.parts }
+    requires name { opening.name ≡ L.name }
+    requires parts { opening.parts ≡ L.parts }
 {
-    let mut steps = Steps::<L>::start(blank);
+    let mut steps = Steps::<L>::start(opening);
     let mut text = String::new(alloc);
     take_lines(alloc, engine, lines, &mut steps)?;
     let mut cursor = open(engine, &mut steps)?;
@@ -139,13 +138,12 @@ pub fn most_after_compactions<L: Ledger>(
     alloc: Global,
     engine: &mut Engine,
     line: &[u8],
-    blank: Blank,
+    opening: Opening,
 ) -> Result<u64, RowFault>
-    requires name { blank.name ≡ L.name }
-    requires parts { blank.parts ≡ L.parts }
-    requires some { 0 < blank.parts }
+    requires name { opening.name ≡ L.name }
+    requires parts { opening.parts ≡ L.parts }
 {
-    let mut steps = Steps::<L>::start(blank);
+    let mut steps = Steps::<L>::start(opening);
     let mut most = 0;
     for _ in 0..100 {
         take_ten(alloc, engine, line, &mut steps)?;

@@ -5,11 +5,12 @@ ghost use Rattle.query_engine.specs.Engine.{count_of, IsNumber, SameQueries};
 
 use ceql_parser::{Accepted, read_queries};
 use cer_base::Memory;
-use cer_base::steps::Steps;
+use cer_base::seed::Seed;
+use cer_base::steps::{Opening, Steps};
 use event_reader::read_event;
 use query_engine::{Engine, SeeFault};
 use std::alloc::{AllocError, AllocFailed, Global};
-use std::sync::ledger::{Blank, Ledger};
+use std::sync::ledger::Ledger;
 use stream_schema::Event;
 
 /// Why a row could not be run.
@@ -45,8 +46,13 @@ impl<T: Drop> From<AllocFailed<T>> for RowFault {
 
 /// The engine of the queries of a text.
 pub fn engine_of(alloc: Global, text: &str) -> Result<Engine, RowFault> {
+    seeded_engine_of(alloc, Seed::default(), text)
+}
+
+/// The same, with tables that hash by the seed.
+pub fn seeded_engine_of(alloc: Global, seed: Seed, text: &str) -> Result<Engine, RowFault> {
     match read_queries(alloc, text.as_bytes()) {
-        Ok(Accepted { schema, queries }) => Ok(Engine::new(alloc, schema, queries)?),
+        Ok(Accepted { schema, queries }) => Ok(Engine::seeded(alloc, seed, schema, queries)?),
         Err(_) => Err(RowFault::Query),
     }
 }
@@ -139,23 +145,40 @@ pub fn states_found(alloc: Global, engine: &Engine) -> Result<String, RowFault> 
     Ok(text)
 }
 
+/// Compacts with no cursor held, and writes the answers at the last position, where there is one.
+fn compact_here<L: Ledger>(
+    engine: &mut Engine,
+    text: &mut String,
+    steps: &mut Steps<L>,
+) -> Result<(), RowFault> {
+    engine.compact(&mut [], steps)?;
+    if engine.events() > 0 {
+        write_all(engine, text, steps)?;
+    }
+    Ok(())
+}
+
 /// The answers after each event of the lines, which a semicolon parts, with a stroke after those of
-/// one event. A line that begins with a dash skips as many positions as it has bytes.
+/// one event. A line that begins with a dash skips as many positions as it has bytes; at one that
+/// begins with an exclamation mark the engine is compacted, and the last answers are written again.
 pub fn answers_after_each<L: Ledger>(
     alloc: Global,
     engine: &mut Engine,
     lines: &[u8],
-    blank: Blank,
+    opening: Opening,
 ) -> Result<String, RowFault>
-    requires name { blank.name ≡ L.name }
-    requires parts { blank.parts ≡ L.parts }
-    requires some { 0 < blank.parts }
+    requires name { opening.name ≡ L.name }
+    requires parts { opening.parts ≡ L.parts }
 {
-    let mut steps = Steps::<L>::start(blank);
+    let mut steps = Steps::<L>::start(opening);
     let mut text = String::new(alloc);
     for line in lines.split(|b| *b == b';') {
         if line.first() == Some(&b'-') {
             engine.skip_to(engine.events().saturating_add(line.len() as u64));
+            continue;
+        }
+        if line.first() == Some(&b'!') {
+            compact_here(engine, &mut text, &mut steps)?;
             continue;
         }
         let event = event_of(alloc, engine, line)?;

@@ -83,7 +83,7 @@ at_end kinds fields count values [] before long all most none =
 at_end kinds fields count values (x ∷ rest) before long all most none = absurd (omega arith)
 
 -- the event of the type that was found
-kinds_of : (attrs : List Attr) → length (map (λ a. a.kind) attrs) ≡ length attrs
+pub kinds_of : (attrs : List Attr) → length (map (λ a. a.kind) attrs) ≡ length attrs
 kinds_of attrs = simp length-map
 
 of_attrs : (ty : ℕ) (t : DeclaredType) (kinds : List Kind) (fields : List ℕ) (values : List Value) → HasFields kinds fields values → kinds ≡ map (λ a. a.kind) t.attrs → event_of_type ty t.attrs (following fields) ≡ Ok (record { ty = ty; values = values })
@@ -112,7 +112,7 @@ unmarked : (line : List ℕ) → 0 < length line → get_or line 0 0 < 128 → s
 unmarked [] some h = absurd (omega arith)
 unmarked (c ∷ rest) some h = grind (arith, nat_tests)
 
-not_empty : (n : ℕ) → 0 < n → (n == 0) ≡ false
+pub not_empty : (n : ℕ) → 0 < n → (n == 0) ≡ false
 not_empty n h = grind (arith, nat_tests)
 
 pub whole_line : (schema : Declared) (line : List ℕ) (end : ℕ) (event : Event) → 0 < length line → get_or line 0 0 < 128 → has_line_feed line ≡ false → IsCell (take end line) → BeginsNext (drop end line) → list_any is_odd (drop end line) ≡ false → event_of schema (take end line ∷ following (drop end line)) ≡ Ok event → event_of_text schema line ≡ Ok (Some event)

@@ -2,8 +2,6 @@
 pub mod Digits
 -- the parts of a decimal number and the number that they spell
 pub mod Decimals
--- the state in which a line ends, and that `csv` reads a line without a byte order mark as it stands
-pub mod Records
 -- the fields of a line with no quote byte are the parts between its commas
 pub mod Cuts
 -- what tests on the bytes of a line say of each byte
@@ -17,7 +15,7 @@ pub mod LineWalks
 pub mod GivenLines
 -- the parts of a window's buffer
 pub mod LineBufferParts
--- line feeds that are marked by the bits of a number
+-- bytes that are marked by the bits of a number
 pub mod LineMarks
 -- what each answer of a reader says, where the source tells its bytes
 pub mod NextLines
@@ -27,5 +25,15 @@ pub mod OfSchema
 pub mod CommonNumbers
 -- the fields of a line that is read in one pass
 pub mod CommonFields
+-- the fields of a line that may have quotes are those that a walk over its bytes gives
+pub mod QuotedCells
+-- the field at the beginning of a text that may have quotes
+pub mod QuotedParts
+-- the same, put together run by run
+pub mod QuotedRuns
+-- the values of the fields of a line that may have quotes
+pub mod QuotedFields
+-- how many fields a line has, and why it gives no event
+pub mod RefusedLines
 -- a text cut at its first blank; for callers
 pub mod FirstBlank

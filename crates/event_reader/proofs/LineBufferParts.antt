@@ -15,6 +15,7 @@ use Rattle.event_reader.specs.Lines.{has_line_feed}
 use Rattle.event_reader.specs.LineBuffers.{Held, bytes_between, IsLineBuffer, IsFirstLineFeed, IsShort}
 use Rattle.event_reader.proofs.LineBytes.{neither, any_take}
 use Rattle.event_reader.proofs.Texts.{by_cases}
+use Rattle.event_reader.proofs.LineMarks.{none_in_front}
 
 -- what no byte is, no byte of a last part is
 any_drop : (p : ℕ → Bool) (n : ℕ) (xs : List ℕ) → list_any p xs ≡ false → list_any p (drop n xs) ≡ false
@@ -103,12 +104,7 @@ window_searched bytes from searched to text_from text_to at w a b plain = record
 }
 
 nowhere_take : (xs : List ℕ) (k : ℕ) → k < length xs → Nowhere (Passes (is_byte 10) xs) 0 k → has_line_feed (take k xs) ≡ false
-nowhere_take xs k within none =
-    let l : length (take k xs) ≡ k = omega (arith, length-take k xs) in
-    list_any_none (λ b. b == 10) (take k xs) (λ i d h. by_cases _ (λ e.
-    let below : i < k = omega arith in
-    let same : get_or (take k xs) i d ≡ get_or xs i 0 = get_or-take k xs i d below ∙ get_or_default_zero xs i d (omega arith) in
-    none i (omega arith) below (ap (λ b. b == 10) (sym same) ∙ e)))
+nowhere_take xs k within none = none_in_front 10 xs k within none
 
 is_ten : (byte : ℕ) → (byte == 10) ≡ true → byte ≡ 10
 is_ten byte e = grind (arith, nat_tests)

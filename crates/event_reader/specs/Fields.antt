@@ -1,6 +1,5 @@
 -- The fields of a line: those of the first record that the library `csv` defines for it, with comma and double quote.
-use Rattle.std.specs.Prelude.{◌≢◌, ℕ, Bool, true, false, List, [], ◌∷◌, Option, Some, None}
-use Rattle.cer_base.specs.declared.bytes.TheConstants.{CARRIAGE_RETURN, LINE_FEED}
+use Rattle.std.specs.Prelude.{ℕ, Bool, true, false, List, [], ◌∷◌, Option, Some, None}
 use Rattle.csv.specs.Machine.{Read, step, next_record}
 use Rattle.csv.specs.Reading.{default_config}
 use Rattle.csv.specs.declared.parser.State.{State}
@@ -34,7 +33,3 @@ fields_of (Some read) = read.0
 -- the fields of the line's first record
 abbrev pub fields : List ℕ → List (List ℕ)
 fields line = fields_of (next_record default_config StartRecord [] [] line)
-
--- a byte that ends no line: neither a carriage return nor a line feed
-abbrev pub IsWithoutEnds : ℕ → Type 0
-IsWithoutEnds byte = (byte ≢ CARRIAGE_RETURN) × (byte ≢ LINE_FEED)

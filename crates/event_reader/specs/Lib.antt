@@ -1,11 +1,11 @@
 pub mod Fields
 pub mod Values
 pub mod Events
-pub mod FieldStates
 pub mod Cells
 pub mod Lines
 pub mod LineBuffers
 pub mod Reading
 pub mod CommonLines
+pub mod QuotedLines
 pub mod Rows
 pub mod Words

@@ -7,14 +7,13 @@ ghost use Rattle.std.specs.List.{list_any};
 ghost use Rattle.std.specs.Str.{IsAscii};
 ghost use Rattle.std.specs.Str.Parse.{starts_with_minus};
 ghost use Rattle.stream_schema.specs.declared.Kind.TheVariants as kind;
-ghost use Rattle.stream_schema.specs.declared.Value.TheVariants.{Int};
 ghost use Rattle.event_reader.specs.Lines.{has_line_feed};
 ghost use Rattle.event_reader.specs.Events.{event_of, event_of_text};
 ghost use Rattle.event_reader.specs.CommonLines.{IsCell, IsNumeralUpTo, IsFieldUpTo, HasFields, BeginsNext, following, is_odd};
 
 use crate::numbers::{signed, without_sign};
 use crate::types::Guesses;
-use crate::values::{put_ascii, put_text, read_value};
+use crate::values::{put_ascii, put_number, put_text, read_value};
 use cer_base::bytes::{CARRIAGE_RETURN, COMMA, QUOTE};
 use std::alloc::Global;
 use stream_schema::{Kind, Schema, TypeId, Value};
@@ -131,7 +130,7 @@ fn read_typed(
 
 /// Makes the list one of so many values, whichever they are, unless memory runs out.
 #[inline]
-fn fit(values: &mut Vec<Value>, len: usize) -> bool
+pub fn fit(values: &mut Vec<Value>, len: usize) -> bool
     ensures { result ≡ true → length values.new.items ≡ len }
 {
     if values.len() == len {
@@ -227,18 +226,6 @@ fn has_minus(text: &[u8]) -> bool
     ensures { result ≡ starts_with_minus text.now }
 {
     matches!(text.first(), Some(b'-'))
-}
-
-/// Makes it this number. Mostly it was a number before, and then nothing else is written.
-#[inline(always)]
-fn put_number(value: &mut Value, number: i64)
-    ensures { value.new ≡ Int number }
-{
-    if let Value::Int(held) = value {
-        *held = number;
-    } else {
-        *value = Value::Int(number);
-    }
 }
 
 /// The number that the digits at the beginning spell, at least one of them, and how many they are.

@@ -3,21 +3,23 @@
 //! Promised: `Lines` gives exactly the lines of the definition `file_lines`, however its source cuts
 //! the bytes, and says exactly why there is no further one. `Row::read` answers exactly the event
 //! of the line, or the first of its refusals, where the fields are those of `csv`'s own definition;
-//! `read_event` is the same in memory of its own. A line with no quote byte is cut at its commas,
-//! every other by `csv` itself; both give the fields of the one definition.
-//! It stands on `csv`, `memchr`, `cer_outside`, `stream_schema` and `cer_base`.
+//! `read_event` is the same in memory of its own. No line is handed to `csv`: a walk over the line's
+//! bytes is proved to give the fields of that definition.
+//! It stands on `csv` for the definition, and on `memchr`, `cer_outside`, `stream_schema` and
+//! `cer_base`.
 #![tactic(auto)]
 
 use stream_schema::Kind;
 use thiserror::Error;
 
-mod cells;
 mod common;
 mod events;
 mod fields;
 mod line_buffer;
 mod numbers;
+mod quoted;
 mod reader;
+mod refusals;
 mod row;
 mod types;
 mod values;

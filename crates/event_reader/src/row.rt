@@ -3,12 +3,12 @@
 ghost use Rattle.std.specs.Prelude.{◌≡◌, ◌≢◌, [], true, false, Ok};
 ghost use Rattle.stream_schema.specs.Events.{IsOfSchema};
 ghost use Rattle.event_reader.specs.Lines.{has_line_feed};
-ghost use Rattle.event_reader.specs.Events.{event_of_line};
+ghost use Rattle.event_reader.specs.Events.{event_of_line, event_of_text};
 ghost use Rattle.event_reader.specs.Rows.{TellsEvent};
 
 use crate::EventFault;
 use crate::common::read_common;
-use crate::events::{read_line, without_return};
+use crate::events::{read_any, without_return};
 use crate::types::Guesses;
 use cer_base::{Listed, OrMemory};
 use std::alloc::Global;
@@ -16,11 +16,13 @@ use std::marker::Model;
 use std::mem;
 use stream_schema::{Event, Schema, Value};
 
-/// The event of the line that was read last, seen as that event. Its memory serves the next line.
+/// The event of the line that was read last, seen as that event. Its memory serves the next line, and
+/// so does that of `held`, the bytes of a field with quotes.
 #[derive(Drop)]
 pub struct Row {
     event: Event,
     guesses: Guesses,
+    held: Vec<u8>,
 }
 
 impl Model for Row {
@@ -42,6 +44,7 @@ impl Row {
                 values: Listed::of(Vec::new(alloc)),
             },
             guesses: Guesses::new(),
+            held: Vec::new(alloc),
         }
     }
 
@@ -70,8 +73,8 @@ impl Row {
     /// - `BadValue`
     ///
     /// An event that is read is of the schema. Where none is read, the row holds no value. A line
-    /// without quotes whose values are whole numbers of few digits takes no memory where an event
-    /// of as many values was read before.
+    /// whose values are whole numbers of few digits takes no memory where an event of as many values
+    /// was read before, if each field stands in the line as it is, in quotes or without.
     #[inline(always)]
     #[tactic(auto, using(crate::proofs::OfSchema::row_is))]
     pub fn read(
@@ -108,32 +111,54 @@ impl Row {
             self.event.values = Listed::of(values);
             return Ok(true);
         }
-        values.clear();
         self.event.values = Listed::of(values);
-        self.read_any(alloc, schema, text)
+        self.read_any(alloc, schema, line)
     }
 
-    /// The same of any line, of a row that holds no value.
+    /// The same of any line without its end.
     #[cold]
     #[inline(never)]
     fn read_any(
         &mut self,
         alloc: Global,
         schema: &Schema,
-        text: &[u8],
+        line: &[u8],
     ) -> Result<bool, OrMemory<EventFault>>
-        requires none { self.old.values ≡ [] }
-        requires line_feed { has_line_feed text.now ≡ false }
-        ensures event { TellsEvent self.new result (event_of_line schema.now text.now) }
+        requires { has_line_feed line.now ≡ false }
+        ensures event { TellsEvent self.new result (event_of_text schema.now line.now) }
         ensures none { result ≢ Ok true → self.new.values ≡ [] }
     {
-        match read_line(alloc, schema, text) {
-            Ok(Some(event)) => {
-                self.event = event;
+        let before = mem::replace(&mut self.event.values, Listed::of(Vec::new(alloc)));
+        let mut values = before.into_vec();
+        match read_any(
+            alloc,
+            schema,
+            &mut self.guesses,
+            &mut self.held,
+            line,
+            &mut values,
+        ) {
+            Ok(Some(ty)) => {
+                self.event.ty = ty;
+                self.event.values = Listed::of(values);
                 Ok(true)
             }
-            Ok(None) => Ok(false),
-            Err(stop) => Err(stop),
+            Ok(None) => {
+                self.hold_none(values);
+                Ok(false)
+            }
+            Err(stop) => {
+                self.hold_none(values);
+                Err(stop)
+            }
         }
+    }
+
+    /// Holds no value, and the memory of these.
+    fn hold_none(&mut self, mut values: Vec<Value>)
+        ensures { self.new.values ≡ [] }
+    {
+        values.clear();
+        self.event.values = Listed::of(values);
     }
 }

@@ -77,6 +77,18 @@ fn put_copy(alloc: Global, text: &str, held: &mut Value) -> bool
     }
 }
 
+/// Makes it this number. Mostly it was a number before, and then nothing else is written.
+#[inline(always)]
+pub fn put_number(held: &mut Value, number: i64)
+    ensures { held.new ≡ value.Int number }
+{
+    if let Value::Int(before) = held {
+        *before = number;
+    } else {
+        *held = Value::Int(number);
+    }
+}
+
 /// A truth value in any ASCII case.
 #[tactic(auto, using(crate::proofs::Texts::same_test))]
 fn read_flag(field: &[u8]) -> Option<bool>

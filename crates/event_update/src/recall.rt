@@ -12,8 +12,10 @@ use cea_determinise::det::Det;
 use cea_determinise::rows::{Effect, KnownRow, ROW_NUMBERS};
 use cea_determinise::table::{EventClass, State, Successors};
 use cer_base::Memory;
+use cer_base::steps::Steps;
 use smallvec::SmallVec;
 use std::rc::Rc;
+use std::sync::ledger::Ledger;
 
 /// A number below `ROW_NUMBERS` for the states and the class, the same for the same ones.
 pub fn row_number(active: &Active, class: EventClass) -> u64 {
@@ -41,17 +43,20 @@ fn are_states(active: &Active, states: &[State]) -> bool
 }
 
 /// What is kept of these states on events of the class, where the row under the number is theirs.
-pub fn recall<'a>(
+/// One step.
+pub fn recall<'a, L: Ledger>(
     active: &Active,
     det: &'a Det,
     class: EventClass,
     number: u64,
+    steps: &mut Steps<L>,
 ) -> Option<&'a KnownRow>
     ensures row { IfSome result (λ r. IsRowOf (keys active.now) r.now) }
     ensures known { IfSome result (λ r. AreKnown det.now class (0 ∷ keys active.now)
         r.now.successors.items) }
+    ensures steps { steps.new ≡ steps.old + 1 }
 {
-    match det.known_row(number) {
+    match det.known_row(number, steps) {
         None => None,
         Some(row) => {
             if row.class == class && are_states(active, row.states.as_slice()) {

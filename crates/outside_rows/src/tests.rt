@@ -2,6 +2,7 @@ mod events;
 mod gate;
 mod lines;
 mod objects;
+mod quotes;
 mod rows;
 mod speed;
 

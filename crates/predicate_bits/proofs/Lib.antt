@@ -9,3 +9,5 @@ mod Ranged
 mod Checked
 -- what the range of a leaf settles
 mod Settled
+-- what comparisons may come to over a span of numbers
+mod Spanned

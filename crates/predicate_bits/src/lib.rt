@@ -11,7 +11,9 @@ pub mod checks;
 mod conditions;
 mod groups;
 pub mod holding;
+pub mod outcomes;
 pub mod ranges;
 pub mod settling;
+pub mod spans;
 
 pub use conditions::Conditions;

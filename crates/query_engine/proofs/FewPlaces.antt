@@ -66,7 +66,7 @@ key_cases schema q events p key (r ∷ rows) s =
 
 -- ALL KEYS
 
-one_key : (schema : Declared) (q : Query) (events : List Event) (at : ℕ) (k l : List Value) → HasKeyAt schema q events k at → HasKeyAt schema q events l at → k ≡ l
+pub one_key : (schema : Declared) (q : Query) (events : List Event) (at : ℕ) (k l : List Value) → HasKeyAt schema q events k at → HasKeyAt schema q events l at → k ≡ l
 one_key schema q events at k l a b =
     let same : a.event ≡ b.event = (let both = sym a.at ∙ b.at in cc) in
     let one = a.has.1 in
@@ -119,16 +119,16 @@ spread schema q events b (key ∷ keys) (r ∷ rows) apart same each =
     ]
 
 -- the numbers below one
-below : ℕ → List ℕ
+pub below : ℕ → List ℕ
 below zero = []
 below (suc n) = n ∷ below n
 
-below_length : (n : ℕ) → length (below n) ≡ n
+pub below_length : (n : ℕ) → length (below n) ≡ n
 unfolding below
 below_length zero = refl
 below_length (suc n) = ap suc (below_length n)
 
-is_below : (n k : ℕ) → k < n → Contains (below n) k
+pub is_below : (n k : ℕ) → k < n → Contains (below n) k
 unfolding below
 is_below zero k less = absurd (omega arith)
 is_below (suc n) k less = elim (cases_eq k n) [

@@ -71,6 +71,7 @@ still_trimmed : (query : ℕ) (vs us : List CursorState) (q : Query) (p : Part) 
 still_trimmed query vs us q p h t = record {
   reached = λ id lt. subst (λ (ns : List ℕ). Reaches p.nodes (flat_map (flat_map (λ (r : ℕ × List Root). ids_of r.1)) p.rows ++ ns) id) (sym (same_roots query vs us h)) (t.reached id lt);
   recent = λ id lt. subst (λ (l : ℤ). l ≤ℤ (newest (tree p.nodes id)).clock) (sym (same_least query (low_at q p.clock) vs us h)) (t.recent id lt);
+  keys = t.keys;
 }
 
 -- the clock that is used is that of the cursors before
@@ -105,6 +106,7 @@ all_trimmed k cur q v vs us lt same c h j p less at =
           subst (λ n. IsTrimmed (n + 1) us p.query p.kept) (sym is) (subst (λ (x : Phase). IsTrimmed (k + 1) us x.query x.kept) here (record {
             reached = λ id inside. (of.nodes.reached id inside).0;
             recent = λ id inside. subst (λ (l : ℤ). l ≤ℤ (newest (tree v.kept.nodes id)).clock) (sym (least_same (k + 1) (low_at q.query q.kept.clock) q.kept.nodes v.kept.nodes vs us of.cursors) ∙ ap (λ (l : ℤ). least_of (k + 1) l us) low) (of.nodes.reached id inside).1;
+            keys = of.have;
           }))
       | inr other ↦
           still_trimmed (j + 1) vs us p.query p.kept (alike (j + 1) (k + 1) q.kept.nodes v.kept.nodes vs us (λ e. other (omega arith)) of.cursors) (h j p (omega arith) (set_other cur k j v p (omega arith) at))

@@ -14,6 +14,7 @@ use Rattle.arena_compact.specs.Marks.{Reaches}
 use Rattle.arena_compact.specs.Moves.{later}
 use Rattle.arena_compact.specs.Roots.{places}
 use Rattle.arena_compact.specs.Compacted.{least_of, roots_of}
+use Rattle.query_part.specs.Dropping.{HaveListsButOne}
 use Rattle.query_part.specs.Parts.{HasEvents}
 use Rattle.query_engine.specs.Bounds.{for_each_query}
 use Rattle.query_engine.specs.Engine.{State, len_of}
@@ -62,16 +63,17 @@ pub record IsCarried (k : ℕ) (old new : List Phase) (w v : CursorState) : Type
   pub rest : w.query ≤ k → walks.rest v (nodes_of new w.query) ≡ walks.rest w (nodes_of old w.query)
   pub ahead : k < w.query → v ≡ w
 
--- Each node of the part of this number is reached from its lists or from a held cursor of it, and its greatest start is of the least of its low clock and those of these cursors, or later.
+-- Each node of the part of this number is reached from its lists or from a held cursor of it, and its greatest start is of the least of its low clock and those of these cursors, or later. Each of its keys has a list, but for one at most.
 pub record IsTrimmed (query : ℕ) (held : List CursorState) (q : Query) (p : Part) : Type 0 where
   pub reached : (id : ℕ) → id < length p.nodes → Reaches p.nodes (roots_of query p.rows held) id
   pub recent : (id : ℕ) → id < length p.nodes → least_of query (low_at q p.clock) held ≤ℤ (newest (tree p.nodes id)).clock
+  pub keys : HaveListsButOne p.rows
 
 -- each of the first k parts is trimmed
 abbrev pub AreTrimmed : ℕ → List CursorState → List Phase → Type 0
 AreTrimmed k held parts = (j : ℕ) (p : Phase) → j < k → slice_get parts j ≡ Some p → IsTrimmed (j + 1) held p.query p.kept
 
--- Of each query only such nodes are left as its lists or a held cursor reach, from the least of its low clock and those of its held cursors on.
+-- Of each query only such nodes are left as its lists or a held cursor reach, from the least of its low clock and those of its held cursors on, and of its keys those that have a list, but for one at most.
 abbrev pub IsLeft : State → List CursorState → Type 0
 IsLeft engine held = (k : ℕ) (q : Query) (p : Part) → slice_get engine.queries k ≡ Some q → slice_get engine.parts k ≡ Some p → IsTrimmed (k + 1) held q p
 

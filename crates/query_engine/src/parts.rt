@@ -7,6 +7,7 @@ ghost use Rattle.query_engine.specs.Running.{IsByPosition, HasNoClock, IsFirst, 
 
 use cel_terms::{Query, Window};
 use cer_base::Memory;
+use cer_base::seed::Seed;
 use query_part::Part;
 use std::alloc::Global;
 use std::rc::Rc;
@@ -26,6 +27,7 @@ pub fn shared(alloc: Global, schema: &Schema) -> Result<Rc<Schema>, Memory>
 fn add_part(
     parts: &mut Vec<Part>,
     alloc: Global,
+    seed: Seed,
     schema: &Rc<Schema>,
     query: Query,
 ) -> Result<(), Memory>
@@ -35,7 +37,7 @@ fn add_part(
         ≡ map (λ p. p.query) parts.old.items ++ query ∷ []) }
     ensures first { OnOk result (All (IsFirst schema.now.value) parts.new.items) }
 {
-    let part = Part::new(alloc, schema, query)?;
+    let part = Part::new(alloc, seed, schema, query)?;
     parts.push(part)?;
     Ok(())
 }
@@ -44,6 +46,7 @@ fn add_part(
 pub fn add_parts(
     parts: &mut Vec<Part>,
     alloc: Global,
+    seed: Seed,
     schema: &Rc<Schema>,
     queries: Vec<Query>,
 ) -> Result<(), Memory>
@@ -53,7 +56,7 @@ pub fn add_parts(
     ensures first { OnOk result (All (IsFirst schema.now.value) parts.new.items) }
 {
     for query in queries {
-        add_part(parts, alloc, schema, query)?;
+        add_part(parts, alloc, seed, schema, query)?;
     }
     Ok(())
 }

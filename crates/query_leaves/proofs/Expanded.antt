@@ -1,22 +1,20 @@
 -- What a formula and a filter expand to, by the lists in them.
-use Rattle.std.proofs.Common.{◌≡◌, refl, ap, ◌∙◌, ℕ, ◌+◌, ◌<◌, false, List, [], ◌∷◌, ◌++◌, length, take, get_or, arith, length-take-le}
-use Rattle.std.proofs.lemmas.List.{take_more}
-use Rattle.std.proofs.lemmas.List.Sums.{fold-append}
+use Rattle.std.proofs.Common.{◌≡◌, refl, ap, ◌∙◌, false, List, [], ◌∷◌, map}
 use Rattle.std.specs.Prelude.{Vec, Box, fold}
 use Rattle.std.specs.declared.alloc.Global.{Global}
 use Rattle.cel_terms.specs.declared.Link.{Link}
 use Rattle.cel_terms.specs.declared.Postfix.{Postfix}
 use Rattle.cel_terms.specs.declared.Formula.{Formula, Chain, Chain', Linked, Linked', Either, Either', Row_of-Formula, end_of-Formula, more_of-Formula, items-the_row-Formula, items_hidden-the_row-Formula-0, Row_of-Link, end_of-Link, more_of-Link, items-the_row-Link, items_hidden-the_row-Link-1}
 use Rattle.cel_terms.specs.declared.Filter.{Filter, All, All', Any, Any', Row_of-Filter, end_of-Filter, more_of-Filter, items-the_row-Filter, items_hidden-the_row-Filter-0}
-use Rattle.query_leaves.specs.LeafTree.{LeafTree, sequence, either}
+use Rattle.query_leaves.specs.LeafTree.{LeafTree, sequence, either, linked_to, chain_of, choice_of}
 use Rattle.query_leaves.specs.Expand.{Occurrence, filtered, filtered_by_all, filtered_by_any, under_all, postfixed, postfixed_by_all, expand, expand_chain, expand_on, expand_links, expand_choices}
-use Rattle.query_leaves.specs.Drafts.{tree_of_alternatives, tree_of_chain, tree_of_links, tree_of_choices}
+use Rattle.query_leaves.specs.Drafts.{part_of, link_of}
 
 all_listed : (t : LeafTree Occurrence) (n : _) (row : Row_of-Filter n) → filtered_by_all row t ≡ fold (λ t c. filtered c t) t (items-the_row-Filter n row)
 all_listed t n end_of-Filter = refl
 all_listed t n (more_of-Filter c rest) = all_listed (filtered c t) _ rest
 
-any_listed : (t : LeafTree Occurrence) (n : _) (row : Row_of-Filter n) → filtered_by_any row t ≡ tree_of_alternatives (items-the_row-Filter n row) t
+any_listed : (t : LeafTree Occurrence) (n : _) (row : Row_of-Filter n) → filtered_by_any row t ≡ choice_of (map (λ c. filtered c t) (items-the_row-Filter n row))
 any_listed t n end_of-Filter = refl
 any_listed t n (more_of-Filter c rest) = ap (λ x. either (filtered c t) x) (any_listed t _ rest)
 
@@ -30,10 +28,10 @@ all_is t filters =
     let row = filters_of (All filters) in
     all_listed t row.0 row.1 ∙ ap (fold (λ t c. filtered c t) t) (items_hidden-the_row-Filter-0 filters)
 
-pub any_is : (t : LeafTree Occurrence) (filters : Vec Filter Global) → filtered (Any filters) t ≡ tree_of_alternatives filters.items t
+pub any_is : (t : LeafTree Occurrence) (filters : Vec Filter Global) → filtered (Any filters) t ≡ choice_of (map (λ c. filtered c t) filters.items)
 any_is t filters =
     let row = filters_of (Any filters) in
-    any_listed t row.0 row.1 ∙ ap (λ cs. tree_of_alternatives cs t) (items_hidden-the_row-Filter-0 filters)
+    any_listed t row.0 row.1 ∙ ap (λ cs. choice_of (map (λ c. filtered c t) cs)) (items_hidden-the_row-Filter-0 filters)
 
 pub under_is : (t : LeafTree Occurrence) (filters : List Filter) → under_all filters t ≡ fold (λ t c. filtered c t) t filters
 under_is t [] = refl
@@ -43,19 +41,19 @@ pub postfixed_is : (t : LeafTree Occurrence) (postfixes : List Postfix) → post
 postfixed_is t [] = refl
 postfixed_is t (p ∷ ps) = postfixed_is (postfixed p t) ps
 
-on_listed : (t : LeafTree Occurrence) (n : _) (row : Row_of-Formula n) → expand_on t row ≡ fold (λ t g. sequence false t (expand g)) t (items-the_row-Formula n row)
+on_listed : (t : LeafTree Occurrence) (n : _) (row : Row_of-Formula n) → expand_on t row ≡ linked_to t (map part_of (items-the_row-Formula n row))
 on_listed t n end_of-Formula = refl
 on_listed t n (more_of-Formula f rest) = on_listed (sequence false t (expand f)) _ rest
 
-chain_listed : (n : _) (row : Row_of-Formula n) → expand_chain row ≡ tree_of_chain (items-the_row-Formula n row)
+chain_listed : (n : _) (row : Row_of-Formula n) → expand_chain row ≡ chain_of (map part_of (items-the_row-Formula n row))
 chain_listed n end_of-Formula = refl
 chain_listed n (more_of-Formula f rest) = on_listed (expand f) _ rest
 
-choices_listed : (n : _) (row : Row_of-Formula n) → expand_choices row ≡ tree_of_choices (items-the_row-Formula n row)
+choices_listed : (n : _) (row : Row_of-Formula n) → expand_choices row ≡ choice_of (map expand (items-the_row-Formula n row))
 choices_listed n end_of-Formula = refl
 choices_listed n (more_of-Formula f rest) = ap (λ x. either (expand f) x) (choices_listed _ rest)
 
-links_listed : (t : LeafTree Occurrence) (n : _) (row : Row_of-Link n) → expand_links t row ≡ tree_of_links t (items-the_row-Link n row)
+links_listed : (t : LeafTree Occurrence) (n : _) (row : Row_of-Link n) → expand_links t row ≡ linked_to t (map link_of (items-the_row-Link n row))
 links_listed t n end_of-Link = refl
 links_listed t n (more_of-Link tight next rest) = links_listed (sequence tight t (expand next)) _ rest
 
@@ -68,30 +66,17 @@ abbrev links_in : Formula → (n : _) × Row_of-Link n
 links_in (Linked' _ _ _ row) = (_, row)
 links_in _ = (_, end_of-Link)
 
-pub chain_is : (parts : Vec Formula Global) → expand (Chain parts) ≡ tree_of_chain parts.items
+pub chain_is : (parts : Vec Formula Global) → expand (Chain parts) ≡ chain_of (map part_of parts.items)
 chain_is parts =
     let row = row_of (Chain parts) in
-    chain_listed row.0 row.1 ∙ ap tree_of_chain (items_hidden-the_row-Formula-0 parts)
+    chain_listed row.0 row.1 ∙ ap (λ fs. chain_of (map part_of fs)) (items_hidden-the_row-Formula-0 parts)
 
-pub choices_are : (choices : Vec Formula Global) → expand (Either choices) ≡ tree_of_choices choices.items
+pub choices_are : (choices : Vec Formula Global) → expand (Either choices) ≡ choice_of (map expand choices.items)
 choices_are choices =
     let row = row_of (Either choices) in
-    choices_listed row.0 row.1 ∙ ap tree_of_choices (items_hidden-the_row-Formula-0 choices)
+    choices_listed row.0 row.1 ∙ ap (λ fs. choice_of (map expand fs)) (items_hidden-the_row-Formula-0 choices)
 
-pub links_are : (first : Box Formula Global) (links : Vec Link Global) → expand (Linked first links) ≡ tree_of_links (expand first.value) links.items
+pub links_are : (first : Box Formula Global) (links : Vec Link Global) → expand (Linked first links) ≡ linked_to (expand first.value) (map link_of links.items)
 links_are first links =
     let row = links_in (Linked first links) in
-    links_listed (expand first.value) row.0 row.1 ∙ ap (tree_of_links (expand first.value)) (items_hidden-the_row-Link-1 links)
-
-chain_after : (fs : List Formula) (g : Formula) → 0 < length fs → tree_of_chain (fs ++ g ∷ []) ≡ sequence false (tree_of_chain fs) (expand g)
-chain_after [] g some = absurd (omega arith)
-chain_after (f ∷ fs) g some = fold-append (λ t g. sequence false t (expand g)) (expand f) fs (g ∷ [])
-
-pub chain_first : (fs : List Formula) (i : ℕ) (d : Formula) → i ≡ 0 → i < length fs → tree_of_chain (take (i + 1) fs) ≡ expand (get_or fs i d)
-chain_first [] i d first less = absurd (omega arith)
-chain_first (f ∷ fs) i d first less = rw first refl
-
-pub chain_next : (fs : List Formula) (i : ℕ) (d : Formula) → 0 < i → i < length fs → tree_of_chain (take (i + 1) fs) ≡ sequence false (tree_of_chain (take i fs)) (expand (get_or fs i d))
-chain_next fs i d some less =
-    let l : length (take i fs) ≡ i = length-take-le i fs (omega arith) in
-    ap tree_of_chain (take_more fs i d less) ∙ chain_after (take i fs) (get_or fs i d) (omega arith)
+    links_listed (expand first.value) row.0 row.1 ∙ ap (λ ls. linked_to (expand first.value) (map link_of ls)) (items_hidden-the_row-Link-1 links)

@@ -2,6 +2,12 @@
 pub mod Naming
 -- what changes make of an occurrence
 pub mod Changes
+-- the tree of a draft, by the lists in it
+pub mod Drafted
+-- the tree of a shape, by the lists in it
+pub mod Shaped
+-- how the leaves of a chain and of a choice are numbered
+pub mod Numbered
 -- what the expansion of a formula computes
 pub mod Expanded
 -- the first place at which a test passes

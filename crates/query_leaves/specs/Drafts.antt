@@ -1,17 +1,17 @@
 -- What is done to the leaves of a tree while a formula is expanded, as computed lists and trees.
 -- Nobody needs to believe these; the public contracts speak of the tree of leaves alone.
-use Rattle.std.specs.Prelude.{ℕ, cond, false, List, [], ◌∷◌, fold}
+use Rattle.std.specs.Prelude.{ℕ, Bool, cond, false, List, ◌∷◌}
 use Rattle.cel_terms.specs.declared.Pred.{Pred}
-use Rattle.cel_terms.specs.declared.Filter.{Filter}
 use Rattle.cel_terms.specs.declared.Formula.{Formula}
 use Rattle.cel_terms.specs.declared.Link.{Link, out-Link}
 use Rattle.query_leaves.specs.declared.occurrence.Change.{Change}
 use Rattle.query_leaves.specs.declared.occurrence.Change.TheVariants as change
-use Rattle.query_leaves.specs.declared.draft.Draft.{Draft, Never, Sequence', Either', Plus'}
+use Rattle.query_leaves.specs.declared.draft.Draft.{Draft, Chain', Either', Plus', Row_of-Draft, end_of-Draft, more_of-Draft, Row_of-DraftPart, end_of-DraftPart, more_of-DraftPart}
+use Rattle.query_leaves.specs.declared.draft.DraftPart.{DraftPart, out-DraftPart}
 use Rattle.query_leaves.specs.declared.draft.Draft as draft
 use Rattle.cel_terms.specs.Meaning.{lists_name, with_name, only_names}
 use Rattle.query_leaves.specs.LeafTree.{LeafTree, leaf, none, sequence, either, plus}
-use Rattle.query_leaves.specs.Expand.{Occurrence, filtered, expand}
+use Rattle.query_leaves.specs.Expand.{Occurrence, at_leaves, expand}
 
 abbrev pub change_names : Change → List (List ℕ) → List (List ℕ)
 change_names (change.Named name) names = with_name name.now.text names
@@ -26,28 +26,35 @@ abbrev pub change_leaf : Change → Occurrence → Occurrence
 change_leaf c o = record { type = o.type; tests = change_tests c o.names o.tests; names = change_names c o.names }
 
 -- the tree that a draft is
-abbrev pub tree_of_draft : Draft → LeafTree Occurrence
-tree_of_draft Never = none
-tree_of_draft (draft.Leaf o) = leaf o
-tree_of_draft (Sequence' tight p first q second) = sequence tight (tree_of_draft first) (tree_of_draft second)
-tree_of_draft (Either' p first q second) = either (tree_of_draft first) (tree_of_draft second)
-tree_of_draft (Plus' tight p part) = plus tight (tree_of_draft part)
+abbrev mutual
+  pub tree_of_draft : Draft → LeafTree Occurrence
+  tree_of_draft (draft.Leaf o) = leaf o
+  tree_of_draft (Chain' s parts) = chain_of_drafts parts
+  tree_of_draft (Either' s choices) = choice_of_drafts choices
+  tree_of_draft (Plus' tight p part) = plus tight (tree_of_draft part)
 
--- an alternative of the tree for each filter
-abbrev pub tree_of_alternatives : List Filter → LeafTree Occurrence → LeafTree Occurrence
-tree_of_alternatives [] t = none
-tree_of_alternatives (c ∷ cs) t = either (filtered c t) (tree_of_alternatives cs t)
+  pub chain_of_drafts : {m : _} → Row_of-DraftPart m → LeafTree Occurrence
+  chain_of_drafts end_of-DraftPart = none
+  chain_of_drafts (more_of-DraftPart tight part rest) = linked_drafts (tree_of_draft part) rest
 
--- the formulas one after another
-abbrev pub tree_of_chain : List Formula → LeafTree Occurrence
-tree_of_chain [] = none
-tree_of_chain (f ∷ fs) = fold (λ t g. sequence false t (expand g)) (expand f) fs
+  pub linked_drafts : {m : _} → LeafTree Occurrence → Row_of-DraftPart m → LeafTree Occurrence
+  linked_drafts before end_of-DraftPart = before
+  linked_drafts before (more_of-DraftPart tight part rest) = linked_drafts (sequence tight before (tree_of_draft part)) rest
 
--- the links one after another, after what stands before them
-abbrev pub tree_of_links : LeafTree Occurrence → List Link → LeafTree Occurrence
-tree_of_links = fold (λ t l. sequence (out-Link l).tight t (expand (out-Link l).next))
+  pub choice_of_drafts : {m : _} → Row_of-Draft m → LeafTree Occurrence
+  choice_of_drafts end_of-Draft = none
+  choice_of_drafts (more_of-Draft choice rest) = either (tree_of_draft choice) (choice_of_drafts rest)
 
--- an alternative for each formula
-abbrev pub tree_of_choices : List Formula → LeafTree Occurrence
-tree_of_choices [] = none
-tree_of_choices (f ∷ fs) = either (expand f) (tree_of_choices fs)
+-- whether a part of a chain is tight, and its tree
+abbrev pub draft_part : DraftPart → Bool × LeafTree Occurrence
+draft_part p = ((out-DraftPart p).tight, tree_of_draft (out-DraftPart p).part)
+
+abbrev pub change_part : Change → Bool × LeafTree Occurrence → Bool × LeafTree Occurrence
+change_part c p = (p.0, at_leaves (change_leaf c) p.1)
+
+-- a formula as a part that is not tight, and a link as it stands
+abbrev pub part_of : Formula → Bool × LeafTree Occurrence
+part_of f = (false, expand f)
+
+abbrev pub link_of : Link → Bool × LeafTree Occurrence
+link_of l = ((out-Link l).tight, expand (out-Link l).next)

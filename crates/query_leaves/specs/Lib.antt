@@ -6,3 +6,4 @@ pub mod Conditions
 pub mod Lawful
 pub mod Drafts
 pub mod Tests
+pub mod Numbering

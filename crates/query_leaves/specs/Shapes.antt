@@ -4,7 +4,7 @@ use Rattle.stream_schema.specs.Types.{Declared}
 use Rattle.stream_schema.specs.declared.Event.{Event}
 use Rattle.query_leaves.specs.declared.Test.{Test, No, Cmp, Not', All', Any', Row_of-Test, end_of-Test, more_of-Test}
 use Rattle.query_leaves.specs.declared.Leaf.{Leaf}
-use Rattle.query_leaves.specs.declared.Shape.{Shape, Never, Sequence', Either', Plus'}
+use Rattle.query_leaves.specs.declared.Shape.{Shape, Chain', Either', Plus', Row_of-Shape, end_of-Shape, more_of-Shape, Row_of-ShapePart, end_of-ShapePart, more_of-ShapePart}
 use Rattle.query_leaves.specs.declared.Shape as shape
 use Rattle.cel_terms.specs.Predicate.{some_meets}
 use Rattle.cel_terms.specs.Answers.{is_bound}
@@ -12,13 +12,25 @@ use Rattle.query_leaves.specs.LeafTree.{LeafTree, leaf, none, sequence, either, 
 use Rattle.query_leaves.specs.Expand.{Occurrence}
 use Rattle.query_leaves.specs.Leaves.{occurrence_reads}
 
--- the tree that a shape is
-abbrev pub tree_of_shape : Shape → LeafTree ℕ
-tree_of_shape Never = none
-tree_of_shape (shape.Leaf k) = leaf k
-tree_of_shape (Sequence' tight p first q second) = sequence tight (tree_of_shape first) (tree_of_shape second)
-tree_of_shape (Either' p first q second) = either (tree_of_shape first) (tree_of_shape second)
-tree_of_shape (Plus' tight p part) = plus tight (tree_of_shape part)
+-- The tree that a shape is: the parts of a chain follow one another from the left, and the last choice is the innermost.
+abbrev mutual
+  pub tree_of_shape : Shape → LeafTree ℕ
+  tree_of_shape (shape.Leaf k) = leaf k
+  tree_of_shape (Chain' s parts) = chain_of_shapes parts
+  tree_of_shape (Either' s choices) = choice_of_shapes choices
+  tree_of_shape (Plus' tight p part) = plus tight (tree_of_shape part)
+
+  pub chain_of_shapes : {m : _} → Row_of-ShapePart m → LeafTree ℕ
+  chain_of_shapes end_of-ShapePart = none
+  chain_of_shapes (more_of-ShapePart tight part rest) = linked_shapes (tree_of_shape part) rest
+
+  pub linked_shapes : {m : _} → LeafTree ℕ → Row_of-ShapePart m → LeafTree ℕ
+  linked_shapes before end_of-ShapePart = before
+  linked_shapes before (more_of-ShapePart tight part rest) = linked_shapes (sequence tight before (tree_of_shape part)) rest
+
+  pub choice_of_shapes : {m : _} → Row_of-Shape m → LeafTree ℕ
+  choice_of_shapes end_of-Shape = none
+  choice_of_shapes (more_of-Shape choice rest) = either (tree_of_shape choice) (choice_of_shapes rest)
 
 -- the test holds of the event
 abbrev mutual

@@ -1,10 +1,11 @@
 //! The tree of leaves of a formula: filters and names are carried to the types that they speak of.
 
-ghost use Rattle.std.specs.Prelude.{◌≡◌, IfOk, fold};
-ghost use Rattle.query_leaves.specs.Expand.{filtered, under_all, postfixed, postfixed_by_all, expand, tree_of};
-ghost use Rattle.query_leaves.specs.Drafts.{tree_of_draft, tree_of_alternatives, tree_of_chain, tree_of_links, tree_of_choices};
+ghost use Rattle.std.specs.Prelude.{◌≡◌, ◌∷◌, false, IfOk, fold, map};
+ghost use Rattle.query_leaves.specs.LeafTree.{choice_of};
+ghost use Rattle.query_leaves.specs.Expand.{filtered, postfixed, expand, tree_of};
+ghost use Rattle.query_leaves.specs.Drafts.{tree_of_draft, draft_part, part_of, link_of};
 
-use crate::draft::{Draft, changed, copied, either, one_or_more, sequence};
+use crate::draft::{Draft, DraftPart, changed, copied, one_or_more};
 use crate::occurrence::{Change, Occurrence};
 use cel_terms::{Filter, Formula, Link, Postfix, Query};
 use cer_base::Memory;
@@ -27,6 +28,24 @@ fn filtered_by_all<'q>(
     Ok(after)
 }
 
+/// A copy for each filter.
+#[cycle(filtered)]
+fn filtered_copies<'q>(
+    alloc: Global,
+    filters: &'q [Filter],
+    draft: &Draft<'q>,
+) -> Result<Vec<Draft<'q>>, Memory>
+    ensures { IfOk result (λ copies. map tree_of_draft copies.items
+        ≡ map (λ c. filtered c (tree_of_draft draft.now)) filters.now) }
+{
+    let mut copies = Vec::new(alloc);
+    for filter in filters {
+        let copy = copied(alloc, draft)?;
+        copies.push(filtered(alloc, filter, copy)?)?;
+    }
+    Ok(copies)
+}
+
 /// A choice between a copy for each filter.
 #[cycle(filtered)]
 fn filtered_by_any<'q>(
@@ -35,14 +54,9 @@ fn filtered_by_any<'q>(
     draft: &Draft<'q>,
 ) -> Result<Draft<'q>, Memory>
     ensures { IfOk result (λ after. tree_of_draft after
-        ≡ tree_of_alternatives filters.now (tree_of_draft draft.now)) }
+        ≡ choice_of (map (λ c. filtered c (tree_of_draft draft.now)) filters.now)) }
 {
-    let mut after = Draft::Never;
-    for k in (0..filters.len()).rev() {
-        let choice = filtered(alloc, &filters[k], copied(alloc, draft)?)?;
-        after = either(alloc, choice, after)?;
-    }
-    Ok(after)
+    Ok(Draft::Either(filtered_copies(alloc, filters, draft)?))
 }
 
 /// The tree under the filter.
@@ -102,48 +116,54 @@ fn postfixed_by_all<'q>(
     Ok(after)
 }
 
-/// The parts one after another.
+/// The trees of the formulas as parts of a chain, none of them tight.
 #[cycle(expand)]
-fn chain<'q>(alloc: Global, parts: &'q [Formula]) -> Result<Draft<'q>, Memory>
-    ensures { IfOk result (λ draft. tree_of_draft draft ≡ tree_of_chain parts.now) }
+fn chained<'q>(alloc: Global, formulas: &'q [Formula]) -> Result<Vec<DraftPart<'q>>, Memory>
+    ensures { IfOk result (λ parts. map draft_part parts.items ≡ map part_of formulas.now) }
 {
-    let mut before = Draft::Never;
-    for (i, part) in parts.iter().enumerate() {
-        let next = expand(alloc, part)?;
-        before = if i == 0 {
-            next
-        } else {
-            sequence(alloc, false, before, next)?
-        };
+    let mut parts = Vec::new(alloc);
+    for formula in formulas {
+        let part = expand(alloc, formula)?;
+        parts.push(DraftPart { tight: false, part })?;
     }
-    Ok(before)
+    Ok(parts)
 }
 
-/// The links one after another, after what stands before them.
+/// The trees of the links as parts of a chain, after what stands before them.
 #[cycle(expand)]
-fn linked<'q>(alloc: Global, links: &'q [Link], first: Draft<'q>) -> Result<Draft<'q>, Memory>
-    ensures { IfOk result (λ draft. tree_of_draft draft
-        ≡ tree_of_links (tree_of_draft first.entry) links.now) }
+fn linked<'q>(
+    alloc: Global,
+    links: &'q [Link],
+    first: Draft<'q>,
+) -> Result<Vec<DraftPart<'q>>, Memory>
+    ensures { IfOk result (λ parts. map draft_part parts.items
+        ≡ (false, tree_of_draft first.entry) ∷ map link_of links.now) }
 {
-    let mut before = first;
+    let mut parts = Vec::new(alloc);
+    parts.push(DraftPart {
+        tight: false,
+        part: first,
+    })?;
     for link in links {
-        let next = expand(alloc, &link.next)?;
-        before = sequence(alloc, link.tight, before, next)?;
+        let part = expand(alloc, &link.next)?;
+        parts.push(DraftPart {
+            tight: link.tight,
+            part,
+        })?;
     }
-    Ok(before)
+    Ok(parts)
 }
 
-/// A choice between the formulas.
+/// The trees of the formulas.
 #[cycle(expand)]
-fn one_of<'q>(alloc: Global, choices: &'q [Formula]) -> Result<Draft<'q>, Memory>
-    ensures { IfOk result (λ draft. tree_of_draft draft ≡ tree_of_choices choices.now) }
+fn expanded_each<'q>(alloc: Global, formulas: &'q [Formula]) -> Result<Vec<Draft<'q>>, Memory>
+    ensures { IfOk result (λ drafts. map tree_of_draft drafts.items ≡ map expand formulas.now) }
 {
-    let mut after = Draft::Never;
-    for k in (0..choices.len()).rev() {
-        let choice = expand(alloc, &choices[k])?;
-        after = either(alloc, choice, after)?;
+    let mut drafts = Vec::new(alloc);
+    for formula in formulas {
+        drafts.push(expand(alloc, formula)?)?;
     }
-    Ok(after)
+    Ok(drafts)
 }
 
 /// The tree of the formula.
@@ -153,12 +173,12 @@ fn expand<'q>(alloc: Global, formula: &'q Formula) -> Result<Draft<'q>, Memory>
 {
     match formula {
         Formula::Of(name) => Ok(Draft::Leaf(Occurrence::of(alloc, name.text.as_str())?)),
-        Formula::Chain(parts) => chain(alloc, parts),
+        Formula::Chain(parts) => Ok(Draft::Chain(chained(alloc, parts)?)),
         Formula::Linked(first, links) => {
             let first = expand(alloc, first)?;
-            linked(alloc, links, first)
+            Ok(Draft::Chain(linked(alloc, links, first)?))
         }
-        Formula::Either(choices) => one_of(alloc, choices),
+        Formula::Either(choices) => Ok(Draft::Either(expanded_each(alloc, choices)?)),
         Formula::Post(base, postfixes) => {
             let draft = expand(alloc, base)?;
             postfixed_by_all(alloc, postfixes, draft)

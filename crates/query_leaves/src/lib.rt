@@ -43,24 +43,27 @@ pub struct Leaf {
     pub marked: bool,
 }
 
-/// A formula over the numbers of its leaves, from 0.
+/// A formula over the numbers of its leaves, from 0. It nests as the query's formula and its filters
+/// do: chains and choices are lists.
 #[derive(Drop, Debug)]
+#[cycle(shape)]
 pub enum Shape {
-    /// Reads nothing.
-    Never,
     Leaf(u64),
-    /// One after the other; where tight, with no event of the substream between.
-    Sequence {
-        tight: bool,
-        first: Box<Shape>,
-        second: Box<Shape>,
-    },
-    Either(Box<Shape>, Box<Shape>),
+    /// One part after another; where there is none it reads nothing.
+    Chain(Vec<ShapePart>),
+    /// One of them; where there is none it reads nothing.
+    Either(Vec<Shape>),
     /// One or more, each after the one before.
-    Plus {
-        tight: bool,
-        part: Box<Shape>,
-    },
+    Plus { tight: bool, part: Box<Shape> },
+}
+
+/// A part of a chain. Where tight, no event of the substream lies between it and the part before;
+/// of the first part this says nothing.
+#[derive(Drop, Debug)]
+#[cycle(shape)]
+pub struct ShapePart {
+    pub tight: bool,
+    pub part: Shape,
 }
 
 /// The leaves of a query, from left to right, and its shape over their numbers.

@@ -97,17 +97,15 @@ impl<'q> Occurrence<'q> {
         })
     }
 
-    /// What the change makes of it.
-    pub fn changed(self, change: &Change<'q>) -> Result<Occurrence<'q>, Memory>
-        ensures { IfOk result (λ o. o ≡ change_leaf change.now self.entry) }
+    /// Makes the change.
+    pub fn change(&mut self, change: &Change<'q>) -> Result<(), Memory>
+        ensures { OnOk result (self.new ≡ change_leaf change.now self.old) }
     {
-        let mut after = self;
         match change {
-            Change::Named(name) => after.give(name.text.as_str())?,
-            Change::Keep(listed) => after.keep(*listed)?,
-            Change::Test(name, pred) => after.test(name.text.as_str(), *pred)?,
+            Change::Named(name) => self.give(name.text.as_str()),
+            Change::Keep(listed) => self.keep(*listed),
+            Change::Test(name, pred) => self.test(name.text.as_str(), *pred),
         }
-        Ok(after)
     }
 
     /// Gives it one more name, where it has any.

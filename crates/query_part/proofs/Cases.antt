@@ -1,5 +1,5 @@
 -- What an event makes of a part, in each of its cases.
-use Rattle.std.proofs.Common.{◌≡◌, ◌≢◌, ℕ, zero, suc, ◌+◌, ◌<◌, ◌≤◌, ◌⊎◌, inl, inr, ℤ, ◌≤ℤ◌, Bool, true, false, List, [], ◌∷◌, ◌++◌, map, length, refl, sym, ap, subst, ◌∙◌, All, Contains, Option, Some, None, slice_get, slice_set, slice_index_or, arith, ◌*◌, ◌^◌, pow-suc}
+use Rattle.std.proofs.Common.{◌≡◌, ◌≢◌, ℕ, zero, suc, ◌+◌, ◌<◌, ◌≤◌, ◌⊎◌, inl, inr, ℤ, ◌≤ℤ◌, Bool, true, false, List, [], ◌∷◌, ◌++◌, map, length, refl, sym, ap, subst, ◌∙◌, All, Contains, Option, Some, None, slice_get, slice_set, slice_index_or, arith, ◌*◌, ◌^◌, pow-suc, length-append}
 use Rattle.std.specs.Prelude.{IfSome, IfNone, int_lt}
 use Rattle.std.proofs.Math.Nat.{pow-zero}
 use Rattle.std.proofs.lemmas.Int.{ints}
@@ -70,6 +70,8 @@ nothing_new schema q event h c n d m = record {
   extends = record { cea = refl; more_states = []; states = sym (append_none h.table.states); more_nodes = []; nodes = sym (append_none h.nodes) };
   growth = omega arith;
   unread = λ no. refl;
+  key = omega arith;
+  no_key = λ no. refl;
 }
 
 -- an event that the query does not read
@@ -182,6 +184,11 @@ keyed_stands schema q events event stamp low bits key number staged old new c n 
       stands = λ xs later st. r.stands (low_of q.window now) xs recent (subst (λ (t : Stamp). All (λ (x : Seen). x.stamp.pos < t.pos) xs) (sym stamp_is) later) st;
     }
 
+-- at most one key is put in
+one_key_more : (old mid : Held) (key : List Value) → TakesKey old key mid → length mid.keys ≤ length old.keys + 1
+one_key_more old mid key (inl h) = subst (λ (m : Held). length m.keys ≤ length old.keys + 1) (sym h.1) (omega arith)
+one_key_more old mid key (inr h) = subst (λ (m : Held). length m.keys ≤ length old.keys + 1) (sym h.1) (let long = length-append old.keys (key ∷ []) in omega arith)
+
 keyed_grows : (schema : Declared) (q : Query) (event : Event) (stamp : Stamp) (low : ℤ) (bits : List Bool) (key : List Value) (number : ℕ) (staged : Staged) (old new : Held) (c : Option ℤ) (n : Option ℕ) (now : ℤ) → Reads schema q event → IsReady stamp low bits key number staged old new → Grows schema q event (part_of old c n) (part_of (put_in number staged new) (Some now) (Some number))
 keyed_grows schema q event stamp low bits key number staged old new c n now reads r =
     let table : r.mid.table ≡ old.table = mid_table old r.mid key r.takes in
@@ -196,6 +203,8 @@ keyed_grows schema q event stamp low bits key number staged old new c n now read
       };
       growth = subst (λ b. length new.nodes ≤ length old.nodes + b) (same_bound (length new.table.states)) r.growth;
       unread = λ no. absurd (no reads);
+      key = subst (λ (ks : List (List Value)). length ks ≤ length old.keys + 1) (sym r.keys) (one_key_more old r.mid key r.takes);
+      no_key = λ no. absurd (no reads);
     }
 
 pub keyed_step : (schema : Declared) (q : Query) (event : Event) (position : ℕ) (low : ℤ) (bits : List Bool) (key : List Value) (number : ℕ) (staged : Staged) (old new : Held) (c : Option ℤ) (n : Option ℕ) (now : ℤ) → Reads schema q event → HasClock schema q.window event position now → least ≤ℤ low_of q.window now → HasKey schema q event key → has bits ≡ leaves_reading schema q event → low ≤ℤ low_of q.window now → IsReady (record { pos = position; clock = now }) low bits key number staged old new → IsStep schema q event position (part_of old c n) (part_of (put_in number staged new) (Some now) (Some number))

@@ -26,6 +26,10 @@ use Rattle.arena_compact.proofs.Ends.{least_under}
 use Rattle.query_part.specs.Matches.{Held}
 use Rattle.query_part.specs.Parts.{part_of}
 use Rattle.query_part.specs.Compacting.{HasStatesOnce, CursorsCompacted, PartCompacted}
+use Rattle.query_part.specs.Dropping.{HaveListsButOne}
+use Rattle.query_standing.specs.Giving.{AreGivenUp}
+use Rattle.query_standing.proofs.Giving.{part_gives_up}
+use Rattle.query_part.proofs.KeptRoots.{compacted_stays}
 use Rattle.query_part.proofs.Prepare.{Idle}
 
 -- all nodes have a greatest start at the first position or later
@@ -103,28 +107,42 @@ pub record Left (number : ℕ) (low : ℤ) (h k : Held) (ws vs : List CursorStat
   pub lists : KeysCompacted (least_of number low ws) h.nodes k.nodes h.rows k.rows
   pub cursors : CursorsCompacted number h.nodes k.nodes ws vs
 
-module _ (schema : Declared) (q : Query) (h k : Held) (c : Option ℤ) (n : Option ℕ) (p : Phase) (number : ℕ) (low : ℤ) (ws vs : List CursorState) (i : Idle schema q h c n p) (is : low ≡ low_at p.query p.kept.clock) (left : Left number low h k ws vs) where
-  pub part_compacted : PartCompacted number (low_at p.query p.kept.clock) p.kept (part_of k c n) ws vs
-  part_compacted =
-      subst (λ (l : ℤ). PartCompacted number l p.kept (part_of k c n) ws vs) is (subst (λ (old : Part). PartCompacted number low old (part_of k c n) ws vs) i.kept_is (record {
-        table = left.same.0;
-        keys = left.same.1;
-        clock = refl;
-        here = refl;
-        nodes = left.nodes;
-        lists = left.lists;
-        cursors = left.cursors;
-      }))
+-- What is left once the keys without lists are given up.
+pub record GivenUp (k : Held) (n : Option ℕ) (m : Held) (o : Option ℕ) : Type 0 where
+  pub same : (m.table ≡ k.table) × (m.nodes ≡ k.nodes)
+  pub given : AreGivenUp k.keys k.rows n m.keys m.rows o
+  pub have : HaveListsButOne m.rows
 
-  pub part_stands : (events : List Event) → PartStands schema q events (part_of h c n) → PartStands schema q events (part_of k c n)
-  part_stands events s =
+module _ (schema : Declared) (q : Query) (h k : Held) (c : Option ℤ) (n : Option ℕ) (p : Phase) (number : ℕ) (low : ℤ) (ws vs : List CursorState) (i : Idle schema q h c n p) (is : low ≡ low_at p.query p.kept.clock) (left : Left number low h k ws vs) where
+  still_here : (events : List Event) → PartStands schema q events (part_of h c n) → PartStands schema q events (part_of k c n)
+  still_here events s =
       let held : k ≡ record h { nodes = k.nodes; rows = k.rows } = λ j. record { table = left.same.0 j; nodes = k.nodes; keys = left.same.1 j; rows = k.rows } in
       let here : low ≡ low_at q c = is ∙ (ap (λ z. low_at z p.kept.clock) (sym i.query_is) ∙ ap (λ (x : Part). low_at q x.clock) (sym i.kept_is)) in
       let le : least_of number low ws ≤ℤ low_at q c = subst (λ (l : ℤ). least_of number low ws ≤ℤ l) here (least_under number low ws).0 in
       subst (λ (x : Held). PartStands schema q events (part_of x c n)) (sym held) (still_stands schema q events (least_of number low ws) (part_of h c n) k.nodes k.rows (roots_of number k.rows vs) le left.nodes left.lists s)
 
-  pub part_fewer : length k.nodes ≤ length p.kept.nodes
-  part_fewer = subst (λ (x : Part). length k.nodes ≤ length x.nodes) i.kept_is (fewer_nodes (least_of number low ws) h.nodes k.nodes (roots_of number k.rows vs) left.nodes)
+  pub part_compacted : (m : Held) (o : Option ℕ) → GivenUp k n m o → (events : List Event) → PartStands schema q events (part_of h c n) → PartCompacted number (low_at p.query p.kept.clock) p.kept (part_of m c o) ws vs
+  part_compacted m o g events s =
+      let after = still_here events s in
+      subst (λ (l : ℤ). PartCompacted number l p.kept (part_of m c o) ws vs) is (subst (λ (old : Part). PartCompacted number low old (part_of m c o) ws vs) i.kept_is (record {
+        table = g.same.0 ∙ left.same.0;
+        clock = refl;
+        nodes = subst (λ (ns : List Node). Compacted (least_of number low ws) h.nodes ns (roots_of number m.rows vs)) (sym g.same.1)
+            (compacted_stays k.keys k.rows n m.keys m.rows o g.given after.keys.distinct after.keys.lists (least_of number low ws) h.nodes k.nodes number vs left.nodes);
+        kept = k.rows;
+        lists = subst (λ (ns : List Node). KeysCompacted (least_of number low ws) h.nodes ns h.rows k.rows) (sym g.same.1) left.lists;
+        given = subst (λ (ks : List (List Value)). AreGivenUp ks k.rows n m.keys m.rows o) left.same.1 g.given;
+        have = g.have;
+        cursors = subst (λ (ns : List Node). CursorsCompacted number h.nodes ns ws vs) (sym g.same.1) left.cursors;
+      }))
+
+  pub part_stands : (m : Held) (o : Option ℕ) → GivenUp k n m o → (events : List Event) → PartStands schema q events (part_of h c n) → PartStands schema q events (part_of m c o)
+  part_stands m o g events s =
+      let held : m ≡ record k { keys = m.keys; rows = m.rows } = λ j. record { table = g.same.0 j; nodes = g.same.1 j; keys = m.keys; rows = m.rows } in
+      subst (λ (x : Held). PartStands schema q events (part_of x c o)) (sym held) (part_gives_up schema q events (part_of k c n) m.keys m.rows o (still_here events s) g.given)
+
+  pub part_fewer : (m : Held) (o : Option ℕ) → GivenUp k n m o → length m.nodes ≤ length p.kept.nodes
+  part_fewer m o g = subst (λ (x : Part). length m.nodes ≤ length x.nodes) i.kept_is (subst (λ (ns : List Node). length ns ≤ length h.nodes) (sym g.same.1) (fewer_nodes (least_of number low ws) h.nodes k.nodes (roots_of number k.rows vs) left.nodes))
 
 -- one key's lists more in which no state stands twice
 pub one_more_once : (ls : List Lists) (k : ℕ) (l : Lists) → k < length ls → HasStatesOnce (slice_index_or ls k l).active.entries → All (λ (x : Lists). HasStatesOnce x.active.entries) (take k ls) → All (λ (x : Lists). HasStatesOnce x.active.entries) (take (k + 1) ls)

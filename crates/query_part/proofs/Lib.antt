@@ -17,3 +17,7 @@ mod Sleeping
 mod OwnKey
 -- a key's event that passes its lists
 mod Passed
+-- keys without lists are given up
+mod GivenUp
+-- what they leave is reached as before
+mod KeptRoots

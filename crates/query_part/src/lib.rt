@@ -8,6 +8,7 @@
 //! the event, and `all_or_none` for the two phases.
 #![tactic(auto)]
 
+pub mod dropping;
 pub mod lists;
 pub mod machine;
 pub mod matches;

@@ -18,6 +18,7 @@ use cea_compile::compile;
 use cel_terms::Query;
 use cer_base::Memory;
 use cer_base::bits::Bits;
+use cer_base::seed::Seed;
 use event_update::still::is_patient;
 use query_leaves::{Leaves, leaves_of};
 use std::alloc::Global;
@@ -71,8 +72,8 @@ pub struct Machine {
     pub patient: bool,
 }
 
-/// The automaton that the leaves tell, no match being open.
-fn machine_of(alloc: Global, leaves: &Leaves) -> Result<Machine, Memory>
+/// The automaton that the leaves tell, no match being open. Its tables hash by the seed.
+fn machine_of(alloc: Global, seed: Seed, leaves: &Leaves) -> Result<Machine, Memory>
     requires { AreNumbered leaves.now }
     ensures empty { IfOk result (λ m. (k : ℕ) → has m.no_leaves k ≡ false) }
     ensures room { IfOk result (λ m. length m.no_leaves ≡ room_for (length leaves.now.list)) }
@@ -83,7 +84,7 @@ fn machine_of(alloc: Global, leaves: &Leaves) -> Result<Machine, Memory>
 {
     let cea = compile(alloc, leaves)?;
     let patient = is_patient(&cea);
-    let matches = Matches::new(alloc, cea);
+    let matches = Matches::new(alloc, seed, cea);
     Ok(Machine {
         no_leaves: Bits::blank(alloc, leaves.list.as_slice().len())?,
         matches,
@@ -92,12 +93,12 @@ fn machine_of(alloc: Global, leaves: &Leaves) -> Result<Machine, Memory>
 }
 
 impl Machine {
-    /// That of the query.
-    pub fn of(alloc: Global, schema: &Schema, query: &Query) -> Result<Machine, Memory>
+    /// That of the query. Its tables hash by the seed.
+    pub fn of(alloc: Global, seed: Seed, schema: &Schema, query: &Query) -> Result<Machine, Memory>
         ensures machine { IfOk result (λ m. IsMachineOf query.now m.no_leaves m.matches) }
         ensures patient { IfOk result (λ m. MayBePatient query.now m.patient) }
     {
         let leaves = leaves_of(alloc, schema, query)?;
-        machine_of(alloc, &leaves)
+        machine_of(alloc, seed, &leaves)
     }
 }

@@ -16,9 +16,12 @@ ghost use Rattle.tecs_enumerate.specs.Rest.{CursorState, rest, recent_of, Fits};
 ghost use Rattle.union_lists.specs.Lists.{IsUnionList};
 ghost use Rattle.arena_compact.specs.Roots.{places};
 ghost use Rattle.arena_compact.specs.Compacted.{least_of, roots_of, Compacted, KeysCompacted, CursorCompacted};
+ghost use Rattle.query_standing.specs.Giving.{AreGivenUp};
+ghost use Rattle.query_part.specs.Dropping.{HaveListsButOne};
 ghost use Rattle.query_part.specs.Compacting.{HasStatesOnce};
 ghost use Rattle.query_part.specs.Matches.{Held, MayRest, awake_in, AreStill, HasKeyThere, HasBegun, MayPass, none_open, cut, CanCut, AreSizes, TakesKey, CanTake, IsReady, HasWorked, CanList, entries_for};
 
+use crate::dropping::{give_up_all, key_to_stay, number_of};
 use crate::lists::{Lists, is_unchanged, look_over, note, put_lists, states_once};
 use arena_compact::{HasCursor, Room, compact};
 use cea_determinise::cea::Cea;
@@ -27,6 +30,7 @@ use cea_determinise::table::Sizes as TableSizes;
 use cer_base::Memory;
 use cer_base::bits::Bits;
 use cer_base::node::{Root, Stamp};
+use cer_base::seed::Seed;
 use cer_base::steps::Steps;
 use cer_base::store::NodeStore;
 use cer_base::time::LowTime;
@@ -82,7 +86,7 @@ impl Model for Matches {
 
     ghost view = { λ m. record {
       table = m.det;
-      nodes = m.store;
+      nodes = m.store.nodes;
       keys = m.keys;
       rows = map (λ l. l.active.entries) m.lists.items;
     } };
@@ -94,16 +98,16 @@ impl Model for Matches {
 }
 
 impl Matches {
-    /// No open match.
-    pub fn new(alloc: Global, cea: Cea) -> Matches
+    /// No open match. The tables of keys and states hash by the seed.
+    pub fn new(alloc: Global, seed: Seed, cea: Cea) -> Matches
         requires { IsWellFormed cea }
         ensures { result ≡ none_open cea }
     {
         Matches {
             alloc,
-            det: Det::new(alloc, cea),
+            det: Det::new(alloc, seed, cea),
             store: Arena::new(alloc),
-            keys: Keys::new(alloc),
+            keys: Keys::new(alloc, seed),
             lists: Vec::new(alloc),
             awake: 0,
             still: Vec::new(alloc),
@@ -395,6 +399,21 @@ impl Matches {
         self.awake = look_over(lists, self.still.as_slice());
     }
 
+    /// Gives up each key without a list, but not that of the number that is told, whose number then is
+    /// the answer. Where none is told, the key of no values stays, so that a query without partitions
+    /// has its one key at hand. It goes through the keys, and takes no step and no memory.
+    pub fn give_up(&mut self, told: Option<u64>) -> Option<u64>
+        ensures same { (self.new.table ≡ self.old.table) × (self.new.nodes ≡ self.old.nodes) }
+        ensures given { AreGivenUp self.old.keys self.old.rows told self.new.keys self.new.rows
+            result }
+        ensures have { HaveListsButOne self.new.rows }
+    {
+        let stays = key_to_stay(self.keys.is_whole(), told);
+        let now = give_up_all(&mut self.lists, &mut self.keys, stays);
+        self.awake = look_over(self.lists.as_mut_slice(), self.still.as_slice());
+        number_of(told, now)
+    }
+
     /// How many states were found.
     pub fn found(&self) -> u64
         ensures { result ≡ length self.now.table.states }
@@ -475,6 +494,7 @@ impl Matches {
             × (cursor.new.path ≡ [])) }
         ensures fits { Fits cursor.new self.now.nodes }
         ensures same { (cursor.new.query ≡ cursor.old.query) × (cursor.new.low ≡ cursor.old.low) }
+        ensures room { cursor.new.room ≡ cursor.old.room }
         ensures delay { MatchOption result (steps.new ≤ steps.old + 1)
             (λ start. steps.new ≤ steps.old + 4 * (length cursor.new.path + 1)) }
     {

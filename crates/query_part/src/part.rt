@@ -24,6 +24,7 @@ use arena_compact::{HasCursor, Room};
 use cel_terms::Query;
 use cer_base::bits::Bits;
 use cer_base::node::Stamp;
+use cer_base::seed::Seed;
 use cer_base::steps::Steps;
 use cer_base::time::{LowTime, Time};
 use cer_base::{Memory, Pos};
@@ -154,8 +155,9 @@ fn joined(
 }
 
 impl Part {
-    /// What is kept of the query, which is checked for the schema, before any event.
-    pub fn new(alloc: Global, schema: &Rc<Schema>, query: Query) -> Result<Part, Memory>
+    /// What is kept of the query, which is checked for the schema, before any event. Its tables hash
+    /// by the seed.
+    pub fn new(alloc: Global, seed: Seed, schema: &Rc<Schema>, query: Query) -> Result<Part, Memory>
         requires checked { IsChecked schema.now.value query }
         ensures given { IfOk result (λ p. (p.schema ≡ schema.now.value) × (p.query ≡ query)) }
         ensures idle { IfOk result IsIdle }
@@ -166,7 +168,7 @@ impl Part {
         let declared = schema.as_ref();
         declared.well_declared();
         let reading = Reading::of(alloc, declared, &query)?;
-        let machine = Machine::of(alloc, declared, &query)?;
+        let machine = Machine::of(alloc, seed, declared, &query)?;
         let shared = schema.clone()?;
         Ok(joined(alloc, shared, query, reading, machine))
     }
@@ -276,6 +278,7 @@ impl Part {
             × (cursor.new.path ≡ [])) }
         ensures fits { Fits cursor.new self.now.kept.nodes }
         ensures same { (cursor.new.query ≡ cursor.old.query) × (cursor.new.low ≡ cursor.old.low) }
+        ensures room { cursor.new.room ≡ cursor.old.room }
         ensures delay { MatchOption result (steps.new ≤ steps.old + 1)
             (λ start. steps.new ≤ steps.old + 4 * (length cursor.new.path + 1)) }
     {
@@ -311,8 +314,9 @@ impl Part {
 
     /// Keeps of the nodes what the lists and the part's cursors, those with its number, need from
     /// its low clock and their own on. It stands for the same events as before, and each of these
-    /// cursors has the same answers left; the others are not touched. The room is for as many nodes
-    /// as there are. It takes no memory. The last event did not pass the part by, or it was settled.
+    /// cursors has the same answers left; the others are not touched. Keys without a list are given up
+    /// then, but for one at most. The room is for as many nodes as there are. It takes no memory. The
+    /// last event did not pass the part by, or it was settled.
     pub fn compact<C: HasCursor, L: Ledger>(
         &mut self,
         number: u64,
@@ -340,6 +344,7 @@ impl Part {
         self.step = None;
         let low = self.clock.low();
         self.matches.compact(number, cursors, low, room, steps);
+        self.here = self.matches.give_up(self.here);
     }
 }
 

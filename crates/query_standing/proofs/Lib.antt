@@ -22,3 +22,7 @@ pub mod PartSteps
 pub mod FoundStates
 -- whether an event has a key, and whether a key is kept
 pub mod KeyCases
+-- keys without lists may be given up
+pub mod Giving
+-- one key after the other is given up
+pub mod GivingOne

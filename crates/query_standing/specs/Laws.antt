@@ -1,5 +1,5 @@
 -- Laws that tie what is kept of a query's events to its answers.
-use Rattle.std.specs.Prelude.{◌≡◌, ℕ, suc, ◌-◌, ◌≤◌, ℤ, ◌≤ℤ◌, Bool, All, Contains, None, List, [], ◌∷◌, ◌++◌, map, length, Some, slice_get}
+use Rattle.std.specs.Prelude.{◌≡◌, ℕ, suc, ◌-◌, ◌≤◌, ℤ, ◌≤ℤ◌, Bool, All, Contains, Option, None, List, [], ◌∷◌, ◌++◌, map, length, Some, slice_get}
 use Rattle.stream_schema.specs.Types.{Declared}
 use Rattle.stream_schema.specs.declared.Event.{Event}
 use Rattle.stream_schema.specs.declared.Value.{Value}
@@ -22,6 +22,7 @@ use Rattle.query_standing.specs.Clocks.{Reads, HasClockAt, NeverFalls, low_of}
 use Rattle.query_standing.specs.Keys.{AreSeen, IsSeenAs, IsGiven}
 use Rattle.query_standing.specs.Holding.{Holds, answer_of, answers_in, dropped}
 use Rattle.query_standing.specs.Kept.{Rows, Part, low_at, PartStands, roots_of, roots_at, KeptState, KeptStands, kept_rest}
+use Rattle.query_standing.specs.Giving.{AreGivenUp}
 use Rattle.query_standing.specs.Steps.{Advances, HasNoKey, LeavesLists, HasKeyOf}
 
 -- Where the lists of a key hold what its events say, the recent members of accepting states are exactly the answers at the key's last event, each once.
@@ -109,6 +110,11 @@ KeptAdvances = (schema : Declared) (q : Query) (events : List Event) (event : Ev
 abbrev pub KeptTakesAKey : Type 0
 KeptTakesAKey = (schema : Declared) (q : Query) (events : List Event) (part : Part) (key : List Value) →
     PartStands schema q events part → (Contains part.keys key → ⊥) → PartStands schema q events (record part { keys = part.keys ++ key ∷ []; rows = part.rows ++ [] ∷ [] })
+
+-- Keys without lists may be given up, but not the last event's.
+abbrev pub KeptGivesUpKeys : Type 0
+KeptGivesUpKeys = (schema : Declared) (q : Query) (events : List Event) (part : Part) (keys : List (List Value)) (rows : List Rows) (here : Option ℕ) →
+    PartStands schema q events part → AreGivenUp part.keys part.rows part.here keys rows here → PartStands schema q events (record part { keys = keys; rows = rows; here = here })
 
 -- So many states are kept as runs over the events lead to, at most.
 abbrev pub StatesAreMet : Type 0

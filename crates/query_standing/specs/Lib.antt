@@ -5,3 +5,4 @@ pub mod Bounds
 pub mod Kept
 pub mod Laws
 pub mod Steps
+pub mod Giving

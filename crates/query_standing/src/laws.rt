@@ -1,7 +1,8 @@
 //! Laws that tie what the engine keeps to the answers of a query. Each function does nothing; its
 //! contract is the law.
 
-ghost use Rattle.query_standing.specs.Laws.{HeldAreAnswers, NodesGiveAnswers, NoKeyNoAnswer, OthersLeaveAKey, OneOfAKeyComesLast, LowNeverFalls, HoldsLater, HoldsWithoutDropped, LaterAnswersStartLate, KeptGivesAnswers, KeptEngineGivesAnswers, KeptPassesUnread, KeptSkips, KeptPassesWithoutKey, KeptPassesResting, KeptAdvances, KeptTakesAKey, StatesAreMet};
+ghost use Rattle.query_standing.specs.Laws.{HeldAreAnswers, NodesGiveAnswers, NoKeyNoAnswer, OthersLeaveAKey, OneOfAKeyComesLast, LowNeverFalls, HoldsLater, HoldsWithoutDropped, LaterAnswersStartLate, KeptGivesAnswers, KeptEngineGivesAnswers, KeptPassesUnread, KeptSkips, KeptPassesWithoutKey, KeptPassesResting, KeptAdvances, KeptTakesAKey, KeptGivesUpKeys, StatesAreMet};
+ghost use Rattle.query_standing.specs.Giving.{NoneIsGivenUp, MoreAreGivenUp, OneIsGivenUp};
 
 /// The recent open matches of accepting states are exactly the answers at the last event of their
 /// key, each once; over nodes, a cursor on their entries gives exactly these.
@@ -41,4 +42,12 @@ pub fn kept_stands()
     ensures keyed { KeptAdvances }
     ensures new_key { KeptTakesAKey }
     ensures states { StatesAreMet }
+{}
+
+/// Keys without lists may be given up.
+pub fn kept_gives_up()
+    ensures stands { KeptGivesUpKeys }
+    ensures none { NoneIsGivenUp }
+    ensures more { MoreAreGivenUp }
+    ensures one { OneIsGivenUp }
 {}

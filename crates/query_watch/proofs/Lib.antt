@@ -1,6 +1,8 @@
 -- rows that are put in, and looked at
 mod Listed
--- rows by their numbers
-mod Gridded
+-- rows that are put into buckets, and looked at by them
+mod Indexed
+-- what an event marks by the indexes of its type
+mod Found
 -- what tests that ask for a text ask to open with
 mod Opened

@@ -1,5 +1,5 @@
 -- Rows that are put in, and looked at.
-use Rattle.std.proofs.Common.{◌≡◌, ◌≢◌, refl, sym, ap, subst, ◌∙◌, ℕ, zero, suc, ◌+◌, ◌<◌, ◌≤◌, ◌⊎◌, inl, inr, Bool, true, false, ◌&&◌, ◌||◌, eqb, List, [], ◌∷◌, ◌++◌, length, map, length-append, take, Option, Some, None, IfSome, Vec, slice_get, slice_index_or, slice_set, Contains, All, arith}
+use Rattle.std.proofs.Common.{◌≡◌, ◌≢◌, refl, sym, ap, subst, ◌∙◌, ℕ, zero, suc, ◌+◌, ◌<◌, ◌≤◌, ◌⊎◌, inl, inr, Bool, true, false, ◌&&◌, ◌||◌, eqb, List, [], ◌∷◌, ◌++◌, length, map, length-append, take, Option, Some, IfSome, Vec, slice_get, slice_index_or, slice_set, Contains, All, arith}
 use Rattle.std.specs.declared.alloc.Global.{Global}
 use Rattle.std.proofs.lemmas.Bool.{cases_lt, cases_eq, eq-eqb, eqb-true, false≢true, and_parts, or_cases, or_left, or_right}
 use Rattle.std.proofs.lemmas.List.Elements.{Contains-append_left, Contains-append_right, Contains-append_cases, Contains-push, Contains-push_cases, Contains-get_or}
@@ -495,37 +495,19 @@ room_of_row rows i e leaves event had have inside same h = room_within rows (sli
 pub row_within : (rows : List Row) (i : ℕ) (e : Row) (leaves : List Watched) (before now : List Bool) → All (IsRowBelow (length before) leaves) rows → i < length rows → length now ≡ length before → IsRowBelow (length now) leaves (slice_index_or rows i e)
 row_within rows i e leaves before now low inside same = subst (λ n. IsRowBelow n leaves (slice_index_or rows i e)) (sym same) (low i e inside)
 
--- the list that is found is that of the type
-pub list_found : (vs : List (Vec Row Global)) (ty : ℕ) (v : Vec Row Global) → slice_get vs ty ≡ Some v → slice_index_or (rows_of vs) ty [] ≡ v.items
-list_found [] ty v at = absurd cc
-list_found (w ∷ vs) zero v at = let same : w ≡ v = cc in ap (λ (x : Vec Row Global). x.items) same
-list_found (w ∷ vs) (suc ty) v at = list_found vs ty v at
-
-pub none_found : (vs : List (Vec Row Global)) (ty : ℕ) → slice_get vs ty ≡ None → slice_index_or (rows_of vs) ty [] ≡ []
-none_found [] ty at = refl
-none_found (w ∷ vs) zero at = absurd cc
-none_found (w ∷ vs) (suc ty) at = none_found vs ty at
-
--- the rows of a list are of queries below their number, so within the room
-pub rows_below : (vs : List (Vec Row Global)) (ls leaves : List Watched) (count ty room : ℕ) (v : Vec Row Global) (table : Table) (list : List Row) → record { rows = rows_of vs; leaves = ls; count = count } ≡ table → AreBelow count (rows_of vs) ls → slice_get vs ty ≡ Some v → list ≡ v.items → leaves ≡ ls → table.count ≤ room → All (IsRowBelow room leaves) list
-rows_below vs ls leaves count ty room v table list is below at list_is leaves_is le k d less =
-    let listed = Contains-get_or list k d less in
-    let b = below ty (slice_index_or list k d) (subst (λ rs. Contains rs (slice_index_or list k d)) (list_is ∙ sym (list_found vs ty v at)) listed) in
+-- the rows of a type are of queries below their number, so within the room
+pub rows_below : (rows : List (List Row)) (ls leaves : List Watched) (count ty room : ℕ) (table : Table) → record { rows = rows; leaves = ls; count = count } ≡ table → AreBelow count rows ls → leaves ≡ ls → table.count ≤ room → All (IsRowBelow room leaves) (slice_index_or rows ty [])
+rows_below rows ls leaves count ty room table is below leaves_is le k d less =
+    let b = below ty (slice_index_or (slice_index_or rows ty []) k d) (Contains-get_or (slice_index_or rows ty []) k d less) in
     let low = b.below in
     let same : count ≡ table.count = ap (λ (t : Table). t.count) is in
-    record { query = b.query; of = subst (λ x. IsRowOf b.query x (slice_index_or list k d)) (sym leaves_is) b.of; below = omega arith }
+    record { query = b.query; of = subst (λ x. IsRowOf b.query x (slice_index_or (slice_index_or rows ty []) k d)) (sym leaves_is) b.of; below = omega arith }
 
 -- what the rows of the event's type mark is what the table says
-pub marks_found : (vs : List (Vec Row Global)) (ls leaves : List Watched) (count : ℕ) (v : Vec Row Global) (table : Table) (list : List Row) (event : Event) (before now : List Bool) (had have : List (List Bool)) → record { rows = rows_of vs; leaves = ls; count = count } ≡ table → slice_get vs event.ty ≡ Some v → list ≡ v.items → leaves ≡ ls → Marks list leaves event before now had have → Marks (slice_index_or table.rows event.ty []) table.leaves event before now had have
-marks_found vs ls leaves count v table list event before now had have is at list_is leaves_is marks =
+pub marks_found : (rows : List (List Row)) (ls leaves : List Watched) (count : ℕ) (table : Table) (event : Event) (before now : List Bool) (had have : List (List Bool)) → record { rows = rows; leaves = ls; count = count } ≡ table → leaves ≡ ls → Marks (slice_index_or rows event.ty []) leaves event before now had have → Marks (slice_index_or table.rows event.ty []) table.leaves event before now had have
+marks_found rows ls leaves count table event before now had have is leaves_is marks =
     subst (λ (t : Table). Marks (slice_index_or t.rows event.ty []) t.leaves event before now had have) is
-    (subst (λ x. Marks (slice_index_or (rows_of vs) event.ty []) x event before now had have) leaves_is
-    (subst (λ rs. Marks rs leaves event before now had have) (list_is ∙ sym (list_found vs event.ty v at)) marks))
-
-pub marks_no_list : (vs : List (Vec Row Global)) (ls : List Watched) (count : ℕ) (table : Table) (event : Event) (set : List Bool) (sets : List (List Bool)) → record { rows = rows_of vs; leaves = ls; count = count } ≡ table → slice_get vs event.ty ≡ None → Marks (slice_index_or table.rows event.ty []) table.leaves event set set sets sets
-marks_no_list vs ls count table event set sets is at =
-    subst (λ (t : Table). Marks (slice_index_or t.rows event.ty []) t.leaves event set set sets sets) is
-    (subst (λ rs. Marks rs ls event set set sets sets) (sym (none_found vs event.ty at)) (marks_none ls event set sets))
+    (subst (λ x. Marks (slice_index_or rows event.ty []) x event before now had have) leaves_is marks)
 
 -- where each row is of one of the first so many queries, it is enough that their sets have room
 all_rooms : (count : ℕ) (rows : List (List Row)) (leaves : List Watched) (event : Event) (sets : List (List Bool)) → AreBelow count rows leaves → HaveRooms count rows leaves event sets → HaveRoom (slice_index_or rows event.ty []) leaves event sets
@@ -538,8 +520,7 @@ all_rooms count rows leaves event sets below h query number l =
     h query number less l
 
 -- the room that the table asks for is that which the rows of the event's type do
-pub room_found : (vs : List (Vec Row Global)) (ls leaves : List Watched) (count : ℕ) (v : Vec Row Global) (table : Table) (list : List Row) (event : Event) (sets : List (List Bool)) → record { rows = rows_of vs; leaves = ls; count = count } ≡ table → AreBelow count (rows_of vs) ls → slice_get vs event.ty ≡ Some v → list ≡ v.items → leaves ≡ ls → HaveRooms table.count table.rows table.leaves event sets → HaveRoom list leaves event sets
-room_found vs ls leaves count v table list event sets is below at list_is leaves_is h =
-    subst (λ rs. HaveRoom rs leaves event sets) (sym (list_is ∙ sym (list_found vs event.ty v at)))
-    (subst (λ x. HaveRoom (slice_index_or (rows_of vs) event.ty []) x event sets) (sym leaves_is)
-    (all_rooms count (rows_of vs) ls event sets below (subst (λ (t : Table). HaveRooms t.count t.rows t.leaves event sets) (sym is) h)))
+pub room_found : (rows : List (List Row)) (ls leaves : List Watched) (count : ℕ) (table : Table) (event : Event) (sets : List (List Bool)) → record { rows = rows; leaves = ls; count = count } ≡ table → AreBelow count rows ls → leaves ≡ ls → HaveRooms table.count table.rows table.leaves event sets → HaveRoom (slice_index_or rows event.ty []) leaves event sets
+room_found rows ls leaves count table event sets is below leaves_is h =
+    subst (λ x. HaveRoom (slice_index_or rows event.ty []) x event sets) (sym leaves_is)
+    (all_rooms count rows ls event sets below (subst (λ (t : Table). HaveRooms t.count t.rows t.leaves event sets) (sym is) h))

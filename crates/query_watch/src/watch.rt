@@ -7,11 +7,10 @@ ghost use Rattle.stream_schema.specs.declared.Event.{Event as EventData};
 ghost use Rattle.query_leaves.specs.Shapes.{each_holds as tests_hold};
 ghost use Rattle.predicate_bits.specs.Ranges.{AsksFor};
 ghost use Rattle.query_watch.specs.Openings.{AsksToOpen};
-ghost use Rattle.query_watch.specs.declared.grid.Grid.{Grid as GridData};
-ghost use Rattle.query_watch.specs.Grid.{IsGrid, Suffice};
+ghost use Rattle.query_watch.specs.Index.{IsIndex, Suffice, gathered};
 ghost use Rattle.query_watch.specs.Rows.{rows_of, AreBelow, AreExact, IsRangeOf, IsRowBelow, IsWatch, HasRow, AreReaders, HaveRoom, HaveRooms, Marks};
 
-use crate::grid::{Grid, few_of, grids_of};
+use crate::index::{Index, few_of, indexes_of};
 use crate::openings::may_open;
 use crate::rows::{Row, Watched, add_query};
 use cel_terms::Query;
@@ -28,8 +27,8 @@ use stream_schema::{Event, Schema, TypeId};
 pub struct Watch {
     /// The rows of the leaves of each type, by the type's number.
     rows: Vec<Vec<Row>>,
-    /// The same rows by whole numbers, by the type's number.
-    grids: Vec<Grid>,
+    /// The same rows by the values that an event may have, by the type's number.
+    indexes: Vec<Vec<Index>>,
     /// The leaves of all queries, by their numbers.
     leaves: Vec<Watched>,
     /// How many queries there are.
@@ -40,7 +39,7 @@ impl Model for Watch {
     ghost use Rattle.std.specs.Coded.{codes};
     ghost use Rattle.query_leaves.specs.contracts.Test as test;
     ghost use Rattle.query_watch.specs.Rows.{Table, rows_of, AreBelow};
-    ghost use Rattle.query_watch.specs.Grid.{AreGrids};
+    ghost use Rattle.query_watch.specs.Index.{AreIndexed, indexes_of};
 
     ghost Value = { Table };
 
@@ -53,7 +52,7 @@ impl Model for Watch {
     } };
 
     ghost invariant = { λ w. AreBelow w.count (rows_of w.rows.items) w.leaves.items
-        × AreGrids (rows_of w.rows.items) w.grids.items };
+        × AreIndexed w.leaves.items (rows_of w.rows.items) (indexes_of w.indexes.items) };
 }
 
 /// The rows of the leaves of the queries, with the leaves put in last.
@@ -86,10 +85,10 @@ impl Watch {
     {
         let mut leaves = Vec::new(alloc);
         let rows = rows_for(&mut leaves, alloc, schema, queries)?;
-        let grids = grids_of(alloc, rows.as_slice())?;
+        let indexes = indexes_of(alloc, rows.as_slice(), leaves.as_slice(), schema)?;
         Ok(Watch {
             rows,
-            grids,
+            indexes,
             leaves,
             count: queries.len(),
         })
@@ -114,31 +113,23 @@ impl Watch {
             (slice_index_or leaves.new query []) }
         ensures rooms { map (λ set. length set) leaves.new ≡ map (λ set. length set) leaves.old }
     {
-        if let Some(rows) = list_of(self.rows.as_slice(), event.ty) {
-            let few = rows_at(rows.as_slice(), self.grids.as_slice(), event);
-            mark_rows(few, self.leaves.as_slice(), event, into, leaves);
+        if let Some(indexes) = list_of(self.indexes.as_slice(), event.ty) {
+            mark_indexed(
+                indexes.as_slice(),
+                self.leaves.as_slice(),
+                event,
+                into,
+                leaves,
+            );
         }
     }
 }
 
-/// The list of the type.
-fn list_of(rows: &[Vec<Row>], ty: TypeId) -> Option<&Vec<Row>>
-    ensures { option_copied result ≡ slice_get rows.now ty }
+/// The indexes of the type.
+fn list_of(indexes: &[Vec<Index>], ty: TypeId) -> Option<&Vec<Index>>
+    ensures { option_copied result ≡ slice_get indexes.now ty }
 {
-    rows.get(ty as usize)
-}
-
-/// The rows that the event may concern, of those of its type.
-#[inline(always)]
-fn rows_at<'a>(rows: &'a [Row], grids: &'a [Grid], event: &Event) -> &'a [Row]
-    requires { (grid : GridData) → slice_get grids.now event.now.ty ≡ Some grid
-        → IsGrid rows.now grid }
-    ensures { Suffice rows.now event.now result.now }
-{
-    match grids.get(event.ty as usize) {
-        Some(grid) => few_of(rows, grid, event),
-        None => rows,
-    }
+    indexes.get(ty as usize)
 }
 
 /// Whether the leaf's tests hold of the event.
@@ -203,5 +194,25 @@ fn mark_rows(rows: &[Row], leaves: &[Watched], event: &Event, into: &mut Bits, s
         if may_read(row, event) {
             mark_leaf(row, leaves, event, into, sets);
         }
+    }
+}
+
+/// Puts in the numbers of the query and of the leaf of each row of the indexes, if the leaf's tests hold
+/// of the event.
+#[inline(always)]
+fn mark_indexed(
+    indexes: &[Index],
+    leaves: &[Watched],
+    event: &Event,
+    into: &mut Bits,
+    sets: &mut [Bits],
+)
+    requires indexes { All (IsIndex leaves.now) indexes.now }
+    requires below { All (IsRowBelow (length into.old) leaves.now) (gathered indexes.now) }
+    requires room { HaveRoom (gathered indexes.now) leaves.now event.now sets.old }
+    ensures { Marks (gathered indexes.now) leaves.now event.now into.old into.new sets.old sets.new }
+{
+    for index in indexes {
+        mark_rows(few_of(index, event), leaves, event, into, sets);
     }
 }

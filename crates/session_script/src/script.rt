@@ -11,6 +11,7 @@ ghost use Rattle.session_script.specs.Scripts.{WrotePlay};
 ghost use Rattle.session_script.specs.Playing.{line_stop};
 
 use crate::lines::play_line;
+use cer_base::seed::Seed;
 use cer_base::steps::Steps;
 use cer_base::{Memory, OrMemory};
 use cer_outside::{Sink, Source};
@@ -26,8 +27,8 @@ use stream_schema::Schema;
 pub const MOST_BYTES: u64 = 1_099_511_627_776;
 
 /// Carries out the lines of the source in order, on a session that begins with no event and no open
-/// cursor. The queries are checked for the schema. A line that is empty but for a carriage return is
-/// passed over.
+/// cursor, and whose engine's tables hash by the seed. The queries are checked for the schema. A line
+/// that is empty but for a carriage return is passed over.
 ///
 /// The first fault ends it, after the commands before it were carried out:
 ///
@@ -38,6 +39,7 @@ pub const MOST_BYTES: u64 = 1_099_511_627_776;
 /// - Memory ran out: it took a first part of that.
 pub fn play_script<Q: Source, K: Sink, L: Ledger>(
     alloc: Global,
+    seed: Seed,
     schema: Schema,
     queries: Queries,
     source: &mut Q,
@@ -54,7 +56,7 @@ pub fn play_script<Q: Source, K: Sink, L: Ledger>(
     ensures read_cause { HasReadCause (Q.faults source.old) (Q.faults source.new) result }
     ensures write_cause { HasWriteCause (K.faults out.old) (K.faults out.new) result }
 {
-    let mut session = match Session::new(alloc, schema, queries) {
+    let mut session = match Session::seeded(alloc, seed, schema, queries) {
         Ok(session) => session,
         Err(Memory) => return Err(OrMemory::Memory),
     };

@@ -2,13 +2,14 @@
 //! place that k alone determines, so that no node ever moves.
 //!
 //! Promised: it is a `NodeStore`; a new one is empty; a push makes one chunk exactly where all
-//! places are taken, and a refused push changes nothing; cutting keeps the chunks; reading, writing
-//! and cutting take no memory. No place is read before it was written, and all chunks are given
+//! places are taken, and a refused push changes nothing; below the greatest count of nodes only a
+//! push that needs a chunk may be refused; writing and cutting keep the chunks; reading, writing and
+//! cutting take no memory. No place is read before it was written, and all chunks are given
 //! back when the arena is dropped. Only the module `raw` follows a pointer. It stands on
 //! `cer_base`.
 #![tactic(auto)]
 
-ghost use Rattle.std.specs.Prelude.{◌≡◌, ◌<◌, ◌≤◌, [], length};
+ghost use Rattle.std.specs.Prelude.{◌≡◌, ◌+◌, ◌^◌, ◌<◌, ◌≤◌, [], ◌∷◌, ◌++◌, length, take, cond, nat_lt, slice_set, IfOk, OnOk, OnErr};
 ghost use Rattle.tecs_arena.specs.Chunks.{places_of};
 
 use cer_base::Memory;
@@ -28,36 +29,37 @@ mod tests;
 
 use nodes::Nodes;
 
-/// Nodes in chunks of memory, seen as the list of its nodes, oldest first. The first chunk has
-/// 1,024 places, each other one twice as many as the one before it.
+/// Nodes in chunks of memory, seen as the list of its nodes, oldest first, and the count of its
+/// chunks. The first chunk has 1,024 places, each other one twice as many as the one before it.
 #[derive(Drop)]
 pub struct Arena {
     nodes: Nodes,
 }
 
 impl Model for Arena {
-    ghost use Rattle.std.specs.Prelude.{List};
-    ghost use Rattle.cer_base.specs.declared.node.Node.{Node};
+    ghost use Rattle.tecs_arena.specs.Contents.{Contents};
 
-    ghost Value = { List Node };
+    ghost Value = { Contents };
 
-    ghost view = { λ a. a.nodes.nodes };
+    ghost view = { λ a. a.nodes };
 }
 
 impl Arena {
     /// An arena of no nodes and no chunks, which takes its memory from the allocator as it grows.
     pub fn new(alloc: Global) -> Arena
-        ensures { result ≡ [] }
+        ensures nodes { result.nodes ≡ [] }
+        ensures chunks { result.chunks ≡ 0 }
     {
         Arena {
             nodes: Nodes::new(alloc),
         }
     }
 
-    /// How many chunks were made, from 0 to 23. A push makes at most one, `cut_to` keeps them all,
-    /// and there is a place for each node. It takes no memory.
+    /// How many chunks were made, from 0 to 23. A push makes one where all places are taken, and else
+    /// none; `put` and `cut_to` keep them all; and there is a place for each node. It takes no memory.
     pub fn chunks(&self) -> usize
-        ensures room { length self.now ≤ places_of result }
+        ensures made { result ≡ self.now.chunks }
+        ensures room { length self.now.nodes ≤ places_of result }
         ensures few { result < 24 }
     {
         self.nodes.chunks()
@@ -65,10 +67,22 @@ impl Arena {
 }
 
 impl NodeStore for Arena {
-    ghost nodes = { λ a. a };
+    ghost nodes = { λ a. a.nodes };
 
+    /// Beside what any store promises: it makes one chunk exactly where all places are taken. Below
+    /// 2^32 - 1 nodes `Memory` comes only there; then nothing is changed.
     #[inline]
-    fn push<L: Ledger>(&mut self, node: Node, steps: &mut Steps<L>) -> Result<Id, Memory> {
+    fn push<L: Ledger>(&mut self, node: Node, steps: &mut Steps<L>) -> Result<Id, Memory>
+        ensures id { IfOk result (λ id. id ≡ length self.old.nodes) }
+        ensures appended { OnOk result (self.new.nodes ≡ self.old.nodes ++ node ∷ []) }
+        ensures refused { OnErr result (self.new ≡ self.old) }
+        ensures steps { steps.new ≡ steps.old + 1 }
+        ensures chunks { OnOk result (self.new.chunks
+            ≡ cond (nat_lt (length self.old.nodes) (places_of self.old.chunks))
+            self.old.chunks (self.old.chunks + 1)) }
+        ensures due { OnErr result (length self.old.nodes + 1 < 2 ^ 32
+            → length self.old.nodes ≡ places_of self.old.chunks) }
+    {
         steps.tick();
         self.nodes.push(node)
     }
@@ -79,8 +93,14 @@ impl NodeStore for Arena {
         self.nodes.get(id)
     }
 
+    /// Beside what any store promises: all chunks stay.
     #[inline]
-    fn put<L: Ledger>(&mut self, id: Id, node: Node, steps: &mut Steps<L>) {
+    fn put<L: Ledger>(&mut self, id: Id, node: Node, steps: &mut Steps<L>)
+        requires { id < length self.old.nodes }
+        ensures written { self.new.nodes ≡ slice_set self.old.nodes id node }
+        ensures steps { steps.new ≡ steps.old + 1 }
+        ensures chunks { self.new.chunks ≡ self.old.chunks }
+    {
         steps.tick();
         self.nodes.put(id, node);
     }
@@ -90,8 +110,13 @@ impl NodeStore for Arena {
         self.nodes.len()
     }
 
+    /// Beside what any store promises: all chunks stay.
     #[inline]
-    fn cut_to(&mut self, n: u64) {
+    fn cut_to(&mut self, n: u64)
+        requires { n ≤ length self.old.nodes }
+        ensures nodes { self.new.nodes ≡ take n self.old.nodes }
+        ensures chunks { self.new.chunks ≡ self.old.chunks }
+    {
         self.nodes.cut_to(n);
     }
 }

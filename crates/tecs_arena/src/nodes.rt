@@ -60,8 +60,8 @@ impl Nodes {
     }
 
     /// Appends a node and gives its id. It makes one chunk exactly where all places are taken.
-    /// `Memory` where that cannot be had, and where the next length would be no id; then nothing is
-    /// changed.
+    /// `Memory` where that cannot be had, and where the next length would be no id, and nowhere else;
+    /// then nothing is changed.
     #[inline]
     pub(crate) fn push(&mut self, node: Node) -> Result<Id, Memory>
         ensures id { IfOk result (λ id. id ≡ length self.old.nodes) }
@@ -70,6 +70,8 @@ impl Nodes {
             ≡ cond (nat_lt (length self.old.nodes) (places_of self.old.chunks))
             self.old.chunks (self.old.chunks + 1)) }
         ensures refused { OnErr result (self.new ≡ self.old) }
+        ensures due { OnErr result (length self.old.nodes + 1 < 2 ^ 32
+            → length self.old.nodes ≡ places_of self.old.chunks) }
     {
         let id = self.len;
         if id == Id::MAX {

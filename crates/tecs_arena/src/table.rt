@@ -128,7 +128,7 @@ impl Table {
     }
 
     /// Sees that there is a place for the node with this id, which is at most the number of places.
-    /// `Memory` where none can be had; then nothing is changed.
+    /// `Memory` where there is none and none can be had; then nothing is changed.
     pub(crate) fn make_room(&mut self, alloc: Global, id: u64) -> Result<(), Memory>
         requires { id ≤ length self.old.places }
         ensures inside { OnOk result (id < length self.new.places) }
@@ -136,6 +136,7 @@ impl Table {
         ensures chunks { OnOk result (self.new.chunks
             ≡ cond (nat_lt id (places_of self.old.chunks)) self.old.chunks (self.old.chunks + 1)) }
         ensures refused { OnErr result (self.new ≡ self.old) }
+        ensures due { OnErr result (id ≡ places_of self.old.chunks) }
     {
         if id < self.room() {
             return Ok(());

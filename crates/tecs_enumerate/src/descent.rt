@@ -36,7 +36,7 @@
 //! are visited before each output or bottom. An answer of n positions visits n outputs and one
 //! bottom, which makes at most `4 * (n + 1)` steps. How many nodes share a child does not matter.
 
-ghost use Rattle.std.specs.Prelude.{◌≡◌, ◌+◌, ◌*◌, ◌≤◌, ◌∷◌, ◌++◌, length, reverse, int_le, vec_capacity};
+ghost use Rattle.std.specs.Prelude.{◌≡◌, ◌+◌, ◌*◌, ◌<◌, ◌≤◌, [], ◌∷◌, ◌++◌, length, reverse, int_le, vec_capacity};
 ghost use Rattle.cer_base.specs.Nodes.{tree, WellFormed};
 ghost use Rattle.tecs_enumerate.specs.Rest.{answers, rest_of, HasRoom, AllHaveRoom, AreNested};
 
@@ -58,6 +58,17 @@ pub fn is_recent(low: i128, stamp: Stamp) -> bool
     ensures { result ≡ int_le low stamp.clock }
 {
     low <= stamp.clock.get()
+}
+
+/// Puts the item last. There is room for it, so the items stay where they are, and no memory is taken.
+#[inline(always)]
+fn put_last<T: Copy>(items: &mut Vec<T>, item: T)
+    requires { length items.old.items < vec_capacity items.old }
+    ensures items { items.new.items ≡ items.old.items ++ item ∷ [] }
+    ensures room { vec_capacity items.new ≡ vec_capacity items.old }
+{
+    // Of a push it is not told that the room stays as it is.
+    let _ = items.insert(items.len(), item);
 }
 
 /// Walks from a node to its first recent member and gives its start, the path being its positions.
@@ -86,6 +97,8 @@ pub fn descend<S: NodeStore, L: Ledger>(
         (record { stack = vec_capacity stack.new; path = vec_capacity path.new })
         (reverse stack.new.items) }
     ensures nested { AreNested (length path.new.items) (reverse stack.new.items) }
+    ensures room { (vec_capacity stack.new ≡ vec_capacity stack.old)
+        × (vec_capacity path.new ≡ vec_capacity path.old) }
     ensures delay { steps.new + 4 * length path.old.items
         ≤ steps.old + 4 * (length path.new.items + 1) }
 {
@@ -94,7 +107,7 @@ pub fn descend<S: NodeStore, L: Ledger>(
         match store.get(at, steps) {
             Node::Bottom { start } => return start,
             Node::Output { pos, child, .. } => {
-                let _ = path.push(pos);
+                put_last(path, pos);
                 at = child;
             }
             Node::Union {
@@ -104,10 +117,11 @@ pub fn descend<S: NodeStore, L: Ledger>(
                 ..
             } => {
                 if is_recent(low, right_max) {
-                    let _ = stack.push(Pending {
+                    let passed = Pending {
                         id: right,
                         prefix: path.len(),
-                    });
+                    };
+                    put_last(stack, passed);
                 }
                 at = left;
             }

@@ -9,11 +9,11 @@ ghost use Rattle.tecs_rows.specs.Ledgers.{Opens};
 
 use crate::parts::{Part, make_all, root_of};
 use cer_base::node::{Id, Root};
-use cer_base::steps::Steps;
+use cer_base::steps::{Opening, Steps};
 use cer_base::store::NodeStore;
 use cer_base::{Memory, Pos};
 use std::alloc::Global;
-use std::sync::ledger::{Blank, Ledger};
+use std::sync::ledger::Ledger;
 use tecs_arena::Arena;
 use tecs_enumerate::Cursor;
 
@@ -121,10 +121,10 @@ pub fn gives_one<S: NodeStore, Making: Ledger, First: Ledger, Second: Ledger>(
 /// `gives_two` over an arena, then `gives_one`, with a ledger for each count.
 pub fn join_of_two_is_listed<A: Ledger, B: Ledger, C: Ledger, D: Ledger>(
     alloc: Global,
-    making: Blank,
-    first: Blank,
-    second: Blank,
-    third: Blank,
+    making: Opening,
+    first: Opening,
+    second: Opening,
+    third: Opening,
 ) -> Result<bool, Memory>
     requires making { Opens making.name making.parts A.name A.parts }
     requires first { Opens first.name first.parts B.name B.parts }
@@ -195,12 +195,12 @@ pub fn listing<L: Ledger>(
     parts: &[Part],
     places: &[usize],
     low: i128,
-    blank: Blank,
+    opening: Opening,
 ) -> Result<String, Memory>
     requires can { IsTrue (can_make_all [] parts.now) }
-    requires ledger { Opens blank.name blank.parts L.name L.parts }
+    requires ledger { Opens opening.name opening.parts L.name L.parts }
 {
-    let mut steps = Steps::<L>::start(blank);
+    let mut steps = Steps::<L>::start(opening);
     let mut store = Arena::new(alloc);
     let ids = make_all(alloc, &mut store, parts, &mut steps)?;
     let roots = roots_at(alloc, &store, &ids, places, &mut steps)?;

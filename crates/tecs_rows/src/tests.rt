@@ -1,18 +1,18 @@
 use super::parts::Part;
 use super::rows::{join_of_two_is_listed, listing};
 use cer_base::Memory;
+use cer_base::steps::Opening;
 use std::marker::Brand;
-use std::sync::ledger::Blank;
 use std::test::*;
 
 #[test]
 fn a_join_gives_the_later_start_first_and_the_window_cuts_the_earlier(rt: HostRuntime) {
     let listed = join_of_two_is_listed::<Brand, Brand, Brand, Brand>(
         rt.alloc(),
-        Blank::new(1),
-        Blank::new(1),
-        Blank::new(1),
-        Blank::new(1),
+        Opening::new(&rt),
+        Opening::new(&rt),
+        Opening::new(&rt),
+        Opening::new(&rt),
     );
     assert_eq!(rt; listed, Ok(true));
 }
@@ -54,7 +54,7 @@ fn each_union_lists_its_members_and_shares_a_node(rt: HostRuntime) -> Result<(),
         (&[13, 14], 20, "2 [5, 4, 2]; 2 [5, 2]; 2 [6, 3]; 2 [6, 2]; "),
         (&[13, 14], 21, ""),
     ] {
-        let listed = listing::<Brand>(rt.alloc(), &parts, places, low, Blank::new(1))?;
+        let listed = listing::<Brand>(rt.alloc(), &parts, places, low, Opening::new(&rt))?;
         assert_eq!(rt; listed.as_str(), expected, "at {places:?} from {low}");
     }
     Ok(())

@@ -10,6 +10,7 @@ use cea_determinise::det::Det;
 use cea_determinise::table::State;
 use cer_base::bits::Bits;
 use cer_base::node::Stamp;
+use cer_base::seed::Seed;
 use cer_base::steps::Steps;
 use cer_base::time::{LowTime, Time};
 use cer_base::{Memory, Pos};
@@ -42,7 +43,7 @@ impl Model for OpenMatches {
 
     ghost view = { λ m. m.det };
 
-    ghost invariant = { λ m. IsReady m.low m.det m.store m.active.entries m.next };
+    ghost invariant = { λ m. IsReady m.low m.det m.store.nodes m.active.entries m.next };
 }
 
 /// Writes the state's number, where the entries of its list start, and its members.
@@ -54,8 +55,8 @@ fn write_list<L: Ledger>(
     text: &mut String,
     steps: &mut Steps<L>,
 ) -> Result<(), Memory>
-    requires well_formed { WellFormed store.now }
-    requires roots { All (IsRoot store.now) list.now }
+    requires well_formed { WellFormed store.now.nodes }
+    requires roots { All (IsRoot store.now.nodes) list.now }
 {
     let starts = starts_of(alloc, list)?;
     let mut entries = Vec::new(alloc);
@@ -75,7 +76,7 @@ impl OpenMatches {
     {
         OpenMatches {
             low,
-            det: Det::new(alloc, cea),
+            det: Det::new(alloc, Seed::default(), cea),
             store: Arena::new(alloc),
             active: Active::new(alloc),
             stage: Stage::new(alloc),

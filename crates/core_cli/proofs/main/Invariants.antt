@@ -1,5 +1,5 @@
 use Rattle.core_cli.proofs.main.Given as goal
 
--- the ledger of the steps is the one that the blank opens
+-- the ledger of the steps is the one of its opening
 abbrev pub ghosts-run : goal.ghosts-run
-ghosts-run a = record { name = a.blank.name; parts = a.blank.parts }
+ghosts-run a = record { name = a.opening.name; parts = a.opening.parts }

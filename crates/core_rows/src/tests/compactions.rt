@@ -30,16 +30,17 @@ fn nodes_after(
     alloc: Global,
     words: &str,
     events: &[u8],
+    runtime: &HostRuntime,
 ) -> Result<Option<(u64, u64)>, AllocError> {
     let queries = format!(in alloc; "{PLAIN}{BACK}")?;
-    left_by(alloc, words, queries.as_bytes(), events)
+    left_by(alloc, words, queries.as_bytes(), events, runtime)
 }
 
 #[test]
 fn answers_stay(rt: HostRuntime) -> Result<(), Fail> {
     let alloc = rt.alloc();
-    rows_hold(&rt, alloc, PLAIN, ALL_RUNS)?;
-    rows_hold(&rt, alloc, PLAIN, DOZEN)
+    rows_hold(&rt, alloc, PLAIN, ALL_RUNS, &rt)?;
+    rows_hold(&rt, alloc, PLAIN, DOZEN, &rt)
 }
 
 /// Every event is read, and in the window are at most two at the last compaction, and twelve at the
@@ -52,23 +53,23 @@ fn nodes_go(rt: HostRuntime) -> Result<(), Fail> {
         events.push_str("A,1\n")?;
     }
     let events = events.as_bytes();
-    let Some((left, most)) = nodes_after(alloc, "run q e", events)? else {
+    let Some((left, most)) = nodes_after(alloc, "run q e", events, &rt)? else {
         return Err(Fail::new("no engine is left"));
     };
     assert!(rt; left >= EVENTS && most >= EVENTS);
-    let Some((left, most)) = nodes_after(alloc, "run q e --compact-every 10", events)? else {
+    let Some((left, most)) = nodes_after(alloc, "run q e --compact-every 10", events, &rt)? else {
         return Err(Fail::new("no engine is left"));
     };
     assert!(rt; left <= 2 * 256);
     assert!(rt; most <= 12 * 256);
-    let Some((left, most)) = nodes_after(alloc, "reorder q e v 0 --compact-every 10", events)?
+    let Some((left, most)) = nodes_after(alloc, "reorder q e v 0 --compact-every 10", events, &rt)?
     else {
         return Err(Fail::new("no engine is left"));
     };
     assert!(rt; left <= 2 * 256);
     assert!(rt; most <= 12 * 256);
-    assert!(rt; nodes_after(alloc, "reorder q e w 0", events)?.is_none());
-    assert!(rt; nodes_after(alloc, "run q f", events)?.is_none());
-    assert!(rt; nodes_after(alloc, "sample 0 3", events)?.is_none());
+    assert!(rt; nodes_after(alloc, "reorder q e w 0", events, &rt)?.is_none());
+    assert!(rt; nodes_after(alloc, "run q f", events, &rt)?.is_none());
+    assert!(rt; nodes_after(alloc, "sample 0 3", events, &rt)?.is_none());
     Ok(())
 }

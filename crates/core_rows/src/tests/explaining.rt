@@ -42,10 +42,10 @@ no query file | SELECT * FROM S WHERE A | explain f e 1 0 0 0 | A,1 | 5 |  | can
 
 #[test]
 fn answers_are_explained(rt: HostRuntime) -> Result<(), Fail> {
-    rows_hold(&rt, rt.alloc(), PLAIN, ANSWERS)
+    rows_hold(&rt, rt.alloc(), PLAIN, ANSWERS, &rt)
 }
 
 #[test]
 fn nothing_is_explained_after_a_fault(rt: HostRuntime) -> Result<(), Fail> {
-    rows_hold(&rt, rt.alloc(), PLAIN, FAULTS)
+    rows_hold(&rt, rt.alloc(), PLAIN, FAULTS, &rt)
 }

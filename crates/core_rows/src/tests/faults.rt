@@ -81,8 +81,9 @@ fn holds(
     status: u8,
     output: &str,
     note: &str,
+    runtime: &HostRuntime,
 ) -> Result<(), Fail> {
-    words_hold(rt, alloc, "run q e", failing, status, output, note)
+    words_hold(rt, alloc, "run q e", failing, status, output, note, runtime)
 }
 
 /// The call of these words does.
@@ -94,6 +95,7 @@ fn words_hold(
     status: u8,
     output: &str,
     note: &str,
+    runtime: &HostRuntime,
 ) -> Result<(), Fail> {
     let queries = format!(in alloc; "{PLAIN}{QUERY}")?;
     let mut host = failing_host(
@@ -110,7 +112,7 @@ fn words_hold(
         write: failing.write,
         note: failing.note,
     };
-    let found = over_host(alloc, words_of(alloc, words)?, &mut host, sinks)?;
+    let found = over_host(alloc, words_of(alloc, words)?, &mut host, sinks, runtime)?;
     let wanted = format!(in alloc; "{status}|{output}|{note}")?;
     assert_eq!(rt; found.as_str(), wanted.as_str(), "{words}: {failing:?}");
     Ok(())
@@ -125,7 +127,15 @@ fn each_open_fails(rt: HostRuntime) -> Result<(), Fail> {
         (2, 5, "", "core: cannot open events\n"),
         (3, 0, OUTPUT, ""),
     ] {
-        holds(&rt, alloc, Failing { open, ..NONE }, status, output, note)?;
+        holds(
+            &rt,
+            alloc,
+            Failing { open, ..NONE },
+            status,
+            output,
+            note,
+            &rt,
+        )?;
     }
     Ok(())
 }
@@ -138,10 +148,26 @@ fn each_read_of_the_query_file_fails(rt: HostRuntime) -> Result<(), Fail> {
     for well in 0..=reads {
         let query_read = after(well);
         let failing = Failing { query_read, ..NONE };
-        holds(&rt, alloc, failing, 5, "", "core: cannot read queries\n")?;
+        holds(
+            &rt,
+            alloc,
+            failing,
+            5,
+            "",
+            "core: cannot read queries\n",
+            &rt,
+        )?;
     }
     let query_read = after(reads).saturating_add(1);
-    holds(&rt, alloc, Failing { query_read, ..NONE }, 0, OUTPUT, "")
+    holds(
+        &rt,
+        alloc,
+        Failing { query_read, ..NONE },
+        0,
+        OUTPUT,
+        "",
+        &rt,
+    )
 }
 
 /// The answers over the events before stand, whether the note can be written or not.
@@ -154,7 +180,7 @@ fn each_read_of_the_event_file_fails(rt: HostRuntime) -> Result<(), Fail> {
         let event_read = after(well);
         let output = answers_among(alloc, well.saturating_mul(4))?;
         let failing = Failing { event_read, ..NONE };
-        holds(&rt, alloc, failing, 5, output.as_str(), note)?;
+        holds(&rt, alloc, failing, 5, output.as_str(), note, &rt)?;
         for written in 0..note.len().div_ceil(7) {
             let told = first_bytes(alloc, note, written.saturating_mul(7))?;
             let failing = Failing {
@@ -162,11 +188,19 @@ fn each_read_of_the_event_file_fails(rt: HostRuntime) -> Result<(), Fail> {
                 note: after(written),
                 ..NONE
             };
-            holds(&rt, alloc, failing, 5, output.as_str(), told.as_str())?;
+            holds(&rt, alloc, failing, 5, output.as_str(), told.as_str(), &rt)?;
         }
     }
     let event_read = after(reads).saturating_add(1);
-    holds(&rt, alloc, Failing { event_read, ..NONE }, 0, OUTPUT, "")
+    holds(
+        &rt,
+        alloc,
+        Failing { event_read, ..NONE },
+        0,
+        OUTPUT,
+        "",
+        &rt,
+    )
 }
 
 /// A first part of the lines stands. Those over the three events are 12, 26 and 56 bytes, and since a
@@ -188,10 +222,11 @@ fn each_write_fails(rt: HostRuntime) -> Result<(), Fail> {
             6,
             output.as_str(),
             "core: cannot write\n",
+            &rt,
         )?;
     }
     let write = write.saturating_add(1);
-    holds(&rt, alloc, Failing { write, ..NONE }, 0, OUTPUT, "")
+    holds(&rt, alloc, Failing { write, ..NONE }, 0, OUTPUT, "", &rt)
 }
 
 /// Words, which write fails, from 1, and what the output has taken.
@@ -220,6 +255,7 @@ fn a_write_fails_in_each_command(rt: HostRuntime) -> Result<(), Fail> {
             6,
             output,
             "core: cannot write\n",
+            &rt,
         )?;
     }
     Ok(())
@@ -243,6 +279,7 @@ fn a_read_of_late_events_fails(rt: HostRuntime) -> Result<(), Fail> {
             5,
             output,
             "core: cannot read events\n",
+            &rt,
         )?;
     }
     Ok(())
@@ -255,14 +292,14 @@ fn nothing_is_saved_where_a_read_fails(rt: HostRuntime) -> Result<(), Fail> {
     let note = "core: cannot read events\n";
     for event_read in 1..=4u64 {
         let failing = Failing { event_read, ..NONE };
-        words_hold(&rt, alloc, "save q e", failing, 5, "", note)?;
+        words_hold(&rt, alloc, "save q e", failing, 5, "", note, &rt)?;
     }
     let saved = "core checkpoint 1\nevents 3 3\nat 0\nA,1\nat 1\nA,2\nat 2\nA,3\n";
     let failing = Failing {
         event_read: 5,
         ..NONE
     };
-    words_hold(&rt, alloc, "save q e", failing, 0, saved, "")
+    words_hold(&rt, alloc, "save q e", failing, 0, saved, "", &rt)
 }
 
 /// A sink with room for 20 bytes keeps as many.
@@ -277,7 +314,7 @@ fn a_full_sink_keeps_a_first_part(rt: HostRuntime) -> Result<(), Fail> {
         write: 0,
         note: 0,
     };
-    let found = over_host(alloc, words_of(alloc, "run q e")?, &mut host, sinks)?;
+    let found = over_host(alloc, words_of(alloc, "run q e")?, &mut host, sinks, &rt)?;
     assert_eq!(rt;
         found.as_str(),
         "6|1 [0,0] {0}\n1 [0,1] |core: cannot write\n"

@@ -21,8 +21,15 @@ fn holds(
     queries: &str,
     events: &str,
     wanted: &str,
+    runtime: &HostRuntime,
 ) -> Result<(), Fail> {
-    let told = done_well(alloc, "run q e", queries.as_bytes(), events.as_bytes())?;
+    let told = done_well(
+        alloc,
+        "run q e",
+        queries.as_bytes(),
+        events.as_bytes(),
+        runtime,
+    )?;
     assert_eq!(rt; told.as_str(), wanted);
     Ok(())
 }
@@ -63,7 +70,7 @@ const FIRST_PARTS: &[(&str, &str)] = &[
 #[test]
 fn first_parts_of_a_quoted_line(rt: HostRuntime) -> Result<(), Fail> {
     for &(events, wanted) in FIRST_PARTS {
-        holds(&rt, rt.alloc(), ONE_TEXT, events, wanted)?;
+        holds(&rt, rt.alloc(), ONE_TEXT, events, wanted, &rt)?;
     }
     Ok(())
 }
@@ -82,7 +89,7 @@ fn formulas_at_their_limits(rt: HostRuntime) -> Result<(), Fail> {
     ] {
         let query = repeated(alloc, "SELECT * FROM S WHERE A", " ; A", times, behind)?;
         let text = format!(in alloc; "{PLAIN}{query}")?;
-        holds(&rt, alloc, text.as_str(), "A,1\n", wanted)?;
+        holds(&rt, alloc, text.as_str(), "A,1\n", wanted, &rt)?;
     }
     Ok(())
 }
@@ -98,11 +105,11 @@ fn texts_at_their_limits(rt: HostRuntime) -> Result<(), Fail> {
         let opened = repeated(alloc, "SELECT * FROM S WHERE ", "(", times, "A")?;
         let query = repeated(alloc, opened.as_str(), ")", times, "\n")?;
         let text = format!(in alloc; "{PLAIN}{query}")?;
-        holds(&rt, alloc, text.as_str(), "A,1\n", wanted)?;
+        holds(&rt, alloc, text.as_str(), "A,1\n", wanted, &rt)?;
     }
     let queries = repeated(alloc, PLAIN, "SELECT * FROM S WHERE A\n", 1025, "")?;
     let wanted = "3||core: queries 1028:1: more than 1024 queries\n";
-    holds(&rt, alloc, queries.as_str(), "A,1\n", wanted)
+    holds(&rt, alloc, queries.as_str(), "A,1\n", wanted, &rt)
 }
 
 /// The longest text, and one byte more.
@@ -117,7 +124,7 @@ fn bytes_at_their_limit(rt: HostRuntime) -> Result<(), Fail> {
         ),
     ] {
         let text = repeated(alloc, "", " ", times, "")?;
-        holds(&rt, alloc, text.as_str(), "A,1\n", wanted)?;
+        holds(&rt, alloc, text.as_str(), "A,1\n", wanted, &rt)?;
     }
     Ok(())
 }
@@ -134,7 +141,7 @@ fn lines_at_their_limit(rt: HostRuntime) -> Result<(), Fail> {
         ),
     ] {
         let events = repeated(alloc, "N,", "x", times, "\n")?;
-        holds(&rt, alloc, ALL_TEXTS, events.as_str(), wanted)?;
+        holds(&rt, alloc, ALL_TEXTS, events.as_str(), wanted, &rt)?;
     }
     Ok(())
 }

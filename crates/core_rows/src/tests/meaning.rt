@@ -150,7 +150,7 @@ const TABLES: &[(&str, &str)] = &[
 fn queries_mean_what_they_say(rt: HostRuntime) -> Result<(), Fail> {
     let alloc = rt.alloc();
     for &(first, table) in TABLES {
-        rows_hold(&rt, alloc, first, table)?;
+        rows_hold(&rt, alloc, first, table, &rt)?;
     }
     Ok(())
 }
@@ -161,7 +161,7 @@ fn queries_mean_what_they_say(rt: HostRuntime) -> Result<(), Fail> {
 fn queries_mean_the_same_in_two_parts(rt: HostRuntime) -> Result<(), Fail> {
     let alloc = rt.alloc();
     for &(first, table) in TABLES {
-        rows_hold_in_parts(&rt, alloc, first, table)?;
+        rows_hold_in_parts(&rt, alloc, first, table, &rt)?;
     }
     Ok(())
 }

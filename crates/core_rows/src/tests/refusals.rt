@@ -53,11 +53,11 @@ SELECT * FROM S WHERE A WITHIN 5 [v] | 3 | queries 4:35: window attribute v is n
 #[test]
 fn query_texts_are_refused_at_their_first_fault(rt: HostRuntime) -> Result<(), Fail> {
     let alloc = rt.alloc();
-    rows_hold(&rt, alloc, PLAIN, QUERIES)?;
-    rows_hold(&rt, alloc, TRUTH, ORDERS)?;
+    rows_hold(&rt, alloc, PLAIN, QUERIES, &rt)?;
+    rows_hold(&rt, alloc, TRUTH, ORDERS, &rt)?;
     let scale =
         "query | status | note\nDECLARE EVENT A(p DECIMAL(10)) | 3 | queries 1:27: DECIMAL takes 0 to 9";
-    rows_hold(&rt, alloc, "", scale)
+    rows_hold(&rt, alloc, "", scale, &rt)
 }
 
 /// A type of each kind, and a query of three of them.
@@ -98,7 +98,7 @@ A,x,1 | 4 | events line 1: 2 fields where 1 is wanted";
 #[test]
 fn event_files_are_refused_at_their_first_fault(rt: HostRuntime) -> Result<(), Fail> {
     let alloc = rt.alloc();
-    rows_hold(&rt, alloc, KINDS, EVENTS)
+    rows_hold(&rt, alloc, KINDS, EVENTS, &rt)
 }
 
 /// A byte that no UTF-8 text has, in a string and in a field.
@@ -107,10 +107,10 @@ fn bytes_that_are_no_text_are_refused(rt: HostRuntime) -> Result<(), Fail> {
     let alloc = rt.alloc();
     let mut queries = Vec::from_slice(alloc, PLAIN.as_bytes())?;
     queries.extend_from_slice(b"SELECT * FROM S WHERE A FILTER A[v = '\xff']\n")?;
-    let told = done_well(alloc, "run q e", queries.as_slice(), b"")?;
+    let told = done_well(alloc, "run q e", queries.as_slice(), b"", &rt)?;
     let wanted = "3||core: queries 4:38: string is not UTF-8\n";
     assert_eq!(rt; told.as_str(), wanted);
-    let told = done_well(alloc, "run q e", KINDS.as_bytes(), b"A,1\nN,\xff\n")?;
+    let told = done_well(alloc, "run q e", KINDS.as_bytes(), b"A,1\nN,\xff\n", &rt)?;
     let wanted = "4|1 [0,0] {0}\n|core: events line 2: field 1 is no STRING\n";
     assert_eq!(rt; told.as_str(), wanted);
     Ok(())

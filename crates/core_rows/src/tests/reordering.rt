@@ -54,13 +54,13 @@ one type lacks it | DECLARE EVENT A(t INT) / DECLARE EVENT B(u INT) / DECLARE ST
 
 #[test]
 fn late_events_are_answered_by_their_clocks(rt: HostRuntime) -> Result<(), Fail> {
-    rows_hold(&rt, rt.alloc(), CLOCKED, ORDERED)
+    rows_hold(&rt, rt.alloc(), CLOCKED, ORDERED, &rt)
 }
 
 #[test]
 fn a_fault_lets_no_more_events_go(rt: HostRuntime) -> Result<(), Fail> {
     let alloc = rt.alloc();
-    rows_hold(&rt, alloc, CLOCKED, FAULTS)?;
-    rows_hold(&rt, alloc, TWO_CLOCKS, FALLING)?;
-    rows_hold(&rt, alloc, "", OTHERS)
+    rows_hold(&rt, alloc, CLOCKED, FAULTS, &rt)?;
+    rows_hold(&rt, alloc, TWO_CLOCKS, FALLING, &rt)?;
+    rows_hold(&rt, alloc, "", OTHERS, &rt)
 }

@@ -42,12 +42,12 @@ a word is missing | A | resume q e | core checkpoint 1 / events 0 0 | A,1 | 2 | 
 
 #[test]
 fn a_run_goes_on_from_a_checkpoint(rt: HostRuntime) -> Result<(), Fail> {
-    rows_hold(&rt, rt.alloc(), PLAIN, RESUMED)
+    rows_hold(&rt, rt.alloc(), PLAIN, RESUMED, &rt)
 }
 
 #[test]
 fn nothing_is_written_after_a_bad_checkpoint(rt: HostRuntime) -> Result<(), Fail> {
-    rows_hold(&rt, rt.alloc(), PLAIN, REFUSED)
+    rows_hold(&rt, rt.alloc(), PLAIN, REFUSED, &rt)
 }
 
 /// What the words answer over this checkpoint.
@@ -56,10 +56,18 @@ fn checkpoint_holds(
     alloc: Global,
     checkpoint: &str,
     wanted: &str,
+    runtime: &HostRuntime,
 ) -> Result<(), Fail> {
     let queries = format!(in alloc; "{PLAIN}{QUERY}")?;
     let (queries, checkpoint) = (queries.as_bytes(), checkpoint.as_bytes());
-    let told = resumed_well(alloc, "resume q c e", queries, checkpoint, b"A,1\n")?;
+    let told = resumed_well(
+        alloc,
+        "resume q c e",
+        queries,
+        checkpoint,
+        b"A,1\n",
+        runtime,
+    )?;
     assert_eq!(rt; told.as_str(), wanted);
     Ok(())
 }
@@ -68,7 +76,13 @@ fn checkpoint_holds(
 #[test]
 fn an_empty_checkpoint_and_a_long_line(rt: HostRuntime) -> Result<(), Fail> {
     let alloc = rt.alloc();
-    checkpoint_holds(&rt, alloc, "", "9||core: checkpoint line 1: missing line\n")?;
+    checkpoint_holds(
+        &rt,
+        alloc,
+        "",
+        "9||core: checkpoint line 1: missing line\n",
+        &rt,
+    )?;
     let mut long = "core checkpoint 1\n".to_string(alloc)?;
     for _ in 0..65_537 {
         long.push('x')?;
@@ -78,6 +92,7 @@ fn an_empty_checkpoint_and_a_long_line(rt: HostRuntime) -> Result<(), Fail> {
         alloc,
         long.as_str(),
         "9||core: checkpoint line 2: line too long\n",
+        &rt,
     )
 }
 
@@ -93,6 +108,7 @@ fn outside_holds(
     alloc: Global,
     fails: [u64; 4],
     wanted: &str,
+    runtime: &HostRuntime,
 ) -> Result<(), Fail> {
     let queries = format!(in alloc; "{PLAIN}{QUERY}")?;
     let mut host = failing_resume_host(
@@ -111,7 +127,7 @@ fn outside_holds(
         note: 0,
     };
     let words = words_of(alloc, "resume q c e")?;
-    let found = over_host(alloc, words, &mut host, sinks)?;
+    let found = over_host(alloc, words, &mut host, sinks, runtime)?;
     assert_eq!(rt; found.as_str(), wanted, "{fails:?}");
     Ok(())
 }
@@ -135,7 +151,7 @@ const OUTSIDE: &[([u64; 4], &str)] = &[
 fn the_outside_fails_in_turn(rt: HostRuntime) -> Result<(), Fail> {
     let alloc = rt.alloc();
     for &(fails, wanted) in OUTSIDE {
-        outside_holds(&rt, alloc, fails, wanted)?;
+        outside_holds(&rt, alloc, fails, wanted, &rt)?;
     }
     Ok(())
 }
@@ -171,7 +187,13 @@ fn first_bytes(len: usize) -> &'static str {
 }
 
 /// What a resumed run over one event answers after so many bytes of the checkpoint.
-fn cut_holds(rt: &impl Abort, alloc: Global, len: usize, wanted: &str) -> Result<(), Fail> {
+fn cut_holds(
+    rt: &impl Abort,
+    alloc: Global,
+    len: usize,
+    wanted: &str,
+    runtime: &HostRuntime,
+) -> Result<(), Fail> {
     let queries = format!(in alloc; "{PLAIN}{SEQUENCE}")?;
     let checkpoint = first_bytes(len).as_bytes();
     let told = resumed_well(
@@ -180,6 +202,7 @@ fn cut_holds(rt: &impl Abort, alloc: Global, len: usize, wanted: &str) -> Result
         queries.as_bytes(),
         checkpoint,
         b"B,4\n",
+        runtime,
     )?;
     let is_told = told.as_str() == wanted;
     assert!(rt; is_told, "{len} bytes");
@@ -190,7 +213,7 @@ fn cut_holds(rt: &impl Abort, alloc: Global, len: usize, wanted: &str) -> Result
 fn a_checkpoint_is_cut_at_every_byte(rt: HostRuntime) -> Result<(), Fail> {
     for &(from, to, wanted) in CUT {
         for len in from..to {
-            cut_holds(&rt, rt.alloc(), len, wanted)?;
+            cut_holds(&rt, rt.alloc(), len, wanted, &rt)?;
         }
     }
     Ok(())

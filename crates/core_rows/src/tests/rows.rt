@@ -110,9 +110,16 @@ fn answers_of(
     row: Row<'_>,
     queries: &str,
     events: &str,
+    runtime: &HostRuntime,
 ) -> Result<String, AllocError> {
     if row.checkpoint.is_none() {
-        return done_well(alloc, row.words, queries.as_bytes(), events.as_bytes());
+        return done_well(
+            alloc,
+            row.words,
+            queries.as_bytes(),
+            events.as_bytes(),
+            runtime,
+        );
     }
     let checkpoint = lines_of(alloc, row.checkpoint)?;
     resumed_well(
@@ -121,6 +128,7 @@ fn answers_of(
         queries.as_bytes(),
         checkpoint.as_bytes(),
         events.as_bytes(),
+        runtime,
     )
 }
 
@@ -131,24 +139,31 @@ fn row_holds(
     first: &str,
     columns: &str,
     line: &str,
+    runtime: &HostRuntime,
 ) -> Result<(), Fail> {
     let row = row_of(columns, line);
     let queries = queries_of(alloc, first, row)?;
     let events = lines_of(alloc, row.events)?;
     let wanted = wanted_of(alloc, row)?;
-    let told = answers_of(alloc, row, queries.as_str(), events.as_str())?;
+    let told = answers_of(alloc, row, queries.as_str(), events.as_str(), runtime)?;
     assert_eq!(rt; told.as_str(), wanted.as_str(), "{line}");
     Ok(())
 }
 
 /// Holds each row of the table, whose first line names the columns, over query texts that begin with
 /// these lines.
-pub fn rows_hold(rt: &impl Abort, alloc: Global, first: &str, table: &str) -> Result<(), Fail> {
+pub fn rows_hold(
+    rt: &impl Abort,
+    alloc: Global,
+    first: &str,
+    table: &str,
+    runtime: &HostRuntime,
+) -> Result<(), Fail> {
     let Some((columns, lines)) = table.split_once('\n') else {
         return Err(Fail::new("a table has no row"));
     };
     for line in lines.split('\n') {
-        row_holds(rt, alloc, first, columns, line)?;
+        row_holds(rt, alloc, first, columns, line, runtime)?;
     }
     Ok(())
 }
@@ -178,10 +193,11 @@ fn in_two_parts(
     queries: &str,
     first: &str,
     second: &str,
+    runtime: &HostRuntime,
 ) -> Result<Option<String>, AllocError> {
     let queries = queries.as_bytes();
-    let before = done_well(alloc, RUN, queries, first.as_bytes())?;
-    let kept = done_well(alloc, "save q e", queries, first.as_bytes())?;
+    let before = done_well(alloc, RUN, queries, first.as_bytes(), runtime)?;
+    let kept = done_well(alloc, "save q e", queries, first.as_bytes(), runtime)?;
     let Some(checkpoint) = output_of(kept.as_str()) else {
         return Ok(None);
     };
@@ -191,6 +207,7 @@ fn in_two_parts(
         queries,
         checkpoint.as_bytes(),
         second.as_bytes(),
+        runtime,
     )?;
     joined(alloc, before.as_str(), after.as_str())
 }
@@ -213,10 +230,11 @@ fn cut_holds(
     events: &str,
     at: usize,
     output: &str,
+    runtime: &HostRuntime,
 ) -> Result<(), Fail> {
     let first = some_lines(alloc, events, 0, at)?;
     let second = some_lines(alloc, events, at, usize::MAX)?;
-    let told = in_two_parts(alloc, queries, first.as_str(), second.as_str())?;
+    let told = in_two_parts(alloc, queries, first.as_str(), second.as_str(), runtime)?;
     let is_told = match told {
         Some(told) => told.as_str() == output,
         None => false,
@@ -232,6 +250,7 @@ fn cuts_hold(
     first: &str,
     columns: &str,
     line: &str,
+    runtime: &HostRuntime,
 ) -> Result<(), Fail> {
     let row = row_of(columns, line);
     if row.status != "0" {
@@ -246,7 +265,15 @@ fn cuts_hold(
         lines => lines_of(alloc, Some(lines))?,
     };
     for at in 0..events.split(" / ").count() + 1 {
-        cut_holds(rt, alloc, queries.as_str(), events, at, output.as_str())?;
+        cut_holds(
+            rt,
+            alloc,
+            queries.as_str(),
+            events,
+            at,
+            output.as_str(),
+            runtime,
+        )?;
     }
     Ok(())
 }
@@ -259,12 +286,13 @@ pub fn rows_hold_in_parts(
     alloc: Global,
     first: &str,
     table: &str,
+    runtime: &HostRuntime,
 ) -> Result<(), Fail> {
     let Some((columns, lines)) = table.split_once('\n') else {
         return Err(Fail::new("a table has no row"));
     };
     for line in lines.split('\n') {
-        cuts_hold(rt, alloc, first, columns, line)?;
+        cuts_hold(rt, alloc, first, columns, line, runtime)?;
     }
     Ok(())
 }

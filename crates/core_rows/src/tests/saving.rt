@@ -26,10 +26,10 @@ an option of a run | SELECT * FROM S WHERE A | save q e --max-bytes 5 | A,1 | 2 
 
 #[test]
 fn what_the_windows_need_is_saved(rt: HostRuntime) -> Result<(), Fail> {
-    rows_hold(&rt, rt.alloc(), PLAIN, CHECKPOINTS)
+    rows_hold(&rt, rt.alloc(), PLAIN, CHECKPOINTS, &rt)
 }
 
 #[test]
 fn nothing_is_saved_after_a_fault(rt: HostRuntime) -> Result<(), Fail> {
-    rows_hold(&rt, rt.alloc(), PLAIN, FAULTS)
+    rows_hold(&rt, rt.alloc(), PLAIN, FAULTS, &rt)
 }

@@ -61,12 +61,12 @@ no option | A | session q e --order walk |  | 2 |  | usage";
 
 #[test]
 fn scripts_are_played_in_order(rt: HostRuntime) -> Result<(), Fail> {
-    rows_hold(&rt, rt.alloc(), PLAIN, PLAYED)
+    rows_hold(&rt, rt.alloc(), PLAIN, PLAYED, &rt)
 }
 
 #[test]
 fn a_refused_line_ends_the_script(rt: HostRuntime) -> Result<(), Fail> {
-    rows_hold(&rt, rt.alloc(), PLAIN, REFUSED)
+    rows_hold(&rt, rt.alloc(), PLAIN, REFUSED, &rt)
 }
 
 /// The query text of one formula.
@@ -78,7 +78,12 @@ fn text_of(alloc: Global, formula: &str) -> Result<String, AllocError> {
 const SHORT: &[u8] = b"event A,1\nopen 1 1\npull 1 1\n";
 
 /// What the short script answers where the read and the write of these numbers fail.
-fn short_words(alloc: Global, read: u64, write: u64) -> Result<String, AllocError> {
+fn short_words(
+    alloc: Global,
+    read: u64,
+    write: u64,
+    runtime: &HostRuntime,
+) -> Result<String, AllocError> {
     let queries = text_of(alloc, "A")?;
     let mut host = failing_host(alloc, queries.as_bytes(), SHORT, 0, 0, read)?;
     let sinks = Sinks {
@@ -87,7 +92,13 @@ fn short_words(alloc: Global, read: u64, write: u64) -> Result<String, AllocErro
         write,
         note: 0,
     };
-    over_host(alloc, words_of(alloc, "session q e")?, &mut host, sinks)
+    over_host(
+        alloc,
+        words_of(alloc, "session q e")?,
+        &mut host,
+        sinks,
+        runtime,
+    )
 }
 
 /// Which read of the script fails and which write, from 1, and what is answered.
@@ -112,7 +123,7 @@ const FAULTS: &[(u64, u64, &str)] = &[
 #[test]
 fn lines_before_a_fault_are_played(rt: HostRuntime) -> Result<(), Fail> {
     for &(read, write, wanted) in FAULTS {
-        let words = short_words(rt.alloc(), read, write)?;
+        let words = short_words(rt.alloc(), read, write, &rt)?;
         assert_eq!(rt; words.as_str(), wanted, "at {read}, {write}");
     }
     Ok(())
@@ -138,7 +149,13 @@ fn ten_thousand_commands_are_played(rt: HostRuntime) -> Result<(), Fail> {
         3333,
         "open 1 2\npull 2 1\n",
     )?;
-    let told = done_well(alloc, "session q e", queries.as_bytes(), script.as_bytes())?;
+    let told = done_well(
+        alloc,
+        "session q e",
+        queries.as_bytes(),
+        script.as_bytes(),
+        &rt,
+    )?;
     assert_eq!(rt; told.as_str(), "0|at 0\n1 [0,0] {0}\nend\n|");
     Ok(())
 }
@@ -158,7 +175,13 @@ fn sixty_four_cursors_are_open(rt: HostRuntime) -> Result<(), Fail> {
     let alloc = rt.alloc();
     let queries = text_of(alloc, "A")?;
     let script = many_cursors(alloc)?;
-    let told = done_well(alloc, "session q e", queries.as_bytes(), script.as_bytes())?;
+    let told = done_well(
+        alloc,
+        "session q e",
+        queries.as_bytes(),
+        script.as_bytes(),
+        &rt,
+    )?;
     let wanted = "0|at 0\n1 [0,0] {0}\nend\n1 [0,0] {0}\nend\n|";
     assert_eq!(rt; told.as_str(), wanted);
     Ok(())
@@ -186,7 +209,12 @@ fn long_output(alloc: Global) -> Result<String, AllocError> {
     Ok(text)
 }
 
-fn long_answer(alloc: Global, queries: &str, script: &str) -> Result<String, AllocError> {
+fn long_answer(
+    alloc: Global,
+    queries: &str,
+    script: &str,
+    runtime: &HostRuntime,
+) -> Result<String, AllocError> {
     let sinks = Sinks {
         room: 200_000,
         piece: 1_000,
@@ -194,7 +222,13 @@ fn long_answer(alloc: Global, queries: &str, script: &str) -> Result<String, All
         note: 0,
     };
     let mut host = failing_host(alloc, queries.as_bytes(), script.as_bytes(), 0, 0, 0)?;
-    over_host(alloc, words_of(alloc, "session q e")?, &mut host, sinks)
+    over_host(
+        alloc,
+        words_of(alloc, "session q e")?,
+        &mut host,
+        sinks,
+        runtime,
+    )
 }
 
 #[test]
@@ -203,7 +237,7 @@ fn a_script_has_ten_thousand_commands(rt: HostRuntime) -> Result<(), Fail> {
     let queries = format!(in alloc; "{PLAIN}SELECT * FROM S WHERE A\n")?;
     let script = long_script(alloc)?;
     let wanted = long_output(alloc)?;
-    let told = long_answer(alloc, queries.as_str(), script.as_str())?;
+    let told = long_answer(alloc, queries.as_str(), script.as_str(), &rt)?;
     assert!(rt; told.as_str() == wanted.as_str());
     Ok(())
 }

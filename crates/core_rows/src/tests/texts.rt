@@ -51,11 +51,11 @@ a byte order mark alone | A | \u{feff} / A,2 | 1 [0,0] {0}";
 #[test]
 fn texts_are_read(rt: HostRuntime) -> Result<(), Fail> {
     let alloc = rt.alloc();
-    rows_hold(&rt, alloc, PLAIN, QUERIES)?;
-    rows_hold(&rt, alloc, KINDS, VALUES)?;
-    rows_hold(&rt, alloc, KINDS, LINES)?;
+    rows_hold(&rt, alloc, PLAIN, QUERIES, &rt)?;
+    rows_hold(&rt, alloc, KINDS, VALUES, &rt)?;
+    rows_hold(&rt, alloc, KINDS, LINES, &rt)?;
     let marked = format!(in alloc; "\u{feff}{PLAIN}")?;
-    rows_hold(&rt, alloc, marked.as_str(), QUERIES)
+    rows_hold(&rt, alloc, marked.as_str(), QUERIES, &rt)
 }
 
 /// Both files may lack their last line feed.
@@ -63,7 +63,7 @@ fn texts_are_read(rt: HostRuntime) -> Result<(), Fail> {
 fn the_last_line_may_lack_its_end(rt: HostRuntime) -> Result<(), Fail> {
     let alloc = rt.alloc();
     let queries = format!(in alloc; "{PLAIN}SELECT * FROM S WHERE A")?;
-    let told = done_well(alloc, "run q e", queries.as_bytes(), b"A,1\nA,2")?;
+    let told = done_well(alloc, "run q e", queries.as_bytes(), b"A,1\nA,2", &rt)?;
     assert_eq!(rt; told.as_str(), "0|1 [0,0] {0}\n1 [1,1] {1}\n|");
     Ok(())
 }

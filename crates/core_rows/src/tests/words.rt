@@ -85,8 +85,8 @@ run q f | SELECT * FROM S | 3 |  | queries 5:1: unexpected end of text";
 fn words_are_done(rt: HostRuntime) -> Result<(), Fail> {
     let alloc = rt.alloc();
     let each = format!(in alloc; "{PLAIN}{EACH}")?;
-    rows_hold(&rt, alloc, each.as_str(), RUNS)?;
-    rows_hold(&rt, alloc, each.as_str(), NOTHING)?;
-    rows_hold(&rt, alloc, each.as_str(), SAMPLES)?;
-    rows_hold(&rt, alloc, PLAIN, REFUSED)
+    rows_hold(&rt, alloc, each.as_str(), RUNS, &rt)?;
+    rows_hold(&rt, alloc, each.as_str(), NOTHING, &rt)?;
+    rows_hold(&rt, alloc, each.as_str(), SAMPLES, &rt)?;
+    rows_hold(&rt, alloc, PLAIN, REFUSED, &rt)
 }

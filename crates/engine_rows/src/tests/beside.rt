@@ -5,12 +5,12 @@ use crate::rows::{RowFault, answers_after_each, engine_of, write_answer};
 use cel_plain::answers::{ComplexEvent, answers};
 use cel_terms::Query;
 use ceql_parser::read_queries;
+use cer_base::steps::Opening;
 use event_reader::read_event;
 use rand_pcg::Pcg32;
 use std::alloc::{AllocError, Global};
 use std::marker::Brand;
 use std::process::Abort;
-use std::sync::ledger::Blank;
 use std::test::*;
 use stream_schema::{Event, Schema};
 
@@ -119,9 +119,14 @@ fn sorted(alloc: Global, answers: &str) -> Result<String, AllocError> {
 }
 
 /// The same by the engine.
-fn found_after_each(alloc: Global, text: &str, lines: &[u8]) -> Result<String, RowFault> {
+fn found_after_each(
+    alloc: Global,
+    text: &str,
+    lines: &[u8],
+    runtime: &HostRuntime,
+) -> Result<String, RowFault> {
     let mut engine = engine_of(alloc, text)?;
-    answers_after_each::<Brand>(alloc, &mut engine, lines, Blank::new(1))
+    answers_after_each::<Brand>(alloc, &mut engine, lines, Opening::new(runtime))
 }
 
 /// A query over some lines.
@@ -138,8 +143,13 @@ fn next_row(alloc: Global, random: &mut Pcg32) -> Result<Row, AllocError> {
     })
 }
 
-fn sorted_found(alloc: Global, text: &str, lines: &[u8]) -> Result<String, RowFault> {
-    let found = found_after_each(alloc, text, lines)?;
+fn sorted_found(
+    alloc: Global,
+    text: &str,
+    lines: &[u8],
+    runtime: &HostRuntime,
+) -> Result<String, RowFault> {
+    let found = found_after_each(alloc, text, lines, runtime)?;
     Ok(sorted(alloc, found.as_str())?)
 }
 
@@ -159,9 +169,14 @@ fn count_answers(answers: &str) -> usize {
 }
 
 /// Holds the answers that the engine finds against those by the definition, and says how many there are.
-fn row_holds(rt: &impl Abort, alloc: Global, row: &Row) -> Result<usize, Fail> {
+fn row_holds(
+    rt: &impl Abort,
+    alloc: Global,
+    row: &Row,
+    runtime: &HostRuntime,
+) -> Result<usize, Fail> {
     let text = format!(in alloc; "{DECLARATIONS}{}", row.query)?;
-    let found = sorted_found(alloc, text.as_str(), row.lines.as_bytes())?;
+    let found = sorted_found(alloc, text.as_str(), row.lines.as_bytes(), runtime)?;
     let wanted = sorted_defined(alloc, text.as_str(), row.lines.as_bytes())?;
     assert_eq!(rt;
         found.as_str(),
@@ -180,7 +195,7 @@ fn the_engine_answers_as_the_definition_says(rt: HostRuntime) -> Result<(), Fail
     let mut count: usize = 0;
     for _ in 0..QUERIES {
         let row = next_row(rt.alloc(), &mut random)?;
-        count = count.saturating_add(row_holds(&rt, rt.alloc(), &row)?);
+        count = count.saturating_add(row_holds(&rt, rt.alloc(), &row, &rt)?);
     }
     assert!(rt; count > 300, "only {count} answers");
     Ok(())

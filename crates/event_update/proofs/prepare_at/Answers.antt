@@ -39,7 +39,7 @@ pub returns-in-Some-clause-steps : goal.returns-in-Some-clause-steps
 returns-in-Some-clause-steps g c =
     let found = length c.args.det.now.states in
     let few = few_states c.args.det.now c.args.active.now.entries c.len-len.ensures.unique c.requires.can.states in
-    let one = c.tick.ensures in
+    let one = c.recall.ensures.steps in
     let each = c.tick_times.ensures in
     let long = c.len-len.ensures.len in
     let p = c.work_out.ensures.steps (found + 1) (found + 1) c.requires.can.narrow (omega arith) (omega arith) in
@@ -48,9 +48,10 @@ returns-in-Some-clause-steps g c =
 
 pub returns-in-Some-clause-counted : goal.returns-in-Some-clause-counted
 returns-in-Some-clause-counted g c =
-    let one = c.tick.ensures in
+    let one = c.recall.ensures.steps in
     let each = c.tick_times.ensures in
-    if_ok c.work_out.result _ _ (λ s counted. omega (arith, one, each, counted)) c.work_out.ensures.counted
+    let long = c.len-len.ensures.len in
+    if_ok c.work_out.result _ _ (λ s counted. omega (arith, one, each, long, counted)) c.work_out.ensures.counted
 
 pub returns-in-Some-clause-passed : goal.returns-in-Some-clause-passed
 returns-in-Some-clause-passed g c = if_ok c.work_out.result _ _ (λ s go is. all_passed c.args.det.now c.args.class c.args.active.now.entries c.in-Some.row.now.successors.items c.in-Some.ensures.known (go is)) c.work_out.ensures.passed

@@ -6,7 +6,7 @@ ghost use Rattle.reorder_gate.specs.Clocks.{clock_fits};
 
 use answer_text::Order;
 use ceql_parser::read_queries;
-use cer_base::steps::Steps;
+use cer_base::steps::{Opening, Steps};
 use cer_base::{Memory, OrMemory};
 use cer_outside::sinks::MemSink;
 use cer_outside::sources::MemSource;
@@ -15,7 +15,7 @@ use query_engine::Engine;
 use reorder_gate::clock_fits;
 use std::alloc::{AllocError, Global};
 use std::marker::Brand;
-use std::sync::ledger::{Blank, Ledger};
+use std::sync::ledger::Ledger;
 use std::test::Fail;
 use stream_answers::StreamFault;
 
@@ -71,7 +71,7 @@ fn words_of(
     }
 }
 
-/// The answers over the source, into the sink. The steps count in the ledger that the blank opens.
+/// The answers over the source, into the sink. The steps count in the ledger of the opening.
 fn run_over<L: Ledger>(
     alloc: Global,
     order: Order,
@@ -80,18 +80,17 @@ fn run_over<L: Ledger>(
     engine: &mut Engine,
     source: &mut MemSource,
     out: &mut MemSink,
-    blank: Blank,
+    opening: Opening,
 ) -> Result<(), OrMemory<StreamFault>>
     requires fresh { StandsFor engine.old [] }
     requires none { count_of engine.old ≡ 0 }
-    requires name { blank.name ≡ L.name }
-    requires parts { blank.parts ≡ L.parts }
-    requires some { 0 < blank.parts }
+    requires name { opening.name ≡ L.name }
+    requires parts { opening.parts ≡ L.parts }
 {
     if !clock_fits(engine.schema(), "t") {
         return Err(OrMemory::Memory);
     }
-    let mut steps: Steps<L> = Steps::start(blank);
+    let mut steps: Steps<L> = Steps::start(opening);
     write_late(
         alloc, order, "t", late, most_bytes, None, engine, source, out, &mut steps,
     )
@@ -108,6 +107,7 @@ fn feed_words(
     most_bytes: u64,
     bytes: &str,
     fails: (u64, u64),
+    runtime: &HostRuntime,
 ) -> Result<String, AllocError> {
     let Ok(mut engine) = engine_of(alloc, queries) else {
         return Err(AllocError);
@@ -127,7 +127,7 @@ fn feed_words(
         &mut engine,
         &mut source,
         &mut out,
-        Blank::new(1),
+        Opening::new(runtime),
     );
     words_of(alloc, end, &out)
 }
@@ -193,7 +193,16 @@ const BY_CLOCKS: &[(&str, u64, &str, &str)] = &[
 fn events_are_answered_by_their_clocks(rt: HostRuntime) -> Result<(), Fail> {
     let alloc = rt.alloc();
     for &(queries, late, bytes, wanted) in BY_CLOCKS {
-        let words = feed_words(alloc, Order::Sorted, queries, late, AMPLE, bytes, (0, 0))?;
+        let words = feed_words(
+            alloc,
+            Order::Sorted,
+            queries,
+            late,
+            AMPLE,
+            bytes,
+            (0, 0),
+            &rt,
+        )?;
         assert_eq!(rt; words.as_str(), wanted, "{bytes} late by {late}");
     }
     Ok(())
@@ -255,7 +264,7 @@ fn only_the_end_lets_all_events_go(rt: HostRuntime) -> Result<(), Fail> {
     let alloc = rt.alloc();
     for &(queries, late, most_bytes, bytes, fails, wanted) in CUT_OFF {
         for order in [Order::Sorted, Order::Walk] {
-            let words = feed_words(alloc, order, queries, late, most_bytes, bytes, fails)?;
+            let words = feed_words(alloc, order, queries, late, most_bytes, bytes, fails, &rt)?;
             assert_eq!(rt; words.as_str(), wanted, "{bytes} late by {late}");
         }
     }

@@ -158,7 +158,7 @@ const ROWS: &[(Row, &[Wanted], &str)] = &[
             (0, true, "[]"),
             (1, true, "[Cmp(0, Eq, Int(1))]"),
         ],
-        "Either(Sequence { tight: false, first: Leaf(0), second: Leaf(1) }, Either(Sequence { tight: false, first: Leaf(2), second: Leaf(3) }, Never))",
+        "Either([Chain([ShapePart { tight: false, part: Leaf(0) }, ShapePart { tight: false, part: Leaf(1) }]), Chain([ShapePart { tight: false, part: Leaf(2) }, ShapePart { tight: false, part: Leaf(3) }])])",
     ),
     (
         Row::FilterOfAllInTurn,
@@ -166,7 +166,7 @@ const ROWS: &[(Row, &[Wanted], &str)] = &[
             (0, true, "[Cmp(0, Eq, Int(3)), Cmp(1, Eq, Int(1))]"),
             (0, true, "[Cmp(0, Eq, Int(3)), Cmp(1, Eq, Int(2))]"),
         ],
-        "Either(Leaf(0), Either(Leaf(1), Never))",
+        "Either([Leaf(0), Leaf(1)])",
     ),
     (
         Row::NamesAreAdded,
@@ -176,7 +176,7 @@ const ROWS: &[(Row, &[Wanted], &str)] = &[
     (
         Row::NamesInAChoice,
         &[(0, true, "[Cmp(1, Eq, Int(1))]"), (1, true, "[]")],
-        "Either(Leaf(0), Either(Leaf(1), Never))",
+        "Either([Leaf(0), Leaf(1)])",
     ),
     (
         Row::MissingAttribute,
@@ -184,22 +184,22 @@ const ROWS: &[(Row, &[Wanted], &str)] = &[
             (0, true, "[Not(No)]"),
             (1, true, "[Not(Cmp(1, Eq, Int(1)))]"),
         ],
-        "Either(Leaf(0), Either(Leaf(1), Never))",
+        "Either([Leaf(0), Leaf(1)])",
     ),
     (
         Row::Keep,
         &[(0, true, "[]"), (1, false, "[]")],
-        "Sequence { tight: false, first: Leaf(0), second: Leaf(1) }",
+        "Chain([ShapePart { tight: false, part: Leaf(0) }, ShapePart { tight: false, part: Leaf(1) }])",
     ),
     (
         Row::Select,
         &[(0, false, "[]"), (1, true, "[]")],
-        "Sequence { tight: true, first: Leaf(0), second: Leaf(1) }",
+        "Chain([ShapePart { tight: false, part: Leaf(0) }, ShapePart { tight: true, part: Leaf(1) }])",
     ),
     (
         Row::Chain,
         &[(0, true, "[]"), (1, true, "[]"), (0, true, "[]")],
-        "Sequence { tight: false, first: Sequence { tight: false, first: Leaf(0), second: Leaf(1) }, second: Leaf(2) }",
+        "Chain([ShapePart { tight: false, part: Leaf(0) }, ShapePart { tight: false, part: Leaf(1) }, ShapePart { tight: false, part: Leaf(2) }])",
     ),
     (
         Row::Repeated,

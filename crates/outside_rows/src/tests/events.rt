@@ -38,7 +38,7 @@ pub fn answer(alloc: Global, line: &[u8]) -> Result<String, AllocError> {
     }
 }
 
-fn answer_under(alloc: Global, schema: &Schema, line: &[u8]) -> Result<String, AllocError> {
+pub fn answer_under(alloc: Global, schema: &Schema, line: &[u8]) -> Result<String, AllocError> {
     if line.contains(&b'\n') {
         return "line feed".to_string(alloc);
     }

@@ -5,7 +5,7 @@ ghost use Rattle.query_engine.specs.Engine.{count_of};
 
 use answer_blocks::{push_blocks, write_blocks};
 use ceql_parser::read_queries;
-use cer_base::steps::Steps;
+use cer_base::steps::{Opening, Steps};
 use cer_base::{Memory, OrMemory};
 use cer_outside::sinks::MemSink;
 use cer_outside::{Sink, WriteFault};
@@ -13,7 +13,7 @@ use event_reader::read_event;
 use query_engine::Engine;
 use std::alloc::Global;
 use std::marker::Brand;
-use std::sync::ledger::{Blank, Ledger};
+use std::sync::ledger::Ledger;
 use std::test::Fail;
 
 const QUERIES: &str = "DECLARE EVENT A()\nDECLARE STREAM S(A)\n\
@@ -62,12 +62,11 @@ fn push_three<L: Ledger>(
 }
 
 /// The sorted blocks of the three positions.
-fn sorted<L: Ledger>(alloc: Global, blank: Blank) -> Result<Vec<u8>, Memory>
-    requires name { blank.name ≡ L.name }
-    requires parts { blank.parts ≡ L.parts }
-    requires some { 0 < blank.parts }
+fn sorted<L: Ledger>(alloc: Global, opening: Opening) -> Result<Vec<u8>, Memory>
+    requires name { opening.name ≡ L.name }
+    requires parts { opening.parts ≡ L.parts }
 {
-    let mut steps = Steps::<L>::start(blank);
+    let mut steps = Steps::<L>::start(opening);
     let mut engine = engine(alloc)?;
     let mut text = Vec::new(alloc);
     push_three(alloc, &mut engine, &mut text, &mut steps)?;
@@ -94,13 +93,12 @@ fn write_three<K: Sink, L: Ledger>(
 fn write<K: Sink, L: Ledger>(
     alloc: Global,
     out: &mut K,
-    blank: Blank,
+    opening: Opening,
 ) -> Result<(), OrMemory<WriteFault>>
-    requires name { blank.name ≡ L.name }
-    requires parts { blank.parts ≡ L.parts }
-    requires some { 0 < blank.parts }
+    requires name { opening.name ≡ L.name }
+    requires parts { opening.parts ≡ L.parts }
 {
-    let mut steps = Steps::<L>::start(blank);
+    let mut steps = Steps::<L>::start(opening);
     let mut engine = engine(alloc)?;
     write_three(alloc, &mut engine, out, &mut steps)
 }
@@ -124,7 +122,7 @@ const UP_TO_THE_LAST: &str = "1 [0,0] {0}\n2 [0,0] {0}\n\
 
 #[test]
 fn blocks_are_sorted_and_any_is_kept(rt: HostRuntime) -> Result<(), Fail> {
-    let text = sorted::<Brand>(rt.alloc(), Blank::new(1))?;
+    let text = sorted::<Brand>(rt.alloc(), Opening::new(&rt))?;
     assert!(rt;
         text.as_slice().starts_with(UP_TO_THE_LAST.as_bytes()),
         "other blocks"
@@ -136,7 +134,7 @@ fn blocks_are_sorted_and_any_is_kept(rt: HostRuntime) -> Result<(), Fail> {
 #[test]
 fn lines_are_written_one_by_one(rt: HostRuntime) -> Result<(), Fail> {
     let mut out = sink(rt.alloc(), 13)?;
-    let written = write::<MemSink, Brand>(rt.alloc(), &mut out, Blank::new(1));
+    let written = write::<MemSink, Brand>(rt.alloc(), &mut out, Opening::new(&rt));
     assert!(rt; written.is_ok(), "not written");
     assert_eq!(rt; line_count(out.as_slice()), 12);
     Ok(())
@@ -145,7 +143,7 @@ fn lines_are_written_one_by_one(rt: HostRuntime) -> Result<(), Fail> {
 #[test]
 fn a_fault_ends_the_blocks(rt: HostRuntime) -> Result<(), Fail> {
     let mut out = sink(rt.alloc(), 3)?;
-    let written = write::<MemSink, Brand>(rt.alloc(), &mut out, Blank::new(1));
+    let written = write::<MemSink, Brand>(rt.alloc(), &mut out, Opening::new(&rt));
     assert!(rt;
         matches!(written, Err(OrMemory::Fault(WriteFault))),
         "no fault"

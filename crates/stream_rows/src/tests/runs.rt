@@ -4,7 +4,7 @@ ghost use Rattle.std.specs.Prelude.{◌≡◌, ◌+◌, ◌^◌, ◌<◌, false,
 ghost use Rattle.query_engine.specs.Engine.{count_of};
 
 use ceql_parser::read_queries;
-use cer_base::steps::Steps;
+use cer_base::steps::{Opening, Steps};
 use cer_base::{Memory, OrMemory};
 use cer_outside::Source;
 use cer_outside::sources::MemSource;
@@ -13,7 +13,7 @@ use event_run::{RunFault, Taken, read_events, take_event};
 use query_engine::Engine;
 use std::alloc::{AllocError, Global};
 use std::marker::Brand;
-use std::sync::ledger::{Blank, Ledger};
+use std::sync::ledger::Ledger;
 use std::test::Fail;
 
 /// One query, whose clock is the position.
@@ -87,23 +87,22 @@ fn words_of(
 }
 
 /// What the engine takes of a file, of which so many bytes are too many. The steps count in the
-/// ledger that the blank opens.
+/// ledger of the opening.
 fn run_over<L: Ledger>(
     alloc: Global,
     engine: &mut Engine,
     source: &mut MemSource,
     most_bytes: u64,
-    blank: Blank,
+    opening: Opening,
 ) -> Result<String, AllocError>
     requires fresh { count_of engine.old ≡ 0 }
-    requires name { blank.name ≡ L.name }
-    requires parts { blank.parts ≡ L.parts }
-    requires some { 0 < blank.parts }
+    requires name { opening.name ≡ L.name }
+    requires parts { opening.parts ≡ L.parts }
 {
     let Ok(mut lines) = Lines::new(alloc, most_bytes) else {
         return Err(AllocError);
     };
-    let mut steps: Steps<L> = Steps::start(blank);
+    let mut steps: Steps<L> = Steps::start(opening);
     let stop = take_all(alloc, &mut lines, source, engine, &mut steps);
     words_of(alloc, engine.events(), stop)
 }
@@ -117,6 +116,7 @@ fn run_words(
     most_bytes: u64,
     piece: usize,
     fails: u64,
+    runtime: &HostRuntime,
 ) -> Result<String, AllocError>
     requires { 0 < piece }
 {
@@ -125,7 +125,13 @@ fn run_words(
     };
     let fails = Vec::from_slice(alloc, &[fails])?;
     let mut source = MemSource::new(Vec::from_slice(alloc, bytes)?, piece, fails);
-    run_over::<Brand>(alloc, &mut engine, &mut source, most_bytes, Blank::new(1))
+    run_over::<Brand>(
+        alloc,
+        &mut engine,
+        &mut source,
+        most_bytes,
+        Opening::new(runtime),
+    )
 }
 
 /// Queries, an event file, how many bytes are too many, and how many events are taken and why no
@@ -188,7 +194,7 @@ fn events_are_taken_up_to_the_stop(rt: HostRuntime) -> Result<(), Fail> {
     let alloc = rt.alloc();
     for &(queries, bytes, most_bytes, wanted) in STOPS {
         for piece in [1, 4] {
-            let words = run_words(alloc, queries, bytes.as_bytes(), most_bytes, piece, 0)?;
+            let words = run_words(alloc, queries, bytes.as_bytes(), most_bytes, piece, 0, &rt)?;
             assert_eq!(rt; words.as_str(), wanted, "at {bytes} in pieces of {piece}");
         }
     }
@@ -216,7 +222,7 @@ fn first_parts_of_a_quoted_line_are_events_or_open(rt: HostRuntime) -> Result<()
     let alloc = rt.alloc();
     let line = b"N,\"a,\"\"b\"\r\n";
     for &(end, wanted) in FIRST_PARTS {
-        let words = run_words(alloc, TEXTS, &line[..end.min(line.len())], AMPLE, 4, 0)?;
+        let words = run_words(alloc, TEXTS, &line[..end.min(line.len())], AMPLE, 4, 0, &rt)?;
         assert_eq!(rt; words.as_str(), wanted, "at {end}");
     }
     Ok(())
@@ -233,7 +239,7 @@ fn each_read_fails_in_turn(rt: HostRuntime) -> Result<(), Fail> {
         (4, "3, cannot read"),
         (5, "3, end"),
     ] {
-        let words = run_words(alloc, BY_POSITION, bytes, AMPLE, 4, fails)?;
+        let words = run_words(alloc, BY_POSITION, bytes, AMPLE, 4, fails, &rt)?;
         assert_eq!(rt; words.as_str(), wanted, "at read {fails}");
     }
     Ok(())
@@ -250,7 +256,7 @@ fn the_longest_line_is_an_event(rt: HostRuntime) -> Result<(), Fail> {
         for _byte in 0..len {
             line.push(b'x')?;
         }
-        let words = run_words(alloc, TEXTS, line.as_slice(), AMPLE, 4096, 0)?;
+        let words = run_words(alloc, TEXTS, line.as_slice(), AMPLE, 4096, 0, &rt)?;
         assert_eq!(rt; words.as_str(), wanted, "at {len}");
     }
     Ok(())

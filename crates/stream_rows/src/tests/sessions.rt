@@ -5,13 +5,13 @@ ghost use Rattle.query_engine.specs.Engine.{count_of};
 
 use ceql_parser::read_queries;
 use cer_base::Memory;
-use cer_base::steps::Steps;
+use cer_base::steps::{Opening, Steps};
 use cer_outside::Sink;
 use cer_outside::sinks::MemSink;
 use cursor_session::{Refusal, RunFault, Session, read_command};
 use std::alloc::{AllocError, Global};
 use std::marker::Brand;
-use std::sync::ledger::{Blank, Ledger};
+use std::sync::ledger::Ledger;
 use std::test::Fail;
 
 const QUERIES: &str = "DECLARE EVENT A()\nDECLARE STREAM S(A)\n\
@@ -75,22 +75,26 @@ fn play<K: Sink, L: Ledger>(
     alloc: Global,
     script: String,
     out: &mut K,
-    blank: Blank,
+    opening: Opening,
 ) -> Result<(), RunFault>
-    requires name { blank.name ≡ L.name }
-    requires parts { blank.parts ≡ L.parts }
-    requires some { 0 < blank.parts }
+    requires name { opening.name ≡ L.name }
+    requires parts { opening.parts ≡ L.parts }
 {
-    let mut steps = Steps::<L>::start(blank);
+    let mut steps = Steps::<L>::start(opening);
     match session(alloc) {
         Ok(mut session) => play_lines(alloc, &mut session, script.as_str(), out, &mut steps),
         Err(_) => Err(RunFault::Memory),
     }
 }
 
-fn play_into(alloc: Global, script: &str, out: &mut MemSink) -> Result<(), RunFault> {
+fn play_into(
+    alloc: Global,
+    script: &str,
+    out: &mut MemSink,
+    runtime: &HostRuntime,
+) -> Result<(), RunFault> {
     match script.to_string(alloc) {
-        Ok(script) => play::<MemSink, Brand>(alloc, script, out, Blank::new(1)),
+        Ok(script) => play::<MemSink, Brand>(alloc, script, out, Opening::new(runtime)),
         Err(_) => Err(RunFault::Memory),
     }
 }
@@ -109,7 +113,7 @@ const OF_ONE_CURSOR: &str = "at 0\nat 1\n1 [0,0] {0}\nend\nend\n";
 #[test]
 fn a_cursor_keeps_its_position(rt: HostRuntime) -> Result<(), Fail> {
     let mut out = sink(rt.alloc(), 100)?;
-    let played = play_into(rt.alloc(), ONE_CURSOR, &mut out);
+    let played = play_into(rt.alloc(), ONE_CURSOR, &mut out, &rt);
     assert!(rt; played.is_ok(), "not played");
     assert_eq!(rt; out.as_slice(), OF_ONE_CURSOR.as_bytes());
     Ok(())
@@ -128,7 +132,7 @@ open 1 64;pull 1 1;pull 64 1";
 #[test]
 fn sixty_four_cursors_are_open(rt: HostRuntime) -> Result<(), Fail> {
     let mut out = sink(rt.alloc(), 100)?;
-    let played = play_into(rt.alloc(), MANY_CURSORS, &mut out);
+    let played = play_into(rt.alloc(), MANY_CURSORS, &mut out, &rt);
     assert!(rt; played.is_ok(), "not played");
     assert_eq!(rt;
         out.as_slice(),
@@ -167,7 +171,7 @@ fn has_some_answers(text: &[u8]) -> bool {
 #[test]
 fn a_cursor_goes_on_after_an_event(rt: HostRuntime) -> Result<(), Fail> {
     let mut out = sink(rt.alloc(), 100)?;
-    let played = play_into(rt.alloc(), SOME_ANSWERS, &mut out);
+    let played = play_into(rt.alloc(), SOME_ANSWERS, &mut out, &rt);
     assert!(rt; played.is_ok(), "not played");
     assert!(rt; has_some_answers(out.as_slice()), "other answers");
     Ok(())
@@ -176,7 +180,7 @@ fn a_cursor_goes_on_after_an_event(rt: HostRuntime) -> Result<(), Fail> {
 #[test]
 fn a_failed_write_ends_the_script(rt: HostRuntime) -> Result<(), Fail> {
     let mut out = sink(rt.alloc(), 2)?;
-    let played = play_into(rt.alloc(), ONE_CURSOR, &mut out);
+    let played = play_into(rt.alloc(), ONE_CURSOR, &mut out, &rt);
     assert!(rt; matches!(played, Err(RunFault::WriteFault)), "no fault");
     assert_eq!(rt; out.as_slice(), b"at 0\n".as_slice());
     Ok(())
@@ -202,23 +206,23 @@ fn end_words(alloc: Global, played: Result<(), RunFault>) -> Result<String, Allo
 }
 
 /// How the script ends.
-fn end_of(alloc: Global, script: &str) -> Result<String, AllocError> {
+fn end_of(alloc: Global, script: &str, runtime: &HostRuntime) -> Result<String, AllocError> {
     match sink(alloc, 100) {
         Ok(sink) => {
             let mut out = sink;
-            end_words(alloc, play_into(alloc, script, &mut out))
+            end_words(alloc, play_into(alloc, script, &mut out, runtime))
         }
         Err(_) => "no sink".to_string(alloc),
     }
 }
 
 /// The first script of the table that ends otherwise than what stands after it.
-fn first_wrong(alloc: Global, table: &str) -> Result<String, AllocError> {
+fn first_wrong(alloc: Global, table: &str, runtime: &HostRuntime) -> Result<String, AllocError> {
     for entry in table.split('\n') {
         let Some((script, wanted)) = entry.split_once('|') else {
             return entry.to_string(alloc);
         };
-        let words = end_of(alloc, script)?;
+        let words = end_of(alloc, script, runtime)?;
         if words.as_str() != wanted {
             return format!(in alloc; "{script}: {}", words.as_str());
         }
@@ -242,7 +246,7 @@ compact|played";
 #[test]
 fn scripts_end_at_what_is_refused(rt: HostRuntime) -> Result<(), Fail> {
     let alloc = rt.alloc();
-    let wrong = first_wrong(alloc, ENDS)?;
+    let wrong = first_wrong(alloc, ENDS, &rt)?;
     assert_eq!(rt; wrong.as_str(), "");
     Ok(())
 }

@@ -5,7 +5,7 @@ ghost use Rattle.query_engine.specs.Engine.{StandsFor, count_of};
 
 use answer_text::Order;
 use ceql_parser::read_queries;
-use cer_base::steps::Steps;
+use cer_base::steps::{Opening, Steps};
 use cer_base::{Memory, OrMemory};
 use cer_outside::Source;
 use cer_outside::sinks::MemSink;
@@ -13,7 +13,7 @@ use cer_outside::sources::MemSource;
 use query_engine::Engine;
 use std::alloc::{AllocError, Global};
 use std::marker::Brand;
-use std::sync::ledger::{Blank, Ledger};
+use std::sync::ledger::Ledger;
 use std::test::Fail;
 use stream_answers::{StreamFault, write_answers};
 
@@ -57,22 +57,21 @@ fn words_of(
     }
 }
 
-/// The answers over the source, into the sink. The steps count in the ledger that the blank opens.
+/// The answers over the source, into the sink. The steps count in the ledger of the opening.
 fn run_over<L: Ledger>(
     alloc: Global,
     order: Order,
     engine: &mut Engine,
     source: &mut MemSource,
     out: &mut MemSink,
-    blank: Blank,
+    opening: Opening,
 ) -> Result<(), OrMemory<StreamFault>>
     requires fresh { StandsFor engine.old [] }
     requires none { count_of engine.old ≡ 0 }
-    requires name { blank.name ≡ L.name }
-    requires parts { blank.parts ≡ L.parts }
-    requires some { 0 < blank.parts }
+    requires name { opening.name ≡ L.name }
+    requires parts { opening.parts ≡ L.parts }
 {
-    let mut steps: Steps<L> = Steps::start(blank);
+    let mut steps: Steps<L> = Steps::start(opening);
     write_answers(alloc, order, AMPLE, None, engine, source, out, &mut steps)
 }
 
@@ -85,6 +84,7 @@ fn run_words(
     piece: usize,
     read_fails: u64,
     write_fails: u64,
+    runtime: &HostRuntime,
 ) -> Result<String, AllocError> {
     let Ok(mut engine) = engine_of(alloc) else {
         return Err(AllocError);
@@ -102,7 +102,7 @@ fn run_words(
         &mut engine,
         &mut source,
         &mut out,
-        Blank::new(1),
+        Opening::new(runtime),
     );
     words_of(alloc, end, &source, &out)
 }
@@ -142,7 +142,15 @@ const WAITING: &[(&str, usize, u64, u64, &str, &str)] = &[
 fn lines_wait_only_while_the_next_line_is_at_hand(rt: HostRuntime) -> Result<(), Fail> {
     let alloc = rt.alloc();
     for &(bytes, piece, read_fails, write_fails, end, lines) in WAITING {
-        let words = run_words(alloc, Order::Sorted, bytes, piece, read_fails, write_fails)?;
+        let words = run_words(
+            alloc,
+            Order::Sorted,
+            bytes,
+            piece,
+            read_fails,
+            write_fails,
+            &rt,
+        )?;
         let wanted = format!(in alloc; "{end}: {lines}")?;
         assert_eq!(rt;
             words.as_str(),
@@ -161,7 +169,7 @@ fn no_line_waits_in_walk_order(rt: HostRuntime) -> Result<(), Fail> {
         (1, "cannot write, 0: "),
         (2, "cannot write, 0: 1 [0,0] {0}\n"),
     ] {
-        let words = run_words(alloc, Order::Walk, "A,1\nA,2\n", 99, 0, write_fails)?;
+        let words = run_words(alloc, Order::Walk, "A,1\nA,2\n", 99, 0, write_fails, &rt)?;
         assert_eq!(rt; words.as_str(), wanted, "at write {write_fails}");
     }
     Ok(())

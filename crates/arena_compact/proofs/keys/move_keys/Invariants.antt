@@ -9,6 +9,7 @@ use Rattle.arena_compact.proofs.keys.move_keys.Given as goal
 pub record Moves (low : ℤ) (nodes : List Node) (table : List (Option ℕ)) (old cur : List (List (ℕ × List Root))) (k before now : ℕ) : Type 0 where
   pub turned : KeysTurned low nodes table old cur k
   pub paid : now ≤ before + 3 * places (take k old)
+  pub counted : 3 * places (take k cur) + before ≤ now
 
 abbrev pub invariant-loop-k : goal.invariant-loop-k
 invariant-loop-k g l = Moves l.low (g.S.NodeStore.nodes l.store) l.table (map g.K.HasLists.rows l.fn.keys) (map g.K.HasLists.rows l.keys) l.k l.fn.steps l.steps

@@ -1,12 +1,13 @@
 use Rattle.std.proofs.Common.{◌≡◌, ◌<◌, ℕ, List, Some, length, get_or, arith, sym, All, []}
 use Rattle.std.specs.Prelude.{int_le, true, slice_get}
 use Rattle.std.specs.Int.{w128}
+use mir.Val.{to_z, of_z}
 use Rattle.std.proofs.lemmas.Int.{to_z-of_z}
 use Rattle.std.proofs.lemmas.Option.{slice_get_within, get_or_from_slice_get, slice_get-get_or}
 use Rattle.cer_base.specs.declared.node.Root.{Root}
 use Rattle.arena_compact.specs.Roots.{AreOlder, IsPlaced}
 use Rattle.arena_compact.proofs.Readings.{all_read, entries_more}
-use Rattle.arena_compact.proofs.Kept.{keeping_more, row_here}
+use Rattle.arena_compact.proofs.Kept.{keeping_more, row_here, recent_more}
 use Rattle.arena_compact.proofs.rows.move_each.Goals as goal
 
 pub loop-k-preserved : goal.loop-k-preserved
@@ -18,7 +19,9 @@ loop-k-preserved g c =
     let here = row_here _ _ _ _ _ _ _ d c.loop-k.invariant.keeping at in
     let step = c.move_row-kept.ensures.steps d at in
     let more = entries_more c.args.rows.now c.loop-k.k d lt (sym (get_or_from_slice_get c.args.rows.now c.loop-k.k d d here)) in
-    record { keeping = keeping_more _ _ _ _ _ _ _ _ _ c.loop-k.invariant.keeping lt c.move_row-kept.ensures.moved; paid = omega arith }
+    let each = c.move_row-kept.ensures.counted d at in let counted = c.loop-k.invariant.counted in
+    let recent = recent_more (to_z w128 (of_z w128 c.args.low)) c.args.rows.now c.loop-k.k d here in
+    record { keeping = keeping_more _ _ _ _ _ _ _ _ _ c.loop-k.invariant.keeping lt c.move_row-kept.ensures.moved; paid = omega arith; counted = omega arith }
 
 pub move_row-kept-requires-clause-older : goal.move_row-kept-requires-clause-older
 move_row-kept-requires-clause-older g c = λ r at.

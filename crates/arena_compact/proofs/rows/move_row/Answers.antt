@@ -20,3 +20,13 @@ pub returns-clause-steps : goal.returns-clause-steps
 returns-clause-steps g c = λ r at.
     let same = get_or_from_slice_get c.args.rows.now c.args.k r c.index-rows-k.result at in
     let step = rw same at c.move_list.ensures.steps in omega arith
+
+pub returns-then-not-move_list-clause-counted : goal.returns-then-not-move_list-clause-counted
+returns-then-not-move_list-clause-counted g c = λ r at.
+    let same = get_or_from_slice_get c.args.rows.now c.args.k r c.index-rows-k.result at in
+    rw (to_z-of_z w128 c.args.low c.ranges.low) at (rw same at c.move_list.ensures.counted)
+
+pub returns-clause-counted : goal.returns-clause-counted
+returns-clause-counted g c = λ r at.
+    let same = get_or_from_slice_get c.args.rows.now c.args.k r c.index-rows-k.result at in
+    rw (to_z-of_z w128 c.args.low c.ranges.low) at (rw same at c.move_list.ensures.counted)

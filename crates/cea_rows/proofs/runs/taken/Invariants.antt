@@ -1,5 +1,5 @@
 use Rattle.cea_rows.proofs.runs.taken.Given as goal
 
--- the count has the ledger of its blank
+-- the count has the ledger of its opening
 abbrev pub ghosts-counted : goal.ghosts-counted
-ghosts-counted a = record { name = a.blank.name; parts = a.blank.parts }
+ghosts-counted a = record { name = a.opening.name; parts = a.opening.parts }

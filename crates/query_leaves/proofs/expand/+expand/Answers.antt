@@ -1,45 +1,31 @@
-use Rattle.std.proofs.Common.{◌≡◌, ap, ap₂, sym, false, arith, subst, ◌∙◌}
+use Rattle.std.proofs.Common.{◌≡◌, ap, sym, map, subst, ◌∙◌}
 use Rattle.std.specs.Prelude.{IfOk, fold}
-use Rattle.query_leaves.specs.LeafTree.{LeafTree, sequence}
+use Rattle.query_leaves.specs.LeafTree.{LeafTree, chain_of, linked_to, choice_of}
 use Rattle.query_leaves.specs.Expand.{Occurrence, filtered, postfixed, expand}
-use Rattle.query_leaves.specs.Drafts.{tree_of_draft, tree_of_chain, tree_of_links, tree_of_choices}
-use Rattle.query_leaves.proofs.Expanded.{chain_first, chain_next, chain_is, choices_are, links_are, under_is, postfixed_is}
-use Rattle.query_leaves.proofs.expand.+expand.Goals.{chain-then-i-eq0, chain-else-i-eq0+in_ok-before}
+use Rattle.query_leaves.specs.Drafts.{tree_of_draft, part_of, link_of}
+use Rattle.query_leaves.proofs.Drafted as drafted
+use Rattle.query_leaves.proofs.Expanded.{chain_is, choices_are, links_are, under_is, postfixed_is}
 use Rattle.query_leaves.proofs.expand.+expand.Goals as goal
 
-pub chain-loop-i-preserved : goal.chain-loop-i-preserved
-chain-loop-i-preserved t c =
-    let parts = c.args.parts.now in
-    let part = c.index-parts-i.result in
-    let at = ap expand c.index-parts-i.is in
-    elim c.if-i-eq0.branch [
-      | chain-then-i-eq0 w ↦
-          ap tree_of_draft w.before2-is ∙ c.in_ok-next.ensures ∙ at ∙ sym (chain_first parts c.loop-i.i part w.if-i-eq0.true c.loop-i-test.true)
-      | chain-else-i-eq0+in_ok-before w ↦
-          ap tree_of_draft w.before2-is ∙ w.in_ok-before.ensures
-          ∙ ap₂ (λ x y. sequence false x y) c.loop-i.invariant (c.in_ok-next.ensures ∙ at)
-          ∙ sym (chain_next parts c.loop-i.i part (let n = w.if-i-eq0.false in omega arith) c.loop-i-test.true)
-    ]
+pub expand-returns-in_ok-chained-in-Chain : goal.expand-returns-in_ok-chained-in-Chain
+expand-returns-in_ok-chained-in-Chain t c =
+    drafted.chain_is c.in_ok-chained-in-Chain.field-0
+    ∙ ap chain_of (c.in_ok-chained-in-Chain.ensures ∙ ap (map part_of) c.deref.ensures.value)
+    ∙ sym (ap expand c.in-Chain.is ∙ chain_is c.in-Chain.parts)
 
-pub expand-returns-in-Chain : goal.expand-returns-in-Chain
-expand-returns-in-Chain t c =
-    subst (λ (u : LeafTree Occurrence). IfOk c.chain.result (λ draft. tree_of_draft draft ≡ u))
-    (ap tree_of_chain c.deref.ensures.value ∙ sym (chain_is c.in-Chain.parts) ∙ sym (ap expand c.in-Chain.is))
-    c.chain.ensures
+pub expand-returns-in_ok-linked-in-Linked : goal.expand-returns-in_ok-linked-in-Linked
+expand-returns-in_ok-linked-in-Linked t c =
+    drafted.chain_is c.in_ok-linked-in-Linked.field-0
+    ∙ ap chain_of c.in_ok-linked-in-Linked.ensures
+    ∙ ap (λ before. linked_to before (map link_of c.deref-in-Linked-2.result.now)) (c.in_ok-first-in-Linked.ensures ∙ ap expand c.deref-in-Linked.ensures)
+    ∙ ap (λ ls. linked_to (expand c.in-Linked.first.value) (map link_of ls)) c.deref-in-Linked-2.ensures.value
+    ∙ sym (ap expand c.in-Linked.is ∙ links_are c.in-Linked.first c.in-Linked.links)
 
-pub expand-returns-in_ok-first-in-Linked : goal.expand-returns-in_ok-first-in-Linked
-expand-returns-in_ok-first-in-Linked t c =
-    subst (λ (u : LeafTree Occurrence). IfOk c.linked.result (λ draft. tree_of_draft draft ≡ u))
-    (ap (λ before. tree_of_links before c.deref-in-Linked-2.result.now) (c.in_ok-first-in-Linked.ensures ∙ ap expand c.deref-in-Linked.ensures)
-    ∙ ap (tree_of_links (expand c.in-Linked.first.value)) c.deref-in-Linked-2.ensures.value
-    ∙ sym (links_are c.in-Linked.first c.in-Linked.links) ∙ sym (ap expand c.in-Linked.is))
-    c.linked.ensures
-
-pub expand-returns-in-Either : goal.expand-returns-in-Either
-expand-returns-in-Either t c =
-    subst (λ (u : LeafTree Occurrence). IfOk c.one_of.result (λ draft. tree_of_draft draft ≡ u))
-    (ap tree_of_choices c.deref-in-Either.ensures.value ∙ sym (choices_are c.in-Either.choices) ∙ sym (ap expand c.in-Either.is))
-    c.one_of.ensures
+pub expand-returns-in_ok-expanded_each-in-Either : goal.expand-returns-in_ok-expanded_each-in-Either
+expand-returns-in_ok-expanded_each-in-Either t c =
+    drafted.choices_are c.in_ok-expanded_each-in-Either.field-0
+    ∙ ap choice_of (c.in_ok-expanded_each-in-Either.ensures ∙ ap (map expand) c.deref-in-Either.ensures.value)
+    ∙ sym (ap expand c.in-Either.is ∙ choices_are c.in-Either.choices)
 
 pub expand-returns-in_ok-draft-in-Post : goal.expand-returns-in_ok-draft-in-Post
 expand-returns-in_ok-draft-in-Post t c =

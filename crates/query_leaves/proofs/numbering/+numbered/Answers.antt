@@ -1,14 +1,66 @@
-use Rattle.std.proofs.Common.{sym, subst, [], ◌∷◌, ◌++◌}
-use Rattle.query_leaves.specs.Leaves.{occurrences}
-use Rattle.query_leaves.specs.Drafts.{tree_of_draft}
-use Rattle.query_leaves.specs.Tests.{AreMadeOf, IsMadeOf}
-use Rattle.query_leaves.proofs.Pairs.{zip_append}
+use Rattle.std.proofs.Common.{sym, ap, subst, ◌∙◌, List, length, map}
+use Rattle.std.specs.List.{flat_map}
+use Rattle.query_leaves.specs.LeafTree.{chain_of, choice_of}
+use Rattle.query_leaves.specs.Expand.{Occurrence}
+use Rattle.query_leaves.specs.Leaves.{occurrences, numbered}
+use Rattle.query_leaves.specs.Shapes.{tree_of_shape}
+use Rattle.query_leaves.specs.Drafts.{tree_of_draft, draft_part}
+use Rattle.query_leaves.specs.Numbering.{HasNumbered, shape_part, occurrences_of_part, number_parts, number_each}
+use Rattle.query_leaves.proofs.Drafted as drafted
+use Rattle.query_leaves.proofs.Shaped.{chain_is, choices_are}
+use Rattle.query_leaves.proofs.Numbered.{chain_numbered, choice_numbered, chain_occurrences, choice_occurrences, part_shaped, part_numbered, choice_shaped, each_numbered}
 use Rattle.query_leaves.proofs.numbering.+numbered.Goals as goal
 
-pub returns-in_ok-push-in-Leaf-clause-list : goal.returns-in_ok-push-in-Leaf-clause-list
-returns-in_ok-push-in-Leaf-clause-list t c before h =
-    let schema = c.args.schema.now in
-    let o = c.in-Leaf.occurrence in
-    subst (λ d. AreMadeOf schema (before ++ occurrences (tree_of_draft d)) c.push.new.self.items) (sym c.in-Leaf.is)
-    (subst (AreMadeOf schema (before ++ o ∷ [])) (sym c.in_ok-push-in-Leaf.ensures.items)
-    (zip_append (IsMadeOf schema) before (o ∷ []) c.args.list.now.items (c.in_ok-leaf-in-Leaf.leaf ∷ []) h (c.in_ok-leaf-in-Leaf.ensures, tt)))
+pub numbered_parts-loop-part-preserved : goal.numbered_parts-loop-part-preserved
+numbered_parts-loop-part-preserved t c =
+    let x = c.part-item.result in
+    let so_far = c.loop-part.invariant in
+    record {
+      shapes = ap (map shape_part) c.in_ok-push.ensures.items
+          ∙ part_shaped c.args.parts.now c.loop-part.part-index x (length c.args.list.now.items) (length c.loop-part.list.items) c.loop-part.shapes.items _ c.loop-part-test.true c.part-item.is so_far.shapes so_far.leaves.count
+          (ap (λ s. ((draft_part x).0, s)) c.in_ok-shape.ensures.shape);
+      leaves = part_numbered c.args.schema.now c.args.parts.now c.loop-part.part-index x c.args.list.now.items c.loop-part.list.items c.numbered.new.list.items c.loop-part-test.true c.part-item.is so_far.leaves c.in_ok-shape.ensures.leaves;
+    }
+
+pub numbered_each-loop-draft-preserved : goal.numbered_each-loop-draft-preserved
+numbered_each-loop-draft-preserved t c =
+    let x = c.draft-item.result in
+    let so_far = c.loop-draft.invariant in
+    record {
+      shapes = ap (map tree_of_shape) c.in_ok-push.ensures.items
+          ∙ choice_shaped c.args.drafts.now c.loop-draft.draft-index x (length c.args.list.now.items) (length c.loop-draft.list.items) c.loop-draft.shapes.items _ c.loop-draft-test.true c.draft-item.is so_far.shapes so_far.leaves.count
+          c.in_ok-numbered.ensures.shape;
+      leaves = each_numbered c.args.schema.now c.args.drafts.now c.loop-draft.draft-index x c.args.list.now.items c.loop-draft.list.items c.numbered.new.list.items c.loop-draft-test.true c.draft-item.is so_far.leaves c.in_ok-numbered.ensures.leaves;
+    }
+
+pub numbered-returns-in_ok-parts-in-Chain-clause-shape : goal.numbered-returns-in_ok-parts-in-Chain-clause-shape
+numbered-returns-in_ok-parts-in-Chain-clause-shape t c =
+    let base = length c.args.list.now.items in
+    let parts = c.in-Chain.parts in
+    chain_is c.in_ok-parts-in-Chain.parts
+    ∙ ap chain_of (c.in_ok-parts-in-Chain.ensures.shapes ∙ ap (λ ps. number_parts base (map draft_part ps)) c.deref.ensures.value)
+    ∙ sym (ap (numbered base) (ap tree_of_draft c.in-Chain.is ∙ drafted.chain_is parts) ∙ chain_numbered base (map draft_part parts.items))
+
+pub numbered-returns-in_ok-parts-in-Chain-clause-leaves : goal.numbered-returns-in_ok-parts-in-Chain-clause-leaves
+numbered-returns-in_ok-parts-in-Chain-clause-leaves t c =
+    let parts = c.in-Chain.parts in
+    subst (λ (os : List Occurrence). HasNumbered c.args.schema.now os c.args.list.now.items c.numbered_parts.new.list.items)
+    (ap (λ ps. flat_map occurrences_of_part (map draft_part ps)) c.deref.ensures.value
+    ∙ sym (ap occurrences (ap tree_of_draft c.in-Chain.is ∙ drafted.chain_is parts) ∙ chain_occurrences (map draft_part parts.items)))
+    c.in_ok-parts-in-Chain.ensures.leaves
+
+pub numbered-returns-in_ok-choices-in-Either-clause-shape : goal.numbered-returns-in_ok-choices-in-Either-clause-shape
+numbered-returns-in_ok-choices-in-Either-clause-shape t c =
+    let base = length c.args.list.now.items in
+    let choices = c.in-Either.choices in
+    choices_are c.in_ok-choices-in-Either.choices
+    ∙ ap choice_of (c.in_ok-choices-in-Either.ensures.shapes ∙ ap (λ ds. number_each base (map tree_of_draft ds)) c.deref-in-Either.ensures.value)
+    ∙ sym (ap (numbered base) (ap tree_of_draft c.in-Either.is ∙ drafted.choices_are choices) ∙ choice_numbered base (map tree_of_draft choices.items))
+
+pub numbered-returns-in_ok-choices-in-Either-clause-leaves : goal.numbered-returns-in_ok-choices-in-Either-clause-leaves
+numbered-returns-in_ok-choices-in-Either-clause-leaves t c =
+    let choices = c.in-Either.choices in
+    subst (λ (os : List Occurrence). HasNumbered c.args.schema.now os c.args.list.now.items c.numbered_each.new.list.items)
+    (ap (λ ds. flat_map occurrences (map tree_of_draft ds)) c.deref-in-Either.ensures.value
+    ∙ sym (ap occurrences (ap tree_of_draft c.in-Either.is ∙ drafted.choices_are choices) ∙ choice_occurrences (map tree_of_draft choices.items)))
+    c.in_ok-choices-in-Either.ensures.leaves

@@ -12,7 +12,7 @@ returns-clause-list c =
     let none = subst (AreMadeOf schema []) (sym c.new-list.ensures.items) tt in
     leaves_made schema (occurrences (tree_of c.args.query.now)) c.of.result
     (subst (AreMadeOf schema (occurrences (tree_of c.args.query.now))) (sym c.of.ensures)
-    (subst (λ (t : LeafTree Occurrence). AreMadeOf schema (occurrences t) c.numbered.new.list.items) c.in_ok-draft.ensures (c.in_ok-shape.ensures.list [] none)))
+    (subst (λ (t : LeafTree Occurrence). AreMadeOf schema (occurrences t) c.numbered.new.list.items) c.in_ok-draft.ensures (c.in_ok-shape.ensures.leaves.list [] none)))
 
 pub returns-clause-lawful : goal.returns-clause-lawful
 returns-clause-lawful c checked =
@@ -21,7 +21,7 @@ returns-clause-lawful c checked =
     lawful schema c.args.query.now (record { list = c.of.result; shape = c.in_ok-shape.shape; strict = c.args.query.now.strict }) checked
     (c.in_ok-shape.ensures.shape ∙ ap₂ (λ n t. numbered n t) (ap length c.new-list.ensures.items) c.in_ok-draft.ensures)
     (subst (AreMadeOf schema (occurrences (tree_of c.args.query.now))) (sym c.of.ensures)
-    (subst (λ (t : LeafTree Occurrence). AreMadeOf schema (occurrences t) c.numbered.new.list.items) c.in_ok-draft.ensures (c.in_ok-shape.ensures.list [] none)))
+    (subst (λ (t : LeafTree Occurrence). AreMadeOf schema (occurrences t) c.numbered.new.list.items) c.in_ok-draft.ensures (c.in_ok-shape.ensures.leaves.list [] none)))
 
 pub returns-clause-numbered : goal.returns-clause-numbered
 returns-clause-numbered c =
@@ -30,4 +30,4 @@ returns-clause-numbered c =
     numbered_leaves schema c.args.query.now (record { list = c.of.result; shape = c.in_ok-shape.shape; strict = c.args.query.now.strict })
     (c.in_ok-shape.ensures.shape ∙ ap₂ (λ n t. numbered n t) (ap length c.new-list.ensures.items) c.in_ok-draft.ensures)
     (subst (AreMadeOf schema (occurrences (tree_of c.args.query.now))) (sym c.of.ensures)
-    (subst (λ (t : LeafTree Occurrence). AreMadeOf schema (occurrences t) c.numbered.new.list.items) c.in_ok-draft.ensures (c.in_ok-shape.ensures.list [] none)))
+    (subst (λ (t : LeafTree Occurrence). AreMadeOf schema (occurrences t) c.numbered.new.list.items) c.in_ok-draft.ensures (c.in_ok-shape.ensures.leaves.list [] none)))

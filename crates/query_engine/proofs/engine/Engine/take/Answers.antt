@@ -8,6 +8,7 @@ use Rattle.query_part.specs.Parts.{seen}
 use Rattle.query_engine.proofs.Keeping.{running, keeping, kept_back, state_back}
 use Rattle.query_engine.proofs.Taking.{took, can_take, took_running, took_stands, took_cursors, took_same, took_growth, took_unread, took_peak, steps_within, steps_wanted}
 use Rattle.query_engine.proofs.Added.{took_added}
+use Rattle.query_engine.proofs.Keys.{took_keys}
 use Rattle.query_engine.proofs.Growth.{same_queries}
 use Rattle.query_engine.proofs.Named.{noted_same}
 use Rattle.query_engine.proofs.Watched.{goes, read_marked, unread_marked, watching_same, room_there, rooms_there, as_many_sets}
@@ -132,6 +133,14 @@ returns-in-Ok-clause-added g c =
     let is = with_items_is c.self.inside.parts c.see.new.parts long in
     let t = took c.self.inside.schema c.self.inside.count c.self.inside.parts.items c.as_mut_slice-parts.result.now c.self.inside.peaks.items c.args.self.now c.args.event.now c.see.new.parts new c.self.view_is c.self.invariant.0 c.requires.in_time c.as_mut_slice-parts.ensures.value c.in-Ok.ensures.grown c.in-Ok.ensures.idle c.in-Ok.ensures.quiet c.in-Ok.ensures.stands is in
     took_added c.self.inside.schema c.self.inside.count (map (seen c.self.inside.count) c.self.inside.parts.items) c.self.inside.peaks.items c.args.event.now (map (seen (c.self.inside.count + 1)) new) t c.args.self.now c.self.view_is
+
+pub returns-in-Ok-clause-keys : goal.returns-in-Ok-clause-keys
+returns-in-Ok-clause-keys g c =
+    let long : length c.see.new.parts ≡ c.self.inside.parts.len = (let e = c.as_mut_slice-parts.ensures.len in let f = c.see.auto.parts in omega arith) in
+    let new = (with_items c.self.inside.parts c.see.new.parts).items in
+    let is = with_items_is c.self.inside.parts c.see.new.parts long in
+    let t = took c.self.inside.schema c.self.inside.count c.self.inside.parts.items c.as_mut_slice-parts.result.now c.self.inside.peaks.items c.args.self.now c.args.event.now c.see.new.parts new c.self.view_is c.self.invariant.0 c.requires.in_time c.as_mut_slice-parts.ensures.value c.in-Ok.ensures.grown c.in-Ok.ensures.idle c.in-Ok.ensures.quiet c.in-Ok.ensures.stands is in
+    took_keys c.self.inside.schema c.self.inside.count (map (seen c.self.inside.count) c.self.inside.parts.items) c.self.inside.peaks.items c.args.event.now (map (seen (c.self.inside.count + 1)) new) t c.args.self.now c.self.view_is
 
 pub returns-in-Ok-clause-steps : goal.returns-in-Ok-clause-steps
 returns-in-Ok-clause-steps g c =

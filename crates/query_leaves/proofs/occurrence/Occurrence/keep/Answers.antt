@@ -1,7 +1,7 @@
 use Rattle.std.proofs.Common.{◌≡◌, ap, ◌∙◌, ℕ, List, map, Bor}
 use Rattle.std.specs.Prelude.{reverse}
 use Rattle.cel_terms.specs.Meaning.{lists_name, only_names}
-use Rattle.query_leaves.specs.Expand.{Occurrence, rename_leaf}
+use Rattle.query_leaves.specs.Expand.{rename_leaf}
 use Rattle.query_leaves.proofs.Changes.{kept_reversed}
 use Rattle.query_leaves.proofs.occurrence.Occurrence.keep.Goals as goal
 

@@ -1,8 +1,8 @@
-use Rattle.std.proofs.Common.{◌≡◌, ap, sym, ◌∙◌, ℕ, List, [], ◌∷◌, map, cond, true, false, Bor}
+use Rattle.std.proofs.Common.{◌≡◌, ap, sym, ◌∙◌, ℕ, List, ◌∷◌, map, cond, true, false, Bor}
 use Rattle.std.specs.Prelude.{reverse}
 use Rattle.cel_terms.specs.declared.Pred.{Pred}
 use Rattle.cel_terms.specs.Meaning.{lists_name}
-use Rattle.query_leaves.specs.Expand.{Occurrence, test_leaf}
+use Rattle.query_leaves.specs.Expand.{test_leaf}
 use Rattle.query_leaves.proofs.Changes.{one_more_last, lists_reversed}
 use Rattle.query_leaves.proofs.occurrence.Occurrence.test.Goals as goal
 

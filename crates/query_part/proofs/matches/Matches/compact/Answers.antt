@@ -27,5 +27,5 @@ returns-clause-nodes g c =
     let rows = ap (map (λ (l : Lists). l.active.entries)) items ∙ c.look_over-self-inside.ensures.rows in
     let ws = map g.C.HasCursor.walk c.args.cursors.now in let vs = map g.C.HasCursor.walk c.compact.new.cursors in
     let left = rw (to_z-of_z w128 c.args.low c.ranges.low) at c.compact.ensures.nodes in
-    subst (λ (rs : List Rows). Compacted (least_of c.args.query c.args.low ws) c.args.self.now.nodes c.compact.new.store (roots_of c.args.query rs vs)) (sym rows)
-    (subst (λ (ns : List Node). Compacted (least_of c.args.query c.args.low ws) ns c.compact.new.store (roots_of c.args.query (map (λ (l : Lists). l.active.entries) c.compact.new.keys) vs)) (ap (λ (h : Held). h.nodes) c.self.view_is) left)
+    subst (λ (rs : List Rows). Compacted (least_of c.args.query c.args.low ws) c.args.self.now.nodes c.compact.new.store.nodes (roots_of c.args.query rs vs)) (sym rows)
+    (subst (λ (ns : List Node). Compacted (least_of c.args.query c.args.low ws) ns c.compact.new.store.nodes (roots_of c.args.query (map (λ (l : Lists). l.active.entries) c.compact.new.keys) vs)) (ap (λ (h : Held). h.nodes) c.self.view_is) left)

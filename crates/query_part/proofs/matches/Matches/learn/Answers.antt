@@ -25,5 +25,5 @@ pub returns-then-is_unchanged : goal.returns-then-is_unchanged
 returns-then-is_unchanged c =
     let less = c.requires.inside in
     let inside : c.args.number < length c.self.inside.lists.items = (let l = rows_length _ c.self.inside.lists.items c.args.self.now.rows (ap (λ (h : Held). h.rows) c.self.view_is) in omega arith) in
-    let view : List Rows → Held = λ rows. record { table = c.self.inside.det; nodes = c.self.inside.store; keys = c.self.inside.keys; rows = rows } in
+    let view : List Rows → Held = λ rows. record { table = c.self.inside.det; nodes = c.self.inside.store.nodes; keys = c.self.inside.keys; rows = rows } in
     ap view (rows_set c.self.inside.lists.items c.args.number c.index_mut.result.now c.learn.new.self inside (c.learn.ensures.rows ∙ ap (λ (l : Lists). l.active.entries) c.index_mut.ensures.value)) ∙ c.self.view_is

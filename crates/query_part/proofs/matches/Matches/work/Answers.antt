@@ -24,7 +24,7 @@ cut_to-requires g c =
     let b = c.requires.begun in
     let takes = subst (TakesKey b.before b.key) (sym c.self.view_is) b.takes in
     let same = same_before b.before _ b.key takes (c.self.invariant.0 ∙ sym (length_map _ c.self.inside.lists.items)) in
-    can_cut c.args.sizes.now b.key b.before _ b.are same takes _ c.args.bits.now c.prepare.new.det c.prepare.ensures.det c.prepare.new.store c.prepare.ensures.grows.more c.prepare.ensures.grows.appended (sound_mid b.before _ b.key takes b.sound)
+    can_cut c.args.sizes.now b.key b.before _ b.are same takes _ c.args.bits.now c.prepare.new.det c.prepare.ensures.det c.prepare.new.store.nodes c.prepare.ensures.grows.more c.prepare.ensures.grows.appended (sound_mid b.before _ b.key takes b.sound)
 
 pub returns-in-Ok-clause-ready : goal.returns-in-Ok-clause-ready
 returns-in-Ok-clause-ready g c b =
@@ -55,13 +55,13 @@ returns-in-Ok-clause-sizes g c = (
   λ b. (
       let takes = subst (TakesKey b.before b.key) (sym c.self.view_is) b.takes in
       let same = same_before b.before _ b.key takes (c.self.invariant.0 ∙ sym (length_map _ c.self.inside.lists.items)) in
-      cut_back c.args.sizes.now b.key b.before _ b.are same takes _ c.args.bits.now c.prepare.new.det c.prepare.ensures.det c.prepare.new.store c.prepare.ensures.grows.more c.prepare.ensures.grows.appended
+      cut_back c.args.sizes.now b.key b.before _ b.are same takes _ c.args.bits.now c.prepare.new.det c.prepare.ensures.det c.prepare.new.store.nodes c.prepare.ensures.grows.more c.prepare.ensures.grows.appended
       ),
   (
       let b = c.requires.begun in
       let takes = subst (TakesKey b.before b.key) (sym c.self.view_is) b.takes in
       let same = same_before b.before _ b.key takes (c.self.invariant.0 ∙ sym (length_map _ c.self.inside.lists.items)) in
-      can_cut c.args.sizes.now b.key b.before _ b.are same takes _ c.args.bits.now c.prepare.new.det c.prepare.ensures.det c.prepare.new.store c.prepare.ensures.grows.more c.prepare.ensures.grows.appended (sound_mid b.before _ b.key takes b.sound)
+      can_cut c.args.sizes.now b.key b.before _ b.are same takes _ c.args.bits.now c.prepare.new.det c.prepare.ensures.det c.prepare.new.store.nodes c.prepare.ensures.grows.more c.prepare.ensures.grows.appended (sound_mid b.before _ b.key takes b.sound)
       ),
 )
 
@@ -69,7 +69,7 @@ pub returns-in-Err-clause-refused : goal.returns-in-Err-clause-refused
 returns-in-Err-clause-refused g c b =
     let takes = subst (TakesKey b.before b.key) (sym c.self.view_is) b.takes in
     let same = same_before b.before _ b.key takes (c.self.invariant.0 ∙ sym (length_map _ c.self.inside.lists.items)) in
-    c.cut_to.ensures ∙ cut_back c.args.sizes.now b.key b.before _ b.are same takes _ c.args.bits.now c.prepare.new.det c.prepare.ensures.det c.prepare.new.store c.prepare.ensures.grows.more c.prepare.ensures.grows.appended
+    c.cut_to.ensures ∙ cut_back c.args.sizes.now b.key b.before _ b.are same takes _ c.args.bits.now c.prepare.new.det c.prepare.ensures.det c.prepare.new.store.nodes c.prepare.ensures.grows.more c.prepare.ensures.grows.appended
 
 pub returns-in-Ok-clause-worked : goal.returns-in-Ok-clause-worked
 returns-in-Ok-clause-worked g c b =
@@ -120,7 +120,7 @@ invariant_of-self g c =
       rest_later c.self.inside.det c.prepare.new.det _ c.args.bits.now c.self.inside.lists.items c.prepare.ensures.det c.self.invariant.1,
       c.self.invariant.2,
       c.note.ensures c.prepare.new.det still (λ quiet stays.
-          unchanged_rest c.self.inside.det c.prepare.new.det c.args.bits.now c.args.stamp c.self.inside.store c.prepare.new.store c.index.result.now.active.entries quiet c.sizes-sizes.ensures.sound can c.prepare.ensures.grows (subst (λ s. IsAdvancedBy c.prepare.new.det c.args.bits.now c.args.stamp c.self.inside.store (going_on c.args.low c.index.result.now.active.entries s) c.prepare.new.store (rows_after c.index.result.now.active.entries s)) stays c.in-Ok.ensures.advanced)),
+          unchanged_rest c.self.inside.det c.prepare.new.det c.args.bits.now c.args.stamp c.self.inside.store.nodes c.prepare.new.store.nodes c.index.result.now.active.entries quiet c.sizes-sizes.ensures.sound can c.prepare.ensures.grows (subst (λ s. IsAdvancedBy c.prepare.new.det c.args.bits.now c.args.stamp c.self.inside.store.nodes (going_on c.args.low c.index.result.now.active.entries s) c.prepare.new.store.nodes (rows_after c.index.result.now.active.entries s)) stays c.in-Ok.ensures.advanced)),
     )
 
 pub returns-in-Ok-clause-passed : goal.returns-in-Ok-clause-passed

@@ -10,7 +10,7 @@ use Rattle.query_standing.specs.Kept.{Part}
 use Rattle.arena_compact.specs.Roots.{places}
 use Rattle.query_part.proofs.Prepare.{idle_awake, inner_stands}
 use Rattle.query_part.proofs.Giving.{low_is}
-use Rattle.query_part.proofs.Compacting.{part_lists, Left, part_compacted, part_stands, part_fewer}
+use Rattle.query_part.proofs.Compacting.{part_lists, Left, GivenUp, part_compacted, part_stands, part_fewer}
 use Rattle.query_part.proofs.part.Part.compact.Goals as goal
 
 pub compact-requires-clause-well_formed : goal.compact-requires-clause-well_formed
@@ -39,7 +39,7 @@ compact-requires-clause-room g c =
 
 pub invariant_of-self : goal.invariant_of-self
 invariant_of-self g c =
-    let m = c.self.invariant.0 in let same = c.compact.ensures.same.0 in (
+    let m = c.self.invariant.0 in let same = c.give_up-self-inside.ensures.same.0 ∙ c.compact.ensures.same.0 in (
       record {
         types = m.types;
         keys = m.keys;
@@ -73,7 +73,8 @@ returns-clause-stands g c =
       lists = c.compact.ensures.lists;
       cursors = record { count = m ∙ (c.compact.ensures.count ∙ sym n); each = λ k d lt. c.compact.ensures.cursors k d (omega arith) };
     } in
-    λ events stands. part_stands c.self.inside.schema.value c.self.inside.query c.self.inside.matches c.compact.new.self c.self.inside.clock.last c.self.inside.here c.args.self.now c.args.number (to_z w128 (of_z w128 c.low-low.result)) (map f c.args.cursors.now) (map f c.compact.new.cursors) i low left events (inner_stands c.self.inside.schema.value c.self.inside.query c.self.inside.matches c.self.inside.clock.last c.self.inside.here c.args.self.now i events stands)
+    let given : GivenUp c.compact.new.self c.self.inside.here c.give_up-self-inside.new.self c.give_up-self-inside.result = record { same = c.give_up-self-inside.ensures.same; given = c.give_up-self-inside.ensures.given; have = c.give_up-self-inside.ensures.have } in
+    λ events stands. part_stands c.self.inside.schema.value c.self.inside.query c.self.inside.matches c.compact.new.self c.self.inside.clock.last c.self.inside.here c.args.self.now c.args.number (to_z w128 (of_z w128 c.low-low.result)) (map f c.args.cursors.now) (map f c.compact.new.cursors) i low left c.give_up-self-inside.new.self c.give_up-self-inside.result given events (inner_stands c.self.inside.schema.value c.self.inside.query c.self.inside.matches c.self.inside.clock.last c.self.inside.here c.args.self.now i events stands)
 
 pub returns-clause-compacted : goal.returns-clause-compacted
 returns-clause-compacted g c =
@@ -88,7 +89,9 @@ returns-clause-compacted g c =
       lists = c.compact.ensures.lists;
       cursors = record { count = m ∙ (c.compact.ensures.count ∙ sym n); each = λ k d lt. c.compact.ensures.cursors k d (omega arith) };
     } in
-    part_compacted c.self.inside.schema.value c.self.inside.query c.self.inside.matches c.compact.new.self c.self.inside.clock.last c.self.inside.here c.args.self.now c.args.number (to_z w128 (of_z w128 c.low-low.result)) (map f c.args.cursors.now) (map f c.compact.new.cursors) i low left
+    let given : GivenUp c.compact.new.self c.self.inside.here c.give_up-self-inside.new.self c.give_up-self-inside.result = record { same = c.give_up-self-inside.ensures.same; given = c.give_up-self-inside.ensures.given; have = c.give_up-self-inside.ensures.have } in
+    let e = c.requires.events in
+    part_compacted c.self.inside.schema.value c.self.inside.query c.self.inside.matches c.compact.new.self c.self.inside.clock.last c.self.inside.here c.args.self.now c.args.number (to_z w128 (of_z w128 c.low-low.result)) (map f c.args.cursors.now) (map f c.compact.new.cursors) i low left c.give_up-self-inside.new.self c.give_up-self-inside.result given e.events (inner_stands c.self.inside.schema.value c.self.inside.query c.self.inside.matches c.self.inside.clock.last c.self.inside.here c.args.self.now i e.events e.stands)
 
 pub returns-clause-fewer : goal.returns-clause-fewer
 returns-clause-fewer g c =
@@ -103,7 +106,8 @@ returns-clause-fewer g c =
       lists = c.compact.ensures.lists;
       cursors = record { count = m ∙ (c.compact.ensures.count ∙ sym n); each = λ k d lt. c.compact.ensures.cursors k d (omega arith) };
     } in
-    part_fewer c.self.inside.schema.value c.self.inside.query c.self.inside.matches c.compact.new.self c.self.inside.clock.last c.self.inside.here c.args.self.now c.args.number (to_z w128 (of_z w128 c.low-low.result)) (map f c.args.cursors.now) (map f c.compact.new.cursors) i low left
+    let given : GivenUp c.compact.new.self c.self.inside.here c.give_up-self-inside.new.self c.give_up-self-inside.result = record { same = c.give_up-self-inside.ensures.same; given = c.give_up-self-inside.ensures.given; have = c.give_up-self-inside.ensures.have } in
+    part_fewer c.self.inside.schema.value c.self.inside.query c.self.inside.matches c.compact.new.self c.self.inside.clock.last c.self.inside.here c.args.self.now c.args.number (to_z w128 (of_z w128 c.low-low.result)) (map f c.args.cursors.now) (map f c.compact.new.cursors) i low left c.give_up-self-inside.new.self c.give_up-self-inside.result given
 
 pub returns-clause-steps : goal.returns-clause-steps
 returns-clause-steps g c =

@@ -1,0 +1,107 @@
+-- How many keys an event adds to an engine's queries, and how many a compaction leaves.
+use Rattle.std.proofs.Common.{◌≡◌, ℕ, zero, suc, ◌+◌, ◌-◌, ◌≤◌, inl, inr, ℤ, List, [], ◌∷◌, ◌++◌, map, length, refl, sym, ap, subst, ◌∙◌, All, Option, Some, slice_get, arith}
+use Rattle.std.specs.Prelude.{◌≤ℤ◌}
+use Rattle.std.specs.Option.{option_map_or}
+use Rattle.std.specs.List.{AllZip}
+use Rattle.std.proofs.lemmas.Int.{ints}
+use Rattle.std.proofs.lemmas.List.Elements.{All-head, All-tail, All-weaker}
+use Rattle.stream_schema.specs.Types.{Declared}
+use Rattle.stream_schema.specs.declared.Event.{Event}
+use Rattle.cel_terms.specs.declared.Query.{Query}
+use Rattle.arena_compact.specs.Compacted.{least_of}
+use Rattle.tecs_enumerate.specs.Rest.{CursorState}
+use Rattle.query_standing.specs.Clocks.{Reads}
+use Rattle.query_standing.specs.Kept.{Part, PartStands, low_at}
+use Rattle.all_or_none.specs.Phases.{Phase, HasGrown}
+use Rattle.query_engine.specs.Engine.{State, Open, StandsFor, kept_of, starts_from, MayStartAt}
+use Rattle.query_engine.specs.Running.{IsRunning, raised}
+use Rattle.query_engine.specs.Compacting.{IsTrimmed, IsLeft, IsCompacted, AreTrimmed}
+use Rattle.query_engine.specs.Keys.{keys_of, IsWithin, IsReadSince, HasAddedKeys, KeysFollowWindow}
+use Rattle.query_engine.proofs.Standing.{state}
+use Rattle.query_engine.proofs.Taking.{Took}
+use Rattle.query_engine.proofs.Settled.{settled_stands, settled_left}
+use Rattle.query_engine.proofs.FewKeys.{keys_few}
+use Rattle.query_engine.proofs.Windows.{least_is, own_low, part_of_query}
+
+-- how many keys the part at a place has
+abbrev keys_there : List Phase → ℕ → ℕ
+keys_there parts k = option_map_or (λ (p : Part). length p.keys) (slice_get (map (λ (p : Phase). p.kept) parts) k) 0
+
+-- AN EVENT
+
+few_there : (event : Event) (old new : List Phase) (k : ℕ) → AllZip (HasGrown event) old new → keys_there new k ≤ keys_there old k + 1
+few_there event [] [] k z = omega arith
+few_there event [] (n ∷ new) k z = absurd z
+few_there event (o ∷ old) [] k z = absurd z
+few_there event (o ∷ old) (n ∷ new) zero z = z.0.grows.key
+few_there event (o ∷ old) (n ∷ new) (suc k) z = few_there event old new k z.1
+
+none_there : (schema : Declared) (event : Event) (old new : List Phase) (k : ℕ) (q : Query) → AllZip (HasGrown event) old new → All (λ (p : Phase). p.schema ≡ schema) old → slice_get (map (λ (p : Phase). p.query) old) k ≡ Some q → (Reads schema q event → ⊥) → keys_there new k ≡ keys_there old k
+none_there schema event [] [] k q z schemas at unread = refl
+none_there schema event [] (n ∷ new) k q z schemas at unread = absurd z
+none_there schema event (o ∷ old) [] k q z schemas at unread = absurd z
+none_there schema event (o ∷ old) (n ∷ new) zero q z schemas at unread =
+    let is : o.query ≡ q = cc in
+    let schema_is = All-head (λ (p : Phase). p.schema ≡ schema) o old schemas in
+    z.0.grows.no_key (λ r. unread (subst (λ y. Reads schema y event) is (subst (λ s. Reads s o.query event) schema_is r)))
+none_there schema event (o ∷ old) (n ∷ new) (suc k) q z schemas at unread = none_there schema event old new k q z.1 (All-tail (λ (p : Phase). p.schema ≡ schema) o old schemas) at unread
+
+module _ (schema : Declared) (count : ℕ) (old : List Phase) (ps : List ℕ) (event : Event) (new : List Phase) (t : Took schema count old ps event new) (s : State) (is : state schema count old ps ≡ s) where
+  few_on : (query : ℕ) → keys_of (state schema (count + 1) new ps) query ≤ keys_of s query + 1
+  unfolding keys_of
+  few_on query = subst (λ (z : State). keys_of (state schema (count + 1) new ps) query ≤ keys_of z query + 1) is (few_there event old new (query - 1) t.grown)
+
+  none_on : (k : ℕ) (q : Query) → slice_get s.queries k ≡ Some q → (Reads s.schema q event → ⊥) → keys_of (state schema (count + 1) new ps) (k + 1) ≡ keys_of s (k + 1)
+  unfolding keys_of
+  none_on = subst (λ (z : State). (k : ℕ) (q : Query) → slice_get z.queries k ≡ Some q → (Reads z.schema q event → ⊥) → keys_of (state schema (count + 1) new ps) (k + 1) ≡ keys_of z (k + 1)) is (λ k q at unread.
+      (let here : k ≡ k + 1 - 1 = omega arith in none_there schema event old new (k + 1 - 1) q t.grown t.running.schemas (subst (λ i. slice_get (map (λ (p : Phase). p.query) old) i ≡ Some q) here at) unread))
+
+  pub took_keys : HasAddedKeys s (state schema (count + 1) new ps) event
+  took_keys = record { few = few_on; unread = none_on }
+
+-- A COMPACTION
+
+module _ (engine : State) (events : List Event) (held : List Open) (k : ℕ) (q : Query) (part : Part) (stands : PartStands engine.schema q events part) (trimmed : IsTrimmed (k + 1) held q part) where
+  may_start : (x : ℕ) → IsReadSince engine.schema q events (least_of (k + 1) (low_at q part.clock) held) x → MayStartAt engine events held k q x
+  unfolding starts_from
+  may_start x r =
+      let low = low_at q part.clock in
+      let since = r.since in
+      record {
+        clock = r.clock;
+        has = r.has;
+        recent = elim (least_is (k + 1) low held) [
+          | inl own ↦ inl (own_low engine.schema q events part.clock x r.clock stands.clock stands.unread r.has (subst (λ (z : ℤ). z ≤ℤ r.clock) own since))
+          | inr one ↦ inr (one.0, one.1, one.2, subst (λ (z : ℤ). z ≤ℤ r.clock) one.3 since)
+        ];
+      }
+
+  keys_follow : IsWithin (MayStartAt engine events held k q) (length part.keys)
+  keys_follow =
+      let low = least_of (k + 1) (low_at q part.clock) held in
+      let few = keys_few engine.schema q events part low trimmed.recent stands trimmed.keys in
+      record {
+        positions = few.positions;
+        distinct = few.distinct;
+        each = All-weaker (IsReadSince engine.schema q events low) (MayStartAt engine events held k q) may_start few.positions few.each;
+        bounded = few.bounded;
+      }
+
+keys_are : (engine : State) (k : ℕ) (part : Part) → slice_get engine.parts k ≡ Some part → keys_of engine (k + 1) ≡ length part.keys
+unfolding keys_of
+keys_are engine k part at =
+    let number : k + 1 - 1 ≡ k = omega arith in
+    ap (λ (i : ℕ). option_map_or (λ (x : Part). length x.keys) (slice_get engine.parts i) 0) number ∙ ap (λ (o : Option Part). option_map_or (λ (x : Part). length x.keys) o 0) at
+
+left_keys : (engine : State) (events : List Event) (held : List Open) → StandsFor engine events → IsLeft engine held → KeysFollowWindow engine events held
+unfolding StandsFor
+left_keys engine events held stands left k q at =
+    let found = part_of_query (kept_of engine) events k q stands at in
+    subst (IsWithin (MayStartAt engine events held k q)) (sym (keys_are engine k found.0 found.1))
+    (keys_follow engine events held k q found.0 (stands.each k q found.0 at found.1) (left k q found.0 at found.1))
+
+module _ (schema : Declared) (count : ℕ) (old new : List Phase) (ps qs : List ℕ) (ws vs : List CursorState) (running : IsRunning schema count old ps) (z : AllZip IsCompacted old new) (peaks : qs ≡ raised ps old) (s : State) (is : state schema count old ps ≡ s) where
+  pub settled_keys : AreTrimmed (length old) vs new → (events : List Event) → StandsFor s events → KeysFollowWindow (state schema count new qs) events vs
+  settled_keys trimmed events stands =
+      left_keys (state schema count new qs) events vs (settled_stands schema count old new ps qs ws vs running z peaks s is events stands)
+      (settled_left schema count old new ps qs ws vs running z peaks s is trimmed)

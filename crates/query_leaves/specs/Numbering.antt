@@ -1,0 +1,32 @@
+-- How the leaves of a draft are numbered, part by part.
+-- Nobody needs to believe these; the public contracts speak of the tree of leaves alone.
+use Rattle.std.specs.Prelude.{◌≡◌, ℕ, ◌+◌, Bool, List, [], ◌∷◌, ◌++◌, length}
+use Rattle.stream_schema.specs.Types.{Declared}
+use Rattle.query_leaves.specs.declared.Leaf.{Leaf}
+use Rattle.query_leaves.specs.declared.ShapePart.{ShapePart, out-ShapePart}
+use Rattle.query_leaves.specs.LeafTree.{LeafTree}
+use Rattle.query_leaves.specs.Expand.{Occurrence}
+use Rattle.query_leaves.specs.Leaves.{occurrences, numbered}
+use Rattle.query_leaves.specs.Shapes.{tree_of_shape}
+use Rattle.query_leaves.specs.Tests.{AreMadeOf}
+
+-- The leaves of so many occurrences stand behind those before.
+pub record HasNumbered (schema : Declared) (os : List Occurrence) (before after : List Leaf) : Type 0 where
+  pub count : length after ≡ length before + length os
+  pub list : (earlier : List Occurrence) → AreMadeOf schema earlier before → AreMadeOf schema (earlier ++ os) after
+
+-- whether a part of a chain is tight, and its tree
+abbrev pub shape_part : ShapePart → Bool × LeafTree ℕ
+shape_part p = ((out-ShapePart p).tight, tree_of_shape (out-ShapePart p).part)
+
+abbrev pub occurrences_of_part : Bool × LeafTree Occurrence → List Occurrence
+occurrences_of_part p = occurrences p.1
+
+-- the leaves of the parts of a chain, and of choices, numbered from left to right
+abbrev pub number_parts : ℕ → List (Bool × LeafTree Occurrence) → List (Bool × LeafTree ℕ)
+number_parts base [] = []
+number_parts base (p ∷ ps) = (p.0, numbered base p.1) ∷ number_parts (base + length (occurrences p.1)) ps
+
+abbrev pub number_each : ℕ → List (LeafTree Occurrence) → List (LeafTree ℕ)
+number_each base [] = []
+number_each base (t ∷ ts) = numbered base t ∷ number_each (base + length (occurrences t)) ts

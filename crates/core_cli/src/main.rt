@@ -11,25 +11,31 @@ mod adapters;
 use adapters::{CountedWriter, SystemFiles};
 use cer_base::seed::Seed;
 use cer_base::steps::{Opening, Steps};
+use cer_outside::writing::put_all;
 use core_top::core_main;
+use fault_notes::{memory_note, usage_note};
 use std::alloc::Global;
 use std::env;
-use std::io::Write;
+use std::io::{ErrorKind, Write};
 use std::marker::Brand;
 use std::process::ExitCode;
 use std::random::RandomSource;
 use std::rt::Files;
 use std::sync::ledger::Ledger;
 
-/// The status where the words cannot be held.
+/// The status where the words ask for no command, as one that is not UTF-8 does.
+const USAGE: u8 = 2;
+
+/// The status where memory runs out.
 const OUT_OF_MEMORY: u8 = 7;
 
 fn main(rt: HostRuntime) -> ExitCode {
-    let Ok(all) = env::args(&rt) else {
-        return ExitCode::from(OUT_OF_MEMORY);
+    let all = match env::args(&rt) {
+        Ok(all) => all,
+        Err(error) => return without_words(rt.stderr(), error.kind()),
     };
     let Ok(words) = all.skip(1).collect::<Vec<String>>(rt.alloc()) else {
-        return ExitCode::from(OUT_OF_MEMORY);
+        return without_words(rt.stderr(), ErrorKind::OutOfMemory);
     };
     let out = rt.stdout();
     let notes = rt.stderr();
@@ -41,6 +47,17 @@ fn main(rt: HostRuntime) -> ExitCode {
         notes,
         Opening::new(&rt),
     ))
+}
+
+/// Writes why the words cannot be had, and gives the status for it.
+fn without_words<E: Write + Drop>(notes: E, why: ErrorKind) -> ExitCode {
+    let (status, note) = match why {
+        ErrorKind::InvalidData => (USAGE, usage_note()),
+        _ => (OUT_OF_MEMORY, memory_note()),
+    };
+    let mut notes = CountedWriter::new(notes);
+    let _ = put_all(&mut notes, note);
+    ExitCode::from(status)
 }
 
 /// A number from the system that nobody outside can know, or 0 where it gives none.

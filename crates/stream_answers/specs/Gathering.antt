@@ -1,5 +1,5 @@
 -- Lines that are gathered before they are written, and how a run stands meanwhile. Private clauses alone cite this file.
-use Rattle.std.specs.Prelude.{◌≡◌, ◌≢◌, ℕ, ◌≤◌, ◌⊎◌, List, [], ◌++◌, length, Option, Some, Result, Ok, Err}
+use Rattle.std.specs.Prelude.{◌≡◌, ◌≢◌, ℕ, ◌≤◌, ◌⊎◌, true, false, List, [], ◌++◌, length, Option, Some, Result, Ok, Err}
 use Rattle.cer_base.specs.declared.OrMemory.{OrMemory}
 use Rattle.cer_base.specs.declared.OrMemory.TheVariants.{Fault, Memory}
 use Rattle.cer_outside.specs.Causes.{Rose}
@@ -7,6 +7,7 @@ use Rattle.cer_outside.specs.Bytes.{TookAll, TookPart}
 use Rattle.stream_schema.specs.declared.Event.{Event}
 use Rattle.answer_text.specs.declared.Order.{Order}
 use Rattle.output_laws.specs.After.{IsOutputAfter}
+use Rattle.event_reader.specs.Lines.{has_line_feed, begins_with_end}
 use Rattle.event_reader.specs.Reading.{LineReader}
 use Rattle.query_engine.specs.Engine.{State, StandsFor}
 use Rattle.event_run.specs.declared.RunFault.{RunFault}
@@ -32,6 +33,10 @@ abbrev pub Passed : {T F : Type 0} → Option (List ℕ) → Option (List ℕ) �
 Passed before after held came now (Ok done) = PassesOn before after held came now []
 Passed before after held came now (Err (Fault f)) = TookPart before after (held ++ came)
 Passed before after held came now (Err Memory) = (rest : List ℕ) × PassesOn before after held came now rest
+
+-- Nothing is held, or the next line, one that is not empty, lies complete among the bytes that the reader has taken: it asks its source nothing for it.
+abbrev pub MayWait : List ℕ → List ℕ → Type 0
+MayWait held pending = (held ≡ []) ⊎ ((begins_with_end pending ≡ false) × (has_line_feed pending ≡ true))
 
 -- The engine stands for events, of which those after the earlier ones have their answers written or held; `lines` are those of the source, where it tells them.
 pub record Running (earlier : List Event) (a : Asked) (source : Option (List ℕ)) (reader : LineReader) (left before after : Option (List ℕ)) (held : List ℕ) (engine : State) : Type 0 where

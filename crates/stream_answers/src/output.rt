@@ -1,7 +1,6 @@
 //! The lines of a run, gathered and written.
 
 ghost use Rattle.std.specs.Prelude.{◌≡◌, ◌+◌, ◌-◌, ◌<◌, ◌⊎◌, ℕ, List, [], true, length, IsOk, OnOk, OnErr};
-ghost use Rattle.event_reader.specs.Lines.{has_line_feed};
 ghost use Rattle.stream_schema.specs.declared.Event.{Event};
 ghost use Rattle.cer_outside.specs.Bytes.{TookAll, TookPart};
 ghost use Rattle.cer_outside.specs.Causes.{HasCause, HasCauseOrMemory};
@@ -12,7 +11,7 @@ ghost use Rattle.answer_text.specs.Output.{AreBlocks};
 ghost use Rattle.answer_text.specs.Rows.{lines_of};
 ghost use Rattle.answer_blocks.specs.Counted.{HasRowsAt};
 ghost use Rattle.stream_answers.specs.Counting.{StepsPut};
-ghost use Rattle.stream_answers.specs.Gathering.{PassesOn, Passed};
+ghost use Rattle.stream_answers.specs.Gathering.{PassesOn, Passed, MayWait};
 
 use answer_blocks::{push_blocks, write_blocks};
 use answer_text::Order;
@@ -76,8 +75,7 @@ impl Output {
     ) -> Result<(), OrMemory<WriteFault>>
         requires seen { 0 < count_of engine.now }
         ensures lines { lines.new ≡ lines.old }
-        ensures waits { OnOk result ((self.new.held ≡ [])
-            ⊎ (has_line_feed lines.old.pending ≡ true)) }
+        ensures waits { OnOk result (MayWait self.new.held lines.old.pending) }
         ensures order { self.new.order ≡ self.old.order }
         ensures passed { (events : List Event) → StandsFor engine.now events → (bytes : List ℕ)
             × AreBlocks self.old.order engine.now.schema 1 engine.now.queries events
@@ -113,8 +111,7 @@ impl Output {
     /// line, which is not empty, is at hand.
     fn may_wait(&self, lines: &mut Lines) -> bool
         ensures lines { lines.new ≡ lines.old }
-        ensures waits { result ≡ true
-            → (self.now.held ≡ []) ⊎ (has_line_feed lines.old.pending ≡ true) }
+        ensures waits { result ≡ true → MayWait self.now.held lines.old.pending }
     {
         if self.held.is_empty() {
             return true;
@@ -173,8 +170,7 @@ impl Output {
     /// waits while the source is asked.
     pub fn settle<K: Sink>(&mut self, lines: &mut Lines, out: &mut K) -> Result<(), WriteFault>
         ensures lines { lines.new ≡ lines.old }
-        ensures waits { OnOk result ((self.new.held ≡ [])
-            ⊎ (has_line_feed lines.old.pending ≡ true)) }
+        ensures waits { OnOk result (MayWait self.new.held lines.old.pending) }
         ensures order { self.new.order ≡ self.old.order }
         ensures kept { OnOk result (PassesOn (K.taken out.old)
             (K.taken out.new) self.old.held [] self.new.held []) }

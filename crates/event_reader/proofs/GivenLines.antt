@@ -133,10 +133,11 @@ given_first r bytes left texts given =
     let before : take (length (unmarked given.lines)) (unmarked (given.lines ++ (to_come r left).texts)) ≡ unmarked given.lines = texts_before given.lines (to_come r left).texts in
     ap (λ t. take (length texts) t) all ∙ rw same at before
 
-pub cut_off : (r : LineReader) (bytes left after pending : List ℕ) (texts : List (List ℕ)) → HasRead r bytes left texts → r.ended ≡ false → has_line_feed pending ≡ false → r.pending ++ left ≡ pending ++ after → IsCutOff r.budget bytes after texts
-cut_off r bytes left after pending texts given open_ plain at = record {
+pub cut_off : (r : LineReader) (bytes left after pending : List ℕ) (texts : List (List ℕ)) → HasRead r bytes left texts → r.ended ≡ false → has_line_feed pending ≡ false → r.pending ++ left ≡ pending ++ after → length pending ≤ r.room → IsCutOff r.budget bytes after texts
+cut_off r bytes left after pending texts given open_ plain at room = record {
   taken = given.passed ++ pending;
   whole = given.whole ∙ ap (λ l. given.passed ++ l) at ∙ sym (append_assoc given.passed pending after);
+  within = (let before : length given.passed + r.room ≡ r.budget = given.measured in omega (arith, length-append given.passed pending, before, room));
   lines = ap unmarked (given.passed_lines open_ pending ∙ ap (λ l. given.lines ++ l) (ended_none pending plain) ∙ append-nil given.lines) ∙ given.texts_are;
   first = given_first r bytes left texts given;
 }

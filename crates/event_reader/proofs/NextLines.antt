@@ -88,12 +88,12 @@ next_full old new (Some before) (Some after) pending bytes texts result given op
 
 pub next_cut : (old new : LineReader) (before after : Option (List ℕ)) (pending bytes : List ℕ) (texts : List (List ℕ)) (result : Result Next LineFault) →
     HasGiven old bytes before texts → old.ended ≡ false → ReadsOn before after old.pending pending →
-    IsShort pending → new.budget ≡ old.budget → result ≡ Err ReadFault →
+    length pending ≤ old.room → IsShort pending → new.budget ≡ old.budget → result ≡ Err ReadFault →
     Follows new bytes after texts result
-next_cut old new None after pending bytes texts result given open_ reads short budget is = absurd given
-next_cut old new (Some before) None pending bytes texts result given open_ reads short budget is = absurd reads
-next_cut old new (Some before) (Some after) pending bytes texts result given open_ reads short budget is =
-    rw (is, budget) (cut_off old bytes before after pending texts given open_ short.plain (sym reads))
+next_cut old new None after pending bytes texts result given open_ reads room short budget is = absurd given
+next_cut old new (Some before) None pending bytes texts result given open_ reads room short budget is = absurd reads
+next_cut old new (Some before) (Some after) pending bytes texts result given open_ reads room short budget is =
+    rw (is, budget) (cut_off old bytes before after pending texts given open_ short.plain (sym reads) room)
 
 -- the file has ended: what is at hand is its last line, or there is none
 pub next_last : (old new : LineReader) (before after : Option (List ℕ)) (pending text bytes : List ℕ) (texts : List (List ℕ)) (next : Next) →

@@ -60,10 +60,11 @@ abbrev pub HasGiven : LineReader → List ℕ → Option (List ℕ) → List (Li
 HasGiven reader bytes None texts = ⊥
 HasGiven reader bytes (Some left) texts = HasRead reader bytes left texts
 
--- The texts are those of all lines that end among the bytes of the file that are no longer left, and the first ones of the file.
+-- The texts are those of all lines that end among the bytes of the file that are no longer left, which are within the budget, and the first ones of the file.
 pub record IsCutOff (budget : ℕ) (bytes left : List ℕ) (texts : List (List ℕ)) : Type 0 where
   pub taken : List ℕ
   pub whole : bytes ≡ taken ++ left
+  pub within : length taken ≤ budget
   pub lines : whole_lines taken ≡ texts
   pub first : take (length texts) (file_lines budget bytes).texts ≡ texts
 

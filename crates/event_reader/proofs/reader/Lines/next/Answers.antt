@@ -40,7 +40,7 @@ pub returns-in-Err-clause-lines : goal.returns-in-Err-clause-lines
 returns-in-Err-clause-lines g c = λ bytes texts given.
     next_cut (the_view c.self.inside) c.fault-in-Err.new.self _ _ c.seek.new.self.pending bytes texts c.fault-in-Err.result
     (subst (λ r. HasGiven r bytes (g.Q.Source.left c.args.source.now) texts) (sym c.self.view_is) given)
-    c.if-self.false c.seek.ensures.bytes c.in-Err.ensures.stop.0 (ap (λ (r : LineReader). r.budget) c.fault-in-Err.ensures.closed) c.fault-in-Err.ensures.answer
+    c.if-self.false c.seek.ensures.bytes c.seek.ensures.room c.in-Err.ensures.stop.0 (ap (λ (r : LineReader). r.budget) c.fault-in-Err.ensures.closed) c.fault-in-Err.ensures.answer
 
 pub returns-in-Ok-LineFeed-clause-took : goal.returns-in-Ok-LineFeed-clause-took
 returns-in-Ok-LineFeed-clause-took g c = λ bytes texts given.

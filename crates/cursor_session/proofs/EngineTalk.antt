@@ -83,7 +83,7 @@ module _ (schema : Declared) (queries : List Query) where
   talked (command.OpenAt query number) old new bytes s =
       let added : engine.with_cursor (without_numbers old) query s.answers ≡ without_numbers new =
       sym (ap without_numbers s.after ∙ ap (λ cursors. record { events = old.events; cursors = cursors }) (map-append unnumbered old.cursors _)) in
-      (_, refl, only (without_numbers old) (engine.with_cursor (without_numbers old) query s.answers) (without_numbers new) (engine.Begin query) engine.Done added (engine.Begun (without_numbers old) query s.q s.answers s.numbered s.are))
+      (_, refl, only (without_numbers old) (engine.with_cursor (without_numbers old) query s.answers) (without_numbers new) (engine.Begin query) engine.Done added (engine.Begun (without_numbers old) query s.q s.answers s.one s.numbered s.seen s.are))
   talked (command.Pull number n) old new bytes s =
       let cut : s.cursor.left ≡ take n s.cursor.left ++ drop n s.cursor.left = sym (take-append-drop n s.cursor.left) in
       let there = get_mapped unnumbered old.cursors s.place s.cursor s.at in

@@ -1,5 +1,5 @@
 -- Each call of an engine is a step of the machine. For callers of the crate too.
-use Rattle.std.proofs.Common.{◌≡◌, ℕ, zero, suc, ◌-◌, ◌<◌, ℤ, List, [], ◌∷◌, ◌++◌, map, length, get_or, refl, sym, ap, subst, ◌∙◌, Some, slice_get, slice_set, arith}
+use Rattle.std.proofs.Common.{◌≡◌, ℕ, zero, suc, ◌-◌, ◌<◌, ◌≤◌, ℤ, List, [], ◌∷◌, ◌++◌, map, length, get_or, refl, sym, ap, subst, ◌∙◌, Some, slice_get, slice_set, arith}
 use Rattle.std.specs.Prelude.{remove}
 use Rattle.std.specs.List.{AllZip}
 use Rattle.std.specs.List.Sorted.{IsPermutation}
@@ -11,7 +11,7 @@ use Rattle.cer_base.specs.declared.node.Stamp.{Stamp}
 use Rattle.cer_base.specs.Members.{Member}
 use Rattle.query_engine.specs.Clocks.{NoneFallsBack, IsFirstToFall}
 use Rattle.query_engine.specs.Holding.{answer_of}
-use Rattle.query_engine.specs.Engine.{State, Open, StandsFor, Fits, rest, KeepsCursors, IsKept}
+use Rattle.query_engine.specs.Engine.{State, Open, StandsFor, count_of, Fits, rest, KeepsCursors, IsKept}
 use Rattle.query_engine.specs.Machine.{OpenCursor, Machine, Command, Take, Begin, Pull, Drop, Compact, Done, Falls, Gives, NoneLeft, Wants, with_event, with_cursor, with_left, without_cursor, IsStep, Taken, Refused, Begun, Given, Ended, Dropped, Compacted, Wanted, IsCursor, IsMachine}
 
 -- TWO LISTS SIDE BY SIDE
@@ -95,15 +95,25 @@ want_is_step old new before after m command is same alike = (
   subst (λ (e : State). IsMachine e after m) (sym same) (subst (λ (held : List Open). IsMachine old held m) (sym alike) is),
 )
 
+-- an engine that took an event stands for some
+some_event : (engine : State) (events : List Event) → StandsFor engine events → 0 < count_of engine → 0 < length events
+unfolding StandsFor count_of
+some_event engine events stands seen = omega (arith, stands.count)
+
+-- the number of a cursor that fits is from 1
+from_one : (engine : State) (cursor : Open) (query : ℕ) → Fits engine cursor → cursor.query ≡ query → 1 ≤ query
+unfolding Fits
+from_one engine cursor query fits of = omega (arith, fits.0)
+
 pub cursor_is_step : (engine : State) (held : List Open) (m : Machine) (query : ℕ) (q : Query) (cursor : Open) → IsMachine engine held m →
-    slice_get engine.queries (query - 1) ≡ Some q → cursor.query ≡ query → Fits engine cursor → AreAnswersAt engine.schema q m.events (length m.events - 1) (map answer_of (rest engine cursor)) →
+    0 < count_of engine → slice_get engine.queries (query - 1) ≡ Some q → cursor.query ≡ query → Fits engine cursor → AreAnswersAt engine.schema q m.events (length m.events - 1) (map answer_of (rest engine cursor)) →
     (next : Machine) × IsStep engine.schema engine.queries m (Begin query) Done next × IsMachine engine (held ++ cursor ∷ []) next
-cursor_is_step engine held m query q cursor is at of fits answers =
+cursor_is_step engine held m query q cursor is seen at of fits answers =
     let given = map answer_of (rest engine cursor) in
     let new : OpenCursor = record { query = query; position = length m.events - 1; left = given } in
     let one : IsCursor engine cursor new = record { fits = fits; query = sym of; left = refl } in (
       with_cursor m query given,
-      Begun m query q given at answers,
+      Begun m query q given (from_one engine cursor query fits of) at (some_event engine m.events is.stands seen) answers,
       record { stands = is.stands; cursors = zip_push (IsCursor engine) held m.cursors cursor new is.cursors one },
     )
 

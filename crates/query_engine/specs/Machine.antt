@@ -1,5 +1,5 @@
 -- An engine and its open cursors as callers may think of them: the events so far, and of each cursor the answers that it has not given yet. This project's own.
-use Rattle.std.specs.Prelude.{◌≡◌, ℕ, ◌-◌, ◌<◌, ℤ, List, [], ◌∷◌, ◌++◌, length, map, get_or, remove, Some, slice_get, slice_set}
+use Rattle.std.specs.Prelude.{◌≡◌, ℕ, ◌-◌, ◌<◌, ◌≤◌, ℤ, List, [], ◌∷◌, ◌++◌, length, map, get_or, remove, Some, slice_get, slice_set}
 use Rattle.std.specs.List.{AllZip}
 use Rattle.std.specs.List.Sorted.{IsPermutation}
 use Rattle.stream_schema.specs.Types.{Declared}
@@ -10,7 +10,7 @@ use Rattle.cel_plain.specs.Valuations.{AreAnswersAt}
 use Rattle.cer_base.specs.declared.node.Stamp.{Stamp}
 use Rattle.query_engine.specs.Clocks.{NoneFallsBack, IsFirstToFall}
 use Rattle.query_engine.specs.Holding.{answer_of}
-use Rattle.query_engine.specs.Engine.{State, Open, StandsFor, Fits, rest, KeepsCursors, IsKept}
+use Rattle.query_engine.specs.Engine.{State, Open, StandsFor, count_of, Fits, rest, KeepsCursors, IsKept}
 
 -- an open cursor: its query's number, from 1, the position at which it was opened, and the answers that it has not given yet
 pub record OpenCursor : Type 0 where
@@ -52,11 +52,11 @@ with_left m k cursor answers = record m { cursors = slice_set m.cursors k (recor
 abbrev pub without_cursor : Machine → ℕ → Machine
 without_cursor m k = record m { cursors = remove m.cursors k }
 
--- What each command makes of it, and what is answered. A cursor that is begun is to give the answers of its query at the last position, each once; a pull gives one of them, which is then no longer left.
+-- What each command makes of it, and what is answered. A cursor is begun once an event was taken, with a number of a query, and is to give the answers of that query at the last position, each once; a pull gives one of them, which is then no longer left.
 pub data IsStep (schema : Declared) (queries : List Query) : Machine → Command → Reply → Machine → Type 0 where
   Taken : (m : Machine) (event : Event) → NoneFallsBack schema queries m.events event → IsStep schema queries m (Take event) Done (with_event m event)
   Refused : (m : Machine) (event : Event) (query : ℕ) (before now : ℤ) → IsFirstToFall schema queries m.events event query before now → IsStep schema queries m (Take event) (Falls query before now) m
-  Begun : (m : Machine) (query : ℕ) (q : Query) (answers : List Answer) → slice_get queries (query - 1) ≡ Some q → AreAnswersAt schema q m.events (length m.events - 1) answers →
+  Begun : (m : Machine) (query : ℕ) (q : Query) (answers : List Answer) → 1 ≤ query → slice_get queries (query - 1) ≡ Some q → 0 < length m.events → AreAnswersAt schema q m.events (length m.events - 1) answers →
       IsStep schema queries m (Begin query) Done (with_cursor m query answers)
   Given : (m : Machine) (k : ℕ) (cursor : OpenCursor) (answer : Answer) (others : List Answer) → slice_get m.cursors k ≡ Some cursor → IsPermutation cursor.left (answer ∷ others) →
       IsStep schema queries m (Pull k) (Gives answer) (with_left m k cursor others)
@@ -100,7 +100,7 @@ WantIsStep = (old new : State) (before after : List Open) (m : Machine) (command
 -- a cursor that is opened
 abbrev pub CursorIsStep : Type 0
 CursorIsStep = (engine : State) (held : List Open) (m : Machine) (query : ℕ) (q : Query) (cursor : Open) → IsMachine engine held m →
-    slice_get engine.queries (query - 1) ≡ Some q → cursor.query ≡ query → Fits engine cursor →
+    0 < count_of engine → slice_get engine.queries (query - 1) ≡ Some q → cursor.query ≡ query → Fits engine cursor →
     AreAnswersAt engine.schema q m.events (length m.events - 1) (map answer_of (rest engine cursor)) →
     (next : Machine) × IsStep engine.schema engine.queries m (Begin query) Done next × IsMachine engine (held ++ cursor ∷ []) next
 

@@ -11,7 +11,7 @@ use Rattle.arena_compact.specs.Roots.{places}
 use Rattle.query_standing.specs.Bounds.{update_bound}
 use Rattle.query_standing.specs.Kept.{Part, PartStands, KeptState, KeptStands}
 use Rattle.all_or_none.specs.Phases.{Phase}
-use Rattle.query_part.specs.Compacting.{HasStatesOnce}
+use Rattle.query_part.specs.Matches.{HasStatesOnce}
 use Rattle.query_engine.specs.Engine.{State, StandsFor, SameQueries, kept_of, found_of, len_of}
 use Rattle.query_engine.specs.Compacting.{places_of, compact_bounds}
 use Rattle.query_engine.specs.Counts.{MeetMost, HasFewNodes, compaction_bound}

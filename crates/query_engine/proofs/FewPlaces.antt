@@ -27,7 +27,7 @@ use Rattle.event_update.proofs.Resting.{list_member}
 use Rattle.arena_compact.specs.Roots.{places}
 use Rattle.query_standing.specs.Keys.{AreSeen, HasKeyAt}
 use Rattle.query_standing.specs.Kept.{Rows, Part, KeyIsKept, PartStands}
-use Rattle.query_part.specs.Compacting.{HasStatesOnce}
+use Rattle.query_part.specs.Matches.{HasStatesOnce}
 use Rattle.query_engine.proofs.Standing.{all_at}
 use Rattle.query_engine.proofs.Finite.{few}
 

@@ -7,7 +7,6 @@ use Rattle.stream_schema.specs.Types.{Declared}
 use Rattle.stream_schema.specs.declared.Event.{Event}
 use Rattle.all_or_none.specs.Phases.{Phase, IsIdle, IsQuiet, StandsAt}
 use Rattle.query_part.specs.Parts.{seen, woken, HasEvents}
-use Rattle.query_part.specs.Compacting.{HasStatesOnce}
 use Rattle.query_part.proofs.Fresh.{fresh_seen}
 use Rattle.query_engine.specs.Engine.{State, IsNumber}
 use Rattle.query_engine.specs.Running.{IsRunning, IsKeeping, IsFirst, raised}
@@ -140,11 +139,6 @@ state_back schema count old mut found raw ps s is mut_is raw_is same =
 pub woken_small : (count : ℕ) (parts : List Phase) (room : ℕ) → All (λ (p : Phase). length p.kept.nodes ≤ room) parts → All (λ (p : Phase). length p.kept.nodes ≤ room) (map (woken count) parts)
 woken_small count [] room h = All-nil (λ (p : Phase). length p.kept.nodes ≤ room)
 woken_small count (p ∷ parts) room h = All-cons (λ (x : Phase). length x.kept.nodes ≤ room) (woken count p) (map (woken count) parts) (All-head (λ (x : Phase). length x.kept.nodes ≤ room) p parts h) (woken_small count parts room (All-tail (λ (x : Phase). length x.kept.nodes ≤ room) p parts h))
-
--- settled parts have the same lists
-pub woken_once : (count : ℕ) (parts : List Phase) → All (λ (p : Phase). All HasStatesOnce p.kept.rows) parts → All (λ (p : Phase). All HasStatesOnce p.kept.rows) (map (woken count) parts)
-woken_once count [] h = All-nil (λ (p : Phase). All HasStatesOnce p.kept.rows)
-woken_once count (p ∷ parts) h = All-cons (λ (x : Phase). All HasStatesOnce x.kept.rows) (woken count p) (map (woken count) parts) (All-head (λ (x : Phase). All HasStatesOnce x.kept.rows) p parts h) (woken_once count parts (All-tail (λ (x : Phase). All HasStatesOnce x.kept.rows) p parts h))
 
 pub seen_queries : (count : ℕ) (parts : List Phase) → map (λ (p : Phase). p.query) (map (seen count) parts) ≡ map (λ (p : Phase). p.query) parts
 seen_queries count [] = refl

@@ -14,6 +14,7 @@ use Rattle.query_standing.specs.Kept.{Part, KeptStands}
 use Rattle.query_standing.specs.Bounds.{for_each_query}
 use Rattle.all_or_none.specs.Phases.{Phase, IsIdle, IsQuiet, StandsAt}
 use Rattle.query_part.specs.Parts.{seen, woken}
+use Rattle.query_part.specs.Matches.{HasStatesOnce}
 use Rattle.arena_compact.specs.Roots.{places}
 use Rattle.query_engine.specs.Engine.{State, StandsFor, kept_of, count_of, found_of, len_of, peak_of, Fits, rest, SameQueries, IsKept}
 use Rattle.query_engine.specs.Running.{IsRunning, IsKeeping, raised}
@@ -66,6 +67,13 @@ zip_fewer [] (n ∷ new) k z = absurd z
 zip_fewer (o ∷ old) [] k z = absurd z
 zip_fewer (o ∷ old) (n ∷ new) zero z = z.0.fewer
 zip_fewer (o ∷ old) (n ∷ new) (suc k) z = zip_fewer old new k z.1
+
+-- in no key's lists of a part that was compacted a state stood twice
+pub zip_once : (old new : List Phase) → AllZip IsCompacted old new → All (λ (p : Phase). All HasStatesOnce p.kept.rows) old
+zip_once [] [] z = All-nil (λ (p : Phase). All HasStatesOnce p.kept.rows)
+zip_once [] (n ∷ new) z = absurd z
+zip_once (o ∷ old) [] z = absurd z
+zip_once (o ∷ old) (n ∷ new) z = All-cons (λ (p : Phase). All HasStatesOnce p.kept.rows) o old z.0.once (zip_once old new z.1)
 
 -- the steps, summed over the parts or over the queries' numbers
 costs_same : (schema : Declared) (count : ℕ) (parts : List Phase) (ps : List ℕ) → compact_bounds (state schema count parts ps) ≡ sum_by cost parts

@@ -1,5 +1,5 @@
 -- What a compaction makes of an engine's parts and of the cursors that are held over it, and how many steps it takes.
-use Rattle.std.specs.Prelude.{◌≡◌, ℕ, ◌+◌, ◌-◌, ◌*◌, ◌<◌, ◌≤◌, ◌≤ℤ◌, Some, List, [], length, map, get_or, slice_get}
+use Rattle.std.specs.Prelude.{◌≡◌, ℕ, ◌+◌, ◌-◌, ◌*◌, ◌<◌, ◌≤◌, ◌≤ℤ◌, Some, List, [], length, map, get_or, All, slice_get}
 use Rattle.std.specs.Option.{option_map_or}
 use Rattle.stream_schema.specs.declared.Event.{Event}
 use Rattle.cel_terms.specs.declared.Query.{Query}
@@ -15,6 +15,7 @@ use Rattle.arena_compact.specs.Moves.{later}
 use Rattle.arena_compact.specs.Roots.{places}
 use Rattle.arena_compact.specs.Compacted.{least_of, roots_of}
 use Rattle.query_part.specs.Dropping.{HaveListsButOne}
+use Rattle.query_part.specs.Matches.{HasStatesOnce}
 use Rattle.query_part.specs.Parts.{HasEvents}
 use Rattle.query_engine.specs.Bounds.{for_each_query}
 use Rattle.query_engine.specs.Engine.{State, len_of}
@@ -37,7 +38,7 @@ pub record CanCompact (room : ℕ) (p : Phase) : Type 0 where
   pub events : HasEvents p
   pub enough : length p.kept.nodes ≤ room
 
--- The part of the same query is idle and stands for the same events, with the same states and no more nodes, also of those that start at a position or later.
+-- The part of the same query is idle and stands for the same events, with the same states and no more nodes, also of those that start at a position or later. No state stood twice in a key's lists.
 pub record IsCompacted (old new : Phase) : Type 0 where
   pub schema : new.schema ≡ old.schema
   pub query : new.query ≡ old.query
@@ -47,6 +48,7 @@ pub record IsCompacted (old new : Phase) : Type 0 where
   pub table : new.kept.table ≡ old.kept.table
   pub fewer : length new.kept.nodes ≤ length old.kept.nodes
   pub fewer_later : (position : ℕ) → later position new.kept.nodes ≤ later position old.kept.nodes
+  pub once : All HasStatesOnce old.kept.rows
 
 -- the nodes of the part of this number, from 1
 abbrev pub nodes_of : List Phase → ℕ → List Node

@@ -4,7 +4,6 @@ ghost use Rattle.std.specs.Prelude.{◌≡◌, ◌+◌, ◌≤◌, length, map, 
 ghost use Rattle.std.specs.List.{AllZip};
 ghost use Rattle.all_or_none.specs.Phases.{Phase, IsIdle};
 ghost use Rattle.query_part.specs.Parts.{woken};
-ghost use Rattle.query_part.specs.Compacting.{HasStatesOnce};
 ghost use Rattle.query_engine.specs.Compacting.{CanCompact, FitsPart, IsCompacted, AreTrimmed, AreCarried, cost};
 
 use crate::cursor::Cursor;
@@ -38,16 +37,6 @@ pub fn most_nodes(parts: &[Part]) -> u64
         most = parts[k].len().max(most);
     }
     most
-}
-
-/// No state stands twice in a key's lists of a part.
-pub fn states_once(parts: &[Part])
-    requires idle { All IsIdle parts.now }
-    ensures { All (λ (p : Phase). All HasStatesOnce p.kept.rows) parts.now }
-{
-    for k in 0..parts.len() {
-        parts[k].states_once();
-    }
 }
 
 /// Settles each part after so many events.

@@ -1,13 +1,10 @@
 -- What a compaction makes of what is kept of a query.
-use Rattle.std.proofs.Common.{◌≡◌, ℕ, zero, suc, ℤ, ◌+◌, ◌<◌, ◌≤◌, List, [], ◌∷◌, take, slice_index_or, length, All, Contains, Option, Some, refl, sym, ap, subst, ◌∙◌, slice_get, get_or, arith}
+use Rattle.std.proofs.Common.{◌≡◌, ℕ, zero, suc, ℤ, ◌≤◌, List, [], ◌∷◌, length, All, Contains, Option, Some, refl, sym, ap, subst, ◌∙◌, slice_get, get_or, arith}
 use Rattle.std.specs.Prelude.{◌≤ℤ◌, nat_le}
 use Rattle.std.proofs.Math.Dec.{leb-zero}
 use Rattle.std.proofs.lemmas.List.Recursion.{is_count_by}
 use Rattle.cer_base.specs.Fields.{max_of}
 use Rattle.std.proofs.lemmas.Option.{slice_get-get_or}
-use Rattle.std.proofs.lemmas.List.{take_more}
-use Rattle.std.proofs.lemmas.List.Elements.{All-nil, All-cons, All-append}
-use Rattle.query_part.specs.declared.lists.Lists.{Lists}
 use Rattle.stream_schema.specs.Types.{Declared}
 use Rattle.stream_schema.specs.declared.Event.{Event}
 use Rattle.stream_schema.specs.declared.Value.{Value}
@@ -25,7 +22,7 @@ use Rattle.arena_compact.proofs.Standing.{still_stand}
 use Rattle.arena_compact.proofs.Ends.{least_under}
 use Rattle.query_part.specs.Matches.{Held}
 use Rattle.query_part.specs.Parts.{part_of}
-use Rattle.query_part.specs.Compacting.{HasStatesOnce, CursorsCompacted, PartCompacted}
+use Rattle.query_part.specs.Compacting.{CursorsCompacted, PartCompacted}
 use Rattle.query_part.specs.Dropping.{HaveListsButOne}
 use Rattle.query_standing.specs.Giving.{AreGivenUp}
 use Rattle.query_standing.proofs.Giving.{part_gives_up}
@@ -143,9 +140,3 @@ module _ (schema : Declared) (q : Query) (h k : Held) (c : Option ℤ) (n : Opti
 
   pub part_fewer : (m : Held) (o : Option ℕ) → GivenUp k n m o → length m.nodes ≤ length p.kept.nodes
   part_fewer m o g = subst (λ (x : Part). length m.nodes ≤ length x.nodes) i.kept_is (subst (λ (ns : List Node). length ns ≤ length h.nodes) (sym g.same.1) (fewer_nodes (least_of number low ws) h.nodes k.nodes (roots_of number k.rows vs) left.nodes))
-
--- one key's lists more in which no state stands twice
-pub one_more_once : (ls : List Lists) (k : ℕ) (l : Lists) → k < length ls → HasStatesOnce (slice_index_or ls k l).active.entries → All (λ (x : Lists). HasStatesOnce x.active.entries) (take k ls) → All (λ (x : Lists). HasStatesOnce x.active.entries) (take (k + 1) ls)
-one_more_once ls k l less once h =
-    rw (take_more ls k l less) (All-append (λ (x : Lists). HasStatesOnce x.active.entries) (take k ls) (slice_index_or ls k l ∷ []) h
-    (All-cons (λ (x : Lists). HasStatesOnce x.active.entries) (slice_index_or ls k l) [] once (All-nil (λ (x : Lists). HasStatesOnce x.active.entries))))

@@ -20,7 +20,7 @@ still_passed (Some bits) f h = f bits h
 
 -- what is known of lists stays known as the table grows
 pub rest_later : (old new : Table) (from : List ℕ) (bits : List Bool) (ls : List Lists) → Discovers old from bits new → All (MayRest old) ls → All (MayRest new) ls
-rest_later old new from bits ls d h = All-weaker (MayRest old) (MayRest new) (λ l is. record { rest = λ known. resting_stay old new from bits l.active.entries d (is.rest known); passed = still_passed l.passed (λ leaves h. passed_stay old new from bits leaves l.active.entries d h) is.passed }) ls h
+rest_later old new from bits ls d h = All-weaker (MayRest old) (MayRest new) (λ l is. record { once = is.once; rest = λ known. resting_stay old new from bits l.active.entries d (is.rest known); passed = still_passed l.passed (λ leaves h. passed_stay old new from bits leaves l.active.entries d h) is.passed }) ls h
 
 -- other lists at a place
 pub noted_all : (P : Lists → Type 0) (ls : List Lists) (n : ℕ) (l : Lists) → All P ls → P l → All P (slice_set ls n l)

@@ -1,7 +1,5 @@
 -- What a compaction makes of what is kept of a query, and of the cursors that are held over it.
-use Rattle.std.specs.Prelude.{◌≡◌, ℕ, ◌<◌, ℤ, List, length, map, get_or, nat_eq}
-use Rattle.std.specs.List.{IsDistinct}
-use Rattle.cer_base.specs.declared.node.Root.{Root}
+use Rattle.std.specs.Prelude.{◌≡◌, ℕ, ◌<◌, ℤ, List, length, get_or}
 use Rattle.cer_base.specs.declared.node.Node.{Node}
 use Rattle.tecs_enumerate.specs.Rest.{CursorState}
 use Rattle.query_standing.specs.Kept.{Rows, Part}
@@ -24,7 +22,3 @@ pub record PartCompacted (query : ℕ) (low : ℤ) (old new : Part) (ws vs : Lis
   pub given : AreGivenUp old.keys kept old.here new.keys new.rows new.here
   pub have : HaveListsButOne new.rows
   pub cursors : CursorsCompacted query old.nodes new.nodes ws vs
-
--- no state stands twice in a key's lists
-abbrev pub HasStatesOnce : Rows → Type 0
-HasStatesOnce rows = IsDistinct nat_eq (map (λ (r : ℕ × List Root). r.0) rows)

@@ -1,5 +1,5 @@
 -- The open matches of a query, key by key, and what a key's event makes of them.
-use Rattle.std.specs.Prelude.{◌≡◌, ℕ, suc, ◌+◌, ℤ, ◌≤ℤ◌, ◌<◌, ◌≤◌, ◌⊎◌, Bool, true, false, if◌then◌else◌, List, [], ◌∷◌, ◌++◌, length, map, take, All, Contains, Option, Some, None, IfSome, slice_get, slice_index_or}
+use Rattle.std.specs.Prelude.{◌≡◌, ℕ, suc, ◌+◌, ℤ, ◌≤ℤ◌, ◌<◌, ◌≤◌, ◌⊎◌, Bool, true, false, if◌then◌else◌, List, [], ◌∷◌, ◌++◌, length, map, take, All, Contains, Option, Some, None, IfSome, slice_get, slice_index_or, nat_eq}
 use Rattle.std.specs.List.{IsDistinct}
 use Rattle.stream_schema.specs.declared.Value.{Value}
 use Rattle.cer_base.specs.declared.node.Stamp.{Stamp}
@@ -27,8 +27,13 @@ pub record Held : Type 0 where
   pub keys : List (List Value)
   pub rows : List Rows
 
--- Lists that are known to rest do, and events of the leaves that are known to pass them do.
+-- no state stands twice in a key's lists
+abbrev pub HasStatesOnce : Rows → Type 0
+HasStatesOnce rows = IsDistinct nat_eq (map (λ (r : ℕ × List Root). r.0) rows)
+
+-- In a key's lists no state stands twice. Lists that are known to rest do, and events of the leaves that are known to pass them do.
 pub record MayRest (t : Table) (l : Lists) : Type 0 where
+  pub once : HasStatesOnce l.active.entries
   pub rest : l.rests ≡ true → Rest t l.active.entries
   pub passed : IfSome l.passed (λ bits. ArePassed t bits l.active.entries)
 

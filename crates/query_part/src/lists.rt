@@ -6,7 +6,6 @@ ghost use Rattle.event_update.specs.ActiveLists.{keys};
 ghost use Rattle.event_update.specs.Still.{IsQuiet, IsAtRest, Rest, ArePassed};
 ghost use Rattle.event_update.specs.declared.Staged.TheVariants.{Unchanged};
 ghost use Rattle.event_update.specs.Update.{rows_after};
-ghost use Rattle.query_part.specs.Compacting.{HasStatesOnce};
 ghost use Rattle.query_part.specs.Matches.{MayRest, awake_in, AreStill};
 
 use arena_compact::HasLists;
@@ -63,12 +62,12 @@ impl Lists {
         }
     }
 
-    /// Nothing is known of them.
+    /// Nothing is known of them, but that they rest where there are none.
     fn forget(&mut self)
         ensures rows { self.new.active.entries ≡ self.old.active.entries }
         ensures rests { (t : Table) → MayRest t self.new }
     {
-        self.rests = false;
+        self.rests = self.active.len() == 0;
         self.passed = None;
     }
 
@@ -87,8 +86,8 @@ impl Lists {
         ensures rows { self.new.active.entries ≡ self.old.active.entries }
         ensures rests { (t : Table) → AreStill t still.now → MayRest t self.new }
     {
-        self.rests = are_still(&self.active, still);
-        self.passed = None;
+        self.forget();
+        self.look(still);
     }
 
     /// Notes that events of these leaves leave them as they are, where there is memory.
@@ -260,13 +259,4 @@ pub fn look_over(lists: &mut [Lists], still: &[bool]) -> u64
         }
     }
     awake
-}
-
-/// No state stands twice in a key's lists.
-pub fn states_once(lists: &[Lists])
-    ensures { All (λ l. HasStatesOnce l.active.entries) lists.now }
-{
-    for k in 0..lists.len() {
-        let _states = lists[k].active.len();
-    }
 }

@@ -18,11 +18,10 @@ ghost use Rattle.arena_compact.specs.Roots.{places};
 ghost use Rattle.arena_compact.specs.Compacted.{least_of, roots_of, Compacted, KeysCompacted, CursorCompacted};
 ghost use Rattle.query_standing.specs.Giving.{AreGivenUp};
 ghost use Rattle.query_part.specs.Dropping.{HaveListsButOne};
-ghost use Rattle.query_part.specs.Compacting.{HasStatesOnce};
-ghost use Rattle.query_part.specs.Matches.{Held, MayRest, awake_in, AreStill, HasKeyThere, HasBegun, MayPass, none_open, cut, CanCut, AreSizes, TakesKey, CanTake, IsReady, HasWorked, CanList, entries_for};
+ghost use Rattle.query_part.specs.Matches.{Held, HasStatesOnce, MayRest, awake_in, AreStill, HasKeyThere, HasBegun, MayPass, none_open, cut, CanCut, AreSizes, TakesKey, CanTake, IsReady, HasWorked, CanList, entries_for};
 
 use crate::dropping::{give_up_all, key_to_stay, number_of};
-use crate::lists::{Lists, is_unchanged, look_over, note, put_lists, states_once};
+use crate::lists::{Lists, is_unchanged, look_over, note, put_lists};
 use arena_compact::{HasCursor, Room, compact};
 use cea_determinise::cea::Cea;
 use cea_determinise::det::Det;
@@ -79,7 +78,6 @@ pub struct Matches {
 
 impl Model for Matches {
     ghost use Rattle.std.specs.Prelude.{◌≡◌, length, map, All};
-    ghost use Rattle.query_part.specs.Compacting.{HasStatesOnce};
     ghost use Rattle.query_part.specs.Matches.{Held, MayRest, awake_in, AreStill};
 
     ghost Value = { Held };
@@ -366,7 +364,8 @@ impl Matches {
     }
 
     /// Keeps of the nodes what the recent entries of the lists and the query's cursors need; a start
-    /// is recent where its clock is at least the least of `low` and these cursors' own. The room is for as many nodes as there are. It takes no memory.
+    /// is recent where its clock is at least the least of `low` and these cursors' own. The room is for
+    /// as many nodes as there are. It takes no memory. No state stood twice in a key's lists.
     pub fn compact<C: HasCursor, L: Ledger>(
         &mut self,
         query: u64,
@@ -391,6 +390,7 @@ impl Matches {
             (get_or (map C.walk cursors.old) k d) (get_or (map C.walk cursors.new) k d) }
         ensures count { length cursors.new ≡ length cursors.old }
         ensures room { room.new ≡ room.old }
+        ensures once { All HasStatesOnce self.old.rows }
         ensures steps { steps.new
             ≤ steps.old + 8 * length self.old.nodes + 4 * places self.old.rows }
     {
@@ -426,13 +426,6 @@ impl Matches {
         ensures { result ≡ length self.now.nodes }
     {
         self.store.len()
-    }
-
-    /// No state stands twice in a key's lists. It goes through the keys, and takes no step.
-    pub fn states_once(&self)
-        ensures { All HasStatesOnce self.now.rows }
-    {
-        states_once(self.lists.as_slice());
     }
 
     /// The entries of the accepting states' lists of the key, none where no key is told.

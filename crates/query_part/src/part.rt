@@ -12,7 +12,8 @@ ghost use Rattle.all_or_none.specs.Phases.{IsPrepared, IsIdle, IsQuiet, back, Is
 ghost use Rattle.window_clock.specs.Places.{IsNear, IsOf, HasWidth, clock_in};
 ghost use Rattle.query_part.specs.KeyPlaces.{AreKeyPlaces};
 ghost use Rattle.query_part.specs.Parts.{AreTypesRead, IsMachineOf, HaveClocks, MayBePatient, MayBeWhole, MayFloat, HasEvents, seen, woken, skipped};
-ghost use Rattle.query_part.specs.Compacting.{HasStatesOnce, PartCompacted};
+ghost use Rattle.query_part.specs.Compacting.{PartCompacted};
+ghost use Rattle.query_part.specs.Matches.{HasStatesOnce};
 ghost use Rattle.arena_compact.specs.Roots.{places};
 
 use crate::machine::{Machine, Reading};
@@ -196,14 +197,6 @@ impl Part {
         self.matches.len()
     }
 
-    /// No state stands twice in a key's lists. It goes through the keys, and takes no step.
-    pub fn states_once(&self)
-        requires idle { IsIdle self.now }
-        ensures { All HasStatesOnce self.now.kept.rows }
-    {
-        self.matches.states_once();
-    }
-
     /// How the clock would fall with the event as the next one, if it would. A position does not.
     pub fn test(&self, event: &Event, position: Pos) -> Option<TimeBack>
         requires of_schema { IsOfSchema self.now.schema event.now }
@@ -316,7 +309,7 @@ impl Part {
     /// its low clock and their own on. It stands for the same events as before, and each of these
     /// cursors has the same answers left; the others are not touched. Keys without a list are given up
     /// then, but for one at most. The room is for as many nodes as there are. It takes no memory. The
-    /// last event did not pass the part by, or it was settled.
+    /// last event did not pass the part by, or it was settled. No state stood twice in a key's lists.
     pub fn compact<C: HasCursor, L: Ledger>(
         &mut self,
         number: u64,
@@ -338,6 +331,7 @@ impl Part {
             self.old.kept self.new.kept (map C.walk cursors.old) (map C.walk cursors.new) }
         ensures fewer { length self.new.kept.nodes ≤ length self.old.kept.nodes }
         ensures room { room.new ≡ room.old }
+        ensures once { All HasStatesOnce self.old.kept.rows }
         ensures steps { steps.new
             ≤ steps.old + 8 * length self.old.kept.nodes + 4 * places self.old.kept.rows }
     {

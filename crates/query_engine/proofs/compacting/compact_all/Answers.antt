@@ -63,6 +63,7 @@ loop-k-preserved g c =
       table = of.table;
       fewer = c.compact.ensures.fewer;
       fewer_later = of.nodes.fewer_later;
+      once = c.compact.ensures.once;
     } in
     let more = cost_more c.loop-k.parts c.args.parts.now c.loop-k.k c.index-parts-k.result inside same left in
     let paid = c.loop-k.invariant.paid in

@@ -5,4 +5,4 @@ use Rattle.query_part.proofs.lists.Lists.look.Goals as goal
 pub returns-then-are_still-clause-rests : goal.returns-then-are_still-clause-rests
 returns-then-are_still-clause-rests c t still was =
     let told : c.are_still.result ≡ true = search rules in
-    record { rest = λ known. still_rest t c.args.still.now c.args.self.now.active.entries still (c.are_still.ensures told); passed = was.passed }
+    record { once = was.once; rest = λ known. still_rest t c.args.still.now c.args.self.now.active.entries still (c.are_still.ensures told); passed = was.passed }

@@ -2,11 +2,12 @@ use Rattle.std.proofs.Common.{◌≡◌, ◌∙◌, All, List, sym, ap, subst, l
 use Rattle.std.specs.Int.{w128}
 use Rattle.std.proofs.lemmas.Int.{to_z-of_z}
 use Rattle.std.proofs.lemmas.List.{with_items_is}
+use Rattle.std.proofs.lemmas.List.Elements.{All-map, All-weaker}
 use Rattle.cer_base.specs.declared.node.Node.{Node}
 use Rattle.query_standing.specs.Kept.{Rows}
 use Rattle.arena_compact.specs.Compacted.{least_of, roots_of, Compacted}
 use Rattle.query_part.specs.declared.lists.Lists.{Lists}
-use Rattle.query_part.specs.Matches.{Held, MayRest, awake_in, AreStill}
+use Rattle.query_part.specs.Matches.{Held, HasStatesOnce, MayRest, awake_in, AreStill}
 use Rattle.query_part.proofs.matches.Matches.compact.Goals as goal
 
 pub invariant_of-self : goal.invariant_of-self
@@ -29,3 +30,8 @@ returns-clause-nodes g c =
     let left = rw (to_z-of_z w128 c.args.low c.ranges.low) at c.compact.ensures.nodes in
     subst (λ (rs : List Rows). Compacted (least_of c.args.query c.args.low ws) c.args.self.now.nodes c.compact.new.store.nodes (roots_of c.args.query rs vs)) (sym rows)
     (subst (λ (ns : List Node). Compacted (least_of c.args.query c.args.low ws) ns c.compact.new.store.nodes (roots_of c.args.query (map (λ (l : Lists). l.active.entries) c.compact.new.keys) vs)) (ap (λ (h : Held). h.nodes) c.self.view_is) left)
+
+pub returns-clause-once : goal.returns-clause-once
+returns-clause-once g c =
+    subst (λ (h : Held). All HasStatesOnce h.rows) c.self.view_is (All-map HasStatesOnce (λ (l : Lists). l.active.entries) c.self.inside.lists.items
+    (All-weaker (MayRest c.self.inside.det) (λ (l : Lists). HasStatesOnce l.active.entries) (λ l may. may.once) c.self.inside.lists.items c.self.invariant.1))

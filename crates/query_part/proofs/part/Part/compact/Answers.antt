@@ -8,6 +8,7 @@ use Rattle.cea_determinise.specs.Det.{Table}
 use Rattle.tecs_enumerate.specs.Rest.{CursorState, Fits}
 use Rattle.query_standing.specs.Kept.{Part}
 use Rattle.arena_compact.specs.Roots.{places}
+use Rattle.query_part.specs.Matches.{HasStatesOnce}
 use Rattle.query_part.proofs.Prepare.{idle_awake, inner_stands}
 use Rattle.query_part.proofs.Giving.{low_is}
 use Rattle.query_part.proofs.Compacting.{part_lists, Left, GivenUp, part_compacted, part_stands, part_fewer}
@@ -114,3 +115,8 @@ returns-clause-steps g c =
     let i = idle_awake c.self.inside.schema.value c.self.inside.query c.self.inside.step c.self.inside.ready c.self.inside.sizes c.self.inside.matches c.self.inside.clock.last c.self.inside.here c.self.inside.upto c.self.inside.floats c.args.self.now c.self.view_is c.requires.idle in
     let paid = c.compact.ensures.steps in
     subst (λ (x : Part). c.compact.new.steps ≤ c.args.steps.now + 8 * length x.nodes + 4 * places x.rows) i.kept_is paid
+
+pub returns-clause-once : goal.returns-clause-once
+returns-clause-once g c =
+    let i = idle_awake c.self.inside.schema.value c.self.inside.query c.self.inside.step c.self.inside.ready c.self.inside.sizes c.self.inside.matches c.self.inside.clock.last c.self.inside.here c.self.inside.upto c.self.inside.floats c.args.self.now c.self.view_is c.requires.idle in
+    subst (λ (x : Part). All HasStatesOnce x.rows) i.kept_is c.compact.ensures.once

@@ -31,5 +31,7 @@ pub mod GoingOn
 mod Replayed
 -- the clocks along the events that came; for callers
 pub mod CameClocks
+-- along a stream no clock falls where none falls with each event; for callers
+pub mod NeverFalling
 -- a keeper with one line more; for callers
 pub mod CameKeepers

@@ -1,5 +1,5 @@
 -- Lines one after another, and what they tell.
-use Rattle.std.proofs.Common.{◌≡◌, ℕ, ◌+◌, List, [], ◌∷◌, ◌++◌, length, drop, Option, Some, None, Result, Ok, Err, refl, sym, ap, ◌∙◌, arith, length-append, append_assoc}
+use Rattle.std.proofs.Common.{◌≡◌, ℕ, ◌+◌, List, [], ◌∷◌, ◌++◌, length, drop, Option, Some, None, Result, Ok, Err, refl, sym, ap, subst, ◌∙◌, arith, length-append, append_assoc}
 use Rattle.std.proofs.lemmas.List.{take-append-drop}
 use Rattle.stream_schema.specs.Types.{Declared}
 use Rattle.cel_terms.specs.declared.Query.{Query}
@@ -126,11 +126,12 @@ text_ends schema queries old new bytes before left told number events result bud
 pub no_further : (schema : Declared) (queries : List Query) (old new : LineReader) (bytes : List ℕ) (before left : Option (List ℕ)) (told : Told) (number : ℕ) (events : List EventAt) (why : LineFault) → new.budget ≡ 1099511627776 → number ≡ old.number →
     ((texts : List (List ℕ)) → HasGiven old bytes before texts → Follows new bytes left texts (Err why)) → HasTold schema queries old bytes before told →
     IsEnd schema queries bytes left events (Err (Fault (fault_of number why)))
-no_further schema queries old new bytes before left told number events line.ReadFault budget is follows had = read_fault new.budget left (follows had.texts had.given)
+no_further schema queries old new bytes before left told number events line.ReadFault budget is follows had =
+    read_fault left (subst (λ n. IsCutAt n bytes left had.texts) budget (follows had.texts had.given))
   where
-    read_fault : (budget : ℕ) (left : Option (List ℕ)) → IsCutAt budget bytes left had.texts → AreGoodRead schema queries bytes left
-    read_fault budget None cut = cut
-    read_fault budget (Some rest) cut = record { read = cut.taken; whole = cut.whole; told = told; good = ap (told_by schema queries) cut.lines ∙ had.told_is }
+    read_fault : (left : Option (List ℕ)) → IsCutAt 1099511627776 bytes left had.texts → AreGoodRead schema queries bytes left
+    read_fault None cut = cut
+    read_fault (Some rest) cut = record { texts = had.texts; cut = cut; told = told; good = had.told_is }
 no_further schema queries old new bytes before left told number events (line.LineTooLong at) budget is follows had =
     all_told schema queries bytes had.texts (Some (line.LineTooLong at)) told (ap (λ n. file_lines n bytes) (sym budget) ∙ follows had.texts had.given) had.told_is
 no_further schema queries old new bytes before left told number events (line.InputTooLong taken) budget is follows had =

@@ -377,7 +377,10 @@ module _ (schema : Declared) (queries : List Query) (history : History) (well : 
     pub part_reached : (after : State) → count_of after ≡ e.position → ((events blanks : List Event) → StandsFor engine events → AreBlanks engine.schema (length events) e.position blanks → StandsFor after (events ++ blanks)) → StandsForFirst schema history.events after
     part_reached after count stands = record {
       count = k;
-      stands = λ stream are. (let made = blanks_of schema e.position (take k history.events) stream (subst (λ n. AreEventsFrom schema 0 n (take k history.events) stream) count are) in
+      next = e;
+      at = at;
+      place = count;
+      stands = λ stream are. (let made = blanks_of schema e.position (take k history.events) stream are in
           subst (StandsFor after) (sym made.2) (stands made.0 made.1 (r.stands made.0 made.3) (subst (λ s. AreBlanks s (length made.0) e.position made.1) (sym r.schema_is) made.4)));
     }
 

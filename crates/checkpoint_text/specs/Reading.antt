@@ -1,5 +1,5 @@
 -- What a call of the reader answers.
-use Rattle.std.specs.Prelude.{◌≡◌, ℕ, ◌+◌, List, ◌++◌, Option, Some, None, Result, Ok, Err}
+use Rattle.std.specs.Prelude.{◌≡◌, ℕ, ◌+◌, List, Option, Some, None, Result, Ok, Err}
 use Rattle.cer_base.specs.declared.OrMemory.{OrMemory}
 use Rattle.cer_base.specs.declared.OrMemory.TheVariants.{Fault, Memory}
 use Rattle.cer_outside.specs.Causes.{Rose}
@@ -7,21 +7,22 @@ use Rattle.stream_schema.specs.Types.{Declared}
 use Rattle.cel_terms.specs.declared.Query.{Query}
 use Rattle.event_reader.specs.declared.LineFault.{LineFault}
 use Rattle.event_reader.specs.declared.LineFault.TheVariants as line
-use Rattle.event_reader.specs.Reading.{LineReader, HasGiven, whole_lines}
+use Rattle.event_reader.specs.Reading.{LineReader, HasGiven, IsCutOff}
 use Rattle.checkpoint_text.specs.declared.CheckpointFault.TheVariants as fault
 use Rattle.checkpoint_text.specs.declared.HistoryFault.{HistoryFault}
 use Rattle.checkpoint_text.specs.declared.HistoryFault.TheVariants.{Bad, ReadFault}
+use Rattle.checkpoint_text.specs.declared.reading.TheConstants.{MOST_BYTES}
 use Rattle.checkpoint_text.specs.declared.history.EventAt.{EventAt}
 use Rattle.checkpoint_text.specs.declared.history.History.{History}
 use Rattle.checkpoint_text.specs.Checkpoints.{Told, Refusal, told_by, checkpoint_of}
 use Rattle.checkpoint_text.specs.Spelling.{Spells}
 
--- These are lines that are not refused: all that end among the bytes that are no longer left.
+-- The first lines of a text of these bytes are not refused: all that end among the bytes that are no longer left.
 pub record AreGoodBefore (schema : Declared) (queries : List Query) (bytes rest : List ℕ) : Type 0 where
-  pub read : List ℕ
-  pub whole : bytes ≡ read ++ rest
+  pub texts : List (List ℕ)
+  pub cut : IsCutOff MOST_BYTES bytes rest texts
   pub told : Told
-  pub good : told_by schema queries (whole_lines read) ≡ Ok told
+  pub good : told_by schema queries texts ≡ Ok told
 
 -- the same of a source that tells what it has left
 abbrev pub AreGoodRead : Declared → List Query → List ℕ → Option (List ℕ) → Type 0

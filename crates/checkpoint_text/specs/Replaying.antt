@@ -1,5 +1,5 @@
 -- What an engine is while the events of a history are taken into it.
-use Rattle.std.specs.Prelude.{◌≡◌, ℕ, ◌+◌, List, [], ◌∷◌, ◌++◌, length, take}
+use Rattle.std.specs.Prelude.{◌≡◌, ℕ, ◌+◌, List, [], ◌∷◌, ◌++◌, length, Some, take, slice_get}
 use Rattle.stream_schema.specs.Types.{Declared}
 use Rattle.stream_schema.specs.declared.Event.{Event}
 use Rattle.query_engine.specs.Clocks.{NoneFallsBack}
@@ -9,10 +9,13 @@ use Rattle.query_engine.specs.Windows.{IsDense}
 use Rattle.checkpoint_text.specs.declared.history.EventAt.{EventAt}
 use Rattle.checkpoint_text.specs.Streams.{AreEventsFrom}
 
--- The engine stands for the first events of a history, up to some position.
+-- The engine is at the position of an event of a history, and stands for all events before it.
 pub record StandsForFirst (schema : Declared) (events : List EventAt) (engine : State) : Type 0 where
   pub count : ℕ
-  pub stands : (stream : List Event) → AreEventsFrom schema 0 (count_of engine) (take count events) stream → StandsFor engine stream
+  pub next : EventAt
+  pub at : slice_get events count ≡ Some next
+  pub place : count_of engine ≡ next.position
+  pub stands : (stream : List Event) → AreEventsFrom schema 0 next.position (take count events) stream → StandsFor engine stream
 
 -- It stands for all of them up to this position, and its nodes follow them.
 pub record Replayed (schema : Declared) (events : List EventAt) (positions : ℕ) (engine : State) : Type 0 where

@@ -24,9 +24,9 @@ use std::sync::ledger::Ledger;
 /// at all others. No answer is asked for. The history is one that a checkpoint may tell of the
 /// engine's queries, and its events are of the engine's schema, as `read_checkpoint` gives it.
 ///
-/// After `Memory` the engine stands for the first events of the history. However it ends, its steps
-/// are bounded by the positions of the history. No query had more nodes meanwhile than the history's
-/// events allow, or than it had before.
+/// After `Memory` the engine is at the position of one of the history's events, and stands for those
+/// before it. However it ends, its steps are bounded by the positions of the history. No query had
+/// more nodes meanwhile than the history's events allow, or than it had before.
 pub fn replay<L: Ledger>(
     engine: &mut Engine,
     history: &History,
@@ -52,7 +52,10 @@ pub fn replay<L: Ledger>(
     engine.schema().well_declared();
     let events = history.events.as_slice();
     for k in 0..events.len() {
-        replay_event(engine, &events[k], steps)?;
+        match replay_event(engine, &events[k], steps) {
+            Ok(()) => {}
+            Err(Memory) => return Err(Memory),
+        }
     }
     engine.skip_to(history.positions);
     Ok(())

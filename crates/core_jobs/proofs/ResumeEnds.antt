@@ -73,7 +73,7 @@ good_rest : (schema : Declared) (queries : List Query) (content : Content) (sour
 good_rest schema queries Untold source left opened good = tt
 good_rest schema queries Missing source left opened good = opened
 good_rest schema queries (Holds kept) source None opened good = good kept opened
-good_rest schema queries (Holds kept) source (Some rest) opened good = let g = good kept opened in (g.read, g.whole)
+good_rest schema queries (Holds kept) source (Some rest) opened good = let g = good kept opened in (g.cut.taken, g.cut.whole)
 
 failed_before : {S : Type 0} (sources : Sources S) (schema : Declared) (queries : List Query) (content : Content) (source : Option (List ℕ)) (to : ℕ) (failed : Option S) → HasOpened content source →
     IsSomeAnd failed (λ s. (sources.faults s ≡ to) × Rose 0 to) → ((kept : List ℕ) → source ≡ Some kept → AreGoodRead schema queries kept (left_by sources failed)) → IsSomeAnd failed (FailedWith sources content to)

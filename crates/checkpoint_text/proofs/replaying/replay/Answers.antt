@@ -1,6 +1,5 @@
 use Rattle.std.proofs.Common.{◌≡◌, ◌≤◌, List, length, ap, subst, Some, slice_get, arith, refl}
 use Rattle.std.proofs.lemmas.Option.{slice_get_read}
-use Rattle.std.proofs.lemmas.Result.{err_from_is_err_and}
 use Rattle.stream_schema.specs.Types.{IsWellDeclared}
 use Rattle.query_engine.specs.Engine.{peak_of}
 use Rattle.query_engine.proofs.Skipped.{skipping_keeps_dense}
@@ -30,23 +29,21 @@ replay_event-requires-clause-in_time g c =
     let at = subst (λ (es : List EventAt). slice_get es c.loop-k.k ≡ Some c.index-events-k.result) c.as_slice-events.ensures read in
     next_in_time c.args.engine.now.schema c.args.engine.now.queries c.args.history.now well c.requires.history c.loop-k.k c.index-events-k.result at c.loop-k.engine c.loop-k.invariant.0
 
-pub returns-in_err-replay_event-clause-part : goal.returns-in_err-replay_event-clause-part
-returns-in_err-replay_event-clause-part g c =
+pub returns-in-Err-clause-part : goal.returns-in-Err-clause-part
+returns-in-Err-clause-part g c =
     let well = subst IsWellDeclared c.schema.ensures c.well_declared.ensures in
     let read = slice_get_read c.as_slice-events.result.now (length c.as_slice-events.result.now) c.loop-k.k c.index-events-k.result refl c.loop-k-test.true c.index-events-k.is in
     let at = subst (λ (es : List EventAt). slice_get es c.loop-k.k ≡ Some c.index-events-k.result) c.as_slice-events.ensures read in
-    let part = part_reached c.args.engine.now.schema c.args.engine.now.queries c.args.history.now well c.requires.history c.loop-k.k c.index-events-k.result at c.loop-k.engine c.loop-k.invariant.0 c.replay_event.new.engine c.in_err-replay_event.ensures.place c.in_err-replay_event.ensures.before in
-    let p = err_from_is_err_and c.from_residual.result c.from_residual.ensures.1 in
-    rw p.1 part
+    part_reached c.args.engine.now.schema c.args.engine.now.queries c.args.history.now well c.requires.history c.loop-k.k c.index-events-k.result at c.loop-k.engine c.loop-k.invariant.0 c.replay_event.new.engine c.in-Err.ensures.place c.in-Err.ensures.before
 
 pub loop-k-preserved : goal.loop-k-preserved
 loop-k-preserved g c =
     let well = subst IsWellDeclared c.schema.ensures c.well_declared.ensures in
     let read = slice_get_read c.as_slice-events.result.now (length c.as_slice-events.result.now) c.loop-k.k c.index-events-k.result refl c.loop-k-test.true c.index-events-k.is in
     let at = subst (λ (es : List EventAt). slice_get es c.loop-k.k ≡ Some c.index-events-k.result) c.as_slice-events.ensures read in (
-      next_reached c.args.engine.now.schema c.args.engine.now.queries c.args.history.now well c.requires.history c.loop-k.k c.index-events-k.result at c.loop-k.engine c.loop-k.invariant.0 c.replay_event.new.engine c.replay_event.ensures.same c.in_ok-replay_event.ensures.count c.in_ok-replay_event.ensures.stands c.in_ok-replay_event.ensures.dense,
+      next_reached c.args.engine.now.schema c.args.engine.now.queries c.args.history.now well c.requires.history c.loop-k.k c.index-events-k.result at c.loop-k.engine c.loop-k.invariant.0 c.replay_event.new.engine c.replay_event.ensures.same c.in-Ok.ensures.count c.in-Ok.ensures.stands c.in-Ok.ensures.dense,
       next_measured c.args.engine.now.schema c.args.engine.now.queries c.args.history.now well c.requires.history c.loop-k.k c.index-events-k.result at c.loop-k.engine c.loop-k.invariant.0 c.replay_event.new.engine (peak_of c.args.engine.now) c.args.steps.now c.loop-k.steps c.replay_event.new.steps c.loop-k.invariant.1
-          (c.in_ok-replay_event.ensures.peaks (peak_of c.args.engine.now)) c.replay_event.ensures.steps,
+          (c.in-Ok.ensures.peaks (peak_of c.args.engine.now)) c.replay_event.ensures.steps,
     )
 
 pub returns-clause-replayed : goal.returns-clause-replayed
@@ -74,8 +71,8 @@ returns-clause-steps g c =
     let end : length c.args.history.now.events ≤ c.loop-k.k = omega (arith, long, past) in
     all_steps c.args.engine.now.schema c.args.engine.now.queries c.args.history.now well c.requires.history c.loop-k.k c.loop-k.engine (peak_of c.args.engine.now) c.args.steps.now c.loop-k.steps end c.loop-k.invariant.1
 
-pub returns-in_err-replay_event-clause-steps : goal.returns-in_err-replay_event-clause-steps
-returns-in_err-replay_event-clause-steps g c =
+pub returns-in-Err-clause-steps : goal.returns-in-Err-clause-steps
+returns-in-Err-clause-steps g c =
     let well = subst IsWellDeclared c.schema.ensures c.well_declared.ensures in
     let read = slice_get_read c.as_slice-events.result.now (length c.as_slice-events.result.now) c.loop-k.k c.index-events-k.result refl c.loop-k-test.true c.index-events-k.is in
     let at = subst (λ (es : List EventAt). slice_get es c.loop-k.k ≡ Some c.index-events-k.result) c.as_slice-events.ensures read in

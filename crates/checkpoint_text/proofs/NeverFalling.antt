@@ -1,5 +1,5 @@
 -- Along a stream no clock falls where none falls with each of its events. For callers.
-use Rattle.std.proofs.Common.{◌≡◌, ℕ, ◌+◌, ◌≤◌, ◌<◌, ◌⊎◌, inl, inr, ℤ, ◌≤ℤ◌, true, false, List, [], ◌∷◌, ◌++◌, length, refl, sym, subst, All, Option, Some, None, slice_get, arith, length-append}
+use Rattle.std.proofs.Common.{◌≡◌, ℕ, ◌+◌, ◌≤◌, ◌<◌, ◌⊎◌, inl, inr, ℤ, ◌≤ℤ◌, true, false, List, [], ◌∷◌, ◌++◌, length, refl, sym, subst, Option, Some, None, slice_get, arith, length-append}
 use Rattle.std.specs.Prelude.{int_lt, ◌<ℤ◌}
 use Rattle.std.proofs.lemmas.Bool.{cases_lt, cases_Bool}
 use Rattle.std.proofs.lemmas.Int.{ints}
@@ -12,7 +12,7 @@ use Rattle.cel_terms.specs.Answers.{HasClock}
 use Rattle.cel_terms.specs.Checked.{IsChecked}
 use Rattle.cel_plain.specs.Below.{query_reads}
 use Rattle.window_clock.specs.Clocks.{clock_of}
-use Rattle.query_standing.proofs.Growing.{get_cases, get_front, get_last}
+use Rattle.query_standing.proofs.Growing.{get_cases, get_last}
 use Rattle.query_standing.proofs.Parts.{clock_cases, clock_front}
 use Rattle.query_standing.proofs.Reading.{reads_is, is_read}
 use Rattle.query_standing.proofs.Windows.{clock_is_one}

@@ -18,11 +18,11 @@ use Rattle.core_jobs.specs.declared.Cause.TheVariants as cause
 use Rattle.core_jobs.specs.Command.{ExplainWords, explaining}
 use Rattle.core_jobs.specs.Accepted.{Accepts}
 use Rattle.core_jobs.specs.Causes.{CountsWrites}
-use Rattle.core_jobs.specs.Output.{AreFileExplanation}
+use Rattle.core_jobs.specs.Output.{AreFileExplanation, AreReadLines}
 use Rattle.core_jobs.specs.SourceBytes.{IsRestOf}
 use Rattle.core_jobs.specs.Run.{Sources, FailedWith, StopCounts, Outside, HasFiles, HasStopped, JobEnded, left_by}
 use Rattle.core_jobs.specs.Explaining.{ExplanationStop, FileStop}
-use Rattle.core_jobs.proofs.Streams.{accepted_text, text_not_missing, not_missing, text_told, source_told}
+use Rattle.core_jobs.proofs.Streams.{accepted_text, text_not_missing, not_missing, text_told, source_told, read_so_far}
 use Rattle.core_jobs.proofs.Ends.{opened_both, stay_on, unopened, none_taken_up}
 
 -- what is asked in an explanation
@@ -74,18 +74,34 @@ file_explanation content x schema queries source bytes accepted opened over = re
 }
 
 -- what a source that failed has left is the last part of the file
-pub rest_left : (schema : Declared) (queries : List Query) (content : Content) (source left : Option (List ℕ)) → HasOpened content source →
-    ((lines : List ℕ) → source ≡ Some lines → (events : List Event) × AreEventsRead schema queries lines left events) → IsRestOf content left
-rest_left schema queries Untold source left opened read = tt
-rest_left schema queries Missing source left opened read = opened
-rest_left schema queries (Holds lines) source None opened read = (read lines opened).1
-rest_left schema queries (Holds lines) source (Some rest) opened read = let r = (read lines opened).1 in (r.read, r.whole)
+pub rest_left : (schema : Declared) (queries : List Query) (most_bytes : ℕ) (content : Content) (source left : Option (List ℕ)) → HasOpened content source →
+    ((lines : List ℕ) → source ≡ Some lines → (events : List Event) × AreEventsRead schema queries most_bytes lines left events) → IsRestOf content left
+rest_left schema queries most_bytes Untold source left opened read = tt
+rest_left schema queries most_bytes Missing source left opened read = opened
+rest_left schema queries most_bytes (Holds lines) source None opened read = (read lines opened).1
+rest_left schema queries most_bytes (Holds lines) source (Some rest) opened read = let r = (read lines opened).1 in (r.cut.taken, r.cut.whole)
 
-pub failed_so : {S : Type 0} (sources : Sources S) (schema : Declared) (queries : List Query) (content : Content) (source : Option (List ℕ)) (to : ℕ) (failed : Option S) → HasOpened content source →
-    IsSomeAnd failed (λ s. (sources.faults s ≡ to) × Rose 0 to) → ((lines : List ℕ) → source ≡ Some lines → (events : List Event) × AreEventsRead schema queries lines (left_by sources failed) events) →
+pub failed_so : {S : Type 0} (sources : Sources S) (schema : Declared) (queries : List Query) (most_bytes : ℕ) (content : Content) (source : Option (List ℕ)) (to : ℕ) (failed : Option S) → HasOpened content source →
+    IsSomeAnd failed (λ s. (sources.faults s ≡ to) × Rose 0 to) → ((lines : List ℕ) → source ≡ Some lines → (events : List Event) × AreEventsRead schema queries most_bytes lines (left_by sources failed) events) →
     IsSomeAnd failed (FailedWith sources content to)
-failed_so sources schema queries content source to None opened told read = told
-failed_so sources schema queries content source to (Some s) opened told read = record { told = told.0; rose = told.1; rest = rest_left schema queries content source (sources.left s) opened read }
+failed_so sources schema queries most_bytes content source to None opened told read = told
+failed_so sources schema queries most_bytes content source to (Some s) opened told read = record { told = told.0; rose = told.1; rest = rest_left schema queries most_bytes content source (sources.left s) opened read }
+
+-- the lines that were read of it are good
+pub read_lines : (content : List ℕ → Content) (text events : List ℕ) (schema : Declared) (queries : List Query) (most_bytes : ℕ) (source left : Option (List ℕ)) →
+    OfOpened (content text) (λ w. Accepts w schema queries) → HasOpened (content events) source → ((lines : List ℕ) → source ≡ Some lines → (came : List Event) × AreEventsRead schema queries most_bytes lines left came) →
+    AreReadLines content text events most_bytes left
+read_lines content text events schema queries most_bytes source left accepted opened read = record {
+  has_queries = text_not_missing (content text) _ accepted;
+  has_events = not_missing (content events) source opened;
+  good = λ words lines rest first second same.
+      let it = read lines (source_told (content events) source lines opened second) in record {
+        schema = schema;
+        queries = queries;
+        accepted = text_told (content text) words (λ w. Accepts w schema queries) first accepted;
+        says = (it.0, read_so_far schema queries most_bytes lines rest left it.0 it.1 same);
+      };
+}
 
 -- the explanation over its source ended
 explained : {S H : Type 0} (sources : Sources S) (call : H → List ℕ → H → Type 0) (o : Outside) (x : ExplainWords) (first middle last : H) (schema : Declared) (queries : List Query) (source : Option (List ℕ)) (held : List ℕ → ℕ) (given : Cause) (failed : Option S) →
@@ -116,8 +132,8 @@ explained {S} sources call o x first middle last schema queries source held (cau
     let P : File → Type 0 = λ f. JobEnded sources call o (explaining x) first last (cause.ReadFault f to) failed in
     let text = accepted_text (o.content x.queries) schema queries accepted in
     subst P (sym stops.0) (record {
-      holds = ((text, none_taken_up o.content (explaining x) (λ has. has)), failed_so sources schema queries (o.content x.events) source to failed opened stops.1 stops.3);
-      wrote = stops.2;
+      holds = ((text, none_taken_up o.content (explaining x) (λ has. has)), failed_so sources schema queries MOST_EXPLAINED (o.content x.events) source to failed opened stops.1 stops.3);
+      wrote = (stops.2, read_lines o.content x.queries x.events schema queries MOST_EXPLAINED source (left_by sources failed) accepted opened stops.3);
       counts_opens = stay_on o.old held o.new stay counts;
       counts_writes = writes;
       opens = opened_both call _ (explaining x) _ first middle last (λ has. has) refl text one other;

@@ -288,7 +288,9 @@ wrote_nothing (reordering w) (cause.ClockKind name) content left before after ea
 wrote_nothing (explaining x) (cause.ClockKind name) content left before after early nothing = nothing
 wrote_nothing (explaining x) (cause.Queries fault place) content left before after early nothing = nothing
 wrote_nothing (explaining x) (cause.OpenFault opened from to) content left before after early nothing = nothing
-wrote_nothing (explaining x) (cause.ReadFault read to) content left before after early nothing = nothing
+wrote_nothing (explaining x) (cause.ReadFault file.Queries to) content left before after early nothing = nothing
+wrote_nothing (explaining x) (cause.ReadFault file.Checkpoint to) content left before after early nothing = absurd early
+wrote_nothing (explaining x) (cause.ReadFault file.Events to) content left before after early nothing = absurd early
 wrote_nothing (explaining x) cause.Memory content left before after early nothing = nothing
 wrote_nothing (explaining x) cause.Fine content left before after early nothing = absurd early
 wrote_nothing (explaining x) cause.Usage content left before after early nothing = nothing
@@ -325,7 +327,9 @@ wrote_nothing (resuming r) (cause.ClockKind name) content left before after earl
 wrote_nothing (saving s) (cause.ClockKind name) content left before after early nothing = nothing
 wrote_nothing (saving s) (cause.Queries fault place) content left before after early nothing = nothing
 wrote_nothing (saving s) (cause.OpenFault opened from to) content left before after early nothing = nothing
-wrote_nothing (saving s) (cause.ReadFault read to) content left before after early nothing = nothing
+wrote_nothing (saving s) (cause.ReadFault file.Queries to) content left before after early nothing = nothing
+wrote_nothing (saving s) (cause.ReadFault file.Checkpoint to) content left before after early nothing = absurd early
+wrote_nothing (saving s) (cause.ReadFault file.Events to) content left before after early nothing = absurd early
 wrote_nothing (saving s) cause.Memory content left before after early nothing = nothing
 wrote_nothing (saving s) cause.Fine content left before after early nothing = absurd early
 wrote_nothing (saving s) cause.Usage content left before after early nothing = nothing

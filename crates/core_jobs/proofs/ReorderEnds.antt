@@ -115,7 +115,7 @@ rest_of : (a : Feed) (content : Content) (source left : Option (List ℕ)) (even
 rest_of a Untold source left events opened read = tt
 rest_of a Missing source left events opened read = opened
 rest_of a (Holds lines) source None events opened read = read lines opened
-rest_of a (Holds lines) source (Some rest) events opened read = let r = read lines opened in (r.read, r.whole)
+rest_of a (Holds lines) source (Some rest) events opened read = let r = read lines opened in (r.cut.taken, r.cut.whole)
 
 failed_with : {S : Type 0} (sources : Sources S) (a : Feed) (content : Content) (source : Option (List ℕ)) (events : List Event) (to : ℕ) (failed : Option S) → HasOpened content source →
     IsSomeAnd failed (λ s. (sources.faults s ≡ to) × Rose 0 to) → ((lines : List ℕ) → source ≡ Some lines → AreReleasedRead a (left_by sources failed) lines events) → IsSomeAnd failed (FailedWith sources content to)

@@ -225,7 +225,7 @@ All r was before after schema queries earlier source = WroteAllAfter earlier (re
 
 abbrev Read : ResumeWords → Option (List ℕ) → Option (List ℕ) → Option (List ℕ) → Declared → List Query → List Event → Option (List ℕ) → Type 0
 Read r left before after schema queries earlier source =
-    WroteOverAfter earlier (resume_asked_of r schema queries) source (λ lines events. AreEventsReadAfter earlier schema queries lines left events) before after
+    WroteOverAfter earlier (resume_asked_of r schema queries) source (λ lines events. AreEventsReadAfter earlier schema queries r.most_bytes lines left events) before after
 
 abbrev Part : ResumeWords → (List ℕ → Type 0) → Declared → List Query → List Event → Option (List ℕ) → Type 0
 Part r Took schema queries earlier source = WrotePartOfAfter earlier (resume_asked_of r schema queries) source Took
@@ -251,17 +251,17 @@ has_stopped o r schema queries history source was failed none accepted told open
 }
 
 -- what a source that failed has left is the last part of the file
-rest_after : (earlier : List Event) (schema : Declared) (queries : List Query) (content : Content) (source left : Option (List ℕ)) (events : List Event) → HasOpened content source →
-    ((lines : List ℕ) → source ≡ Some lines → AreEventsReadAfter earlier schema queries lines left events) → IsRestOf content left
-rest_after earlier schema queries Untold source left events opened read = tt
-rest_after earlier schema queries Missing source left events opened read = opened
-rest_after earlier schema queries (Holds lines) source None events opened read = read lines opened
-rest_after earlier schema queries (Holds lines) source (Some rest) events opened read = let r = read lines opened in (r.read, r.whole)
+rest_after : (earlier : List Event) (schema : Declared) (queries : List Query) (most_bytes : ℕ) (content : Content) (source left : Option (List ℕ)) (events : List Event) → HasOpened content source →
+    ((lines : List ℕ) → source ≡ Some lines → AreEventsReadAfter earlier schema queries most_bytes lines left events) → IsRestOf content left
+rest_after earlier schema queries most_bytes Untold source left events opened read = tt
+rest_after earlier schema queries most_bytes Missing source left events opened read = opened
+rest_after earlier schema queries most_bytes (Holds lines) source None events opened read = read lines opened
+rest_after earlier schema queries most_bytes (Holds lines) source (Some rest) events opened read = let r = read lines opened in (r.cut.taken, r.cut.whole)
 
-failed_after : {S : Type 0} (sources : Sources S) (earlier : List Event) (schema : Declared) (queries : List Query) (content : Content) (source : Option (List ℕ)) (events : List Event) (to : ℕ) (failed : Option S) → HasOpened content source →
-    IsSomeAnd failed (λ s. (sources.faults s ≡ to) × Rose 0 to) → ((lines : List ℕ) → source ≡ Some lines → AreEventsReadAfter earlier schema queries lines (left_by sources failed) events) → IsSomeAnd failed (FailedWith sources content to)
-failed_after sources earlier schema queries content source events to None opened told read = told
-failed_after sources earlier schema queries content source events to (Some s) opened told read = record { told = told.0; rose = told.1; rest = rest_after earlier schema queries content source (sources.left s) events opened read }
+failed_after : {S : Type 0} (sources : Sources S) (earlier : List Event) (schema : Declared) (queries : List Query) (most_bytes : ℕ) (content : Content) (source : Option (List ℕ)) (events : List Event) (to : ℕ) (failed : Option S) → HasOpened content source →
+    IsSomeAnd failed (λ s. (sources.faults s ≡ to) × Rose 0 to) → ((lines : List ℕ) → source ≡ Some lines → AreEventsReadAfter earlier schema queries most_bytes lines (left_by sources failed) events) → IsSomeAnd failed (FailedWith sources content to)
+failed_after sources earlier schema queries most_bytes content source events to None opened told read = told
+failed_after sources earlier schema queries most_bytes content source events to (Some s) opened told read = record { told = told.0; rose = told.1; rest = rest_after earlier schema queries most_bytes content source (sources.left s) events opened read }
 
 -- the answers over its source ended
 module _ {S H : Type 0} (sources : Sources S) (call : H → List ℕ → H → Type 0) (o : Outside) (r : ResumeWords) (first second third last : H) (schema : Declared) (queries : List Query) (history : History) (source : Option (List ℕ)) (held : List ℕ → ℕ)
@@ -308,7 +308,7 @@ module _ {S H : Type 0} (sources : Sources S) (call : H → List ℕ → H → T
       let stream = stream_for schema history in
       let over = stops.2 stream (is_stream schema queries history is) in
       subst P (sym stops.0) (record {
-        holds = ((text, taken_up o.content r schema queries history accepted told), failed_after sources stream schema queries (o.content r.events) source over.events to failed opened stops.1 over.are);
+        holds = ((text, taken_up o.content r schema queries history accepted told), failed_after sources stream schema queries r.most_bytes (o.content r.events) source over.events to failed opened stops.1 over.are);
         wrote = over_history o.content r schema queries history source (Read r (left_by sources failed) o.before o.after) accepted told opened stops.2;
         counts_opens = stay_on o.old held o.new stay counts;
         counts_writes = writes;

@@ -66,7 +66,7 @@ answered {S} sources call o r first middle last schema queries source held (caus
     let P : File → Type 0 = λ f. JobEnded sources call o (running r) first last (cause.ReadFault f to) failed in
     let text = accepted_text (o.content r.queries) schema queries accepted in
     subst P (sym stops.0) (record {
-      holds = ((text, none_taken_up o.content (running r) (λ has. has)), failed_with sources schema queries (o.content r.events) source stops.2.events to failed opened stops.1 stops.2.are);
+      holds = ((text, none_taken_up o.content (running r) (λ has. has)), failed_with sources schema queries r.most_bytes (o.content r.events) source stops.2.events to failed opened stops.1 stops.2.are);
       wrote = (stops.2.bytes, wrote_read o.content r schema queries source (left_by sources failed) o.before o.after accepted opened stops.2, stops.2.took);
       counts_opens = stay_on o.old held o.new stay counts;
       counts_writes = writes;

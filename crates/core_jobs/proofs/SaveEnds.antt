@@ -19,10 +19,10 @@ use Rattle.core_jobs.specs.Command.{SaveWords, saving}
 use Rattle.core_jobs.specs.Accepted.{Accepts}
 use Rattle.core_jobs.specs.Causes.{CountsWrites}
 use Rattle.core_jobs.specs.Output.{IsFileCheckpoint}
-use Rattle.core_jobs.specs.Run.{Sources, StopCounts, Outside, HasFiles, HasStopped, JobEnded}
+use Rattle.core_jobs.specs.Run.{Sources, StopCounts, Outside, HasFiles, HasStopped, JobEnded, left_by}
 use Rattle.core_jobs.specs.Saving.{SavingStop, SavingFileStop}
 use Rattle.core_jobs.proofs.Streams.{accepted_text, text_not_missing, not_missing, text_told, source_told}
-use Rattle.core_jobs.proofs.ExplainEnds.{failed_so}
+use Rattle.core_jobs.proofs.ExplainEnds.{failed_so, read_lines}
 use Rattle.core_jobs.proofs.Ends.{opened_both, stay_on, unopened, none_taken_up}
 
 -- what is asked where a checkpoint is
@@ -99,8 +99,8 @@ saved {S} sources call o s first middle last schema queries source held (cause.R
     let P : File → Type 0 = λ f. JobEnded sources call o (saving s) first last (cause.ReadFault f to) failed in
     let text = accepted_text (o.content s.queries) schema queries accepted in
     subst P (sym stops.0) (record {
-      holds = ((text, none_taken_up o.content (saving s) (λ has. has)), failed_so sources schema queries (o.content s.events) source to failed opened stops.1 stops.3);
-      wrote = stops.2;
+      holds = ((text, none_taken_up o.content (saving s) (λ has. has)), failed_so sources schema queries MOST_SAVED (o.content s.events) source to failed opened stops.1 stops.3);
+      wrote = (stops.2, read_lines o.content s.queries s.events schema queries MOST_SAVED source (left_by sources failed) accepted opened stops.3);
       counts_opens = stay_on o.old held o.new stay counts;
       counts_writes = writes;
       opens = opened_both call _ (saving s) _ first middle last (λ has. has) refl text one other;

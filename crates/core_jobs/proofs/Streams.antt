@@ -91,39 +91,35 @@ wrote_part content r schema queries source Took accepted opened wrote = (
 )
 
 -- those over the lines that were read
-read_so_far : (schema : Declared) (queries : List Query) (lines rest : List ℕ) (left : Option (List ℕ)) (events : List Event) → AreEventsRead schema queries lines left events → left ≡ Some rest → AreEventsRead schema queries lines (Some rest) events
-read_so_far schema queries lines rest left events read same = let P : Option (List ℕ) → Type 0 = λ l. AreEventsRead schema queries lines l events in subst P same read
+pub read_so_far : (schema : Declared) (queries : List Query) (most_bytes : ℕ) (lines rest : List ℕ) (left : Option (List ℕ)) (events : List Event) → AreEventsRead schema queries most_bytes lines left events → left ≡ Some rest →
+    AreEventsRead schema queries most_bytes lines (Some rest) events
+read_so_far schema queries most_bytes lines rest left events read same = let P : Option (List ℕ) → Type 0 = λ l. AreEventsRead schema queries most_bytes lines l events in subst P same read
 
 pub wrote_read : (content : List ℕ → Content) (r : RunWords) (schema : Declared) (queries : List Query) (source left : Option (List ℕ)) (before after : Option (List ℕ)) →
     OfOpened (content r.queries) (λ text. Accepts text schema queries) → HasOpened (content r.events) source →
-    (w : WroteOver (asked_of r schema queries) source (λ lines events. AreEventsRead schema queries lines left events) before after) → AreReadAnswers content r left w.bytes
+    (w : WroteOver (asked_of r schema queries) source (λ lines events. AreEventsRead schema queries r.most_bytes lines left events) before after) → AreReadAnswers content r left w.bytes
 wrote_read content r schema queries source left before after accepted opened wrote = record {
   has_queries = text_not_missing (content r.queries) _ accepted;
   has_events = not_missing (content r.events) source opened;
-  answers = λ text lines rest first second same.
-      let read = read_so_far schema queries lines rest left wrote.events (wrote.are lines (source_told (content r.events) source lines opened second)) same in (
-        read.read,
-        read.whole,
-        record {
-          schema = schema;
-          queries = queries;
-          events = wrote.events;
-          accepted = text_told (content r.queries) text (λ w. Accepts w schema queries) first accepted;
-          good = read.good;
-          output = wrote.output;
-        },
-      );
+  answers = λ text lines rest first second same. record {
+    schema = schema;
+    queries = queries;
+    events = wrote.events;
+    accepted = text_told (content r.queries) text (λ w. Accepts w schema queries) first accepted;
+    good = read_so_far schema queries r.most_bytes lines rest left wrote.events (wrote.are lines (source_told (content r.events) source lines opened second)) same;
+    output = wrote.output;
+  };
 }
 
 -- what a source that failed has left is the last part of the file
-rest_of : (schema : Declared) (queries : List Query) (content : Content) (source left : Option (List ℕ)) (events : List Event) → HasOpened content source →
-    ((lines : List ℕ) → source ≡ Some lines → AreEventsRead schema queries lines left events) → IsRestOf content left
-rest_of schema queries Untold source left events opened read = tt
-rest_of schema queries Missing source left events opened read = opened
-rest_of schema queries (Holds lines) source None events opened read = read lines opened
-rest_of schema queries (Holds lines) source (Some rest) events opened read = let r = read lines opened in (r.read, r.whole)
+rest_of : (schema : Declared) (queries : List Query) (most_bytes : ℕ) (content : Content) (source left : Option (List ℕ)) (events : List Event) → HasOpened content source →
+    ((lines : List ℕ) → source ≡ Some lines → AreEventsRead schema queries most_bytes lines left events) → IsRestOf content left
+rest_of schema queries most_bytes Untold source left events opened read = tt
+rest_of schema queries most_bytes Missing source left events opened read = opened
+rest_of schema queries most_bytes (Holds lines) source None events opened read = read lines opened
+rest_of schema queries most_bytes (Holds lines) source (Some rest) events opened read = let r = read lines opened in (r.cut.taken, r.cut.whole)
 
-pub failed_with : {S : Type 0} (sources : Sources S) (schema : Declared) (queries : List Query) (content : Content) (source : Option (List ℕ)) (events : List Event) (to : ℕ) (failed : Option S) → HasOpened content source →
-    IsSomeAnd failed (λ s. (sources.faults s ≡ to) × Rose 0 to) → ((lines : List ℕ) → source ≡ Some lines → AreEventsRead schema queries lines (left_by sources failed) events) → IsSomeAnd failed (FailedWith sources content to)
-failed_with sources schema queries content source events to None opened told read = told
-failed_with sources schema queries content source events to (Some s) opened told read = record { told = told.0; rose = told.1; rest = rest_of schema queries content source (sources.left s) events opened read }
+pub failed_with : {S : Type 0} (sources : Sources S) (schema : Declared) (queries : List Query) (most_bytes : ℕ) (content : Content) (source : Option (List ℕ)) (events : List Event) (to : ℕ) (failed : Option S) → HasOpened content source →
+    IsSomeAnd failed (λ s. (sources.faults s ≡ to) × Rose 0 to) → ((lines : List ℕ) → source ≡ Some lines → AreEventsRead schema queries most_bytes lines (left_by sources failed) events) → IsSomeAnd failed (FailedWith sources content to)
+failed_with sources schema queries most_bytes content source events to None opened told read = told
+failed_with sources schema queries most_bytes content source events to (Some s) opened told read = record { told = told.0; rose = told.1; rest = rest_of schema queries most_bytes content source (sources.left s) events opened read }

@@ -9,8 +9,8 @@ use Rattle.ceql_parser.specs.QueryTexts.{IsAnswerOfText}
 use Rattle.ceql_parser.specs.QueryTrees.{query_tree}
 use Rattle.answer_text.specs.declared.Order.{Order}
 use Rattle.answer_text.specs.Output.{IsOutput}
-use Rattle.event_run.specs.Runs.{Stop, RunsAfter, RunsTo, AreEventsOf}
-use Rattle.event_reader.specs.Reading.{whole_lines}
+use Rattle.event_run.specs.Runs.{Stop, RunsAfter, RunsTo}
+use Rattle.event_run.specs.Taking.{AreEventsBefore}
 use Rattle.answer_explain.specs.declared.Question.{Question}
 use Rattle.answer_explain.specs.declared.written.TheConstants.{MOST_BYTES}
 use Rattle.answer_explain.specs.Explanations.{IsExplanation}
@@ -87,6 +87,10 @@ pub record SaysOf (text : List ℕ) (Says : Declared → List Query → Type 0) 
   pub queries : List Query
   pub accepted : Accepts text schema queries
   pub says : Says schema queries
+
+-- the text is accepted, and its queries take the events of all lines that end before these bytes are left: each of them is good and a first line of the file
+abbrev pub AreGoodLines : List ℕ → ℕ → List ℕ → List ℕ → Type 0
+AreGoodLines text most_bytes lines rest = SaysOf text (λ schema queries. (events : List Event) × AreEventsBefore schema queries most_bytes lines rest events)
 
 -- the bytes are those of the steps that a session makes by the script over the text's queries, which stops so
 abbrev pub ScriptWrites : List ℕ → List ℕ → Stop → List ℕ → Type 0
@@ -176,13 +180,13 @@ pub record AreAnswers (order : Order) (most_bytes : ℕ) (text lines : List ℕ)
   pub runs : RunsTo schema queries most_bytes lines events stop
   pub output : IsOutput order schema queries events bytes
 
--- The bytes are the answers over the events of the lines that end among these bytes, each of them good.
-pub record AreAnswersSoFar (order : Order) (text lines : List ℕ) (bytes : List ℕ) : Type 0 where
+-- The bytes are the answers over the events of the lines that end before these bytes are left, each of them good and a first line of the file.
+pub record AreAnswersSoFar (order : Order) (most_bytes : ℕ) (text lines rest : List ℕ) (bytes : List ℕ) : Type 0 where
   pub schema : Declared
   pub queries : List Query
   pub events : List Event
   pub accepted : Accepts text schema queries
-  pub good : AreEventsOf schema queries (whole_lines lines) events
+  pub good : AreEventsBefore schema queries most_bytes lines rest events
   pub output : IsOutput order schema queries events bytes
 
 -- The bytes are the answers of the text's queries over the events that they take of the file by their clocks, where they stop so.
@@ -195,7 +199,7 @@ pub record AreReorderedAnswers (w : ReorderWords) (text lines : List ℕ) (stop 
   pub runs : RunsLate (feed_of w schema queries) lines events stop
   pub output : IsOutput w.order schema queries events bytes
 
--- The bytes are the answers over the events that need not wait, of the lines that end before these bytes are left, each of them good.
+-- The bytes are the answers over the events that need not wait, of the lines that end before these bytes are left, each of them good and a first line of the file.
 pub record AreReorderedAnswersSoFar (w : ReorderWords) (text lines rest : List ℕ) (bytes : List ℕ) : Type 0 where
   pub schema : Declared
   pub queries : List Query

@@ -22,7 +22,7 @@ ExplanationStop sources a source out_old out_new before after (cause.Event line 
 ExplanationStop sources a source out_old out_new before after (cause.InputTooLong taken) failed = (failed ≡ None) × (after ≡ before) × StopsOver a.schema a.queries MOST_EXPLAINED source (stop.InputTooLong taken)
 ExplanationStop sources a source out_old out_new before after (cause.ReadFault read to) failed =
     (read ≡ file.Events) × IsSomeAnd failed (λ s. (sources.faults s ≡ to) × Rose 0 to) × (after ≡ before)
-    × ((lines : List ℕ) → source ≡ Some lines → (events : List Event) × AreEventsRead a.schema a.queries lines (left_by sources failed) events)
+    × ((lines : List ℕ) → source ≡ Some lines → (events : List Event) × AreEventsRead a.schema a.queries MOST_EXPLAINED lines (left_by sources failed) events)
 ExplanationStop sources a source out_old out_new before after (cause.WriteFault from to) failed =
     (failed ≡ None) × (from ≡ out_old) × (to ≡ out_new) × Rose from to × (bytes : List ℕ) × IsExplanationOver a source bytes × TookPart before after bytes
 ExplanationStop sources a source out_old out_new before after cause.Memory failed = (failed ≡ None) × (after ≡ before)

@@ -1,5 +1,5 @@
 -- What the program has written when it ends.
-use Rattle.std.specs.Prelude.{◌≡◌, ◌≢◌, ℕ, ◌⊎◌, List, ◌++◌, Option, Some}
+use Rattle.std.specs.Prelude.{◌≡◌, ◌≢◌, ℕ, ◌⊎◌, List, Option, Some}
 use Rattle.cer_outside.specs.Content.{Content, Missing, Holds}
 use Rattle.cer_outside.specs.Bytes.{TookAll, TookPart}
 use Rattle.answer_blocks.specs.Taken.{TookPrefix}
@@ -15,8 +15,10 @@ use Rattle.core_jobs.specs.declared.Cause.{Cause}
 use Rattle.core_jobs.specs.declared.Cause.TheVariants as cause
 use Rattle.core_jobs.specs.SourceBytes.{told_of}
 use Rattle.core_jobs.specs.Command.{RunWords, ReorderWords, ExplainWords, SessionWords, ResumeWords, SaveWords, Job, running, reordering, explaining, playing, resuming, saving}
-use Rattle.core_jobs.specs.Accepted.{Accepts, SaysAfter, AreAnswers, AreAnswersSoFar, AreReorderedAnswers, AreReorderedAnswersSoFar, IsExplained, IsSaved, ScriptWrites, ScriptBegins, ScriptWroteRead}
+use Rattle.core_jobs.specs.Accepted.{Accepts, SaysAfter, AreAnswers, AreAnswersSoFar, AreReorderedAnswers, AreReorderedAnswersSoFar, AreGoodLines, IsExplained, IsSaved, ScriptWrites, ScriptBegins, ScriptWroteRead}
 use Rattle.core_sample.specs.Summary.{IsSummary}
+use Rattle.answer_explain.specs.declared.written.TheConstants.{MOST_BYTES as MOST_EXPLAINED}
+use Rattle.stream_checkpoint.specs.declared.saving.TheConstants.{MOST_BYTES as MOST_SAVED}
 
 -- The host lacks neither file, and where it tells their bytes, these are the answers to them, with a stop that passes.
 pub record AreFileAnswers (content : List ℕ → Content) (r : RunWords) (Passes : Stop → Type 0) (bytes : List ℕ) : Type 0 where
@@ -30,7 +32,7 @@ pub record AreReadAnswers (content : List ℕ → Content) (r : RunWords) (left 
   pub has_queries : content r.queries ≢ Missing
   pub has_events : content r.events ≢ Missing
   pub answers : (text lines rest : List ℕ) → content r.queries ≡ Holds text → content r.events ≡ Holds lines → left ≡ Some rest
-      → (read : List ℕ) × (lines ≡ read ++ rest) × AreAnswersSoFar r.order text read bytes
+      → AreAnswersSoFar r.order r.most_bytes text lines rest bytes
 
 -- The output took all answers of such a run.
 pub record WroteAllAnswers (content : List ℕ → Content) (r : RunWords) (stop : Stop) (before after : Option (List ℕ)) : Type 0 where
@@ -96,17 +98,24 @@ WroteReordered (cause.Queries fault place) content w left before after = after �
 WroteReordered (cause.ClockKind name) content w left before after = after ≡ before
 WroteReordered (cause.OpenFault opened from to) content w left before after = after ≡ before
 
+-- The host lacks neither file, and where it tells their bytes, no line is refused that ends among those that a source, which failed, no longer has left.
+pub record AreReadLines (content : List ℕ → Content) (queries events : List ℕ) (most_bytes : ℕ) (left : Option (List ℕ)) : Type 0 where
+  pub has_queries : content queries ≢ Missing
+  pub has_events : content events ≢ Missing
+  pub good : (text lines rest : List ℕ) → content queries ≡ Holds text → content events ≡ Holds lines → left ≡ Some rest → AreGoodLines text most_bytes lines rest
+
 -- The host lacks neither file, and where it tells their bytes, these are the explanation over them.
 pub record AreFileExplanation (content : List ℕ → Content) (x : ExplainWords) (bytes : List ℕ) : Type 0 where
   pub has_queries : content x.queries ≢ Missing
   pub has_events : content x.events ≢ Missing
   pub explained : (text lines : List ℕ) → content x.queries ≡ Holds text → content x.events ≡ Holds lines → IsExplained text lines x.question bytes
 
--- What the output has taken of an explanation, by its cause: all of it, a proper first part after a failed write, and else nothing.
-abbrev pub WroteExplanation : Cause → (List ℕ → Content) → ExplainWords → Option (List ℕ) → Option (List ℕ) → Type 0
-WroteExplanation cause.Fine content x before after = (bytes : List ℕ) × AreFileExplanation content x bytes × TookAll before after bytes
-WroteExplanation (cause.WriteFault from to) content x before after = (bytes : List ℕ) × AreFileExplanation content x bytes × TookPart before after bytes
-WroteExplanation _ content x before after = after ≡ before
+-- What the output has taken of an explanation, by its cause: all of it, a proper first part after a failed write, and else nothing; `left` is what a source that failed has left.
+abbrev pub WroteExplanation : Cause → (List ℕ → Content) → ExplainWords → Option (List ℕ) → Option (List ℕ) → Option (List ℕ) → Type 0
+WroteExplanation cause.Fine content x left before after = (bytes : List ℕ) × AreFileExplanation content x bytes × TookAll before after bytes
+WroteExplanation (cause.WriteFault from to) content x left before after = (bytes : List ℕ) × AreFileExplanation content x bytes × TookPart before after bytes
+WroteExplanation (cause.ReadFault file.Events to) content x left before after = (after ≡ before) × AreReadLines content x.queries x.events MOST_EXPLAINED left
+WroteExplanation _ content x left before after = after ≡ before
 
 -- The host lacks neither file, the output took bytes so, and where the host tells both files this is what they are.
 pub record WroteSteps (content : List ℕ → Content) (s : SessionWords) (Are : List ℕ → List ℕ → List ℕ → Type 0) (Took : List ℕ → Type 0) : Type 0 where
@@ -154,7 +163,7 @@ WroteAllResumed content r stop before after =
 -- Those over the events of the lines that end among the bytes that a source, which failed, no longer has left.
 abbrev pub WroteReadResumed : (List ℕ → Content) → ResumeWords → Option (List ℕ) → Option (List ℕ) → Option (List ℕ) → Type 0
 WroteReadResumed content r left before after =
-    OverHistory content r (λ schema queries earlier. WroteOverAfter earlier (resume_asked_of r schema queries) (told_of (content r.events)) (λ lines events. AreEventsReadAfter earlier schema queries lines left events) before after)
+    OverHistory content r (λ schema queries earlier. WroteOverAfter earlier (resume_asked_of r schema queries) (told_of (content r.events)) (λ lines events. AreEventsReadAfter earlier schema queries r.most_bytes lines left events) before after)
 
 -- A part of them.
 abbrev pub WrotePartResumed : (List ℕ → Content) → ResumeWords → (List ℕ → Type 0) → Type 0
@@ -187,20 +196,21 @@ pub record IsFileCheckpoint (content : List ℕ → Content) (s : SaveWords) (by
   pub has_events : content s.events ≢ Missing
   pub saved : (text lines : List ℕ) → content s.queries ≡ Holds text → content s.events ≡ Holds lines → IsSaved text lines bytes
 
--- What the output has taken of a checkpoint that is written, by the cause: all of it, a proper first part after a failed write, and else nothing.
-abbrev pub WroteSaved : Cause → (List ℕ → Content) → SaveWords → Option (List ℕ) → Option (List ℕ) → Type 0
-WroteSaved cause.Fine content s before after = (bytes : List ℕ) × IsFileCheckpoint content s bytes × TookAll before after bytes
-WroteSaved (cause.WriteFault from to) content s before after = (bytes : List ℕ) × IsFileCheckpoint content s bytes × TookPart before after bytes
-WroteSaved _ content s before after = after ≡ before
+-- What the output has taken of a checkpoint that is written, by the cause: all of it, a proper first part after a failed write, and else nothing; `left` is what a source that failed has left.
+abbrev pub WroteSaved : Cause → (List ℕ → Content) → SaveWords → Option (List ℕ) → Option (List ℕ) → Option (List ℕ) → Type 0
+WroteSaved cause.Fine content s left before after = (bytes : List ℕ) × IsFileCheckpoint content s bytes × TookAll before after bytes
+WroteSaved (cause.WriteFault from to) content s left before after = (bytes : List ℕ) × IsFileCheckpoint content s bytes × TookPart before after bytes
+WroteSaved (cause.ReadFault file.Events to) content s left before after = (after ≡ before) × AreReadLines content s.queries s.events MOST_SAVED left
+WroteSaved _ content s left before after = after ≡ before
 
 -- the same after any job
 abbrev pub WroteBy : Cause → (List ℕ → Content) → Job → Option (List ℕ) → Option (List ℕ) → Option (List ℕ) → Type 0
 WroteBy given content (running r) left before after = WroteRun given content r left before after
 WroteBy given content (reordering w) left before after = WroteReordered given content w left before after
-WroteBy given content (explaining x) left before after = WroteExplanation given content x before after
+WroteBy given content (explaining x) left before after = WroteExplanation given content x left before after
 WroteBy given content (playing s) left before after = WroteSession given content s left before after
 WroteBy given content (resuming r) left before after = WroteResumed given content r left before after
-WroteBy given content (saving s) left before after = WroteSaved given content s before after
+WroteBy given content (saving s) left before after = WroteSaved given content s left before after
 
 -- What the output has taken after a sample, which ends by no other cause: its summary, a proper first part, or a first part.
 abbrev pub WroteSample : Cause → ℕ → ℕ → Option (List ℕ) → Option (List ℕ) → Type 0

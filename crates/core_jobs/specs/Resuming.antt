@@ -47,7 +47,7 @@ ResumedStop sources a history source out_old out_new before after (cause.InputTo
     (failed ≡ None) × AfterEach a.schema history (λ earlier. WroteAllAfter earlier a source (stop.InputTooLong taken) before after)
 ResumedStop sources a history source out_old out_new before after (cause.ReadFault read to) failed =
     (read ≡ file.Events) × IsSomeAnd failed (λ s. (sources.faults s ≡ to) × Rose 0 to)
-    × AfterEach a.schema history (λ earlier. WroteOverAfter earlier a source (λ lines events. AreEventsReadAfter earlier a.schema a.queries lines (left_by sources failed) events) before after)
+    × AfterEach a.schema history (λ earlier. WroteOverAfter earlier a source (λ lines events. AreEventsReadAfter earlier a.schema a.queries a.most_bytes lines (left_by sources failed) events) before after)
 ResumedStop sources a history source out_old out_new before after (cause.WriteFault from to) failed =
     (failed ≡ None) × (from ≡ out_old) × (to ≡ out_new) × Rose from to × AfterEach a.schema history (λ earlier. WrotePartOfAfter earlier a source (TookPart before after))
 ResumedStop sources a history source out_old out_new before after cause.Memory failed =

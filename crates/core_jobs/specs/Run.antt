@@ -69,7 +69,7 @@ SourceStop sources a source out_old out_new before after cause.Fine failed = (fa
 SourceStop sources a source out_old out_new before after (cause.Event line fault) failed = (failed ≡ None) × WroteAll a source (stop.Event line fault) before after
 SourceStop sources a source out_old out_new before after (cause.InputTooLong taken) failed = (failed ≡ None) × WroteAll a source (stop.InputTooLong taken) before after
 SourceStop sources a source out_old out_new before after (cause.ReadFault read to) failed =
-    (read ≡ file.Events) × IsSomeAnd failed (λ s. (sources.faults s ≡ to) × Rose 0 to) × WroteOver a source (λ lines events. AreEventsRead a.schema a.queries lines (left_by sources failed) events) before after
+    (read ≡ file.Events) × IsSomeAnd failed (λ s. (sources.faults s ≡ to) × Rose 0 to) × WroteOver a source (λ lines events. AreEventsRead a.schema a.queries a.most_bytes lines (left_by sources failed) events) before after
 SourceStop sources a source out_old out_new before after (cause.WriteFault from to) failed =
     (failed ≡ None) × (from ≡ out_old) × (to ≡ out_new) × Rose from to × WrotePartOf a source (TookPart before after)
 SourceStop sources a source out_old out_new before after cause.Memory failed = (failed ≡ None) × WrotePartOf a source (TookPrefix before after)

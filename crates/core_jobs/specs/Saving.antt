@@ -22,7 +22,7 @@ SavingStop sources a source out_old out_new before after (cause.Event line fault
 SavingStop sources a source out_old out_new before after (cause.InputTooLong taken) failed = (failed ≡ None) × (after ≡ before) × StopsOver a.schema a.queries a.most_bytes source (stop.InputTooLong taken)
 SavingStop sources a source out_old out_new before after (cause.ReadFault read to) failed =
     (read ≡ file.Events) × IsSomeAnd failed (λ s. (sources.faults s ≡ to) × Rose 0 to) × (after ≡ before)
-    × ((lines : List ℕ) → source ≡ Some lines → (events : List Event) × AreEventsRead a.schema a.queries lines (left_by sources failed) events)
+    × ((lines : List ℕ) → source ≡ Some lines → (events : List Event) × AreEventsRead a.schema a.queries a.most_bytes lines (left_by sources failed) events)
 SavingStop sources a source out_old out_new before after (cause.WriteFault from to) failed =
     (failed ≡ None) × (from ≡ out_old) × (to ≡ out_new) × Rose from to × (bytes : List ℕ) × IsCheckpointOver a source bytes × TookPart before after bytes
 SavingStop sources a source out_old out_new before after cause.Memory failed = (failed ≡ None) × (after ≡ before)

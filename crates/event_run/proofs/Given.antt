@@ -76,11 +76,10 @@ module _ (earlier : List Event) where
 
   -- the source failed
   pub at_read_fault : (schema : Declared) (queries : List Query) (most_bytes : ℕ) (bytes : List ℕ) (left : Option (List ℕ)) (texts : List (List ℕ)) (events : List Event) →
-      IsCutAt most_bytes bytes left texts → AreEventsAfter schema queries earlier texts events → AreEventsReadAfter earlier schema queries bytes left events
+      IsCutAt most_bytes bytes left texts → AreEventsAfter schema queries earlier texts events → AreEventsReadAfter earlier schema queries most_bytes bytes left events
   at_read_fault schema queries most_bytes bytes None texts events cut good = cut
   at_read_fault schema queries most_bytes bytes (Some rest) texts events cut good =
-      let P : List (List ℕ) → Type 0 = λ t. AreEventsAfter schema queries earlier t events in
-      record { read = cut.taken; whole = cut.whole; good = subst P (sym cut.lines) good }
+      record { texts = texts; cut = cut; good = good }
 
   -- the line that was given last stops the run
   pub at_line : (schema : Declared) (queries : List Query) (reader : LineReader) (bytes : List ℕ) (left : Option (List ℕ)) (texts : List (List ℕ)) (text : List ℕ) (events : List Event) (refusal : EventFault) →

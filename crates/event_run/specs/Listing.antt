@@ -24,7 +24,7 @@ StopsBy schema queries most_bytes bytes left (fault.Event line refusal) =
 StopsBy schema queries most_bytes bytes left (fault.InputTooLong taken) =
     (events : List Event) × RunsTo schema queries most_bytes bytes events (stop.InputTooLong taken)
 StopsBy schema queries most_bytes bytes left fault.ReadFault =
-    (events : List Event) × AreEventsRead schema queries bytes left events
+    (events : List Event) × AreEventsRead schema queries most_bytes bytes left events
 
 -- the event came after the others, and no clock falls with it
 abbrev pub AddsThis : Declared → List Query → Event → List Event → List Event → Type 0

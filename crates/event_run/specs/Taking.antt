@@ -11,7 +11,7 @@ use Rattle.event_reader.specs.declared.EventFault.TheVariants as event
 use Rattle.event_reader.specs.declared.LineFault.{LineFault}
 use Rattle.event_reader.specs.declared.LineFault.TheVariants as line
 use Rattle.event_reader.specs.Events.{event_of_line}
-use Rattle.event_reader.specs.Reading.{LineReader, HasGiven, whole_lines}
+use Rattle.event_reader.specs.Reading.{LineReader, HasGiven, IsCutOff}
 use Rattle.query_engine.specs.Clocks.{NoneFallsBack}
 use Rattle.query_engine.specs.Engine.{State, StandsFor}
 use Rattle.query_engine.specs.Windows.{HasAdded}
@@ -42,24 +42,25 @@ pub record BeginsRunAfter (before : List Event) (schema : Declared) (queries : L
 abbrev pub BeginsRun : Declared → List Query → ℕ → List ℕ → List Event → Type 0
 BeginsRun schema queries most_bytes bytes events = BeginsRunAfter [] schema queries most_bytes bytes events
 
--- After the events before come those of all lines that end among the bytes that are no longer left, and these are all; each of these lines is good.
-pub record AreEventsBeforeRest (before : List Event) (schema : Declared) (queries : List Query) (bytes rest : List ℕ) (events : List Event) : Type 0 where
-  pub read : List ℕ
-  pub whole : bytes ≡ read ++ rest
-  pub good : AreEventsAfter schema queries before (whole_lines read) events
+-- After the events before come those of all lines that end among the bytes that are no longer left, and these are all; each of these lines is good,
+-- and they are first lines of the file, none too long and none past the bytes that it may have.
+pub record AreEventsBeforeRest (before : List Event) (schema : Declared) (queries : List Query) (most_bytes : ℕ) (bytes rest : List ℕ) (events : List Event) : Type 0 where
+  pub texts : List (List ℕ)
+  pub cut : IsCutOff most_bytes bytes rest texts
+  pub good : AreEventsAfter schema queries before texts events
 
 -- the same of a source that tells what it has left
-abbrev pub AreEventsReadAfter : List Event → Declared → List Query → List ℕ → Option (List ℕ) → List Event → Type 0
-AreEventsReadAfter before schema queries bytes None events = ⊥
-AreEventsReadAfter before schema queries bytes (Some rest) events = AreEventsBeforeRest before schema queries bytes rest events
+abbrev pub AreEventsReadAfter : List Event → Declared → List Query → ℕ → List ℕ → Option (List ℕ) → List Event → Type 0
+AreEventsReadAfter before schema queries most_bytes bytes None events = ⊥
+AreEventsReadAfter before schema queries most_bytes bytes (Some rest) events = AreEventsBeforeRest before schema queries most_bytes bytes rest events
 
 -- These are the events of all lines that end among the bytes that are no longer left; each of these lines is good.
-abbrev pub AreEventsBefore : Declared → List Query → List ℕ → List ℕ → List Event → Type 0
-AreEventsBefore schema queries bytes rest events = AreEventsBeforeRest [] schema queries bytes rest events
+abbrev pub AreEventsBefore : Declared → List Query → ℕ → List ℕ → List ℕ → List Event → Type 0
+AreEventsBefore schema queries most_bytes bytes rest events = AreEventsBeforeRest [] schema queries most_bytes bytes rest events
 
-abbrev pub AreEventsRead : Declared → List Query → List ℕ → Option (List ℕ) → List Event → Type 0
-AreEventsRead schema queries bytes None events = ⊥
-AreEventsRead schema queries bytes (Some rest) events = AreEventsBefore schema queries bytes rest events
+abbrev pub AreEventsRead : Declared → List Query → ℕ → List ℕ → Option (List ℕ) → List Event → Type 0
+AreEventsRead schema queries most_bytes bytes None events = ⊥
+AreEventsRead schema queries most_bytes bytes (Some rest) events = AreEventsBefore schema queries most_bytes bytes rest events
 
 -- What one call has made of an engine that stood for these events: it stands for one more, which added what an event adds, or for the same.
 -- Given `Had`, what the reader had taken before of a file of these bytes, this is what is known of the file, where these events came before all of its own.
@@ -73,7 +74,7 @@ AfterCall before schema queries reader old engine Had left events (Err (Fault (f
 AfterCall before schema queries reader old engine Had left events (Err (Fault (fault.InputTooLong most))) =
     StandsFor engine events × ((bytes : List ℕ) → Had bytes → RunsAfter before schema queries reader.budget bytes events (stop.InputTooLong most))
 AfterCall before schema queries reader old engine Had left events (Err (Fault fault.ReadFault)) =
-    StandsFor engine events × ((bytes : List ℕ) → Had bytes → AreEventsReadAfter before schema queries bytes left events)
+    StandsFor engine events × ((bytes : List ℕ) → Had bytes → AreEventsReadAfter before schema queries reader.budget bytes left events)
 AfterCall before schema queries reader old engine Had left events (Err Memory) =
     StandsFor engine events × ((bytes : List ℕ) → Had bytes → BeginsRunAfter before schema queries reader.budget bytes events)
 

@@ -109,6 +109,7 @@ fn add_event(
         events.new.items) }
     ensures stops { OnFault result (λ refusal. (number : ℕ) → StopsInTime schema.now queries.now
         events.old.items event number (stop.Event number refusal)) }
+    ensures unchanged { OnFault result (λ refusal. events.new ≡ events.old) }
 {
     match first_fall(schema, queries, events.as_slice(), &event) {
         Some(fault) => Err(OrMemory::Fault(fault)),

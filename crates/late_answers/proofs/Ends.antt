@@ -42,7 +42,7 @@ released_read : (a : Feed) (left : Option (List ℕ)) (bytes : List ℕ) (put go
 released_read a None bytes put gone events due taken read = read
 released_read a (Some rest) bytes put gone events due taken read =
     let L : List Numbered → Type 0 = λ l. TakesOn a.schema a.queries [] l stop.End events stop.End in
-    record { read = read.read; whole = read.whole; put = put; good = read.good; taken = subst L due taken }
+    record { texts = read.texts; cut = read.cut; put = put; good = read.good; taken = subst L due taken }
 
 -- all that may go has gone, while the file goes on
 pub due_open : (a : Feed) (g : Held) (put gone : List Numbered) → Sits a g → g.is_finished ≡ false → gone ≡ all_due g put → gone ≡ released (when a) a.late put

@@ -228,11 +228,13 @@ line_stops a source old new had left number put halt numbered_is most fed gives 
 pub no_line : (a : Feed) (source : Option (List ℕ)) (old new : LineReader) (had left : Option (List ℕ)) (g : Held) (put gone : List Numbered) (why : LineFault) → new.budget ≡ a.most_bytes → HasFedOf a source old had put →
     ((bytes : List ℕ) (texts : List (List ℕ)) → HasGiven old bytes had texts → HasTold new.budget bytes left texts (Some why)) → AfterPut a source new left g put gone (Err (stream_fault (Fault (run_fault why))))
 no_line a source old new had left g put gone line.ReadFault most fed follows = λ bytes told.
-    let had = fed bytes told in read_to a left bytes put had.texts had.good (follows bytes had.texts had.given)
+    let had = fed bytes told in
+    let C : ℕ → Type 0 = λ n. IsCutAt n bytes left had.texts in
+    read_to a left bytes put had.texts had.good (subst C most (follows bytes had.texts had.given))
   where
-    read_to : (a : Feed) (left : Option (List ℕ)) (bytes : List ℕ) (put : List Numbered) (texts : List (List ℕ)) → AreFed a texts put → IsCutAt new.budget bytes left texts → AreFedRead a left bytes put
+    read_to : (a : Feed) (left : Option (List ℕ)) (bytes : List ℕ) (put : List Numbered) (texts : List (List ℕ)) → AreFed a texts put → IsCutAt a.most_bytes bytes left texts → AreFedRead a left bytes put
     read_to a None bytes put texts good cut = cut
-    read_to a (Some rest) bytes put texts good cut = let P : List (List ℕ) → Type 0 = λ t. AreFed a t put in record { read = cut.taken; whole = cut.whole; good = subst P (sym cut.lines) good }
+    read_to a (Some rest) bytes put texts good cut = record { texts = texts; cut = cut; good = good }
 no_line a source old new had left g put gone (line.LineTooLong number) most fed follows = λ bytes told.
     let had = fed bytes told in
     let M : ℕ → Type 0 = λ n. file_lines n bytes ≡ record { texts = had.texts; fault = Some (line.LineTooLong number) } in

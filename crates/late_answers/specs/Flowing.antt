@@ -12,7 +12,7 @@ use Rattle.answer_text.specs.Output.{IsOutput}
 use Rattle.answer_text.specs.Rows.{Row, lines_of, AreOutputRows}
 use Rattle.event_reader.specs.declared.EventFault.{EventFault}
 use Rattle.event_reader.specs.declared.LineFault.{LineFault}
-use Rattle.event_reader.specs.Reading.{LineReader, HasGiven, whole_lines}
+use Rattle.event_reader.specs.Reading.{LineReader, HasGiven, IsCutOff}
 use Rattle.query_engine.specs.Engine.{State, StandsFor}
 use Rattle.query_engine.specs.Counts.{MeetMost, HasFewNodes}
 use Rattle.event_run.specs.Runs.{Stop}
@@ -48,11 +48,11 @@ pub record HasFed (a : Feed) (reader : LineReader) (bytes : List ℕ) (left : Op
 abbrev pub HasFedOf : Feed → Option (List ℕ) → LineReader → Option (List ℕ) → List Numbered → Type 0
 HasFedOf a source reader left put = (bytes : List ℕ) → source ≡ Some bytes → HasFed a reader bytes left put
 
--- The same of a source that failed, and tells what it has left: these are the events of all lines that end among the bytes before.
+-- The same of a source that failed, and tells what it has left: these are the events of all lines that end among the bytes before, which are first lines of the file.
 pub record AreFedBefore (a : Feed) (bytes rest : List ℕ) (put : List Numbered) : Type 0 where
-  pub read : List ℕ
-  pub whole : bytes ≡ read ++ rest
-  pub good : AreFed a (whole_lines read) put
+  pub texts : List (List ℕ)
+  pub cut : IsCutOff a.most_bytes bytes rest texts
+  pub good : AreFed a texts put
 
 abbrev pub AreFedRead : Feed → Option (List ℕ) → List ℕ → List Numbered → Type 0
 AreFedRead a None bytes put = ⊥

@@ -1,12 +1,12 @@
 -- What has been written of the answers over late events, by how it ended.
-use Rattle.std.specs.Prelude.{◌≡◌, ℕ, List, [], ◌++◌, length, Option, Some, None, Result, Ok, Err}
+use Rattle.std.specs.Prelude.{◌≡◌, ℕ, List, [], length, Option, Some, None, Result, Ok, Err}
 use Rattle.cer_base.specs.declared.OrMemory.{OrMemory}
 use Rattle.cer_base.specs.declared.OrMemory.TheVariants.{Fault, Memory}
 use Rattle.cer_outside.specs.Bytes.{TookPart}
 use Rattle.stream_schema.specs.declared.Event.{Event as StreamEvent}
 use Rattle.answer_text.specs.Output.{IsOutput}
 use Rattle.answer_blocks.specs.Taken.{TookPrefix}
-use Rattle.event_reader.specs.Reading.{whole_lines}
+use Rattle.event_reader.specs.Reading.{IsCutOff}
 use Rattle.query_engine.specs.Engine.{State, StandsFor}
 use Rattle.event_run.specs.Runs.{Stop}
 use Rattle.event_run.specs.Runs as stop
@@ -35,12 +35,13 @@ pub record StandsForLate (every : Option ℕ) (peaks : ℕ → ℕ) (a : Feed) (
   pub stands : StandsFor engine events
   pub windows : FollowsWindows every peaks (last_due every (length events)) events engine
 
--- All lines that end among the bytes that are no longer left are good; these are the events of them before which none can come that is not too late, in their order, and with none of them a clock falls.
+-- All lines that end among the bytes that are no longer left are good, and first lines of the file, none too long and none past the bytes that it may have;
+-- these are the events of them before which none can come that is not too late, in their order, and with none of them a clock falls.
 pub record AreReleasedBefore (a : Feed) (bytes rest : List ℕ) (events : List StreamEvent) : Type 0 where
-  pub read : List ℕ
-  pub whole : bytes ≡ read ++ rest
+  pub texts : List (List ℕ)
+  pub cut : IsCutOff a.most_bytes bytes rest texts
   pub put : List Numbered
-  pub good : AreFed a (whole_lines read) put
+  pub good : AreFed a texts put
   pub taken : TakesOn a.schema a.queries [] (released (when a) a.late put) stop.End events stop.End
 
 -- the same of a source that tells what it has left

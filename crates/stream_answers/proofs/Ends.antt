@@ -17,7 +17,7 @@ use Rattle.event_run.specs.declared.RunFault.{RunFault}
 use Rattle.event_run.specs.declared.RunFault.TheVariants as run
 use Rattle.event_run.specs.Runs.{Stop, RunsAfter}
 use Rattle.event_run.specs.Runs as stop
-use Rattle.event_run.specs.Taking.{HasTakenAfter, BeginsRunAfter, AfterCall, HasSourceCause}
+use Rattle.event_run.specs.Taking.{HasTakenAfter, BeginsRunAfter, AfterCall, HasSourceCause, AreEventsReadAfter}
 use Rattle.stream_answers.specs.declared.StreamFault.{StreamFault}
 use Rattle.stream_answers.specs.declared.StreamFault.TheVariants as fault
 use Rattle.stream_answers.specs.Windows.{last_of, FollowsWindowsBy}
@@ -54,6 +54,11 @@ at_most : (earlier : List StreamEvent) (a : Asked) (most : ℕ) (source : Option
     ((lines : List ℕ) → Had lines → RunsAfter earlier a.schema a.queries most lines events halt) → (lines : List ℕ) → source ≡ Some lines → RunsAfter earlier a.schema a.queries a.most_bytes lines events halt
 at_most earlier a most source Had events halt same had runs lines told = subst (λ n. RunsAfter earlier a.schema a.queries n lines events halt) same (runs lines (had lines told))
 
+-- and of what was read where the source failed
+read_at_most : (earlier : List StreamEvent) (a : Asked) (most : ℕ) (source left : Option (List ℕ)) (Had : List ℕ → Type 0) (events : List StreamEvent) → most ≡ a.most_bytes → ((lines : List ℕ) → source ≡ Some lines → Had lines) →
+    ((lines : List ℕ) → Had lines → AreEventsReadAfter earlier a.schema a.queries most lines left events) → (lines : List ℕ) → source ≡ Some lines → AreEventsReadAfter earlier a.schema a.queries a.most_bytes lines left events
+read_at_most earlier a most source left Had events same had read lines told = subst (λ n. AreEventsReadAfter earlier a.schema a.queries n lines left events) same (read lines (had lines told))
+
 pub ends_at_end : (earlier : List StreamEvent) {T : Type 0} (a : Asked) (source : Option (List ℕ)) (old_reader reader : LineReader) (had left before middle after : Option (List ℕ)) (held : List ℕ) (old new : ℕ) (engine now : State) (done : T) (result : Result T (OrMemory StreamFault)) →
     reader.budget ≡ a.most_bytes → (r : Running earlier a source old_reader had before middle held engine) →
     AfterCall earlier a.schema a.queries reader engine now (λ bytes. HasTakenAfter earlier a.schema a.queries old_reader bytes had r.events) left r.events (Ok taken.End) →
@@ -78,7 +83,7 @@ ends_by earlier a source old_reader reader had left before middle after held old
     (at_most earlier a reader.budget source (λ bytes. HasTakenAfter earlier a.schema a.queries old_reader bytes had r.events) r.events (stop.InputTooLong most) budget r.taken took.1) finished (λ all. all)
 ends_by earlier a source old_reader reader had left before middle after held old new engine now (Fault run.ReadFault) result budget same r took finished =
     ends earlier a source left before middle after held r.written old new r.events (Err (Fault fault.ReadFault)) result r.took r.behind r.output (begins_so earlier a source old_reader had r.events same r.taken) finished
-    (λ all. record { events = r.events; bytes = r.written ++ held; output = r.output; took = all; are = λ lines told. took.1 lines (r.taken lines told) })
+    (λ all. record { events = r.events; bytes = r.written ++ held; output = r.output; took = all; are = read_at_most earlier a reader.budget source left (λ bytes. HasTakenAfter earlier a.schema a.queries old_reader bytes had r.events) r.events budget r.taken took.1 })
 
 -- memory ran out while the answers of an event were put
 pub ends_for_memory : (earlier : List StreamEvent) {T : Type 0} (a : Asked) (source : Option (List ℕ)) (reader : LineReader) (left before middle later after : Option (List ℕ)) (held blocks now : List ℕ) (old new : ℕ) (engine : State) (result : Result T (OrMemory StreamFault)) →

@@ -23,5 +23,5 @@ WroteAtEnd schema queries most_bytes Tells source left before after (Err (Fault 
 WroteAtEnd schema queries most_bytes Tells source left before after (Err (Fault (fault.Event line refusal))) = (after ≡ before) × StopsOver schema queries most_bytes source (stop.Event line refusal)
 WroteAtEnd schema queries most_bytes Tells source left before after (Err (Fault (fault.InputTooLong taken))) = (after ≡ before) × StopsOver schema queries most_bytes source (stop.InputTooLong taken)
 WroteAtEnd schema queries most_bytes Tells source left before after (Err (Fault fault.ReadFault)) =
-    (after ≡ before) × ((lines : List ℕ) → source ≡ Some lines → (events : List StreamEvent) × AreEventsRead schema queries lines left events)
+    (after ≡ before) × ((lines : List ℕ) → source ≡ Some lines → (events : List StreamEvent) × AreEventsRead schema queries most_bytes lines left events)
 WroteAtEnd schema queries most_bytes Tells source left before after (Err Memory) = after ≡ before

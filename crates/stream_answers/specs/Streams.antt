@@ -73,7 +73,7 @@ WroteStreamAfter earlier a source left old new (Ok done) = WroteAllAfter earlier
 WroteStreamAfter earlier a source left old new (Err (Fault (fault.Event line refusal))) = WroteAllAfter earlier a source (stop.Event line refusal) old new
 WroteStreamAfter earlier a source left old new (Err (Fault (fault.InputTooLong taken))) = WroteAllAfter earlier a source (stop.InputTooLong taken) old new
 WroteStreamAfter earlier a source left old new (Err (Fault fault.ReadFault)) =
-    WroteOverAfter earlier a source (λ lines events. AreEventsReadAfter earlier a.schema a.queries lines left events) old new
+    WroteOverAfter earlier a source (λ lines events. AreEventsReadAfter earlier a.schema a.queries a.most_bytes lines left events) old new
 WroteStreamAfter earlier a source left old new (Err (Fault fault.WriteFault)) = WrotePartOfAfter earlier a source (TookPart old new)
 WroteStreamAfter earlier a source left old new (Err Memory) = WrotePartOfAfter earlier a source (TookPrefix old new)
 

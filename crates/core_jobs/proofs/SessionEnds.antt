@@ -59,7 +59,7 @@ abbrev Begins : Declared → List Query → List ℕ → List ℕ → Type 0
 Begins schema queries script bytes = BeginsPlay schema queries MOST_BYTES script bytes
 
 abbrev Reads : Option (List ℕ) → Declared → List Query → List ℕ → List ℕ → Type 0
-Reads left schema queries script bytes = WritesRead schema queries script left bytes
+Reads left schema queries script bytes = WritesRead schema queries MOST_BYTES script left bytes
 
 -- the script stopped so
 has_stopped : {S : Type 0} (o : Outside) (s : SessionWords) (schema : Declared) (queries : List Query) (source : Option (List ℕ)) (was : Stop) (failed : Option S) → failed ≡ None →
@@ -76,14 +76,14 @@ has_stopped o s schema queries source was failed none accepted opened wrote =
 
 -- what a source that failed has left is the last part of the file
 rest_left : (schema : Declared) (queries : List Query) (content : Content) (source left : Option (List ℕ)) (bytes : List ℕ) → HasOpened content source →
-    ((script : List ℕ) → source ≡ Some script → WritesRead schema queries script left bytes) → IsRestOf content left
+    ((script : List ℕ) → source ≡ Some script → WritesRead schema queries MOST_BYTES script left bytes) → IsRestOf content left
 rest_left schema queries Untold source left bytes opened read = tt
 rest_left schema queries Missing source left bytes opened read = opened
 rest_left schema queries (Holds script) source None bytes opened read = read script opened
 rest_left schema queries (Holds script) source (Some rest) bytes opened read = let r = read script opened in (r.read, r.whole)
 
 failed_so : {S : Type 0} (sources : Sources S) (schema : Declared) (queries : List Query) (content : Content) (source : Option (List ℕ)) (to : ℕ) (bytes : List ℕ) (failed : Option S) → HasOpened content source →
-    IsSomeAnd failed (λ s. (sources.faults s ≡ to) × Rose 0 to) → ((script : List ℕ) → source ≡ Some script → WritesRead schema queries script (left_by sources failed) bytes) →
+    IsSomeAnd failed (λ s. (sources.faults s ≡ to) × Rose 0 to) → ((script : List ℕ) → source ≡ Some script → WritesRead schema queries MOST_BYTES script (left_by sources failed) bytes) →
     IsSomeAnd failed (FailedWith sources content to)
 failed_so sources schema queries content source to bytes None opened told read = told
 failed_so sources schema queries content source to bytes (Some s) opened told read = record { told = told.0; rose = told.1; rest = rest_left schema queries content source (sources.left s) bytes opened read }

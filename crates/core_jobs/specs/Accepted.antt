@@ -100,9 +100,9 @@ ScriptWrites text script stop bytes = SaysOf text (λ schema queries. PlaysTo sc
 abbrev pub ScriptBegins : List ℕ → List ℕ → List ℕ → Type 0
 ScriptBegins text script bytes = SaysOf text (λ schema queries. BeginsPlay schema queries MOST_SCRIPT script bytes)
 
--- and those of the lines that end among the bytes that a source, which failed, no longer has left, all of them good
+-- and those of the first lines, which are those that end among the bytes that a source, which failed, no longer has left, all of them good
 abbrev pub ScriptWroteRead : List ℕ → List ℕ → Option (List ℕ) → List ℕ → Type 0
-ScriptWroteRead text script left bytes = SaysOf text (λ schema queries. WritesRead schema queries script left bytes)
+ScriptWroteRead text script left bytes = SaysOf text (λ schema queries. WritesRead schema queries MOST_SCRIPT script left bytes)
 
 -- the bytes are the checkpoint of all events that the text's queries take of the file
 abbrev pub IsSaved : List ℕ → List ℕ → List ℕ → Type 0

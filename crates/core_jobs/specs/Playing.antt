@@ -19,7 +19,7 @@ PlayStop sources a source out_old out_new before after (cause.Event line fault) 
 PlayStop sources a source out_old out_new before after (cause.InputTooLong taken) failed = (failed ≡ None) × WroteAll a source (stop.InputTooLong taken) before after
 PlayStop sources a source out_old out_new before after (cause.ReadFault read to) failed =
     (read ≡ file.Events) × IsSomeAnd failed (λ s. (sources.faults s ≡ to) × Rose 0 to)
-    × WroteOver source (λ script bytes. WritesRead a.schema a.queries script (left_by sources failed) bytes) (TookAll before after)
+    × WroteOver source (λ script bytes. WritesRead a.schema a.queries a.most_bytes script (left_by sources failed) bytes) (TookAll before after)
 PlayStop sources a source out_old out_new before after (cause.WriteFault from to) failed =
     (failed ≡ None) × (from ≡ out_old) × (to ≡ out_new) × Rose from to × WrotePart a source (TookPart before after)
 PlayStop sources a source out_old out_new before after cause.Memory failed = (failed ≡ None) × WrotePart a source (TookPrefix before after)

@@ -3,4 +3,5 @@ mod Spelled
 mod Seen
 mod Pulled
 mod Stepping
+mod Costs
 mod EngineTalk

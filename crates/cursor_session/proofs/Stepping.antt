@@ -14,7 +14,9 @@ use Rattle.cel_terms.specs.declared.Query.{Query}
 use Rattle.cel_terms.specs.Answers.{Answer}
 use Rattle.cel_plain.specs.Valuations.{AreAnswersAt}
 use Rattle.query_engine.specs.Clocks.{NoneFallsBack, IsFirstToFall}
-use Rattle.query_engine.specs.Engine.{State, Open, StandsFor, Fits, rest, count_of, KeepsCursors, SameQueries}
+use Rattle.query_engine.specs.Engine.{State, Open, StandsFor, Fits, rest, count_of, KeepsCursors, SameQueries, update_bounds}
+use Rattle.query_engine.specs.Windows.{HasAdded}
+use Rattle.query_engine.specs.Keys.{HasAddedKeys}
 use Rattle.query_engine.specs.Engine as engines
 use Rattle.query_engine.specs.Holding.{answer_of}
 use Rattle.answer_blocks.specs.Counted.{delays}
@@ -26,7 +28,7 @@ use Rattle.cursor_session.specs.declared.session.RunFault.{RunFault}
 use Rattle.cursor_session.specs.declared.session.RunFault.TheVariants.{Memory}
 use Rattle.cursor_session.specs.declared.opened.Opened.{Opened}
 use Rattle.cursor_session.specs.Machine.{Machine, OpenCursor, IsStep, cursor_place, position_line, has_number, pull_text, EventStep, PullStep}
-use Rattle.cursor_session.specs.Sessions.{Session, Stands, Ended, Broke, Writes, IsUnchanged, IsKept, as_run_fault, pull_bound, cursor_seen, cursors_seen, left_of}
+use Rattle.cursor_session.specs.Sessions.{Session, Stands, Ended, Broke, Writes, IsUnchanged, IsKept, HasTaken, HasCompacted, EventAdds, EventIsWithin, UnlessRefused, as_run_fault, pull_bound, cursor_seen, cursors_seen, left_of}
 use Rattle.cursor_session.proofs.Seen.{fits_kept, seen_kept, fits_held, seen_held, place_seen, seen_at, seen_set, seen_more, seen_fewer}
 
 -- a session, by its parts
@@ -108,6 +110,18 @@ broke_event e os cs d s new machine event place before after stop fault view clo
 pub kept_event : (e f : State) (os : List Opened) (cs : List Open) → KeepsCursors e f → IsKept e os cs → IsKept f os cs
 kept_event e f os cs keeps kept = record { count = kept.count; fit = fits_kept e f cs keeps kept.fit }
 
+-- what it added
+pub adds : (e f : State) (os : List Opened) (cs : List Open) (d : Bool) (s : Session) (event : Event) → session e os cs d ≡ s → HasAdded e f event → HasAddedKeys e f event → HasTaken event s.engine f
+adds e f os cs d s event view added keys = let P : Session → Type 0 = λ t. HasTaken event t.engine f in subst P view (record { added = added; keys = keys })
+
+pub adds_untold : (e f : State) (event : Event) (stop : OrMemory Failure) (fault : RunFault) → fault ≡ as_run_fault stop → HasTaken event e f → EventAdds event e f (Err fault)
+adds_untold e f event (or.Fault x) fault is has = subst (λ (y : RunFault). EventAdds event e f (Err y)) (sym is) has
+adds_untold e f event or.Memory fault is has = subst (λ (y : RunFault). EventAdds event e f (Err y)) (sym is) (inr has)
+
+pub within_untold : (new : Session) (before after : ℕ) (stop : OrMemory Failure) (fault : RunFault) → fault ≡ as_run_fault stop → after ≤ before + update_bounds new.engine → EventIsWithin new before after (Err fault)
+within_untold new before after (or.Fault x) fault is within = subst (λ (y : RunFault). EventIsWithin new before after (Err y)) (sym is) within
+within_untold new before after or.Memory fault is within = subst (λ (y : RunFault). EventIsWithin new before after (Err y)) (sym is) tt
+
 -- CURSORS
 
 -- the number of a query has one
@@ -167,7 +181,7 @@ kept_open e os os2 cs cs2 o c kept fits opened cursors =
     subst (λ (x : List Opened). IsKept e x cs2) (sym opened) (subst (λ (y : List Open). IsKept e (os ++ o ∷ []) y) (sym cursors) both)
 
 -- the place of a number among the cursors of the machine
-place_is : (e : State) (os : List Opened) (cs : List Open) (machine : Machine) (number : ℕ) (place : Option ℕ) → machine.cursors ≡ cursors_seen e os cs → length os ≡ length cs →
+pub place_is : (e : State) (os : List Opened) (cs : List Open) (machine : Machine) (number : ℕ) (place : Option ℕ) → machine.cursors ≡ cursors_seen e os cs → length os ≡ length cs →
     place ≡ position (λ (o : Opened). o.number == number) os → cursor_place number machine ≡ place
 place_is e os cs machine number place seen long found = ap (position (has_number number)) seen ∙ (place_seen e number os cs long ∙ sym found)
 
@@ -198,7 +212,7 @@ not_open e os cs d s machine number view kept found stands =
 -- PULLS
 
 -- where the cursor of a number is, and what it has left
-at_place : (e : State) (os : List Opened) (cs : List Open) (machine : Machine) (k : ℕ) (o : Opened) (c : Open) → machine.cursors ≡ cursors_seen e os cs → slice_get os k ≡ Some o → slice_get cs k ≡ Some c →
+pub at_place : (e : State) (os : List Opened) (cs : List Open) (machine : Machine) (k : ℕ) (o : Opened) (c : Open) → machine.cursors ≡ cursors_seen e os cs → slice_get os k ≡ Some o → slice_get cs k ≡ Some c →
     slice_get machine.cursors k ≡ Some (cursor_seen e o c)
 at_place e os cs machine k o c seen here there = ap (λ (l : List OpenCursor). slice_get l k) seen ∙ seen_at e os cs k o c here there
 
@@ -262,6 +276,11 @@ within_pull e os cs d s machine number n k before after o c view kept found here
     let cursor : one ≡ cursor_seen e o c = cc in
     omega (arith, within, ap (pull_bound n) cursor)) stands
 
+-- where writing stopped, it was not refused
+pub unrefused : (before after : ℕ) (Bounded : Type 0) (stop : OrMemory Failure) (fault : RunFault) → fault ≡ as_run_fault stop → Bounded → UnlessRefused before after Bounded (Err fault)
+unrefused before after Bounded (or.Fault x) fault is within = subst (λ (y : RunFault). UnlessRefused before after Bounded (Err y)) (sym is) within
+unrefused before after Bounded or.Memory fault is within = subst (λ (y : RunFault). UnlessRefused before after Bounded (Err y)) (sym is) within
+
 pub kept_pull : (e : State) (os : List Opened) (cs cs2 : List Open) (k : ℕ) (c2 : Open) → IsKept e os cs → Fits e c2 → cs2 ≡ slice_set cs k c2 → IsKept e os cs2
 kept_pull e os cs cs2 k c2 kept fits set =
     let there : IsKept e os (slice_set cs k c2) = record {
@@ -286,6 +305,11 @@ went_compact e f os cs cs2 d s machine taken view going stood long kept stands =
       going = going;
       took = took_none taken;
     }) going stands
+
+pub compacted : (e f : State) (os : List Opened) (cs hs cs2 : List Open) (d : Bool) (s : Session) → session e os cs d ≡ s → cs2 ≡ hs → HasCompacted e f hs → HasCompacted s.engine f cs2
+compacted e f os cs hs cs2 d s view same has =
+    let P : Session → Type 0 = λ t. HasCompacted t.engine f cs2 in
+    subst P view (subst (λ (l : List Open). HasCompacted e f l) (sym same) has)
 
 pub kept_compact : (e f : State) (os : List Opened) (cs cs2 : List Open) → IsKept e os cs → length cs2 ≡ length cs →
     ((k : ℕ) → (x : Open) → k < length cs → engines.IsKept e f (get_or cs k x) (get_or cs2 k x)) → IsKept f os cs2

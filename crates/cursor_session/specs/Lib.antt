@@ -3,4 +3,5 @@ pub mod Commands
 pub mod Spelling
 pub mod Machine
 pub mod Sessions
+pub mod Steps
 pub mod EngineSteps

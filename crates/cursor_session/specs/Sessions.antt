@@ -1,6 +1,7 @@
 -- What contracts see of a session, which machine it is, and how a command may end.
 use Rattle.std.specs.Prelude.{◌≡◌, ℕ, ◌+◌, ◌^◌, ◌<◌, ◌≤◌, ◌⊎◌, Bool, true, false, List, [], ◌∷◌, length, map, take, All, Option, Some, slice_get, Result, Ok, Err}
 use Rattle.stream_schema.specs.Types.{Declared}
+use Rattle.stream_schema.specs.declared.Event.{Event as StreamEvent}
 use Rattle.cel_terms.specs.declared.Query.{Query}
 use Rattle.cel_terms.specs.Answers.{Answer}
 use Rattle.cer_outside.specs.Bytes.{TookAll, TookPart}
@@ -9,8 +10,10 @@ use Rattle.cer_base.specs.declared.OrMemory.TheVariants as or
 use Rattle.cer_outside.specs.Causes.{Rose}
 use Rattle.cer_outside.specs.declared.WriteFault.{WriteFault as Failure}
 use Rattle.query_engine.specs.Bounds.{update_bound}
-use Rattle.query_engine.specs.Engine.{State, Open, StandsFor, Fits, rest, count_of, found_of, update_bounds}
-use Rattle.query_engine.specs.Compacting.{compact_bounds}
+use Rattle.query_engine.specs.Engine.{State, Open, StandsFor, Fits, rest, count_of, found_of, len_of, peak_of, update_bounds}
+use Rattle.query_engine.specs.Compacting.{IsLeft, compact_bounds}
+use Rattle.query_engine.specs.Windows.{IsDense, FollowsWindow, HasAdded}
+use Rattle.query_engine.specs.Keys.{HasAddedKeys, KeysFollowWindow}
 use Rattle.query_engine.specs.Holding.{answer_of}
 use Rattle.answer_blocks.specs.Counted.{delays}
 use Rattle.answer_blocks.specs.Taken.{TookPrefix}
@@ -111,21 +114,69 @@ abbrev pub HasRunCause : ℕ → ℕ → Result (Unit {0}) RunFault → Type 0
 HasRunCause before now (Err WriteFault) = Rose before now
 HasRunCause before now _ = now ≡ before
 
+-- What a compaction of the engine leaves, these cursors being held: the nodes and keys that they and the windows need, so that these follow the windows, and the states that were found.
+pub record HasCompacted (old new : State) (held : List Open) : Type 0 where
+  pub left : IsLeft new held
+  pub dense : (events : List StreamEvent) → IsDense old events → IsDense new events
+  pub window : (events : List StreamEvent) → StandsFor old events → IsDense old events → FollowsWindow new events held
+  pub keys : (events : List StreamEvent) → StandsFor old events → KeysFollowWindow new events held
+  pub found : (query : ℕ) → found_of new query ≡ found_of old query
+  pub fewer : (query : ℕ) → len_of new query ≤ len_of old query
+  pub peak : (query : ℕ) → peak_of new query ≡ peak_of old query
+
+-- What an event that was taken adds to the engine: states, nodes and keys.
+pub record HasTaken (event : StreamEvent) (old new : State) : Type 0 where
+  pub added : HasAdded old new event
+  pub keys : HasAddedKeys old new event
+
+-- an event that was taken adds to the engine, also where its position was not written whole; else the engine stays
+abbrev pub EventAdds : StreamEvent → State → State → Result (Unit {0}) RunFault → Type 0
+EventAdds event old new (Ok done) = HasTaken event old new
+EventAdds event old new (Err (Refused why)) = new ≡ old
+EventAdds event old new (Err WriteFault) = HasTaken event old new
+EventAdds event old new (Err Memory) = (new ≡ old) ⊎ HasTaken event old new
+
+-- the engine is compacted, or it stays
+abbrev pub CompactionLeaves : State → State → List Open → Result (Unit {0}) RunFault → Type 0
+CompactionLeaves old new held (Ok done) = HasCompacted old new held
+CompactionLeaves old new held (Err why) = new ≡ old
+
+-- What a command makes of the engine: an event adds, a compaction leaves what is needed, and all else changes nothing.
+abbrev pub EngineEnded : Command → State → Session → Result (Unit {0}) RunFault → Type 0
+EngineEnded (command.Event event) old new result = EventAdds event old new.engine result
+EngineEnded (command.OpenAt query cursor) old new result = new.engine ≡ old
+EngineEnded (command.Pull cursor n) old new result = new.engine ≡ old
+EngineEnded (command.Drop cursor) old new result = new.engine ≡ old
+EngineEnded command.Compact old new result = CompactionLeaves old new.engine new.cursors result
+
 -- how many steps a pull from a cursor may take: the delay of each answer that it gives, and one
 abbrev pub pull_bound : ℕ → OpenCursor → ℕ
 pull_bound n cursor = delays (take n cursor.left) + 1
 
--- so many for an event, unless memory ran out
-abbrev pub EventIsWithin : Session → ℕ → ℕ → Result (Unit {0}) RunFault → Type 0
-EventIsWithin new before after (Err Memory) = Unit {0}
-EventIsWithin new before after _ = after ≤ before + update_bounds new.engine
+-- no step where the command is refused, and else so many
+abbrev pub UnlessRefused : ℕ → ℕ → Type 0 → Result (Unit {0}) RunFault → Type 0
+UnlessRefused before after Bounded (Ok done) = Bounded
+UnlessRefused before after Bounded (Err (Refused why)) = after ≡ before
+UnlessRefused before after Bounded (Err WriteFault) = Bounded
+UnlessRefused before after Bounded (Err Memory) = Bounded
 
--- How many steps a command takes at most. An event for which memory ran out is left open here.
+-- so many for an event, none where it is refused, unless memory ran out
+abbrev pub EventIsWithin : Session → ℕ → ℕ → Result (Unit {0}) RunFault → Type 0
+EventIsWithin new before after (Ok done) = after ≤ before + update_bounds new.engine
+EventIsWithin new before after (Err (Refused why)) = after ≡ before
+EventIsWithin new before after (Err WriteFault) = after ≤ before + update_bounds new.engine
+EventIsWithin new before after (Err Memory) = Unit {0}
+
+-- so many for a pull from the cursor of the machine that has the number
+abbrev pub PullIsWithin : ℕ → ℕ → Machine → ℕ → ℕ → Type 0
+PullIsWithin number n machine before after =
+    (place : ℕ) (one : OpenCursor) → cursor_place number machine ≡ Some place → slice_get machine.cursors place ≡ Some one → after ≤ before + pull_bound n one
+
+-- How many steps a command takes at most, none where it is refused. An event for which memory ran out is left open here.
 abbrev pub IsWithin : Command → Session → Machine → Session → ℕ → ℕ → Result (Unit {0}) RunFault → Type 0
 IsWithin (command.Event event) old machine new before after result = EventIsWithin new before after result
-IsWithin (command.OpenAt query cursor) old machine new before after result = after ≤ before + update_bound (found_of old.engine query)
-IsWithin (command.Pull cursor n) old machine new before after result =
-    (place : ℕ) (one : OpenCursor) → cursor_place cursor machine ≡ Some place → slice_get machine.cursors place ≡ Some one → after ≤ before + pull_bound n one
+IsWithin (command.OpenAt query cursor) old machine new before after result = UnlessRefused before after (after ≤ before + update_bound (found_of old.engine query)) result
+IsWithin (command.Pull cursor n) old machine new before after result = UnlessRefused before after (PullIsWithin cursor n machine before after) result
 IsWithin (command.Drop cursor) old machine new before after result = after ≡ before
 IsWithin command.Compact old machine new before after result = after ≤ before + compact_bounds old.engine
 

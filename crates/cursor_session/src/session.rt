@@ -5,10 +5,11 @@ ghost use Rattle.stream_schema.specs.Events.{IsOfSchema};
 ghost use Rattle.cel_terms.specs.Checked.{IsChecked};
 ghost use Rattle.query_engine.specs.Bounds.{update_bound};
 ghost use Rattle.query_engine.specs.Engine.{SameQueries, count_of, found_of};
-ghost use Rattle.query_engine.specs.Compacting.{IsLeft, compact_bounds};
+ghost use Rattle.query_engine.specs.Compacting.{compact_bounds};
 ghost use Rattle.cursor_session.specs.Commands.{HasEventOf};
 ghost use Rattle.cursor_session.specs.Machine.{Machine, at_first};
-ghost use Rattle.cursor_session.specs.Sessions.{Stands, IsNew, Ended, HasRoom, HasRunCause, IsWithin, EventIsWithin, as_run_fault};
+ghost use Rattle.cursor_session.specs.Sessions.{Stands, IsNew, Ended, HasRoom, HasRunCause, EngineEnded, IsWithin, EventIsWithin, UnlessRefused, as_run_fault};
+ghost use Rattle.cursor_session.specs.Steps.{CostsAtMost};
 ghost use Rattle.cursor_session.specs.declared.command.Command.TheVariants as commands;
 
 use crate::command::Command;
@@ -153,7 +154,10 @@ impl Session {
         ensures same { SameQueries self.old.engine self.new.engine }
         ensures count { count_of self.new.engine ≤ count_of self.old.engine + 1 }
         ensures cause { HasRunCause (K.faults out.old) (K.faults out.new) result }
+        ensures engine { EngineEnded (commands.Event event.now) self.old.engine self.new result }
         ensures steps { EventIsWithin self.new steps.old steps.new result }
+        ensures costs { (machine : Machine) → Stands self.old machine
+            → CostsAtMost (commands.Event event.now) self.old machine steps.old steps.new }
     {
         match self.engine.see(event, steps) {
             Ok(position) => match write_at(out, &mut self.buffer, position) {
@@ -183,7 +187,11 @@ impl Session {
         ensures same { SameQueries self.old.engine self.new.engine }
         ensures count { count_of self.new.engine ≤ count_of self.old.engine + 1 }
         ensures cause { (count : ℕ) → HasRunCause count count result }
-        ensures steps { steps.new ≤ steps.old + update_bound (found_of self.old.engine query) }
+        ensures engine { self.new.engine ≡ self.old.engine }
+        ensures steps { UnlessRefused steps.old steps.new (steps.new
+            ≤ steps.old + update_bound (found_of self.old.engine query)) result }
+        ensures costs { (machine : Machine) → Stands self.old machine
+            → CostsAtMost (commands.OpenAt query number) self.old machine steps.old steps.new }
     {
         if query == 0 || query > self.engine.queries() {
             return Err(RunFault::Refused(Refusal::NoQuery { query }));
@@ -226,9 +234,12 @@ impl Session {
         ensures same { SameQueries self.old.engine self.new.engine }
         ensures count { count_of self.new.engine ≤ count_of self.old.engine + 1 }
         ensures cause { HasRunCause (K.faults out.old) (K.faults out.new) result }
+        ensures engine { self.new.engine ≡ self.old.engine }
         ensures steps { (machine : Machine) → Stands self.old machine
             → IsWithin (commands.Pull number n) self.old machine self.new steps.old steps.new
             result }
+        ensures costs { (machine : Machine) → Stands self.old machine
+            → CostsAtMost (commands.Pull number n) self.old machine steps.old steps.new }
     {
         match place_among(self.opened.as_slice(), number) {
             None => Err(RunFault::Refused(Refusal::CursorNotOpen { cursor: number })),
@@ -254,6 +265,7 @@ impl Session {
         ensures same { SameQueries self.old.engine self.new.engine }
         ensures count { count_of self.new.engine ≤ count_of self.old.engine + 1 }
         ensures cause { (count : ℕ) → HasRunCause count count result }
+        ensures engine { self.new.engine ≡ self.old.engine }
     {
         match place_among(self.opened.as_slice(), number) {
             None => Err(RunFault::Refused(Refusal::CursorNotOpen { cursor: number })),
@@ -273,8 +285,10 @@ impl Session {
         ensures same { SameQueries self.old.engine self.new.engine }
         ensures count { count_of self.new.engine ≤ count_of self.old.engine + 1 }
         ensures cause { (count : ℕ) → HasRunCause count count result }
-        ensures left { OnOk result (IsLeft self.new.engine self.new.cursors) }
+        ensures engine { EngineEnded commands.Compact self.old.engine self.new result }
         ensures steps { steps.new ≤ steps.old + compact_bounds self.old.engine }
+        ensures costs { (machine : Machine) → Stands self.old machine
+            → CostsAtMost commands.Compact self.old machine steps.old steps.new }
     {
         match self.engine.compact(self.cursors.as_mut_slice(), steps) {
             Ok(()) => Ok(()),
@@ -285,7 +299,10 @@ impl Session {
     /// Carries out the command. The session is not closed; an event is of its schema, and there is a
     /// position after it.
     ///
-    /// After a refusal nothing has changed, and nothing was written:
+    /// An event adds to the engine what `Engine::see` says, a compaction leaves of it what
+    /// `Engine::compact` says, and no other command changes it.
+    ///
+    /// After a refusal nothing has changed, nothing was written, and no step was taken:
     ///
     /// - `NoQuery`: there is no query of this number, which is from 1.
     /// - `NoEventYet`: there is one, and no event was taken.
@@ -311,10 +328,11 @@ impl Session {
         ensures same { SameQueries self.old.engine self.new.engine }
         ensures count { count_of self.new.engine ≤ count_of self.old.engine + 1 }
         ensures cause { HasRunCause (K.faults out.old) (K.faults out.new) result }
-        ensures left { command ≡ commands.Compact → OnOk result (IsLeft self.new.engine
-            self.new.cursors) }
+        ensures engine { EngineEnded command self.old.engine self.new result }
         ensures steps { (machine : Machine) → Stands self.old machine → IsWithin command self.old
             machine self.new steps.old steps.new result }
+        ensures costs { (machine : Machine) → Stands self.old machine → CostsAtMost command
+            self.old machine steps.old steps.new }
     {
         match command {
             Command::Event(event) => self.take_event(&event, out, steps),

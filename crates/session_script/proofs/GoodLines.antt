@@ -1,5 +1,6 @@
 -- Lines that are all good, and the script of which they are the first.
-use Rattle.std.proofs.Common.{◌≡◌, ℕ, ◌+◌, inl, inr, List, [], ◌∷◌, ◌++◌, length, Option, Some, None, Result, Ok, Err, refl, sym, ◌∙◌, ap, subst, append_assoc, length-append, arith}
+use Rattle.std.proofs.Common.{◌≡◌, ℕ, ◌+◌, inl, inr, List, [], ◌∷◌, ◌++◌, length, take, drop, Option, Some, None, Result, Ok, Err, refl, sym, ◌∙◌, ap, subst, append_assoc, length-append, arith}
+use Rattle.std.proofs.lemmas.Grind.{common_steps}
 use Rattle.std.proofs.lemmas.List.{append-nil}
 use Rattle.stream_schema.specs.Types.{Declared}
 use Rattle.cel_terms.specs.declared.Query.{Query}
@@ -95,13 +96,23 @@ at_end schema queries most script texts why machine bytes is good =
     let Q : List (List ℕ) → Type 0 = λ t. PlaysOn schema queries 1 at_first [] t why bytes (stop_of why) in
     subst P (sym is) (subst Q all (goes_on schema queries 1 at_first [] texts [] why machine bytes bytes (stop_of why) good (refl, refl)))
 
+take_drop : (n : ℕ) (texts : List (List ℕ)) → take n texts ++ drop n texts ≡ texts
+take_drop n texts = grind (arith, common_steps)
+
 -- the source failed
 pub at_read_fault : (schema : Declared) (queries : List Query) (most : ℕ) (script : List ℕ) (left : Option (List ℕ)) (texts : List (List ℕ)) (machine : Machine) (bytes : List ℕ) →
-    IsCutAt most script left texts → ArePlayed schema queries at_first [] texts machine bytes → WritesRead schema queries script left bytes
+    IsCutAt most script left texts → ArePlayed schema queries at_first [] texts machine bytes → WritesRead schema queries most script left bytes
 at_read_fault schema queries most script None texts machine bytes cut good = cut
 at_read_fault schema queries most script (Some rest) texts machine bytes cut good =
     let P : List (List ℕ) → Type 0 = λ t. Writes schema queries t bytes in
-    record { read = cut.taken; whole = cut.whole; writes = subst P (sym cut.lines) (record { machine = machine; played = good }) }
+    let all = (file_lines most script).texts in
+    record {
+      read = cut.taken;
+      whole = cut.whole;
+      later = drop (length texts) all;
+      first = sym (take_drop (length texts) all) ∙ ap (λ (t : List (List ℕ)). t ++ drop (length texts) all) (cut.first ∙ sym cut.lines);
+      writes = subst P (sym cut.lines) (record { machine = machine; played = good });
+    }
 
 -- the line that was given last stops the script
 pub at_line : (schema : Declared) (queries : List Query) (reader : LineReader) (script : List ℕ) (left : Option (List ℕ)) (texts : List (List ℕ)) (text : List ℕ) (machine : Machine) (bytes : List ℕ) (refused : EventFault) →

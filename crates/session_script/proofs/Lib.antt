@@ -11,3 +11,5 @@ mod GoodLines
 mod LineEnds
 -- the session after each line, and how the script ends
 mod ScriptEnds
+-- how turns and their cost go on from line to line
+mod Turning

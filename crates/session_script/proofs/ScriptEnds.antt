@@ -20,7 +20,7 @@ use Rattle.event_run.specs.Runs as stop
 use Rattle.cursor_session.specs.Machine.{Machine, at_first}
 use Rattle.cursor_session.specs.Sessions.{Session, Stands}
 use Rattle.stream_answers.specs.Streams.{EventsAsked}
-use Rattle.session_script.specs.Scripts.{WrotePart, WrotePlay, PlaysTo, BeginsPlay}
+use Rattle.session_script.specs.Scripts.{WrotePart, WrotePlay, PlaysTo, BeginsPlay, WritesRead}
 use Rattle.session_script.specs.Playing.{IsGood, IsBad, WentOn, BrokeOff, LineEnded, HasLineCause, HasPlayed, Goes, line_stop}
 use Rattle.session_script.proofs.GoodLines.{one_more, at_end, at_read_fault, at_line, begins, nothing_played, begins_empty}
 
@@ -30,7 +30,7 @@ prefix_then before middle after x y first second = prefix_after before middle af
 
 -- AT FIRST
 
-pub begun : (schema : Declared) (queries : List Query) (reader : LineReader) (source taken : Option (List ℕ)) (session : Session) → Stands session at_first →
+abbrev pub begun : (schema : Declared) (queries : List Query) (reader : LineReader) (source taken : Option (List ℕ)) (session : Session) → Stands session at_first →
     ((script : List ℕ) → HasGiven reader script (Some script) []) → Goes schema queries source reader source taken taken session
 begun schema queries reader source taken session stands given = record {
   machine = at_first;
@@ -48,7 +48,7 @@ wrote_none a source taken = record { bytes = []; took = prefix_none taken []; ar
 -- ONE LINE MORE
 
 -- the lines with the one that was given last
-line_played : (schema : Declared) (queries : List Query) (old new : LineReader) (script : List ℕ) (had left : Option (List ℕ)) (machine next : Machine) (bytes own : List ℕ) →
+pub line_played : (schema : Declared) (queries : List Query) (old new : LineReader) (script : List ℕ) (had left : Option (List ℕ)) (machine next : Machine) (bytes own : List ℕ) →
     ((texts : List (List ℕ)) → HasGiven old script had texts → HasGiven new script left (texts ++ new.text ∷ [])) → IsGood schema queries new.text machine next own →
     HasPlayed schema queries old script had machine bytes → HasPlayed schema queries new script left next (bytes ++ own)
 line_played schema queries old new script had left machine next bytes own gives good played = record {
@@ -57,7 +57,7 @@ line_played schema queries old new script had left machine next bytes own gives 
   played = one_more schema queries at_first [] played.texts machine bytes new.text next own good played.played;
 }
 
-pub goes_further : (schema : Declared) (queries : List Query) (source : Option (List ℕ)) (old new : LineReader) (had left before middle after : Option (List ℕ)) (session now : Session) (text : List ℕ) → text ≡ new.text →
+abbrev pub goes_further : (schema : Declared) (queries : List Query) (source : Option (List ℕ)) (old new : LineReader) (had left before middle after : Option (List ℕ)) (session now : Session) (text : List ℕ) → text ≡ new.text →
     ((script : List ℕ) (texts : List (List ℕ)) → HasGiven old script had texts → HasGiven new script left (texts ++ new.text ∷ [])) → (g : Goes schema queries source old had before middle session) →
     WentOn schema queries text g.machine now middle after → Goes schema queries source new left before after now
 goes_further schema queries source old new had left before middle after session now text read gives g went = record {
@@ -106,7 +106,8 @@ ends_for_line a source old new had left before after session line.ReadFault budg
   took = g.took;
   are = λ script same.
       let p = g.played script same in
-      at_read_fault a.schema a.queries new.budget script left p.texts g.machine g.bytes (told script p.texts p.given) p.played;
+      subst (λ n. WritesRead a.schema a.queries n script left g.bytes) budget
+      (at_read_fault a.schema a.queries new.budget script left p.texts g.machine g.bytes (told script p.texts p.given) p.played);
 }
 ends_for_line a source old new had left before after session (line.LineTooLong number) budget told g = record {
   bytes = g.bytes;

@@ -1,3 +1,4 @@
 pub mod Scripts
+pub mod Turns
 pub mod Laws
 pub mod Playing

@@ -1,5 +1,5 @@
 -- What one line of a script made of a session, and what the lines so far have. Private clauses alone cite this file.
-use Rattle.std.specs.Prelude.{◌≡◌, ℕ, ◌⊎◌, false, List, [], Option, Some, None, Result, Ok, Err}
+use Rattle.std.specs.Prelude.{◌≡◌, ℕ, ◌+◌, ◌≤◌, ◌⊎◌, false, List, [], ◌∷◌, ◌++◌, length, Option, Some, None, Result, Ok, Err}
 use Rattle.cer_base.specs.declared.OrMemory.{OrMemory}
 use Rattle.cer_base.specs.declared.OrMemory.TheVariants.{Fault, Memory}
 use Rattle.cer_outside.specs.Bytes.{TookAll, TookPart}
@@ -7,6 +7,8 @@ use Rattle.cer_outside.specs.Causes.{Rose}
 use Rattle.stream_schema.specs.Types.{Declared}
 use Rattle.cel_terms.specs.declared.Query.{Query}
 use Rattle.answer_blocks.specs.Taken.{TookPrefix}
+use Rattle.query_engine.specs.Counts.{MeetMost, HasFewNodes}
+use Rattle.query_engine.specs.Engine.{State}
 use Rattle.event_reader.specs.declared.EventFault.{EventFault}
 use Rattle.event_reader.specs.declared.EventFault.TheVariants as event
 use Rattle.event_reader.specs.declared.LineFault.{LineFault}
@@ -19,8 +21,9 @@ use Rattle.cursor_session.specs.declared.session.Refusal.{Refusal}
 use Rattle.cursor_session.specs.declared.session.RunFault.{RunFault}
 use Rattle.cursor_session.specs.declared.session.RunFault.TheVariants as run
 use Rattle.cursor_session.specs.Machine.{Machine, at_first, IsStep, IsRefused}
-use Rattle.cursor_session.specs.Sessions.{Session, Stands}
+use Rattle.cursor_session.specs.Sessions.{Session, Stands, EngineEnded}
 use Rattle.session_script.specs.Scripts.{asked_by, refusal_fault, ArePlayed}
+use Rattle.session_script.specs.Turns.{Turn, turns_cost, line_events, line_cost, AreTurns}
 
 -- the line has no command, or its command makes this step
 abbrev pub IsGood : Declared → List Query → List ℕ → Machine → Machine → List ℕ → Type 0
@@ -59,6 +62,12 @@ LineEnded schema queries number text old new before after (Err (Fault (fault.Inp
 LineEnded schema queries number text old new before after (Err (Fault fault.ReadFault)) = ⊥
 LineEnded schema queries number text old new before after (Err Memory) = (after ≡ before) ⊎ BrokeOff schema queries text old (TookPrefix before after)
 
+-- what a line that was carried out made of the engine: what its command makes of it, and nothing where it has none
+abbrev pub LineMade : State → Session → Result (Option Command) EventFault → Type 0
+LineMade old new (Ok None) = new.engine ≡ old
+LineMade old new (Ok (Some asked)) = EngineEnded asked old new (Ok tt)
+LineMade old new (Err refused) = ⊥
+
 -- why a command was not carried out, or not to its end, at the line of this number
 abbrev pub line_end : ℕ → Result (Unit {0}) RunFault → Result (Unit {0}) (OrMemory StreamFault)
 line_end number (Ok done) = Ok done
@@ -93,6 +102,42 @@ pub record Goes (schema : Declared) (queries : List Query) (source : Option (Lis
   pub bytes : List ℕ
   pub took : TookAll before after bytes
   pub played : (script : List ℕ) → source ≡ Some script → HasPlayed schema queries reader script left machine bytes
+
+-- THE STEPS
+
+-- the turns with that of a line, where it has a command
+abbrev pub turns_with : List Turn → Machine → Result (Option Command) EventFault → List Turn
+turns_with turns machine (Ok (Some asked)) = turns ++ record { asked = asked; found = machine } ∷ []
+turns_with turns machine (Ok None) = turns
+turns_with turns machine (Err refused) = turns
+
+-- how many steps a line takes at most on the machine, where the engine has few nodes
+abbrev pub LineCosts : Declared → List Query → State → Machine → ℕ → ℕ → Result (Option Command) EventFault → Type 0
+LineCosts schema queries engine machine before after line = (most : ℕ → ℕ) → MeetMost schema queries (line_events machine line) most → HasFewNodes engine (length machine.events) most →
+    after ≤ before + line_cost (length queries) most machine line
+
+-- a line that is refused takes no step
+abbrev pub NoStepIfRefused : ℕ → ℕ → Result (Unit {0}) (OrMemory StreamFault) → Type 0
+NoStepIfRefused before after (Ok done) = Unit {0}
+NoStepIfRefused before after (Err (Fault (fault.Event at refused))) = after ≡ before
+NoStepIfRefused before after (Err (Fault fault.WriteFault)) = Unit {0}
+NoStepIfRefused before after (Err (Fault (fault.InputTooLong taken))) = Unit {0}
+NoStepIfRefused before after (Err (Fault fault.ReadFault)) = Unit {0}
+NoStepIfRefused before after (Err Memory) = Unit {0}
+
+-- The lines that the reader has given of a script are good, and these are the turns of their commands.
+pub record HasTurns (schema : Declared) (queries : List Query) (reader : LineReader) (script : List ℕ) (left : Option (List ℕ)) (turns : List Turn) (machine : Machine) (bytes : List ℕ) : Type 0 where
+  pub texts : List (List ℕ)
+  pub given : HasGiven reader script left texts
+  pub are : AreTurns schema queries at_first [] texts turns machine bytes
+
+-- The steps from the first to now are bounded by the turns so far, and the engine has no more nodes than the events may have added.
+pub record Counting (schema : Declared) (queries : List Query) (source : Option (List ℕ)) (reader : LineReader) (left before after : Option (List ℕ)) (session : Session) (first now : ℕ) : Type 0 where
+  pub goes : Goes schema queries source reader left before after session
+  pub turns : List Turn
+  pub are : (script : List ℕ) → source ≡ Some script → HasTurns schema queries reader script left turns goes.machine goes.bytes
+  pub bounded : (most : ℕ → ℕ) → MeetMost schema queries goes.machine.events most → now ≤ first + turns_cost (length queries) most turns
+  pub few : (most : ℕ → ℕ) → MeetMost schema queries goes.machine.events most → HasFewNodes session.engine (length goes.machine.events) most
 
 -- why there is no further line
 abbrev pub line_stop : LineFault → StreamFault

@@ -108,16 +108,18 @@ pub record BeginsPlay (schema : Declared) (queries : List Query) (most_bytes : �
   pub first : (file_lines most_bytes script).texts ≡ texts ++ later
   pub writes : Writes schema queries texts bytes
 
--- The bytes are what the lines write that end among the bytes that are no longer left; each of these lines is good.
-pub record WritesBefore (schema : Declared) (queries : List Query) (script rest bytes : List ℕ) : Type 0 where
+-- The bytes are what the lines write that end among the bytes that are no longer left; these are the first lines of the script, and each of them is good.
+pub record WritesBefore (schema : Declared) (queries : List Query) (most_bytes : ℕ) (script rest bytes : List ℕ) : Type 0 where
   pub read : List ℕ
   pub whole : script ≡ read ++ rest
+  pub later : List (List ℕ)
+  pub first : (file_lines most_bytes script).texts ≡ whole_lines read ++ later
   pub writes : Writes schema queries (whole_lines read) bytes
 
 -- the same of a source that tells what it has left
-abbrev pub WritesRead : Declared → List Query → List ℕ → Option (List ℕ) → List ℕ → Type 0
-WritesRead schema queries script None bytes = ⊥
-WritesRead schema queries script (Some rest) bytes = WritesBefore schema queries script rest bytes
+abbrev pub WritesRead : Declared → List Query → ℕ → List ℕ → Option (List ℕ) → List ℕ → Type 0
+WritesRead schema queries most_bytes script None bytes = ⊥
+WritesRead schema queries most_bytes script (Some rest) bytes = WritesBefore schema queries most_bytes script rest bytes
 
 -- The sink took bytes so, and where the source told its own, this is what they are.
 pub record WroteOver (source : Option (List ℕ)) (Are : List ℕ → List ℕ → Type 0) (Took : List ℕ → Type 0) : Type 0 where
@@ -139,6 +141,6 @@ WrotePlay a source left before after (Ok done) = WroteAll a source stop.End befo
 WrotePlay a source left before after (Err (Fault (fault.Event line refused))) = WroteAll a source (stop.Event line refused) before after
 WrotePlay a source left before after (Err (Fault (fault.InputTooLong taken))) = WroteAll a source (stop.InputTooLong taken) before after
 WrotePlay a source left before after (Err (Fault fault.ReadFault)) =
-    WroteOver source (λ script bytes. WritesRead a.schema a.queries script left bytes) (TookAll before after)
+    WroteOver source (λ script bytes. WritesRead a.schema a.queries a.most_bytes script left bytes) (TookAll before after)
 WrotePlay a source left before after (Err (Fault fault.WriteFault)) = WrotePart a source (TookPart before after)
 WrotePlay a source left before after (Err Memory) = WrotePart a source (TookPrefix before after)

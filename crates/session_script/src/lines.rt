@@ -1,6 +1,6 @@
 //! One line of a script, carried out.
 
-ghost use Rattle.std.specs.Prelude.{◌≡◌, ◌+◌, ◌^◌, ◌<◌, ◌≤◌, false, IfOk, IfSome};
+ghost use Rattle.std.specs.Prelude.{◌≡◌, ◌+◌, ◌^◌, ◌<◌, ◌≤◌, false, IfOk, IfSome, OnOk};
 ghost use Rattle.cer_base.specs.Answers.{Gives};
 ghost use Rattle.event_reader.specs.Lines.{has_line_feed};
 ghost use Rattle.query_engine.specs.Engine.{SameQueries, count_of};
@@ -8,7 +8,7 @@ ghost use Rattle.cursor_session.specs.Commands.{HasEventOf};
 ghost use Rattle.cursor_session.specs.Machine.{Machine};
 ghost use Rattle.cursor_session.specs.Sessions.{Stands};
 ghost use Rattle.session_script.specs.Scripts.{asked_by, command_fault, refusal_fault};
-ghost use Rattle.session_script.specs.Playing.{LineEnded, HasLineCause, line_end, line_fault};
+ghost use Rattle.session_script.specs.Playing.{LineEnded, LineMade, LineCosts, NoStepIfRefused, HasLineCause, line_end, line_fault};
 
 use cer_base::OrMemory;
 use cer_base::steps::Steps;
@@ -114,6 +114,13 @@ pub fn play_line<K: Sink, L: Ledger>(
     ensures same { SameQueries session.old.engine session.new.engine }
     ensures counted { count_of session.new.engine ≤ number }
     ensures cause { HasLineCause (K.faults out.old) (K.faults out.new) result }
+    ensures costs { (machine : Machine) → Stands session.old machine
+        → LineCosts session.old.engine.schema session.old.engine.queries session.old.engine machine
+        steps.old steps.new (asked_by session.old.engine.schema line.now) }
+    ensures refused { (machine : Machine) → Stands session.old machine → NoStepIfRefused steps.old
+        steps.new result }
+    ensures made { OnOk result (LineMade session.old.engine session.new
+        (asked_by session.old.engine.schema line.now)) }
 {
     match asked_by(alloc, session.schema(), line) {
         Ok(Some(command)) => line_end(number, session.run(command, out, steps)),

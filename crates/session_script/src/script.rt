@@ -8,6 +8,7 @@ ghost use Rattle.stream_answers.specs.Streams.{HasReadCause, HasWriteCause};
 ghost use Rattle.cursor_session.specs.Machine.{at_first};
 ghost use Rattle.cursor_session.specs.Sessions.{Stands};
 ghost use Rattle.session_script.specs.Scripts.{WrotePlay};
+ghost use Rattle.session_script.specs.Turns.{StepsOverPlay};
 ghost use Rattle.session_script.specs.Playing.{line_stop};
 
 use crate::lines::play_line;
@@ -29,6 +30,11 @@ pub const MOST_BYTES: u64 = 1_099_511_627_776;
 /// Carries out the lines of the source in order, on a session that begins with no event and no open
 /// cursor, and whose engine's tables hash by the seed. The queries are checked for the schema. A line
 /// that is empty but for a carriage return is passed over.
+///
+/// The steps are bounded by the commands that were carried out, each on the machine that it found:
+/// an event takes the bound of an update for each query, an opening that of its query, a pull the
+/// delay of each of its answers and one, a compaction nine times the bound of an update for each
+/// query and event. Where a write failed or memory ran out, the command that was begun counts too.
 ///
 /// The first fault ends it, after the commands before it were carried out:
 ///
@@ -53,6 +59,13 @@ pub fn play_script<Q: Source, K: Sink, L: Ledger>(
       most_bytes = MOST_BYTES;
     })
         (Q.left source.old) (Q.left source.new) (K.taken out.old) (K.taken out.new) result }
+    ensures steps { (script : List ℕ) → Q.left source.old ≡ Some script
+        → StepsOverPlay (record {
+          schema = schema;
+          queries = queries;
+          most_bytes = MOST_BYTES;
+        })
+        script (K.taken out.old) (K.taken out.new) steps.old steps.new result }
     ensures read_cause { HasReadCause (Q.faults source.old) (Q.faults source.new) result }
     ensures write_cause { HasWriteCause (K.faults out.old) (K.faults out.new) result }
 {
@@ -87,6 +100,13 @@ fn play_lines<Q: Source, K: Sink, L: Ledger>(
       most_bytes = lines.old.budget;
     })
         (Q.left source.old) (Q.left source.new) (K.taken out.old) (K.taken out.new) result }
+    ensures steps { (script : List ℕ) → Q.left source.old ≡ Some script
+        → StepsOverPlay (record {
+          schema = session.old.engine.schema;
+          queries = session.old.engine.queries;
+          most_bytes = lines.old.budget;
+        })
+        script (K.taken out.old) (K.taken out.new) steps.old steps.new result }
     ensures read_cause { HasReadCause (Q.faults source.old) (Q.faults source.new) result }
     ensures write_cause { HasWriteCause (K.faults out.old) (K.faults out.new) result }
 {

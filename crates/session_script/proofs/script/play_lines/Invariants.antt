@@ -1,12 +1,12 @@
 use Rattle.std.proofs.Common.{◌≡◌, ◌≤◌, false}
 use Rattle.query_engine.specs.Engine.{count_of, SameQueries}
-use Rattle.session_script.specs.Playing.{Goes}
+use Rattle.session_script.specs.Playing.{Counting}
 use Rattle.session_script.proofs.script.play_lines.Given as goal
 
--- the lines so far were carried out, and the sink took what they write
+-- the lines so far were carried out, the sink took what they write, and the steps are bounded by their turns
 abbrev pub invariant-loop-fault : goal.invariant-loop-fault
 invariant-loop-fault g l = record {
-  goes : Goes l.fn.session.engine.schema l.fn.session.engine.queries (g.Q.Source.left l.fn.source) l.lines (g.Q.Source.left l.source) (g.K.Sink.taken l.fn.out) (g.K.Sink.taken l.out) l.session;
+  counting : Counting l.fn.session.engine.schema l.fn.session.engine.queries (g.Q.Source.left l.fn.source) l.lines (g.Q.Source.left l.source) (g.K.Sink.taken l.fn.out) (g.K.Sink.taken l.out) l.session l.fn.steps l.steps;
   going : l.session.closed ≡ false;
   open_is : l.lines.closed ≡ false;
   counted : count_of l.session.engine ≤ l.lines.number;

@@ -1,8 +1,11 @@
 -- A cursor comes, or why not.
-use Rattle.std.proofs.Common.{◌≡◌, ◌-◌, ◌==◌, ◌≤◌, ◌<◌, ◌∙◌, length, ap, sym, position, None, ℕ, arith}
-use Rattle.query_engine.specs.Engine.{count_of}
+use Rattle.std.proofs.Common.{◌≡◌, ◌+◌, ◌-◌, ◌==◌, ◌≤◌, ◌<◌, ◌∙◌, length, ap, subst, sym, position, None, ℕ, arith}
+use Rattle.query_engine.specs.Bounds.{update_bound}
+use Rattle.query_engine.specs.Engine.{count_of, found_of}
 use Rattle.cursor_session.specs.declared.opened.Opened.{Opened}
+use Rattle.cursor_session.specs.Sessions.{Session}
 use Rattle.cursor_session.proofs.Stepping.{session, went_open, kept_open, kept_same, is_open, none_found, unchanged, same_lists}
+use Rattle.cursor_session.proofs.Costs.{costs_open}
 use Rattle.cursor_session.proofs.session.Session.open.Goals as goal
 use Rattle.cursor_session.proofs.session.Session.open.Goals.{in-Ok-add, in-Err-add}
 
@@ -43,3 +46,27 @@ returns-after-add-clause-ended g c = λ machine taken stands.
       | in-Err-add w ↦ rw w.result-is (unchanged c.args.self.now (session e c.add.new.opened.items c.add.new.cursors.items d) taken
           (same_lists e os c.add.new.opened.items cs c.add.new.cursors.items d c.args.self.now c.self.view_is w.in-Err-add.ensures.unchanged.0 w.in-Err-add.ensures.unchanged.1))
     ]
+
+pub returns-after-add-clause-costs : goal.returns-after-add-clause-costs
+returns-after-add-clause-costs g c = λ machine stands.
+    let one : 1 ≤ c.args.query = omega (arith, c.if-query-eq0.false) in
+    let most : c.args.query ≤ length c.self.inside.engine.queries = omega (arith, c.if-query-queries.false, c.queries.ensures) in
+    costs_open c.self.inside.engine c.self.inside.opened.items c.self.inside.cursors.items c.self.inside.closed c.args.self.now machine c.args.query c.args.number c.args.steps.now c.cursor.new.steps c.self.view_is one most c.cursor.ensures.steps stands
+
+pub returns-in-Err-clause-costs : goal.returns-in-Err-clause-costs
+returns-in-Err-clause-costs g c = λ machine stands.
+    let one : 1 ≤ c.args.query = omega (arith, c.if-query-eq0.false) in
+    let most : c.args.query ≤ length c.self.inside.engine.queries = omega (arith, c.if-query-queries.false, c.queries.ensures) in
+    costs_open c.self.inside.engine c.self.inside.opened.items c.self.inside.cursors.items c.self.inside.closed c.args.self.now machine c.args.query c.args.number c.args.steps.now c.cursor.new.steps c.self.view_is one most c.cursor.ensures.steps stands
+
+pub returns-after-add-clause-steps : goal.returns-after-add-clause-steps
+returns-after-add-clause-steps g c =
+    let P : Session → Type 0 = λ t. c.cursor.new.steps ≤ c.args.steps.now + update_bound (found_of t.engine c.args.query) in
+    let within = subst P c.self.view_is c.cursor.ensures.steps in
+    elim c.match-add.branch [
+      | in-Ok-add w ↦ rw w.result-is within
+      | in-Err-add w ↦ rw w.result-is within
+    ]
+
+pub returns-after-add-clause-engine : goal.returns-after-add-clause-engine
+returns-after-add-clause-engine g c = ap (λ (s : Session). s.engine) c.self.view_is

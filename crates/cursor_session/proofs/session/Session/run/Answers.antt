@@ -1,4 +1,6 @@
 -- Each command is one of the session's own calls.
+use Rattle.std.proofs.Common.{refl}
+use Rattle.cursor_session.proofs.Costs.{costs_nothing}
 use Rattle.cursor_session.proofs.session.Session.run.Goals as goal
 
 pub returns-in-OpenAt-clause-ended : goal.returns-in-OpenAt-clause-ended
@@ -18,3 +20,33 @@ returns-in-Compact-clause-ended g c = λ machine stands. rw c.in-Compact.is (c.c
 
 pub returns-in-Compact-clause-cause : goal.returns-in-Compact-clause-cause
 returns-in-Compact-clause-cause g c = c.compact.ensures.cause (g.K.Sink.faults c.args.out.now)
+
+pub returns-in-Event-clause-engine : goal.returns-in-Event-clause-engine
+returns-in-Event-clause-engine g c = rw c.in-Event.is c.take_event.ensures.engine
+
+pub returns-in-Event-clause-costs : goal.returns-in-Event-clause-costs
+returns-in-Event-clause-costs g c = λ machine stands. rw c.in-Event.is (c.take_event.ensures.costs machine stands)
+
+pub returns-in-OpenAt-clause-engine : goal.returns-in-OpenAt-clause-engine
+returns-in-OpenAt-clause-engine g c = rw c.in-OpenAt.is c.open.ensures.engine
+
+pub returns-in-OpenAt-clause-costs : goal.returns-in-OpenAt-clause-costs
+returns-in-OpenAt-clause-costs g c = λ machine stands. rw c.in-OpenAt.is (c.open.ensures.costs machine stands)
+
+pub returns-in-Pull-clause-engine : goal.returns-in-Pull-clause-engine
+returns-in-Pull-clause-engine g c = rw c.in-Pull.is c.pull.ensures.engine
+
+pub returns-in-Pull-clause-costs : goal.returns-in-Pull-clause-costs
+returns-in-Pull-clause-costs g c = λ machine stands. rw c.in-Pull.is (c.pull.ensures.costs machine stands)
+
+pub returns-in-Drop-clause-engine : goal.returns-in-Drop-clause-engine
+returns-in-Drop-clause-engine g c = rw c.in-Drop.is c.drop_cursor.ensures.engine
+
+pub returns-in-Drop-clause-costs : goal.returns-in-Drop-clause-costs
+returns-in-Drop-clause-costs g c = λ machine stands. costs_nothing c.args.command c.args.self.now machine c.args.steps.now c.args.steps.now refl
+
+pub returns-in-Compact-clause-engine : goal.returns-in-Compact-clause-engine
+returns-in-Compact-clause-engine g c = rw c.in-Compact.is c.compact.ensures.engine
+
+pub returns-in-Compact-clause-costs : goal.returns-in-Compact-clause-costs
+returns-in-Compact-clause-costs g c = λ machine stands. rw c.in-Compact.is (c.compact.ensures.costs machine stands)

@@ -2,24 +2,27 @@
 use Rattle.std.proofs.Common.{◌≡◌, ℕ, ◌⊎◌, inl, inr, List, Option, Some, None, Ok, refl, sym, ◌∙◌, ap, subst}
 use Rattle.stream_schema.specs.Types.{Declared}
 use Rattle.cel_terms.specs.declared.Query.{Query}
+use Rattle.cer_outside.specs.Bytes.{TookAll}
 use Rattle.cer_outside.specs.Content.{Content, Holds, HasOpened, OfOpened}
 use Rattle.event_run.specs.Runs.{Stop}
-use Rattle.stream_answers.specs.Streams.{Asked}
+use Rattle.stream_answers.specs.Streams.{Asked, EventsAsked}
 use Rattle.stream_answers.specs.Steps.{CountsAll}
 use Rattle.checkpoint_text.specs.declared.history.History.{History}
 use Rattle.checkpoint_text.specs.Checkpoints.{checkpoint_of}
 use Rattle.late_answers.specs.Steps.{LateCountsAll}
+use Rattle.session_script.specs.declared.script.TheConstants.{MOST_BYTES as MOST_SCRIPT}
+use Rattle.session_script.specs.Turns.{CountsTurns, CountsBegun}
 use Rattle.fault_notes.specs.declared.File.TheVariants as file
 use Rattle.core_jobs.specs.declared.Cause.{Cause}
 use Rattle.core_jobs.specs.declared.Cause.TheVariants as cause
-use Rattle.core_jobs.specs.Command.{RunWords, ReorderWords, ResumeWords, Job, running, reordering, explaining, playing, resuming, saving, AsksJob}
+use Rattle.core_jobs.specs.Command.{RunWords, ReorderWords, SessionWords, ResumeWords, Job, running, reordering, explaining, playing, resuming, saving, AsksJob}
 use Rattle.core_jobs.specs.Accepted.{Accepts, SaysAfter, feed_of}
 use Rattle.core_jobs.specs.Output.{resume_asked_of}
 use Rattle.core_jobs.specs.Notes.{NeedsMemory, IsToldAs}
 use Rattle.core_jobs.specs.Run.{Sources, QueriesStop, IsOpening}
 use Rattle.core_jobs.specs.Reordering.{IsUnfit}
 use Rattle.core_jobs.specs.Resuming.{NoHistory, HistoryStop, AfterEach}
-use Rattle.core_jobs.specs.Steps.{Bounds, FaultBounds, StepsWithin, run_bounds, run_fault_bounds, late_bounds, late_fault_bounds, OverFiles, StepsBy, RunSteps, OverLateFiles, LateStepsBy, ReorderSteps, AskedAfter, resume_bounds, resume_fault_bounds, ResumeStepsBy, OverThreeFiles, ResumeSteps, StepsOf}
+use Rattle.core_jobs.specs.Steps.{Bounds, FaultBounds, StepsWithin, run_bounds, run_fault_bounds, late_bounds, late_fault_bounds, script_bounds, script_fault_bounds, PlayStepsBy, OverScript, SessionSteps, OverFiles, StepsBy, RunSteps, OverLateFiles, LateStepsBy, ReorderSteps, AskedAfter, resume_bounds, resume_fault_bounds, ResumeStepsBy, OverThreeFiles, ResumeSteps, StepsOf}
 use Rattle.core_jobs.proofs.Streams.{asked_of, source_told, text_told}
 use Rattle.core_jobs.proofs.Words.{one_job}
 
@@ -117,6 +120,19 @@ pub steps_of_file : (content : List ℕ → Content) (lines_of : Content) (r : R
 steps_of_file content lines_of r schema queries given before after old now same accepted h =
     steps_map (run_bounds r.compact_every) (run_fault_bounds r.compact_every) (λ Says. (bytes : List ℕ) → lines_of ≡ Holds bytes → Says (asked_of r schema queries) bytes) (OverFiles content r)
     (λ Says over text lines first second. (schema, queries, text_told (content r.queries) text (λ w. Accepts w schema queries) first accepted, over lines (same ∙ second))) given before after old now h
+
+-- the same of a script
+pub session_steps_of_file : (content : List ℕ → Content) (script_of : Content) (s : SessionWords) (schema : Declared) (queries : List Query) (given : Cause) (before after : Option (List ℕ)) (old now : ℕ) → script_of ≡ content s.script →
+    OfOpened (content s.queries) (λ text. Accepts text schema queries) →
+    PlayStepsBy (λ Says. (script : List ℕ) → script_of ≡ Holds script → Says (record { schema = schema; queries = queries; most_bytes = MOST_SCRIPT }) script) given before after old now → SessionSteps given content s before after old now
+session_steps_of_file content script_of s schema queries given before after old now same accepted h =
+    steps_map script_bounds script_fault_bounds (λ Says. (script : List ℕ) → script_of ≡ Holds script → Says (record { schema = schema; queries = queries; most_bytes = MOST_SCRIPT }) script) (OverScript content s)
+    (λ Says over text script first second. record {
+      schema = schema;
+      queries = queries;
+      accepted = text_told (content s.queries) text (λ w. Accepts w schema queries) first accepted;
+      says = over script (same ∙ second);
+    }) given before after old now h
 
 pub late_steps_of_file : (content : List ℕ → Content) (lines_of : Content) (w : ReorderWords) (schema : Declared) (queries : List Query) (given : Cause) (before after : Option (List ℕ)) (old now : ℕ) → lines_of ≡ content w.events →
     OfOpened (content w.queries) (λ text. Accepts text schema queries) →
@@ -235,11 +251,36 @@ resume_for_memory content r (cause.ReadFault read to) before after old now needs
 resume_for_memory content r (cause.WriteFault from to) before after old now needs h = absurd needs
 resume_for_memory content r cause.Memory before after old now needs h = absurd needs
 
+-- what was taken is forgotten
+pub forget_took : (a : EventsAsked) (script : List ℕ) (Took Other : List ℕ → Type 0) (old now : ℕ) → CountsTurns a script Took old now ⊎ CountsBegun a script Other old now →
+    CountsTurns a script (λ bytes. Unit {0}) old now ⊎ CountsBegun a script (λ bytes. Unit {0}) old now
+forget_took a script Took Other old now (inl c) = inl (record { texts = c.texts; later = c.later; first = c.first; turns = c.turns; machine = c.machine; bytes = c.bytes; are = c.are; took = tt; bounded = c.bounded })
+forget_took a script Took Other old now (inr c) = inr (record { texts = c.texts; text = c.text; later = c.later; first = c.first; turns = c.turns; machine = c.machine; bytes = c.bytes; are = c.are; took = tt; bounded = c.bounded })
+
+session_forget : (content : List ℕ → Content) (s : SessionWords) (Took : List ℕ → Type 0) (old now : ℕ) → OverScript content s (λ a script. CountsTurns a script Took old now ⊎ CountsBegun a script Took old now) →
+    OverScript content s (λ a script. CountsTurns a script (λ bytes. Unit {0}) old now ⊎ CountsBegun a script (λ bytes. Unit {0}) old now)
+session_forget content s Took old now h = λ text script first second.
+    let w = h text script first second in
+    record { schema = w.schema; queries = w.queries; accepted = w.accepted; says = forget_took (record { schema = w.schema; queries = w.queries; most_bytes = MOST_SCRIPT }) script Took Took old now w.says }
+
+session_for_memory : (content : List ℕ → Content) (s : SessionWords) (told : Cause) (before after : Option (List ℕ)) (old now : ℕ) → NeedsMemory told → SessionSteps told content s before after old now → SessionSteps cause.Memory content s before after old now
+session_for_memory content s (cause.Queries fault place) before after old now needs h = inl h
+session_for_memory content s (cause.ClockKind name) before after old now needs h = inl h
+session_for_memory content s (cause.Event line fault) before after old now needs h = inr (session_forget content s (TookAll before after) old now h)
+session_for_memory content s (cause.InputTooLong taken) before after old now needs h = inr (session_forget content s (TookAll before after) old now h)
+session_for_memory content s (cause.Checkpoint line fault) before after old now needs h = inl h
+session_for_memory content s cause.Fine before after old now needs h = absurd needs
+session_for_memory content s cause.Usage before after old now needs h = absurd needs
+session_for_memory content s (cause.OpenFault opened from to) before after old now needs h = absurd needs
+session_for_memory content s (cause.ReadFault read to) before after old now needs h = absurd needs
+session_for_memory content s (cause.WriteFault from to) before after old now needs h = absurd needs
+session_for_memory content s cause.Memory before after old now needs h = absurd needs
+
 job_for_memory : (content : List ℕ → Content) (job : Job) (told : Cause) (before after : Option (List ℕ)) (old now : ℕ) → NeedsMemory told → StepsOf told content job before after old now → StepsOf cause.Memory content job before after old now
 job_for_memory content (running r) told before after old now needs h = for_memory content r told before after old now needs h
 job_for_memory content (reordering w) told before after old now needs h = late_for_memory content w told before after old now needs h
 job_for_memory content (explaining x) told before after old now needs h = h
-job_for_memory content (playing s) told before after old now needs h = h
+job_for_memory content (playing s) told before after old now needs h = session_for_memory content s told before after old now needs h
 job_for_memory content (resuming r) told before after old now needs h = resume_for_memory content r told before after old now needs h
 job_for_memory content (saving s) told before after old now needs h = h
 
@@ -276,7 +317,17 @@ no_steps content (reordering w) (cause.ReadFault read to) before after now ends 
 no_steps content (reordering w) (cause.WriteFault from to) before after now ends = absurd ends
 no_steps content (reordering w) (cause.ClockKind name) before after now ends = absurd ends
 no_steps content (explaining x) given before after now ends = refl
-no_steps content (playing s) given before after now ends = tt
+no_steps content (playing s) cause.Memory before after now ends = inl refl
+no_steps content (playing s) cause.Usage before after now ends = refl
+no_steps content (playing s) cause.Fine before after now ends = absurd ends
+no_steps content (playing s) (cause.Queries fault place) before after now ends = absurd ends
+no_steps content (playing s) (cause.Event line fault) before after now ends = absurd ends
+no_steps content (playing s) (cause.InputTooLong taken) before after now ends = absurd ends
+no_steps content (playing s) (cause.Checkpoint line fault) before after now ends = absurd ends
+no_steps content (playing s) (cause.OpenFault opened from to) before after now ends = absurd ends
+no_steps content (playing s) (cause.ReadFault read to) before after now ends = absurd ends
+no_steps content (playing s) (cause.WriteFault from to) before after now ends = absurd ends
+no_steps content (playing s) (cause.ClockKind name) before after now ends = absurd ends
 no_steps content (resuming r) cause.Memory before after now ends = inl refl
 no_steps content (resuming r) cause.Usage before after now ends = refl
 no_steps content (resuming r) cause.Fine before after now ends = absurd ends

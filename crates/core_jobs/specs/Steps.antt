@@ -6,16 +6,18 @@ use Rattle.cel_terms.specs.declared.Query.{Query}
 use Rattle.cer_outside.specs.Content.{Content, Holds}
 use Rattle.cer_outside.specs.Bytes.{TookAll}
 use Rattle.event_run.specs.Runs.{Stop, End, Event, InputTooLong}
-use Rattle.stream_answers.specs.Streams.{Asked}
+use Rattle.stream_answers.specs.Streams.{Asked, EventsAsked}
 use Rattle.stream_answers.specs.Steps.{CountsAll, CountsAtFault, CountsAllAfter, CountsAtFaultAfter}
 use Rattle.stream_answers.specs.Windows.{is_due_after}
 use Rattle.late_answers.specs.Late.{Feed}
 use Rattle.late_answers.specs.Steps.{LateCountsAll, LateCountsAtFault}
+use Rattle.session_script.specs.declared.script.TheConstants.{MOST_BYTES as MOST_SCRIPT}
+use Rattle.session_script.specs.Turns.{CountsTurns, CountsBegun, TookFirst}
 use Rattle.fault_notes.specs.declared.File.TheVariants as file
 use Rattle.core_jobs.specs.declared.Cause.{Cause}
 use Rattle.core_jobs.specs.declared.Cause.TheVariants as cause
-use Rattle.core_jobs.specs.Command.{RunWords, ReorderWords, ResumeWords, Job, running, reordering, explaining, playing, resuming, saving}
-use Rattle.core_jobs.specs.Accepted.{Accepts, SaysAfter, feed_of}
+use Rattle.core_jobs.specs.Command.{RunWords, ReorderWords, SessionWords, ResumeWords, Job, running, reordering, explaining, playing, resuming, saving}
+use Rattle.core_jobs.specs.Accepted.{Accepts, SaysAfter, SaysOf, feed_of}
 use Rattle.core_jobs.specs.Output.{resume_asked_of}
 
 -- what is said of the schema and the queries of the query text and of the bytes of the event file, where the host tells both
@@ -103,11 +105,29 @@ OverThreeFiles content r Says = (text kept lines : List ℕ) → content r.queri
 abbrev pub ResumeSteps : Cause → (List ℕ → Content) → ResumeWords → Option (List ℕ) → Option (List ℕ) → ℕ → ℕ → Type 0
 ResumeSteps given content r before after old now = ResumeStepsBy r.compact_every (OverThreeFiles content r) given before after old now
 
--- the same of any job; an explanation takes none, and those of a session are bounded command by command
+-- the steps of a script: those of the commands that were carried out, and perhaps those of the command in whose line it ended
+abbrev pub script_bounds : Bounds EventsAsked
+script_bounds a script Stops Took old now = CountsTurns a script Took old now ⊎ CountsBegun a script Took old now
+
+abbrev pub script_fault_bounds : FaultBounds EventsAsked
+script_fault_bounds a script before after old now = CountsBegun a script (TookFirst before) old now
+
+abbrev pub PlayStepsBy : ((EventsAsked → List ℕ → Type 0) → Type 0) → Cause → Option (List ℕ) → Option (List ℕ) → ℕ → ℕ → Type 0
+PlayStepsBy Over given before after old now = StepsWithin script_bounds script_fault_bounds Over given before after old now
+
+-- what is said of the schema and the queries of the query text and of the bytes of the script, where the host tells both
+abbrev pub OverScript : (List ℕ → Content) → SessionWords → (EventsAsked → List ℕ → Type 0) → Type 0
+OverScript content s Says = (text script : List ℕ) → content s.queries ≡ Holds text → content s.script ≡ Holds script →
+    SaysOf text (λ schema queries. Says (record { schema = schema; queries = queries; most_bytes = MOST_SCRIPT }) script)
+
+abbrev pub SessionSteps : Cause → (List ℕ → Content) → SessionWords → Option (List ℕ) → Option (List ℕ) → ℕ → ℕ → Type 0
+SessionSteps given content s before after old now = PlayStepsBy (OverScript content s) given before after old now
+
+-- the same of any job; an explanation takes none
 abbrev pub StepsOf : Cause → (List ℕ → Content) → Job → Option (List ℕ) → Option (List ℕ) → ℕ → ℕ → Type 0
 StepsOf given content (running r) before after old now = RunSteps given content r before after old now
 StepsOf given content (reordering w) before after old now = ReorderSteps given content w before after old now
 StepsOf given content (explaining x) before after old now = now ≡ old
-StepsOf given content (playing s) before after old now = Unit {0}
+StepsOf given content (playing s) before after old now = SessionSteps given content s before after old now
 StepsOf given content (resuming r) before after old now = ResumeSteps given content r before after old now
 StepsOf given content (saving s) before after old now = now ≡ old

@@ -1,12 +1,14 @@
 //! The order of work of a session: the query file, and the lines of the script.
 
-ghost use Rattle.std.specs.Prelude.{◌≡◌, ℕ, List, All};
+ghost use Rattle.std.specs.Prelude.{◌≡◌, ℕ, List, All, Some};
+ghost use Rattle.cer_outside.specs.Content.{Holds};
 ghost use Rattle.cel_terms.specs.Checked.{IsChecked};
 ghost use Rattle.session_script.specs.declared.script.TheConstants.{MOST_BYTES};
 ghost use Rattle.core_jobs.specs.Command.{playing};
 ghost use Rattle.core_jobs.specs.Causes.{CountsWrites};
 ghost use Rattle.core_jobs.specs.Run.{JobEnded, StopCounts};
 ghost use Rattle.core_jobs.specs.Playing.{PlayStop, PlayFileStop};
+ghost use Rattle.core_jobs.specs.Steps.{PlayStepsBy, SessionSteps};
 
 use super::opening::{Stop, open};
 use super::queries::read_accepted;
@@ -42,6 +44,9 @@ pub fn session_files<H: Host, K: Sink, L: Ledger>(
         })
         (playing (record { queries = queries.now; script = script.now }))
         host.old host.new result.cause result.failed }
+    ensures steps { SessionSteps result.cause (H.content host.old)
+        (record { queries = queries.now; script = script.now })
+        (K.taken out.old) (K.taken out.new) steps.old steps.new }
     ensures none_left { result.left ≡ None }
     ensures kept { (any : List ℕ) → H.content host.new any ≡ H.content host.old any }
 {
@@ -72,6 +77,13 @@ fn play_file<H: Host, K: Sink, L: Ledger>(
         (H.faults host.old script.now) (H.faults host.new script.now)
         (K.faults out.old) (K.faults out.new) (K.taken out.old) (K.taken out.new)
         result.cause result.failed }
+    ensures steps { PlayStepsBy
+        (λ Says. (bytes : List ℕ) → H.content host.old script.now ≡ Holds bytes → Says (record {
+          schema = accepted.schema;
+          queries = accepted.queries;
+          most_bytes = MOST_BYTES;
+        }) bytes)
+        result.cause (K.taken out.old) (K.taken out.new) steps.old steps.new }
     ensures none_left { result.left ≡ None }
     ensures counts { StopCounts result.cause script.now (H.faults host.old) (H.faults host.new) }
     ensures writes { CountsWrites result.cause (K.faults out.old) (K.faults out.new) }
@@ -104,6 +116,13 @@ fn play_source<S: Source + Drop, K: Sink, L: Ledger>(
         (S.left source)
         (K.faults out.old) (K.faults out.new) (K.taken out.old) (K.taken out.new)
         result.cause result.failed }
+    ensures steps { PlayStepsBy
+        (λ Says. (bytes : List ℕ) → S.left source ≡ Some bytes → Says (record {
+          schema = accepted.schema;
+          queries = accepted.queries;
+          most_bytes = MOST_BYTES;
+        }) bytes)
+        result.cause (K.taken out.old) (K.taken out.new) steps.old steps.new }
     ensures none_left { result.left ≡ None }
     ensures writes { CountsWrites result.cause (K.faults out.old) (K.faults out.new) }
 {

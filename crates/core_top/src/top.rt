@@ -140,7 +140,7 @@ pub fn core_main<H: Host, K: Sink, N: Sink, L: Ledger>(
 
     // However a run ends, its steps are bounded by the events of the file, those of a checkpoint
     // before it among them, and by their answers; an explanation takes none, nor does saving events.
-    // Those of a session are bounded command by command, by `Session::run`.
+    // Those of a session are bounded by the commands that it carries out.
     ensures steps { (job : Job) → AsksJob (map string_bytes words.items) job
         → StepsOf result.cause (H.content host.old) job (K.taken out.old) (K.taken out.new)
         steps.old steps.new }

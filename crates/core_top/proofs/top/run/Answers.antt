@@ -67,7 +67,7 @@ returns-in-Ok-Explain-clause-steps g c = λ job asked.
 pub returns-in-Ok-Session-clause-steps : goal.returns-in-Ok-Session-clause-steps
 returns-in-Ok-Session-clause-steps g c = λ job asked.
     job_steps (map string_bytes c.args.words.now) (g.H.Host.content c.args.host.now) (playing _) job c.session_files.result.cause (g.K.Sink.taken c.args.out.now) (g.K.Sink.taken c.session_files.new.out) c.args.steps.now c.session_files.new.steps
-    (session_asked _ _ _ _ _ c.as_str-in-Ok-Session.ensures c.as_str-in-Ok-Session-2.ensures (rw c.in-Ok-Session.field-0-is at c.in-Ok-Session.ensures.asks)) asked tt
+    (session_asked _ _ _ _ _ c.as_str-in-Ok-Session.ensures c.as_str-in-Ok-Session-2.ensures (rw c.in-Ok-Session.field-0-is at c.in-Ok-Session.ensures.asks)) asked c.session_files.ensures.steps
 
 pub returns-in-Ok-Resume-clause-steps : goal.returns-in-Ok-Resume-clause-steps
 returns-in-Ok-Resume-clause-steps g c = λ job asked.

@@ -4,7 +4,7 @@ use Rattle.std.proofs.Math.Seq.{take-append_seam}
 use Rattle.std.proofs.lemmas.List.{append-nil, take_all}
 use Rattle.cer_outside.specs.Bytes.{ReadsOn, IsAtEnd}
 use Rattle.cer_outside.specs.Content.{Content, Untold, Missing, Holds, HasOpened}
-use Rattle.core_jobs.specs.SourceBytes.{AreFirst, AreFirstOf, IsRest, IsRestOf}
+use Rattle.core_jobs.specs.SourceBytes.{AreFirst, AreFirstOf, IsRest, IsRestOf, TookAtMost, TookAtMostOf}
 
 -- nothing read yet
 pub reads_none : (left : Option (List ℕ)) → ReadsOn left left [] []
@@ -59,3 +59,9 @@ pub rest_opened : (file : Content) (left last : Option (List ℕ)) → HasOpened
 rest_opened Untold left last opened rest = tt
 rest_opened Missing left last opened rest = opened
 rest_opened (Holds bytes) left last opened rest = let P : Option (List ℕ) → Type 0 = λ w. IsRest w last in subst P opened rest
+
+-- and no more was taken of it
+pub took_opened : (most : ℕ) (file : Content) (left last : Option (List ℕ)) → HasOpened file left → TookAtMost most left last → TookAtMostOf most file last
+took_opened most Untold left last opened took = tt
+took_opened most Missing left last opened took = opened
+took_opened most (Holds bytes) left last opened took = let P : Option (List ℕ) → Type 0 = λ w. TookAtMost most w last in subst P opened took

@@ -4,11 +4,12 @@ use Rattle.cer_outside.specs.Causes.{Rose, AllStay, RoseAt}
 use Rattle.cer_outside.specs.Content.{Content, Missing, Holds, OfOpened}
 use Rattle.fault_notes.specs.declared.File.{File}
 use Rattle.fault_notes.specs.declared.File.TheVariants as file
+use Rattle.core_jobs.specs.declared.files.TheConstants.{MOST_READ}
 use Rattle.core_jobs.specs.declared.Cause.{Cause}
 use Rattle.core_jobs.specs.declared.Cause.TheVariants as cause
 use Rattle.core_jobs.specs.Command.{Job, query_file_of, checkpoint_file_of, event_file_of, HasCheckpoint, AsksJob}
 use Rattle.core_jobs.specs.Accepted.{TakesText, TakesCheckpoint}
-use Rattle.core_jobs.specs.SourceBytes.{IsRestOf}
+use Rattle.core_jobs.specs.SourceBytes.{IsRestOf, TookAtMostOf}
 
 -- the exit status of each cause
 abbrev pub status_of : Cause → ℕ
@@ -89,7 +90,7 @@ pub record HasOpenFault (words : List (List ℕ)) (content : List ℕ → Conten
   pub to : after ≡ new (name_of opened job)
   pub rose : Rose before after
 
--- The count of the source that failed rose from 0 to after, and it has left the last part of the host's bytes under the file's name.
+-- The count of the source that failed rose from 0 to after, and it has left the last part of the host's bytes under the file's name. Of a query file it gave no more than are read of one.
 pub record HasReadFault (words : List (List ℕ)) (content : List ℕ → Content) (read : File) (after : ℕ) (faults : ℕ) (left : Option (List ℕ)) : Type 0 where
   pub job : Job
   pub asked : AsksJob words job
@@ -97,6 +98,7 @@ pub record HasReadFault (words : List (List ℕ)) (content : List ℕ → Conten
   pub told : faults ≡ after
   pub rose : Rose 0 after
   pub rest : IsRestOf (content (name_of read job)) left
+  pub within : read ≡ file.Queries → TookAtMostOf MOST_READ (content (query_file_of job)) left
 
 -- The output's count of faults rose in the call, from before to after.
 pub record HasWriteFault (old new before after : ℕ) : Type 0 where

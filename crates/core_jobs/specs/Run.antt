@@ -11,6 +11,7 @@ use Rattle.stream_answers.specs.Streams.{Asked, WroteOver, WroteAll, WrotePartOf
 use Rattle.checkpoint_text.specs.declared.CheckpointFault.{CheckpointFault}
 use Rattle.fault_notes.specs.declared.File.{File}
 use Rattle.fault_notes.specs.declared.File.TheVariants as file
+use Rattle.core_jobs.specs.declared.files.TheConstants.{MOST_READ}
 use Rattle.core_jobs.specs.declared.Cause.{Cause}
 use Rattle.core_jobs.specs.declared.Cause.TheVariants as cause
 use Rattle.command_words.specs.CommandLine.{AskNothing}
@@ -18,7 +19,7 @@ use Rattle.core_jobs.specs.Command.{Job, query_file_of, checkpoint_file_of, even
 use Rattle.core_jobs.specs.Accepted.{IsRefusedText, TakesText, IsRefusedBy, LacksItsClock, RefusesCheckpoint, JobStops}
 use Rattle.core_jobs.specs.Causes.{CheckpointHolds, IsTakenUp, ComesInTurn, name_of, CountsOpens, CountsWrites}
 use Rattle.core_jobs.specs.Output.{WroteBy, WroteSample}
-use Rattle.core_jobs.specs.SourceBytes.{IsRestOf}
+use Rattle.core_jobs.specs.SourceBytes.{IsRestOf, TookAtMostOf}
 use Rattle.core_jobs.specs.Opening.{OpensInTurn}
 
 -- what the outside says of a source that failed: its count of faults, and what it has left
@@ -37,10 +38,15 @@ pub record FailedWith {S : Type 0} (sources : Sources S) (whole : Content) (afte
   pub rose : Rose 0 after
   pub rest : IsRestOf whole (sources.left source)
 
+-- the same of a file that was to be read whole, of which it gave no more than are read
+pub record FailedWhole {S : Type 0} (sources : Sources S) (whole : Content) (after : ℕ) (source : S) : Type 0 where
+  pub failed : FailedWith sources whole after source
+  pub within : TookAtMostOf MOST_READ whole (sources.left source)
+
 -- why a file was not opened or read, with the host's count of its name before and after
 abbrev pub ReadingStops : {S : Type 0} → Sources S → File → Content → ℕ → ℕ → Cause → Option S → Type 0
 ReadingStops sources file whole old new (cause.OpenFault opened before after) failed = (opened ≡ file) × (before ≡ old) × (after ≡ new) × Rose old new × (failed ≡ None)
-ReadingStops sources file whole old new (cause.ReadFault read after) failed = (read ≡ file) × IsSomeAnd failed (FailedWith sources whole after)
+ReadingStops sources file whole old new (cause.ReadFault read after) failed = (read ≡ file) × IsSomeAnd failed (FailedWhole sources whole after)
 ReadingStops sources file whole old new cause.Memory failed = failed ≡ None
 ReadingStops sources file whole old new _ failed = ⊥
 
@@ -124,7 +130,7 @@ CauseHolds sources o job (cause.Checkpoint line fault) failed = (failed ≡ None
 CauseHolds sources o job (cause.Event line fault) failed = HasStopped o job (stop.Event line fault) failed
 CauseHolds sources o job (cause.InputTooLong taken) failed = HasStopped o job (stop.InputTooLong taken) failed
 CauseHolds sources o job (cause.OpenFault opened from to) failed = (failed ≡ None) × (o.after ≡ o.before) × ComesInTurn job opened o.content × (from ≡ o.old (name_of opened job)) × (to ≡ o.new (name_of opened job)) × Rose from to
-CauseHolds sources o job (cause.ReadFault file.Queries to) failed = (o.after ≡ o.before) × IsSomeAnd failed (FailedWith sources (o.content (query_file_of job)) to)
+CauseHolds sources o job (cause.ReadFault file.Queries to) failed = (o.after ≡ o.before) × IsSomeAnd failed (FailedWhole sources (o.content (query_file_of job)) to)
 CauseHolds sources o job (cause.ReadFault file.Checkpoint to) failed = (o.after ≡ o.before) × ComesInTurn job file.Checkpoint o.content × IsSomeAnd failed (FailedWith sources (o.content (checkpoint_file_of job)) to)
 CauseHolds sources o job (cause.ReadFault file.Events to) failed = ComesInTurn job file.Events o.content × IsSomeAnd failed (FailedWith sources (o.content (event_file_of job)) to)
 CauseHolds sources o job (cause.WriteFault from to) failed = (failed ≡ None) × HasFiles o job × (from ≡ o.out_old) × (to ≡ o.out_new) × Rose from to

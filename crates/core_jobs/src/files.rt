@@ -1,9 +1,9 @@
 //! The files, each read whole.
 
-ghost use Rattle.std.specs.Prelude.{◌≡◌, ◌+◌, ◌<◌, ◌≤◌, ℕ, List, [], length, vec_len, IfOk};
+ghost use Rattle.std.specs.Prelude.{◌≡◌, ◌+◌, ◌-◌, ◌<◌, ◌≤◌, ℕ, List, [], length, vec_len, IfOk};
 ghost use Rattle.cer_outside.specs.Causes.{HasCauseOrMemory};
 ghost use Rattle.cer_outside.specs.Bytes.{ReadsOn, IsAtEnd};
-ghost use Rattle.core_jobs.specs.SourceBytes.{AreFirst, IsRest};
+ghost use Rattle.core_jobs.specs.SourceBytes.{AreFirst, IsRest, TookAtMost};
 
 use cer_base::limits::LONGEST_TEXT;
 use cer_base::{Memory, OrMemory};
@@ -20,6 +20,7 @@ const PIECE: usize = 65_536;
 pub fn read_whole<S: Source>(alloc: Global, source: &mut S) -> Result<Vec<u8>, OrMemory<Failed>>
     ensures bytes { IfOk result (λ bytes. AreFirst MOST_READ (S.left source.old) bytes.items) }
     ensures rest { IsRest (S.left source.old) (S.left source.new) }
+    ensures within { TookAtMost MOST_READ (S.left source.old) (S.left source.new) }
     ensures cause { HasCauseOrMemory (S.faults source.old) (S.faults source.new) result }
 {
     let mut bytes = Vec::new(alloc);
@@ -56,6 +57,8 @@ fn read_piece<S: Source>(
     ensures limit { IfOk result (λ n. vec_len bytes.new ≤ MOST_READ) }
     ensures end { IfOk result (λ n. n ≡ 0 → IsAtEnd (S.left source.new)) }
     ensures rest { IsRest (S.left source.old) (S.left source.new) }
+    ensures within { TookAtMost (MOST_READ - vec_len bytes.old) (S.left source.old)
+        (S.left source.new) }
     ensures cause { HasCauseOrMemory (S.faults source.old) (S.faults source.new) result }
 {
     let want = buffer.len().min(MOST_READ - bytes.len());

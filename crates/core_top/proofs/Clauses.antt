@@ -13,7 +13,7 @@ use Rattle.core_jobs.specs.Command.{Job, query_file_of, event_file_of}
 use Rattle.core_jobs.specs.Accepted.{TakesText, IsRefusedBy, LacksItsClock, RefusesCheckpoint, JobStops}
 use Rattle.core_jobs.specs.Causes.{CheckpointHolds, ReadsFile, IsFromOutside, IsFineOrOutside, IsReading, EndsWithout, name_of}
 use Rattle.core_jobs.specs.SourceBytes.{IsRestOf}
-use Rattle.core_jobs.specs.Run.{Sources, FailedWith, Outside, HasFiles, HasStopped, CauseHolds}
+use Rattle.core_jobs.specs.Run.{Sources, FailedWith, FailedWhole, Outside, HasFiles, HasStopped, CauseHolds}
 use Rattle.core_jobs.proofs.Jobs.{told, takes_or_refuses, takes_or_lacks, lacks_or_refuses, one_refusal, one_clock, text_of_refusal, kept_or_refused, one_bad_line, kept_where_stopped, one_end, taken_where_stopped}
 
 -- the same end by another name of the cause
@@ -180,6 +180,10 @@ not_read : {S : Type 0} (sources : Sources S) (content : Content) (after : ℕ) 
 not_read sources content after None missing fact = fact
 not_read sources content after (Some source) missing fact = not_left content (sources.left source) missing fact.rest
 
+not_read_whole : {S : Type 0} (sources : Sources S) (content : Content) (after : ℕ) (failed : Option S) → content ≡ Missing → IsSomeAnd failed (FailedWhole sources content after) → ⊥
+not_read_whole sources content after None missing fact = fact
+not_read_whole sources content after (Some source) missing fact = not_left content (sources.left source) missing fact.failed.rest
+
 -- and lacking.
 lacks : (o : Outside) (job : Job) (lost : File) → ReadsFile job lost → o.content (name_of lost job) ≡ Missing → HasFiles o job → ⊥
 lacks o job file.Queries reads missing files = files.queries missing
@@ -211,7 +215,7 @@ ends_without sources o job (cause.OpenFault file.Checkpoint before after) failed
 ends_without sources o job (cause.OpenFault file.Events before after) failed file.Queries reads missing holds = absurd (not_opened _ (TakesText job) missing holds.2.0)
 ends_without sources o job (cause.OpenFault file.Events before after) failed file.Checkpoint reads missing holds = absurd (holds.2.1.has reads missing)
 ends_without sources o job (cause.OpenFault file.Events before after) failed file.Events reads missing holds = (inl refl, holds.1)
-ends_without sources o job (cause.ReadFault file.Queries after) failed file.Queries reads missing holds = absurd (not_read sources _ after failed missing holds.1)
+ends_without sources o job (cause.ReadFault file.Queries after) failed file.Queries reads missing holds = absurd (not_read_whole sources _ after failed missing holds.1)
 ends_without sources o job (cause.ReadFault file.Queries after) failed file.Checkpoint reads missing holds = (tt, holds.0)
 ends_without sources o job (cause.ReadFault file.Queries after) failed file.Events reads missing holds = (tt, holds.0)
 ends_without sources o job (cause.ReadFault file.Checkpoint after) failed file.Queries reads missing holds = absurd (not_opened _ (TakesText job) missing holds.1.1)

@@ -193,11 +193,11 @@ source_with (Some source) P Q follows fact = follows source fact
 job_read : {S : Type 0} (sources : Sources S) (words : List (List ℕ)) (o : Outside) (job : Job) (read : File) (after : ℕ) (failed : Option S) → AsksJob words job → CauseHolds sources o job (cause.ReadFault read after) failed →
     IsSomeAnd failed (λ source. HasReadFault words o.content read after (sources.faults source) (sources.left source))
 job_read sources words o job file.Queries after failed asked holds =
-    source_with failed _ _ (λ source fault. record { job = job; asked = asked; turn = tt; told = fault.told; rose = fault.rose; rest = fault.rest }) holds.1
+    source_with failed _ _ (λ source fault. let f = fault.failed in record { job = job; asked = asked; turn = tt; told = f.told; rose = f.rose; rest = f.rest; within = λ queries. fault.within }) holds.1
 job_read sources words o job file.Checkpoint after failed asked holds =
-    source_with failed _ _ (λ source fault. record { job = job; asked = asked; turn = holds.1; told = fault.told; rose = fault.rose; rest = fault.rest }) holds.2
+    source_with failed _ _ (λ source fault. record { job = job; asked = asked; turn = holds.1; told = fault.told; rose = fault.rose; rest = fault.rest; within = λ (queries : file.Checkpoint ≡ file.Queries). absurd cc }) holds.2
 job_read sources words o job file.Events after failed asked holds =
-    source_with failed _ _ (λ source fault. record { job = job; asked = asked; turn = holds.0; told = fault.told; rose = fault.rose; rest = fault.rest }) holds.1
+    source_with failed _ _ (λ source fault. record { job = job; asked = asked; turn = holds.0; told = fault.told; rose = fault.rose; rest = fault.rest; within = λ (queries : file.Events ≡ file.Queries). absurd cc }) holds.1
 
 pub read_clause : {S H : Type 0} (sources : Sources S) (call : H → List ℕ → H → Type 0) (words : List (List ℕ)) (o : Outside) (first last : H) (given : Cause) (failed : Option S) → CallEnded sources call words o first last given failed →
     (read : File) (after : ℕ) → given ≡ cause.ReadFault read after → IsSomeAnd failed (λ source. HasReadFault words o.content read after (sources.faults source) (sources.left source))

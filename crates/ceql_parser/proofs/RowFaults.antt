@@ -8,11 +8,9 @@ use Rattle.cel_terms.specs.declared.Pred.{Pred, All, Any, All', Any', Row_of-Pre
 use Rattle.cel_terms.specs.declared.Filter.{Filter, Row_of-Filter, end_of-Filter, more_of-Filter, items-the_row-Filter, items_hidden-the_row-Filter-0}
 use Rattle.cel_terms.specs.declared.Filter as filter
 use Rattle.cel_terms.specs.declared.Link.{Link}
-use Rattle.cel_terms.specs.declared.Formula.{Formula, Chain, Linked, Either, Post, Under, Row_of-Formula, end_of-Formula, more_of-Formula, items-the_row-Formula, items_hidden-the_row-Formula-0, Row_of-Link, end_of-Link, more_of-Link, items-the_row-Link, items_hidden-the_row-Link-1}
-use Rattle.cel_terms.specs.declared.Postfix.{Postfix}
-use Rattle.cel_terms.specs.Checked.{names_of}
+use Rattle.cel_terms.specs.declared.Formula.{Formula, Chain, Linked, Either, Row_of-Formula, end_of-Formula, more_of-Formula, items-the_row-Formula, items_hidden-the_row-Formula-0, Row_of-Link, end_of-Link, more_of-Link, items-the_row-Link, items_hidden-the_row-Link-1}
 use Rattle.ceql_parser.specs.FirstFaults.{first_in}
-use Rattle.ceql_parser.specs.FormulaFaults.{pred_fault, preds_fault, filter_fault, filters_fault, postfixes_fault, formula_fault, formulas_fault, links_fault}
+use Rattle.ceql_parser.specs.FormulaFaults.{pred_fault, preds_fault, filter_fault, filters_fault, formula_fault, formulas_fault, links_fault}
 use Rattle.ceql_parser.specs.LinksAndCounts.{link_fault}
 use Rattle.ceql_parser.proofs.TermRows.{row_of, links_in, filters_in}
 
@@ -75,10 +73,3 @@ linked_faults types first links =
 -- the first part has no fault
 pub linked_passed : (types : List DeclaredType) (first : Box Formula Global) (links : Vec Link Global) → formula_fault types first.value ≡ None → first_in (link_fault types) links.items ≡ formula_fault types (Linked first links)
 linked_passed types first links passes = sym (linked_faults types first links ∙ ap (λ o. option_or o (first_in (link_fault types) links.items)) passes)
-
--- the base has no fault
-pub post_passed : (types : List DeclaredType) (base : Box Formula Global) (postfixes : Vec Postfix Global) → formula_fault types base.value ≡ None → postfixes_fault types (names_of base.value) postfixes.items ≡ formula_fault types (Post base postfixes)
-post_passed types base postfixes passes = sym (ap (λ o. option_or o (postfixes_fault types (names_of base.value) postfixes.items)) passes)
-
-pub under_passed : (types : List DeclaredType) (base : Box Formula Global) (filters : Vec Filter Global) → formula_fault types base.value ≡ None → first_in (filter_fault types (names_of base.value)) filters.items ≡ formula_fault types (Under base filters)
-under_passed types base filters passes = sym (ap (λ o. option_or o (first_in (filter_fault types (names_of base.value)) filters.items)) passes)

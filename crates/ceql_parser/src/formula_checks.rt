@@ -2,6 +2,7 @@
 
 ghost use Rattle.std.specs.Prelude.{◌≡◌, ℕ, List, [], ◌∷◌, ◌++◌, map, not, IfOk, OnOk};
 ghost use Rattle.std.specs.List.{flat_map};
+ghost use Rattle.std.specs.Option.{option_or};
 ghost use Rattle.ceql_grammar.specs.declared.faults.QueryFault.TheVariants.{NameTaken, UnknownType};
 ghost use Rattle.cel_terms.specs.Checked.{names_of, names_after};
 ghost use Rattle.ceql_parser.specs.FirstFaults.{first_in, unless_named, FindsFault};
@@ -196,6 +197,46 @@ fn check_links(alloc: Global, types: &QueryTypes, before: NameSet, links: &[Link
     Ok(names)
 }
 
+/// The names of a formula after its postfixes, or its first fault or theirs. This is a call of its own
+/// so that a nested formula takes no stack for what is done after it.
+#[inline(never)]
+#[cycle(formulas)]
+fn check_changed(
+    alloc: Global,
+    types: &QueryTypes,
+    base: &Formula,
+    postfixes: &[Postfix],
+) -> NamesOrFault
+    ensures told { FindsFault result (option_or (formula_fault types.now base.now)
+        (postfixes_fault types.now (names_of base.now) postfixes.now)) }
+    ensures names { IfOk result (λ names.
+        HaveSameNames names (names_after (names_of base.now) postfixes.now)) }
+{
+    match check_formula(alloc, types, base) {
+        Ok(names) => check_postfixes(alloc, types, names, postfixes),
+        Err(stop) => Err(stop),
+    }
+}
+
+/// The names of a formula under filters, or its first fault or theirs, in a call of its own likewise.
+#[inline(never)]
+#[cycle(formulas)]
+fn check_under(
+    alloc: Global,
+    types: &QueryTypes,
+    base: &Formula,
+    filters: &[Filter],
+) -> NamesOrFault
+    ensures told { FindsFault result (option_or (formula_fault types.now base.now)
+        (first_in (filter_fault types.now (names_of base.now)) filters.now)) }
+    ensures names { IfOk result (λ names. HaveSameNames names (names_of base.now)) }
+{
+    match check_formula(alloc, types, base) {
+        Ok(names) => check_filtered(alloc, types, names, filters),
+        Err(stop) => Err(stop),
+    }
+}
+
 /// The names of the formula, read with the types of these numbers, or its first fault.
 #[cycle(formulas)]
 pub fn check_formula(alloc: Global, types: &QueryTypes, formula: &Formula) -> NamesOrFault
@@ -210,13 +251,7 @@ pub fn check_formula(alloc: Global, types: &QueryTypes, formula: &Formula) -> Na
             Err(stop) => Err(stop),
         },
         Formula::Either(choices) => check_formulas(alloc, types, choices),
-        Formula::Post(base, postfixes) => match check_formula(alloc, types, base) {
-            Ok(names) => check_postfixes(alloc, types, names, postfixes),
-            Err(stop) => Err(stop),
-        },
-        Formula::Under(base, filters) => match check_formula(alloc, types, base) {
-            Ok(names) => check_filtered(alloc, types, names, filters),
-            Err(stop) => Err(stop),
-        },
+        Formula::Post(base, postfixes) => check_changed(alloc, types, base, postfixes),
+        Formula::Under(base, filters) => check_under(alloc, types, base, filters),
     }
 }

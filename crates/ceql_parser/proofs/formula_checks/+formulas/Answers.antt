@@ -1,5 +1,6 @@
 use Rattle.std.proofs.Common.{◌≡◌, ap, ap₂, sym, subst, ◌∙◌, Option, None, ℕ, List, [], ◌++◌}
 use Rattle.std.specs.Prelude.{flat_map, IfOk}
+use Rattle.std.specs.Option.{option_or}
 use Rattle.cel_terms.specs.Checked.{names_of, names_after}
 use Rattle.ceql_grammar.specs.declared.faults.QueryError.{QueryError}
 use Rattle.ceql_parser.specs.FirstFaults.{first_in, FindsFault}
@@ -9,7 +10,7 @@ use Rattle.ceql_parser.specs.FormulaFaults.{formula_fault, filter_fault, postfix
 use Rattle.ceql_parser.specs.LinksAndCounts.{link_fault}
 use Rattle.ceql_parser.proofs.NamesListed.{chain_names, choice_names, linked_names}
 use Rattle.ceql_parser.proofs.NameSetLemmas.{same_self, same_then, same_both, same_as, same_more, same_all, ok_same, after_same, postfixes_same, all_filters_same}
-use Rattle.ceql_parser.proofs.RowFaults.{chain_faults, choice_faults, linked_passed, post_passed, under_passed}
+use Rattle.ceql_parser.proofs.RowFaults.{chain_faults, choice_faults, linked_passed}
 use Rattle.ceql_parser.proofs.formula_checks.+formulas.Goals as goal
 
 pub add_formula-returns-in-Ok-join-clause-names : goal.add_formula-returns-in-Ok-join-clause-names
@@ -65,6 +66,28 @@ check_formula-returns-in-Either t c =
           c.check_formulas-in-Either.ensures.names;
     }
 
+pub check_changed-returns-in-Ok-clause-told : goal.check_changed-returns-in-Ok-clause-told
+check_changed-returns-in-Ok-clause-told t c =
+    let types = c.args.types.now in
+    let after = postfixes_fault types (names_of c.args.base.now) c.args.postfixes.now in
+    subst (λ (o : Option QueryError). FindsFault c.check_postfixes.result o)
+    (postfixes_same types c.in-Ok.names (names_of c.args.base.now) c.in-Ok.ensures.names c.args.postfixes.now ∙ ap (λ (o : Option QueryError). option_or o after) (sym c.in-Ok.ensures.told))
+    c.check_postfixes.ensures.told
+
+pub check_changed-returns-in-Ok-clause-names : goal.check_changed-returns-in-Ok-clause-names
+check_changed-returns-in-Ok-clause-names t c =
+    ok_same c.check_postfixes.result (names_after c.in-Ok.names c.args.postfixes.now) (names_after (names_of c.args.base.now) c.args.postfixes.now)
+    (after_same c.in-Ok.names (names_of c.args.base.now) c.in-Ok.ensures.names c.args.postfixes.now)
+    c.check_postfixes.ensures.names
+
+pub check_under-returns-in-Ok-clause-told : goal.check_under-returns-in-Ok-clause-told
+check_under-returns-in-Ok-clause-told t c =
+    let types = c.args.types.now in
+    let after = first_in (filter_fault types (names_of c.args.base.now)) c.args.filters.now in
+    subst (λ (o : Option QueryError). FindsFault c.check_filtered.result o)
+    (all_filters_same types c.in-Ok.names (names_of c.args.base.now) c.in-Ok.ensures.names c.args.filters.now ∙ ap (λ (o : Option QueryError). option_or o after) (sym c.in-Ok.ensures.told))
+    c.check_filtered.ensures.told
+
 pub check_formula-returns-in-Ok-clause-told : goal.check_formula-returns-in-Ok-clause-told
 check_formula-returns-in-Ok-clause-told t c =
     let types = c.args.types.now in
@@ -85,34 +108,28 @@ check_formula-returns-in-Ok-clause-names t c =
     (ap₂ (λ f ls. names_of f ++ flat_map names_of_link ls) c.deref-in-Linked.ensures c.deref-in-Ok.ensures.value ∙ sym (linked_names c.in-Linked.first c.in-Linked.links) ∙ sym (ap names_of c.in-Linked.is)))
     c.check_links.ensures.names
 
-pub check_formula-returns-in-Ok-check_formula-clause-told : goal.check_formula-returns-in-Ok-check_formula-clause-told
-check_formula-returns-in-Ok-check_formula-clause-told t c =
+pub check_formula-returns-in-Post : goal.check_formula-returns-in-Post
+check_formula-returns-in-Post t c =
     let types = c.args.types.now in
-    let passes : formula_fault types c.deref-in-Post.result.now ≡ None = c.in-Ok-check_formula.ensures.told in
-    subst (λ (o : Option QueryError). FindsFault c.check_postfixes.result o)
-    (postfixes_same types c.in-Ok-check_formula.names (names_of c.deref-in-Post.result.now) c.in-Ok-check_formula.ensures.names c.deref-in-Ok-check_formula.result.now
-    ∙ ap₂ (λ f ps. postfixes_fault types (names_of f) ps) c.deref-in-Post.ensures c.deref-in-Ok-check_formula.ensures.value
-    ∙ post_passed types c.in-Post.base c.in-Post.postfixes (ap (formula_fault types) (sym c.deref-in-Post.ensures) ∙ passes)
-    ∙ sym (ap (formula_fault types) c.in-Post.is))
-    c.check_postfixes.ensures.told
+    record {
+      told = subst (λ (o : Option QueryError). FindsFault c.check_changed.result o)
+          (ap₂ (λ f ps. option_or (formula_fault types f) (postfixes_fault types (names_of f) ps)) c.deref-in-Post.ensures c.deref-in-Post-2.ensures.value
+          ∙ sym (ap (formula_fault types) c.in-Post.is))
+          c.check_changed.ensures.told;
+      names = subst (λ (l : List (List ℕ)). IfOk c.check_changed.result (λ names. HaveSameNames names l))
+          (ap₂ (λ f ps. names_after (names_of f) ps) c.deref-in-Post.ensures c.deref-in-Post-2.ensures.value ∙ sym (ap names_of c.in-Post.is))
+          c.check_changed.ensures.names;
+    }
 
-pub check_formula-returns-in-Ok-check_formula-clause-names : goal.check_formula-returns-in-Ok-check_formula-clause-names
-check_formula-returns-in-Ok-check_formula-clause-names t c =
-    let before = names_of c.deref-in-Post.result.now in
-    let ps = c.deref-in-Ok-check_formula.result.now in
-    ok_same c.check_postfixes.result (names_after c.in-Ok-check_formula.names ps) (names_of c.args.formula.now)
-    (same_as (names_after c.in-Ok-check_formula.names ps) (names_after before ps) (names_of c.args.formula.now)
-    (after_same c.in-Ok-check_formula.names before c.in-Ok-check_formula.ensures.names ps)
-    (ap₂ (λ f ps. names_after (names_of f) ps) c.deref-in-Post.ensures c.deref-in-Ok-check_formula.ensures.value ∙ sym (ap names_of c.in-Post.is)))
-    c.check_postfixes.ensures.names
-
-pub check_formula-returns-in-Ok-check_formula-2-clause-told : goal.check_formula-returns-in-Ok-check_formula-2-clause-told
-check_formula-returns-in-Ok-check_formula-2-clause-told t c =
+pub check_formula-returns-in-Under : goal.check_formula-returns-in-Under
+check_formula-returns-in-Under t c =
     let types = c.args.types.now in
-    let passes : formula_fault types c.deref-in-Under.result.now ≡ None = c.in-Ok-check_formula-2.ensures.told in
-    subst (λ (o : Option QueryError). FindsFault c.check_filtered.result o)
-    (all_filters_same types c.in-Ok-check_formula-2.names (names_of c.deref-in-Under.result.now) c.in-Ok-check_formula-2.ensures.names c.deref-in-Ok-check_formula-2.result.now
-    ∙ ap₂ (λ f cs. first_in (filter_fault types (names_of f)) cs) c.deref-in-Under.ensures c.deref-in-Ok-check_formula-2.ensures.value
-    ∙ under_passed types c.in-Under.base c.in-Under.filters (ap (formula_fault types) (sym c.deref-in-Under.ensures) ∙ passes)
-    ∙ sym (ap (formula_fault types) c.in-Under.is))
-    c.check_filtered.ensures.told
+    record {
+      told = subst (λ (o : Option QueryError). FindsFault c.check_under.result o)
+          (ap₂ (λ f cs. option_or (formula_fault types f) (first_in (filter_fault types (names_of f)) cs)) c.deref-in-Under.ensures c.deref-in-Under-2.ensures.value
+          ∙ sym (ap (formula_fault types) c.in-Under.is))
+          c.check_under.ensures.told;
+      names = subst (λ (l : List (List ℕ)). IfOk c.check_under.result (λ names. HaveSameNames names l))
+          (ap names_of c.deref-in-Under.ensures ∙ sym (ap names_of c.in-Under.is))
+          c.check_under.ensures.names;
+    }

@@ -4,7 +4,8 @@ use Rattle.std.specs.Prelude.{IsSomeAnd, sum_by}
 use Rattle.std.specs.List.{AllZip}
 use Rattle.std.proofs.lemmas.List.Elements.{All-nil, All-cons, All-head, All-tail, All-map}
 use Rattle.stream_schema.specs.declared.Event.{Event}
-use Rattle.query_standing.specs.Kept.{Part, PartStands}
+use Rattle.query_standing.specs.Kept.{Part}
+use Rattle.query_standing.specs.Dormancy.{StandsWithClock}
 use Rattle.std.proofs.lemmas.List.Sums.{sum_by-cons}
 use Rattle.all_or_none.specs.Phases.{Phase, Grows, IsStep, IsIdle, IsQuiet, back, IsTaken, StandsAt, InTime, HasGrown, bound_of, ready_bound, kept_bound}
 use Rattle.all_or_none.proofs.LoopTurn.{all_mapped}
@@ -38,9 +39,9 @@ one events event position at_first prepared new len kept taken time stands =
     let query : at_first.query ≡ prepared.query = ap (λ (p : Phase). p.query) (sym kept) in
     let part : at_first.kept ≡ prepared.kept = ap (λ (p : Phase). p.kept) (sym kept) in
     let time' = subst (λ s. InTime events event (record prepared { schema = s })) schema (subst (λ q. InTime events event (record prepared { schema = at_first.schema; query = q })) query time) in
-    let stands' = subst (λ k. PartStands prepared.schema prepared.query events k) part (subst (λ q. PartStands prepared.schema q events at_first.kept) query (subst (λ s. PartStands s at_first.query events at_first.kept) schema stands)) in
+    let stands' = subst (λ k. StandsWithClock prepared.schema prepared.query events k) part (subst (λ q. StandsWithClock prepared.schema q events at_first.kept) query (subst (λ s. StandsWithClock s at_first.query events at_first.kept) schema stands)) in
     let after = m.step.stands events len time' stands' in
-    subst (λ q. PartStands new.schema q (events ++ event ∷ []) new.kept) (sym m.query) (subst (λ s. PartStands s prepared.query (events ++ event ∷ []) new.kept) (sym m.schema) after)
+    subst (λ q. StandsWithClock new.schema q (events ++ event ∷ []) new.kept) (sym m.query) (subst (λ s. StandsWithClock s prepared.query (events ++ event ∷ []) new.kept) (sym m.schema) after)
 
 all_after : (events : List Event) (event : Event) (position : ℕ) (at_first prepared new : List Phase) → length events ≡ position → map back prepared ≡ map back at_first → AllZip (IsTaken event position) prepared new → All (InTime events event) at_first → All (StandsAt events) at_first → All (StandsAt (events ++ event ∷ [])) new
 all_after events event position [] [] [] len kept done time stands = All-nil (StandsAt (events ++ event ∷ []))

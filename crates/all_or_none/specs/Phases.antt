@@ -11,16 +11,16 @@ use Rattle.query_leaves.specs.Expand.{tree_of}
 use Rattle.query_leaves.specs.Leaves.{occurrences}
 use Rattle.query_standing.specs.Clocks.{Reads, FallsBack}
 use Rattle.query_standing.specs.Keys.{leaves_reading}
-use Rattle.query_standing.specs.Kept.{Part, Extends, PartStands, roots_at}
+use Rattle.query_standing.specs.Kept.{Part, Extends, roots_at}
+use Rattle.query_standing.specs.Dormancy.{StandsWithClock}
 
--- What a part is seen as: its schema and query, what is kept, what a commit makes of that, where it is prepared, how many events there were when the last one had come that did not pass it by, and whether its clock floats: whether it is the position of each event, also of one that passes it by.
+-- What a part is seen as: its schema and query, what is kept, what a commit makes of that, where it is prepared, and how many events there were when the last one had come that did not pass it by. It has no clock: that is of the events.
 pub record Phase : Type 0 where
   pub schema : Declared
   pub query : Query
   pub kept : Part
   pub ready : Option Part
   pub upto : ℕ
-  pub floats : Bool
 
 -- how many steps, and how many nodes, one event may take with the states of the part
 abbrev pub part_bound : Part → ℕ
@@ -36,7 +36,7 @@ pub record Grows (schema : Declared) (q : Query) (event : Event) (old new : Part
 
 -- What stands for the events becomes what stands for one more, where time does not fall.
 pub record IsStep (schema : Declared) (q : Query) (event : Event) (position : ℕ) (old new : Part) : Type 0 where
-  pub stands : (events : List Event) → length events ≡ position → ((before now : ℤ) → FallsBack schema q events event before now → ⊥) → PartStands schema q events old → PartStands schema q (events ++ event ∷ []) new
+  pub stands : (events : List Event) → length events ≡ position → ((before now : ℤ) → FallsBack schema q events event before now → ⊥) → StandsWithClock schema q events old → StandsWithClock schema q (events ++ event ∷ []) new
   pub grows : Grows schema q event old new
 
 -- it is prepared for the event at the position
@@ -103,7 +103,7 @@ IsTaken event position old new = (IsPrepared event position old × IsCommitted p
 
 -- What is kept of the part's query is as it is after these events.
 abbrev pub StandsAt : List Event → Phase → Type 0
-StandsAt events p = PartStands p.schema p.query events p.kept
+StandsAt events p = StandsWithClock p.schema p.query events p.kept
 
 abbrev pub InTime : List Event → Event → Phase → Type 0
 InTime events event p = (before now : ℤ) → FallsBack p.schema p.query events event before now → ⊥

@@ -16,6 +16,8 @@ ghost use Rattle.stream_schema.specs.declared.Event.{Event};
 ghost use Rattle.query_standing.specs.Bounds.{update_bound};
 ghost use Rattle.all_or_none.specs.Phases.{Phase, CanPrepare, IsPrepared, IsCommitted, IsIdle, IsQuiet, back, HasPassed, Rests, AreLeft, AreLeavesRead, AreRead, IsUnread, AreUnread, AreUntouched, IsUnchanged, AreUnchanged, AreOfMarked, AreBack, IsNoted, is_among, AreSet, MayAnswer, IsTaken, IsWithin, StandsAt, InTime, ready_bound, kept_bound, AreBounded, HasGrown};
 
+pub mod laws;
+
 use cer_base::bits::Bits;
 use cer_base::steps::Steps;
 use cer_base::{Memory, Pos};

@@ -1,5 +1,5 @@
 -- What an engine is after all its parts are compacted.
-use Rattle.std.proofs.Common.{◌≡◌, ℕ, zero, suc, ◌+◌, ◌-◌, ◌*◌, ◌<◌, ◌≤◌, List, [], ◌∷◌, map, length, get_or, slice_index_or, refl, sym, ap, ap₂, subst, ◌∙◌, All, Some, slice_get, arith}
+use Rattle.std.proofs.Common.{◌≡◌, ℕ, zero, suc, ◌+◌, ◌-◌, ◌*◌, ◌<◌, ◌≤◌, ℤ, List, [], ◌∷◌, map, length, get_or, slice_index_or, refl, sym, ap, ap₂, subst, ◌∙◌, All, Option, Some, slice_get, arith}
 use Rattle.std.specs.Prelude.{sum_by, max}
 use Rattle.std.specs.List.{AllZip}
 use Rattle.std.specs.Option.{option_map_or}
@@ -12,14 +12,17 @@ use Rattle.tecs_enumerate.specs.Rest.{CursorState}
 use Rattle.tecs_enumerate.specs.Rest as walks
 use Rattle.query_standing.specs.Kept.{Part, KeptStands}
 use Rattle.query_standing.specs.Bounds.{for_each_query}
-use Rattle.all_or_none.specs.Phases.{Phase, IsIdle, IsQuiet, StandsAt}
-use Rattle.query_part.specs.Parts.{seen, woken}
+use Rattle.all_or_none.specs.Phases.{Phase, IsIdle, IsQuiet}
+use Rattle.all_or_none.specs.Dormancy.{dormant_at}
+use Rattle.query_part.specs.Parts.{woken}
 use Rattle.query_part.specs.Matches.{HasStatesOnce}
 use Rattle.arena_compact.specs.Roots.{places}
 use Rattle.query_engine.specs.Engine.{State, StandsFor, kept_of, count_of, found_of, len_of, peak_of, Fits, rest, SameQueries, IsKept}
 use Rattle.query_engine.specs.Running.{IsRunning, IsKeeping, raised}
 use Rattle.query_engine.proofs.Growth.{nodes_there, raised_there, raised_count}
-use Rattle.query_engine.proofs.Keeping.{fresh_all, fresh_quiet, woken_upto, woken_running, woken_state, raised_seen}
+use Rattle.query_engine.specs.Times.{with_clocks, parts_at, IsAfter}
+use Rattle.query_engine.proofs.Clocked.{clocked_all, unclocked_all, clocked_quiet, unclocked_idle, unclocked_stands}
+use Rattle.query_engine.proofs.Keeping.{fresh_all, fresh_quiet, woken_upto, woken_at, woken_running, woken_state, woken_small, raised_seen}
 use Rattle.query_engine.specs.Compacting.{places_of, compact_bounds, cost, CanCompact, IsCompacted, nodes_of, FitsPart, IsTrimmed, AreTrimmed, IsLeft, AreCarried}
 use Rattle.query_engine.proofs.Standing.{state, mapped, map_at, from_parts, to_parts, length_map}
 use Rattle.query_engine.proofs.Sums.{sum_from}
@@ -48,11 +51,11 @@ zip_idle [] (n ∷ new) z = absurd z
 zip_idle (o ∷ old) [] z = absurd z
 zip_idle (o ∷ old) (n ∷ new) z = All-cons IsIdle n new z.0.idle (zip_idle old new z.1)
 
-zip_stand : (events : List Event) (old new : List Phase) → AllZip IsCompacted old new → All (StandsAt events) old → All (StandsAt events) new
-zip_stand events [] [] z h = All-nil (StandsAt events)
+zip_stand : (events : List Event) (old new : List Phase) → AllZip IsCompacted old new → All (IsAfter events) old → All (IsAfter events) new
+zip_stand events [] [] z h = All-nil (IsAfter events)
 zip_stand events [] (n ∷ new) z h = absurd z
 zip_stand events (o ∷ old) [] z h = absurd z
-zip_stand events (o ∷ old) (n ∷ new) z h = All-cons (StandsAt events) n new (z.0.stands events (All-head (StandsAt events) o old h)) (zip_stand events old new z.1 (All-tail (StandsAt events) o old h))
+zip_stand events (o ∷ old) (n ∷ new) z h = All-cons (IsAfter events) n new (z.0.stands events (All-head (IsAfter events) o old h)) (zip_stand events old new z.1 (All-tail (IsAfter events) o old h))
 
 zip_found : (old new : List Phase) (k : ℕ) → AllZip IsCompacted old new → option_map_or (λ (p : Part). length p.table.states) (slice_get (map (λ (p : Phase). p.kept) new) k) 0 ≡ option_map_or (λ (p : Part). length p.table.states) (slice_get (map (λ (p : Phase). p.kept) old) k) 0
 zip_found [] [] k z = refl
@@ -95,12 +98,16 @@ most_stays : (x n m : ℕ) → m ≤ n → max (max x n) m ≡ max x n
 most_stays x n m le = omega arith
 
 -- before: each part can be compacted, and each held cursor is of a part
-pub can_compact : (schema : Declared) (count : ℕ) (old mut : List Phase) (ps : List ℕ) (room : ℕ) → IsRunning schema count old ps → mut ≡ old → All (λ (p : Phase). length p.kept.nodes ≤ room) old → All (CanCompact room) mut
-can_compact schema count old mut ps room running mut_is many =
-    subst (All (CanCompact room)) (sym mut_is) (λ k d lt. record {
-      idle = running.idle k d lt;
-      events = record { events = running.run.events; stands = running.run.stands k d lt };
-      enough = many k d lt;
+pub can_compact : (schema : Declared) (count : ℕ) (clocks : List (Option ℤ)) (parts mut : List Phase) (ps : List ℕ) (room : ℕ) → IsKeeping schema count clocks parts ps → mut ≡ parts → All (λ (p : Phase). length p.kept.nodes ≤ room) parts → All (CanCompact room) (map (woken count) mut)
+can_compact schema count clocks parts mut ps room keeps mut_is many =
+    let r = woken_running schema count clocks parts ps keeps in
+    let small = woken_small count parts room many in
+    let stand = unclocked_stands r.run.events (map (woken count) parts) clocks r.run.stands in
+    let idle = unclocked_idle (map (woken count) parts) clocks r.idle in
+    subst (λ zs. All (CanCompact room) (map (woken count) zs)) (sym mut_is) (λ k d lt. record {
+      idle = idle k d lt;
+      events = record { events = r.run.events; stands = stand k d lt };
+      enough = small k d lt;
     })
 
 pub can_hold : (schema : Declared) (count : ℕ) (old mut : List Phase) (ps : List ℕ) (s : State) (held : List CursorState) → state schema count old ps ≡ s → mut ≡ old → All (Fits s) held → All (FitsPart mut) held
@@ -115,30 +122,35 @@ zip_upto count [] (n ∷ new) z h = absurd z
 zip_upto count (o ∷ old) [] z h = absurd z
 zip_upto count (o ∷ old) (n ∷ new) z h = All-cons (λ (p : Phase). p.upto ≡ count) n new (z.0.upto ∙ All-head (λ (p : Phase). p.upto ≡ count) o old h) (zip_upto count old new z.1 (All-tail (λ (p : Phase). p.upto ≡ count) o old h))
 
+pub found_upto : (count : ℕ) (clocks : List (Option ℤ)) (mut found : List Phase) → AllZip IsCompacted (woken_at count mut clocks) (with_clocks found clocks) → All (λ (p : Phase). p.upto ≡ count) found
+found_upto count clocks mut found z =
+    unclocked_all (λ (p : Phase). p.upto ≡ count) (λ (p : Phase). p.upto ≡ count) found clocks (λ c p h. h)
+    (zip_upto count (woken_at count mut clocks) (with_clocks found clocks) z (clocked_all (λ (p : Phase). p.upto ≡ count) (λ (p : Phase). p.upto ≡ count) (map (woken count) mut) clocks (λ c p h. h) (woken_upto count mut)))
+
 -- so they are what they are kept as
-pub compacted_are : (count : ℕ) (parts mut found raw : List Phase) → mut ≡ parts → AllZip IsCompacted (map (woken count) mut) found → raw ≡ found → found ≡ map (seen count) raw
-compacted_are count parts mut found raw mut_is z raw_is =
-    sym (ap (map (seen count)) raw_is ∙ fresh_all count found (zip_upto count (map (woken count) mut) found z (woken_upto count mut)))
+pub compacted_are : (count : ℕ) (clocks : List (Option ℤ)) (mut found raw : List Phase) → AllZip IsCompacted (woken_at count mut clocks) (with_clocks found clocks) → raw ≡ found → with_clocks found clocks ≡ parts_at count raw clocks
+compacted_are count clocks mut found raw z raw_is =
+    ap (λ zs. with_clocks zs clocks) (sym (ap (map (dormant_at count)) raw_is ∙ fresh_all count found (found_upto count clocks mut found z)))
 
-pub compacted_zip : (count : ℕ) (parts mut found raw : List Phase) → mut ≡ parts → AllZip IsCompacted (map (woken count) mut) found → raw ≡ found → AllZip IsCompacted (map (woken count) parts) (map (seen count) raw)
-compacted_zip count parts mut found raw mut_is z raw_is =
-    subst (AllZip IsCompacted (map (woken count) parts)) (compacted_are count parts mut found raw mut_is z raw_is) (subst (λ (ps : List Phase). AllZip IsCompacted (map (woken count) ps) found) mut_is z)
+pub compacted_zip : (count : ℕ) (clocks : List (Option ℤ)) (parts mut found raw : List Phase) → mut ≡ parts → AllZip IsCompacted (woken_at count mut clocks) (with_clocks found clocks) → raw ≡ found → AllZip IsCompacted (woken_at count parts clocks) (parts_at count raw clocks)
+compacted_zip count clocks parts mut found raw mut_is z raw_is =
+    subst (AllZip IsCompacted (woken_at count parts clocks)) (compacted_are count clocks mut found raw z raw_is) (subst (λ (ps : List Phase). AllZip IsCompacted (woken_at count ps clocks) (with_clocks found clocks)) mut_is z)
 
--- What the compaction of the parts that are kept is, as one of settled parts.
-pub record Compaction (schema : Declared) (count : ℕ) (parts raw : List Phase) (ps qs : List ℕ) (s : State) : Type 0 where
-  pub running : IsRunning schema count (map (woken count) parts) ps
-  pub zip : AllZip IsCompacted (map (woken count) parts) (map (seen count) raw)
-  pub peaks : qs ≡ raised ps (map (woken count) parts)
-  pub is : state schema count (map (woken count) parts) ps ≡ s
-  pub quiet : All (IsQuiet count) (map (seen count) raw)
+-- What the compaction of the parts that are kept is, as one of settled parts. All have their clocks.
+pub record Compaction (schema : Declared) (count : ℕ) (clocks : List (Option ℤ)) (parts raw : List Phase) (ps qs : List ℕ) (s : State) : Type 0 where
+  pub running : IsRunning schema count (woken_at count parts clocks) ps
+  pub zip : AllZip IsCompacted (woken_at count parts clocks) (parts_at count raw clocks)
+  pub peaks : qs ≡ raised ps (woken_at count parts clocks)
+  pub is : state schema count (woken_at count parts clocks) ps ≡ s
+  pub quiet : All (IsQuiet count) (parts_at count raw clocks)
 
-pub compaction : (schema : Declared) (count : ℕ) (parts mut found raw slice : List Phase) (ps mut_ps found_ps qs : List ℕ) (s : State) → IsKeeping schema count parts ps → state schema count (map (seen count) parts) ps ≡ s → mut ≡ parts → AllZip IsCompacted (map (woken count) mut) found → raw ≡ found → slice ≡ parts → mut_ps ≡ ps → found_ps ≡ raised mut_ps slice → qs ≡ found_ps → Compaction schema count parts raw ps qs s
-compaction schema count parts mut found raw slice ps mut_ps found_ps qs s keeps is mut_is z raw_is slice_is mut_ps_is raise qs_is = record {
-  running = woken_running schema count parts ps keeps;
-  zip = compacted_zip count parts mut found raw mut_is z raw_is;
-  peaks = qs_is ∙ (raise ∙ (ap (λ xs. raised xs slice) mut_ps_is ∙ (ap (raised ps) slice_is ∙ raised_seen count ps parts)));
-  is = woken_state schema count parts ps ∙ is;
-  quiet = subst (All (IsQuiet count)) (compacted_are count parts mut found raw mut_is z raw_is) (fresh_quiet count found (zip_upto count (map (woken count) mut) found z (woken_upto count mut)));
+pub compaction : (schema : Declared) (count : ℕ) (clocks : List (Option ℤ)) (parts mut found raw slice : List Phase) (ps mut_ps found_ps qs : List ℕ) (s : State) → IsKeeping schema count clocks parts ps → state schema count (parts_at count parts clocks) ps ≡ s → mut ≡ parts → AllZip IsCompacted (woken_at count mut clocks) (with_clocks found clocks) → raw ≡ found → slice ≡ parts → mut_ps ≡ ps → found_ps ≡ raised mut_ps slice → qs ≡ found_ps → Compaction schema count clocks parts raw ps qs s
+compaction schema count clocks parts mut found raw slice ps mut_ps found_ps qs s keeps is mut_is z raw_is slice_is mut_ps_is raise qs_is = record {
+  running = woken_running schema count clocks parts ps keeps;
+  zip = compacted_zip count clocks parts mut found raw mut_is z raw_is;
+  peaks = qs_is ∙ (raise ∙ (ap (λ xs. raised xs slice) mut_ps_is ∙ (ap (raised ps) slice_is ∙ raised_seen count ps parts clocks)));
+  is = woken_state schema count clocks parts ps ∙ is;
+  quiet = subst (All (IsQuiet count)) (compacted_are count clocks mut found raw z raw_is) (clocked_quiet count found clocks (fresh_quiet count found (found_upto count clocks mut found z)));
 }
 
 module _ (schema : Declared) (count : ℕ) (old new : List Phase) (ps qs : List ℕ) (ws vs : List CursorState) (running : IsRunning schema count old ps) (z : AllZip IsCompacted old new) (peaks : qs ≡ raised ps old) (s : State) (is : state schema count old ps ≡ s) where

@@ -1,6 +1,7 @@
 -- What an engine is after blank positions. For callers of the crate too.
-use Rattle.std.proofs.Common.{◌≡◌, ℕ, zero, suc, ◌+◌, ◌-◌, ◌<◌, ◌≤◌, inl, inr, ℤ, List, [], ◌∷◌, ◌++◌, map, take, length, refl, sym, ap, subst, ◌∙◌, All, Some, None, slice_get, slice_index_or, arith, replicate, append_assoc, length-append}
-use Rattle.std.specs.Prelude.{max}
+use Rattle.std.proofs.Common.{◌≡◌, ℕ, zero, suc, ◌+◌, ◌-◌, ◌<◌, ◌≤◌, inl, inr, ℤ, List, [], ◌∷◌, ◌++◌, map, take, drop, length, refl, sym, ap, ap₂, subst, ◌∙◌, All, Option, Some, None, slice_get, slice_index_or, arith, replicate, append_assoc, length-append}
+use Rattle.std.specs.Prelude.{max, if◌then◌else◌}
+use Rattle.std.proofs.lemmas.Bool.{ne_eqb}
 use Rattle.std.specs.Option.{option_map_or}
 use Rattle.std.proofs.lemmas.List.{take-append-le, append-nil, length-replicate}
 use Rattle.std.proofs.lemmas.List.Elements.{All-nil, All-cons, All-head, All-tail, All-weaker}
@@ -8,21 +9,21 @@ use Rattle.stream_schema.specs.Types.{Declared, IsWellDeclared}
 use Rattle.stream_schema.specs.declared.Event.{Event}
 use Rattle.cel_terms.specs.declared.Query.{Query}
 use Rattle.cel_terms.proofs.Undeclared.{left_out}
-use Rattle.tecs_enumerate.specs.Rest.{CursorState}
 use Rattle.tecs_enumerate.specs.Rest as walks
 use Rattle.arena_compact.specs.Moves.{later}
 use Rattle.query_standing.specs.Clocks.{Reads, HasClockAt, IsLastClock}
 use Rattle.query_standing.specs.Kept.{Part, PartStands, KeptStands}
 use Rattle.query_standing.proofs.Parts.{part_skips}
-use Rattle.all_or_none.specs.Phases.{Phase, IsIdle, StandsAt}
-use Rattle.query_part.specs.Parts.{seen, woken, skipped}
+use Rattle.all_or_none.specs.Phases.{Phase, IsIdle, IsQuiet}
+use Rattle.all_or_none.specs.Dormancy.{dormant_at}
 use Rattle.query_engine.specs.Engine.{State, Open, StandsFor, kept_of, count_of, found_of, len_of, peak_of, Fits, rest, SameQueries, KeepsCursors}
+use Rattle.query_engine.specs.Times.{with_clock, parts_at, IsAfter}
 use Rattle.query_engine.specs.Running.{IsRunning, IsKeeping}
 use Rattle.query_engine.specs.Windows.{later_of, IsReadFrom, IsDense, IsRecentAt, FollowsWindowSince}
 use Rattle.query_engine.specs.Machine.{Machine, with_event, Taken, IsCursor, IsMachine}
 use Rattle.query_engine.specs.Skipping.{IsBlank, AreBlanks, KeepsAll, TakesAll}
 use Rattle.query_engine.proofs.Standing.{state, from_parts, to_parts, length_map}
-use Rattle.query_engine.proofs.Keeping.{fresh_all, fresh_quiet, keeping, seen_schemas}
+use Rattle.query_engine.proofs.Keeping.{running, keeping}
 use Rattle.query_engine.proofs.Machine.{zip_weaker, cursor_on}
 use Rattle.query_engine.proofs.Windows.{bounded_on, clock_inside, still_clock}
 
@@ -63,79 +64,84 @@ stands_on schema q events (event ∷ later) part well blank some stands =
     part_skips schema q events event later part stands (blank_unread schema q event well (All-head (IsBlank schema) event later blank))
     (All-weaker (IsBlank schema) (λ e. Reads schema q e → ⊥) (λ e b. blank_unread schema q e well b) later (All-tail (IsBlank schema) event later blank))
 
-module _ (schema : Declared) (from to : ℕ) where
-  -- a part whose last events, from one number to the other, are not read
-  abbrev pub passed : List Phase → List Phase
-  passed parts = map (skipped to) (map (woken from) parts)
+-- the part with no answer at the last event
+abbrev pub unanswered : Phase → Phase
+unanswered p = record p { kept = record p.kept { here = None } }
 
-  part_on : (events blanks : List Event) (p : Phase) → p.schema ≡ schema → IsWellDeclared schema → All (IsBlank schema) blanks → 0 < length blanks → StandsAt events (seen from p) → StandsAt (events ++ blanks) (skipped to (woken from p))
-  part_on events blanks p is well blank some stands =
-      stands_on p.schema p.query events blanks (seen from p).kept (subst IsWellDeclared (sym is) well) (subst (λ (s : Declared). All (IsBlank s) blanks) (sym is) blank) some stands
+-- What an event did not reach is, after later ones, as if none had a key.
+passed_one : (from to : ℕ) (c : Option ℤ) (p : Phase) → p.upto ≤ from → from < to → with_clock c (dormant_at to p) ≡ unanswered (with_clock c (dormant_at from p))
+passed_one from to c p known further = ap (λ b. with_clock c (record p { kept = record p.kept { here = if b then p.kept.here else None } })) (ne_eqb to p.upto (λ same. (omega arith)))
 
-  parts_on : (events blanks : List Event) (parts : List Phase) → All (λ (p : Phase). p.schema ≡ schema) parts → IsWellDeclared schema → All (IsBlank schema) blanks → 0 < length blanks → All (StandsAt events) (map (seen from) parts) → All (StandsAt (events ++ blanks)) (passed parts)
-  parts_on events blanks [] schemas well blank some all = All-nil (StandsAt (events ++ blanks))
-  parts_on events blanks (p ∷ parts) schemas well blank some all =
-      All-cons (StandsAt (events ++ blanks)) (skipped to (woken from p)) (passed parts)
-      (part_on events blanks p (All-head (λ (x : Phase). x.schema ≡ schema) p parts schemas) well blank some (All-head (StandsAt events) (seen from p) (map (seen from) parts) all))
-      (parts_on events blanks parts (All-tail (λ (x : Phase). x.schema ≡ schema) p parts schemas) well blank some (All-tail (StandsAt events) (seen from p) (map (seen from) parts) all))
+pub passed_all : (from to : ℕ) (parts : List Phase) (clocks : List (Option ℤ)) → All (λ (p : Phase). p.upto ≤ from) parts → from < to → parts_at to parts clocks ≡ map unanswered (parts_at from parts clocks)
+passed_all from to [] clocks known further = refl
+passed_all from to (p ∷ parts) clocks known further =
+    ap₂ (λ x xs. x ∷ xs) (passed_one from to (slice_index_or clocks 0 None) p (All-head (λ (x : Phase). x.upto ≤ from) p parts known) further) (passed_all from to parts (drop 1 clocks) (All-tail (λ (x : Phase). x.upto ≤ from) p parts known) further)
 
-  passed_schemas : (parts : List Phase) → All (λ (p : Phase). p.schema ≡ schema) parts → All (λ (p : Phase). p.schema ≡ schema) (passed parts)
-  passed_schemas [] h = All-nil (λ (p : Phase). p.schema ≡ schema)
-  passed_schemas (p ∷ parts) h = All-cons (λ (x : Phase). x.schema ≡ schema) (skipped to (woken from p)) (passed parts) (All-head (λ (x : Phase). x.schema ≡ schema) p parts h) (passed_schemas parts (All-tail (λ (x : Phase). x.schema ≡ schema) p parts h))
+part_on : (schema : Declared) (events blanks : List Event) (p : Phase) → p.schema ≡ schema → IsWellDeclared schema → All (IsBlank schema) blanks → 0 < length blanks → IsAfter events p → IsAfter (events ++ blanks) (unanswered p)
+part_on schema events blanks p is well blank some stands =
+    stands_on p.schema p.query events blanks p.kept (subst IsWellDeclared (sym is) well) (subst (λ (s : Declared). All (IsBlank s) blanks) (sym is) blank) some stands
 
-  passed_idle : (parts : List Phase) → All IsIdle parts → All IsIdle (passed parts)
-  passed_idle [] h = All-nil IsIdle
-  passed_idle (p ∷ parts) h = All-cons IsIdle (skipped to (woken from p)) (passed parts) (All-head IsIdle p parts h) (passed_idle parts (All-tail IsIdle p parts h))
+parts_on : (schema : Declared) (events blanks : List Event) (parts : List Phase) → All (λ (p : Phase). p.schema ≡ schema) parts → IsWellDeclared schema → All (IsBlank schema) blanks → 0 < length blanks → All (IsAfter events) parts → All (IsAfter (events ++ blanks)) (map unanswered parts)
+parts_on schema events blanks [] schemas well blank some all = All-nil (IsAfter (events ++ blanks))
+parts_on schema events blanks (p ∷ parts) schemas well blank some all =
+    All-cons (IsAfter (events ++ blanks)) (unanswered p) (map unanswered parts)
+    (part_on schema events blanks p (All-head (λ (x : Phase). x.schema ≡ schema) p parts schemas) well blank some (All-head (IsAfter events) p parts all))
+    (parts_on schema events blanks parts (All-tail (λ (x : Phase). x.schema ≡ schema) p parts schemas) well blank some (All-tail (IsAfter events) p parts all))
 
-  passed_upto : (parts : List Phase) → All (λ (p : Phase). p.upto ≡ to) (passed parts)
-  passed_upto [] = All-nil (λ (p : Phase). p.upto ≡ to)
-  passed_upto (p ∷ parts) = All-cons (λ (x : Phase). x.upto ≡ to) (skipped to (woken from p)) (passed parts) refl (passed_upto parts)
+passed_schemas : (schema : Declared) (parts : List Phase) → All (λ (p : Phase). p.schema ≡ schema) parts → All (λ (p : Phase). p.schema ≡ schema) (map unanswered parts)
+passed_schemas schema [] h = All-nil (λ (p : Phase). p.schema ≡ schema)
+passed_schemas schema (p ∷ parts) h = All-cons (λ (x : Phase). x.schema ≡ schema) (unanswered p) (map unanswered parts) (All-head (λ (x : Phase). x.schema ≡ schema) p parts h) (passed_schemas schema parts (All-tail (λ (x : Phase). x.schema ≡ schema) p parts h))
 
-  passed_queries : (parts : List Phase) → map (λ (p : Phase). p.query) (passed parts) ≡ map (λ (p : Phase). p.query) (map (seen from) parts)
-  passed_queries [] = refl
-  passed_queries (p ∷ parts) = ap (λ qs. p.query ∷ qs) (passed_queries parts)
+passed_idle : (parts : List Phase) → All IsIdle parts → All IsIdle (map unanswered parts)
+passed_idle [] h = All-nil IsIdle
+passed_idle (p ∷ parts) h = All-cons IsIdle (unanswered p) (map unanswered parts) (All-head IsIdle p parts h) (passed_idle parts (All-tail IsIdle p parts h))
 
-  passed_count : (parts : List Phase) → length (passed parts) ≡ length parts
-  passed_count parts = length_map (skipped to) (map (woken from) parts) ∙ length_map (woken from) parts
+passed_quiet : (count : ℕ) (parts : List Phase) → All (IsQuiet count) (map unanswered parts)
+passed_quiet count [] = All-nil (IsQuiet count)
+passed_quiet count (p ∷ parts) = All-cons (IsQuiet count) (unanswered p) (map unanswered parts) (λ stale. refl) (passed_quiet count parts)
 
-  -- of what is kept the number of the last key alone changes
-  passed_kept : {A : Type 0} (f : Part → A) (d : A) → ((p : Part) → f (record p { here = None }) ≡ f p) → (parts : List Phase) (k : ℕ) →
-      option_map_or f (slice_get (map (λ (p : Phase). p.kept) (passed parts)) k) d ≡ option_map_or f (slice_get (map (λ (p : Phase). p.kept) (map (seen from) parts)) k) d
-  passed_kept f d same [] k = refl
-  passed_kept f d same (p ∷ parts) zero = same (seen from p).kept
-  passed_kept f d same (p ∷ parts) (suc k) = passed_kept f d same parts k
+passed_queries : (parts : List Phase) → map (λ (p : Phase). p.query) (map unanswered parts) ≡ map (λ (p : Phase). p.query) parts
+passed_queries [] = refl
+passed_queries (p ∷ parts) = ap (λ qs. p.query ∷ qs) (passed_queries parts)
 
--- What the parts are that went on, as those of an engine.
-pub record Went (schema : Declared) (from to : ℕ) (parts raw : List Phase) (peaks : List ℕ) (s : State) : Type 0 where
+-- of what is kept the number of the last key alone changes
+passed_kept : {A : Type 0} (f : Part → A) (d : A) → ((p : Part) → f (record p { here = None }) ≡ f p) → (parts : List Phase) (k : ℕ) →
+    option_map_or f (slice_get (map (λ (p : Phase). p.kept) (map unanswered parts)) k) d ≡ option_map_or f (slice_get (map (λ (p : Phase). p.kept) parts) k) d
+passed_kept f d same [] k = refl
+passed_kept f d same (p ∷ parts) zero = same p.kept
+passed_kept f d same (p ∷ parts) (suc k) = passed_kept f d same parts k
+
+-- The parts of an engine that goes on, which stay as they are.
+pub record Went (schema : Declared) (from to : ℕ) (clocks : List (Option ℤ)) (parts : List Phase) (peaks : List ℕ) (s : State) : Type 0 where
   pub well : IsWellDeclared schema
   pub further : from < to
-  pub keeps : IsKeeping schema from parts peaks
-  pub is : state schema from (map (seen from) parts) peaks ≡ s
-  pub are : map (seen to) raw ≡ passed schema from to parts
+  pub known : All (λ (p : Phase). p.upto ≤ from) parts
+  pub keeps : IsKeeping schema from clocks parts peaks
+  pub is : state schema from (parts_at from parts clocks) peaks ≡ s
 
-pub went : (schema : Declared) (from to : ℕ) (parts mut found raw : List Phase) (peaks : List ℕ) (s : State) → IsWellDeclared schema → from < to → IsKeeping schema from parts peaks → state schema from (map (seen from) parts) peaks ≡ s →
-    mut ≡ parts → found ≡ map (skipped to) (map (woken from) mut) → raw ≡ found → Went schema from to parts raw peaks s
-went schema from to parts mut found raw peaks s well further keeps is mut_is found_is raw_is =
-    let raws : raw ≡ passed schema from to parts = raw_is ∙ (found_is ∙ ap (passed schema from to) mut_is) in
-    record {
-      well = well;
-      further = further;
-      keeps = keeps;
-      is = is;
-      are = ap (map (seen to)) raws ∙ fresh_all to (passed schema from to parts) (passed_upto schema from to parts);
-    }
+module _ (schema : Declared) (from to : ℕ) (clocks : List (Option ℤ)) (parts : List Phase) (peaks : List ℕ) (s : State) (w : Went schema from to clocks parts peaks s) where
+  abbrev old : List Phase
+  old = parts_at from parts clocks
 
-module _ (schema : Declared) (from to : ℕ) (parts raw : List Phase) (peaks : List ℕ) (s : State) (w : Went schema from to parts raw peaks s) where
   abbrev on : List Phase
-  on = passed schema from to parts
+  on = map unanswered (parts_at from parts clocks)
 
   abbrev after : State
-  after = state schema to (map (seen to) raw) peaks
+  after = state schema to (parts_at to parts clocks) peaks
 
-  after_is : state schema to on peaks ≡ after
-  after_is = sym (ap (λ ps. state schema to ps peaks) w.are)
+  are : parts_at to parts clocks ≡ map unanswered (parts_at from parts clocks)
+  are = passed_all from to parts clocks w.known w.further
 
-  pub went_keeping : IsKeeping schema to raw peaks
+  after_is : state schema to (map unanswered (parts_at from parts clocks)) peaks ≡ state schema to (parts_at to parts clocks) peaks
+  after_is = sym (ap (λ ps. state schema to ps peaks) are)
+
+  runs : IsRunning schema from (parts_at from parts clocks) peaks
+  runs = running schema from clocks parts peaks w.keeps
+
+  on_count : length (map unanswered (parts_at from parts clocks)) ≡ length (parts_at from parts clocks)
+  on_count = length_map unanswered (parts_at from parts clocks)
+
+  pub went_keeping : IsKeeping schema to clocks parts peaks
   went_keeping =
       let run = w.keeps.run in
       let less = w.further in
@@ -145,20 +151,17 @@ module _ (schema : Declared) (from to : ℕ) (parts raw : List Phase) (peaks : L
       let some = some_blanks schema n to (omega (arith, less, count)) in
       let many = some.count in
       let whole = length-append run.events blanks in
-      keeping schema to raw peaks (subst (λ ps. IsRunning schema to ps peaks) (sym w.are) record {
-        schemas = passed_schemas schema from to parts w.keeps.schemas;
-        idle = passed_idle schema from to parts w.keeps.idle;
+      keeping schema to clocks parts peaks (subst (λ ps. IsRunning schema to ps peaks) (sym are) record {
+        schemas = passed_schemas schema old runs.schemas;
+        idle = passed_idle old runs.idle;
         run = record {
           events = run.events ++ blanks;
           length_is = whole ∙ many;
-          stands = parts_on schema from to run.events blanks parts w.keeps.schemas w.well some.blank (omega (arith, many, less, count)) run.stands;
+          stands = parts_on schema run.events blanks old runs.schemas w.well some.blank (omega (arith, many, less, count)) run.stands;
         };
-        quiet = fresh_quiet to on (passed_upto schema from to parts);
-        peaks_are = w.keeps.peaks_are ∙ sym (passed_count schema from to parts);
+        quiet = passed_quiet to old;
+        peaks_are = runs.peaks_are ∙ sym on_count;
       })
-
-  seen_schemas_are : All (λ (p : Phase). p.schema ≡ schema) (map (seen from) parts)
-  seen_schemas_are = seen_schemas schema (seen from) parts (λ p. refl) w.keeps.schemas
 
   pub went_stands : (events blanks : List Event) → StandsFor s events → AreBlanks s.schema (length events) (count_of after) blanks → StandsFor after (events ++ blanks)
   unfolding StandsFor count_of
@@ -166,37 +169,33 @@ module _ (schema : Declared) (from to : ℕ) (parts raw : List Phase) (peaks : L
       let less = w.further in
       let count = stands.count in
       let many = are.count in
-      let all = to_parts schema from (map (seen from) parts) peaks events seen_schemas_are stands in
+      let all = to_parts schema from old peaks events runs.schemas stands in
       let whole : length (events ++ blanks) ≡ to = length-append events blanks ∙ many in
       subst (λ (t : State). KeptStands (kept_of t) (events ++ blanks)) after_is
-      (from_parts schema to on peaks (events ++ blanks) (passed_schemas schema from to parts w.keeps.schemas) whole
-      (parts_on schema from to events blanks parts w.keeps.schemas w.well are.blank (omega (arith, less, count, many)) all)))
+      (from_parts schema to on peaks (events ++ blanks) (passed_schemas schema old runs.schemas) whole
+      (parts_on schema events blanks old runs.schemas w.well are.blank (omega (arith, less, count, many)) all)))
 
   pub went_same : SameQueries s after
-  went_same = subst (λ (t : State). SameQueries t after) w.is (subst (λ (t : State). SameQueries (state schema from (map (seen from) parts) peaks) t) after_is (refl, passed_queries schema from to parts))
-
-  pub went_queries : map (λ (p : Phase). p.query) (map (seen to) raw) ≡ map (λ (p : Phase). p.query) (map (seen from) parts)
-  went_queries = ap (map (λ (p : Phase). p.query)) w.are ∙ passed_queries schema from to parts
+  went_same = subst (λ (t : State). SameQueries t after) w.is (subst (λ (t : State). SameQueries (state schema from old peaks) t) after_is (refl, passed_queries old))
 
   pub went_cursors : KeepsCursors s after
   unfolding Fits rest
-  went_cursors = subst (λ (t : State). KeepsCursors t after) w.is (subst (λ (t : State). KeepsCursors (state schema from (map (seen from) parts) peaks) t) after_is (λ c fits.
-      let nodes = passed_kept schema from to (λ (p : Part). p.nodes) [] (λ p. refl) parts (c.query - 1) in
+  went_cursors = subst (λ (t : State). KeepsCursors t after) w.is (subst (λ (t : State). KeepsCursors (state schema from old peaks) t) after_is (λ c fits.
+      let nodes = passed_kept (λ (p : Part). p.nodes) [] (λ p. refl) old (c.query - 1) in
       let low = fits.0 in
       let high = fits.1 in
       let many = length_map (λ (p : Phase). p.kept) on in
-      let count = passed_count schema from to parts in
-      let were = length_map (λ (p : Phase). p.kept) (map (seen from) parts) in
-      let seen_count = length_map (seen from) parts in
-      ((low, omega (arith, high, many, count, were, seen_count), subst (walks.Fits c) (sym nodes) fits.2), ap (walks.rest c) nodes)))
+      let count = on_count in
+      let were = length_map (λ (p : Phase). p.kept) old in
+      ((low, omega (arith, high, many, count, were), subst (walks.Fits c) (sym nodes) fits.2), ap (walks.rest c) nodes)))
 
   pub went_kept : KeepsAll s after
   unfolding found_of len_of peak_of later_of
-  went_kept = subst (λ (t : State). KeepsAll t after) w.is (subst (λ (t : State). KeepsAll (state schema from (map (seen from) parts) peaks) t) after_is record {
-    found = λ query. passed_kept schema from to (λ (p : Part). length p.table.states) 0 (λ p. refl) parts (query - 1);
-    nodes = λ query. passed_kept schema from to (λ (p : Part). length p.nodes) 0 (λ p. refl) parts (query - 1);
-    later = λ query position. passed_kept schema from to (λ (p : Part). later position p.nodes) 0 (λ p. refl) parts (query - 1);
-    peak = λ query. ap (λ n. max (slice_index_or peaks (query - 1) 0) n) (passed_kept schema from to (λ (p : Part). length p.nodes) 0 (λ p. refl) parts (query - 1));
+  went_kept = subst (λ (t : State). KeepsAll t after) w.is (subst (λ (t : State). KeepsAll (state schema from old peaks) t) after_is record {
+    found = λ query. passed_kept (λ (p : Part). length p.table.states) 0 (λ p. refl) old (query - 1);
+    nodes = λ query. passed_kept (λ (p : Part). length p.nodes) 0 (λ p. refl) old (query - 1);
+    later = λ query position. passed_kept (λ (p : Part). later position p.nodes) 0 (λ p. refl) old (query - 1);
+    peak = λ query. ap (λ n. max (slice_index_or peaks (query - 1) 0) n) (passed_kept (λ (p : Part). length p.nodes) 0 (λ p. refl) old (query - 1));
   })
 
 -- LAWS

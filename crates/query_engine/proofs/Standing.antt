@@ -1,5 +1,5 @@
 -- What the parts stand for, and what the engine does.
-use Rattle.std.proofs.Common.{◌≡◌, ℕ, ◌+◌, ◌-◌, ◌<◌, List, [], ◌∷◌, map, take, length, refl, sym, ap, subst, ◌∙◌, All, Option, Some, None, slice_get, slice_index_or, arith}
+use Rattle.std.proofs.Common.{◌≡◌, ℕ, ◌+◌, ◌<◌, List, [], ◌∷◌, map, take, length, refl, sym, ap, subst, ◌∙◌, All, Option, Some, None, slice_get, slice_index_or, arith}
 use Rattle.std.specs.Prelude.{option_map}
 use Rattle.std.proofs.lemmas.List.{take_more}
 use Rattle.std.proofs.lemmas.List.Elements.{All-nil, All-cons, All-append}
@@ -7,12 +7,12 @@ use Rattle.std.proofs.lemmas.Option.{slice_get_within, slice_get-get_or, slice_g
 use Rattle.stream_schema.specs.Types.{Declared}
 use Rattle.stream_schema.specs.Events.{IsOfSchema}
 use Rattle.stream_schema.specs.declared.Event.{Event}
-use Rattle.query_standing.specs.Clocks.{FallsBack, NoneFallsBack, IsFirstToFall}
+use Rattle.query_standing.specs.Clocks.{FallsBack, NoneFallsBack}
 use Rattle.query_standing.specs.Kept.{PartStands, KeptStands}
-use Rattle.all_or_none.specs.Phases.{Phase, StandsAt, InTime, CanPrepare}
-use Rattle.query_engine.specs.declared.falls.FallOf.{FallOf}
+use Rattle.all_or_none.specs.Phases.{Phase, InTime, CanPrepare}
 use Rattle.query_engine.specs.Engine.{State, kept_of}
-use Rattle.query_engine.specs.Running.{HaveRun, IsFirstPart}
+use Rattle.query_engine.specs.Times.{IsAfter}
+use Rattle.query_engine.specs.Running.{HaveRun}
 
 -- what an engine is, by its fields
 abbrev pub state : Declared → ℕ → List Phase → List ℕ → State
@@ -48,7 +48,7 @@ length_map f [] = refl
 length_map f (x ∷ xs) = let rest = length_map f xs in omega arith
 
 -- the engine stands for the events where its parts do
-pub from_parts : (schema : Declared) (count : ℕ) (parts : List Phase) (peaks : List ℕ) (events : List Event) → All (λ (p : Phase). p.schema ≡ schema) parts → length events ≡ count → All (StandsAt events) parts → KeptStands (kept_of (state schema count parts peaks)) events
+pub from_parts : (schema : Declared) (count : ℕ) (parts : List Phase) (peaks : List ℕ) (events : List Event) → All (λ (p : Phase). p.schema ≡ schema) parts → length events ≡ count → All (IsAfter events) parts → KeptStands (kept_of (state schema count parts peaks)) events
 from_parts schema count parts peaks events schemas same all = record {
   count = sym same;
   parts = length_map (λ (p : Phase). p.kept) parts ∙ sym (length_map (λ (p : Phase). p.query) parts);
@@ -56,7 +56,7 @@ from_parts schema count parts peaks events schemas same all = record {
       let one = mapped (λ (p : Phase). p.query) parts k q q_at in
       let two = mapped (λ (p : Phase). p.kept) parts k part part_at in
       let p : one.0 ≡ two.0 = (let both = sym one.1 ∙ two.1 in cc) in
-      let stands = all_at (StandsAt events) parts k one.0 all one.1 in
+      let stands = all_at (IsAfter events) parts k one.0 all one.1 in
       let schema_is = all_at (λ (p : Phase). p.schema ≡ schema) parts k one.0 schemas one.1 in
       let kept_is : one.0.kept ≡ part = ap (λ (x : Phase). x.kept) p ∙ two.2 in
       subst (λ x. PartStands schema q events x) kept_is (subst (λ z. PartStands schema z events one.0.kept) one.2 (subst (λ s. PartStands s one.0.query events one.0.kept) schema_is stands))
@@ -64,8 +64,8 @@ from_parts schema count parts peaks events schemas same all = record {
 }
 
 -- and back
-pub to_parts : (schema : Declared) (count : ℕ) (parts : List Phase) (peaks : List ℕ) (events : List Event) → All (λ (p : Phase). p.schema ≡ schema) parts → KeptStands (kept_of (state schema count parts peaks)) events → All (StandsAt events) parts
-to_parts schema count parts peaks events schemas s = all_by (StandsAt events) parts (λ k p at. (
+pub to_parts : (schema : Declared) (count : ℕ) (parts : List Phase) (peaks : List ℕ) (events : List Event) → All (λ (p : Phase). p.schema ≡ schema) parts → KeptStands (kept_of (state schema count parts peaks)) events → All (IsAfter events) parts
+to_parts schema count parts peaks events schemas s = all_by (IsAfter events) parts (λ k p at. (
     let schema_is = all_at (λ (p : Phase). p.schema ≡ schema) parts k p schemas at in
     subst (λ z. PartStands z p.query events p.kept) (sym schema_is) (s.each k p.query p.kept (map_at (λ (p : Phase). p.query) parts k p at) (map_at (λ (p : Phase). p.kept) parts k p at))
     ))
@@ -87,20 +87,6 @@ queries_in_time schema count parts peaks events event schemas all k q before now
     let schema_is = all_at (λ (p : Phase). p.schema ≡ schema) parts k one.0 schemas one.1 in
     all_at (InTime events event) parts k one.0 all one.1 before now (subst (λ s. FallsBack s one.0.query events event before now) (sym schema_is) (subst (λ z. FallsBack schema z events event before now) (sym one.2) f))
 
--- the first part that falls is the first query that does
-pub first_query : (schema : Declared) (count : ℕ) (parts : List Phase) (peaks : List ℕ) (events : List Event) (event : Event) (f : FallOf) → All (λ (p : Phase). p.schema ≡ schema) parts → IsFirstPart events event parts f → IsFirstToFall schema (state schema count parts peaks).queries events event f.query f.before f.now
-first_query schema count parts peaks events event f schemas is = record {
-  falling = is.part.query;
-  numbered = is.numbered;
-  at = map_at (λ (p : Phase). p.query) parts (f.query - 1) is.part is.at;
-  falls = subst (λ s. FallsBack s is.part.query events event f.before f.now) (all_at (λ (p : Phase). p.schema ≡ schema) parts (f.query - 1) is.part schemas is.at) is.falls;
-  first = λ k q before now less q_at falls. (
-      let one = mapped (λ (p : Phase). p.query) parts k q q_at in
-      let schema_is = all_at (λ (p : Phase). p.schema ≡ schema) parts k one.0 schemas one.1 in
-      is.first k one.0 less one.1 before now (subst (λ s. FallsBack s one.0.query events event before now) (sym schema_is) (subst (λ z. FallsBack schema z events event before now) (sym one.2) falls))
-      );
-}
-
 -- each part can take in the event
 pub can_all : (schema : Declared) (count : ℕ) (parts : List Phase) (peaks : List ℕ) (event : Event) (r : HaveRun count parts) → All (λ (p : Phase). p.schema ≡ schema) parts → IsOfSchema schema event → ((events : List Event) → KeptStands (kept_of (state schema count parts peaks)) events → NoneFallsBack schema (state schema count parts peaks).queries events event) → All (CanPrepare event count) parts
 can_all schema count parts peaks event r schemas of time =
@@ -111,5 +97,5 @@ can_all schema count parts peaks event r schemas of time =
       count = r.length_is;
       of_schema = all_at (λ (p : Phase). IsOfSchema p.schema event) parts k p (of_schemas schema parts event schemas of) at;
       in_time = all_at (InTime r.events event) parts k p inside at;
-      stands = all_at (StandsAt r.events) parts k p r.stands at;
+      stands = (p.kept.clock, all_at (IsAfter r.events) parts k p r.stands at);
     })

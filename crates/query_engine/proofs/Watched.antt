@@ -1,9 +1,8 @@
 -- What is known of the parts that an event need not go to.
 use Rattle.std.proofs.Common.{◌≡◌, refl, sym, ap, subst, ◌∙◌, ℕ, zero, suc, ◌+◌, ◌<◌, ◌≤◌, inl, inr, Bool, true, false, ◌||◌, eqb, List, [], ◌∷◌, map, length, All, Option, Some, None, slice_get, slice_index_or, arith}
-use Rattle.std.specs.List.{AllZip}
 use Rattle.std.proofs.lemmas.Bool.{cases_lt, eq-eqb, false≢true, or_left}
 use Rattle.std.proofs.lemmas.Option.{slice_get-get_or, slice_get_within}
-use Rattle.std.proofs.lemmas.List.Elements.{All-nil, All-cons, All-head, All-tail}
+use Rattle.std.proofs.lemmas.List.Elements.{All-nil, All-cons, All-head, All-tail, All-weaker}
 use Rattle.cer_base.specs.Bits.{has, room_for}
 use Rattle.stream_schema.specs.Types.{Declared}
 use Rattle.stream_schema.specs.declared.Event.{Event}
@@ -13,13 +12,11 @@ use Rattle.query_leaves.specs.Leaves.{occurrences, occurrence_reads}
 use Rattle.cea_compile.specs.DeterminisedRuns.{reads_at}
 use Rattle.query_standing.specs.Keys.{leaves_reading}
 use Rattle.all_or_none.specs.Phases.{Phase, Rests, AreLeft, AreRead, AreUnread}
-use Rattle.query_part.specs.Parts.{seen, woken, skipped}
+use Rattle.all_or_none.specs.Dormancy.{dormant_at}
 use Rattle.query_watch.specs.Rows.{Table, HasRow, AreReaders, HaveRooms, AreExact, IsWatch}
-use Rattle.query_engine.specs.Compacting.{IsCompacted}
 use Rattle.query_engine.specs.Running.{IsFirst}
 use Rattle.query_engine.specs.Watching.{leaf_room, AreLeafSets, IsWatching}
 use Rattle.query_engine.proofs.Standing.{length_map, map_at, all_at}
-use Rattle.query_engine.proofs.Keeping.{seen_queries}
 
 -- What an event goes to: what is marked, or where none is awake what is read.
 pub record GoesTo (some_awake : Bool) (awake marked read to : List Bool) : Type 0 where
@@ -44,11 +41,11 @@ leaf_there schema None event e = absurd (false≢true e)
 leaf_there schema (Some o) event e = (o, refl, e)
 
 -- and no leaf of their queries can read the event
-pub unread_marked : (schema : Declared) (queries : List Query) (count : ℕ) (parts : List Phase) (table : Table) (awake marks reads marked : List Bool) (sets : List (List Bool)) (event : Event) → queries ≡ map (λ (p : Phase). p.query) (map (seen count) parts) → All (λ (p : Phase). p.schema ≡ schema) parts → IsWatching schema queries count parts table awake marks reads sets → ((k : ℕ) → HasRow table.rows table.leaves k event → has marked k ≡ true) → AreUnread (seen count) event marked parts
+pub unread_marked : (schema : Declared) (queries : List Query) (count : ℕ) (parts : List Phase) (table : Table) (awake marks reads marked : List Bool) (sets : List (List Bool)) (event : Event) → queries ≡ map (λ (p : Phase). p.query) parts → All (λ (p : Phase). p.schema ≡ schema) parts → IsWatching schema queries count parts table awake marks reads sets → ((k : ℕ) → HasRow table.rows table.leaves k event → has marked k ≡ true) → AreUnread (dormant_at count) event marked parts
 unread_marked schema queries count parts table awake marks reads marked sets event queries_is schemas h marks_all k p at out j = by (leaves_reading p.schema p.query event j) refl
   where
     q_at : slice_get queries k ≡ Some p.query
-    q_at = ap (λ qs. slice_get qs k) (queries_is ∙ seen_queries count parts) ∙ map_at (λ (x : Phase). x.query) parts k p at
+    q_at = ap (λ qs. slice_get qs k) queries_is ∙ map_at (λ (x : Phase). x.query) parts k p at
 
     by : (b : Bool) → leaves_reading p.schema p.query event j ≡ b → leaves_reading p.schema p.query event j ≡ false
     by false e = e
@@ -81,9 +78,9 @@ rooms_there schema queries count parts table awake marked read sets event h quer
     omega arith
 
 -- and there are as many as there are parts
-pub as_many_sets : (schema : Declared) (queries : List Query) (count : ℕ) (parts : List Phase) (table : Table) (awake marked read : List Bool) (sets more : List (List Bool)) → queries ≡ map (λ (p : Phase). p.query) (map (seen count) parts) → map (λ (set : List Bool). length set) more ≡ map (λ (set : List Bool). length set) sets → IsWatching schema queries count parts table awake marked read sets → length more ≡ length parts
+pub as_many_sets : (schema : Declared) (queries : List Query) (count : ℕ) (parts : List Phase) (table : Table) (awake marked read : List Bool) (sets more : List (List Bool)) → queries ≡ map (λ (p : Phase). p.query) parts → map (λ (set : List Bool). length set) more ≡ map (λ (set : List Bool). length set) sets → IsWatching schema queries count parts table awake marked read sets → length more ≡ length parts
 as_many_sets schema queries count parts table awake marked read sets more is same h =
-    sym (length_map (λ (set : List Bool). length set) more) ∙ (ap length (same ∙ h.leaves) ∙ (length_map leaf_room queries ∙ (ap length is ∙ (length_map (λ (p : Phase). p.query) (map (seen count) parts) ∙ length_map (seen count) parts))))
+    sym (length_map (λ (set : List Bool). length set) more) ∙ (ap length (same ∙ h.leaves) ∙ (length_map leaf_room queries ∙ (ap length is ∙ length_map (λ (p : Phase). p.query) parts)))
 
 both_ways : (a b : Bool) → (a ≡ true → b ≡ true) → (b ≡ true → a ≡ true) → a ≡ b
 both_ways false false f g = refl
@@ -92,14 +89,14 @@ both_ways true false f g = sym (f refl)
 both_ways true true f g = refl
 
 -- where one is marked as read, its set is that of the leaves of its query that can read the event
-pub read_marked : (schema : Declared) (queries : List Query) (count : ℕ) (parts : List Phase) (table : Table) (awake marks reads read : List Bool) (sets more : List (List Bool)) (event : Event) → queries ≡ map (λ (p : Phase). p.query) (map (seen count) parts) → All (λ (p : Phase). p.schema ≡ schema) parts → IsWatching schema queries count parts table awake marks reads sets → map (λ (set : List Bool). length set) more ≡ map (λ (set : List Bool). length set) sets → ((k : ℕ) → has read k ≡ true → AreReaders table.rows table.leaves k event (slice_index_or more k [])) → AreRead (seen count) event read more parts
+pub read_marked : (schema : Declared) (queries : List Query) (count : ℕ) (parts : List Phase) (table : Table) (awake marks reads read : List Bool) (sets more : List (List Bool)) (event : Event) → queries ≡ map (λ (p : Phase). p.query) parts → All (λ (p : Phase). p.schema ≡ schema) parts → IsWatching schema queries count parts table awake marks reads sets → map (λ (set : List Bool). length set) more ≡ map (λ (set : List Bool). length set) sets → ((k : ℕ) → has read k ≡ true → AreReaders table.rows table.leaves k event (slice_index_or more k [])) → AreRead (dormant_at count) event read more parts
 read_marked schema queries count parts table awake marks reads read sets more event queries_is schemas h rooms readers k p at marked = record {
   each = λ j. both_ways (has (slice_index_or more k []) j) (leaves_reading p.schema p.query event j) (in_set j) (reading j);
   room = set_room queries more k p.query (rooms ∙ h.leaves) q_at;
 }
   where
     q_at : slice_get queries k ≡ Some p.query
-    q_at = ap (λ qs. slice_get qs k) (queries_is ∙ seen_queries count parts) ∙ map_at (λ (x : Phase). x.query) parts k p at
+    q_at = ap (λ qs. slice_get qs k) queries_is ∙ map_at (λ (x : Phase). x.query) parts k p at
 
     same : p.schema ≡ schema
     same = all_at (λ (x : Phase). x.schema ≡ schema) parts k p schemas at
@@ -115,7 +112,7 @@ read_marked schema queries count parts table awake marks reads read sets more ev
         (readers k marked).each j (h.watch k p.query q_at event j o.0 o.1 (subst (λ s. occurrence_reads s o.0 event ≡ true) same o.2))
 
 -- what is known of the same queries stays
-pub watching_same : (schema : Declared) (old new : List Query) (count later : ℕ) (parts after : List Phase) (table same_table : Table) (awake marked read more marks reads : List Bool) (sets others : List (List Bool)) → new ≡ old → same_table ≡ table → length more ≡ length awake → length marks ≡ length marked → length reads ≡ length read → map (λ (set : List Bool). length set) others ≡ map (λ (set : List Bool). length set) sets → AreLeft seen later more after → IsWatching schema old count parts table awake marked read sets → IsWatching schema new later after same_table more marks reads others
+pub watching_same : (schema : Declared) (old new : List Query) (count later : ℕ) (parts after : List Phase) (table same_table : Table) (awake marked read more marks reads : List Bool) (sets others : List (List Bool)) → new ≡ old → same_table ≡ table → length more ≡ length awake → length marks ≡ length marked → length reads ≡ length read → map (λ (set : List Bool). length set) others ≡ map (λ (set : List Bool). length set) sets → AreLeft dormant_at later more after → IsWatching schema old count parts table awake marked read sets → IsWatching schema new later after same_table more marks reads others
 watching_same schema old new count later parts after table same_table awake marked read more marks reads sets others is table_is room same_marks same_reads same_sets left h = record {
   watch = subst (λ (t : Table). IsWatch schema new t.rows t.leaves) (sym table_is) (subst (λ qs. IsWatch schema qs table.rows table.leaves) (sym is) h.watch);
   exact = subst (λ (t : Table). AreExact schema new t.rows t.leaves) (sym table_is) (subst (λ qs. AreExact schema qs table.rows table.leaves) (sym is) h.exact);
@@ -128,8 +125,8 @@ watching_same schema old new count later parts after table same_table awake mark
 }
 
 -- where all were looked at, as a slice that they are taken from
-pub left_looked : (count : ℕ) (slice parts : List Phase) (awake : List Bool) → parts ≡ slice → All (λ (p : Phase). p.upto ≤ count) slice → ((k : ℕ) (p : Phase) → slice_get slice k ≡ Some p → has awake k ≡ false → Rests (λ n. seen n p)) → AreLeft seen count awake parts
-left_looked count slice parts awake is known rest = subst (AreLeft seen count awake) (sym is) (record { known = known; others = rest })
+pub left_looked : (count : ℕ) (slice parts : List Phase) (awake : List Bool) → parts ≡ slice → All (λ (p : Phase). p.upto ≤ count) slice → ((k : ℕ) (p : Phase) → slice_get slice k ≡ Some p → has awake k ≡ false → Rests (λ n. dormant_at n p)) → AreLeft dormant_at count awake parts
+left_looked count slice parts awake is known rest = subst (AreLeft dormant_at count awake) (sym is) (record { known = known; others = rest })
 
 pub first_known : (schema : Declared) (parts : List Phase) → All (IsFirst schema) parts → All (λ (p : Phase). p.upto ≤ 0) parts
 first_known schema [] h = All-nil (λ (p : Phase). p.upto ≤ 0)
@@ -137,17 +134,15 @@ first_known schema (p ∷ parts) h =
     let is = (All-head (IsFirst schema) p parts h).upto in
     All-cons (λ (x : Phase). x.upto ≤ 0) p parts (omega arith) (first_known schema parts (All-tail (IsFirst schema) p parts h))
 
-pub skipped_known : (count : ℕ) (parts : List Phase) → All (λ (p : Phase). p.upto ≤ count) (map (skipped count) parts)
-skipped_known count [] = All-nil (λ (p : Phase). p.upto ≤ count)
-skipped_known count (p ∷ parts) = All-cons (λ (x : Phase). x.upto ≤ count) (skipped count p) (map (skipped count) parts) (omega arith) (skipped_known count parts)
+-- where positions pass, they rest as they did
+pub left_on : (from to : ℕ) (awake : List Bool) (parts : List Phase) → from ≤ to → AreLeft dormant_at from awake parts → AreLeft dormant_at to awake parts
+left_on from to awake parts further h = record {
+  known = All-weaker (λ (p : Phase). p.upto ≤ from) (λ (p : Phase). p.upto ≤ to) (λ p low. (omega arith)) parts h.known;
+  others = h.others;
+}
 
-pub compacted_known : (count : ℕ) (old new : List Phase) → AllZip IsCompacted (map (woken count) old) new → All (λ (p : Phase). p.upto ≤ count) new
-compacted_known count [] [] z = All-nil (λ (p : Phase). p.upto ≤ count)
-compacted_known count [] (n ∷ new) z = absurd z
-compacted_known count (o ∷ old) [] z = absurd z
-compacted_known count (o ∷ old) (n ∷ new) z =
-    let is : n.upto ≡ count = z.0.upto in
-    All-cons (λ (x : Phase). x.upto ≤ count) n new (omega arith) (compacted_known count old new z.1)
+pub compacted_known : (count : ℕ) (parts : List Phase) → All (λ (p : Phase). p.upto ≡ count) parts → All (λ (p : Phase). p.upto ≤ count) parts
+compacted_known count = All-weaker (λ (p : Phase). p.upto ≡ count) (λ (p : Phase). p.upto ≤ count) (λ p is. (omega arith))
 
 -- the sets have room for each part
 pub room_there : (schema : Declared) (queries : List Query) (count : ℕ) (parts : List Phase) (table : Table) (awake marked read : List Bool) (sets : List (List Bool)) → IsWatching schema queries count parts table awake marked read sets → table.count ≤ length read
@@ -157,14 +152,14 @@ room_there schema queries count parts table awake marked read sets h =
     let c = h.reads in
     omega arith
 
-pub parts_within : (schema : Declared) (queries : List Query) (count many : ℕ) (parts : List Phase) (table : Table) (awake marked read : List Bool) (sets : List (List Bool)) → queries ≡ map (λ (p : Phase). p.query) (map (seen count) parts) → many ≡ length parts → IsWatching schema queries count parts table awake marked read sets → many ≤ length awake
+pub parts_within : (schema : Declared) (queries : List Query) (count many : ℕ) (parts : List Phase) (table : Table) (awake marked read : List Bool) (sets : List (List Bool)) → queries ≡ map (λ (p : Phase). p.query) parts → many ≡ length parts → IsWatching schema queries count parts table awake marked read sets → many ≤ length awake
 parts_within schema queries count many parts table awake marked read sets is many_is h =
     let b = h.room in
-    let l : length queries ≡ length parts = ap length is ∙ (length_map (λ (p : Phase). p.query) (map (seen count) parts) ∙ length_map (seen count) parts) in
+    let l : length queries ≡ length parts = ap length is ∙ length_map (λ (p : Phase). p.query) parts in
     omega arith
 
 -- before any event
-pub watching_first : (schema : Declared) (queries given : List Query) (parts : List Phase) (table : Table) (awake marked read : List Bool) (sets : List (List Bool)) → queries ≡ given → queries ≡ map (λ (p : Phase). p.query) (map (seen 0) parts) → IsWatch schema given table.rows table.leaves → AreExact schema given table.rows table.leaves → table.count ≡ length given → length awake ≡ room_for (length given) → length marked ≡ length awake → length read ≡ length awake → AreLeafSets given sets → AreLeft seen 0 awake parts → IsWatching schema queries 0 parts table awake marked read sets
+pub watching_first : (schema : Declared) (queries given : List Query) (parts : List Phase) (table : Table) (awake marked read : List Bool) (sets : List (List Bool)) → queries ≡ given → queries ≡ map (λ (p : Phase). p.query) parts → IsWatch schema given table.rows table.leaves → AreExact schema given table.rows table.leaves → table.count ≡ length given → length awake ≡ room_for (length given) → length marked ≡ length awake → length read ≡ length awake → AreLeafSets given sets → AreLeft dormant_at 0 awake parts → IsWatching schema queries 0 parts table awake marked read sets
 watching_first schema queries given parts table awake marked read sets is are watch exact count room marks reads leaves left =
     let m : length queries ≡ length given = ap length is in
     record {
@@ -187,7 +182,7 @@ first_within queries given parts awake are is room =
 
 -- The first so many parts were looked at.
 abbrev pub HaveLooked : List Phase → List Bool → ℕ → Type 0
-HaveLooked parts set k = (j : ℕ) (p : Phase) → j < k → slice_get parts j ≡ Some p → has set j ≡ false → Rests (λ n. seen n p)
+HaveLooked parts set k = (j : ℕ) (p : Phase) → j < k → slice_get parts j ≡ Some p → has set j ≡ false → Rests (λ n. dormant_at n p)
 
 -- one that is not known to rest
 pub looked_awake : (parts : List Phase) (set after : List Bool) (k : ℕ) → ((j : ℕ) → has after j ≡ (eqb j k || has set j)) → HaveLooked parts set k → HaveLooked parts after (k + 1)
@@ -201,13 +196,13 @@ looked_awake parts set after k members h j p less at out = elim (cases_lt j k) [
     second false b e = e
 
 -- one that rests
-pub looked_resting : (parts : List Phase) (set : List Bool) (k : ℕ) (x : Phase) → k < length parts → x ≡ slice_index_or parts k x → Rests (λ n. seen n x) → HaveLooked parts set k → HaveLooked parts set (k + 1)
+pub looked_resting : (parts : List Phase) (set : List Bool) (k : ℕ) (x : Phase) → k < length parts → x ≡ slice_index_or parts k x → Rests (λ n. dormant_at n x) → HaveLooked parts set k → HaveLooked parts set (k + 1)
 looked_resting parts set k x inside here rests h j p less at out = elim (cases_lt j k) [
   | inl low ↦ h j p low at out
   | inr high ↦ (
       let same : j ≡ k = omega arith in
       let there = slice_get-get_or parts k x inside in
       let one : x ≡ p = (let both = sym (subst (λ i. slice_get parts i ≡ Some p) same at) ∙ there in cc) in
-      subst (λ z. Rests (λ n. seen n z)) one rests
+      subst (λ z. Rests (λ n. dormant_at n z)) one rests
       )
 ]

@@ -9,7 +9,7 @@ use Rattle.cer_base.specs.Nodes.{tree}
 use Rattle.tecs_enumerate.specs.Rest.{CursorState}
 use Rattle.tecs_enumerate.specs.Rest as walks
 use Rattle.query_standing.specs.Kept.{Part, low_at}
-use Rattle.all_or_none.specs.Phases.{Phase, IsIdle, StandsAt}
+use Rattle.all_or_none.specs.Phases.{Phase, IsIdle}
 use Rattle.arena_compact.specs.Marks.{Reaches}
 use Rattle.arena_compact.specs.Moves.{later}
 use Rattle.arena_compact.specs.Roots.{places}
@@ -19,6 +19,7 @@ use Rattle.query_part.specs.Matches.{HasStatesOnce}
 use Rattle.query_part.specs.Parts.{HasEvents}
 use Rattle.query_engine.specs.Bounds.{for_each_query}
 use Rattle.query_engine.specs.Engine.{State, len_of}
+use Rattle.query_engine.specs.Times.{IsAfter}
 
 -- how many entries the lists of the query's keys have
 unfoldable pub places_of : State → ℕ → ℕ
@@ -38,13 +39,13 @@ pub record CanCompact (room : ℕ) (p : Phase) : Type 0 where
   pub events : HasEvents p
   pub enough : length p.kept.nodes ≤ room
 
--- The part of the same query is idle and stands for the same events, with the same states and no more nodes, also of those that start at a position or later. No state stood twice in a key's lists.
+-- The part of the same query is idle and stands for the same events, with the same states and no more nodes, also of those that start at a position or later. No state stood twice in a key's lists. Both have their clocks.
 pub record IsCompacted (old new : Phase) : Type 0 where
   pub schema : new.schema ≡ old.schema
   pub query : new.query ≡ old.query
   pub idle : IsIdle new
   pub upto : new.upto ≡ old.upto
-  pub stands : (events : List Event) → StandsAt events old → StandsAt events new
+  pub stands : (events : List Event) → IsAfter events old → IsAfter events new
   pub table : new.kept.table ≡ old.kept.table
   pub fewer : length new.kept.nodes ≤ length old.kept.nodes
   pub fewer_later : (position : ℕ) → later position new.kept.nodes ≤ later position old.kept.nodes
@@ -65,7 +66,7 @@ pub record IsCarried (k : ℕ) (old new : List Phase) (w v : CursorState) : Type
   pub rest : w.query ≤ k → walks.rest v (nodes_of new w.query) ≡ walks.rest w (nodes_of old w.query)
   pub ahead : k < w.query → v ≡ w
 
--- Each node of the part of this number is reached from its lists or from a held cursor of it, and its greatest start is of the least of its low clock and those of these cursors, or later. Each of its keys has a list, but for one at most.
+-- Each node of the part of this number, which has its clock, is reached from its lists or from a held cursor of it, and its greatest start is of the least of its low clock and those of these cursors, or later. Each of its keys has a list, but for one at most.
 pub record IsTrimmed (query : ℕ) (held : List CursorState) (q : Query) (p : Part) : Type 0 where
   pub reached : (id : ℕ) → id < length p.nodes → Reaches p.nodes (roots_of query p.rows held) id
   pub recent : (id : ℕ) → id < length p.nodes → least_of query (low_at q p.clock) held ≤ℤ (newest (tree p.nodes id)).clock

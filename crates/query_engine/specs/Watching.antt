@@ -6,7 +6,7 @@ use Rattle.cer_base.specs.Bits.{has, room_for}
 use Rattle.query_leaves.specs.Expand.{tree_of}
 use Rattle.query_leaves.specs.Leaves.{occurrences}
 use Rattle.all_or_none.specs.Phases.{Phase, AreLeft}
-use Rattle.query_part.specs.Parts.{seen}
+use Rattle.all_or_none.specs.Dormancy.{dormant_at}
 use Rattle.query_watch.specs.Rows.{Table, AreExact, IsWatch}
 
 -- the room that the leaves of the query take in a set
@@ -30,4 +30,4 @@ pub record IsWatching (schema : Declared) (queries : List Query) (count : ℕ) (
   pub sets : length marked ≡ length awake
   pub reads : length read ≡ length awake
   pub leaves : AreLeafSets queries leaf_sets
-  pub left : AreLeft seen count awake parts
+  pub left : AreLeft dormant_at count awake parts

@@ -4,9 +4,11 @@ ghost use Rattle.std.specs.Prelude.{◌≡◌, ◌+◌, ◌≤◌, length, map, 
 ghost use Rattle.std.specs.List.{AllZip};
 ghost use Rattle.all_or_none.specs.Phases.{Phase, IsIdle};
 ghost use Rattle.query_part.specs.Parts.{woken};
+ghost use Rattle.query_engine.specs.Times.{clocks_in, with_clocks, AreInside};
 ghost use Rattle.query_engine.specs.Compacting.{CanCompact, FitsPart, IsCompacted, AreTrimmed, AreCarried, cost};
 
 use crate::cursor::Cursor;
+use crate::times::Times;
 use arena_compact::{HasCursor, Room};
 use cer_base::Pos;
 use cer_base::node::Id;
@@ -49,43 +51,57 @@ pub fn settle_all(parts: &mut [Part], count: Pos)
     }
 }
 
-/// Compacts each part, with the cursors of it that are held. The room is for as many nodes as each
-/// has. It takes no memory.
+/// Compacts each part, with its query's clock and with the cursors of it that are held. The room is
+/// for as many nodes as each has. It takes no memory.
 fn compact_all<L: Ledger>(
     parts: &mut [Part],
+    times: &Times,
     held: &mut [Cursor],
     room: &mut Room,
     steps: &mut Steps<L>,
 )
+    requires times { AreInside times.now.groups.items times.now.numbers.items }
+    requires clocks { length times.now.numbers.items ≡ length parts.old }
     requires parts { All (CanCompact room.old) parts.old }
-    requires held { All (FitsPart parts.old) held.old }
-    ensures parts { AllZip IsCompacted parts.old parts.new }
-    ensures left { AreTrimmed (length parts.old) held.new parts.new }
-    ensures held { AreCarried (length parts.old) parts.old parts.new held.old held.new }
-    ensures steps { steps.new ≤ steps.old + sum_by cost parts.old }
+    requires held { All (FitsPart (with_clocks parts.old (clocks_in times.now))) held.old }
+    ensures parts { AllZip IsCompacted (with_clocks parts.old (clocks_in times.now))
+        (with_clocks parts.new (clocks_in times.now)) }
+    ensures left { AreTrimmed (length parts.old) held.new
+        (with_clocks parts.new (clocks_in times.now)) }
+    ensures held { AreCarried (length parts.old) (with_clocks parts.old (clocks_in times.now))
+        (with_clocks parts.new (clocks_in times.now)) held.old held.new }
+    ensures steps { steps.new
+        ≤ steps.old + sum_by cost (with_clocks parts.old (clocks_in times.now)) }
 {
     for k in 0..parts.len() {
-        parts[k].compact(k as u64 + 1, held, room, steps);
+        parts[k].compact(k as u64 + 1, held, times.clock(k), room, steps);
     }
 }
 
 /// Settles and compacts each part, as after so many events.
 pub fn compact_parts<L: Ledger>(
     parts: &mut [Part],
+    times: &Times,
     count: Pos,
     held: &mut [Cursor],
     room: &mut Room,
     steps: &mut Steps<L>,
 )
     requires idle { All IsIdle parts.old }
+    requires times { AreInside times.now.groups.items times.now.numbers.items }
+    requires clocks { length times.now.numbers.items ≡ length parts.old }
     requires parts { All (CanCompact room.old) (map (woken count) parts.old) }
-    requires held { All (FitsPart (map (woken count) parts.old)) held.old }
-    ensures parts { AllZip IsCompacted (map (woken count) parts.old) parts.new }
-    ensures left { AreTrimmed (length parts.old) held.new parts.new }
-    ensures held { AreCarried (length parts.old) (map (woken count) parts.old) parts.new held.old
-        held.new }
-    ensures steps { steps.new ≤ steps.old + sum_by cost (map (woken count) parts.old) }
+    requires held { All (FitsPart (with_clocks (map (woken count) parts.old)
+        (clocks_in times.now))) held.old }
+    ensures parts { AllZip IsCompacted (with_clocks (map (woken count) parts.old)
+        (clocks_in times.now)) (with_clocks parts.new (clocks_in times.now)) }
+    ensures left { AreTrimmed (length parts.old) held.new
+        (with_clocks parts.new (clocks_in times.now)) }
+    ensures held { AreCarried (length parts.old) (with_clocks (map (woken count) parts.old)
+        (clocks_in times.now)) (with_clocks parts.new (clocks_in times.now)) held.old held.new }
+    ensures steps { steps.new ≤ steps.old + sum_by cost (with_clocks
+        (map (woken count) parts.old) (clocks_in times.now)) }
 {
     settle_all(parts, count);
-    compact_all(parts, held, room, steps);
+    compact_all(parts, times, held, room, steps);
 }

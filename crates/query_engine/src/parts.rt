@@ -1,11 +1,11 @@
 //! The parts of an engine, one for each query.
 
-ghost use Rattle.std.specs.Prelude.{◌≡◌, ℕ, false, [], ◌∷◌, ◌++◌, length, map, All, IfOk, OnOk, slice_index_or};
+ghost use Rattle.std.specs.Prelude.{◌≡◌, ℕ, [], ◌∷◌, ◌++◌, length, map, All, IfOk, OnOk, slice_index_or};
 ghost use Rattle.cel_terms.specs.Checked.{IsChecked};
 ghost use Rattle.all_or_none.specs.Phases.{IsIdle};
-ghost use Rattle.query_engine.specs.Running.{IsByPosition, HasNoClock, IsFirst, IsNamed, AreNamed, raised};
+ghost use Rattle.query_engine.specs.Running.{IsFirst, AreNamed, raised};
 
-use cel_terms::{Query, Window};
+use cel_terms::Query;
 use cer_base::Memory;
 use cer_base::seed::Seed;
 use query_part::Part;
@@ -79,39 +79,6 @@ pub fn first_peaks(alloc: Global, parts: &[Part]) -> Result<Vec<u64>, Memory>
 {
     let peaks = vec![in alloc; 0; parts.len()]?;
     Ok(peaks)
-}
-
-/// Whether the clock of a query with the window may fall. A position does not.
-fn may_fall(window: &Window) -> bool
-    ensures { result ≡ false → IsByPosition window.now }
-{
-    match window {
-        Window::Clock(_, _) => true,
-        _ => false,
-    }
-}
-
-/// Puts the number last, where the query's clock may fall.
-fn add_timed(numbers: &mut Vec<u64>, query: &Query, number: u64) -> Result<(), Memory>
-    ensures { OnOk result (IsNamed (HasNoClock query.now) number numbers.old.items
-        numbers.new.items) }
-{
-    if may_fall(&query.window) {
-        numbers.push(number)?;
-    }
-    Ok(())
-}
-
-/// The numbers of the parts whose clock may fall, from 1 and rising.
-pub fn timed(alloc: Global, parts: &[Part]) -> Result<Vec<u64>, Memory>
-    ensures { IfOk result (λ v. AreNamed (λ p. HasNoClock p.query) (length parts.now) parts.now
-        v.items) }
-{
-    let mut numbers = Vec::new(alloc);
-    for k in 0..parts.len() {
-        add_timed(&mut numbers, parts[k].query(), k as u64 + 1)?;
-    }
-    Ok(numbers)
 }
 
 /// The number of each part, from 1 and rising.

@@ -3,7 +3,7 @@
 ghost use Rattle.std.specs.Prelude.{◌≡◌, ℕ, ◌≤◌, ◌||◌, false, true, [], Some, length, map, slice_get, slice_index_or, IfOk};
 ghost use Rattle.cer_base.specs.Bits.{has, room_for};
 ghost use Rattle.all_or_none.specs.Phases.{Phase, Rests};
-ghost use Rattle.query_part.specs.Parts.{seen};
+ghost use Rattle.all_or_none.specs.Dormancy.{dormant_at};
 ghost use Rattle.query_watch.specs.Rows.{AreExact, IsWatch, HasRow, AreReaders, HaveRooms};
 ghost use Rattle.query_engine.specs.Watching.{leaf_room, AreLeafSets, AreOfEither};
 
@@ -104,7 +104,7 @@ impl Watching {
     pub fn look(&mut self, parts: &[Part])
         requires { length parts.now ≤ length self.old.awake }
         ensures rest { (k : ℕ) (p : Phase) → slice_get parts.now k ≡ Some p
-            → has self.new.awake k ≡ false → Rests (λ n. seen n p) }
+            → has self.new.awake k ≡ false → Rests (λ n. dormant_at n p) }
         ensures same { (self.new.watch ≡ self.old.watch) × (self.new.marked ≡ self.old.marked)
             × (self.new.read ≡ self.old.read) × (self.new.leaves ≡ self.old.leaves) }
         ensures room { length self.new.awake ≡ length self.old.awake }
@@ -159,7 +159,7 @@ fn put_all(set: &mut Bits, other: &Bits)
 fn look_all(set: &mut Bits, parts: &[Part])
     requires { length parts.now ≤ length set.old }
     ensures rest { (k : ℕ) (p : Phase) → slice_get parts.now k ≡ Some p → has set.new k ≡ false
-        → Rests (λ n. seen n p) }
+        → Rests (λ n. dormant_at n p) }
     ensures room { length set.new ≡ length set.old }
 {
     set.clear();

@@ -29,7 +29,7 @@ use Rattle.event_update.specs.Still.{IsPatient}
 use Rattle.event_update.proofs.Before.{none_stand}
 use Rattle.query_part.specs.declared.machine.Machine.{Machine}
 use Rattle.query_part.specs.Matches.{Held, none_open}
-use Rattle.query_part.specs.Parts.{part_of, HasAutomaton, IsMachineOf, MayBePatient}
+use Rattle.query_part.specs.Parts.{part_of, HasAutomaton, IsMachineOf, AreFirst, MayBePatient}
 
 -- what the leaves of a query tell is the query's
 pub machine_is : (schema : Declared) (q : Query) (l : Leaves) (bits : List Bool) (h : Held) → tree_of_shape l.shape ≡ numbered 0 (tree_of q) → AreLeavesOf schema (occurrences (tree_of q)) l.list → l.strict ≡ q.strict → ((k : ℕ) → has bits k ≡ false) → length bits ≡ room_for (length l.list) → HasAutomaton (automaton_of_leaves l) l.strict h → IsMachineOf q bits h
@@ -94,3 +94,13 @@ machine_made schema q l (Ok m) shape list strict a b c = machine_is schema q l m
 pub patient_made : {E : Type 0} (schema : Declared) (q : Query) (l : Leaves) (r : Result Machine E) → tree_of_shape l.shape ≡ numbered 0 (tree_of q) → AreLeavesOf schema (occurrences (tree_of q)) l.list → l.strict ≡ q.strict → IfOk r (λ m. m.patient ≡ true → IsPatient (automaton_of_leaves l) l.strict) → IfOk r (λ m. MayBePatient q m.patient)
 patient_made schema q l (Err e) shape list strict p = tt
 patient_made schema q l (Ok m) shape list strict p = λ is. subst (λ a. IsPatient a q.strict) (leaves_tell schema q l shape list).automaton (subst (IsPatient (automaton_of_leaves l)) strict (p is))
+
+-- and which leaves may read the first event of a match
+pub first_made : {E : Type 0} (schema : Declared) (q : Query) (l : Leaves) (r : Result Machine E) → tree_of_shape l.shape ≡ numbered 0 (tree_of q) → AreLeavesOf schema (occurrences (tree_of q)) l.list → IfOk r (λ m. (k : ℕ) → (automaton_of_leaves l).first k ≡ has m.first k) → IfOk r (λ m. length m.first ≡ room_for (length l.list)) → IfOk r (λ m. AreFirst q m.first)
+first_made schema q l (Err e) shape list are room = tt
+first_made schema q l (Ok m) shape list are room =
+    let told = (leaves_tell schema q l shape list).automaton in
+    record {
+      are = λ k. (ap (λ (a : Automaton). a.first k) (sym told) ∙ are k);
+      room = room ∙ ap (λ (a : Automaton). room_for a.size) told;
+    }

@@ -5,7 +5,7 @@ use Rattle.std.proofs.Math.Nat.{pow-zero}
 use Rattle.std.proofs.lemmas.Int.{ints}
 use Rattle.std.proofs.lemmas.Bool.{cases_lt}
 use Rattle.std.proofs.lemmas.Option.{slice_get_within, slice_get-get_or}
-use Rattle.std.proofs.lemmas.List.Elements.{All-nil, All-contains, Contains-push_cases}
+use Rattle.std.proofs.lemmas.List.Elements.{All-nil, Contains-push_cases}
 use Rattle.cer_base.specs.Bits.{has}
 use Rattle.cer_base.specs.declared.node.Stamp.{Stamp}
 use Rattle.cer_base.specs.declared.node.Root.{Root}
@@ -16,13 +16,14 @@ use Rattle.stream_schema.specs.declared.Event.{Event}
 use Rattle.stream_schema.specs.declared.Value.{Value}
 use Rattle.cel_terms.specs.declared.Query.{Query}
 use Rattle.cel_terms.specs.Answers.{HasKey, HasClock}
+use Rattle.cer_base.specs.Repeats.{HasNoRepeats}
 use Rattle.cea_determinise.specs.declared.cea.StateSets.{StateSets}
+use Rattle.cea_determinise.specs.Strict.{Standing, begin, next_standing}
 use Rattle.cea_determinise.specs.Cea.{standing_of}
 use Rattle.cea_compile.specs.Compiled.{automaton_of}
 use Rattle.query_leaves.specs.Expand.{tree_of}
 use Rattle.event_update.specs.declared.Staged.{Staged}
-use Rattle.event_update.specs.Still.{Rest, IsPatient}
-use Rattle.query_standing.proofs.Lists.{got}
+use Rattle.event_update.specs.Still.{IsPatient}
 use Rattle.event_update.specs.Reach.{Seen}
 use Rattle.event_update.specs.Stands.{seen}
 use Rattle.event_update.specs.Update.{Discovers, rows_after, work_bound, accepted_entries}
@@ -30,20 +31,19 @@ use Rattle.event_update.specs.declared.Staged.TheVariants.{Unchanged}
 use Rattle.tecs_enumerate.specs.Rest.{recent_of}
 use Rattle.event_update.proofs.Before.{can_advance}
 use Rattle.query_standing.specs.Bounds.{IsMet}
-use Rattle.query_standing.specs.Clocks.{Reads, HasClockAt, IsLastClock, FallsBack, least, low_of}
+use Rattle.query_standing.specs.Clocks.{Reads, HasClockAt, IsLastClock, FallsBack, low_of}
 use Rattle.query_standing.specs.Keys.{leaves_reading}
-use Rattle.query_standing.specs.Kept.{Rows, Part, low_at, PartStands, roots_at}
+use Rattle.query_standing.specs.Kept.{Part, low_at, PartStands, roots_at}
 use Rattle.query_standing.specs.Holding.{answer_of}
 use Rattle.query_standing.specs.Steps.{Advances, OwnListsRest, HasKeyOf}
 use Rattle.query_standing.proofs.Growing.{all_earlier}
 use Rattle.query_standing.proofs.Grown.{some_at}
 use Rattle.query_standing.proofs.Parts.{part_unread, part_gives}
 use Rattle.query_standing.proofs.Passing.{all_front, all_below}
-use Rattle.query_standing.proofs.PartSteps.{part_no_key, part_resting, part_keyed, part_with_key}
-use Rattle.query_standing.proofs.KeyCases.{at_one_place}
+use Rattle.query_standing.proofs.PartSteps.{part_no_key, part_resting, part_begins_none, part_keyed, part_with_key}
 use Rattle.query_standing.specs.Bounds.{update_bound}
 use Rattle.all_or_none.specs.Phases.{Grows, IsStep}
-use Rattle.query_part.specs.Matches.{Held, TakesKey, CanTake, MayPass, IsReady}
+use Rattle.query_part.specs.Matches.{Held, HasNoneOf, TakesKey, CanTake, MayPass, IsReady}
 use Rattle.query_part.specs.Parts.{part_of, put_in}
 use Rattle.cea_determinise.specs.Det.{Table}
 use Rattle.query_part.proofs.Cuts.{mid_table, mid_nodes}
@@ -65,8 +65,8 @@ in_time schema q events event now (Some before) time reads is last = go (int_lt 
     go false e = grind (arith, ints)
 
 -- where no state and no node is new
-nothing_new : (schema : Declared) (q : Query) (event : Event) (h : Held) (c : Option ℤ) (n : Option ℕ) (d : Option ℤ) (m : Option ℕ) → Grows schema q event (part_of h c n) (part_of h d m)
-nothing_new schema q event h c n d m = record {
+nothing_new : (schema : Declared) (q : Query) (event : Event) (h : Held) (n m : Option ℕ) → Grows schema q event (part_of h None n) (part_of h None m)
+nothing_new schema q event h n m = record {
   extends = record { cea = refl; more_states = []; states = sym (append_none h.table.states); more_nodes = []; nodes = sym (append_none h.nodes) };
   growth = omega arith;
   unread = λ no. refl;
@@ -75,15 +75,14 @@ nothing_new schema q event h c n d m = record {
 }
 
 -- an event that the query does not read
-pub unread_step : (schema : Declared) (q : Query) (event : Event) (position : ℕ) (h : Held) (c : Option ℤ) (n : Option ℕ) → (Reads schema q event → ⊥) → IsStep schema q event position (part_of h c n) (part_of h c None)
-unread_step schema q event position h c n unread = record { stands = λ events len time s. part_unread schema q events event (part_of h c n) s unread; grows = nothing_new schema q event h c n c None }
+pub unread_step : (schema : Declared) (q : Query) (event : Event) (position : ℕ) (h : Held) (n : Option ℕ) → (Reads schema q event → ⊥) → IsStep schema q event position (part_of h None n) (part_of h None None)
+unread_step schema q event position h n unread = record { stands = λ events len time s. (s.0, part_unread schema q events event (part_of h s.0 n) s.1 unread); grows = nothing_new schema q event h n None }
 
 -- one that it reads, and that moves on the clock alone
-clock_advances : (schema : Declared) (q : Query) (events : List Event) (event : Event) (h : Held) (c : Option ℤ) (n : Option ℕ) (now : ℤ) → Reads schema q event → HasClock schema q.window event (length events) now → least ≤ℤ low_of q.window now → ((before next : ℤ) → FallsBack schema q events event before next → ⊥) → PartStands schema q events (part_of h c n) → Advances schema q events event now (part_of h c n) (part_of h (Some now) None)
-clock_advances schema q events event h c n now reads now_is fits time s = record {
+clock_advances : (schema : Declared) (q : Query) (events : List Event) (event : Event) (h : Held) (c : Option ℤ) (n : Option ℕ) (now : ℤ) → Reads schema q event → HasClock schema q.window event (length events) now → ((before next : ℤ) → FallsBack schema q events event before next → ⊥) → PartStands schema q events (part_of h c n) → Advances schema q events event now (part_of h c n) (part_of h (Some now) None)
+clock_advances schema q events event h c n now reads now_is time s = record {
   reads = reads;
   now_is = now_is;
-  fits = fits;
   in_time = in_time schema q events event now c time reads now_is s.clock;
   clock = refl;
   extends = record { cea = refl; more_states = []; states = sym (append_none h.table.states); more_nodes = []; nodes = sym (append_none h.nodes) };
@@ -95,13 +94,13 @@ clock_advances schema q events event h c n now reads now_is fits time s = record
 }
 
 -- one that has no key
-pub no_key_step : (schema : Declared) (q : Query) (event : Event) (position : ℕ) (h : Held) (c : Option ℤ) (n : Option ℕ) (now : ℤ) → Reads schema q event → HasClock schema q.window event position now → least ≤ℤ low_of q.window now → ((key : List Value) → HasKey schema q event key → ⊥) → IsStep schema q event position (part_of h c n) (part_of h (Some now) None)
-no_key_step schema q event position h c n now reads clock fits none = record {
+pub no_key_step : (schema : Declared) (q : Query) (event : Event) (position : ℕ) (h : Held) (n : Option ℕ) (now : ℤ) → Reads schema q event → HasClock schema q.window event position now → ((key : List Value) → HasKey schema q event key → ⊥) → IsStep schema q event position (part_of h None n) (part_of h None None)
+no_key_step schema q event position h n now reads clock none = record {
   stands = λ events len time s. (
       let now_is : HasClock schema q.window event (length events) now = subst (λ p. HasClock schema q.window event p now) (sym len) clock in
-      part_no_key schema q events event now (part_of h c n) (part_of h (Some now) None) s (clock_advances schema q events event h c n now reads now_is fits time s) (record { none = none; keys = refl; rows = refl; here = refl })
+      (Some now, part_no_key schema q events event now (part_of h s.0 n) (part_of h (Some now) None) s.1 (clock_advances schema q events event h s.0 n now reads now_is time s.1) (record { none = none; keys = refl; rows = refl; here = refl }))
       );
-  grows = nothing_new schema q event h c n (Some now) None;
+  grows = nothing_new schema q event h n None;
 }
 
 -- the bound of an event's work, in its two forms
@@ -133,8 +132,8 @@ set_own f (y ∷ ys) zero x d e = (let same : y ≡ x = cc in ap (λ z. Some (f 
 set_own f (y ∷ ys) (suc n) x d e = set_own f ys n x d e
 
 -- one that has a key, known or new
-keyed_stands : (schema : Declared) (q : Query) (events : List Event) (event : Event) (stamp : Stamp) (low : ℤ) (bits : List Bool) (key : List Value) (number : ℕ) (staged : Staged) (old new : Held) (c : Option ℤ) (n : Option ℕ) (now : ℤ) → Reads schema q event → HasClock schema q.window event (length events) now → least ≤ℤ low_of q.window now → HasKey schema q event key → has bits ≡ leaves_reading schema q event → stamp ≡ record { pos = length events; clock = now } → low ≤ℤ low_of q.window now → IsReady stamp low bits key number staged old new → ((before now : ℤ) → FallsBack schema q events event before now → ⊥) → PartStands schema q events (part_of old c n) → PartStands schema q (events ++ event ∷ []) (part_of (put_in number staged new) (Some now) (Some number))
-keyed_stands schema q events event stamp low bits key number staged old new c n now reads now_is fits has_key bits_are stamp_is recent r time s =
+keyed_stands : (schema : Declared) (q : Query) (events : List Event) (event : Event) (stamp : Stamp) (low : ℤ) (bits : List Bool) (key : List Value) (number : ℕ) (staged : Staged) (old new : Held) (c : Option ℤ) (n : Option ℕ) (now : ℤ) → Reads schema q event → HasClock schema q.window event (length events) now → HasKey schema q event key → has bits ≡ leaves_reading schema q event → stamp ≡ record { pos = length events; clock = now } → low ≤ℤ low_of q.window now → IsReady stamp low bits key number staged old new → ((before now : ℤ) → FallsBack schema q events event before now → ⊥) → PartStands schema q events (part_of old c n) → PartStands schema q (events ++ event ∷ []) (part_of (put_in number staged new) (Some now) (Some number))
+keyed_stands schema q events event stamp low bits key number staged old new c n now reads now_is has_key bits_are stamp_is recent r time s =
     part_keyed schema q events event now mid after s_mid advances keyed
   where
     mid : Part
@@ -153,7 +152,6 @@ keyed_stands schema q events event stamp low bits key number staged old new c n 
     advances = record {
       reads = reads;
       now_is = now_is;
-      fits = fits;
       in_time = in_time schema q events event now c time reads now_is s.clock;
       clock = refl;
       extends = record { cea = found.cea; more_states = found.more; states = found.states; more_nodes = r.nodes.more; nodes = r.nodes.appended };
@@ -189,8 +187,8 @@ one_key_more : (old mid : Held) (key : List Value) → TakesKey old key mid → 
 one_key_more old mid key (inl h) = subst (λ (m : Held). length m.keys ≤ length old.keys + 1) (sym h.1) (omega arith)
 one_key_more old mid key (inr h) = subst (λ (m : Held). length m.keys ≤ length old.keys + 1) (sym h.1) (let long = length-append old.keys (key ∷ []) in omega arith)
 
-keyed_grows : (schema : Declared) (q : Query) (event : Event) (stamp : Stamp) (low : ℤ) (bits : List Bool) (key : List Value) (number : ℕ) (staged : Staged) (old new : Held) (c : Option ℤ) (n : Option ℕ) (now : ℤ) → Reads schema q event → IsReady stamp low bits key number staged old new → Grows schema q event (part_of old c n) (part_of (put_in number staged new) (Some now) (Some number))
-keyed_grows schema q event stamp low bits key number staged old new c n now reads r =
+keyed_grows : (schema : Declared) (q : Query) (event : Event) (stamp : Stamp) (low : ℤ) (bits : List Bool) (key : List Value) (number : ℕ) (staged : Staged) (old new : Held) (n : Option ℕ) → Reads schema q event → IsReady stamp low bits key number staged old new → Grows schema q event (part_of old None n) (part_of (put_in number staged new) None (Some number))
+keyed_grows schema q event stamp low bits key number staged old new n reads r =
     let table : r.mid.table ≡ old.table = mid_table old r.mid key r.takes in
     let nodes : r.mid.nodes ≡ old.nodes = mid_nodes old r.mid key r.takes in
     record {
@@ -207,10 +205,10 @@ keyed_grows schema q event stamp low bits key number staged old new c n now read
       no_key = λ no. absurd (no reads);
     }
 
-pub keyed_step : (schema : Declared) (q : Query) (event : Event) (position : ℕ) (low : ℤ) (bits : List Bool) (key : List Value) (number : ℕ) (staged : Staged) (old new : Held) (c : Option ℤ) (n : Option ℕ) (now : ℤ) → Reads schema q event → HasClock schema q.window event position now → least ≤ℤ low_of q.window now → HasKey schema q event key → has bits ≡ leaves_reading schema q event → low ≤ℤ low_of q.window now → IsReady (record { pos = position; clock = now }) low bits key number staged old new → IsStep schema q event position (part_of old c n) (part_of (put_in number staged new) (Some now) (Some number))
-keyed_step schema q event position low bits key number staged old new c n now reads clock fits has_key bits_are recent r = record {
-  stands = λ events len time s. keyed_stands schema q events event (record { pos = position; clock = now }) low bits key number staged old new c n now reads (subst (λ p. HasClock schema q.window event p now) (sym len) clock) fits has_key bits_are (ap (λ p. record { pos = p; clock = now }) (sym len)) recent r time s;
-  grows = keyed_grows schema q event (record { pos = position; clock = now }) low bits key number staged old new c n now reads r;
+pub keyed_step : (schema : Declared) (q : Query) (event : Event) (position : ℕ) (low : ℤ) (bits : List Bool) (key : List Value) (number : ℕ) (staged : Staged) (old new : Held) (n : Option ℕ) (now : ℤ) → Reads schema q event → HasClock schema q.window event position now → HasKey schema q event key → has bits ≡ leaves_reading schema q event → low ≤ℤ low_of q.window now → IsReady (record { pos = position; clock = now }) low bits key number staged old new → IsStep schema q event position (part_of old None n) (part_of (put_in number staged new) None (Some number))
+keyed_step schema q event position low bits key number staged old new n now reads clock has_key bits_are recent r = record {
+  stands = λ events len time s. (Some now, keyed_stands schema q events event (record { pos = position; clock = now }) low bits key number staged old new s.0 n now reads (subst (λ p. HasClock schema q.window event p now) (sym len) clock) has_key bits_are (ap (λ p. record { pos = p; clock = now }) (sym len)) recent r time s.1);
+  grows = keyed_grows schema q event (record { pos = position; clock = now }) low bits key number staged old new n reads r;
 }
 
 -- What is put back is what was there.
@@ -245,48 +243,52 @@ here_none schema q events h c n s none = record {
 }
 
 -- one that passes the lists of its key, none of which accepts
-pub passed_step : (schema : Declared) (q : Query) (event : Event) (position : ℕ) (bits : List Bool) (key : List Value) (number : ℕ) (h : Held) (c : Option ℤ) (n : Option ℕ) (now : ℤ) → Reads schema q event → HasClock schema q.window event position now → least ≤ℤ low_of q.window now → HasKey schema q event key → has bits ≡ leaves_reading schema q event → slice_get h.keys number ≡ Some key → MayPass h number bits → IsStep schema q event position (part_of h c n) (part_of h (Some now) None)
-passed_step schema q event position bits key number h c n now reads clock fits has_key bits_are numbered p = record {
+pub passed_step : (schema : Declared) (q : Query) (event : Event) (position : ℕ) (bits : List Bool) (key : List Value) (number : ℕ) (h : Held) (n : Option ℕ) (now : ℤ) → Reads schema q event → HasClock schema q.window event position now → HasKey schema q event key → has bits ≡ leaves_reading schema q event → slice_get h.keys number ≡ Some key → MayPass h number bits → IsStep schema q event position (part_of h None n) (part_of h None None)
+passed_step schema q event position bits key number h n now reads clock has_key bits_are numbered p = record {
   stands = λ events len time s. (
       let now_is : HasClock schema q.window event (length events) now = subst (λ p. HasClock schema q.window event p now) (sym len) clock in
-      let ready = ready_passed h (record { pos = length events; clock = now }) (low_of q.window now) bits key number p.rows numbered p.at p.sound p.distinct s.nodes p.passed in
-      let after = keyed_stands schema q events event (record { pos = length events; clock = now }) (low_of q.window now) bits key number Unchanged h h c n now reads now_is fits has_key bits_are refl (omega (arith, ints)) ready time s in
+      let ready = ready_passed h (record { pos = length events; clock = now }) (low_of q.window now) bits key number p.rows numbered p.at p.sound p.distinct s.1.nodes p.passed in
+      let after = keyed_stands schema q events event (record { pos = length events; clock = now }) (low_of q.window now) bits key number Unchanged h h s.0 n now reads now_is has_key bits_are refl (omega (arith, ints)) ready time s.1 in
       let same : put_in number Unchanged h ≡ h = (λ i. record h { rows = set_back h.rows number [] i }) in
       let rows : slice_index_or h.rows number [] ≡ p.rows = (let both = sym (slice_get-get_or h.rows number [] (slice_get_within h.rows number p.rows p.at)) ∙ p.at in cc) in
-      here_none schema q (events ++ event ∷ []) h (Some now) number (subst (λ g. PartStands schema q (events ++ event ∷ []) (part_of g (Some now) (Some number))) same after) (ap (accepted_entries h.table) rows ∙ p.none)
+      (Some now, here_none schema q (events ++ event ∷ []) h (Some now) number (subst (λ g. PartStands schema q (events ++ event ∷ []) (part_of g (Some now) (Some number))) same after) (ap (accepted_entries h.table) rows ∙ p.none))
       );
-  grows = nothing_new schema q event h c n (Some now) None;
+  grows = nothing_new schema q event h n None;
 }
 
 -- the automaton is patient, or the lists of the event's key rest
-abbrev pub LeavesAlone : Declared → Query → Event → Part → Type 0
-LeavesAlone schema q event part = IsPatient (automaton_of (tree_of q)) q.strict ⊎ ((events : List Event) → PartStands schema q events part → OwnListsRest schema q event part)
+abbrev pub LeavesAlone : Declared → Query → Event → Held → Type 0
+LeavesAlone schema q event h = IsPatient (automaton_of (tree_of q)) q.strict ⊎ (HasNoRepeats h.keys → OwnListsRest schema q event (part_of h None None))
 
-left_alone : (schema : Declared) (q : Query) (event : Event) (part : Part) (events : List Event) → PartStands schema q events part → LeavesAlone schema q event part → IsPatient (automaton_of (tree_of q)) q.strict ⊎ OwnListsRest schema q event part
-left_alone schema q event part events s (inl patient) = inl patient
-left_alone schema q event part events s (inr rests) = inr (rests events s)
+left_alone : (schema : Declared) (q : Query) (event : Event) (h : Held) → HasNoRepeats h.keys → LeavesAlone schema q event h → IsPatient (automaton_of (tree_of q)) q.strict ⊎ OwnListsRest schema q event (part_of h None None)
+left_alone schema q event h distinct (inl patient) = inl patient
+left_alone schema q event h distinct (inr rests) = inr (rests distinct)
 
 -- one that no leaf can read, and that the lists of its key may let pass
-pub resting_step : (schema : Declared) (q : Query) (event : Event) (position : ℕ) (h : Held) (c : Option ℤ) (n : Option ℕ) (now : ℤ) → Reads schema q event → HasClock schema q.window event position now → least ≤ℤ low_of q.window now → ((k : ℕ) → leaves_reading schema q event k ≡ false) → LeavesAlone schema q event (part_of h c n) → IsStep schema q event position (part_of h c n) (part_of h (Some now) None)
-resting_step schema q event position h c n now reads clock fits unread rests = record {
+pub resting_step : (schema : Declared) (q : Query) (event : Event) (position : ℕ) (h : Held) (n : Option ℕ) (now : ℤ) → Reads schema q event → HasClock schema q.window event position now → ((k : ℕ) → leaves_reading schema q event k ≡ false) → LeavesAlone schema q event h → IsStep schema q event position (part_of h None n) (part_of h None None)
+resting_step schema q event position h n now reads clock unread rests = record {
   stands = λ events len time s. (
-      let now_is : HasClock schema q.window event (length events) now = subst (λ p. HasClock schema q.window event p now) (sym len) clock in
-      part_resting schema q events event now (part_of h c n) (part_of h (Some now) None) s (clock_advances schema q events event h c n now reads now_is fits time s)
-      (record { unread = unread; rests = left_alone schema q event (part_of h c n) events s rests; table = refl; keys = refl; rows = refl; here = refl })
+      let now_is : HasClock schema q.window event (length events) now = subst (λ p. HasClock schema q.window event p now) (sym len) clock in (
+        Some now,
+        part_resting schema q events event now (part_of h s.0 n) (part_of h (Some now) None) s.1 (clock_advances schema q events event h s.0 n now reads now_is time s.1)
+            (record { unread = unread; rests = left_alone schema q event h s.1.keys.distinct rests; table = refl; keys = refl; rows = refl; here = refl }),
+      )
       );
-  grows = nothing_new schema q event h c n (Some now) None;
+  grows = nothing_new schema q event h n None;
 }
 
--- the lists of each key rest, or of the one that the event has
-pub all_rests : (schema : Declared) (q : Query) (event : Event) (h : Held) (c : Option ℤ) (n : Option ℕ) → All (Rest h.table) h.rows → (events : List Event) → PartStands schema q events (part_of h c n) → (key : List Value) (number : ℕ) (rows : Rows) → HasKey schema q event key → slice_get h.keys number ≡ Some key → slice_get h.rows number ≡ Some rows → Rest h.table rows
-all_rests schema q event h c n all events s key number rows has numbered at = All-contains (Rest h.table) h.rows rows all (got h.rows number rows at)
-
-pub one_rests : (schema : Declared) (q : Query) (event : Event) (h : Held) (c : Option ℤ) (n : Option ℕ) (own : List Value) (place : ℕ) (there : Rows) → HasKey schema q event own → slice_get h.keys place ≡ Some own → slice_get h.rows place ≡ Some there → Rest h.table there → (events : List Event) → PartStands schema q events (part_of h c n) → (key : List Value) (number : ℕ) (rows : Rows) → HasKey schema q event key → slice_get h.keys number ≡ Some key → slice_get h.rows number ≡ Some rows → Rest h.table rows
-one_rests schema q event h c n own place there has_own own_at there_at rest events s key number rows has numbered at =
-    let same : own ≡ key = (let both = sym has_own.1 ∙ has.1 in cc) in
-    let here : place ≡ number = at_one_place h.keys place number key s.keys.distinct (subst (λ k. slice_get h.keys place ≡ Some k) same own_at) numbered in
-    let is : there ≡ rows = (let both = sym there_at ∙ subst (λ i. slice_get h.rows i ≡ Some rows) (sym here) at in cc) in
-    subst (Rest h.table) is rest
+-- one that begins no match, where none is open of its key
+pub nothing_step : (schema : Declared) (q : Query) (event : Event) (position : ℕ) (h : Held) (n : Option ℕ) (now : ℤ) → Reads schema q event → HasClock schema q.window event position now → ((s : Standing) (mark : Bool) → next_standing (automaton_of (tree_of q)) q.strict begin (leaves_reading schema q event) mark ≡ Some s → ⊥) → ((key : List Value) → HasKey schema q event key → HasNoneOf h key) → IsStep schema q event position (part_of h None n) (part_of h None None)
+nothing_step schema q event position h n now reads clock begins none = record {
+  stands = λ events len time s. (
+      let now_is : HasClock schema q.window event (length events) now = subst (λ p. HasClock schema q.window event p now) (sym len) clock in (
+        Some now,
+        part_begins_none schema q events event now (part_of h s.0 n) (part_of h (Some now) None) s.1 (clock_advances schema q events event h s.0 n now reads now_is time s.1)
+            (record { begins = begins; empty = λ key number rows has at were. none key has s.1.keys.distinct number rows at were; table = refl; keys = refl; rows = refl; here = refl }),
+      )
+      );
+  grows = nothing_new schema q event h n None;
+}
 
 -- each key's lists can take in the next event
 pub can_take : (schema : Declared) (q : Query) (events : List Event) (old : Held) (c : Option ℤ) (n : Option ℕ) (stamp : Stamp) → stamp.pos ≡ length events → PartStands schema q events (part_of old c n) → CanTake stamp old

@@ -1,5 +1,5 @@
 -- What a compaction makes of what is kept of a query.
-use Rattle.std.proofs.Common.{◌≡◌, ℕ, zero, suc, ℤ, ◌≤◌, List, [], ◌∷◌, length, All, Contains, Option, Some, refl, sym, ap, subst, ◌∙◌, slice_get, get_or, arith}
+use Rattle.std.proofs.Common.{◌≡◌, ℕ, zero, suc, ℤ, ◌≤◌, List, [], ◌∷◌, length, All, Contains, Option, Some, None, refl, sym, ap, subst, ◌∙◌, slice_get, get_or, arith}
 use Rattle.std.specs.Prelude.{◌≤ℤ◌, nat_le}
 use Rattle.std.proofs.Math.Dec.{leb-zero}
 use Rattle.std.proofs.lemmas.List.Recursion.{is_count_by}
@@ -9,6 +9,7 @@ use Rattle.stream_schema.specs.Types.{Declared}
 use Rattle.stream_schema.specs.declared.Event.{Event}
 use Rattle.stream_schema.specs.declared.Value.{Value}
 use Rattle.cel_terms.specs.declared.Query.{Query}
+use Rattle.cer_base.specs.Repeats.{HasNoRepeats}
 use Rattle.cer_base.specs.declared.node.Root.{Root}
 use Rattle.cer_base.specs.declared.node.Node.{Node}
 use Rattle.tecs_enumerate.specs.Rest.{CursorState}
@@ -110,22 +111,23 @@ pub record GivenUp (k : Held) (n : Option ℕ) (m : Held) (o : Option ℕ) : Typ
   pub given : AreGivenUp k.keys k.rows n m.keys m.rows o
   pub have : HaveListsButOne m.rows
 
-module _ (schema : Declared) (q : Query) (h k : Held) (c : Option ℤ) (n : Option ℕ) (p : Phase) (number : ℕ) (low : ℤ) (ws vs : List CursorState) (i : Idle schema q h c n p) (is : low ≡ low_at p.query p.kept.clock) (left : Left number low h k ws vs) where
-  still_here : (events : List Event) → PartStands schema q events (part_of h c n) → PartStands schema q events (part_of k c n)
+module _ (schema : Declared) (q : Query) (h k : Held) (n : Option ℕ) (p : Phase) (number : ℕ) (low : ℤ) (last : Option ℤ) (ws vs : List CursorState) (i : Idle schema q h n p) (is : low ≡ low_at p.query last) (left : Left number low h k ws vs) where
+  still_here : (events : List Event) → PartStands schema q events (part_of h last n) → PartStands schema q events (part_of k last n)
   still_here events s =
       let held : k ≡ record h { nodes = k.nodes; rows = k.rows } = λ j. record { table = left.same.0 j; nodes = k.nodes; keys = left.same.1 j; rows = k.rows } in
-      let here : low ≡ low_at q c = is ∙ (ap (λ z. low_at z p.kept.clock) (sym i.query_is) ∙ ap (λ (x : Part). low_at q x.clock) (sym i.kept_is)) in
-      let le : least_of number low ws ≤ℤ low_at q c = subst (λ (l : ℤ). least_of number low ws ≤ℤ l) here (least_under number low ws).0 in
-      subst (λ (x : Held). PartStands schema q events (part_of x c n)) (sym held) (still_stands schema q events (least_of number low ws) (part_of h c n) k.nodes k.rows (roots_of number k.rows vs) le left.nodes left.lists s)
+      let here : low ≡ low_at q last = is ∙ ap (λ z. low_at z last) (sym i.query_is) in
+      let le : least_of number low ws ≤ℤ low_at q last = subst (λ (l : ℤ). least_of number low ws ≤ℤ l) here (least_under number low ws).0 in
+      subst (λ (x : Held). PartStands schema q events (part_of x last n)) (sym held) (still_stands schema q events (least_of number low ws) (part_of h last n) k.nodes k.rows (roots_of number k.rows vs) le left.nodes left.lists s)
 
-  pub part_compacted : (m : Held) (o : Option ℕ) → GivenUp k n m o → (events : List Event) → PartStands schema q events (part_of h c n) → PartCompacted number (low_at p.query p.kept.clock) p.kept (part_of m c o) ws vs
-  part_compacted m o g events s =
-      let after = still_here events s in
-      subst (λ (l : ℤ). PartCompacted number l p.kept (part_of m c o) ws vs) is (subst (λ (old : Part). PartCompacted number low old (part_of m c o) ws vs) i.kept_is (record {
+  pub part_compacted : (m : Held) (o : Option ℕ) → GivenUp k n m o → (clock : Option ℤ) (events : List Event) → PartStands schema q events (part_of h clock n) → PartCompacted number (low_at p.query last) p.kept (part_of m None o) ws vs
+  part_compacted m o g clock events s =
+      let distinct : HasNoRepeats k.keys = subst HasNoRepeats (sym left.same.1) s.keys.distinct in
+      let long : length k.rows ≡ length k.keys = keys_length (least_of number low ws) h.nodes k.nodes h.rows k.rows left.lists ∙ (s.keys.lists ∙ ap length (sym left.same.1)) in
+      subst (λ (l : ℤ). PartCompacted number l p.kept (part_of m None o) ws vs) is (subst (λ (old : Part). PartCompacted number low old (part_of m None o) ws vs) i.kept_is (record {
         table = g.same.0 ∙ left.same.0;
         clock = refl;
         nodes = subst (λ (ns : List Node). Compacted (least_of number low ws) h.nodes ns (roots_of number m.rows vs)) (sym g.same.1)
-            (compacted_stays k.keys k.rows n m.keys m.rows o g.given after.keys.distinct after.keys.lists (least_of number low ws) h.nodes k.nodes number vs left.nodes);
+            (compacted_stays k.keys k.rows n m.keys m.rows o g.given distinct long (least_of number low ws) h.nodes k.nodes number vs left.nodes);
         kept = k.rows;
         lists = subst (λ (ns : List Node). KeysCompacted (least_of number low ws) h.nodes ns h.rows k.rows) (sym g.same.1) left.lists;
         given = subst (λ (ks : List (List Value)). AreGivenUp ks k.rows n m.keys m.rows o) left.same.1 g.given;
@@ -133,10 +135,10 @@ module _ (schema : Declared) (q : Query) (h k : Held) (c : Option ℤ) (n : Opti
         cursors = subst (λ (ns : List Node). CursorsCompacted number h.nodes ns ws vs) (sym g.same.1) left.cursors;
       }))
 
-  pub part_stands : (m : Held) (o : Option ℕ) → GivenUp k n m o → (events : List Event) → PartStands schema q events (part_of h c n) → PartStands schema q events (part_of m c o)
+  pub part_stands : (m : Held) (o : Option ℕ) → GivenUp k n m o → (events : List Event) → PartStands schema q events (part_of h last n) → PartStands schema q events (part_of m last o)
   part_stands m o g events s =
       let held : m ≡ record k { keys = m.keys; rows = m.rows } = λ j. record { table = g.same.0 j; nodes = g.same.1 j; keys = m.keys; rows = m.rows } in
-      subst (λ (x : Held). PartStands schema q events (part_of x c o)) (sym held) (part_gives_up schema q events (part_of k c n) m.keys m.rows o (still_here events s) g.given)
+      subst (λ (x : Held). PartStands schema q events (part_of x last o)) (sym held) (part_gives_up schema q events (part_of k last n) m.keys m.rows o (still_here events s) g.given)
 
   pub part_fewer : (m : Held) (o : Option ℕ) → GivenUp k n m o → length m.nodes ≤ length p.kept.nodes
   part_fewer m o g = subst (λ (x : Part). length m.nodes ≤ length x.nodes) i.kept_is (subst (λ (ns : List Node). length ns ≤ length h.nodes) (sym g.same.1) (fewer_nodes (least_of number low ws) h.nodes k.nodes (roots_of number k.rows vs) left.nodes))

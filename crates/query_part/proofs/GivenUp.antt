@@ -1,11 +1,10 @@
 -- Keys without lists are given up, one after the other.
-use Rattle.std.proofs.Common.{◌≡◌, ◌≢◌, ℕ, zero, suc, ◌+◌, ◌-◌, ◌<◌, ◌≤◌, ◌⊎◌, inl, inr, Bool, true, false, List, [], ◌∷◌, length, map, take, refl, sym, ap, subst, ◌∙◌, Option, Some, None, slice_get, get_or, arith}
+use Rattle.std.proofs.Common.{◌≡◌, ◌≢◌, ℕ, ◌+◌, ◌-◌, ◌<◌, ◌≤◌, ◌⊎◌, inl, inr, Bool, true, false, List, [], ◌∷◌, length, map, take, refl, sym, ap, subst, ◌∙◌, Option, Some, None, slice_get, get_or, arith}
 use Rattle.std.specs.Prelude.{option_map, cond, ◌==◌, nat_lt, swap_remove, slice_set, slice_index_or}
-use Rattle.std.proofs.lemmas.Bool.{eqb-true, eqb-false, ltb-true, ltb-false, false≢true}
+use Rattle.std.proofs.lemmas.Bool.{eqb-true, eqb-false, ltb-true, ltb-false}
 use Rattle.std.proofs.lemmas.Option.{slice_get-map, slice_get-get_or, slice_get_within}
 use Rattle.std.proofs.lemmas.List.{take-map, map-set, get_or-map, length-map}
 use Rattle.stream_schema.specs.declared.Value.{Value}
-use Rattle.cer_base.specs.declared.node.Root.{Root}
 use Rattle.query_standing.specs.Kept.{Rows}
 use Rattle.query_standing.specs.Giving.{AreGivenUp, renumbered}
 use Rattle.query_standing.proofs.GivingOne.{shorter, came, given_one}

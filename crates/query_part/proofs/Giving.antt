@@ -47,24 +47,25 @@ can_list schema q events h c here s = go here s.here
         let stand = s.each n is.0 (slice_index_or h.rows n []) is.4 at in
         record { rows = slice_index_or h.rows n []; at = at; low = low_at q c; seen = stand.taken; stands = stand.stands }
 
-low_same : (schema : Declared) (q : Query) (source : Source) (c : Option ℤ) → IsOf schema q.window source → low_since source c ≡ low_at q c
+-- the low clock is that of the query
+pub low_same : (schema : Declared) (q : Query) (source : Source) (c : Option ℤ) → IsOf schema q.window source → low_since source c ≡ low_at q c
 low_same schema q source None of = refl
 low_same schema q source (Some now) of = of.low now
 
-pub low_is : (schema : Declared) (q : Query) (h : Held) (c : Option ℤ) (n : Option ℕ) (p : Phase) (source : Source) (low : ℤ) → Idle schema q h c n p → IsOf schema q.window source → low ≡ low_since source c → low ≡ low_at p.query p.kept.clock
-low_is schema q h c n p source low i of e = e ∙ (low_same schema q source c of ∙ (ap (λ z. low_at z c) i.query_is ∙ ap (λ (k : Part). low_at p.query k.clock) i.kept_is))
+pub low_is : (schema : Declared) (q : Query) (h : Held) (n : Option ℕ) (p : Phase) (source : Source) (last : Option ℤ) (low : ℤ) → Idle schema q h n p → IsOf schema q.window source → low ≡ low_since source last → low ≡ low_at p.query last
+low_is schema q h n p source last low i of e = e ∙ (low_same schema q source last of ∙ ap (λ z. low_at z last) i.query_is)
 
 -- the entries where the cursor begins are those of the part
-pub gives : {E : Type 0} (schema : Declared) (q : Query) (events : List Event) (h : Held) (c : Option ℤ) (n : Option ℕ) (p : Phase) (low : ℤ) (r : Result CursorState E) → Idle schema q h c n p → PartStands schema q events (part_of h c n) → low ≡ low_at p.query p.kept.clock → IfOk r (λ w. rest w h.nodes ≡ recent_of low h.nodes (entries_for h n)) → IfOk r (λ w. rest w p.kept.nodes ≡ recent_of (low_at p.query p.kept.clock) p.kept.nodes (roots_at p.query p.kept))
-gives schema q events h c n p low (Err e) i s low_e given = tt
-gives schema q events h c n p low (Ok w) i s low_e given =
-    let roots : entries_for h n ≡ roots_at p.query p.kept = roots_same q h c n n s.states.automaton ∙ (ap (λ z. roots_at z (part_of h c n)) i.query_is ∙ ap (roots_at p.query) i.kept_is) in
+pub gives : {E : Type 0} (schema : Declared) (q : Query) (events : List Event) (h : Held) (c : Option ℤ) (n : Option ℕ) (p : Phase) (low wanted : ℤ) (r : Result CursorState E) → Idle schema q h n p → PartStands schema q events (part_of h c n) → low ≡ wanted → IfOk r (λ w. rest w h.nodes ≡ recent_of low h.nodes (entries_for h n)) → IfOk r (λ w. rest w p.kept.nodes ≡ recent_of wanted p.kept.nodes (roots_at p.query p.kept))
+gives schema q events h c n p low wanted (Err e) i s low_e given = tt
+gives schema q events h c n p low wanted (Ok w) i s low_e given =
+    let roots : entries_for h n ≡ roots_at p.query p.kept = roots_same q h None n n s.states.automaton ∙ (ap (λ z. roots_at z (part_of h None n)) i.query_is ∙ ap (roots_at p.query) i.kept_is) in
     let nodes : h.nodes ≡ p.kept.nodes = ap (λ (k : Part). k.nodes) i.kept_is in
-    ap (rest w) (sym nodes) ∙ (given ∙ (ap (λ l. recent_of l h.nodes (entries_for h n)) low_e ∙ (ap (λ ns. recent_of (low_at p.query p.kept.clock) ns (entries_for h n)) nodes ∙ ap (recent_of (low_at p.query p.kept.clock) p.kept.nodes) roots)))
+    ap (rest w) (sym nodes) ∙ (given ∙ (ap (λ l. recent_of l h.nodes (entries_for h n)) low_e ∙ (ap (λ ns. recent_of wanted ns (entries_for h n)) nodes ∙ ap (recent_of wanted p.kept.nodes) roots)))
 
 -- where no list's entries are those of an accepting state, neither are the part's
-pub no_roots : (schema : Declared) (q : Query) (events : List Event) (h : Held) (c : Option ℤ) (n : Option ℕ) (p : Phase) → Idle schema q h c n p → PartStands schema q events (part_of h c n) → entries_for h n ≡ [] → roots_at p.query p.kept ≡ []
-no_roots schema q events h c n p i s none = sym (roots_same q h c n n s.states.automaton ∙ (ap (λ z. roots_at z (part_of h c n)) i.query_is ∙ ap (roots_at p.query) i.kept_is)) ∙ none
+pub no_roots : (schema : Declared) (q : Query) (events : List Event) (h : Held) (c : Option ℤ) (n : Option ℕ) (p : Phase) → Idle schema q h n p → PartStands schema q events (part_of h c n) → entries_for h n ≡ [] → roots_at p.query p.kept ≡ []
+no_roots schema q events h c n p i s none = sym (roots_same q h None n n s.states.automaton ∙ (ap (λ z. roots_at z (part_of h None n)) i.query_is ∙ ap (roots_at p.query) i.kept_is)) ∙ none
 
 pub if_ok : {A E : Type 0} (r : Result A E) (P Q : A → Type 0) → IfOk r P → ((x : A) → P x → Q x) → IfOk r Q
 if_ok (Ok x) P Q p f = f x p

@@ -1,6 +1,5 @@
 -- What is reached from the lists of all keys is reached from those of the keys that stay.
-use Rattle.std.proofs.Common.{◌≡◌, ℕ, ◌<◌, ℤ, List, [], ◌∷◌, ◌++◌, length, refl, sym, ap, subst, ◌∙◌, inl, inr, Contains, Option, Some, slice_get, get_or, arith}
-use Rattle.std.specs.Prelude.{◌≤ℤ◌}
+use Rattle.std.proofs.Common.{◌≡◌, ℕ, ℤ, List, [], ◌∷◌, length, sym, subst, ◌∙◌, inl, inr, Contains, Option, Some, slice_get, get_or, arith}
 use Rattle.std.specs.List.{flat_map}
 use Rattle.std.proofs.lemmas.List.Concat.{flat_map-cons}
 use Rattle.std.proofs.lemmas.List.Elements.{Contains-append_left, Contains-append_right}
@@ -9,7 +8,6 @@ use Rattle.stream_schema.specs.declared.Value.{Value}
 use Rattle.cer_base.specs.Repeats.{HasNoRepeats}
 use Rattle.cer_base.specs.declared.node.Root.{Root}
 use Rattle.cer_base.specs.declared.node.Node.{Node}
-use Rattle.cer_base.specs.declared.node.Stamp.{Stamp}
 use Rattle.tecs_enumerate.specs.Rest.{CursorState}
 use Rattle.arena_compact.specs.Marks.{Reaches}
 use Rattle.arena_compact.specs.Roots.{ids_of, cursor_roots}

@@ -7,13 +7,13 @@ mod Giving
 mod AtFirst
 mod Marked
 mod Prepare
-mod Times
 mod Worked
 mod Resting
 mod Compacting
 -- for callers too
 pub mod Fresh
-mod Sleeping
+-- events that pass a part by
+mod Dormant
 mod OwnKey
 -- a key's event that passes its lists
 mod Passed
@@ -21,3 +21,5 @@ mod Passed
 mod GivenUp
 -- what they leave is reached as before
 mod KeptRoots
+-- queries that share a clock
+mod Sharing

@@ -1,6 +1,8 @@
 -- A key's event that passes its lists.
-use Rattle.std.proofs.Common.{ℤ, ◌≡◌, ℕ, ◌<◌, ◌≤◌, inl, Bool, true, false, not, List, [], ◌∷◌, map, All, length, refl, sym, subst, Some, slice_get, slice_set, slice_index_or, arith}
+use Rattle.std.proofs.Common.{ℤ, ◌≡◌, ◌∙◌, ◌==◌, ℕ, ◌<◌, ◌≤◌, inl, Bool, true, false, ◌&&◌, not, List, [], ◌∷◌, map, All, Contains, length, refl, sym, subst, Some, slice_get, slice_set, slice_index_or, arith}
+use Rattle.std.proofs.lemmas.Bool.{eqb-true}
 use Rattle.std.proofs.lemmas.List.Elements.{All-nil, All-cons, All-head, All-tail}
+use Rattle.cer_base.specs.Bits.{has}
 use Rattle.cer_base.specs.declared.node.Root.{Root}
 use Rattle.std.specs.List.{IsDistinct}
 use Rattle.stream_schema.specs.declared.Value.{Value}
@@ -14,9 +16,10 @@ use Rattle.event_update.proofs.GivenBack.{discovers_none}
 use Rattle.event_update.proofs.RowPlaced.{grows_by_none}
 use Rattle.event_update.proofs.Passing.{passed_stand}
 use Rattle.query_standing.specs.Kept.{Rows}
+use Rattle.query_standing.proofs.KeyCases.{at_one_place}
 use Rattle.query_standing.proofs.Lists.{got}
 use Rattle.query_part.specs.declared.lists.Lists.{Lists}
-use Rattle.query_part.specs.Matches.{Held, awake_in, IsReady}
+use Rattle.query_part.specs.Matches.{Held, HasNoneOf, OwnNone, awake_in, IsReady}
 use Rattle.query_part.proofs.Resting.{Recounted, recounted}
 
 pub one_row : (rows others : Rows) → Some rows ≡ Some others → rows ≡ others
@@ -61,3 +64,22 @@ awake_same ls n d new less same = go new.rests (subst (λ b. Recounted b new.res
     go : (b : Bool) → Recounted b b (awake_in ls) (awake_in (slice_set ls n new)) → awake_in (slice_set ls n new) ≡ awake_in ls
     go true h = h
     go false h = h
+
+-- lists that are as many as none
+pub no_rows : (rows : Rows) (count : ℕ) → count ≡ length rows → (count == 0) ≡ true → rows ≡ []
+no_rows [] count is none = refl
+no_rows (r ∷ rows) count is none = (let zero = eqb-true count 0 none in absurd (omega arith))
+
+-- no match is open of the key with the number
+pub none_at : (h : Held) (key : List Value) (number : ℕ) → slice_get h.keys number ≡ Some key → slice_get h.rows number ≡ Some [] → HasNoneOf h key
+none_at h key number numbered none distinct place rows there at =
+    let here : number ≡ place = at_one_place h.keys number place key distinct numbered there in
+    one_row rows [] (sym at ∙ subst (λ i. slice_get h.rows i ≡ Some []) here none)
+
+-- where the key is not there
+pub none_of : (h : Held) (key : List Value) → (Contains h.keys key → ⊥) → HasNoneOf h key
+none_of h key fresh distinct place rows there at = absurd (fresh (got h.keys place key there))
+
+-- the event begins no match, and none is open of its key
+pub nothing_of : (h : Held) (key : List Value) (first bits : List Bool) → ((k : ℕ) → has first k && has bits k ≡ false) → HasNoneOf h key → OwnNone h (Some key) first bits
+nothing_of h key first bits begins none = record { begins = begins; empty = λ other is. (let same : key ≡ other = cc in subst (HasNoneOf h) same none) }

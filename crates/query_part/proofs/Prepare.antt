@@ -1,5 +1,5 @@
 -- What is known of a part when an event is prepared.
-use Rattle.std.proofs.Common.{◌≡◌, ℕ, ℤ, ◌≤ℤ◌, ◌<◌, Bool, true, false, List, [], ◌∷◌, slice_index_or, length, refl, sym, ap, subst, ◌∙◌, Option, Some, None, slice_get, arith}
+use Rattle.std.proofs.Common.{◌≡◌, ℕ, ℤ, ◌<◌, Bool, true, false, List, [], ◌∷◌, slice_index_or, length, refl, sym, ap, subst, ◌∙◌, Option, Some, None, slice_get, arith}
 use Rattle.std.specs.Prelude.{IsSomeAnd, option_and_then, option_map, bytes_eq}
 use Rattle.std.proofs.lemmas.Bool.{false≢true, and_parts}
 use Rattle.std.proofs.lemmas.Option.{slice_get_within}
@@ -29,67 +29,76 @@ use Rattle.cea_determinise.specs.Det.{Table}
 use Rattle.event_update.specs.declared.Staged.{Staged}
 use Rattle.window_clock.specs.declared.Source.{Source}
 use Rattle.window_clock.specs.Clocks as clocks
-use Rattle.window_clock.specs.Places.{clock_in, low_in, IsOf}
-use Rattle.query_standing.specs.Clocks.{FallsBack, least, low_of}
-use Rattle.query_standing.specs.Kept.{PartStands}
-use Rattle.all_or_none.specs.Phases.{Phase, CanPrepare, IsIdle, AreLeavesRead, IsUnread}
+use Rattle.window_clock.specs.Places.{clock_in, IsOf}
+use Rattle.query_standing.specs.Clocks.{FallsBack}
+use Rattle.query_standing.specs.Kept.{Part, PartStands}
+use Rattle.all_or_none.specs.Phases.{Phase, CanPrepare, IsIdle, AreLeavesRead, IsUnread, StandsAt}
+use Rattle.all_or_none.specs.Dormancy.{here_at, dormant_at, HasTimes}
 use Rattle.query_standing.specs.Keys.{leaves_reading}
 use Rattle.query_part.specs.declared.matches.Ready.{Ready}
 use Rattle.query_part.specs.declared.matches.Sizes.{Sizes}
 use Rattle.query_part.specs.declared.part.Step.{Step}
-use Rattle.query_part.specs.declared.part.Step.TheVariants.{Unread, NoChange, Keyed}
+use Rattle.query_part.specs.declared.part.Step.TheVariants.{NoChange, Keyed}
 use Rattle.query_part.specs.Matches.{Held, IsReady}
-use Rattle.query_part.specs.Parts.{part_of, kept_of, ready_of, CanEnd, clock_at, here_at, settled, seen, AreTypesRead, IsMade}
+use Rattle.query_part.specs.Parts.{part_of, kept_of, ready_of, CanEnd, StandsWith, AreTypesRead, HaveClocks, IsMade}
 use Rattle.partition_table.specs.Keys.{is_at, are_at}
 use Rattle.stream_schema.specs.Equality.{Decides-value}
 use Rattle.query_part.proofs.Cuts.{mid_table}
 
-idle_kept : (step : Option Step) (r : Option Ready) (z : Sizes) (h : Held) (c : Option ℤ) (n : Option ℕ) → ready_of step r h c n ≡ None → kept_of step r z h c n ≡ part_of h c n
-idle_kept None r z h c n e = refl
-idle_kept (Some Unread) r z h c n e = absurd cc
-idle_kept (Some (NoChange now)) r z h c n e = absurd cc
-idle_kept (Some (Keyed now)) None z h c n e = refl
-idle_kept (Some (Keyed now)) (Some r) z h c n e = absurd cc
+idle_kept : (step : Option Step) (r : Option Ready) (z : Sizes) (h : Held) (n : Option ℕ) → ready_of step r h n ≡ None → kept_of step r z h n ≡ part_of h None n
+idle_kept None r z h n e = refl
+idle_kept (Some NoChange) r z h n e = absurd cc
+idle_kept (Some Keyed) None z h n e = refl
+idle_kept (Some Keyed) (Some r) z h n e = absurd cc
 
 -- so it can end, whatever the sizes are
-pub idle_ends : (step : Option Step) (r : Option Ready) (z : Sizes) (h : Held) (c : Option ℤ) (n : Option ℕ) → ready_of step r h c n ≡ None → CanEnd step r z h
-idle_ends None r z h c n e = tt
-idle_ends (Some Unread) r z h c n e = tt
-idle_ends (Some (NoChange now)) r z h c n e = absurd cc
-idle_ends (Some (Keyed now)) None z h c n e = tt
-idle_ends (Some (Keyed now)) (Some r) z h c n e = absurd cc
+pub idle_ends : (step : Option Step) (r : Option Ready) (z : Sizes) (h : Held) (n : Option ℕ) → ready_of step r h n ≡ None → CanEnd step r z h
+idle_ends None r z h n e = tt
+idle_ends (Some NoChange) r z h n e = absurd cc
+idle_ends (Some Keyed) None z h n e = tt
+idle_ends (Some Keyed) (Some r) z h n e = absurd cc
 
--- For some events the part is as it is.
-pub record Facts (schema : Declared) (q : Query) (event : Event) (position : ℕ) (h : Held) (c : Option ℤ) (n : Option ℕ) : Type 0 where
+-- the part by its fields
+abbrev pub seen_as : Declared → Query → Option Step → Option Ready → Sizes → Held → Option ℕ → ℕ → Phase
+seen_as schema q step r z h n upto = record { schema = schema; query = q; kept = kept_of step r z h n; ready = ready_of step r h n; upto = upto }
+
+-- an idle part by its fields
+abbrev pub sleeper : Declared → Query → Held → Option ℕ → ℕ → Phase
+sleeper schema q h n upto = record { schema = schema; query = q; kept = part_of h None n; ready = None; upto = upto }
+
+-- For some events, with their clock, the part is as it is.
+pub record Facts (schema : Declared) (q : Query) (event : Event) (position : ℕ) (h : Held) (n : Option ℕ) : Type 0 where
   pub events : List Event
   pub count : length events ≡ position
   pub of_schema : IsOfSchema schema event
   pub in_time : (before now : ℤ) → FallsBack schema q events event before now → ⊥
-  pub stands : PartStands schema q events (part_of h c n)
+  pub clock : Option ℤ
+  pub stands : PartStands schema q events (part_of h clock n)
 
-pub facts : (schema : Declared) (q : Query) (event : Event) (position : ℕ) (step : Option Step) (r : Option Ready) (z : Sizes) (h : Held) (c : Option ℤ) (n : Option ℕ) (upto : ℕ) (floats : Bool) (p : Phase) → record { schema = schema; query = q; kept = kept_of step r z h c n; ready = ready_of step r h c n; upto = upto; floats = floats } ≡ p → IsIdle (seen position p) → CanPrepare event position (seen position p) → Facts schema q event position h (clock_at floats upto position c) (here_at upto position n)
-facts schema q event position step r z h c n upto floats p is idle can =
-    let rest : ready_of step r h c n ≡ None = subst IsIdle (sym is) idle in
-    let know : CanPrepare event position (seen position (record { schema = schema; query = q; kept = kept_of step r z h c n; ready = ready_of step r h c n; upto = upto; floats = floats })) = subst (λ (x : Phase). CanPrepare event position (seen position x)) (sym is) can in
+pub facts : (schema : Declared) (q : Query) (event : Event) (position : ℕ) (step : Option Step) (r : Option Ready) (z : Sizes) (h : Held) (n : Option ℕ) (upto : ℕ) (p : Phase) → seen_as schema q step r z h n upto ≡ p → IsIdle (dormant_at position p) → CanPrepare event position (dormant_at position p) → Facts schema q event position h (here_at upto position n)
+facts schema q event position step r z h n upto p is idle can =
+    let rest : ready_of step r h n ≡ None = subst IsIdle (sym is) idle in
+    let know : CanPrepare event position (dormant_at position (seen_as schema q step r z h n upto)) = subst (λ (x : Phase). CanPrepare event position (dormant_at position x)) (sym is) can in
     record {
       events = know.events;
       count = know.count;
       of_schema = know.of_schema;
       in_time = know.in_time;
-      stands = subst (λ k. PartStands schema q know.events (settled floats upto position k)) (idle_kept step r z h c n rest) know.stands;
+      clock = know.stands.0;
+      stands = subst (λ (k : Part). PartStands schema q know.events (record k { clock = know.stands.0; here = here_at upto position k.here })) (idle_kept step r z h n rest) know.stands.1;
     }
 
 -- where the part is idle, it is as it is for some events
-pub record Idle (schema : Declared) (q : Query) (h : Held) (c : Option ℤ) (n : Option ℕ) (p : Phase) : Type 0 where
+pub record Idle (schema : Declared) (q : Query) (h : Held) (n : Option ℕ) (p : Phase) : Type 0 where
   pub schema_is : schema ≡ p.schema
   pub query_is : q ≡ p.query
-  pub kept_is : part_of h c n ≡ p.kept
+  pub kept_is : part_of h None n ≡ p.kept
 
-pub idle_part : (schema : Declared) (q : Query) (step : Option Step) (r : Option Ready) (z : Sizes) (h : Held) (c : Option ℤ) (n : Option ℕ) (upto : ℕ) (floats : Bool) (count : ℕ) (p : Phase) → record { schema = schema; query = q; kept = kept_of step r z h c n; ready = ready_of step r h c n; upto = upto; floats = floats } ≡ p → IsIdle p → Idle schema q h (clock_at floats upto count c) (here_at upto count n) (seen count p)
-idle_part schema q step r z h c n upto floats count p is idle = record {
+pub idle_part : (schema : Declared) (q : Query) (step : Option Step) (r : Option Ready) (z : Sizes) (h : Held) (n : Option ℕ) (upto count : ℕ) (p : Phase) → seen_as schema q step r z h n upto ≡ p → IsIdle p → Idle schema q h (here_at upto count n) (dormant_at count p)
+idle_part schema q step r z h n upto count p is idle = record {
   schema_is = ap (λ (x : Phase). x.schema) is;
   query_is = ap (λ (x : Phase). x.query) is;
-  kept_is = ap (settled floats upto count) (sym (idle_kept step r z h c n (ap (λ (x : Phase). x.ready) is ∙ idle))) ∙ ap (λ (x : Phase). (seen count x).kept) is;
+  kept_is = ap (λ (k : Part). record k { here = here_at upto count k.here }) (sym (idle_kept step r z h n (ap (λ (x : Phase). x.ready) is ∙ idle))) ∙ ap (λ (x : Phase). (dormant_at count x).kept) is;
 }
 
 -- What the lists are worked out with: the leaves of the query that read the event, in the room that the automaton asks for.
@@ -98,14 +107,14 @@ pub record AreOwnLeaves (schema : Declared) (q : Query) (event : Event) (h : Hel
   pub room : length bits ≡ room_for h.table.cea.size
 
 -- those that are told where one reads the event, and else none
-pub own_leaves : (schema : Declared) (q : Query) (types : List Bool) (places : List (Option (List ℕ))) (source : Source) (event : Event) (position : ℕ) (step : Option Step) (r : Option Ready) (z : Sizes) (h : Held) (c : Option ℤ) (n : Option ℕ) (upto : ℕ) (floats : Bool) (p : Phase) (reads : Bool) (leaves none bits : List Bool) → record { schema = schema; query = q; kept = kept_of step r z h c n; ready = ready_of step r h c n; upto = upto; floats = floats } ≡ p → IsMade schema q types places source none h → (reads ≡ true → AreLeavesRead event leaves (seen position p)) → (reads ≡ false → IsUnread event (seen position p)) → (reads ≡ true → bits ≡ leaves) → (reads ≡ false → bits ≡ none) → AreOwnLeaves schema q event h bits
-own_leaves schema q types places source event position step r z h c n upto floats p true leaves none bits is m told unread some else =
-    let own : AreLeavesRead event leaves (seen position (record { schema = schema; query = q; kept = kept_of step r z h c n; ready = ready_of step r h c n; upto = upto; floats = floats })) = subst (λ (x : Phase). AreLeavesRead event leaves (seen position x)) (sym is) (told refl) in
+pub own_leaves : (schema : Declared) (q : Query) (types : List Bool) (places : List (Option (List ℕ))) (source : Source) (event : Event) (position : ℕ) (step : Option Step) (r : Option Ready) (z : Sizes) (h : Held) (n : Option ℕ) (upto : ℕ) (p : Phase) (reads : Bool) (leaves none bits : List Bool) → seen_as schema q step r z h n upto ≡ p → IsMade schema q types places source none h → (reads ≡ true → AreLeavesRead event leaves (dormant_at position p)) → (reads ≡ false → IsUnread event (dormant_at position p)) → (reads ≡ true → bits ≡ leaves) → (reads ≡ false → bits ≡ none) → AreOwnLeaves schema q event h bits
+own_leaves schema q types places source event position step r z h n upto p true leaves none bits is m told unread some else =
+    let own : AreLeavesRead event leaves (dormant_at position (seen_as schema q step r z h n upto)) = subst (λ (x : Phase). AreLeavesRead event leaves (dormant_at position x)) (sym is) (told refl) in
     record {
       are = (λ i k. (ap (λ (b : List Bool). has b k) (some refl) ∙ own.each k) i);
       room = ap length (some refl) ∙ (own.room ∙ ap room_for (sym m.size));
     }
-own_leaves schema q types places source event position step r z h c n upto floats p false leaves none bits is m told unread some else =
+own_leaves schema q types places source event position step r z h n upto p false leaves none bits is m told unread some else =
     let no : (k : ℕ) → leaves_reading schema q event k ≡ false = λ k. subst (λ (x : Phase). leaves_reading x.schema x.query event k ≡ false) (sym is) (unread refl k) in
     record {
       are = (λ i k. (ap (λ (b : List Bool). has b k) (else refl) ∙ (m.empty k ∙ sym (no k))) i);
@@ -113,25 +122,41 @@ own_leaves schema q types places source event position step r z h c n upto float
     }
 
 -- its fields, where it is idle
-pub idle_fields : (schema : Declared) (q : Query) (step : Option Step) (r : Option Ready) (z : Sizes) (h : Held) (c : Option ℤ) (n : Option ℕ) (upto : ℕ) (floats : Bool) (p : Phase) → record { schema = schema; query = q; kept = kept_of step r z h c n; ready = ready_of step r h c n; upto = upto; floats = floats } ≡ p → IsIdle p → record { schema = schema; query = q; kept = part_of h c n; ready = None; upto = upto; floats = floats } ≡ p
-idle_fields schema q step r z h c n upto floats p is idle =
-    let rest : ready_of step r h c n ≡ None = ap (λ (x : Phase). x.ready) is ∙ idle in
-    (λ i. record { schema = schema; query = q; kept = sym (idle_kept step r z h c n rest) i; ready = sym rest i; upto = upto; floats = floats }) ∙ is
+pub idle_fields : (schema : Declared) (q : Query) (step : Option Step) (r : Option Ready) (z : Sizes) (h : Held) (n : Option ℕ) (upto : ℕ) (p : Phase) → seen_as schema q step r z h n upto ≡ p → IsIdle p → sleeper schema q h n upto ≡ p
+idle_fields schema q step r z h n upto p is idle =
+    let rest : ready_of step r h n ≡ None = ap (λ (x : Phase). x.ready) is ∙ idle in
+    (λ i. record { schema = schema; query = q; kept = sym (idle_kept step r z h n rest) i; ready = sym rest i; upto = upto }) ∙ is
+
+-- The idle part is what it was where its lists are, whatever the sizes are.
+pub as_it_was : (schema : Declared) (q : Query) (step : Option Step) (r : Option Ready) (z y : Sizes) (h m : Held) (n : Option ℕ) (upto : ℕ) (p : Phase) → seen_as schema q step r z h n upto ≡ p → IsIdle p → m ≡ h → seen_as schema q step r y m n upto ≡ p
+as_it_was schema q step r z y h m n upto p view idle same =
+    let rest : ready_of step r h n ≡ None = ap (λ (x : Phase). x.ready) view ∙ idle in
+    ap (λ (x : Held). seen_as schema q step r y x n upto) same
+    ∙ (sym (idle_fields schema q step r y h n upto (seen_as schema q step r y h n upto) refl rest) ∙ idle_fields schema q step r z h n upto p view idle)
 
 -- the same once the last event had come that did not pass it by
-pub idle_awake : (schema : Declared) (q : Query) (step : Option Step) (r : Option Ready) (z : Sizes) (h : Held) (c : Option ℤ) (n : Option ℕ) (upto : ℕ) (floats : Bool) (p : Phase) → record { schema = schema; query = q; kept = kept_of step r z h c n; ready = ready_of step r h c n; upto = upto; floats = floats } ≡ p → IsIdle p → Idle schema q h c n p
-idle_awake schema q step r z h c n upto floats p is idle = record {
+pub idle_awake : (schema : Declared) (q : Query) (step : Option Step) (r : Option Ready) (z : Sizes) (h : Held) (n : Option ℕ) (upto : ℕ) (p : Phase) → seen_as schema q step r z h n upto ≡ p → IsIdle p → Idle schema q h n p
+idle_awake schema q step r z h n upto p is idle = record {
   schema_is = ap (λ (x : Phase). x.schema) is;
   query_is = ap (λ (x : Phase). x.query) is;
-  kept_is = sym (idle_kept step r z h c n (ap (λ (x : Phase). x.ready) is ∙ idle)) ∙ ap (λ (x : Phase). x.kept) is;
+  kept_is = sym (idle_kept step r z h n (ap (λ (x : Phase). x.ready) is ∙ idle)) ∙ ap (λ (x : Phase). x.kept) is;
 }
 
--- what stands for events, seen from within
-pub inner_stands : (schema : Declared) (q : Query) (h : Held) (c : Option ℤ) (n : Option ℕ) (p : Phase) → Idle schema q h c n p → (events : List Event) → PartStands p.schema p.query events p.kept → PartStands schema q events (part_of h c n)
-inner_stands schema q h c n p i events s =
-    subst (λ k. PartStands schema q events k) (sym i.kept_is) (subst (λ z. PartStands schema z events p.kept) (sym i.query_is) (subst (λ z. PartStands z p.query events p.kept) (sym i.schema_is) s))
+-- what stands for events with a clock, seen from within
+pub inner_with : (schema : Declared) (q : Query) (h : Held) (n : Option ℕ) (p : Phase) → Idle schema q h n p → (clock : Option ℤ) (events : List Event) → StandsWith clock events p → PartStands schema q events (part_of h clock n)
+inner_with schema q h n p i clock events s =
+    subst (λ (k : Part). PartStands schema q events (record k { clock = clock })) (sym i.kept_is) (subst (λ z. PartStands schema z events (record p.kept { clock = clock })) (sym i.query_is) (subst (λ z. PartStands z p.query events (record p.kept { clock = clock })) (sym i.schema_is) s))
 
-clock_told : (schema : Declared) (w : Window) (event : Event) (p : ℕ) (c : ℤ) → clocks.clock_of schema w event p ≡ Some c → HasClock schema w event p c
+-- and from without
+pub outer_with : (schema : Declared) (q : Query) (h : Held) (n : Option ℕ) (p : Phase) → Idle schema q h n p → (clock : Option ℤ) (events : List Event) → PartStands schema q events (part_of h clock n) → StandsWith clock events p
+outer_with schema q h n p i clock events s =
+    subst (λ z. PartStands z p.query events (record p.kept { clock = clock })) i.schema_is (subst (λ z. PartStands schema z events (record p.kept { clock = clock })) i.query_is (subst (λ (k : Part). PartStands schema q events (record k { clock = clock })) i.kept_is s))
+
+-- likewise with the clock that they have
+pub inner_stands : (schema : Declared) (q : Query) (h : Held) (n : Option ℕ) (p : Phase) → Idle schema q h n p → (events : List Event) → StandsAt events p → (clock : Option ℤ) × PartStands schema q events (part_of h clock n)
+inner_stands schema q h n p i events s = (s.0, inner_with schema q h n p i s.0 events s.1)
+
+pub clock_told : (schema : Declared) (w : Window) (event : Event) (p : ℕ) (c : ℤ) → clocks.clock_of schema w event p ≡ Some c → HasClock schema w event p c
 clock_told schema Free event p c e = (let f = sym e in cc)
 clock_told schema (Events n) event p c e = (let f = sym e in cc)
 clock_told schema (Clock name n) event p c e = int_of_is (attr_value schema event name.text) c e
@@ -146,8 +171,13 @@ clock_told schema (Clock name n) event p c e = int_of_is (attr_value schema even
 pub now_is : (schema : Declared) (w : Window) (source : Source) (event : Event) (p : ℕ) (r z : ℤ) → IsOf schema w source → clock_in source event p ≡ Some r → z ≡ r → HasClock schema w event p z
 now_is schema w source event p r z of told e = subst (HasClock schema w event p) (sym e) (clock_told schema w event p r (sym (of.clock event p) ∙ told))
 
-pub fits : (schema : Declared) (w : Window) (source : Source) (r z : ℤ) → IsOf schema w source → least ≤ℤ low_in source r → z ≡ r → least ≤ℤ low_of w z
-fits schema w source r z of le e = subst (λ x. least ≤ℤ low_of w x) (sym e) (subst (λ x. least ≤ℤ x) (of.low r) le)
+-- each event that the query reads has a clock
+pub have_times : (schema : Declared) (q : Query) (source : Source) → HaveClocks schema q source → IsOf schema q.window source → HasTimes schema q
+have_times schema q source clocks of event p is reads = go (clock_in source event p) refl
+  where
+    go : (o : Option ℤ) → clock_in source event p ≡ o → (now : ℤ) × HasClock schema q.window event p now
+    go None e = absurd (clocks event p is reads e)
+    go (Some now) e = (now, now_is schema q.window source event p now now of e refl)
 
 -- the tables stay those of the query
 pub made_after : (schema : Declared) (q : Query) (types : List Bool) (places : List (Option (List ℕ))) (source : Source) (none bits : List Bool) (stamp : Stamp) (low : ℤ) (key : List Value) (number : ℕ) (staged : Staged) (old new : Held) → IsMade schema q types places source none old → IsReady stamp low bits key number staged old new → IsMade schema q types places source none new

@@ -53,7 +53,8 @@ worked schema q events event h c n key bits now most before after s has_key now_
     at_most = met_at_most schema q (events ++ event ∷ []) w.work.found.cea.size w.work.found.states most w.work.sound.states w.work.distinct met few
 
 -- whatever the events are for which the part stands
-pub worked_within : (schema : Declared) (q : Query) (h : Held) (c : Option ℤ) (n : Option ℕ) (p : Phase) (event : Event) (position : ℕ) (key : List Value) (bits : List Bool) (now : ℤ) (before after : ℕ) → Idle schema q h c n p → HasKey schema q event key → HasClock schema q.window event position now → has bits ≡ leaves_reading schema q event → (after ≡ before) ⊎ HasWorked bits key h before after → IsWithin event position p before after
-worked_within schema q h c n p event position key bits now before after i has_key clock bits_are w events most count time stands few =
-    worked schema q events event h c n key bits now most before after (inner_stands schema q h c n p i events stands) has_key (subst (λ k. HasClock schema q.window event k now) (sym count) clock) bits_are
+pub worked_within : (schema : Declared) (q : Query) (h : Held) (n : Option ℕ) (p : Phase) (event : Event) (position : ℕ) (key : List Value) (bits : List Bool) (now : ℤ) (before after : ℕ) → Idle schema q h n p → HasKey schema q event key → HasClock schema q.window event position now → has bits ≡ leaves_reading schema q event → (after ≡ before) ⊎ HasWorked bits key h before after → IsWithin event position p before after
+worked_within schema q h n p event position key bits now before after i has_key clock bits_are w events most count time stands few =
+    let s = inner_stands schema q h n p i events stands in
+    worked schema q events event h s.0 n key bits now most before after s.1 has_key (subst (λ k. HasClock schema q.window event k now) (sym count) clock) bits_are
     (subst (λ z. MeetAtMost z q (events ++ event ∷ []) most) (sym i.schema_is) (subst (λ z. MeetAtMost p.schema z (events ++ event ∷ []) most) (sym i.query_is) few)) w

@@ -12,7 +12,7 @@ pub record CursorsCompacted (query : ℕ) (old new : List Node) (ws vs : List Cu
   pub count : length vs ≡ length ws
   pub each : (k : ℕ) (d : CursorState) → k < length ws → CursorCompacted query old new (get_or ws k d) (get_or vs k d)
 
--- The states and the clock stay. The nodes and the lists of each key are compacted, from the least of the low clock and those of the query's cursors on; then the keys that have no list are given up, but for one at most.
+-- The states and the clock stay. The nodes and the lists of each key are compacted, from the least of this low clock and those of the query's cursors on; then the keys that have no list are given up, but for one at most.
 pub record PartCompacted (query : ℕ) (low : ℤ) (old new : Part) (ws vs : List CursorState) : Type 0 where
   pub table : new.table ≡ old.table
   pub clock : new.clock ≡ old.clock

@@ -1,7 +1,8 @@
 -- The open matches of a query, key by key, and what a key's event makes of them.
-use Rattle.std.specs.Prelude.{◌≡◌, ℕ, suc, ◌+◌, ℤ, ◌≤ℤ◌, ◌<◌, ◌≤◌, ◌⊎◌, Bool, true, false, if◌then◌else◌, List, [], ◌∷◌, ◌++◌, length, map, take, All, Contains, Option, Some, None, IfSome, slice_get, slice_index_or, nat_eq}
+use Rattle.std.specs.Prelude.{◌≡◌, ℕ, suc, ◌+◌, ℤ, ◌≤ℤ◌, ◌<◌, ◌≤◌, ◌⊎◌, Bool, true, false, ◌&&◌, if◌then◌else◌, List, [], ◌∷◌, ◌++◌, length, map, take, All, Contains, Option, Some, None, IfSome, slice_get, slice_index_or, nat_eq}
 use Rattle.std.specs.List.{IsDistinct}
 use Rattle.stream_schema.specs.declared.Value.{Value}
+use Rattle.cer_base.specs.Bits.{has}
 use Rattle.cer_base.specs.declared.node.Stamp.{Stamp}
 use Rattle.cer_base.specs.declared.node.Root.{Root}
 use Rattle.cer_base.specs.declared.node.Node.{Node}
@@ -58,6 +59,15 @@ pub record OwnRest (h : Held) (own : Option (List Value)) (bits : List Bool) : T
   pub quiet : IsQuiet bits
   pub rest : HasNoRepeats h.keys → (key : List Value) (number : ℕ) (rows : Rows) → own ≡ Some key → slice_get h.keys number ≡ Some key → slice_get h.rows number ≡ Some rows → Rest h.table rows
 
+-- where the key is there, no match is open of it
+abbrev pub HasNoneOf : Held → List Value → Type 0
+HasNoneOf h key = HasNoRepeats h.keys → (number : ℕ) (rows : Rows) → slice_get h.keys number ≡ Some key → slice_get h.rows number ≡ Some rows → rows ≡ []
+
+-- No leaf that may read the first event of a match reads this one, and no match is open of its key.
+pub record OwnNone (h : Held) (own : Option (List Value)) (first bits : List Bool) : Type 0 where
+  pub begins : (k : ℕ) → has first k && has bits k ≡ false
+  pub empty : (key : List Value) → own ≡ Some key → HasNoneOf h key
+
 -- Events of these leaves pass the lists of the key of this number, and no state of them accepts.
 pub record MayPass (h : Held) (number : ℕ) (bits : List Bool) : Type 0 where
   pub rows : Rows
@@ -75,9 +85,9 @@ pub record OwnPass (h : Held) (own : Option (List Value)) (bits : List Bool) : T
   pub numbered : slice_get h.keys number ≡ Some key
   pub pass : MayPass h number bits
 
--- The event leaves all lists as they are: it has no key, or no leaf can read it and the lists of its key rest or the automaton is patient, or it passes the lists of its key.
-abbrev pub Stays : Held → Option (List Value) → List Bool → Bool → Type 0
-Stays h own bits patient = (own ≡ None) ⊎ (OwnRest h own bits ⊎ ((IsQuiet bits × (patient ≡ true)) ⊎ OwnPass h own bits))
+-- The event leaves all lists as they are: it has no key, or no leaf can read it and the lists of its key rest or the automaton is patient, or it passes the lists of its key, or it begins no match and none is open of its key.
+abbrev pub Stays : Held → Option (List Value) → List Bool → List Bool → Bool → Type 0
+Stays h own first bits patient = (own ≡ None) ⊎ (OwnRest h own bits ⊎ ((IsQuiet bits × (patient ≡ true)) ⊎ (OwnPass h own bits ⊎ OwnNone h own first bits)))
 
 -- no open match, and no state met
 abbrev pub none_open : Cea → Held

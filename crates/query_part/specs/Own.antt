@@ -13,7 +13,7 @@ pub record HasOwnNumber (h : Held) (table : List (Option (List ℕ))) (event : E
   pub there : HasKeyThere h places event.values number
 
 -- The event leaves all lists as they are, its key has the number, or nothing is said.
-abbrev pub IsOwn : Own → Held → List (Option (List ℕ)) → Event → List Bool → Bool → Type 0
-IsOwn Passes h table event bits patient = Stays h (key_there table event) bits patient
-IsOwn (At number) h table event bits patient = HasOwnNumber h table event number
-IsOwn Unknown h table event bits patient = Unit {0}
+abbrev pub IsOwn : Own → Held → List (Option (List ℕ)) → Event → List Bool → List Bool → Bool → Type 0
+IsOwn Passes h table event first bits patient = Stays h (key_there table event) first bits patient
+IsOwn (At number) h table event first bits patient = HasOwnNumber h table event number
+IsOwn Unknown h table event first bits patient = Unit {0}

@@ -1,5 +1,6 @@
-//! What is kept of one query, a part of the engine: its states, the nodes of its open matches, its
-//! keys with the lists of each, and its clock; and what an event makes of these, in two phases.
+//! What is kept of one query, a part of the engine: its states, the nodes of its open matches, and its
+//! keys with the lists of each; and what an event makes of these, in two phases. It keeps no clock: that
+//! is of the events, and is handed over where it is needed.
 //!
 //! Promised: what stands for some events stands for one more once the event is committed, and a
 //! refusal leaves everything as it was; a cursor gives exactly the recent members of the lists of

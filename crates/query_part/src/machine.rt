@@ -9,10 +9,10 @@ ghost use Rattle.query_leaves.specs.Lawful.{AreNumbered};
 ghost use Rattle.window_clock.specs.Places.{IsOf, HasWidth};
 ghost use Rattle.query_part.specs.Matches.{none_open};
 ghost use Rattle.query_part.specs.KeyPlaces.{AreKeyPlaces};
-ghost use Rattle.query_part.specs.Parts.{AreTypesRead, IsMachineOf, HasAutomaton, MayBePatient, MayBeWhole, MayFloat};
+ghost use Rattle.query_part.specs.Parts.{AreTypesRead, IsMachineOf, HasAutomaton, AreFirst, MayBePatient, MayBeWhole};
 
 use crate::matches::Matches;
-use crate::reading::{Places, floats, is_whole, key_places};
+use crate::reading::{Places, is_whole, key_places};
 use crate::types::types_read;
 use cea_compile::compile;
 use cel_terms::Query;
@@ -31,8 +31,6 @@ pub struct Reading {
     pub clock: Clock,
     pub types: Vec<bool>,
     pub keys: Vec<Option<Places>>,
-    /// Whether the clock is the position, and each type is read.
-    pub floats: bool,
     /// Whether the query has no partition.
     pub whole: bool,
 }
@@ -45,29 +43,26 @@ impl Reading {
         ensures keys { IfOk result (λ r. AreKeyPlaces schema.now query.now r.keys.items) }
         ensures clock { IfOk result (λ r. IsOf schema.now query.now.window r.clock.source) }
         ensures blank { IfOk result (λ r. r.clock.last ≡ None) }
-        ensures floats { IfOk result (λ r. MayFloat schema.now query.now r.clock.source
-            r.types.items r.floats) }
         ensures whole { IfOk result (λ r. MayBeWhole schema.now r.keys.items r.whole) }
     {
         let clock = Clock::of(alloc, schema, query)?;
         let types = types_read(alloc, schema, query)?;
         let keys = key_places(alloc, schema, query)?;
-        let floats = floats(schema, &query.window, types.as_slice());
         Ok(Reading {
             clock,
             types,
             keys,
-            floats,
             whole: is_whole(query),
         })
     }
 }
 
-/// What finds the states: an empty set with room for the leaves, the open matches, and whether the
-/// automaton is known to be patient.
+/// What finds the states: an empty set with room for the leaves, the set of those that may read the
+/// first event of a match, the open matches, and whether the automaton is known to be patient.
 #[derive(Drop)]
 pub struct Machine {
     pub no_leaves: Bits,
+    pub first: Bits,
     pub matches: Matches,
     pub patient: bool,
 }
@@ -77,6 +72,9 @@ fn machine_of(alloc: Global, seed: Seed, leaves: &Leaves) -> Result<Machine, Mem
     requires { AreNumbered leaves.now }
     ensures empty { IfOk result (λ m. (k : ℕ) → has m.no_leaves k ≡ false) }
     ensures room { IfOk result (λ m. length m.no_leaves ≡ room_for (length leaves.now.list)) }
+    ensures first { IfOk result (λ m. (k : ℕ) → (automaton_of_leaves leaves.now).first k
+        ≡ has m.first k) }
+    ensures first_room { IfOk result (λ m. length m.first ≡ room_for (length leaves.now.list)) }
     ensures matches { IfOk result (λ m. HasAutomaton (automaton_of_leaves leaves.now)
         leaves.now.strict m.matches) }
     ensures patient { IfOk result (λ m. m.patient ≡ true
@@ -84,10 +82,12 @@ fn machine_of(alloc: Global, seed: Seed, leaves: &Leaves) -> Result<Machine, Mem
 {
     let cea = compile(alloc, leaves)?;
     let patient = is_patient(&cea);
-    let matches = Matches::new(alloc, seed, cea);
+    let no_leaves = Bits::blank(alloc, leaves.list.as_slice().len())?;
+    let first = cea.first.copy(alloc)?;
     Ok(Machine {
-        no_leaves: Bits::blank(alloc, leaves.list.as_slice().len())?,
-        matches,
+        no_leaves,
+        first,
+        matches: Matches::new(alloc, seed, cea),
         patient,
     })
 }
@@ -96,6 +96,7 @@ impl Machine {
     /// That of the query. Its tables hash by the seed.
     pub fn of(alloc: Global, seed: Seed, schema: &Schema, query: &Query) -> Result<Machine, Memory>
         ensures machine { IfOk result (λ m. IsMachineOf query.now m.no_leaves m.matches) }
+        ensures first { IfOk result (λ m. AreFirst query.now m.first) }
         ensures patient { IfOk result (λ m. MayBePatient query.now m.patient) }
     {
         let leaves = leaves_of(alloc, schema, query)?;

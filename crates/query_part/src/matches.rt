@@ -18,7 +18,7 @@ ghost use Rattle.arena_compact.specs.Roots.{places};
 ghost use Rattle.arena_compact.specs.Compacted.{least_of, roots_of, Compacted, KeysCompacted, CursorCompacted};
 ghost use Rattle.query_standing.specs.Giving.{AreGivenUp};
 ghost use Rattle.query_part.specs.Dropping.{HaveListsButOne};
-ghost use Rattle.query_part.specs.Matches.{Held, HasStatesOnce, MayRest, awake_in, AreStill, HasKeyThere, HasBegun, MayPass, none_open, cut, CanCut, AreSizes, TakesKey, CanTake, IsReady, HasWorked, CanList, entries_for};
+ghost use Rattle.query_part.specs.Matches.{Held, HasStatesOnce, MayRest, awake_in, AreStill, HasKeyThere, HasNoneOf, HasBegun, MayPass, none_open, cut, CanCut, AreSizes, TakesKey, CanTake, IsReady, HasWorked, CanList, entries_for};
 
 use crate::dropping::{give_up_all, key_to_stay, number_of};
 use crate::lists::{Lists, is_unchanged, look_over, note, put_lists};
@@ -208,6 +208,24 @@ impl Matches {
         let _found = self.det.found();
         let lists = &self.lists[number as usize];
         lists.let_pass(bits) && !some_accepts(&lists.active, &self.det)
+    }
+
+    /// Whether no match is open of the key of this number.
+    pub fn has_none(&self, number: u64) -> bool
+        requires { number < length self.now.rows }
+        ensures { result ≡ true → slice_get self.now.rows number ≡ Some [] }
+    {
+        self.lists[number as usize].active.len() == 0
+    }
+
+    /// Whether no match is open of the key, where it is there.
+    pub fn has_none_of(&self, key: &Key) -> bool
+        ensures { result ≡ true → HasNoneOf self.now key.now }
+    {
+        match self.keys.get(key) {
+            Some(number) => self.has_none(number),
+            None => true,
+        }
     }
 
     /// Works out the lists of the key of this number after an event of it. After `Memory` there is

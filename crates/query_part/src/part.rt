@@ -1,17 +1,17 @@
 //! What is kept of one query, and what an event makes of it in two phases.
 
-ghost use Rattle.std.specs.Prelude.{◌≡◌, ◌≢◌, ℕ, ◌+◌, ◌*◌, ◌≤◌, false, true, List, [], ◌∷◌, length, map, All, Some, None, IfOk, IfSome, IfNone, MatchOption, OnOk, OnErr};
+ghost use Rattle.std.specs.Prelude.{◌≡◌, ◌≢◌, ℕ, ◌+◌, ◌*◌, ◌<◌, ◌≤◌, false, true, List, [], ◌∷◌, length, map, All, Some, None, IfOk, IfSome, IfNone, MatchOption, OnOk, OnErr};
 ghost use Rattle.stream_schema.specs.declared.Event.{Event as EventData};
-ghost use Rattle.stream_schema.specs.Events.{IsOfSchema};
 ghost use Rattle.cel_terms.specs.Checked.{IsChecked};
 ghost use Rattle.cer_base.specs.Nodes.{WellFormed};
 ghost use Rattle.tecs_enumerate.specs.Rest.{recent_of, rest, Fits};
-ghost use Rattle.query_standing.specs.Clocks.{Reads, FallsBack};
-ghost use Rattle.query_standing.specs.Kept.{PartStands, low_at, roots_at};
-ghost use Rattle.all_or_none.specs.Phases.{IsPrepared, IsIdle, IsQuiet, back, IsCommitted, CanPrepare, StandsAt, InTime, part_bound};
+ghost use Rattle.query_standing.specs.Kept.{low_at, roots_at};
+ghost use Rattle.query_standing.specs.Dormancy.{ShareClock};
+ghost use Rattle.all_or_none.specs.Phases.{IsPrepared, IsIdle, IsQuiet, back, IsCommitted, CanPrepare, StandsAt, part_bound};
+ghost use Rattle.all_or_none.specs.Dormancy.{dormant_at};
 ghost use Rattle.window_clock.specs.Places.{IsNear, IsOf, HasWidth, clock_in};
 ghost use Rattle.query_part.specs.KeyPlaces.{AreKeyPlaces};
-ghost use Rattle.query_part.specs.Parts.{AreTypesRead, IsMachineOf, HaveClocks, MayBePatient, MayBeWhole, MayFloat, HasEvents, seen, woken, skipped};
+ghost use Rattle.query_part.specs.Parts.{AreTypesRead, IsMachineOf, AreFirst, HaveClocks, MayBePatient, MayBeWhole, HasEvents, StandsWith, reads_type, woken};
 ghost use Rattle.query_part.specs.Compacting.{PartCompacted};
 ghost use Rattle.query_part.specs.Matches.{HasStatesOnce};
 ghost use Rattle.arena_compact.specs.Roots.{places};
@@ -19,7 +19,7 @@ ghost use Rattle.arena_compact.specs.Roots.{places};
 use crate::machine::{Machine, Reading};
 use crate::matches::{Matches, Ready, Sizes};
 use crate::own::{Own, advance_own, look};
-use crate::reading::{Places, is_read, may_read};
+use crate::reading::{Places, is_read, same_types};
 use all_or_none::Keeps;
 use arena_compact::{HasCursor, Room};
 use cel_terms::Query;
@@ -33,31 +33,28 @@ use std::alloc::Global;
 use std::marker::Model;
 use std::rc::Rc;
 use std::sync::ledger::Ledger;
-use stream_schema::{Event, Schema};
+use stream_schema::{Event, Schema, TypeId};
 use tecs_enumerate::Cursor;
-use window_clock::{Clock, TimeBack};
+use window_clock::Clock;
 
 /// What an event does, until it is committed.
 #[derive(Drop, Clone, Copy)]
 pub enum Step {
-    /// It is not read.
-    Unread,
-    /// It changes no list: it has no key, or no leaf can read it and its key's lists rest or the
-    /// automaton is patient, or it passes its key's lists, none of which accepts. Its clock.
-    NoChange(i128),
-    /// It has a key, whose lists are ready. Its clock.
-    Keyed(i128),
+    /// It changes no list: it is not read, or it has no key, or no leaf can read it and its key's
+    /// lists rest or the automaton is patient, or it passes its key's lists, none of which accepts, or
+    /// it begins no match and none is open of its key.
+    NoChange,
+    /// It has a key, whose lists are ready.
+    Keyed,
 }
 
-/// What is kept of one query.
+/// What is kept of one query. It may be dormant: an event that changes nothing of it passes it by,
+/// and it keeps no clock, which is that of the events.
 ///
 /// What an event reads or writes stands together, and first, for many queries over one stream.
 #[derive(Drop)]
 pub struct Part {
     alloc: Global,
-    /// Whether its clock is the position, and it reads each type: what an event makes of it then
-    /// that passes it by follows from the event's position.
-    floats: bool,
     /// Whether its automaton is known to be patient: an event that no leaf can read changes no list.
     patient: bool,
     /// Whether it is known to have no partition: each of its events has the key of no values.
@@ -68,6 +65,7 @@ pub struct Part {
     here: Option<u64>,
     /// For each type the places of the partition's attributes.
     keys: Vec<Option<Places>>,
+    /// Where its clock is read, and how wide its window is. It sees no event.
     clock: Clock,
     step: Option<Step>,
     /// The lists that are ready, where the step has a key.
@@ -77,6 +75,8 @@ pub struct Part {
     matches: Matches,
     /// An empty set, with room for the query's leaves: those that read an event that none reads.
     no_leaves: Bits,
+    /// The leaves that may read the first event of a match.
+    first: Bits,
     /// For each type whether the query reads it.
     types: Vec<bool>,
     query: Query,
@@ -88,7 +88,7 @@ impl Model for Part {
     ghost use Rattle.std.specs.Coded.{codes};
     ghost use Rattle.cel_terms.specs.contracts.Formula as formula;
     ghost use Rattle.all_or_none.specs.Phases.{Phase};
-    ghost use Rattle.query_part.specs.Parts.{kept_of, ready_of, CanEnd, IsMade, MayBePatient, MayBeWhole, MayFloat};
+    ghost use Rattle.query_part.specs.Parts.{kept_of, ready_of, CanEnd, IsMade, AreFirst, MayBePatient, MayBeWhole};
 
     ghost Value = { Phase };
 
@@ -97,15 +97,14 @@ impl Model for Part {
     ghost view = { λ p. record {
       schema = p.schema.value;
       query = p.query;
-      kept = kept_of p.step p.ready p.sizes p.matches p.clock.last p.here;
-      ready = ready_of p.step p.ready p.matches p.clock.last p.here;
+      kept = kept_of p.step p.ready p.sizes p.matches p.here;
+      ready = ready_of p.step p.ready p.matches p.here;
       upto = p.upto;
-      floats = p.floats;
     } };
 
     ghost invariant = { λ p. IsMade p.schema.value p.query p.types.items p.keys.items
         p.clock.source p.no_leaves p.matches × CanEnd p.step p.ready p.sizes p.matches
-        × MayFloat p.schema.value p.query p.clock.source p.types.items p.floats
+        × AreFirst p.query p.first
         × MayBePatient p.query p.patient
         × MayBeWhole p.schema.value p.keys.items p.whole };
 }
@@ -122,10 +121,8 @@ fn joined(
     requires keys { AreKeyPlaces schema.value query reading.keys.items }
     requires clock { IsOf schema.value query.window reading.clock.source }
     requires clocks { HaveClocks schema.value query reading.clock.source }
-    requires blank { reading.clock.last ≡ None }
-    requires floats { MayFloat schema.value query reading.clock.source reading.types.items
-        reading.floats }
     requires machine { IsMachineOf query machine.no_leaves machine.matches }
+    requires first { AreFirst query machine.first }
     requires patient { MayBePatient query machine.patient }
     requires whole { MayBeWhole schema.value reading.keys.items reading.whole }
     ensures given { (result.schema ≡ schema.value) × (result.query ≡ query) }
@@ -137,7 +134,6 @@ fn joined(
     let sizes = machine.matches.sizes();
     Part {
         alloc,
-        floats: reading.floats,
         patient: machine.patient,
         whole: reading.whole,
         types: reading.types,
@@ -146,6 +142,7 @@ fn joined(
         here: None,
         clock: reading.clock,
         no_leaves: machine.no_leaves,
+        first: machine.first,
         keys: reading.keys,
         matches: machine.matches,
         ready: None,
@@ -197,36 +194,32 @@ impl Part {
         self.matches.len()
     }
 
-    /// How the clock would fall with the event as the next one, if it would. A position does not.
-    pub fn test(&self, event: &Event, position: Pos) -> Option<TimeBack>
-        requires of_schema { IsOfSchema self.now.schema event.now }
-        requires idle { IsIdle self.now }
-        ensures falls { IfSome result (λ f. (events : List EventData) → length events ≡ position
-            → StandsAt events (seen position self.now) → FallsBack self.now.schema self.now.query
-            events event.now f.before f.now) }
-        ensures in_time { IfNone result ((events : List EventData) → length events ≡ position
-            → StandsAt events (seen position self.now)
-            → InTime events event.now (seen position self.now)) }
+    /// Whether both, which are of one schema, are known to read the same types, and each event to have the
+    /// same clock for both.
+    pub fn shares_clock(&self, other: &Part) -> bool
+        requires schema { other.now.schema ≡ self.now.schema }
+        ensures { result ≡ true → ShareClock self.now.schema self.now.query other.now.query }
     {
-        if self.floats {
-            return None;
-        }
-        if !is_read(self.types.as_slice(), event.ty) {
-            return None;
-        }
-        match self.clock.test(event, position) {
-            Ok(_) => None,
-            Err(back) => Some(back),
-        }
+        self.schema.as_ref().well_declared();
+        same_types(self.types.as_slice(), other.types.as_slice())
+            && self.clock.reads_as(&other.clock)
+    }
+
+    /// Whether it reads the events of the type.
+    pub fn reads(&self, ty: TypeId) -> bool
+        requires { ty < length self.now.schema.types }
+        ensures { result ≡ reads_type self.now.schema self.now.query ty }
+    {
+        is_read(self.types.as_slice(), ty)
     }
 
     /// Whether a cursor that is opened after so many events may give an answer: whether the last one
     /// did not pass the part by, and some state of the lists of its key accepts. It takes no step.
     pub fn may_answer(&self, count: Pos) -> bool
         requires idle { IsIdle self.now }
-        requires events { HasEvents (seen count self.now) }
-        requires quiet { IsQuiet count (seen count self.now) }
-        ensures none { result ≡ false → roots_at self.now.query (seen count self.now).kept ≡ [] }
+        requires events { HasEvents (dormant_at count self.now) }
+        requires quiet { IsQuiet count (dormant_at count self.now) }
+        ensures none { result ≡ false → roots_at self.now.query (dormant_at count self.now).kept ≡ [] }
     {
         if self.upto != count {
             return false;
@@ -234,28 +227,29 @@ impl Part {
         self.matches.may_list(self.here)
     }
 
-    /// A cursor with the query's number on the answers at the last of so many events.
+    /// A cursor with the query's number on the answers at the last of so many events, whose last clock
+    /// this one has.
     pub fn cursor<L: Ledger>(
         &self,
         count: Pos,
         number: u64,
+        clock: &Clock,
         steps: &mut Steps<L>,
     ) -> Result<Cursor, Memory>
         requires idle { IsIdle self.now }
-        requires events { HasEvents (seen count self.now) }
-        requires quiet { IsQuiet count (seen count self.now) }
+        requires events { HasEvents (dormant_at count self.now) }
+        requires quiet { IsQuiet count (dormant_at count self.now) }
         ensures rest { IfOk result (λ c. rest c self.now.kept.nodes
-            ≡ recent_of (low_at self.now.query (seen count self.now).kept.clock)
-            self.now.kept.nodes (roots_at self.now.query (seen count self.now).kept)) }
+            ≡ recent_of (low_at self.now.query clock.now.last) self.now.kept.nodes (roots_at self.now.query (dormant_at count self.now).kept)) }
         ensures fits { IfOk result (λ c. Fits c self.now.kept.nodes) }
         ensures begun { IfOk result (λ c. (c.query ≡ number) × (c.path ≡ [])) }
         ensures steps { steps.new ≤ steps.old + part_bound self.now.kept }
     {
+        let low = self.clock.low_after(clock);
         if self.upto != count {
-            return self.matches.cursor(None, number, self.clock.low(), steps);
+            return self.matches.cursor(None, number, low, steps);
         }
-        self.matches
-            .cursor(self.here, number, self.clock.low(), steps)
+        self.matches.cursor(self.here, number, low, steps)
     }
 
     /// The cursor's next answer, which is of this part.
@@ -278,7 +272,7 @@ impl Part {
         self.matches.next(cursor, steps)
     }
 
-    /// Notes what the clock and the last key are after so many events.
+    /// Notes what the last key is after so many events.
     pub fn settle(&mut self, count: Pos)
         requires idle { IsIdle self.old }
         ensures { self.new ≡ woken count self.old }
@@ -287,33 +281,21 @@ impl Part {
         if self.upto == count {
             return;
         }
-        if self.floats {
-            self.clock.set(i128::from(count.saturating_sub(1)));
-        }
-        self.here = None;
-        self.upto = count;
-    }
-
-    /// Takes the last of so many events as ones that are not read: the clock stays, and the last has
-    /// no key. What it was before them was settled.
-    pub fn skip(&mut self, count: Pos)
-        requires idle { IsIdle self.old }
-        ensures { self.new ≡ skipped count self.old }
-    {
-        self.step = None;
         self.here = None;
         self.upto = count;
     }
 
     /// Keeps of the nodes what the lists and the part's cursors, those with its number, need from
-    /// its low clock and their own on. It stands for the same events as before, and each of these
-    /// cursors has the same answers left; the others are not touched. Keys without a list are given up
-    /// then, but for one at most. The room is for as many nodes as there are. It takes no memory. The
-    /// last event did not pass the part by, or it was settled. No state stood twice in a key's lists.
+    /// the low clock and their own on, where the events have the last clock of this one. It stands for
+    /// the same such events as before, and each of these cursors has the same answers left; the others are
+    /// not touched. Keys without a list are given up then, but for one at most. The room is for as many
+    /// nodes as there are. It takes no memory. The last event did not pass the part by, or it was settled.
+    /// No state stood twice in a key's lists.
     pub fn compact<C: HasCursor, L: Ledger>(
         &mut self,
         number: u64,
         cursors: &mut [C],
+        clock: &Clock,
         room: &mut Room,
         steps: &mut Steps<L>,
     )
@@ -325,9 +307,9 @@ impl Part {
         ensures same { (self.new.schema ≡ self.old.schema) × (self.new.query ≡ self.old.query) }
         ensures idle { IsIdle self.new }
         ensures upto { self.new.upto ≡ self.old.upto }
-        ensures stands { (events : List EventData) → StandsAt events self.old
-            → StandsAt events self.new }
-        ensures compacted { PartCompacted number (low_at self.old.query self.old.kept.clock)
+        ensures stands { (events : List EventData) → StandsWith clock.now.last events self.old
+            → StandsWith clock.now.last events self.new }
+        ensures compacted { PartCompacted number (low_at self.old.query clock.now.last)
             self.old.kept self.new.kept (map C.walk cursors.old) (map C.walk cursors.new) }
         ensures fewer { length self.new.kept.nodes ≤ length self.old.kept.nodes }
         ensures room { room.new ≡ room.old }
@@ -336,7 +318,7 @@ impl Part {
             ≤ steps.old + 8 * length self.old.kept.nodes + 4 * places self.old.kept.rows }
     {
         self.step = None;
-        let low = self.clock.low();
+        let low = self.clock.low_after(clock);
         self.matches.compact(number, cursors, low, room, steps);
         self.here = self.matches.give_up(self.here);
     }
@@ -364,10 +346,10 @@ fn start_clock(clock: i128) -> Result<Time, Memory>
 }
 
 impl Keeps for Part {
-    ghost phase = { λ n p. seen n p };
+    ghost phase = { λ n p. dormant_at n p };
 
     fn rests(&self) -> bool {
-        self.floats && self.matches.lets_pass(self.patient)
+        self.matches.lets_pass(self.patient)
     }
 
     fn prepare<L: Ledger>(
@@ -378,19 +360,27 @@ impl Keeps for Part {
         leaves: &Bits,
         steps: &mut Steps<L>,
     ) -> Result<bool, Memory> {
-        if !may_read(self.floats, self.types.as_slice(), event.ty) {
+        if !is_read(self.types.as_slice(), event.ty) {
             if self.upto <= position {
                 return Ok(true);
             }
-            self.step = Some(Step::Unread);
+            self.step = Some(Step::NoChange);
             return Ok(false);
         }
         let bits = leaves_for(reads, leaves, &self.no_leaves);
         let table = self.keys.as_slice();
         let (alloc, whole, patient) = (self.alloc, self.whole, self.patient);
-        let own = look(&self.matches, table, whole, event, bits, patient);
+        let own = look(
+            &self.matches,
+            table,
+            whole,
+            event,
+            &self.first,
+            bits,
+            patient,
+        );
         if let Own::Passes = own {
-            if self.floats && self.upto <= position {
+            if self.upto <= position {
                 return Ok(true);
             }
         }
@@ -403,16 +393,30 @@ impl Keeps for Part {
         let matches = &mut self.matches;
         let sizes = &mut self.sizes;
         match advance_own(
-            own, matches, sizes, alloc, table, event, bits, patient, stamp, low, steps,
+            own,
+            matches,
+            sizes,
+            alloc,
+            table,
+            event,
+            &self.first,
+            bits,
+            patient,
+            stamp,
+            low,
+            steps,
         ) {
             Err(refused) => Err(refused),
             Ok(None) => {
-                self.step = Some(Step::NoChange(clock));
+                if self.upto <= position {
+                    return Ok(true);
+                }
+                self.step = Some(Step::NoChange);
                 Ok(false)
             }
             Ok(Some(ready)) => {
                 self.ready = Some(ready);
-                self.step = Some(Step::Keyed(clock));
+                self.step = Some(Step::Keyed);
                 Ok(false)
             }
         }
@@ -421,20 +425,14 @@ impl Keeps for Part {
     fn commit(&mut self, _event: &Event, position: Pos) {
         match self.step.take() {
             None => {}
-            Some(Step::Unread) => {
+            Some(Step::NoChange) => {
                 self.upto = position + 1;
                 self.here = None;
             }
-            Some(Step::NoChange(now)) => {
-                self.upto = position + 1;
-                self.clock.set(now);
-                self.here = None;
-            }
-            Some(Step::Keyed(now)) => match self.ready.take() {
+            Some(Step::Keyed) => match self.ready.take() {
                 None => {}
                 Some(ready) => {
                     self.upto = position + 1;
-                    self.clock.set(now);
                     self.here = Some(ready.number);
                     self.matches.put(self.patient, ready.number, ready.staged);
                 }
@@ -444,7 +442,7 @@ impl Keeps for Part {
 
     fn take_back(&mut self) {
         match self.step.take() {
-            Some(Step::Keyed(_)) => match self.ready.take() {
+            Some(Step::Keyed) => match self.ready.take() {
                 None => {}
                 Some(_) => {
                     self.matches.cut_to(self.sizes);

@@ -1,12 +1,10 @@
 //! Which events a query reads, and their keys.
 
-ghost use Rattle.std.specs.Prelude.{◌≡◌, ℕ, ℤ, pos, ◌-ℤ◌, ◌≤ℤ◌, ◌<◌, [], ◌++◌, ◌||◌, false, true, Some, None, option_map, option_and_then, take, drop, slice_get, slice_index_or, IfOk, length};
+ghost use Rattle.std.specs.Prelude.{◌≡◌, ℕ, ◌<◌, [], ◌++◌, false, true, Some, None, option_map, option_and_then, take, drop, slice_get, slice_index_or, IfOk, length};
 ghost use Rattle.std.specs.Option.{option_copied};
-ghost use Rattle.window_clock.specs.Clocks.{least};
 ghost use Rattle.query_part.specs.KeyPlaces.{places_in, values_there, key_there, AreKeyPlaces};
-ghost use Rattle.query_part.specs.Parts.{IsByPosition, HasLows};
 
-use cel_terms::{Name, Query, Window};
+use cel_terms::{Name, Query};
 use cer_base::{Listed, Memory};
 use partition_table::Key;
 use std::alloc::Global;
@@ -25,57 +23,11 @@ pub fn is_read(table: &[bool], ty: TypeId) -> bool
     }
 }
 
-/// The same, where each type of the schema is read if the clock floats.
-pub fn may_read(floats: bool, table: &[bool], ty: TypeId) -> bool
-    ensures { result ≡ (floats || slice_index_or table.now ty false) }
+/// Whether both tables mark the same types.
+pub fn same_types(one: &[bool], other: &[bool]) -> bool
+    ensures { result ≡ true → one.now ≡ other.now }
 {
-    floats || is_read(table, ty)
-}
-
-/// Whether each type of the schema is read.
-fn are_all_read(schema: &Schema, table: &[bool]) -> bool
-    ensures { result ≡ true → (ty : ℕ) → ty < length schema.now.types
-        → slice_index_or table.now ty false ≡ true }
-{
-    for ty in 0..schema.types() {
-        if !is_read(table, ty) {
-            return false;
-        }
-    }
-    true
-}
-
-/// A position less the width is a number of 128 bits. The call does nothing.
-fn has_low(width: u64)
-    ensures { (p : ℕ) → least ≤ℤ (pos p -ℤ pos width) }
-{}
-
-/// Whether a clock in the window is the position.
-fn is_by_position(window: &Window) -> bool
-    ensures clock { result ≡ true → IsByPosition window.now }
-    ensures low { result ≡ true → HasLows window.now }
-{
-    match window {
-        Window::Free => true,
-        Window::Events(width) => {
-            has_low(*width);
-            true
-        }
-        Window::Clock(_, _) => false,
-    }
-}
-
-/// Whether a clock in the window is the position, and each type of the schema is read.
-pub fn floats(schema: &Schema, window: &Window, table: &[bool]) -> bool
-    ensures clock { result ≡ true → IsByPosition window.now }
-    ensures low { result ≡ true → HasLows window.now }
-    ensures all { result ≡ true → (ty : ℕ) → ty < length schema.now.types
-        → slice_index_or table.now ty false ≡ true }
-{
-    if !is_by_position(window) {
-        return false;
-    }
-    are_all_read(schema, table)
+    one == other
 }
 
 /// The places of the attributes among those of the type, the first one's first, where it has all.

@@ -16,8 +16,12 @@ pub mod Parts
 pub mod Grown
 -- events of a key that its lists have let pass
 pub mod Passing
+-- events that begin nothing where no match is open
+pub mod Nothing
 -- what is kept of a query stands for the events with one more, where it advances
 pub mod PartSteps
+-- what is kept of a query stands for events that are not brought to it
+pub mod Dormancy
 -- the kept states are different ones, and runs lead to each
 pub mod FoundStates
 -- whether an event has a key, and whether a key is kept

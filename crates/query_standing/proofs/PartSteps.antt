@@ -1,5 +1,5 @@
 -- What is kept of a query stands for the events with one more, where it advances.
-use Rattle.std.proofs.Common.{◌≡◌, ℕ, suc, ◌<◌, ◌⊎◌, inl, inr, ℤ, ◌≤ℤ◌, List, [], ◌∷◌, ◌++◌, length, refl, sym, ap, subst, ◌∙◌, All, Contains, Option, Some, None, slice_get, append_assoc, arith}
+use Rattle.std.proofs.Common.{◌≡◌, ℕ, suc, ◌<◌, ◌⊎◌, inl, inr, ℤ, ◌≤ℤ◌, Bool, List, [], ◌∷◌, ◌++◌, length, refl, sym, ap, subst, ◌∙◌, All, Contains, Option, Some, None, slice_get, append_assoc, arith}
 use Rattle.std.specs.Prelude.{IfSome, IfNone, slice_index_or}
 use Rattle.std.proofs.Math.Path.{fun_ext}
 use Rattle.std.proofs.lemmas.Bool.{cases_lt, cases_eq}
@@ -8,6 +8,7 @@ use Rattle.std.proofs.lemmas.Option.{slice_get_within, slice_get-get_or}
 use Rattle.std.proofs.lemmas.List.Elements.{All-nil, All-weaker, All-append, All-push, Contains-append_left, Contains-push_cases}
 use Rattle.cer_base.specs.declared.node.Stamp.{Stamp}
 use Rattle.cer_base.specs.declared.node.Root.{Root}
+use Rattle.cer_base.specs.declared.node.Node.{Node}
 use Rattle.cer_base.specs.Repeats.{HasNoRepeats}
 use Rattle.stream_schema.specs.Types.{Declared}
 use Rattle.stream_schema.specs.declared.Event.{Event}
@@ -17,8 +18,10 @@ use Rattle.cel_terms.specs.Answers.{Answer, IsAnswer, HasKey, HasClock, values_a
 use Rattle.query_leaves.specs.Expand.{tree_of}
 use Rattle.cea_determinise.specs.declared.cea.StateSets.{StateSets}
 use Rattle.cea_determinise.specs.declared.cea.Cea.{Cea}
+use Rattle.cea_determinise.specs.Strict.{Standing, begin, next_standing}
 use Rattle.cea_determinise.specs.Cea.{standing_of}
 use Rattle.cea_determinise.specs.Cea as stored
+use Rattle.cea_determinise.specs.Det.{Table}
 use Rattle.cea_compile.specs.Compiled.{automaton_of}
 use Rattle.event_update.specs.Reach.{Seen}
 use Rattle.event_update.specs.Stands.{seen, Stands}
@@ -27,15 +30,17 @@ use Rattle.event_update.proofs.Before.{stand_later}
 use Rattle.event_update.proofs.Resting.{resting_stand}
 use Rattle.query_standing.specs.Bounds.{IsMet}
 use Rattle.query_standing.specs.Clocks.{Reads, HasClockAt, NeverFalls, IsLastClock, low_of}
-use Rattle.query_standing.specs.Keys.{IsSeenAs, positions, AreSeen, IsGiven}
+use Rattle.query_standing.specs.Keys.{leaves_reading, IsSeenAs, positions, AreSeen, IsGiven}
 use Rattle.query_standing.specs.Kept.{Rows, Part, low_at, KeyStands, KeyIsKept, HasStates, IsHere, HaveStarts, PartStands}
-use Rattle.query_standing.specs.Steps.{Advances, HasNoKey, OwnListsRest, LeavesLists, HasKeyOf}
-use Rattle.query_standing.proofs.Lists.{none_in_nil, got, rises}
+use Rattle.query_standing.specs.Steps.{Advances, HasNoKey, OwnListsRest, LeavesLists, BeginsNothing, HasKeyOf}
+use Rattle.query_standing.proofs.Lists.{here, none_in_nil, got, rises}
 use Rattle.query_standing.proofs.KeyCases.{has_key, kept_key, at_one_place}
 use Rattle.query_standing.proofs.Link.{no_silent_answer}
 use Rattle.query_standing.proofs.Passing.{all_front, all_below, kept_whole, seen_taken, with_passed}
 use Rattle.query_standing.proofs.Growing.{get_front, get_last, get_cases, seen_same, seen_more, all_earlier}
 use Rattle.query_standing.proofs.Grown.{stands_grown}
+use Rattle.query_standing.proofs.Nothing.{none_stand, any_low, none_in_front}
+use Rattle.query_standing.proofs.Roots.{roots_give_answers}
 use Rattle.query_standing.proofs.Parts.{clock_front, clock_cases, met_more, length_more, none_after}
 use Rattle.query_standing.proofs.Windows.{clock_is_one, low_rises}
 
@@ -76,12 +81,23 @@ module _ (schema : Declared) (q : Query) (events : List Event) (event : Event) (
     last = λ p other lo at r. (let inside = slice_get_within more p other at in let l = length_more events event in absurd (omega arith));
   }
 
-  low_le : low_at q old.clock ≤ℤ low_at q new.clock
-  low_le = subst (λ c. low_at q old.clock ≤ℤ low_at q c) (sym v.clock) (go old.clock v.in_time)
+  -- before any event that is read nothing is seen
+  blank : (key : List Value) (xs : List Seen) → AreSeen schema q events key xs → old.clock ≡ None → xs ≡ []
+  blank key [] are none = refl
+  blank key (y ∷ ys) are none =
+      let h = (are.exact y.stamp.pos).0 (here y.stamp.pos (positions ys)) in
+      absurd (subst (λ c. IfNone c ((p : ℕ) (other : Event) → slice_get events p ≡ Some other → Reads schema q other → ⊥)) none s.unread y.stamp.pos h.event h.at h.has.0)
+
+  blank_front : (key : List Value) (k : List Seen) (l : List Seen) → AreSeen schema q events key (k ++ l) → old.clock ≡ None → k ≡ []
+  blank_front key k l are none = none_in_front k l (blank key (k ++ l) are none)
+
+  -- what stands does from the later clock on
+  relow : (t : Table) (xs : List Seen) (nodes : List Node) (rows : Rows) → (old.clock ≡ None → xs ≡ []) → Stands t (low_at q old.clock) xs nodes rows → Stands t (low_at q new.clock) xs nodes rows
+  relow t xs nodes rows none st = go old.clock refl v.in_time
     where
-      go : (c : Option ℤ) → IfSome c (λ before. before ≤ℤ now) → low_at q c ≤ℤ low_of q.window now
-      go (Some before) le = low_rises q.window before now le
-      go None le = v.fits
+      go : (c : Option ℤ) → old.clock ≡ c → IfSome c (λ before. before ≤ℤ now) → Stands t (low_at q new.clock) xs nodes rows
+      go (Some before) e le = stand_later t (low_at q old.clock) (low_at q new.clock) xs nodes rows (subst (λ c. low_at q old.clock ≤ℤ low_at q c) (sym v.clock) (subst (λ c. low_at q c ≤ℤ low_of q.window now) (sym e) (low_rises q.window before now le))) st
+      go None e le = subst (λ ys. Stands t (low_at q new.clock) ys nodes rows) (sym (none e)) (any_low t (low_at q old.clock) (low_at q new.clock) nodes rows (subst (λ ys. Stands t (low_at q old.clock) ys nodes rows) (none e) st))
 
   states : HasStates schema q more new.table
   states = record {
@@ -99,8 +115,8 @@ module _ (schema : Declared) (q : Query) (events : List Event) (event : Event) (
   ]
 
   -- what stands still does in more nodes, with more states, and from the later clock on
-  grown : (xs : List Seen) (rows : Rows) → Stands old.table (low_at q old.clock) xs old.nodes rows → Stands new.table (low_at q new.clock) xs new.nodes rows
-  grown xs rows st = stand_later new.table (low_at q old.clock) (low_at q new.clock) xs new.nodes rows low_le
+  grown : (xs : List Seen) (rows : Rows) → (old.clock ≡ None → xs ≡ []) → Stands old.table (low_at q old.clock) xs old.nodes rows → Stands new.table (low_at q new.clock) xs new.nodes rows
+  grown xs rows none st = relow new.table xs new.nodes rows none
       (subst (λ c. Stands (record { cea = c; states = new.table.states; classes = new.table.classes; transitions = new.table.transitions }) (low_at q old.clock) xs new.nodes rows) (sym v.extends.cea)
       (subst (λ ps. Stands (record { cea = old.table.cea; states = ps; classes = new.table.classes; transitions = new.table.transitions }) (low_at q old.clock) xs new.nodes rows) (sym v.extends.states)
       (subst (λ ns. Stands (record { cea = old.table.cea; states = old.table.states ++ v.extends.more_states; classes = new.table.classes; transitions = new.table.transitions }) (low_at q old.clock) xs ns rows) (sym v.extends.nodes) one)))
@@ -113,7 +129,7 @@ module _ (schema : Declared) (q : Query) (events : List Event) (event : Event) (
   other_key key rows other k = record {
     seen = k.seen;
     are_seen = seen_same schema q events event key k.seen k.are_seen other;
-    stands = grown k.seen rows k.stands;
+    stands = grown k.seen rows (blank key k.seen k.are_seen) k.stands;
   }
 
   other_kept : (key : List Value) (rows : Rows) → (HasKey schema q event key → ⊥) → KeyIsKept schema q events old key rows → KeyIsKept schema q more new key rows
@@ -123,7 +139,7 @@ module _ (schema : Declared) (q : Query) (events : List Event) (event : Event) (
     are_seen = seen_same schema q events event key (k.taken ++ k.passed) k.are_seen other;
     silent = k.silent;
     patient = k.patient;
-    stands = grown k.taken rows k.stands;
+    stands = grown k.taken rows (blank_front key k.taken k.passed k.are_seen) k.stands;
   }
 
   clock_part : IfSome new.clock (IsLastClock schema q more)
@@ -191,7 +207,7 @@ module _ (schema : Declared) (q : Query) (events : List Event) (event : Event) (
     own key rows xs has rest are stands = record {
       seen = xs ++ x ∷ [];
       are_seen = seen_more schema q events event key xs x are has refl tells;
-      stands = grown (xs ++ x ∷ []) rows (resting_stand old.table (low_at q old.clock) xs stamp [] old.nodes rows (λ n. refl) rest (all_below (length events) xs (all_earlier schema q events key xs are)) stands);
+      stands = resting_stand new.table (low_at q new.clock) xs stamp [] new.nodes rows (λ n. refl) (subst (λ (t : Table). Rest t rows) (sym h.table) rest) (all_below (length events) xs (all_earlier schema q events key xs are)) (grown xs rows (blank key xs are) stands);
     }
 
     after : (key : List Value) (rows : Rows) → Rest old.table rows → KeyStands schema q events old key rows → KeyStands schema q more new key rows
@@ -208,7 +224,7 @@ module _ (schema : Declared) (q : Query) (events : List Event) (event : Event) (
       are_seen = subst (AreSeen schema q more key) (append_assoc k.taken k.passed (x ∷ [])) (seen_more schema q events event key (k.taken ++ k.passed) x k.are_seen has refl tells);
       silent = All-push IsSilent k.passed x k.silent (λ n. refl);
       patient = inr patient;
-      stands = grown k.taken rows k.stands;
+      stands = grown k.taken rows (blank_front key k.taken k.passed k.are_seen) k.stands;
     }
 
     own_kept : (n : ℕ) (key : List Value) (rows : Rows) → HasKey schema q event key → slice_get old.keys n ≡ Some key → slice_get old.rows n ≡ Some rows → IsPatient (automaton_of (tree_of q)) q.strict ⊎ OwnListsRest schema q event old → (k : KeyIsKept schema q events old key rows) → (k.passed ≡ []) ⊎ IsPatient (automaton_of (tree_of q)) q.strict → KeyIsKept schema q more new key rows
@@ -248,6 +264,95 @@ module _ (schema : Declared) (q : Query) (events : List Event) (event : Event) (
           | inr fresh ↦ let k = s.keys.others key fresh in none_at key k.seen (v.reads, e) k.are_seen end answer ends is
         ]
 
+  -- An event that begins nothing, with no match open of its key, leaves all lists as they are.
+  pub part_begins_none : BeginsNothing schema q event old new → PartStands schema q more new
+  part_begins_none h = record {
+    states = states;
+    nodes = v.well_formed;
+    starts = starts;
+    never_falls = never_falls;
+    clock = clock_part;
+    unread = unread_part;
+    keys = record {
+      distinct = subst HasNoRepeats (sym h.keys) s.keys.distinct;
+      others = λ key fresh. after key (s.keys.others key (λ c. fresh (subst (λ ks. Contains ks key) (sym h.keys) c)));
+      lists = ap length h.rows ∙ (s.keys.lists ∙ ap length (sym h.keys));
+    };
+    here = subst (IsHere schema q more new.keys) (sym h.here) (λ end answer ends is. (let l = length_more events event in no_answers end answer (omega arith) is));
+    each = λ n key rows at lists. (
+        let was = subst (λ ks. slice_get ks n ≡ Some key) h.keys at in
+        let were = subst (λ rs. slice_get rs n ≡ Some rows) h.rows lists in
+        after_kept n key rows was were (s.each n key rows was were)
+        );
+    last = λ n key rows is at lists. (let none = sym h.here ∙ is in absurd cc);
+  } where
+    x : Seen
+    x = record { stamp = record { pos = length events; clock = now }; bits = leaves_reading schema q event }
+
+    tells : IsSeenAs schema q event x
+    tells = record { clock = v.now_is; bits = refl }
+
+    begins : (t : Standing) (mark : Bool) → next_standing (stored.automaton_of_cea new.table.cea) new.table.cea.strict begin x.bits mark ≡ Some t → ⊥
+    begins = subst (λ a. (t : Standing) (mark : Bool) → next_standing a new.table.cea.strict begin x.bits mark ≡ Some t → ⊥) (sym states.automaton)
+        (subst (λ b. (t : Standing) (mark : Bool) → next_standing (automaton_of (tree_of q)) b begin x.bits mark ≡ Some t → ⊥) (sym states.strict) h.begins)
+
+    own : (key : List Value) (xs : List Seen) → HasKey schema q event key → AreSeen schema q events key xs → Stands new.table (low_at q new.clock) (xs ++ x ∷ []) new.nodes [] → KeyStands schema q more new key []
+    own key xs has are stands = record {
+      seen = xs ++ x ∷ [];
+      are_seen = seen_more schema q events event key xs x are has refl tells;
+      stands = stands;
+    }
+
+    own_new : (key : List Value) → HasKey schema q event key → KeyStands schema q events old key [] → KeyStands schema q more new key []
+    own_new key has k = own key k.seen has k.are_seen (none_stand new.table (low_at q new.clock) k.seen x new.nodes begins (all_below (length events) k.seen (all_earlier schema q events key k.seen k.are_seen)) (grown k.seen [] (blank key k.seen k.are_seen) k.stands))
+
+    own_old : (key : List Value) → HasKey schema q event key → KeyIsKept schema q events old key [] → KeyStands schema q more new key []
+    own_old key has k =
+        let xs = k.taken ++ k.passed in
+        let before = all_below (length events) xs (all_earlier schema q events key xs k.are_seen) in
+        own key xs has k.are_seen (with_passed new.table (automaton_of (tree_of q)) q.strict (low_at q new.clock) k.taken k.passed x new.nodes [] states.automaton states.strict k.patient k.silent (rises (positions xs) k.are_seen.ascending) before (none_stand new.table (low_at q new.clock) k.taken x new.nodes begins (all_front (λ (y : Seen). y.stamp.pos < length events) k.taken k.passed before) (grown k.taken [] (blank_front key k.taken k.passed k.are_seen) k.stands)))
+
+    after : (key : List Value) → KeyStands schema q events old key [] → KeyStands schema q more new key []
+    after key k = elim (has_key schema q event key v.reads) [
+      | inl has ↦ own_new key has k
+      | inr other ↦ other_key key [] other k
+    ]
+
+    after_kept : (n : ℕ) (key : List Value) (rows : Rows) → slice_get old.keys n ≡ Some key → slice_get old.rows n ≡ Some rows → KeyIsKept schema q events old key rows → KeyIsKept schema q more new key rows
+    after_kept n key rows was were k = elim (has_key schema q event key v.reads) [
+      | inl has ↦
+          let none = h.empty key n rows has was were in
+          kept_whole schema q more new key rows (subst (KeyStands schema q more new key) (sym none) (own_old key has (subst (KeyIsKept schema q events old key) none k)))
+      | inr other ↦ other_kept key rows other k
+    ]
+
+    none_at : (key : List Value) → HasKey schema q event key → KeyStands schema q more new key [] → (end : ℕ) (answer : Answer) → end ≡ length events → IsAnswer schema q more end answer → ⊥
+    none_at key has k end answer ends is =
+        let l = length_more events event in
+        let at_end : slice_get more end ≡ Some event = subst (λ i. slice_get more i ≡ Some event) (sym ends) (get_last events event) in
+        let given : IsGiven schema q more end key now k.seen = record { seen = k.are_seen; last = event; last_is = at_end; has = has; clock = subst (λ i. HasClock schema q.window event i now) (sym ends) v.now_is; ends = omega arith } in
+        let are = roots_give_answers schema q more end key now k.seen given new.table (low_at q new.clock) new.nodes [] (ap (low_at q) v.clock) states.automaton states.strict k.stands in
+        none_in_nil answer (are.all answer is)
+
+    no_answers : (end : ℕ) (answer : Answer) → end ≡ length events → IsAnswer schema q more end answer → ⊥
+    no_answers end answer ends is = go (values_at schema q.partition event) refl
+      where
+        go : (o : Option (List Value)) → values_at schema q.partition event ≡ o → ⊥
+        go None e =
+            let l = length_more events event in
+            none_after schema q events event (λ key has. (let both = sym e ∙ has.1 in absurd cc)) end answer (omega arith) is
+        go (Some key) e = elim (kept_key key old.keys) [
+          | inl there ↦ (
+              let inside = slice_get_within old.keys there.0 key there.1 in
+              let count = s.keys.lists in
+              let within : there.0 < length old.rows = omega arith in
+              let were = slice_get-get_or old.rows there.0 [] within in
+              let none = h.empty key there.0 (slice_index_or old.rows there.0 []) (v.reads, e) there.1 were in
+              none_at key (v.reads, e) (own_old key (v.reads, e) (subst (KeyIsKept schema q events old key) none (s.each there.0 key (slice_index_or old.rows there.0 []) there.1 were))) end answer ends is
+              )
+          | inr fresh ↦ none_at key (v.reads, e) (own_new key (v.reads, e) (s.keys.others key fresh)) end answer ends is
+        ]
+
   -- An event with a known key changes the lists of that key alone, which then stand for one event more.
   pub part_keyed : HasKeyOf schema q events event now old new → PartStands schema q more new
   part_keyed h = record {
@@ -278,7 +383,7 @@ module _ (schema : Declared) (q : Query) (events : List Event) (event : Event) (
         let xs = k.taken ++ k.passed in
         let before = all_below (length events) xs (all_earlier schema q events h.key xs k.are_seen) in
         let at = ap (λ (x : Stamp). x.pos) h.stamp in
-        let stand = with_passed new.table (automaton_of (tree_of q)) q.strict (low_at q new.clock) k.taken k.passed h.seen new.nodes h.after states.automaton states.strict k.patient k.silent (rises (positions xs) k.are_seen.ascending) (subst (λ n. All (λ (x : Seen). x.stamp.pos < n) xs) (sym at) before) (h.stands k.taken (all_front (λ (x : Seen). x.stamp.pos < length events) k.taken k.passed before) (stand_later old.table (low_at q old.clock) (low_at q new.clock) k.taken old.nodes h.before low_le k.stands)) in
+        let stand = with_passed new.table (automaton_of (tree_of q)) q.strict (low_at q new.clock) k.taken k.passed h.seen new.nodes h.after states.automaton states.strict k.patient k.silent (rises (positions xs) k.are_seen.ascending) (subst (λ n. All (λ (x : Seen). x.stamp.pos < n) xs) (sym at) before) (h.stands k.taken (all_front (λ (x : Seen). x.stamp.pos < length events) k.taken k.passed before) (relow old.table k.taken old.nodes h.before (blank_front h.key k.taken k.passed k.are_seen) k.stands)) in
         record {
           seen = xs ++ h.seen ∷ [];
           are_seen = seen_more schema q events event h.key xs h.seen k.are_seen h.has at h.tells;

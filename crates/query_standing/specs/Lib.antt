@@ -6,3 +6,4 @@ pub mod Kept
 pub mod Laws
 pub mod Steps
 pub mod Giving
+pub mod Dormancy

@@ -1,5 +1,5 @@
 -- What happens to what is kept of a query when an event comes that it reads.
-use Rattle.std.specs.Prelude.{◌≡◌, ◌≢◌, ℕ, ◌⊎◌, ◌<◌, ℤ, ◌≤ℤ◌, false, List, [], ◌∷◌, ◌++◌, length, All, Contains, Some, None, slice_get, IfSome}
+use Rattle.std.specs.Prelude.{◌≡◌, ◌≢◌, ℕ, ◌⊎◌, ◌<◌, ℤ, ◌≤ℤ◌, Bool, false, List, [], ◌∷◌, ◌++◌, length, All, Contains, Some, None, slice_get, IfSome}
 use Rattle.std.specs.List.{IsDistinct}
 use Rattle.stream_schema.specs.Types.{Declared}
 use Rattle.stream_schema.specs.declared.Event.{Event}
@@ -9,6 +9,7 @@ use Rattle.cel_terms.specs.Answers.{HasKey, HasClock}
 use Rattle.cer_base.specs.declared.node.Stamp.{Stamp}
 use Rattle.cer_base.specs.declared.node.Node.TheVariants.{Bottom}
 use Rattle.cer_base.specs.Nodes.{WellFormed}
+use Rattle.cea_determinise.specs.Strict.{Standing, begin, next_standing}
 use Rattle.cea_determinise.specs.Cea.{standing_of, HasLeavesBelow}
 use Rattle.cea_determinise.specs.Keys.{are_same_sets}
 use Rattle.cea_compile.specs.Compiled.{automaton_of}
@@ -25,7 +26,6 @@ use Rattle.query_standing.specs.Kept.{Rows, Part, low_at, Extends}
 pub record Advances (schema : Declared) (q : Query) (events : List Event) (event : Event) (now : ℤ) (old new : Part) : Type 0 where
   pub reads : Reads schema q event
   pub now_is : HasClock schema q.window event (length events) now
-  pub fits : least ≤ℤ low_of q.window now
   pub in_time : IfSome old.clock (λ before. before ≤ℤ now)
   pub clock : new.clock ≡ Some now
   pub extends : Extends old new
@@ -50,6 +50,15 @@ OwnListsRest schema q event old = (key : List Value) (number : ℕ) (rows : Rows
 pub record LeavesLists (schema : Declared) (q : Query) (event : Event) (old new : Part) : Type 0 where
   pub unread : (k : ℕ) → leaves_reading schema q event k ≡ false
   pub rests : IsPatient (automaton_of (tree_of q)) q.strict ⊎ OwnListsRest schema q event old
+  pub table : new.table ≡ old.table
+  pub keys : new.keys ≡ old.keys
+  pub rows : new.rows ≡ old.rows
+  pub here : new.here ≡ None
+
+-- Leaves of the query may read the event, but it begins no match, and no match is open of its key, whether that is kept or not: no list changes, and there is no answer.
+pub record BeginsNothing (schema : Declared) (q : Query) (event : Event) (old new : Part) : Type 0 where
+  pub begins : (s : Standing) (mark : Bool) → next_standing (automaton_of (tree_of q)) q.strict begin (leaves_reading schema q event) mark ≡ Some s → ⊥
+  pub empty : (key : List Value) (number : ℕ) (rows : Rows) → HasKey schema q event key → slice_get old.keys number ≡ Some key → slice_get old.rows number ≡ Some rows → rows ≡ []
   pub table : new.table ≡ old.table
   pub keys : new.keys ≡ old.keys
   pub rows : new.rows ≡ old.rows

@@ -2,6 +2,7 @@
 //! contract is the law.
 
 ghost use Rattle.query_standing.specs.Laws.{HeldAreAnswers, NodesGiveAnswers, NoKeyNoAnswer, OthersLeaveAKey, OneOfAKeyComesLast, LowNeverFalls, HoldsLater, HoldsWithoutDropped, LaterAnswersStartLate, KeptGivesAnswers, KeptEngineGivesAnswers, KeptPassesUnread, KeptSkips, KeptPassesWithoutKey, KeptPassesResting, KeptAdvances, KeptTakesAKey, KeptGivesUpKeys, StatesAreMet};
+ghost use Rattle.query_standing.specs.Dormancy.{GreatestIsLast, DormantStands, NoOpStands, ClockIsGiven, ClockGoesOn, OnlyFirstBegin, ClockIsOfEvents, LastClockIsShared, FallIsShared, FirstHeadFallsFirst, NoHeadNoneFalls};
 ghost use Rattle.query_standing.specs.Giving.{NoneIsGivenUp, MoreAreGivenUp, OneIsGivenUp};
 
 /// The recent open matches of accepting states are exactly the answers at the last event of their
@@ -42,6 +43,22 @@ pub fn kept_stands()
     ensures keyed { KeptAdvances }
     ensures new_key { KeptTakesAKey }
     ensures states { StatesAreMet }
+{}
+
+/// What is kept of a query stands for events that are not brought to it, with the clock that queries
+/// share.
+pub fn dormant_stands()
+    ensures dormant { DormantStands }
+    ensures no_op { NoOpStands }
+    ensures given { ClockIsGiven }
+    ensures goes_on { ClockGoesOn }
+    ensures greatest { GreatestIsLast }
+    ensures begins { OnlyFirstBegin }
+    ensures one { ClockIsOfEvents }
+    ensures last { LastClockIsShared }
+    ensures falls { FallIsShared }
+    ensures first { FirstHeadFallsFirst }
+    ensures none { NoHeadNoneFalls }
 {}
 
 /// Keys without lists may be given up.

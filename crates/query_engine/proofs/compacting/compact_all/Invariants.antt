@@ -1,20 +1,21 @@
-use Rattle.std.proofs.Common.{◌≡◌, ◌+◌, ◌≤◌, ℕ, List, length, map, take, drop}
+use Rattle.std.proofs.Common.{◌≡◌, ◌+◌, ◌≤◌, ℕ, ℤ, List, Option, length, map, take, drop}
 use Rattle.std.specs.Prelude.{sum_by}
 use Rattle.std.specs.List.{AllZip}
 use Rattle.tecs_enumerate.specs.Rest.{CursorState}
 use Rattle.all_or_none.specs.Phases.{Phase}
+use Rattle.query_engine.specs.Times.{clocks_in, with_clocks}
 use Rattle.query_engine.specs.Compacting.{IsCompacted, AreTrimmed, AreCarried, cost}
 use Rattle.query_engine.proofs.compacting.compact_all.Given as goal
 
--- The first k parts are compacted, and the cursors carried over.
-pub record Compacts (old cur : List Phase) (ws vs : List CursorState) (k room now_room before now : ℕ) : Type 0 where
-  pub done : AllZip IsCompacted (map (λ p. p) (take k old)) (map (λ p. p) (take k cur))
+-- The first k parts, with their clocks, are compacted, and the cursors carried over.
+pub record Compacts (clocks : List (Option ℤ)) (old cur : List Phase) (ws vs : List CursorState) (k room now_room before now : ℕ) : Type 0 where
+  pub done : AllZip IsCompacted (map (λ p. p) (take k (with_clocks old clocks))) (map (λ p. p) (take k (with_clocks cur clocks)))
   pub left : drop k cur ≡ drop k old
-  pub held : AreCarried k old cur ws vs
+  pub held : AreCarried k (with_clocks old clocks) (with_clocks cur clocks) ws vs
   pub same_room : now_room ≡ room
-  pub trimmed : AreTrimmed k vs cur
+  pub trimmed : AreTrimmed k vs (with_clocks cur clocks)
   pub few : k ≤ length old
-  pub paid : now ≤ before + sum_by cost (take k old)
+  pub paid : now ≤ before + sum_by cost (take k (with_clocks old clocks))
 
 abbrev pub invariant-loop-k : goal.invariant-loop-k
-invariant-loop-k g l = Compacts l.fn.parts l.parts l.fn.held l.held l.k l.fn.room l.room l.fn.steps l.steps
+invariant-loop-k g l = Compacts (clocks_in l.times) l.fn.parts l.parts l.fn.held l.held l.k l.fn.room l.room l.fn.steps l.steps

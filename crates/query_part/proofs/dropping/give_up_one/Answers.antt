@@ -1,4 +1,4 @@
-use Rattle.std.proofs.Common.{◌≡◌, ◌∙◌, ◌-◌, [], Some, slice_get, subst, sym, ap, refl, length, arith}
+use Rattle.std.proofs.Common.{◌≡◌, ◌∙◌, ◌-◌, [], Some, slice_get, subst, ap, refl, length, arith}
 use Rattle.query_standing.specs.Giving.{renumbered}
 use Rattle.query_part.specs.Dropping.{rows_of}
 use Rattle.query_part.proofs.GivenUp.{IsOne, one_given, one_count, one_kept}

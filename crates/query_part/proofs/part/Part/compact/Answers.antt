@@ -9,33 +9,33 @@ use Rattle.tecs_enumerate.specs.Rest.{CursorState, Fits}
 use Rattle.query_standing.specs.Kept.{Part}
 use Rattle.arena_compact.specs.Roots.{places}
 use Rattle.query_part.specs.Matches.{HasStatesOnce}
-use Rattle.query_part.proofs.Prepare.{idle_awake, inner_stands}
+use Rattle.query_part.proofs.Prepare.{idle_awake, inner_with, inner_stands}
 use Rattle.query_part.proofs.Giving.{low_is}
 use Rattle.query_part.proofs.Compacting.{part_lists, Left, GivenUp, part_compacted, part_stands, part_fewer}
 use Rattle.query_part.proofs.part.Part.compact.Goals as goal
 
 pub compact-requires-clause-well_formed : goal.compact-requires-clause-well_formed
 compact-requires-clause-well_formed g c =
-    let i = idle_awake c.self.inside.schema.value c.self.inside.query c.self.inside.step c.self.inside.ready c.self.inside.sizes c.self.inside.matches c.self.inside.clock.last c.self.inside.here c.self.inside.upto c.self.inside.floats c.args.self.now c.self.view_is c.requires.idle in
+    let i = idle_awake c.self.inside.schema.value c.self.inside.query c.self.inside.step c.self.inside.ready c.self.inside.sizes c.self.inside.matches c.self.inside.here c.self.inside.upto c.args.self.now c.self.view_is c.requires.idle in
     let e = c.requires.events in
-    let s = inner_stands c.self.inside.schema.value c.self.inside.query c.self.inside.matches c.self.inside.clock.last c.self.inside.here c.args.self.now i e.events e.stands in
-    s.nodes
+    let s = inner_stands c.self.inside.schema.value c.self.inside.query c.self.inside.matches c.self.inside.here c.args.self.now i e.events e.stands in
+    s.1.nodes
 
 pub compact-requires-clause-lists : goal.compact-requires-clause-lists
 compact-requires-clause-lists g c =
-    let i = idle_awake c.self.inside.schema.value c.self.inside.query c.self.inside.step c.self.inside.ready c.self.inside.sizes c.self.inside.matches c.self.inside.clock.last c.self.inside.here c.self.inside.upto c.self.inside.floats c.args.self.now c.self.view_is c.requires.idle in
+    let i = idle_awake c.self.inside.schema.value c.self.inside.query c.self.inside.step c.self.inside.ready c.self.inside.sizes c.self.inside.matches c.self.inside.here c.self.inside.upto c.args.self.now c.self.view_is c.requires.idle in
     let e = c.requires.events in
-    let s = inner_stands c.self.inside.schema.value c.self.inside.query c.self.inside.matches c.self.inside.clock.last c.self.inside.here c.args.self.now i e.events e.stands in
-    part_lists c.self.inside.schema.value c.self.inside.query e.events c.self.inside.matches c.self.inside.clock.last c.self.inside.here s
+    let s = inner_stands c.self.inside.schema.value c.self.inside.query c.self.inside.matches c.self.inside.here c.args.self.now i e.events e.stands in
+    part_lists c.self.inside.schema.value c.self.inside.query e.events c.self.inside.matches s.0 c.self.inside.here s.1
 
 pub compact-requires-clause-cursors : goal.compact-requires-clause-cursors
 compact-requires-clause-cursors g c =
-    let i = idle_awake c.self.inside.schema.value c.self.inside.query c.self.inside.step c.self.inside.ready c.self.inside.sizes c.self.inside.matches c.self.inside.clock.last c.self.inside.here c.self.inside.upto c.self.inside.floats c.args.self.now c.self.view_is c.requires.idle in
+    let i = idle_awake c.self.inside.schema.value c.self.inside.query c.self.inside.step c.self.inside.ready c.self.inside.sizes c.self.inside.matches c.self.inside.here c.self.inside.upto c.args.self.now c.self.view_is c.requires.idle in
     subst (λ (x : Part). All (λ (w : CursorState). w.query ≡ c.args.number → Fits w x.nodes) (map g.C.HasCursor.walk c.args.cursors.now)) (sym i.kept_is) c.requires.cursors
 
 pub compact-requires-clause-room : goal.compact-requires-clause-room
 compact-requires-clause-room g c =
-    let i = idle_awake c.self.inside.schema.value c.self.inside.query c.self.inside.step c.self.inside.ready c.self.inside.sizes c.self.inside.matches c.self.inside.clock.last c.self.inside.here c.self.inside.upto c.self.inside.floats c.args.self.now c.self.view_is c.requires.idle in
+    let i = idle_awake c.self.inside.schema.value c.self.inside.query c.self.inside.step c.self.inside.ready c.self.inside.sizes c.self.inside.matches c.self.inside.here c.self.inside.upto c.args.self.now c.self.view_is c.requires.idle in
     subst (λ (x : Part). length x.nodes ≤ c.args.room.now) (sym i.kept_is) c.requires.room
 
 pub invariant_of-self : goal.invariant_of-self
@@ -58,33 +58,33 @@ invariant_of-self g c =
 
 pub returns-clause-same : goal.returns-clause-same
 returns-clause-same g c =
-    let i = idle_awake c.self.inside.schema.value c.self.inside.query c.self.inside.step c.self.inside.ready c.self.inside.sizes c.self.inside.matches c.self.inside.clock.last c.self.inside.here c.self.inside.upto c.self.inside.floats c.args.self.now c.self.view_is c.requires.idle in
+    let i = idle_awake c.self.inside.schema.value c.self.inside.query c.self.inside.step c.self.inside.ready c.self.inside.sizes c.self.inside.matches c.self.inside.here c.self.inside.upto c.args.self.now c.self.view_is c.requires.idle in
     (i.schema_is, i.query_is)
 
 pub returns-clause-stands : goal.returns-clause-stands
 returns-clause-stands g c =
-    let i = idle_awake c.self.inside.schema.value c.self.inside.query c.self.inside.step c.self.inside.ready c.self.inside.sizes c.self.inside.matches c.self.inside.clock.last c.self.inside.here c.self.inside.upto c.self.inside.floats c.args.self.now c.self.view_is c.requires.idle in
-    let small : SFits w128 c.low-low.result = search rules in
-    let same : to_z w128 (of_z w128 c.low-low.result) ≡ c.low-low.result = to_z-of_z _ _ small in
-    let low = low_is c.self.inside.schema.value c.self.inside.query c.self.inside.matches c.self.inside.clock.last c.self.inside.here c.args.self.now c.self.inside.clock.source (to_z w128 (of_z w128 c.low-low.result)) i c.self.invariant.0.clock (same ∙ c.low-low.ensures.low) in
+    let i = idle_awake c.self.inside.schema.value c.self.inside.query c.self.inside.step c.self.inside.ready c.self.inside.sizes c.self.inside.matches c.self.inside.here c.self.inside.upto c.args.self.now c.self.view_is c.requires.idle in
+    let small : SFits w128 c.low_after-low.result = search rules in
+    let same : to_z w128 (of_z w128 c.low_after-low.result) ≡ c.low_after-low.result = to_z-of_z _ _ small in
+    let low = low_is c.self.inside.schema.value c.self.inside.query c.self.inside.matches c.self.inside.here c.args.self.now c.self.inside.clock.source c.args.clock.now.last (to_z w128 (of_z w128 c.low_after-low.result)) i c.self.invariant.0.clock (same ∙ c.low_after-low.ensures.low) in
     let f = g.C.HasCursor.walk in let n = length-map c.args.cursors.now f in let m = length-map c.compact.new.cursors f in
-    let left : Left c.args.number (to_z w128 (of_z w128 c.low-low.result)) c.self.inside.matches c.compact.new.self (map f c.args.cursors.now) (map f c.compact.new.cursors) = record {
+    let left : Left c.args.number (to_z w128 (of_z w128 c.low_after-low.result)) c.self.inside.matches c.compact.new.self (map f c.args.cursors.now) (map f c.compact.new.cursors) = record {
       same = c.compact.ensures.same;
       nodes = c.compact.ensures.nodes;
       lists = c.compact.ensures.lists;
       cursors = record { count = m ∙ (c.compact.ensures.count ∙ sym n); each = λ k d lt. c.compact.ensures.cursors k d (omega arith) };
     } in
     let given : GivenUp c.compact.new.self c.self.inside.here c.give_up-self-inside.new.self c.give_up-self-inside.result = record { same = c.give_up-self-inside.ensures.same; given = c.give_up-self-inside.ensures.given; have = c.give_up-self-inside.ensures.have } in
-    λ events stands. part_stands c.self.inside.schema.value c.self.inside.query c.self.inside.matches c.compact.new.self c.self.inside.clock.last c.self.inside.here c.args.self.now c.args.number (to_z w128 (of_z w128 c.low-low.result)) (map f c.args.cursors.now) (map f c.compact.new.cursors) i low left c.give_up-self-inside.new.self c.give_up-self-inside.result given events (inner_stands c.self.inside.schema.value c.self.inside.query c.self.inside.matches c.self.inside.clock.last c.self.inside.here c.args.self.now i events stands)
+    λ events stands. part_stands c.self.inside.schema.value c.self.inside.query c.self.inside.matches c.compact.new.self c.self.inside.here c.args.self.now c.args.number (to_z w128 (of_z w128 c.low_after-low.result)) c.args.clock.now.last (map f c.args.cursors.now) (map f c.compact.new.cursors) i low left c.give_up-self-inside.new.self c.give_up-self-inside.result given events (inner_with c.self.inside.schema.value c.self.inside.query c.self.inside.matches c.self.inside.here c.args.self.now i c.args.clock.now.last events stands)
 
 pub returns-clause-compacted : goal.returns-clause-compacted
 returns-clause-compacted g c =
-    let i = idle_awake c.self.inside.schema.value c.self.inside.query c.self.inside.step c.self.inside.ready c.self.inside.sizes c.self.inside.matches c.self.inside.clock.last c.self.inside.here c.self.inside.upto c.self.inside.floats c.args.self.now c.self.view_is c.requires.idle in
-    let small : SFits w128 c.low-low.result = search rules in
-    let same : to_z w128 (of_z w128 c.low-low.result) ≡ c.low-low.result = to_z-of_z _ _ small in
-    let low = low_is c.self.inside.schema.value c.self.inside.query c.self.inside.matches c.self.inside.clock.last c.self.inside.here c.args.self.now c.self.inside.clock.source (to_z w128 (of_z w128 c.low-low.result)) i c.self.invariant.0.clock (same ∙ c.low-low.ensures.low) in
+    let i = idle_awake c.self.inside.schema.value c.self.inside.query c.self.inside.step c.self.inside.ready c.self.inside.sizes c.self.inside.matches c.self.inside.here c.self.inside.upto c.args.self.now c.self.view_is c.requires.idle in
+    let small : SFits w128 c.low_after-low.result = search rules in
+    let same : to_z w128 (of_z w128 c.low_after-low.result) ≡ c.low_after-low.result = to_z-of_z _ _ small in
+    let low = low_is c.self.inside.schema.value c.self.inside.query c.self.inside.matches c.self.inside.here c.args.self.now c.self.inside.clock.source c.args.clock.now.last (to_z w128 (of_z w128 c.low_after-low.result)) i c.self.invariant.0.clock (same ∙ c.low_after-low.ensures.low) in
     let f = g.C.HasCursor.walk in let n = length-map c.args.cursors.now f in let m = length-map c.compact.new.cursors f in
-    let left : Left c.args.number (to_z w128 (of_z w128 c.low-low.result)) c.self.inside.matches c.compact.new.self (map f c.args.cursors.now) (map f c.compact.new.cursors) = record {
+    let left : Left c.args.number (to_z w128 (of_z w128 c.low_after-low.result)) c.self.inside.matches c.compact.new.self (map f c.args.cursors.now) (map f c.compact.new.cursors) = record {
       same = c.compact.ensures.same;
       nodes = c.compact.ensures.nodes;
       lists = c.compact.ensures.lists;
@@ -92,31 +92,32 @@ returns-clause-compacted g c =
     } in
     let given : GivenUp c.compact.new.self c.self.inside.here c.give_up-self-inside.new.self c.give_up-self-inside.result = record { same = c.give_up-self-inside.ensures.same; given = c.give_up-self-inside.ensures.given; have = c.give_up-self-inside.ensures.have } in
     let e = c.requires.events in
-    part_compacted c.self.inside.schema.value c.self.inside.query c.self.inside.matches c.compact.new.self c.self.inside.clock.last c.self.inside.here c.args.self.now c.args.number (to_z w128 (of_z w128 c.low-low.result)) (map f c.args.cursors.now) (map f c.compact.new.cursors) i low left c.give_up-self-inside.new.self c.give_up-self-inside.result given e.events (inner_stands c.self.inside.schema.value c.self.inside.query c.self.inside.matches c.self.inside.clock.last c.self.inside.here c.args.self.now i e.events e.stands)
+    let s = inner_stands c.self.inside.schema.value c.self.inside.query c.self.inside.matches c.self.inside.here c.args.self.now i e.events e.stands in
+    part_compacted c.self.inside.schema.value c.self.inside.query c.self.inside.matches c.compact.new.self c.self.inside.here c.args.self.now c.args.number (to_z w128 (of_z w128 c.low_after-low.result)) c.args.clock.now.last (map f c.args.cursors.now) (map f c.compact.new.cursors) i low left c.give_up-self-inside.new.self c.give_up-self-inside.result given s.0 e.events s.1
 
 pub returns-clause-fewer : goal.returns-clause-fewer
 returns-clause-fewer g c =
-    let i = idle_awake c.self.inside.schema.value c.self.inside.query c.self.inside.step c.self.inside.ready c.self.inside.sizes c.self.inside.matches c.self.inside.clock.last c.self.inside.here c.self.inside.upto c.self.inside.floats c.args.self.now c.self.view_is c.requires.idle in
-    let small : SFits w128 c.low-low.result = search rules in
-    let same : to_z w128 (of_z w128 c.low-low.result) ≡ c.low-low.result = to_z-of_z _ _ small in
-    let low = low_is c.self.inside.schema.value c.self.inside.query c.self.inside.matches c.self.inside.clock.last c.self.inside.here c.args.self.now c.self.inside.clock.source (to_z w128 (of_z w128 c.low-low.result)) i c.self.invariant.0.clock (same ∙ c.low-low.ensures.low) in
+    let i = idle_awake c.self.inside.schema.value c.self.inside.query c.self.inside.step c.self.inside.ready c.self.inside.sizes c.self.inside.matches c.self.inside.here c.self.inside.upto c.args.self.now c.self.view_is c.requires.idle in
+    let small : SFits w128 c.low_after-low.result = search rules in
+    let same : to_z w128 (of_z w128 c.low_after-low.result) ≡ c.low_after-low.result = to_z-of_z _ _ small in
+    let low = low_is c.self.inside.schema.value c.self.inside.query c.self.inside.matches c.self.inside.here c.args.self.now c.self.inside.clock.source c.args.clock.now.last (to_z w128 (of_z w128 c.low_after-low.result)) i c.self.invariant.0.clock (same ∙ c.low_after-low.ensures.low) in
     let f = g.C.HasCursor.walk in let n = length-map c.args.cursors.now f in let m = length-map c.compact.new.cursors f in
-    let left : Left c.args.number (to_z w128 (of_z w128 c.low-low.result)) c.self.inside.matches c.compact.new.self (map f c.args.cursors.now) (map f c.compact.new.cursors) = record {
+    let left : Left c.args.number (to_z w128 (of_z w128 c.low_after-low.result)) c.self.inside.matches c.compact.new.self (map f c.args.cursors.now) (map f c.compact.new.cursors) = record {
       same = c.compact.ensures.same;
       nodes = c.compact.ensures.nodes;
       lists = c.compact.ensures.lists;
       cursors = record { count = m ∙ (c.compact.ensures.count ∙ sym n); each = λ k d lt. c.compact.ensures.cursors k d (omega arith) };
     } in
     let given : GivenUp c.compact.new.self c.self.inside.here c.give_up-self-inside.new.self c.give_up-self-inside.result = record { same = c.give_up-self-inside.ensures.same; given = c.give_up-self-inside.ensures.given; have = c.give_up-self-inside.ensures.have } in
-    part_fewer c.self.inside.schema.value c.self.inside.query c.self.inside.matches c.compact.new.self c.self.inside.clock.last c.self.inside.here c.args.self.now c.args.number (to_z w128 (of_z w128 c.low-low.result)) (map f c.args.cursors.now) (map f c.compact.new.cursors) i low left c.give_up-self-inside.new.self c.give_up-self-inside.result given
+    part_fewer c.self.inside.schema.value c.self.inside.query c.self.inside.matches c.compact.new.self c.self.inside.here c.args.self.now c.args.number (to_z w128 (of_z w128 c.low_after-low.result)) c.args.clock.now.last (map f c.args.cursors.now) (map f c.compact.new.cursors) i low left c.give_up-self-inside.new.self c.give_up-self-inside.result given
 
 pub returns-clause-steps : goal.returns-clause-steps
 returns-clause-steps g c =
-    let i = idle_awake c.self.inside.schema.value c.self.inside.query c.self.inside.step c.self.inside.ready c.self.inside.sizes c.self.inside.matches c.self.inside.clock.last c.self.inside.here c.self.inside.upto c.self.inside.floats c.args.self.now c.self.view_is c.requires.idle in
+    let i = idle_awake c.self.inside.schema.value c.self.inside.query c.self.inside.step c.self.inside.ready c.self.inside.sizes c.self.inside.matches c.self.inside.here c.self.inside.upto c.args.self.now c.self.view_is c.requires.idle in
     let paid = c.compact.ensures.steps in
     subst (λ (x : Part). c.compact.new.steps ≤ c.args.steps.now + 8 * length x.nodes + 4 * places x.rows) i.kept_is paid
 
 pub returns-clause-once : goal.returns-clause-once
 returns-clause-once g c =
-    let i = idle_awake c.self.inside.schema.value c.self.inside.query c.self.inside.step c.self.inside.ready c.self.inside.sizes c.self.inside.matches c.self.inside.clock.last c.self.inside.here c.self.inside.upto c.self.inside.floats c.args.self.now c.self.view_is c.requires.idle in
+    let i = idle_awake c.self.inside.schema.value c.self.inside.query c.self.inside.step c.self.inside.ready c.self.inside.sizes c.self.inside.matches c.self.inside.here c.self.inside.upto c.args.self.now c.self.view_is c.requires.idle in
     subst (λ (x : Part). All HasStatesOnce x.rows) i.kept_is c.compact.ensures.once

@@ -4,23 +4,23 @@ use Rattle.all_or_none.specs.Phases.{Phase}
 use Rattle.query_part.proofs.Prepare.{idle_awake, inner_stands}
 use Rattle.query_part.proofs.Giving.{can_list, no_roots}
 use Rattle.query_part.proofs.Fresh.{fresh_seen}
-use Rattle.query_part.proofs.Sleeping.{fresh_events}
+use Rattle.query_part.proofs.Dormant.{fresh_events}
 use Rattle.query_part.proofs.part.Part.may_answer.Goals as goal
 
 pub may_list-requires : goal.may_list-requires
 may_list-requires c =
     let same : c.self.inside.upto ≡ c.args.count = search rules in
     let fresh : c.args.self.now.upto ≡ c.args.count = ap (λ (p : Phase). p.upto) (sym c.self.view_is) ∙ same in
-    let i = idle_awake c.self.inside.schema.value c.self.inside.query c.self.inside.step c.self.inside.ready c.self.inside.sizes c.self.inside.matches c.self.inside.clock.last c.self.inside.here c.self.inside.upto c.self.inside.floats c.args.self.now c.self.view_is c.requires.idle in
+    let i = idle_awake c.self.inside.schema.value c.self.inside.query c.self.inside.step c.self.inside.ready c.self.inside.sizes c.self.inside.matches c.self.inside.here c.self.inside.upto c.args.self.now c.self.view_is c.requires.idle in
     let e = fresh_events c.args.count c.args.self.now fresh c.requires.events in
-    let s = inner_stands c.self.inside.schema.value c.self.inside.query c.self.inside.matches c.self.inside.clock.last c.self.inside.here c.args.self.now i e.events e.stands in
-    record { stands = can_list c.self.inside.schema.value c.self.inside.query e.events c.self.inside.matches c.self.inside.clock.last c.self.inside.here s }
+    let s = inner_stands c.self.inside.schema.value c.self.inside.query c.self.inside.matches c.self.inside.here c.args.self.now i e.events e.stands in
+    record { stands = can_list c.self.inside.schema.value c.self.inside.query e.events c.self.inside.matches s.0 c.self.inside.here s.1 }
 
 pub returns : goal.returns
 returns c =
     let same : c.self.inside.upto ≡ c.args.count = search rules in
     let fresh : c.args.self.now.upto ≡ c.args.count = ap (λ (p : Phase). p.upto) (sym c.self.view_is) ∙ same in
-    let i = idle_awake c.self.inside.schema.value c.self.inside.query c.self.inside.step c.self.inside.ready c.self.inside.sizes c.self.inside.matches c.self.inside.clock.last c.self.inside.here c.self.inside.upto c.self.inside.floats c.args.self.now c.self.view_is c.requires.idle in
+    let i = idle_awake c.self.inside.schema.value c.self.inside.query c.self.inside.step c.self.inside.ready c.self.inside.sizes c.self.inside.matches c.self.inside.here c.self.inside.upto c.args.self.now c.self.view_is c.requires.idle in
     let e = fresh_events c.args.count c.args.self.now fresh c.requires.events in
-    let s = inner_stands c.self.inside.schema.value c.self.inside.query c.self.inside.matches c.self.inside.clock.last c.self.inside.here c.args.self.now i e.events e.stands in
-    record { none = λ none. subst (λ (p : Phase). roots_at p.query p.kept ≡ []) (sym (fresh_seen c.args.count c.args.self.now fresh)) (no_roots c.self.inside.schema.value c.self.inside.query e.events c.self.inside.matches c.self.inside.clock.last c.self.inside.here c.args.self.now i s (c.may_list.ensures.none none)) }
+    let s = inner_stands c.self.inside.schema.value c.self.inside.query c.self.inside.matches c.self.inside.here c.args.self.now i e.events e.stands in
+    record { none = λ none. subst (λ (p : Phase). roots_at p.query p.kept ≡ []) (sym (fresh_seen c.args.count c.args.self.now fresh)) (no_roots c.self.inside.schema.value c.self.inside.query e.events c.self.inside.matches s.0 c.self.inside.here c.args.self.now i s.1 (c.may_list.ensures.none none)) }

@@ -1,5 +1,5 @@
 -- How many fields a line has, and why it gives no event.
-use Rattle.std.proofs.Common.{◌≡◌, ◌≢◌, ℕ, ◌+◌, ◌-◌, ◌<◌, ◌≤◌, ◌==◌, List, [], ◌∷◌, ◌++◌, length, take, drop, get_or, map, Bool, true, false, if◌then◌else◌, Some, None, Err, refl, sym, ◌∙◌, ap, arith, eq-eqb, add-one, subst, Result}
+use Rattle.std.proofs.Common.{◌≡◌, ◌≢◌, ℕ, ◌+◌, ◌-◌, ◌<◌, ◌≤◌, ◌==◌, List, [], ◌∷◌, ◌++◌, length, take, drop, get_or, map, Bool, true, false, if◌then◌else◌, Some, None, Ok, Err, refl, sym, ◌∙◌, ap, arith, eq-eqb, add-one, subst, Result}
 use Rattle.std.specs.List.{HoldsAt}
 use Rattle.std.proofs.Math.Seq.{drop-cons}
 use Rattle.std.proofs.lemmas.Bool.{ne_eqb}
@@ -19,7 +19,7 @@ use Rattle.event_reader.specs.declared.fields.FieldState.{FieldState}
 use Rattle.event_reader.specs.declared.fields.FieldState.TheVariants.{Start, Plain, Quoted, AfterQuote}
 use Rattle.event_reader.specs.Fields.{fields, ends_open}
 use Rattle.event_reader.specs.Lines.{has_line_feed}
-use Rattle.event_reader.specs.Events.{is_bad, values_from, event_of_type, event_of_place, attrs_of, event_of_record, event_of_text}
+use Rattle.event_reader.specs.Events.{is_bad, and_then, values_from, event_of_type, event_of_place, attrs_of, event_of_record, event_of_text}
 use Rattle.event_reader.specs.Values.{value_of}
 use Rattle.event_reader.specs.Rows.{TellsType, IsRefusal}
 use Rattle.event_reader.specs.QuotedLines.{past, ends_cell, with_byte, with_end, cells_from, is_inside, ends_inside, cells_after, IsCutAt, HasValueFields}
@@ -179,7 +179,12 @@ other_value schema line count end ty kinds (Fault fault) n as_wanted r =
     let refused : values_from 1 [] kinds (cells_after (drop end line)) ≡ Err fault = ap (λ t. values_from 1 [] kinds (cells_after t)) (sym (slice_is end line)) ∙ r in
     n.event ∙ wrong_value ty (get_or schema.types ty (record { name = []; attrs = [] })) kinds (cells_after (drop end line)) fault n.kinds_are (n.counted ∙ as_wanted) refused
 
+-- an event that is put out is none that is not there
+not_none : (found : Result Event EventFault) → and_then found (λ event. Ok (Some event)) ≢ Ok None
+not_none (Ok event) same = (let wrong = same in cc)
+not_none (Err fault) same = (let wrong = same in cc)
+
 -- what a line that is refused gives
 pub tells_refusal : (schema : Declared) (line : List ℕ) (values : List Value) (stop : OrMemory EventFault) → 0 < length line → is_bad line ≡ false → IsRefusal stop (event_of_record schema (ends_open line) (fields line)) → TellsType values (Err stop) (event_of_text schema line)
-tells_refusal schema line values Memory some bad r = tt
+tells_refusal schema line values Memory some bad r = rw (not_empty (length line) some, bad) (not_none (event_of_record schema (ends_open line) (fields line)))
 tells_refusal schema line values (Fault fault) some bad r = rw (not_empty (length line) some, bad, r) refl

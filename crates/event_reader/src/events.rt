@@ -1,6 +1,6 @@
 //! The event of a line.
 
-ghost use Rattle.std.specs.Prelude.{◌≡◌, false, IfOk, IfSome};
+ghost use Rattle.std.specs.Prelude.{◌≡◌, false, IfOk, IfSome, Ok, None};
 ghost use Rattle.stream_schema.specs.Events.{IsOfSchema};
 ghost use Rattle.std.specs.Str.Lines.{strip_carriage_return};
 ghost use Rattle.cer_base.specs.Answers.{Gives};
@@ -19,7 +19,8 @@ use std::alloc::Global;
 use stream_schema::{Event, Schema, TypeId, Value};
 
 /// The event of the line, or `None` where it is empty but for a carriage return, in memory of its
-/// own. The refusals are those of `Row::read`; an event that it gives is of the schema.
+/// own. The refusals are those of `Row::read`; an event that it gives is of the schema. Where there is
+/// none, no memory is wanted.
 #[tactic(auto, using(crate::proofs::OfSchema::read_is))]
 pub fn read_event(
     alloc: Global,
@@ -29,6 +30,7 @@ pub fn read_event(
     requires { has_line_feed text.now ≡ false }
     ensures event { Gives (λ event. event) result (event_of_line schema.now text.now) }
     ensures of_schema { IfOk result (λ found. IfSome found (λ event. IsOfSchema schema.now event)) }
+    ensures none { event_of_line schema.now text.now ≡ Ok None → result ≡ Ok None }
 {
     let mut row = Row::new(alloc);
     match row.read(alloc, schema, text) {

@@ -1,7 +1,8 @@
 //! All events of a file, kept as a list.
 
-ghost use Rattle.std.specs.Prelude.{◌≡◌, ℕ, List, false, Some, IfOk, OnOk};
+ghost use Rattle.std.specs.Prelude.{◌≡◌, ℕ, List, false, Some, None, Ok, IfOk, IsOk, OnOk};
 ghost use Rattle.cer_base.specs.Answers.{OnFault};
+ghost use Rattle.event_reader.specs.Events.{event_of_line};
 ghost use Rattle.event_run.specs.Runs.{RunsTo, StopsInTime};
 ghost use Rattle.event_run.specs.Runs as stop;
 ghost use Rattle.event_run.specs.Taking.{HasTaken, HasSourceCause, StopsHere};
@@ -90,6 +91,7 @@ fn add_line(
         events.new.items) }
     ensures stops { OnFault result (λ refusal. StopsHere schema.now queries.now lines.now.text
         lines.now.number events.old.items refusal) }
+    ensures none { event_of_line schema.now lines.now.text ≡ Ok None → IsOk result }
 {
     match read_event(alloc, schema, lines.text()) {
         Ok(Some(event)) => add_event(schema, queries, event, events),

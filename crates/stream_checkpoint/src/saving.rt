@@ -1,6 +1,6 @@
 //! The checkpoint of a source, event by event.
 
-ghost use Rattle.std.specs.Prelude.{◌≡◌, ◌+◌, ◌<◌, ◌≤◌, ℕ, List, All, false, Some, Ok, OnOk};
+ghost use Rattle.std.specs.Prelude.{◌≡◌, ◌+◌, ◌<◌, ◌≤◌, ℕ, List, All, false, Some, None, Ok, IsOk, OnOk};
 ghost use Rattle.cer_base.specs.Answers.{OnFault};
 ghost use Rattle.cel_terms.specs.Checked.{IsChecked};
 ghost use Rattle.event_reader.specs.Events.{event_of_line};
@@ -121,6 +121,7 @@ fn keep_line(
     ensures added { OnOk result (AddsLine schema.now lines.now.text keep.old keep.new) }
     ensures stops { OnFault result (λ refusal.
         StopsLine schema.now lines.now.text keep.old refusal) }
+    ensures none { event_of_line schema.now lines.now.text ≡ Ok None → IsOk result }
 {
     match read_event(alloc, schema, lines.text()) {
         Ok(Some(event)) => keep_event(alloc, &event, lines.text(), keep),

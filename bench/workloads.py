@@ -104,6 +104,40 @@ def choices(dice, count):
     return text, events()
 
 
+def rules(number):
+    """So many rules, each of two of eight types, by user and within minutes: an event concerns few of them."""
+
+    def made(dice, count):
+        types = [f"T{k}" for k in range(8)]
+        text = "".join(f"DECLARE EVENT {it}(user STRING, v INT, at INT)\n" for it in types)
+        text += f"DECLARE STREAM S({', '.join(types)})\n"
+        for _ in range(number):
+            one, other = dice.sample(types, 2)
+            low, high = dice.randint(0, 90), dice.randint(910, 999)
+            text += f"SELECT * FROM S WHERE {one} ; {other} FILTER {one}[v < {low}] AND {other}[v > {high}] PARTITION BY [user] WITHIN {dice.randint(1, 9)} MINUTES [at]\n"
+
+        def events():
+            at = 0
+            for _ in range(count):
+                at += dice.randint(0, 2)
+                yield f"{dice.choice(types)},user{dice.randint(0, 4999)},{dice.randint(0, 999)},{at}"
+
+        return text, events()
+
+    return made
+
+
+def few_types(dice, count):
+    """200 rules over eight declared types, of which the stream has seven; one rule in a hundred asks for what comes."""
+    types = "ABCDEFGH"
+    text = "".join(f"DECLARE EVENT {it}(v INT)\n" for it in types) + f"DECLARE STREAM S({', '.join(types[:7])})\n"
+    for k in range(200):
+        one, other = dice.sample(types[:7], 2)
+        low = 30 if k % 100 == 0 else -1
+        text += f"SELECT * FROM S WHERE {one} ; {other} FILTER {one}[v < {low}] AND {other}[v < 50] WITHIN 100 EVENTS\n"
+    return text, plain_events(dice, count, types[:7])
+
+
 ALL = {
     "sequence": sequence,
     "window-100": window(100),
@@ -115,6 +149,9 @@ ALL = {
     "answers": answers,
     "partitions": partitions,
     "choices": choices,
+    "rules-64": rules(64),
+    "rules-1000": rules(1000),
+    "few-types": few_types,
 }
 
 

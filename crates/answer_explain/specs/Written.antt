@@ -7,7 +7,8 @@ use Rattle.cel_terms.specs.declared.Query.{Query}
 use Rattle.event_run.specs.Runs.{RunsTo}
 use Rattle.event_run.specs.Runs as stop
 use Rattle.stream_answers.specs.declared.StreamFault.{StreamFault}
-use Rattle.stream_answers.specs.AtEnd.{WroteAtEnd}
+use Rattle.stream_answers.specs.AtEnd.{text_said}
+use Rattle.stream_answers.specs.Ends.{Said, ByEnd}
 use Rattle.answer_explain.specs.declared.written.TheConstants.{MOST_BYTES}
 use Rattle.answer_explain.specs.declared.Question.{Question}
 use Rattle.answer_explain.specs.Explanations.{IsExplanation}
@@ -24,5 +25,8 @@ IsExplanationOver a source bytes = (lines : List ℕ) → source ≡ Some lines 
     (events : List StreamEvent) × RunsTo a.schema a.queries MOST_BYTES lines events stop.End × IsExplanation a.schema a.queries events a.question bytes
 
 -- all of the explanation, or a proper part of it after a fault of the sink; else nothing
+abbrev pub explained_said : Asked → Option (List ℕ) → Option (List ℕ) → Option (List ℕ) → Said
+explained_said a source before after = text_said a.schema a.queries MOST_BYTES (IsExplanationOver a source) source before after
+
 abbrev pub Wrote : Asked → Option (List ℕ) → Option (List ℕ) → Option (List ℕ) → Option (List ℕ) → {T : Type 0} → Result T (OrMemory StreamFault) → Type 0
-Wrote a source left before after result = WroteAtEnd a.schema a.queries MOST_BYTES (IsExplanationOver a source) source left before after result
+Wrote a source left before after result = ByEnd (explained_said a source before after) left result

@@ -1,6 +1,6 @@
 //! The explanation over a source, written to a sink.
 
-ghost use Rattle.stream_answers.specs.Streams.{HasReadCause, HasWriteCause};
+ghost use Rattle.stream_answers.specs.Ends.{HasReadCause, HasWriteCause};
 ghost use Rattle.answer_explain.specs.Written.{Wrote};
 
 use crate::Question;

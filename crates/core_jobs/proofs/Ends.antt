@@ -1,18 +1,24 @@
 -- How each exit of a job meets what is said of its end.
-use Rattle.std.proofs.Common.{◌≡◌, ℕ, ◌⊎◌, inl, inr, List, [], ◌∷◌, Option, None, refl, sym, ◌∙◌, ap, subst, IsSomeAnd}
+use Rattle.std.proofs.Common.{◌≡◌, ℕ, ◌⊎◌, inl, inr, List, [], ◌∷◌, Option, Some, None, refl, sym, ◌∙◌, ap, subst, IsSomeAnd}
 use Rattle.cer_base.specs.declared.Place.{Place}
 use Rattle.ceql_grammar.specs.declared.faults.QueryFault.{QueryFault}
 use Rattle.cer_outside.specs.Causes.{Rose, AllStay, RoseAt}
-use Rattle.cer_outside.specs.Content.{Content, Untold, Missing, Holds, OfOpened}
+use Rattle.cer_outside.specs.Content.{Content, Untold, Missing, Holds, HasOpened, OfOpened}
+use Rattle.event_run.specs.Runs.{Stop}
+use Rattle.event_run.specs.Runs as stop
+use Rattle.stream_answers.specs.Ends.{Said}
 use Rattle.fault_notes.specs.declared.File.{File}
 use Rattle.fault_notes.specs.declared.File.TheVariants as file
 use Rattle.core_jobs.specs.declared.Cause.{Cause}
 use Rattle.core_jobs.specs.declared.Cause.TheVariants as cause
 use Rattle.core_jobs.specs.Command.{ResumeWords, Job, running, reordering, explaining, playing, resuming, saving, query_file_of, checkpoint_file_of, event_file_of, HasCheckpoint}
-use Rattle.core_jobs.specs.Accepted.{IsAcceptedText, IsRefusedText, TakesText, IsRefusedBy, TakesCheckpoint}
-use Rattle.core_jobs.specs.Causes.{IsTakenUp, ComesInTurn, CountsOpens, CountsWrites, name_of}
+use Rattle.core_jobs.specs.Accepted.{IsAcceptedText, IsRefusedText, TakesText, IsRefusedBy, TakesCheckpoint, JobStops}
+use Rattle.core_jobs.specs.Causes.{CheckpointHolds, IsTakenUp, ComesInTurn, CountsOpens, CountsWrites, name_of}
 use Rattle.core_jobs.specs.Opening.{files_of, files_to, AreOpened, OpensInTurn}
-use Rattle.core_jobs.specs.Run.{Sources, ReadingStops, StopCounts, IsOpening, QueriesStop, Outside, JobEnded, left_by}
+use Rattle.core_jobs.specs.Run.{Sources, ReadingStops, FailedWith, StopCounts, IsOpening, QueriesStop, Outside, HasTakenText, HasFiles, JobEnded, left_by}
+use Rattle.core_jobs.specs.Ending.{SourceStop, FileStop}
+use Rattle.core_jobs.specs.Output.{WroteBy}
+use Rattle.core_jobs.specs.SourceBytes.{IsRestOf}
 use Rattle.core_jobs.proofs.Jobs.{refused_by, wrote_nothing}
 
 -- one file was opened,
@@ -145,7 +151,7 @@ queries_ended sources call o job first last (cause.WriteFault before after) fail
 queries_ended sources call o job first last (cause.Checkpoint line fault) failed nothing writes step stops counts = absurd stops
 
 -- the event file was not opened, in its turn
-pub unopened_in_turn : {S H : Type 0} (sources : Sources S) (call : H → List ℕ → H → Type 0) (o : Outside) (job : Job) (first last : H) (whole : Content) (held : List ℕ → ℕ) (given : Cause) (failed : Option S) →
+unopened_in_turn : {S H : Type 0} (sources : Sources S) (call : H → List ℕ → H → Type 0) (o : Outside) (job : Job) (first last : H) (whole : Content) (held : List ℕ → ℕ) (given : Cause) (failed : Option S) →
     AllStay o.old held → ComesInTurn job file.Events o.content → o.after ≡ o.before → CountsWrites given o.out_old o.out_new → ((k : Cause) → AreOpened job k (files_to job file.Events) → OpensInTurn call o.content job k first last) →
     ReadingStops sources file.Events whole (held (event_file_of job)) (o.new (event_file_of job)) given failed → StopCounts given (event_file_of job) held o.new → IsOpening given → JobEnded sources call o job first last given failed
 unopened_in_turn sources call o job first last whole held (cause.OpenFault opened before after) failed stay turn nothing writes all stops counts opening =
@@ -175,13 +181,101 @@ unopened_in_turn sources call o job first last whole held (cause.ReadFault read 
 unopened_in_turn sources call o job first last whole held (cause.WriteFault before after) failed stay turn nothing writes all stops counts opening = absurd opening
 unopened_in_turn sources call o job first last whole held (cause.Checkpoint line fault) failed stay turn nothing writes all stops counts opening = absurd opening
 
--- nor by a job without a checkpoint
-pub unopened : {S H : Type 0} (sources : Sources S) (call : H → List ℕ → H → Type 0) (o : Outside) (job : Job) (first middle last : H) (whole : Content) (held : List ℕ → ℕ) (given : Cause) (failed : Option S) → (HasCheckpoint job → ⊥) →
-    AllStay o.old held → OfOpened (o.content (query_file_of job)) (TakesText job) → o.after ≡ o.before → CountsWrites given o.out_old o.out_new → call first (query_file_of job) middle → call middle (event_file_of job) last →
-    ReadingStops sources file.Events whole (held (event_file_of job)) (o.new (event_file_of job)) given failed → StopCounts given (event_file_of job) held o.new → IsOpening given → JobEnded sources call o job first last given failed
-unopened sources call o job first middle last whole held given failed none stay taken nothing writes one other stops counts opening =
-    unopened_in_turn sources call o job first last whole held given failed stay (taken, none_taken_up o.content job none) nothing writes
-    (λ k are. opened_both call o.content job k first middle last none are taken one other) stops counts opening
+-- the cause that tells this stop
+abbrev pub cause_at : Stop → Cause
+cause_at stop.End = cause.Fine
+cause_at (stop.Event line fault) = cause.Event line fault
+cause_at (stop.InputTooLong taken) = cause.InputTooLong taken
+
+-- What is said over a source is what a job makes of its files.
+pub record Meets (o : Outside) (job : Job) (said : Said) : Type 1 where
+  pub files : HasFiles o job
+  pub stops : (halt : Stop) → said.stops halt → (text kept lines : List ℕ) → o.content (query_file_of job) ≡ Holds text → CheckpointHolds o.content job kept → o.content (event_file_of job) ≡ Holds lines → JobStops job text kept lines halt
+  pub wrote : (halt : Stop) (left : Option (List ℕ)) → said.stops halt → WroteBy (cause_at halt) o.content job left o.before o.after
+  pub rest : (left : Option (List ℕ)) → said.unread left → IsRestOf (o.content (event_file_of job)) left
+  pub read : (to : ℕ) (left : Option (List ℕ)) → said.unread left → WroteBy (cause.ReadFault file.Events to) o.content job left o.before o.after
+  pub part : (from to : ℕ) (left : Option (List ℕ)) → said.unwritten → WroteBy (cause.WriteFault from to) o.content job left o.before o.after
+  pub some : (left : Option (List ℕ)) → said.wants → WroteBy cause.Memory o.content job left o.before o.after
+
+-- the source that failed, with what it has left
+failed_with : {S : Type 0} (sources : Sources S) (whole : Content) (Unread : Option (List ℕ) → Type 0) (to : ℕ) (failed : Option S) → ((left : Option (List ℕ)) → Unread left → IsRestOf whole left) →
+    IsSomeAnd failed (λ s. (sources.faults s ≡ to) × Rose 0 to) → Unread (left_by sources failed) → IsSomeAnd failed (FailedWith sources whole to)
+failed_with sources whole Unread to None rest told read = told
+failed_with sources whole Unread to (Some s) rest told read = record { told = told.0; rose = told.1; rest = rest (sources.left s) read }
+
+-- a job over its event file ended
+module _ {S H : Type 0} (sources : Sources S) (call : H → List ℕ → H → Type 0) (o : Outside) (job : Job) (first last : H) (held : List ℕ → ℕ)
+    (stay : AllStay o.old held) (taken : HasTakenText o job) (resumed : IsTakenUp o.content job) (all : (k : Cause) → AreOpened job k (files_to job file.Events) → OpensInTurn call o.content job k first last) where
+  -- over a source of it
+  source_ended : (said : Said) (given : Cause) (failed : Option S) → Meets o job said → CountsWrites given o.out_old o.out_new → SourceStop sources said o.out_old o.out_new given failed → StopCounts given (event_file_of job) held o.new →
+      JobEnded sources call o job first last given failed
+  source_ended said cause.Fine failed meets writes ends counts = record {
+    holds = record { none = ends.0; taken = taken; resumed = resumed; files = meets.files; stops = meets.stops stop.End ends.1 };
+    wrote = meets.wrote stop.End (left_by sources failed) ends.1;
+    counts_opens = stay_on o.old held o.new stay counts;
+    counts_writes = writes;
+    opens = all cause.Fine refl;
+  }
+  source_ended said (cause.Event line fault) failed meets writes ends counts = record {
+    holds = record { none = ends.0; taken = taken; resumed = resumed; files = meets.files; stops = meets.stops (stop.Event line fault) ends.1 };
+    wrote = meets.wrote (stop.Event line fault) (left_by sources failed) ends.1;
+    counts_opens = stay_on o.old held o.new stay counts;
+    counts_writes = writes;
+    opens = all (cause.Event line fault) refl;
+  }
+  source_ended said (cause.InputTooLong bytes) failed meets writes ends counts = record {
+    holds = record { none = ends.0; taken = taken; resumed = resumed; files = meets.files; stops = meets.stops (stop.InputTooLong bytes) ends.1 };
+    wrote = meets.wrote (stop.InputTooLong bytes) (left_by sources failed) ends.1;
+    counts_opens = stay_on o.old held o.new stay counts;
+    counts_writes = writes;
+    opens = all (cause.InputTooLong bytes) refl;
+  }
+  source_ended said (cause.ReadFault read to) failed meets writes ends counts =
+      let P : File → Type 0 = λ f. JobEnded sources call o job first last (cause.ReadFault f to) failed in
+      subst P (sym ends.0) (record {
+        holds = ((taken, resumed), failed_with sources (o.content (event_file_of job)) said.unread to failed meets.rest ends.1 ends.2);
+        wrote = meets.read to (left_by sources failed) ends.2;
+        counts_opens = stay_on o.old held o.new stay counts;
+        counts_writes = writes;
+        opens = all (cause.ReadFault file.Events to) refl;
+      })
+  source_ended said (cause.WriteFault from to) failed meets writes ends counts = record {
+    holds = (ends.0, meets.files, ends.1, ends.2, ends.3);
+    wrote = meets.part from to (left_by sources failed) ends.4;
+    counts_opens = stay_on o.old held o.new stay counts;
+    counts_writes = writes;
+    opens = all (cause.WriteFault from to) refl;
+  }
+  source_ended said cause.Memory failed meets writes ends counts = record {
+    holds = (ends.0, inr meets.files);
+    wrote = meets.some (left_by sources failed) ends.1;
+    counts_opens = stay_on o.old held o.new stay counts;
+    counts_writes = writes;
+    opens = all cause.Memory (inr (file.Events, refl));
+  }
+  source_ended said cause.Usage failed meets writes ends counts = absurd ends
+  source_ended said (cause.Queries fault place) failed meets writes ends counts = absurd ends
+  source_ended said (cause.ClockKind name) failed meets writes ends counts = absurd ends
+  source_ended said (cause.OpenFault opened before after) failed meets writes ends counts = absurd ends
+  source_ended said (cause.Checkpoint line fault) failed meets writes ends counts = absurd ends
+
+  -- which was opened or not
+  pub file_ended : (said : Option (List ℕ) → Said) (whole : Content) (given : Cause) (failed : Option S) → whole ≡ o.content (event_file_of job) → ((source : Option (List ℕ)) → HasOpened (o.content (event_file_of job)) source → Meets o job (said source)) →
+      CountsWrites given o.out_old o.out_new → FileStop sources said whole (held (event_file_of job)) (o.new (event_file_of job)) o.out_old o.out_new o.before o.after given failed → StopCounts given (event_file_of job) held o.new →
+      JobEnded sources call o job first last given failed
+  file_ended said whole given failed same meets writes ends counts =
+      elim ends.way [
+        | inl not ↦ unopened_in_turn sources call o job first last whole held given failed stay (taken, resumed) not.1 writes all not.0 counts not.2
+        | inr was ↦ source_ended (said was.0) given failed (meets was.0 (let P : Content → Type 0 = λ c. HasOpened c was.0 in subst P same was.1)) writes was.2 counts
+      ]
+
+-- of a job without a checkpoint
+pub two_files_ended : {S H : Type 0} (sources : Sources S) (call : H → List ℕ → H → Type 0) (o : Outside) (job : Job) (first middle last : H) (said : Option (List ℕ) → Said) (whole : Content) (held : List ℕ → ℕ) (given : Cause) (failed : Option S) → (HasCheckpoint job → ⊥) →
+    ((source : Option (List ℕ)) → HasOpened (o.content (event_file_of job)) source → Meets o job (said source)) → whole ≡ o.content (event_file_of job) → AllStay o.old held → HasTakenText o job → CountsWrites given o.out_old o.out_new →
+    call first (query_file_of job) middle → call middle (event_file_of job) last → FileStop sources said whole (held (event_file_of job)) (o.new (event_file_of job)) o.out_old o.out_new o.before o.after given failed → StopCounts given (event_file_of job) held o.new →
+    JobEnded sources call o job first last given failed
+two_files_ended sources call o job first middle last said whole held given failed none meets same stay taken writes one other ends counts =
+    file_ended sources call o job first last held stay taken (none_taken_up o.content job none) (λ k are. opened_both call o.content job k first middle last none are taken one other) said whole given failed same meets writes ends counts
 
 -- a refused text stops a run
 pub queries_fault : {S : Type 0} (sources : Sources S) (whole : Content) (old new : ℕ) (given : Cause) (failed : Option S) (fault : QueryFault) (place : Place) → given ≡ cause.Queries fault place → failed ≡ None →

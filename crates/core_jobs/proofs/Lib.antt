@@ -13,6 +13,8 @@ mod Resumed
 pub mod Jobs
 -- how each exit of a job meets what is said of its end
 pub mod Ends
+-- the same where a text is written once all events are read
+mod TextEnds
 -- the same of a run
 mod RunEnds
 -- the same of a run over late events
@@ -27,5 +29,7 @@ mod SessionEnds
 mod ResumeEnds
 -- the steps of a job
 pub mod StepClauses
+-- how what ran over a source ended, and the cause
+mod Sources
 -- the engine that a run leaves
 pub mod Leaving

@@ -1,6 +1,6 @@
 -- How a run over late events meets what is said of its end.
-use Rattle.std.proofs.Common.{◌≡◌, ℕ, true, false, inl, inr, List, Option, Some, None, refl, sym, subst, IsSomeAnd}
-use Rattle.cer_outside.specs.Causes.{Rose, AllStay}
+use Rattle.std.proofs.Common.{◌≡◌, ℕ, true, false, inl, inr, List, Option, Some, None, refl, sym, subst}
+use Rattle.cer_outside.specs.Causes.{AllStay}
 use Rattle.cer_outside.specs.Content.{Content, Untold, Missing, Holds, HasOpened, OfOpened}
 use Rattle.cer_outside.specs.Bytes.{TookPart}
 use Rattle.answer_blocks.specs.Taken.{TookPrefix}
@@ -12,7 +12,7 @@ use Rattle.event_run.specs.Runs as stop
 use Rattle.stream_answers.specs.Streams.{WroteOver}
 use Rattle.reorder_gate.specs.Clocks.{clock_fits}
 use Rattle.late_answers.specs.Late.{Feed}
-use Rattle.late_answers.specs.Written.{asked, AreReleasedRead, WroteLateAll, WroteLatePart}
+use Rattle.late_answers.specs.Written.{asked, AreReleasedRead, WroteLateAll, WroteLatePart, late_said}
 use Rattle.fault_notes.specs.declared.File.{File}
 use Rattle.fault_notes.specs.declared.File.TheVariants as file
 use Rattle.core_jobs.specs.declared.Cause.{Cause}
@@ -23,11 +23,11 @@ use Rattle.core_jobs.specs.Causes.{CountsWrites}
 use Rattle.core_jobs.specs.Output.{AreReorderedFileAnswers, AreReorderedReadAnswers}
 use Rattle.core_jobs.specs.Output as output
 use Rattle.core_jobs.specs.SourceBytes.{IsRestOf}
-use Rattle.core_jobs.specs.Run.{Sources, FailedWith, StopCounts, Outside, HasFiles, HasStopped, JobEnded, left_by}
-use Rattle.core_jobs.specs.Reordering.{LateStop, LateFileStop, IsUnfit, ClockedStop}
+use Rattle.core_jobs.specs.Run.{Sources, StopCounts, Outside, JobEnded}
+use Rattle.core_jobs.specs.Reordering.{IsUnfit, ClockedStop}
 use Rattle.core_jobs.proofs.Jobs.{late_stop}
 use Rattle.core_jobs.proofs.Streams.{text_not_missing, not_missing, text_told, source_told}
-use Rattle.core_jobs.proofs.Ends.{opened_one, opened_both, stay_on, unopened, none_taken_up}
+use Rattle.core_jobs.proofs.Ends.{opened_one, stay_on, cause_at, Meets, two_files_ended}
 
 -- the text that was accepted has the clock
 clocked_text : (content : Content) (clock : List ℕ) (schema : Declared) (queries : List Query) → clock_fits schema clock ≡ true → OfOpened content (λ text. Accepts text schema queries) → OfOpened content (DeclaresClock clock)
@@ -117,83 +117,27 @@ rest_of a Missing source left events opened read = opened
 rest_of a (Holds lines) source None events opened read = read lines opened
 rest_of a (Holds lines) source (Some rest) events opened read = let r = read lines opened in (r.cut.taken, r.cut.whole)
 
-failed_with : {S : Type 0} (sources : Sources S) (a : Feed) (content : Content) (source : Option (List ℕ)) (events : List Event) (to : ℕ) (failed : Option S) → HasOpened content source →
-    IsSomeAnd failed (λ s. (sources.faults s ≡ to) × Rose 0 to) → ((lines : List ℕ) → source ≡ Some lines → AreReleasedRead a (left_by sources failed) lines events) → IsSomeAnd failed (FailedWith sources content to)
-failed_with sources a content source events to None opened told read = told
-failed_with sources a content source events to (Some s) opened told read = record { told = told.0; rose = told.1; rest = rest_of a content source (sources.left s) events opened read }
-
 -- HOW IT ENDED
 
--- the host has both files
-has_files : (o : Outside) (w : ReorderWords) (schema : Declared) (queries : List Query) (source : Option (List ℕ)) →
-    OfOpened (o.content w.queries) (λ text. Accepts text schema queries) → HasOpened (o.content w.events) source → HasFiles o (reordering w)
-has_files o w schema queries source accepted opened = record { queries = text_not_missing (o.content w.queries) _ accepted; checkpoint = λ has. absurd has; events = not_missing (o.content w.events) source opened }
+-- what is said over its source is what it makes of its files
+meets : (o : Outside) (w : ReorderWords) (schema : Declared) (queries : List Query) (source : Option (List ℕ)) → clock_fits schema w.clock ≡ true → OfOpened (o.content w.queries) (λ text. Accepts text schema queries) → HasOpened (o.content w.events) source →
+    Meets o (reordering w) (late_said (feed_of w schema queries) source o.before o.after)
+meets o w schema queries source fits accepted opened = record {
+  files = record { queries = text_not_missing (o.content w.queries) _ accepted; checkpoint = λ has. absurd has; events = not_missing (o.content w.events) source opened };
+  stops = λ halt all text kept lines first none second. late_stop o.content w halt o.before o.after text lines first second (whole halt all);
+  wrote = wrote;
+  rest = λ left read. rest_of (feed_of w schema queries) (o.content w.events) source left read.events opened read.are;
+  read = λ to left read. (read.bytes, wrote_read o.content w schema queries source left o.before o.after fits accepted opened read, read.took);
+  part = λ from to left part. wrote_part o.content w schema queries source (TookPart o.before o.after) fits accepted opened part;
+  some = λ left some. inr (wrote_part o.content w schema queries source (TookPrefix o.before o.after) fits accepted opened some);
+} where
+  whole : (halt : Stop) → WroteLateAll (feed_of w schema queries) source halt o.before o.after → output.WroteAllReordered o.content w halt o.before o.after
+  whole halt all = wrote_all o.content w schema queries source halt o.before o.after fits accepted opened all
 
--- all answers were written, and the run stopped so
-has_stopped : {S : Type 0} (o : Outside) (w : ReorderWords) (schema : Declared) (queries : List Query) (source : Option (List ℕ)) (was : Stop) (failed : Option S) → failed ≡ None → clock_fits schema w.clock ≡ true →
-    OfOpened (o.content w.queries) (λ text. Accepts text schema queries) → HasOpened (o.content w.events) source → WroteLateAll (feed_of w schema queries) source was o.before o.after → HasStopped o (reordering w) was failed
-has_stopped o w schema queries source was failed none fits accepted opened wrote = record {
-  none = none;
-  taken = clocked_text (o.content w.queries) w.clock schema queries fits accepted;
-  resumed = none_taken_up o.content (reordering w) (λ has. has);
-  files = has_files o w schema queries source accepted opened;
-  stops = λ text kept lines first none_kept second. late_stop o.content w was o.before o.after text lines first second (wrote_all o.content w schema queries source was o.before o.after fits accepted opened wrote);
-}
-
--- the answers over its source ended
-answered : {S H : Type 0} (sources : Sources S) (call : H → List ℕ → H → Type 0) (o : Outside) (w : ReorderWords) (first middle last : H) (schema : Declared) (queries : List Query) (source : Option (List ℕ)) (held : List ℕ → ℕ) (given : Cause) (failed : Option S) →
-    AllStay o.old held → clock_fits schema w.clock ≡ true → OfOpened (o.content w.queries) (λ text. Accepts text schema queries) → HasOpened (o.content w.events) source → CountsWrites given o.out_old o.out_new → call first w.queries middle → call middle w.events last →
-    LateStop sources (feed_of w schema queries) source o.out_old o.out_new o.before o.after given failed → StopCounts given w.events held o.new → JobEnded sources call o (reordering w) first last given failed
-answered sources call o w first middle last schema queries source held cause.Fine failed stay fits accepted opened writes one other stops counts = record {
-  holds = has_stopped o w schema queries source stop.End failed stops.0 fits accepted opened stops.1;
-  wrote = wrote_all o.content w schema queries source stop.End o.before o.after fits accepted opened stops.1;
-  counts_opens = stay_on o.old held o.new stay counts;
-  counts_writes = writes;
-  opens = opened_both call _ (reordering w) _ first middle last (λ has. has) refl (clocked_text (o.content w.queries) w.clock schema queries fits accepted) one other;
-}
-answered sources call o w first middle last schema queries source held (cause.Event line fault) failed stay fits accepted opened writes one other stops counts = record {
-  holds = has_stopped o w schema queries source (stop.Event line fault) failed stops.0 fits accepted opened stops.1;
-  wrote = wrote_all o.content w schema queries source (stop.Event line fault) o.before o.after fits accepted opened stops.1;
-  counts_opens = stay_on o.old held o.new stay counts;
-  counts_writes = writes;
-  opens = opened_both call _ (reordering w) _ first middle last (λ has. has) refl (clocked_text (o.content w.queries) w.clock schema queries fits accepted) one other;
-}
-answered sources call o w first middle last schema queries source held (cause.InputTooLong taken) failed stay fits accepted opened writes one other stops counts = record {
-  holds = has_stopped o w schema queries source (stop.InputTooLong taken) failed stops.0 fits accepted opened stops.1;
-  wrote = wrote_all o.content w schema queries source (stop.InputTooLong taken) o.before o.after fits accepted opened stops.1;
-  counts_opens = stay_on o.old held o.new stay counts;
-  counts_writes = writes;
-  opens = opened_both call _ (reordering w) _ first middle last (λ has. has) refl (clocked_text (o.content w.queries) w.clock schema queries fits accepted) one other;
-}
-answered {S} sources call o w first middle last schema queries source held (cause.ReadFault read to) failed stay fits accepted opened writes one other stops counts =
-    let P : File → Type 0 = λ f. JobEnded sources call o (reordering w) first last (cause.ReadFault f to) failed in
-    let text = clocked_text (o.content w.queries) w.clock schema queries fits accepted in
-    subst P (sym stops.0) (record {
-      holds = ((text, none_taken_up o.content (reordering w) (λ has. has)), failed_with sources (feed_of w schema queries) (o.content w.events) source stops.2.events to failed opened stops.1 stops.2.are);
-      wrote = (stops.2.bytes, wrote_read o.content w schema queries source (left_by sources failed) o.before o.after fits accepted opened stops.2, stops.2.took);
-      counts_opens = stay_on o.old held o.new stay counts;
-      counts_writes = writes;
-      opens = opened_both call _ (reordering w) _ first middle last (λ has. has) refl text one other;
-    })
-answered sources call o w first middle last schema queries source held (cause.WriteFault from to) failed stay fits accepted opened writes one other stops counts = record {
-  holds = (stops.0, has_files o w schema queries source accepted opened, stops.1, stops.2, stops.3);
-  wrote = wrote_part o.content w schema queries source (TookPart o.before o.after) fits accepted opened stops.4;
-  counts_opens = stay_on o.old held o.new stay counts;
-  counts_writes = writes;
-  opens = opened_both call _ (reordering w) _ first middle last (λ has. has) refl (clocked_text (o.content w.queries) w.clock schema queries fits accepted) one other;
-}
-answered sources call o w first middle last schema queries source held cause.Memory failed stay fits accepted opened writes one other stops counts = record {
-  holds = (stops.0, inr (has_files o w schema queries source accepted opened));
-  wrote = inr (wrote_part o.content w schema queries source (TookPrefix o.before o.after) fits accepted opened stops.1);
-  counts_opens = stay_on o.old held o.new stay counts;
-  counts_writes = writes;
-  opens = opened_both call _ (reordering w) _ first middle last (λ has. has) (inr (file.Events, refl)) (clocked_text (o.content w.queries) w.clock schema queries fits accepted) one other;
-}
-answered sources call o w first middle last schema queries source held cause.Usage failed stay fits accepted opened writes one other stops counts = absurd stops
-answered sources call o w first middle last schema queries source held (cause.Queries fault place) failed stay fits accepted opened writes one other stops counts = absurd stops
-answered sources call o w first middle last schema queries source held (cause.ClockKind name) failed stay fits accepted opened writes one other stops counts = absurd stops
-answered sources call o w first middle last schema queries source held (cause.OpenFault read before after) failed stay fits accepted opened writes one other stops counts = absurd stops
-answered sources call o w first middle last schema queries source held (cause.Checkpoint line fault) failed stay fits accepted opened writes one other stops counts = absurd stops
+  wrote : (halt : Stop) (left : Option (List ℕ)) → WroteLateAll (feed_of w schema queries) source halt o.before o.after → output.WroteBy (cause_at halt) o.content (reordering w) left o.before o.after
+  wrote stop.End left all = whole stop.End all
+  wrote (stop.Event line fault) left all = whole (stop.Event line fault) all
+  wrote (stop.InputTooLong taken) left all = whole (stop.InputTooLong taken) all
 
 -- the text whose clock does not fit
 lacked_text : (content : Content) (w : ReorderWords) (name : List ℕ) (schema : Declared) (queries : List Query) → clock_fits schema w.clock ≡ false → name ≡ w.clock → OfOpened content (λ text. Accepts text schema queries) →
@@ -266,12 +210,9 @@ clocked_ended {S} {H} sources call o w first middle last schema queries whole he
           let C : H → Type 0 = call first w.queries in
           unfit_ended sources call o w first last schema queries given failed (stay_on o.old held o.new stay (unfit_counts given w.clock w.events held o.new unfit.1 counts)) unfit.0 accepted
           (unfit_writes given w.clock o.out_old o.out_new unfit.1 writes) (subst C (sym unfit.4) one) unfit.2 unfit.3 unfit.1
-      | inr fits ↦ elim fits.2.way [
-        | inl not ↦ unopened sources call o (reordering w) first middle last whole held given failed (λ has. has) stay (clocked_text (o.content w.queries) w.clock schema queries fits.0 accepted) not.1 writes one fits.1 not.0 counts not.2
-        | inr was ↦
-            let P : Content → Type 0 = λ c. HasOpened c was.0 in
-            answered sources call o w first middle last schema queries was.0 held given failed stay fits.0 accepted (subst P kept was.1) writes one fits.1 was.2 counts
-      ]
+      | inr fits ↦
+          two_files_ended sources call o (reordering w) first middle last (λ source. late_said (feed_of w schema queries) source o.before o.after) whole held given failed (λ has. has) (λ source opened. meets o w schema queries source fits.0 accepted opened) kept stay
+          (clocked_text (o.content w.queries) w.clock schema queries fits.0 accepted) writes one fits.1 fits.2 counts
     ]
 
 -- WHERE THE CLOCK DOES NOT FIT

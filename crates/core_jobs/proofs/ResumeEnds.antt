@@ -11,6 +11,7 @@ use Rattle.event_run.specs.Runs.{Stop}
 use Rattle.event_run.specs.Runs as stop
 use Rattle.event_run.specs.Taking.{AreEventsReadAfter}
 use Rattle.stream_answers.specs.Streams.{WroteOverAfter, WroteAllAfter, WrotePartOfAfter}
+use Rattle.resumed_answers.specs.Resumed.{AfterEach, resumed_said}
 use Rattle.checkpoint_text.specs.declared.history.History.{History}
 use Rattle.checkpoint_text.specs.Checkpoints.{checkpoint_of}
 use Rattle.checkpoint_text.specs.Reading.{AreGoodRead}
@@ -23,13 +24,14 @@ use Rattle.core_jobs.specs.declared.Cause.TheVariants as cause
 use Rattle.core_jobs.specs.Command.{ResumeWords, resuming}
 use Rattle.core_jobs.specs.Accepted.{Accepts, IsAcceptedText}
 use Rattle.core_jobs.specs.Causes.{IsTakenUp, CountsWrites}
-use Rattle.core_jobs.specs.Output.{resume_asked_of, OverHistory, WroteAllResumed}
+use Rattle.core_jobs.specs.Output.{resume_asked_of, OverHistory, WroteAllResumed, WroteBy}
 use Rattle.core_jobs.specs.SourceBytes.{told_of, IsRestOf}
-use Rattle.core_jobs.specs.Run.{Sources, FailedWith, ReadingStops, StopCounts, IsOpening, Outside, HasFiles, HasStopped, HasBadCheckpoint, JobEnded, left_by}
-use Rattle.core_jobs.specs.Resuming.{NoHistory, HistoryStop, AfterEach, ResumedStop, ResumedFileStop}
+use Rattle.core_jobs.specs.Run.{Sources, FailedWith, ReadingStops, StopCounts, IsOpening, Outside, HasBadCheckpoint, JobEnded, left_by}
+use Rattle.core_jobs.specs.Resuming.{NoHistory, HistoryStop}
+use Rattle.core_jobs.specs.Ending.{FileStop}
 use Rattle.core_jobs.proofs.Resumed.{stream_for, is_stream}
 use Rattle.core_jobs.proofs.Streams.{accepted_text, text_not_missing, not_missing, text_told, source_told}
-use Rattle.core_jobs.proofs.Ends.{opened_checkpoint, opened_three, rose_later, rose_same, stay_on, unopened_in_turn}
+use Rattle.core_jobs.proofs.Ends.{opened_checkpoint, opened_three, rose_later, rose_same, stay_on, cause_at, Meets, file_ended}
 
 -- the text is told a history for these queries
 abbrev Tells : Declared → List Query → History → List ℕ → Type 0
@@ -192,15 +194,6 @@ taken_up content r schema queries history accepted told = record {
       (schema, queries, history, text_told (content r.queries) text (λ t. Accepts t schema queries) first accepted, text_told (content r.checkpoint) kept (Tells schema queries history) (second tt) told);
 }
 
--- the host has all three files
-has_files : (o : Outside) (r : ResumeWords) (schema : Declared) (queries : List Query) (history : History) (source : Option (List ℕ)) →
-    OfOpened (o.content r.queries) (λ text. Accepts text schema queries) → OfOpened (o.content r.checkpoint) (Tells schema queries history) → HasOpened (o.content r.events) source → HasFiles o (resuming r)
-has_files o r schema queries history source accepted told opened = record {
-  queries = text_not_missing (o.content r.queries) _ accepted;
-  checkpoint = λ h. text_not_missing (o.content r.checkpoint) _ told;
-  events = not_missing (o.content r.events) source opened;
-}
-
 -- what is said over a source is said over the three files
 over_history : (content : List ℕ → Content) (r : ResumeWords) (schema : Declared) (queries : List Query) (history : History) (source : Option (List ℕ)) (Says : Declared → List Query → List Event → Option (List ℕ) → Type 0) →
     OfOpened (content r.queries) (λ text. Accepts text schema queries) → OfOpened (content r.checkpoint) (Tells schema queries history) → HasOpened (content r.events) source →
@@ -230,26 +223,6 @@ Read r left before after schema queries earlier source =
 abbrev Part : ResumeWords → (List ℕ → Type 0) → Declared → List Query → List Event → Option (List ℕ) → Type 0
 Part r Took schema queries earlier source = WrotePartOfAfter earlier (resume_asked_of r schema queries) source Took
 
--- all answers were written, and the run stopped so
-has_stopped : {S : Type 0} (o : Outside) (r : ResumeWords) (schema : Declared) (queries : List Query) (history : History) (source : Option (List ℕ)) (was : Stop) (failed : Option S) → failed ≡ None →
-    OfOpened (o.content r.queries) (λ text. Accepts text schema queries) → OfOpened (o.content r.checkpoint) (Tells schema queries history) → HasOpened (o.content r.events) source →
-    WroteAllResumed o.content r was o.before o.after → HasStopped o (resuming r) was failed
-has_stopped o r schema queries history source was failed none accepted told opened wrote = record {
-  none = none;
-  taken = accepted_text (o.content r.queries) schema queries accepted;
-  resumed = taken_up o.content r schema queries history accepted told;
-  files = has_files o r schema queries history source accepted told opened;
-  stops = λ text kept lines first second third.
-      let w = wrote.over text kept first (second tt) in record {
-        schema = w.schema;
-        queries = w.queries;
-        history = w.history;
-        accepted = w.accepted;
-        told = w.told;
-        says = λ earlier is. let all = w.says earlier is in (all.events, all.are lines (ap told_of third));
-      };
-}
-
 -- what a source that failed has left is the last part of the file
 rest_after : (earlier : List Event) (schema : Declared) (queries : List Query) (most_bytes : ℕ) (content : Content) (source left : Option (List ℕ)) (events : List Event) → HasOpened content source →
     ((lines : List ℕ) → source ≡ Some lines → AreEventsReadAfter earlier schema queries most_bytes lines left events) → IsRestOf content left
@@ -258,94 +231,41 @@ rest_after earlier schema queries most_bytes Missing source left events opened r
 rest_after earlier schema queries most_bytes (Holds lines) source None events opened read = read lines opened
 rest_after earlier schema queries most_bytes (Holds lines) source (Some rest) events opened read = let r = read lines opened in (r.cut.taken, r.cut.whole)
 
-failed_after : {S : Type 0} (sources : Sources S) (earlier : List Event) (schema : Declared) (queries : List Query) (most_bytes : ℕ) (content : Content) (source : Option (List ℕ)) (events : List Event) (to : ℕ) (failed : Option S) → HasOpened content source →
-    IsSomeAnd failed (λ s. (sources.faults s ≡ to) × Rose 0 to) → ((lines : List ℕ) → source ≡ Some lines → AreEventsReadAfter earlier schema queries most_bytes lines (left_by sources failed) events) → IsSomeAnd failed (FailedWith sources content to)
-failed_after sources earlier schema queries most_bytes content source events to None opened told read = told
-failed_after sources earlier schema queries most_bytes content source events to (Some s) opened told read = record { told = told.0; rose = told.1; rest = rest_after earlier schema queries most_bytes content source (sources.left s) events opened read }
+-- what is said over its source is what it makes of its files
+meets : (o : Outside) (r : ResumeWords) (schema : Declared) (queries : List Query) (history : History) (source : Option (List ℕ)) → OfOpened (o.content r.queries) (λ text. Accepts text schema queries) → OfOpened (o.content r.checkpoint) (Tells schema queries history) → IsHistory schema queries history →
+    HasOpened (o.content r.events) source → Meets o (resuming r) (resumed_said history (resume_asked_of r schema queries) source o.before o.after)
+meets o r schema queries history source accepted told is opened = record {
+  files = record { queries = text_not_missing (o.content r.queries) _ accepted; checkpoint = λ h. text_not_missing (o.content r.checkpoint) _ told; events = not_missing (o.content r.events) source opened };
+  stops = λ halt all text kept lines first second third.
+      let w = (whole halt all).over text kept first (second tt) in record {
+        schema = w.schema;
+        queries = w.queries;
+        history = w.history;
+        accepted = w.accepted;
+        told = w.told;
+        says = λ earlier is. let these = w.says earlier is in (these.events, these.are lines (ap told_of third));
+      };
+  wrote = wrote;
+  rest = λ left read. let over = read (stream_for schema history) (is_stream schema queries history is) in rest_after (stream_for schema history) schema queries r.most_bytes (o.content r.events) source left over.events opened over.are;
+  read = λ to left read. over_history o.content r schema queries history source (Read r left o.before o.after) accepted told opened read;
+  part = λ from to left part. over_history o.content r schema queries history source (Part r (TookPart o.before o.after)) accepted told opened part;
+  some = λ left some. inr (over_history o.content r schema queries history source (Part r (TookPrefix o.before o.after)) accepted told opened some);
+} where
+  whole : (halt : Stop) → AfterEach schema history (λ earlier. All r halt o.before o.after schema queries earlier source) → WroteAllResumed o.content r halt o.before o.after
+  whole halt all = over_history o.content r schema queries history source (All r halt o.before o.after) accepted told opened all
 
--- the answers over its source ended
-module _ {S H : Type 0} (sources : Sources S) (call : H → List ℕ → H → Type 0) (o : Outside) (r : ResumeWords) (first second third last : H) (schema : Declared) (queries : List Query) (history : History) (source : Option (List ℕ)) (held : List ℕ → ℕ)
-    (stay : AllStay o.old held) (accepted : OfOpened (o.content r.queries) (λ text. Accepts text schema queries)) (told : OfOpened (o.content r.checkpoint) (Tells schema queries history)) (is : IsHistory schema queries history)
-    (opened : HasOpened (o.content r.events) source) (one : call first r.queries second) (two : call second r.checkpoint third) (three : call third r.events last) where
-  text : OfOpened (o.content r.queries) IsAcceptedText
-  text = accepted_text (o.content r.queries) schema queries accepted
+  wrote : (halt : Stop) (left : Option (List ℕ)) → AfterEach schema history (λ earlier. All r halt o.before o.after schema queries earlier source) → WroteBy (cause_at halt) o.content (resuming r) left o.before o.after
+  wrote stop.End left all = whole stop.End all
+  wrote (stop.Event line fault) left all = whole (stop.Event line fault) all
+  wrote (stop.InputTooLong taken) left all = whole (stop.InputTooLong taken) all
 
-  wrote_all : (was : Stop) → AfterEach schema history (λ earlier. All r was o.before o.after schema queries earlier source) → WroteAllResumed o.content r was o.before o.after
-  wrote_all was wrote = over_history o.content r schema queries history source (All r was o.before o.after) accepted told opened wrote
-
-  -- it stopped so
-  stopped : (was : Stop) (failed : Option S) → failed ≡ None → AfterEach schema history (λ earlier. All r was o.before o.after schema queries earlier source) → HasStopped o (resuming r) was failed
-  stopped was failed none wrote = has_stopped o r schema queries history source was failed none accepted told opened (wrote_all was wrote)
-
-  files : HasFiles o (resuming r)
-  files = has_files o r schema queries history source accepted told opened
-
-  ended : (given : Cause) (failed : Option S) → CountsWrites given o.out_old o.out_new → ResumedStop sources (resume_asked_of r schema queries) history source o.out_old o.out_new o.before o.after given failed →
-      StopCounts given r.events held o.new → JobEnded sources call o (resuming r) first last given failed
-  ended cause.Fine failed writes stops counts = record {
-    holds = stopped stop.End failed stops.0 stops.1;
-    wrote = wrote_all stop.End stops.1;
-    counts_opens = stay_on o.old held o.new stay counts;
-    counts_writes = writes;
-    opens = opened_three call o.content r _ first second third last refl text (taken_up o.content r schema queries history accepted told) one two three;
-  }
-  ended (cause.Event line fault) failed writes stops counts = record {
-    holds = stopped (stop.Event line fault) failed stops.0 stops.1;
-    wrote = wrote_all (stop.Event line fault) stops.1;
-    counts_opens = stay_on o.old held o.new stay counts;
-    counts_writes = writes;
-    opens = opened_three call o.content r _ first second third last refl text (taken_up o.content r schema queries history accepted told) one two three;
-  }
-  ended (cause.InputTooLong taken) failed writes stops counts = record {
-    holds = stopped (stop.InputTooLong taken) failed stops.0 stops.1;
-    wrote = wrote_all (stop.InputTooLong taken) stops.1;
-    counts_opens = stay_on o.old held o.new stay counts;
-    counts_writes = writes;
-    opens = opened_three call o.content r _ first second third last refl text (taken_up o.content r schema queries history accepted told) one two three;
-  }
-  ended (cause.ReadFault read to) failed writes stops counts =
-      let P : File → Type 0 = λ f. JobEnded sources call o (resuming r) first last (cause.ReadFault f to) failed in
-      let stream = stream_for schema history in
-      let over = stops.2 stream (is_stream schema queries history is) in
-      subst P (sym stops.0) (record {
-        holds = ((text, taken_up o.content r schema queries history accepted told), failed_after sources stream schema queries r.most_bytes (o.content r.events) source over.events to failed opened stops.1 over.are);
-        wrote = over_history o.content r schema queries history source (Read r (left_by sources failed) o.before o.after) accepted told opened stops.2;
-        counts_opens = stay_on o.old held o.new stay counts;
-        counts_writes = writes;
-        opens = opened_three call o.content r _ first second third last refl text (taken_up o.content r schema queries history accepted told) one two three;
-      })
-  ended (cause.WriteFault from to) failed writes stops counts = record {
-    holds = (stops.0, files, stops.1, stops.2, stops.3);
-    wrote = over_history o.content r schema queries history source (Part r (TookPart o.before o.after)) accepted told opened stops.4;
-    counts_opens = stay_on o.old held o.new stay counts;
-    counts_writes = writes;
-    opens = opened_three call o.content r _ first second third last refl text (taken_up o.content r schema queries history accepted told) one two three;
-  }
-  ended cause.Memory failed writes stops counts = record {
-    holds = (stops.0, inr files);
-    wrote = inr (over_history o.content r schema queries history source (Part r (TookPrefix o.before o.after)) accepted told opened stops.1);
-    counts_opens = stay_on o.old held o.new stay counts;
-    counts_writes = writes;
-    opens = opened_three call o.content r _ first second third last (inr (file.Events, refl)) text (taken_up o.content r schema queries history accepted told) one two three;
-  }
-  ended cause.Usage failed writes stops counts = absurd stops
-  ended (cause.Queries fault place) failed writes stops counts = absurd stops
-  ended (cause.ClockKind name) failed writes stops counts = absurd stops
-  ended (cause.Checkpoint line fault) failed writes stops counts = absurd stops
-  ended (cause.OpenFault read before after) failed writes stops counts = absurd stops
-
--- the event file was opened or not
+-- its end
 pub resume_ended : {S H : Type 0} (sources : Sources S) (call : H → List ℕ → H → Type 0) (o : Outside) (r : ResumeWords) (first second third last : H) (schema : Declared) (queries : List Query) (history : History) (whole : Content) (held : List ℕ → ℕ) (given : Cause) (failed : Option S) →
     whole ≡ o.content r.events → AllStay o.old held → OfOpened (o.content r.queries) (λ text. Accepts text schema queries) → OfOpened (o.content r.checkpoint) (Tells schema queries history) → IsHistory schema queries history →
     CountsWrites given o.out_old o.out_new → call first r.queries second → call second r.checkpoint third → call third r.events last →
-    ResumedFileStop sources (resume_asked_of r schema queries) history whole (held r.events) (o.new r.events) o.out_old o.out_new o.before o.after given failed → StopCounts given r.events held o.new → JobEnded sources call o (resuming r) first last given failed
-resume_ended sources call o r first second third last schema queries history whole held given failed kept stay accepted told is writes one two three stops counts =
+    FileStop sources (λ source. resumed_said history (resume_asked_of r schema queries) source o.before o.after) whole (held r.events) (o.new r.events) o.out_old o.out_new o.before o.after given failed → StopCounts given r.events held o.new → JobEnded sources call o (resuming r) first last given failed
+resume_ended sources call o r first second third last schema queries history whole held given failed kept stay accepted told is writes one two three ends counts =
     let taken = taken_up o.content r schema queries history accepted told in
     let text = accepted_text (o.content r.queries) schema queries accepted in
-    elim stops.way [
-      | inl not ↦ unopened_in_turn sources call o (resuming r) first last whole held given failed stay (text, taken) not.1 writes
-          (λ k are. opened_three call o.content r k first second third last are text taken one two three) not.0 counts not.2
-      | inr was ↦
-          let P : Content → Type 0 = λ c. HasOpened c was.0 in
-          ended sources call o r first second third last schema queries history was.0 held stay accepted told is (subst P kept was.1) one two three given failed writes was.2 counts
-    ]
+    file_ended sources call o (resuming r) first last held stay text taken (λ k are. opened_three call o.content r k first second third last are text taken one two three) (λ source. resumed_said history (resume_asked_of r schema queries) source o.before o.after) whole given failed kept
+    (λ source opened. meets o r schema queries history source accepted told is opened) writes ends counts

@@ -10,7 +10,6 @@ use Rattle.stream_answers.specs.Steps.{CountsAll}
 use Rattle.checkpoint_text.specs.declared.history.History.{History}
 use Rattle.checkpoint_text.specs.Checkpoints.{checkpoint_of}
 use Rattle.late_answers.specs.Steps.{LateCountsAll}
-use Rattle.session_script.specs.declared.script.TheConstants.{MOST_BYTES as MOST_SCRIPT}
 use Rattle.session_script.specs.Turns.{CountsTurns, CountsBegun}
 use Rattle.fault_notes.specs.declared.File.TheVariants as file
 use Rattle.core_jobs.specs.declared.Cause.{Cause}
@@ -21,8 +20,9 @@ use Rattle.core_jobs.specs.Output.{resume_asked_of}
 use Rattle.core_jobs.specs.Notes.{NeedsMemory, IsToldAs}
 use Rattle.core_jobs.specs.Run.{Sources, QueriesStop, IsOpening}
 use Rattle.core_jobs.specs.Reordering.{IsUnfit}
-use Rattle.core_jobs.specs.Resuming.{NoHistory, HistoryStop, AfterEach}
-use Rattle.core_jobs.specs.Steps.{Bounds, FaultBounds, StepsWithin, run_bounds, run_fault_bounds, late_bounds, late_fault_bounds, script_bounds, script_fault_bounds, PlayStepsBy, OverScript, SessionSteps, OverFiles, StepsBy, RunSteps, OverLateFiles, LateStepsBy, ReorderSteps, AskedAfter, resume_bounds, resume_fault_bounds, ResumeStepsBy, OverThreeFiles, ResumeSteps, StepsOf}
+use Rattle.resumed_answers.specs.Resumed.{AfterEach}
+use Rattle.core_jobs.specs.Resuming.{NoHistory, HistoryStop}
+use Rattle.core_jobs.specs.Steps.{Bounds, FaultBounds, StepsWithin, run_bounds, run_fault_bounds, late_bounds, late_fault_bounds, script_bounds, script_fault_bounds, script_asked, PlayStepsBy, OverScript, SessionSteps, OverFiles, StepsBy, RunSteps, OverLateFiles, LateStepsBy, ReorderSteps, AskedAfter, resume_bounds, resume_fault_bounds, ResumeStepsBy, OverThreeFiles, ResumeSteps, StepsOf}
 use Rattle.core_jobs.proofs.Streams.{asked_of, source_told, text_told}
 use Rattle.core_jobs.proofs.Words.{one_job}
 
@@ -124,9 +124,9 @@ steps_of_file content lines_of r schema queries given before after old now same 
 -- the same of a script
 pub session_steps_of_file : (content : List ℕ → Content) (script_of : Content) (s : SessionWords) (schema : Declared) (queries : List Query) (given : Cause) (before after : Option (List ℕ)) (old now : ℕ) → script_of ≡ content s.script →
     OfOpened (content s.queries) (λ text. Accepts text schema queries) →
-    PlayStepsBy (λ Says. (script : List ℕ) → script_of ≡ Holds script → Says (record { schema = schema; queries = queries; most_bytes = MOST_SCRIPT }) script) given before after old now → SessionSteps given content s before after old now
+    PlayStepsBy (λ Says. (script : List ℕ) → script_of ≡ Holds script → Says (script_asked schema queries) script) given before after old now → SessionSteps given content s before after old now
 session_steps_of_file content script_of s schema queries given before after old now same accepted h =
-    steps_map script_bounds script_fault_bounds (λ Says. (script : List ℕ) → script_of ≡ Holds script → Says (record { schema = schema; queries = queries; most_bytes = MOST_SCRIPT }) script) (OverScript content s)
+    steps_map script_bounds script_fault_bounds (λ Says. (script : List ℕ) → script_of ≡ Holds script → Says (script_asked schema queries) script) (OverScript content s)
     (λ Says over text script first second. record {
       schema = schema;
       queries = queries;
@@ -190,19 +190,6 @@ forget content r Stops Took old now h = λ text lines first second.
       record { events = w.3.events; stop = w.3.stop; runs = w.3.runs; stops = tt; rows = w.3.rows; are_rows = w.3.are_rows; took = tt; bounded = w.3.bounded },
     )
 
-for_memory : (content : List ℕ → Content) (r : RunWords) (told : Cause) (before after : Option (List ℕ)) (old now : ℕ) → NeedsMemory told → RunSteps told content r before after old now → RunSteps cause.Memory content r before after old now
-for_memory content r (cause.Queries fault place) before after old now needs h = inl h
-for_memory content r (cause.ClockKind name) before after old now needs h = inl h
-for_memory content r (cause.Event line fault) before after old now needs h = inr (forget content r _ _ old now h)
-for_memory content r (cause.InputTooLong taken) before after old now needs h = inr (forget content r _ _ old now h)
-for_memory content r (cause.Checkpoint line fault) before after old now needs h = inl h
-for_memory content r cause.Fine before after old now needs h = absurd needs
-for_memory content r cause.Usage before after old now needs h = absurd needs
-for_memory content r (cause.OpenFault opened from to) before after old now needs h = absurd needs
-for_memory content r (cause.ReadFault read to) before after old now needs h = absurd needs
-for_memory content r (cause.WriteFault from to) before after old now needs h = absurd needs
-for_memory content r cause.Memory before after old now needs h = absurd needs
-
 late_forget : (content : List ℕ → Content) (w : ReorderWords) (Stops : Stop → Type 0) (Took : List ℕ → Type 0) (old now : ℕ) → OverLateFiles content w (λ a lines. LateCountsAll w.compact_every a lines Stops Took old now) → OverLateFiles content w (λ a lines. LateCountsAll w.compact_every a lines (λ halt. Unit {0}) (λ bytes. Unit {0}) old now)
 late_forget content w Stops Took old now h = λ text lines first second.
     let u = h text lines first second in (
@@ -211,19 +198,6 @@ late_forget content w Stops Took old now h = λ text lines first second.
       u.2,
       record { events = u.3.events; stop = u.3.stop; runs = u.3.runs; stops = tt; rows = u.3.rows; are_rows = u.3.are_rows; took = tt; bounded = u.3.bounded },
     )
-
-late_for_memory : (content : List ℕ → Content) (w : ReorderWords) (told : Cause) (before after : Option (List ℕ)) (old now : ℕ) → NeedsMemory told → ReorderSteps told content w before after old now → ReorderSteps cause.Memory content w before after old now
-late_for_memory content w (cause.Queries fault place) before after old now needs h = inl h
-late_for_memory content w (cause.ClockKind name) before after old now needs h = inl h
-late_for_memory content w (cause.Event line fault) before after old now needs h = inr (late_forget content w _ _ old now h)
-late_for_memory content w (cause.InputTooLong taken) before after old now needs h = inr (late_forget content w _ _ old now h)
-late_for_memory content w (cause.Checkpoint line fault) before after old now needs h = inl h
-late_for_memory content w cause.Fine before after old now needs h = absurd needs
-late_for_memory content w cause.Usage before after old now needs h = absurd needs
-late_for_memory content w (cause.OpenFault opened from to) before after old now needs h = absurd needs
-late_for_memory content w (cause.ReadFault read to) before after old now needs h = absurd needs
-late_for_memory content w (cause.WriteFault from to) before after old now needs h = absurd needs
-late_for_memory content w cause.Memory before after old now needs h = absurd needs
 
 resume_forget : (content : List ℕ → Content) (r : ResumeWords) (Stops : Stop → Type 0) (Took : List ℕ → Type 0) (old now : ℕ) → OverThreeFiles content r (λ a lines. resume_bounds r.compact_every a lines Stops Took old now) →
     OverThreeFiles content r (λ a lines. resume_bounds r.compact_every a lines (λ halt. Unit {0}) (λ bytes. Unit {0}) old now)
@@ -238,19 +212,6 @@ resume_forget content r Stops Took old now h = λ text kept lines first second t
           let c = w.says earlier is in record { events = c.events; stop = c.stop; runs = c.runs; stops = tt; rows = c.rows; are_rows = c.are_rows; took = tt; bounded = c.bounded };
     }
 
-resume_for_memory : (content : List ℕ → Content) (r : ResumeWords) (told : Cause) (before after : Option (List ℕ)) (old now : ℕ) → NeedsMemory told → ResumeSteps told content r before after old now → ResumeSteps cause.Memory content r before after old now
-resume_for_memory content r (cause.Queries fault place) before after old now needs h = inl h
-resume_for_memory content r (cause.ClockKind name) before after old now needs h = inl h
-resume_for_memory content r (cause.Checkpoint line fault) before after old now needs h = inl h
-resume_for_memory content r (cause.Event line fault) before after old now needs h = inr (resume_forget content r _ _ old now h)
-resume_for_memory content r (cause.InputTooLong taken) before after old now needs h = inr (resume_forget content r _ _ old now h)
-resume_for_memory content r cause.Fine before after old now needs h = absurd needs
-resume_for_memory content r cause.Usage before after old now needs h = absurd needs
-resume_for_memory content r (cause.OpenFault opened from to) before after old now needs h = absurd needs
-resume_for_memory content r (cause.ReadFault read to) before after old now needs h = absurd needs
-resume_for_memory content r (cause.WriteFault from to) before after old now needs h = absurd needs
-resume_for_memory content r cause.Memory before after old now needs h = absurd needs
-
 -- what was taken is forgotten
 pub forget_took : (a : EventsAsked) (script : List ℕ) (Took Other : List ℕ → Type 0) (old now : ℕ) → CountsTurns a script Took old now ⊎ CountsBegun a script Other old now →
     CountsTurns a script (λ bytes. Unit {0}) old now ⊎ CountsBegun a script (λ bytes. Unit {0}) old now
@@ -261,27 +222,33 @@ session_forget : (content : List ℕ → Content) (s : SessionWords) (Took : Lis
     OverScript content s (λ a script. CountsTurns a script (λ bytes. Unit {0}) old now ⊎ CountsBegun a script (λ bytes. Unit {0}) old now)
 session_forget content s Took old now h = λ text script first second.
     let w = h text script first second in
-    record { schema = w.schema; queries = w.queries; accepted = w.accepted; says = forget_took (record { schema = w.schema; queries = w.queries; most_bytes = MOST_SCRIPT }) script Took Took old now w.says }
+    record { schema = w.schema; queries = w.queries; accepted = w.accepted; says = forget_took (script_asked w.schema w.queries) script Took Took old now w.says }
 
-session_for_memory : (content : List ℕ → Content) (s : SessionWords) (told : Cause) (before after : Option (List ℕ)) (old now : ℕ) → NeedsMemory told → SessionSteps told content s before after old now → SessionSteps cause.Memory content s before after old now
-session_for_memory content s (cause.Queries fault place) before after old now needs h = inl h
-session_for_memory content s (cause.ClockKind name) before after old now needs h = inl h
-session_for_memory content s (cause.Event line fault) before after old now needs h = inr (session_forget content s (TookAll before after) old now h)
-session_for_memory content s (cause.InputTooLong taken) before after old now needs h = inr (session_forget content s (TookAll before after) old now h)
-session_for_memory content s (cause.Checkpoint line fault) before after old now needs h = inl h
-session_for_memory content s cause.Fine before after old now needs h = absurd needs
-session_for_memory content s cause.Usage before after old now needs h = absurd needs
-session_for_memory content s (cause.OpenFault opened from to) before after old now needs h = absurd needs
-session_for_memory content s (cause.ReadFault read to) before after old now needs h = absurd needs
-session_for_memory content s (cause.WriteFault from to) before after old now needs h = absurd needs
-session_for_memory content s cause.Memory before after old now needs h = absurd needs
+for_memory : {A : Type 0} (All : Bounds A) (AtFault : FaultBounds A) (Over : (A → List ℕ → Type 0) → Type 0) (before after : Option (List ℕ)) (old now : ℕ) →
+    ((Stops : Stop → Type 0) → Over (λ a lines. All a lines Stops (TookAll before after) old now) → Over (λ a lines. All a lines (λ halt. Unit {0}) (λ bytes. Unit {0}) old now)) → (told : Cause) → NeedsMemory told →
+    StepsWithin All AtFault Over told before after old now → StepsWithin All AtFault Over cause.Memory before after old now
+for_memory All AtFault Over before after old now less (cause.Queries fault place) needs h = inl h
+for_memory All AtFault Over before after old now less (cause.ClockKind name) needs h = inl h
+for_memory All AtFault Over before after old now less (cause.Event line fault) needs h = inr (less _ h)
+for_memory All AtFault Over before after old now less (cause.InputTooLong taken) needs h = inr (less _ h)
+for_memory All AtFault Over before after old now less (cause.Checkpoint line fault) needs h = inl h
+for_memory All AtFault Over before after old now less cause.Fine needs h = absurd needs
+for_memory All AtFault Over before after old now less cause.Usage needs h = absurd needs
+for_memory All AtFault Over before after old now less (cause.OpenFault opened from to) needs h = absurd needs
+for_memory All AtFault Over before after old now less (cause.ReadFault read to) needs h = absurd needs
+for_memory All AtFault Over before after old now less (cause.WriteFault from to) needs h = absurd needs
+for_memory All AtFault Over before after old now less cause.Memory needs h = absurd needs
 
 job_for_memory : (content : List ℕ → Content) (job : Job) (told : Cause) (before after : Option (List ℕ)) (old now : ℕ) → NeedsMemory told → StepsOf told content job before after old now → StepsOf cause.Memory content job before after old now
-job_for_memory content (running r) told before after old now needs h = for_memory content r told before after old now needs h
-job_for_memory content (reordering w) told before after old now needs h = late_for_memory content w told before after old now needs h
+job_for_memory content (running r) told before after old now needs h =
+    for_memory (run_bounds r.compact_every) (run_fault_bounds r.compact_every) (OverFiles content r) before after old now (λ Stops. forget content r Stops (TookAll before after) old now) told needs h
+job_for_memory content (reordering w) told before after old now needs h =
+    for_memory (late_bounds w.compact_every) (late_fault_bounds w.compact_every) (OverLateFiles content w) before after old now (λ Stops. late_forget content w Stops (TookAll before after) old now) told needs h
 job_for_memory content (explaining x) told before after old now needs h = h
-job_for_memory content (playing s) told before after old now needs h = session_for_memory content s told before after old now needs h
-job_for_memory content (resuming r) told before after old now needs h = resume_for_memory content r told before after old now needs h
+job_for_memory content (playing s) told before after old now needs h =
+    for_memory script_bounds script_fault_bounds (OverScript content s) before after old now (λ Stops. session_forget content s (TookAll before after) old now) told needs h
+job_for_memory content (resuming r) told before after old now needs h =
+    for_memory (resume_bounds r.compact_every) (resume_fault_bounds r.compact_every) (OverThreeFiles content r) before after old now (λ Stops. resume_forget content r Stops (TookAll before after) old now) told needs h
 job_for_memory content (saving s) told before after old now needs h = h
 
 pub noted_steps : {S : Type 0} (content : List ℕ → Content) (job : Job) (told given last : Cause) (failed left : Option S) (before after : Option (List ℕ)) (old now : ℕ) → last ≡ given → IsToldAs told failed given left → StepsOf told content job before after old now → StepsOf last content job before after old now
@@ -292,53 +259,27 @@ noted_steps content job told given last failed left before after old now same no
       | inr none ↦ subst P (sym none.1) (job_for_memory content job told before after old now none.0 h)
     ])
 
+-- nothing was opened, and no step taken
+none_taken : {A : Type 0} (All : Bounds A) (AtFault : FaultBounds A) (Over : (A → List ℕ → Type 0) → Type 0) (given : Cause) (before after : Option (List ℕ)) (now : ℕ) → IsEnd given → StepsWithin All AtFault Over given before after now now
+none_taken All AtFault Over cause.Memory before after now ends = inl refl
+none_taken All AtFault Over cause.Usage before after now ends = refl
+none_taken All AtFault Over cause.Fine before after now ends = absurd ends
+none_taken All AtFault Over (cause.Queries fault place) before after now ends = absurd ends
+none_taken All AtFault Over (cause.Event line fault) before after now ends = absurd ends
+none_taken All AtFault Over (cause.InputTooLong taken) before after now ends = absurd ends
+none_taken All AtFault Over (cause.Checkpoint line fault) before after now ends = absurd ends
+none_taken All AtFault Over (cause.OpenFault opened from to) before after now ends = absurd ends
+none_taken All AtFault Over (cause.ReadFault read to) before after now ends = absurd ends
+none_taken All AtFault Over (cause.WriteFault from to) before after now ends = absurd ends
+none_taken All AtFault Over (cause.ClockKind name) before after now ends = absurd ends
+
 -- a job that took no step
 pub no_steps : (content : List ℕ → Content) (job : Job) (given : Cause) (before after : Option (List ℕ)) (now : ℕ) → IsEnd given → StepsOf given content job before after now now
-no_steps content (running r) cause.Memory before after now ends = inl refl
-no_steps content (running r) cause.Usage before after now ends = refl
-no_steps content (running r) cause.Fine before after now ends = absurd ends
-no_steps content (running r) (cause.Queries fault place) before after now ends = absurd ends
-no_steps content (running r) (cause.Event line fault) before after now ends = absurd ends
-no_steps content (running r) (cause.InputTooLong taken) before after now ends = absurd ends
-no_steps content (running r) (cause.Checkpoint line fault) before after now ends = absurd ends
-no_steps content (running r) (cause.OpenFault opened from to) before after now ends = absurd ends
-no_steps content (running r) (cause.ReadFault read to) before after now ends = absurd ends
-no_steps content (running r) (cause.WriteFault from to) before after now ends = absurd ends
-no_steps content (running r) (cause.ClockKind name) before after now ends = absurd ends
-no_steps content (reordering w) cause.Memory before after now ends = inl refl
-no_steps content (reordering w) cause.Usage before after now ends = refl
-no_steps content (reordering w) cause.Fine before after now ends = absurd ends
-no_steps content (reordering w) (cause.Queries fault place) before after now ends = absurd ends
-no_steps content (reordering w) (cause.Event line fault) before after now ends = absurd ends
-no_steps content (reordering w) (cause.InputTooLong taken) before after now ends = absurd ends
-no_steps content (reordering w) (cause.Checkpoint line fault) before after now ends = absurd ends
-no_steps content (reordering w) (cause.OpenFault opened from to) before after now ends = absurd ends
-no_steps content (reordering w) (cause.ReadFault read to) before after now ends = absurd ends
-no_steps content (reordering w) (cause.WriteFault from to) before after now ends = absurd ends
-no_steps content (reordering w) (cause.ClockKind name) before after now ends = absurd ends
+no_steps content (running r) given before after now ends = none_taken (run_bounds r.compact_every) (run_fault_bounds r.compact_every) (OverFiles content r) given before after now ends
+no_steps content (reordering w) given before after now ends = none_taken (late_bounds w.compact_every) (late_fault_bounds w.compact_every) (OverLateFiles content w) given before after now ends
 no_steps content (explaining x) given before after now ends = refl
-no_steps content (playing s) cause.Memory before after now ends = inl refl
-no_steps content (playing s) cause.Usage before after now ends = refl
-no_steps content (playing s) cause.Fine before after now ends = absurd ends
-no_steps content (playing s) (cause.Queries fault place) before after now ends = absurd ends
-no_steps content (playing s) (cause.Event line fault) before after now ends = absurd ends
-no_steps content (playing s) (cause.InputTooLong taken) before after now ends = absurd ends
-no_steps content (playing s) (cause.Checkpoint line fault) before after now ends = absurd ends
-no_steps content (playing s) (cause.OpenFault opened from to) before after now ends = absurd ends
-no_steps content (playing s) (cause.ReadFault read to) before after now ends = absurd ends
-no_steps content (playing s) (cause.WriteFault from to) before after now ends = absurd ends
-no_steps content (playing s) (cause.ClockKind name) before after now ends = absurd ends
-no_steps content (resuming r) cause.Memory before after now ends = inl refl
-no_steps content (resuming r) cause.Usage before after now ends = refl
-no_steps content (resuming r) cause.Fine before after now ends = absurd ends
-no_steps content (resuming r) (cause.Queries fault place) before after now ends = absurd ends
-no_steps content (resuming r) (cause.Event line fault) before after now ends = absurd ends
-no_steps content (resuming r) (cause.InputTooLong taken) before after now ends = absurd ends
-no_steps content (resuming r) (cause.Checkpoint line fault) before after now ends = absurd ends
-no_steps content (resuming r) (cause.OpenFault opened from to) before after now ends = absurd ends
-no_steps content (resuming r) (cause.ReadFault read to) before after now ends = absurd ends
-no_steps content (resuming r) (cause.WriteFault from to) before after now ends = absurd ends
-no_steps content (resuming r) (cause.ClockKind name) before after now ends = absurd ends
+no_steps content (playing s) given before after now ends = none_taken script_bounds script_fault_bounds (OverScript content s) given before after now ends
+no_steps content (resuming r) given before after now ends = none_taken (resume_bounds r.compact_every) (resume_fault_bounds r.compact_every) (OverThreeFiles content r) given before after now ends
 no_steps content (saving s) given before after now ends = refl
 
 -- the job that the words ask for

@@ -112,14 +112,9 @@ wrote_read content r schema queries source left before after accepted opened wro
 }
 
 -- what a source that failed has left is the last part of the file
-rest_of : (schema : Declared) (queries : List Query) (most_bytes : ℕ) (content : Content) (source left : Option (List ℕ)) (events : List Event) → HasOpened content source →
+pub rest_of : (schema : Declared) (queries : List Query) (most_bytes : ℕ) (content : Content) (source left : Option (List ℕ)) (events : List Event) → HasOpened content source →
     ((lines : List ℕ) → source ≡ Some lines → AreEventsRead schema queries most_bytes lines left events) → IsRestOf content left
 rest_of schema queries most_bytes Untold source left events opened read = tt
 rest_of schema queries most_bytes Missing source left events opened read = opened
 rest_of schema queries most_bytes (Holds lines) source None events opened read = read lines opened
 rest_of schema queries most_bytes (Holds lines) source (Some rest) events opened read = let r = read lines opened in (r.cut.taken, r.cut.whole)
-
-pub failed_with : {S : Type 0} (sources : Sources S) (schema : Declared) (queries : List Query) (most_bytes : ℕ) (content : Content) (source : Option (List ℕ)) (events : List Event) (to : ℕ) (failed : Option S) → HasOpened content source →
-    IsSomeAnd failed (λ s. (sources.faults s ≡ to) × Rose 0 to) → ((lines : List ℕ) → source ≡ Some lines → AreEventsRead schema queries most_bytes lines (left_by sources failed) events) → IsSomeAnd failed (FailedWith sources content to)
-failed_with sources schema queries most_bytes content source events to None opened told read = told
-failed_with sources schema queries most_bytes content source events to (Some s) opened told read = record { told = told.0; rose = told.1; rest = rest_of schema queries most_bytes content source (sources.left s) events opened read }

@@ -3,6 +3,7 @@ use Rattle.std.specs.Prelude.{ℕ, Option, List, []}
 use Rattle.answer_text.specs.declared.Order.{Order}
 use Rattle.command_words.specs.declared.Command.TheVariants.{Run, Sample, Session, Reorder, Explain, Save, Resume}
 use Rattle.command_words.specs.CommandLine.{AsksFor}
+use Rattle.stream_answers.specs.declared.RunOptions.{RunOptions}
 use Rattle.answer_explain.specs.declared.Question.{Question}
 
 -- the names of the two files, how the lines of one position are ordered, after how many events the engine is compacted each time, and how many bytes of events are too many
@@ -12,6 +13,9 @@ pub record RunWords : Type 0 where
   pub order : Order
   pub compact_every : Option ℕ
   pub most_bytes : ℕ
+
+abbrev pub run_words : List ℕ → List ℕ → RunOptions → RunWords
+run_words queries events options = record { queries = queries; events = events; order = options.order; compact_every = options.compact_every; most_bytes = options.most_bytes }
 
 abbrev pub AsksRun : List (List ℕ) → RunWords → Type 0
 AsksRun words r = AsksFor words (Run r.queries r.events r.order r.compact_every r.most_bytes)
@@ -25,6 +29,9 @@ pub record ReorderWords : Type 0 where
   pub order : Order
   pub compact_every : Option ℕ
   pub most_bytes : ℕ
+
+abbrev pub reorder_words : List ℕ → List ℕ → List ℕ → ℕ → RunOptions → ReorderWords
+reorder_words queries events clock late options = record { queries = queries; events = events; clock = clock; late = late; order = options.order; compact_every = options.compact_every; most_bytes = options.most_bytes }
 
 abbrev pub AsksReorder : List (List ℕ) → ReorderWords → Type 0
 AsksReorder words w = AsksFor words (Reorder w.queries w.events w.clock w.late w.order w.compact_every w.most_bytes)
@@ -54,6 +61,9 @@ pub record ResumeWords : Type 0 where
   pub order : Order
   pub compact_every : Option ℕ
   pub most_bytes : ℕ
+
+abbrev pub resume_words : List ℕ → List ℕ → List ℕ → RunOptions → ResumeWords
+resume_words queries checkpoint events options = record { queries = queries; checkpoint = checkpoint; events = events; order = options.order; compact_every = options.compact_every; most_bytes = options.most_bytes }
 
 abbrev pub AsksResume : List (List ℕ) → ResumeWords → Type 0
 AsksResume words r = AsksFor words (Resume r.queries r.checkpoint r.events r.order r.compact_every r.most_bytes)

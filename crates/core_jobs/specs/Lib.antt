@@ -6,9 +6,7 @@ pub mod Opening
 pub mod Notes
 pub mod SourceBytes
 pub mod Run
-pub mod Explaining
-pub mod Saving
-pub mod Playing
+pub mod Ending
 pub mod Reordering
 pub mod Resuming
 pub mod Steps

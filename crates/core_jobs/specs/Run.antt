@@ -1,13 +1,9 @@
 -- How a call of the program ends, as its parts tell it to each other. Private clauses alone cite this file, but for `left_by`.
 use Rattle.std.specs.Prelude.{◌≡◌, ◌≢◌, ℕ, ◌⊎◌, List, Option, Some, None, IsSomeAnd}
 use Rattle.cer_outside.specs.Causes.{Rose, AllStay, RoseAt}
-use Rattle.cer_outside.specs.Content.{Content, Missing, Holds, HasOpened, OfOpened}
-use Rattle.cer_outside.specs.Bytes.{TookPart}
-use Rattle.answer_blocks.specs.Taken.{TookPrefix}
+use Rattle.cer_outside.specs.Content.{Content, Missing, Holds, OfOpened}
 use Rattle.event_run.specs.Runs.{Stop}
 use Rattle.event_run.specs.Runs as stop
-use Rattle.event_run.specs.Taking.{AreEventsRead}
-use Rattle.stream_answers.specs.Streams.{Asked, WroteOver, WroteAll, WrotePartOf}
 use Rattle.checkpoint_text.specs.declared.CheckpointFault.{CheckpointFault}
 use Rattle.fault_notes.specs.declared.File.{File}
 use Rattle.fault_notes.specs.declared.File.TheVariants as file
@@ -68,23 +64,6 @@ QueriesStop sources whole old new (cause.OpenFault opened before after) failed =
 QueriesStop sources whole old new (cause.ReadFault read after) failed = ReadingStops sources file.Queries whole old new (cause.ReadFault read after) failed
 QueriesStop sources whole old new cause.Memory failed = failed ≡ None
 QueriesStop sources whole old new _ failed = ⊥
-
--- how the answers over a source ended, of which these bytes were left, where they are told
-abbrev pub SourceStop : {S : Type 0} → Sources S → Asked → Option (List ℕ) → ℕ → ℕ → Option (List ℕ) → Option (List ℕ) → Cause → Option S → Type 0
-SourceStop sources a source out_old out_new before after cause.Fine failed = (failed ≡ None) × WroteAll a source stop.End before after
-SourceStop sources a source out_old out_new before after (cause.Event line fault) failed = (failed ≡ None) × WroteAll a source (stop.Event line fault) before after
-SourceStop sources a source out_old out_new before after (cause.InputTooLong taken) failed = (failed ≡ None) × WroteAll a source (stop.InputTooLong taken) before after
-SourceStop sources a source out_old out_new before after (cause.ReadFault read to) failed =
-    (read ≡ file.Events) × IsSomeAnd failed (λ s. (sources.faults s ≡ to) × Rose 0 to) × WroteOver a source (λ lines events. AreEventsRead a.schema a.queries a.most_bytes lines (left_by sources failed) events) before after
-SourceStop sources a source out_old out_new before after (cause.WriteFault from to) failed =
-    (failed ≡ None) × (from ≡ out_old) × (to ≡ out_new) × Rose from to × WrotePartOf a source (TookPart before after)
-SourceStop sources a source out_old out_new before after cause.Memory failed = (failed ≡ None) × WrotePartOf a source (TookPrefix before after)
-SourceStop sources a source out_old out_new before after _ failed = ⊥
-
--- How the answers over a file ended: it was not opened, or they ended so over what was left in it.
-pub record EventsStop {S : Type 0} (sources : Sources S) (a : Asked) (whole : Content) (old new out_old out_new : ℕ) (before after : Option (List ℕ)) (given : Cause) (failed : Option S) : Type 0 where
-  pub way : (ReadingStops sources file.Events whole old new given failed × (after ≡ before) × IsOpening given)
-      ⊎ ((source : Option (List ℕ)) × HasOpened whole source × SourceStop sources a source out_old out_new before after given failed)
 
 -- the files, the host and the output, before and after a call
 pub record Outside : Type 0 where

@@ -115,10 +115,14 @@ script_fault_bounds a script before after old now = CountsBegun a script (TookFi
 abbrev pub PlayStepsBy : ((EventsAsked → List ℕ → Type 0) → Type 0) → Cause → Option (List ℕ) → Option (List ℕ) → ℕ → ℕ → Type 0
 PlayStepsBy Over given before after old now = StepsWithin script_bounds script_fault_bounds Over given before after old now
 
+-- what is asked of a script
+abbrev pub script_asked : Declared → List Query → EventsAsked
+script_asked schema queries = record { schema = schema; queries = queries; most_bytes = MOST_SCRIPT }
+
 -- what is said of the schema and the queries of the query text and of the bytes of the script, where the host tells both
 abbrev pub OverScript : (List ℕ → Content) → SessionWords → (EventsAsked → List ℕ → Type 0) → Type 0
 OverScript content s Says = (text script : List ℕ) → content s.queries ≡ Holds text → content s.script ≡ Holds script →
-    SaysOf text (λ schema queries. Says (record { schema = schema; queries = queries; most_bytes = MOST_SCRIPT }) script)
+    SaysOf text (λ schema queries. Says (script_asked schema queries) script)
 
 abbrev pub SessionSteps : Cause → (List ℕ → Content) → SessionWords → Option (List ℕ) → Option (List ℕ) → ℕ → ℕ → Type 0
 SessionSteps given content s before after old now = PlayStepsBy (OverScript content s) given before after old now

@@ -1,20 +1,19 @@
 //! The order of work of an explanation: the query file, the event file, what explains the answer.
 
 ghost use Rattle.std.specs.Prelude.{◌≡◌, ℕ, List};
+ghost use Rattle.answer_explain.specs.Written.{explained_said};
 ghost use Rattle.core_jobs.specs.Command.{explaining};
 ghost use Rattle.core_jobs.specs.Causes.{CountsWrites};
 ghost use Rattle.core_jobs.specs.Run.{JobEnded, StopCounts};
-ghost use Rattle.core_jobs.specs.Explaining.{ExplanationStop, FileStop};
+ghost use Rattle.core_jobs.specs.Ending.{FileStop, SourceStop};
 
-use super::opening::{Stop, open};
+use super::opening::{Stop, open, stop_of};
 use super::queries::read_accepted;
 use super::{Cause, File};
 use answer_explain::{Question, write_explanation};
 use ceql_parser::Accepted;
-use cer_base::OrMemory;
 use cer_outside::{Host, Sink, Source};
 use std::alloc::Global;
-use stream_answers::StreamFault;
 
 /// Reads the query text and all events, and writes what explains the complex event.
 pub fn explain_files<H: Host, K: Sink>(
@@ -61,11 +60,11 @@ fn explain_file<H: Host, K: Sink>(
     out: &mut K,
 ) -> Stop<H::Src>
     ensures stop { FileStop (record { faults = H.Src.faults; left = H.Src.left })
-        (record {
+        (λ source. explained_said (record {
           schema = accepted.now.schema;
           queries = accepted.now.queries;
           question = question.now;
-        })
+        }) source (K.taken out.old) (K.taken out.new))
         (H.content host.old events.now)
         (H.faults host.old events.now) (H.faults host.new events.now)
         (K.faults out.old) (K.faults out.new) (K.taken out.old) (K.taken out.new)
@@ -91,43 +90,19 @@ fn explain_source<S: Source + Drop, K: Sink>(
     out: &mut K,
 ) -> Stop<S>
     requires sound { S.faults source ≡ 0 }
-    ensures stop { ExplanationStop (record { faults = S.faults; left = S.left })
-        (record {
+    ensures stop { SourceStop (record { faults = S.faults; left = S.left })
+        (explained_said (record {
           schema = accepted.now.schema;
           queries = accepted.now.queries;
           question = question.now;
-        })
-        (S.left source)
-        (K.faults out.old) (K.faults out.new) (K.taken out.old) (K.taken out.new)
+        }) (S.left source) (K.taken out.old) (K.taken out.new)) (K.faults out.old) (K.faults
+        out.new)
         result.cause result.failed }
     ensures none_left { result.left ≡ None }
     ensures writes { CountsWrites result.cause (K.faults out.old) (K.faults out.new) }
 {
     let before = out.fault_count();
     let queries = accepted.queries.as_slice();
-    match write_explanation(alloc, &accepted.schema, queries, question, &mut source, out) {
-        Ok(()) => Stop::of(Cause::Fine),
-        Err(OrMemory::Memory) => Stop::of(Cause::Memory),
-        Err(OrMemory::Fault(StreamFault::Event { line, fault })) => {
-            Stop::of(Cause::Event { line, fault })
-        }
-        Err(OrMemory::Fault(StreamFault::InputTooLong { taken })) => {
-            Stop::of(Cause::InputTooLong { taken })
-        }
-        Err(OrMemory::Fault(StreamFault::WriteFault)) => {
-            let after = out.fault_count();
-            Stop::of(Cause::WriteFault { before, after })
-        }
-        Err(OrMemory::Fault(StreamFault::ReadFault)) => {
-            let after = source.fault_count();
-            Stop {
-                cause: Cause::ReadFault {
-                    file: File::Events,
-                    after,
-                },
-                failed: Some(source),
-                left: None,
-            }
-        }
-    }
+    let end = write_explanation(alloc, &accepted.schema, queries, question, &mut source, out);
+    stop_of(end, source, out, before)
 }

@@ -1,17 +1,19 @@
-//! A file, opened, and one read whole.
+//! A file, opened, and one read whole; and how a job over one ended.
 
 ghost use Rattle.std.specs.Prelude.{◌≡◌, ℕ, List, IfOk, IfErr};
 ghost use Rattle.cer_outside.specs.Causes.{AllStay};
 ghost use Rattle.cer_outside.specs.Content.{HasOpened};
 ghost use Rattle.core_jobs.specs.SourceBytes.{AreFirstOf};
 ghost use Rattle.core_jobs.specs.Run.{ReadingStops, StopCounts, IsOpening};
+ghost use Rattle.core_jobs.specs.Ending.{cause_of, failed_by};
 
 use super::files::{MOST_READ, read_whole};
 use super::{Cause, File};
 use cer_base::OrMemory;
-use cer_outside::{Host, OpenError, Source};
+use cer_outside::{Host, OpenError, Sink, Source};
 use query_engine::Engine;
 use std::alloc::Global;
+use stream_answers::StreamFault;
 
 /// A call that ended: its cause, the source that failed where reading did, and the engine of a run
 /// where all was well.
@@ -109,6 +111,44 @@ pub fn take_whole<H: Host>(
                 failed: Some(source),
                 left: None,
             })
+        }
+    }
+}
+
+/// How a job over a source ended, by how what it ran over that did. The source stays where it failed;
+/// `before` is what the output had counted of faults before.
+pub fn stop_of<S: Source + Drop, K: Sink>(
+    end: Result<(), OrMemory<StreamFault>>,
+    source: S,
+    out: &K,
+    before: u64,
+) -> Stop<S>
+    ensures cause { result.cause ≡ cause_of end before (K.faults out.now) (S.faults source) }
+    ensures failed { result.failed ≡ failed_by end source }
+    ensures none_left { result.left ≡ None }
+{
+    match end {
+        Ok(()) => Stop::of(Cause::Fine),
+        Err(OrMemory::Memory) => Stop::of(Cause::Memory),
+        Err(OrMemory::Fault(StreamFault::Event { line, fault })) => {
+            Stop::of(Cause::Event { line, fault })
+        }
+        Err(OrMemory::Fault(StreamFault::InputTooLong { taken })) => {
+            Stop::of(Cause::InputTooLong { taken })
+        }
+        Err(OrMemory::Fault(StreamFault::WriteFault)) => {
+            let after = out.fault_count();
+            Stop::of(Cause::WriteFault { before, after })
+        }
+        Err(OrMemory::Fault(StreamFault::ReadFault)) => {
+            let file = File::Events;
+            let after = source.fault_count();
+            let failed = Some(source);
+            Stop {
+                cause: Cause::ReadFault { file, after },
+                failed,
+                left: None,
+            }
         }
     }
 }

@@ -5,27 +5,27 @@ ghost use Rattle.std.specs.Prelude.{◌≡◌, ℕ, true, List, [], Some, None};
 ghost use Rattle.cer_outside.specs.Content.{Holds};
 ghost use Rattle.query_engine.specs.Engine.{StandsFor, SameQueries, count_of, peak_of};
 ghost use Rattle.reorder_gate.specs.Clocks.{clock_fits};
-ghost use Rattle.late_answers.specs.Written.{StandsForLate};
-ghost use Rattle.core_jobs.specs.Command.{reordering};
+ghost use Rattle.late_answers.specs.Written.{feed_by, late_said, StandsForLate};
+ghost use Rattle.core_jobs.specs.Command.{reorder_words, reordering};
 ghost use Rattle.core_jobs.specs.Left.{IsLeftByReorder};
 ghost use Rattle.core_jobs.specs.Causes.{CountsWrites};
 ghost use Rattle.core_jobs.specs.Steps.{LateStepsBy, ReorderSteps};
 ghost use Rattle.core_jobs.specs.Run.{JobEnded, StopCounts};
-ghost use Rattle.core_jobs.specs.Reordering.{ClockedStop, IsUnfit, LateFileStop, LateStop};
+ghost use Rattle.core_jobs.specs.Ending.{FileStop, SourceStop};
+ghost use Rattle.core_jobs.specs.Reordering.{ClockedStop, IsUnfit};
 
-use super::opening::{Stop, open};
+use super::opening::{Stop, open, stop_of};
 use super::run::{leaving, read_engine};
 use super::{Cause, File};
-use answer_text::Order;
 use cer_base::steps::Steps;
-use cer_base::{Memory, OrMemory, Text};
+use cer_base::{Memory, Text};
 use cer_outside::{Host, Sink, Source};
 use late_answers::write_late;
 use query_engine::Engine;
 use reorder_gate::clock_fits;
 use std::alloc::Global;
 use std::sync::ledger::Ledger;
-use stream_answers::StreamFault;
+use stream_answers::RunOptions;
 
 /// Reads the query text, tests the clock, and then writes the answers of its queries over the
 /// events of the event file, which come late by `late` at the most.
@@ -35,9 +35,7 @@ pub fn reorder_files<H: Host, K: Sink, L: Ledger>(
     events: &str,
     clock: &str,
     late: u64,
-    order: Order,
-    compact_every: Option<u64>,
-    most_bytes: u64,
+    options: RunOptions,
     host: &mut H,
     out: &mut K,
     steps: &mut Steps<L>,
@@ -52,34 +50,12 @@ pub fn reorder_files<H: Host, K: Sink, L: Ledger>(
           before = K.taken out.old;
           after = K.taken out.new;
         })
-        (reordering (record {
-          queries = queries.now;
-          events = events.now;
-          clock = clock.now;
-          late = late;
-          order = order;
-          compact_every = compact_every;
-          most_bytes = most_bytes;
-        }))
+        (reordering (reorder_words queries.now events.now clock.now late options))
         host.old host.new result.cause result.failed }
-    ensures steps { ReorderSteps result.cause (H.content host.old) (record {
-      queries = queries.now;
-      events = events.now;
-      clock = clock.now;
-      late = late;
-      order = order;
-      compact_every = compact_every;
-      most_bytes = most_bytes;
-    }) (K.taken out.old) (K.taken out.new) steps.old steps.new }
-    ensures left { IsLeftByReorder result.cause (H.content host.old) (record {
-      queries = queries.now;
-      events = events.now;
-      clock = clock.now;
-      late = late;
-      order = order;
-      compact_every = compact_every;
-      most_bytes = most_bytes;
-    }) result.left }
+    ensures steps { ReorderSteps result.cause (H.content host.old) (reorder_words queries.now
+        events.now clock.now late options) (K.taken out.old) (K.taken out.new) steps.old steps.new }
+    ensures left { IsLeftByReorder result.cause (H.content host.old) (reorder_words queries.now
+        events.now clock.now late options) result.left }
     ensures kept { (any : List ℕ) → H.content host.new any ≡ H.content host.old any }
 {
     let mut engine = match read_engine(alloc, host, queries) {
@@ -92,9 +68,7 @@ pub fn reorder_files<H: Host, K: Sink, L: Ledger>(
         events,
         clock,
         late,
-        order,
-        compact_every,
-        most_bytes,
+        options,
         host,
         out,
         steps,
@@ -109,9 +83,7 @@ fn reorder_clocked<H: Host, K: Sink, L: Ledger>(
     events: &str,
     clock: &str,
     late: u64,
-    order: Order,
-    compact_every: Option<u64>,
-    most_bytes: u64,
+    options: RunOptions,
     host: &mut H,
     out: &mut K,
     steps: &mut Steps<L>,
@@ -119,38 +91,19 @@ fn reorder_clocked<H: Host, K: Sink, L: Ledger>(
     requires fresh { StandsFor engine.old [] }
     requires none { count_of engine.old ≡ 0 }
     ensures stop { ClockedStop (record { faults = H.Src.faults; left = H.Src.left }) H.opens
-        (record {
-          order = order;
-          schema = engine.old.schema;
-          queries = engine.old.queries;
-          clock = clock.now;
-          late = late;
-          most_bytes = most_bytes;
-        })
+        (feed_by options clock.now late engine.old)
         events.now (H.content host.old events.now) host.old host.new
         (H.faults host.old events.now) (H.faults host.new events.now)
         (K.faults out.old) (K.faults out.new) (K.taken out.old) (K.taken out.new)
         result.cause result.failed }
-    ensures steps { LateStepsBy compact_every
-        (λ Says. (bytes : List ℕ) → H.content host.old events.now ≡ Holds bytes → Says (record {
-          order = order;
-          schema = engine.old.schema;
-          queries = engine.old.queries;
-          clock = clock.now;
-          late = late;
-          most_bytes = most_bytes;
-        }) bytes)
+    ensures steps { LateStepsBy options.compact_every
+        (λ Says. (bytes : List ℕ) → H.content host.old events.now ≡ Holds bytes → Says (feed_by
+        options clock.now late engine.old) bytes)
         result.cause (K.taken out.old) (K.taken out.new) steps.old steps.new }
     ensures left { result.cause ≡ Cause.Fine → (bytes : List ℕ)
         → H.content host.old events.now ≡ Holds bytes
-        → StandsForLate compact_every (peak_of engine.old) (record {
-          order = order;
-          schema = engine.old.schema;
-          queries = engine.old.queries;
-          clock = clock.now;
-          late = late;
-          most_bytes = most_bytes;
-        }) bytes engine.new }
+        → StandsForLate options.compact_every (peak_of engine.old) (feed_by options clock.now late
+        engine.old) bytes engine.new }
     ensures none_left { result.left ≡ None }
     ensures same { SameQueries engine.old engine.new }
     ensures counts { StopCounts result.cause events.now (H.faults host.old) (H.faults host.new) }
@@ -161,17 +114,7 @@ fn reorder_clocked<H: Host, K: Sink, L: Ledger>(
         return unfit(alloc, clock);
     }
     reorder_file(
-        alloc,
-        engine,
-        events,
-        clock,
-        late,
-        order,
-        compact_every,
-        most_bytes,
-        host,
-        out,
-        steps,
+        alloc, engine, events, clock, late, options, host, out, steps,
     )
 }
 
@@ -194,9 +137,7 @@ fn reorder_file<H: Host, K: Sink, L: Ledger>(
     events: &str,
     clock: &str,
     late: u64,
-    order: Order,
-    compact_every: Option<u64>,
-    most_bytes: u64,
+    options: RunOptions,
     host: &mut H,
     out: &mut K,
     steps: &mut Steps<L>,
@@ -204,39 +145,21 @@ fn reorder_file<H: Host, K: Sink, L: Ledger>(
     requires fits { clock_fits engine.old.schema clock.now ≡ true }
     requires fresh { StandsFor engine.old [] }
     requires none { count_of engine.old ≡ 0 }
-    ensures stop { LateFileStop (record { faults = H.Src.faults; left = H.Src.left })
-        (record {
-          order = order;
-          schema = engine.old.schema;
-          queries = engine.old.queries;
-          clock = clock.now;
-          late = late;
-          most_bytes = most_bytes;
-        })
+    ensures stop { FileStop (record { faults = H.Src.faults; left = H.Src.left })
+        (λ source. late_said (feed_by options clock.now late engine.old) source (K.taken out.old)
+        (K.taken out.new))
         (H.content host.old events.now)
         (H.faults host.old events.now) (H.faults host.new events.now)
         (K.faults out.old) (K.faults out.new) (K.taken out.old) (K.taken out.new)
         result.cause result.failed }
-    ensures steps { LateStepsBy compact_every
-        (λ Says. (bytes : List ℕ) → H.content host.old events.now ≡ Holds bytes → Says (record {
-          order = order;
-          schema = engine.old.schema;
-          queries = engine.old.queries;
-          clock = clock.now;
-          late = late;
-          most_bytes = most_bytes;
-        }) bytes)
+    ensures steps { LateStepsBy options.compact_every
+        (λ Says. (bytes : List ℕ) → H.content host.old events.now ≡ Holds bytes → Says (feed_by
+        options clock.now late engine.old) bytes)
         result.cause (K.taken out.old) (K.taken out.new) steps.old steps.new }
     ensures left { result.cause ≡ Cause.Fine → (bytes : List ℕ)
         → H.content host.old events.now ≡ Holds bytes
-        → StandsForLate compact_every (peak_of engine.old) (record {
-          order = order;
-          schema = engine.old.schema;
-          queries = engine.old.queries;
-          clock = clock.now;
-          late = late;
-          most_bytes = most_bytes;
-        }) bytes engine.new }
+        → StandsForLate options.compact_every (peak_of engine.old) (feed_by options clock.now late
+        engine.old) bytes engine.new }
     ensures none_left { result.left ≡ None }
     ensures same { SameQueries engine.old engine.new }
     ensures counts { StopCounts result.cause events.now (H.faults host.old) (H.faults host.new) }
@@ -245,18 +168,7 @@ fn reorder_file<H: Host, K: Sink, L: Ledger>(
     ensures kept { (any : List ℕ) → H.content host.new any ≡ H.content host.old any }
 {
     match open(alloc, host, File::Events, events) {
-        Ok(source) => reorder_source(
-            alloc,
-            engine,
-            source,
-            clock,
-            late,
-            order,
-            compact_every,
-            most_bytes,
-            out,
-            steps,
-        ),
+        Ok(source) => reorder_source(alloc, engine, source, clock, late, options, out, steps),
         Err(stop) => stop,
     }
 }
@@ -268,9 +180,7 @@ fn reorder_source<S: Source + Drop, K: Sink, L: Ledger>(
     mut source: S,
     clock: &str,
     late: u64,
-    order: Order,
-    compact_every: Option<u64>,
-    most_bytes: u64,
+    options: RunOptions,
     out: &mut K,
     steps: &mut Steps<L>,
 ) -> Stop<S>
@@ -278,76 +188,22 @@ fn reorder_source<S: Source + Drop, K: Sink, L: Ledger>(
     requires fresh { StandsFor engine.old [] }
     requires none { count_of engine.old ≡ 0 }
     requires sound { S.faults source ≡ 0 }
-    ensures stop { LateStop (record { faults = S.faults; left = S.left })
-        (record {
-          order = order;
-          schema = engine.old.schema;
-          queries = engine.old.queries;
-          clock = clock.now;
-          late = late;
-          most_bytes = most_bytes;
-        })
-        (S.left source)
-        (K.faults out.old) (K.faults out.new) (K.taken out.old) (K.taken out.new)
+    ensures stop { SourceStop (record { faults = S.faults; left = S.left })
+        (late_said (feed_by options clock.now late engine.old) (S.left source) (K.taken out.old)
+        (K.taken out.new)) (K.faults out.old) (K.faults out.new)
         result.cause result.failed }
-    ensures steps { LateStepsBy compact_every
-        (λ Says. (bytes : List ℕ) → S.left source ≡ Some bytes → Says (record {
-          order = order;
-          schema = engine.old.schema;
-          queries = engine.old.queries;
-          clock = clock.now;
-          late = late;
-          most_bytes = most_bytes;
-        }) bytes)
+    ensures steps { LateStepsBy options.compact_every
+        (λ Says. (bytes : List ℕ) → S.left source ≡ Some bytes → Says (feed_by options clock.now
+        late engine.old) bytes)
         result.cause (K.taken out.old) (K.taken out.new) steps.old steps.new }
     ensures left { result.cause ≡ Cause.Fine → (bytes : List ℕ) → S.left source ≡ Some bytes
-        → StandsForLate compact_every (peak_of engine.old) (record {
-          order = order;
-          schema = engine.old.schema;
-          queries = engine.old.queries;
-          clock = clock.now;
-          late = late;
-          most_bytes = most_bytes;
-        }) bytes engine.new }
+        → StandsForLate options.compact_every (peak_of engine.old) (feed_by options clock.now late
+        engine.old) bytes engine.new }
     ensures none_left { result.left ≡ None }
     ensures same { SameQueries engine.old engine.new }
     ensures writes { CountsWrites result.cause (K.faults out.old) (K.faults out.new) }
 {
     let before = out.fault_count();
-    match write_late(
-        alloc,
-        order,
-        clock,
-        late,
-        most_bytes,
-        compact_every,
-        engine,
-        &mut source,
-        out,
-        steps,
-    ) {
-        Ok(()) => Stop::of(Cause::Fine),
-        Err(OrMemory::Memory) => Stop::of(Cause::Memory),
-        Err(OrMemory::Fault(StreamFault::Event { line, fault })) => {
-            Stop::of(Cause::Event { line, fault })
-        }
-        Err(OrMemory::Fault(StreamFault::InputTooLong { taken })) => {
-            Stop::of(Cause::InputTooLong { taken })
-        }
-        Err(OrMemory::Fault(StreamFault::WriteFault)) => {
-            let after = out.fault_count();
-            Stop::of(Cause::WriteFault { before, after })
-        }
-        Err(OrMemory::Fault(StreamFault::ReadFault)) => {
-            let after = source.fault_count();
-            Stop {
-                cause: Cause::ReadFault {
-                    file: File::Events,
-                    after,
-                },
-                failed: Some(source),
-                left: None,
-            }
-        }
-    }
+    let end = write_late(alloc, clock, late, options, engine, &mut source, out, steps);
+    stop_of(end, source, out, before)
 }

@@ -7,21 +7,22 @@ ghost use Rattle.cer_outside.specs.Causes.{AllStay};
 ghost use Rattle.cer_outside.specs.Content.{Holds, OfOpened};
 ghost use Rattle.stream_schema.specs.Events.{IsOfSchema};
 ghost use Rattle.query_engine.specs.Engine.{StandsFor, SameQueries, count_of, peak_of};
+ghost use Rattle.stream_answers.specs.Streams.{asked_by};
 ghost use Rattle.checkpoint_text.specs.Checkpoints.{checkpoint_of};
 ghost use Rattle.checkpoint_text.specs.Spelling.{IsHistory};
-ghost use Rattle.resumed_answers.specs.Resumed.{StandsForResumed};
-ghost use Rattle.core_jobs.specs.Command.{resuming};
+ghost use Rattle.resumed_answers.specs.Resumed.{AfterEach, resumed_said, StandsForResumed};
+ghost use Rattle.core_jobs.specs.Command.{resume_words, resuming};
 ghost use Rattle.core_jobs.specs.Left.{IsLeftByResume};
 ghost use Rattle.core_jobs.specs.Causes.{CountsWrites};
 ghost use Rattle.core_jobs.specs.Steps.{ResumeStepsBy, ResumeSteps};
 ghost use Rattle.core_jobs.specs.Run.{JobEnded, StopCounts};
-ghost use Rattle.core_jobs.specs.Resuming.{AfterEach, HistoryStop, NoHistory, ResumedFileStop, ResumedStop};
+ghost use Rattle.core_jobs.specs.Ending.{FileStop, SourceStop};
+ghost use Rattle.core_jobs.specs.Resuming.{HistoryStop, NoHistory};
 
-use super::opening::{Stop, open};
+use super::opening::{Stop, open, stop_of};
 use super::queries::read_accepted;
 use super::run::leaving;
 use super::{Cause, File};
-use answer_text::Order;
 use ceql_parser::Accepted;
 use cer_base::steps::Steps;
 use cer_base::{Memory, OrMemory};
@@ -31,25 +32,23 @@ use query_engine::Engine;
 use resumed_answers::resume_answers;
 use std::alloc::Global;
 use std::sync::ledger::Ledger;
-use stream_answers::StreamFault;
+use stream_answers::RunOptions;
 
 /// Reads the query text and the checkpoint, and then writes the answers of the queries over the
 /// events of the event file, which come after those that the checkpoint keeps.
 ///
-/// `most_bytes` is at most 2^62.
+/// At most 2^62 bytes of events are too many.
 pub fn resume_files<H: Host, K: Sink, L: Ledger>(
     alloc: Global,
     queries: &str,
     checkpoint: &str,
     events: &str,
-    order: Order,
-    compact_every: Option<u64>,
-    most_bytes: u64,
+    options: RunOptions,
     host: &mut H,
     out: &mut K,
     steps: &mut Steps<L>,
 ) -> Stop<H::Src>
-    requires { most_bytes ≤ 4611686018427387904 }
+    requires { options.most_bytes ≤ 4611686018427387904 }
     ensures ends { JobEnded (record { faults = H.Src.faults; left = H.Src.left }) H.opens
         (record {
           content = H.content host.old;
@@ -60,31 +59,12 @@ pub fn resume_files<H: Host, K: Sink, L: Ledger>(
           before = K.taken out.old;
           after = K.taken out.new;
         })
-        (resuming (record {
-          queries = queries.now;
-          checkpoint = checkpoint.now;
-          events = events.now;
-          order = order;
-          compact_every = compact_every;
-          most_bytes = most_bytes;
-        }))
+        (resuming (resume_words queries.now checkpoint.now events.now options))
         host.old host.new result.cause result.failed }
-    ensures steps { ResumeSteps result.cause (H.content host.old) (record {
-      queries = queries.now;
-      checkpoint = checkpoint.now;
-      events = events.now;
-      order = order;
-      compact_every = compact_every;
-      most_bytes = most_bytes;
-    }) (K.taken out.old) (K.taken out.new) steps.old steps.new }
-    ensures left { IsLeftByResume result.cause (H.content host.old) (record {
-      queries = queries.now;
-      checkpoint = checkpoint.now;
-      events = events.now;
-      order = order;
-      compact_every = compact_every;
-      most_bytes = most_bytes;
-    }) result.left }
+    ensures steps { ResumeSteps result.cause (H.content host.old) (resume_words queries.now
+        checkpoint.now events.now options) (K.taken out.old) (K.taken out.new) steps.old steps.new }
+    ensures left { IsLeftByResume result.cause (H.content host.old) (resume_words queries.now
+        checkpoint.now events.now options) result.left }
     ensures kept { (any : List ℕ) → H.content host.new any ≡ H.content host.old any }
 {
     let accepted = match read_accepted(alloc, host, queries) {
@@ -105,9 +85,7 @@ pub fn resume_files<H: Host, K: Sink, L: Ledger>(
         &mut engine,
         &history,
         events,
-        order,
-        compact_every,
-        most_bytes,
+        options,
         host,
         out,
         steps,
@@ -188,9 +166,7 @@ fn resume_file<H: Host, K: Sink, L: Ledger>(
     engine: &mut Engine,
     history: &History,
     events: &str,
-    order: Order,
-    compact_every: Option<u64>,
-    most_bytes: u64,
+    options: RunOptions,
     host: &mut H,
     out: &mut K,
     steps: &mut Steps<L>,
@@ -200,38 +176,24 @@ fn resume_file<H: Host, K: Sink, L: Ledger>(
     requires history { IsHistory engine.old.schema engine.old.queries history.now }
     requires of_schema { AllByRecursion (λ e. IsOfSchema engine.old.schema e.event)
         history.now.events }
-    requires room { most_bytes ≤ 4611686018427387904 }
-    ensures stop { ResumedFileStop (record { faults = H.Src.faults; left = H.Src.left })
-        (record {
-          order = order;
-          schema = engine.old.schema;
-          queries = engine.old.queries;
-          most_bytes = most_bytes;
-        })
-        history.now (H.content host.old events.now)
+    requires room { options.most_bytes ≤ 4611686018427387904 }
+    ensures stop { FileStop (record { faults = H.Src.faults; left = H.Src.left })
+        (λ source. resumed_said history.now (asked_by options engine.old) source (K.taken out.old)
+        (K.taken out.new)) (H.content host.old events.now)
         (H.faults host.old events.now) (H.faults host.new events.now)
         (K.faults out.old) (K.faults out.new) (K.taken out.old) (K.taken out.new)
         result.cause result.failed }
-    ensures steps { ResumeStepsBy compact_every
+    ensures steps { ResumeStepsBy options.compact_every
         (λ Says. (bytes : List ℕ) → H.content host.old events.now ≡ Holds bytes
         → AfterEach engine.old.schema history.now (λ earlier. Says (record {
           before = earlier;
-          asked = record {
-            order = order;
-            schema = engine.old.schema;
-            queries = engine.old.queries;
-            most_bytes = most_bytes;
-          };
+          asked = asked_by options engine.old;
         }) bytes))
         result.cause (K.taken out.old) (K.taken out.new) steps.old steps.new }
     ensures left { result.cause ≡ Cause.Fine → (bytes : List ℕ)
         → H.content host.old events.now ≡ Holds bytes
-        → StandsForResumed compact_every (peak_of engine.old) history.now (record {
-          order = order;
-          schema = engine.old.schema;
-          queries = engine.old.queries;
-          most_bytes = most_bytes;
-        }) bytes engine.new }
+        → StandsForResumed options.compact_every (peak_of engine.old) history.now (asked_by options
+        engine.old) bytes engine.new }
     ensures none_left { result.left ≡ None }
     ensures same { SameQueries engine.old engine.new }
     ensures counts { StopCounts result.cause events.now (H.faults host.old) (H.faults host.new) }
@@ -240,17 +202,7 @@ fn resume_file<H: Host, K: Sink, L: Ledger>(
     ensures kept { (any : List ℕ) → H.content host.new any ≡ H.content host.old any }
 {
     match open(alloc, host, File::Events, events) {
-        Ok(source) => resume_source(
-            alloc,
-            engine,
-            history,
-            source,
-            order,
-            compact_every,
-            most_bytes,
-            out,
-            steps,
-        ),
+        Ok(source) => resume_source(alloc, engine, history, source, options, out, steps),
         Err(stop) => stop,
     }
 }
@@ -261,9 +213,7 @@ fn resume_source<S: Source + Drop, K: Sink, L: Ledger>(
     engine: &mut Engine,
     history: &History,
     mut source: S,
-    order: Order,
-    compact_every: Option<u64>,
-    most_bytes: u64,
+    options: RunOptions,
     out: &mut K,
     steps: &mut Steps<L>,
 ) -> Stop<S>
@@ -272,75 +222,27 @@ fn resume_source<S: Source + Drop, K: Sink, L: Ledger>(
     requires history { IsHistory engine.old.schema engine.old.queries history.now }
     requires of_schema { AllByRecursion (λ e. IsOfSchema engine.old.schema e.event)
         history.now.events }
-    requires room { most_bytes ≤ 4611686018427387904 }
+    requires room { options.most_bytes ≤ 4611686018427387904 }
     requires sound { S.faults source ≡ 0 }
-    ensures stop { ResumedStop (record { faults = S.faults; left = S.left })
-        (record {
-          order = order;
-          schema = engine.old.schema;
-          queries = engine.old.queries;
-          most_bytes = most_bytes;
-        })
-        history.now (S.left source)
-        (K.faults out.old) (K.faults out.new) (K.taken out.old) (K.taken out.new)
+    ensures stop { SourceStop (record { faults = S.faults; left = S.left })
+        (resumed_said history.now (asked_by options engine.old) (S.left source) (K.taken out.old)
+        (K.taken out.new)) (K.faults out.old) (K.faults out.new)
         result.cause result.failed }
-    ensures steps { ResumeStepsBy compact_every
+    ensures steps { ResumeStepsBy options.compact_every
         (λ Says. (bytes : List ℕ) → S.left source ≡ Some bytes
         → AfterEach engine.old.schema history.now (λ earlier. Says (record {
           before = earlier;
-          asked = record {
-            order = order;
-            schema = engine.old.schema;
-            queries = engine.old.queries;
-            most_bytes = most_bytes;
-          };
+          asked = asked_by options engine.old;
         }) bytes))
         result.cause (K.taken out.old) (K.taken out.new) steps.old steps.new }
     ensures left { result.cause ≡ Cause.Fine → (bytes : List ℕ) → S.left source ≡ Some bytes
-        → StandsForResumed compact_every (peak_of engine.old) history.now (record {
-          order = order;
-          schema = engine.old.schema;
-          queries = engine.old.queries;
-          most_bytes = most_bytes;
-        }) bytes engine.new }
+        → StandsForResumed options.compact_every (peak_of engine.old) history.now (asked_by options
+        engine.old) bytes engine.new }
     ensures none_left { result.left ≡ None }
     ensures same { SameQueries engine.old engine.new }
     ensures writes { CountsWrites result.cause (K.faults out.old) (K.faults out.new) }
 {
     let before = out.fault_count();
-    match resume_answers(
-        alloc,
-        order,
-        most_bytes,
-        compact_every,
-        engine,
-        history,
-        &mut source,
-        out,
-        steps,
-    ) {
-        Ok(()) => Stop::of(Cause::Fine),
-        Err(OrMemory::Memory) => Stop::of(Cause::Memory),
-        Err(OrMemory::Fault(StreamFault::Event { line, fault })) => {
-            Stop::of(Cause::Event { line, fault })
-        }
-        Err(OrMemory::Fault(StreamFault::InputTooLong { taken })) => {
-            Stop::of(Cause::InputTooLong { taken })
-        }
-        Err(OrMemory::Fault(StreamFault::WriteFault)) => {
-            let after = out.fault_count();
-            Stop::of(Cause::WriteFault { before, after })
-        }
-        Err(OrMemory::Fault(StreamFault::ReadFault)) => {
-            let after = source.fault_count();
-            Stop {
-                cause: Cause::ReadFault {
-                    file: File::Events,
-                    after,
-                },
-                failed: Some(source),
-                left: None,
-            }
-        }
-    }
+    let end = resume_answers(alloc, options, engine, history, &mut source, out, steps);
+    stop_of(end, source, out, before)
 }

@@ -4,34 +4,32 @@ ghost use Rattle.std.specs.Prelude.{◌≡◌, ◌↔◌, ℕ, true, List, [], S
 ghost use Rattle.cer_outside.specs.Causes.{AllStay};
 ghost use Rattle.cer_outside.specs.Content.{Holds, OfOpened};
 ghost use Rattle.query_engine.specs.Engine.{StandsFor, SameQueries, count_of, peak_of};
-ghost use Rattle.stream_answers.specs.Streams.{StandsForAll};
-ghost use Rattle.core_jobs.specs.Command.{running};
+ghost use Rattle.stream_answers.specs.Streams.{asked_by, answers_said, StandsForAll};
+ghost use Rattle.core_jobs.specs.Command.{run_words, running};
 ghost use Rattle.core_jobs.specs.Left.{IsLeftByRun};
 ghost use Rattle.core_jobs.specs.Accepted.{Accepts};
 ghost use Rattle.core_jobs.specs.Causes.{CountsWrites};
 ghost use Rattle.core_jobs.specs.Steps.{StepsBy, RunSteps};
-ghost use Rattle.core_jobs.specs.Run.{JobEnded, QueriesStop, EventsStop, SourceStop, StopCounts};
+ghost use Rattle.core_jobs.specs.Run.{JobEnded, QueriesStop, StopCounts};
+ghost use Rattle.core_jobs.specs.Ending.{FileStop, SourceStop};
 
-use super::opening::{Stop, open};
+use super::opening::{Stop, open, stop_of};
 use super::queries::read_accepted;
 use super::{Cause, File};
-use answer_text::Order;
+use cer_base::Memory;
 use cer_base::steps::Steps;
-use cer_base::{Memory, OrMemory};
 use cer_outside::{Host, Sink, Source};
 use query_engine::Engine;
 use std::alloc::Global;
 use std::sync::ledger::Ledger;
-use stream_answers::{StreamFault, write_answers};
+use stream_answers::{RunOptions, write_answers};
 
 /// Reads the query text, and then writes the answers of its queries over the event file.
 pub fn run_files<H: Host, K: Sink, L: Ledger>(
     alloc: Global,
     queries: &str,
     events: &str,
-    order: Order,
-    compact_every: Option<u64>,
-    most_bytes: u64,
+    options: RunOptions,
     host: &mut H,
     out: &mut K,
     steps: &mut Steps<L>,
@@ -46,45 +44,19 @@ pub fn run_files<H: Host, K: Sink, L: Ledger>(
           before = K.taken out.old;
           after = K.taken out.new;
         })
-        (running (record {
-          queries = queries.now;
-          events = events.now;
-          order = order;
-          compact_every = compact_every;
-          most_bytes = most_bytes;
-        }))
+        (running (run_words queries.now events.now options))
         host.old host.new result.cause result.failed }
-    ensures steps { RunSteps result.cause (H.content host.old) (record {
-      queries = queries.now;
-      events = events.now;
-      order = order;
-      compact_every = compact_every;
-      most_bytes = most_bytes;
-    }) (K.taken out.old) (K.taken out.new) steps.old steps.new }
-    ensures left { IsLeftByRun result.cause (H.content host.old) (record {
-      queries = queries.now;
-      events = events.now;
-      order = order;
-      compact_every = compact_every;
-      most_bytes = most_bytes;
-    }) result.left }
+    ensures steps { RunSteps result.cause (H.content host.old) (run_words queries.now events.now
+        options) (K.taken out.old) (K.taken out.new) steps.old steps.new }
+    ensures left { IsLeftByRun result.cause (H.content host.old) (run_words queries.now events.now
+        options) result.left }
     ensures kept { (any : List ℕ) → H.content host.new any ≡ H.content host.old any }
 {
     let mut engine = match read_engine(alloc, host, queries) {
         Ok(engine) => engine,
         Err(stop) => return stop,
     };
-    let stop = answer_file(
-        alloc,
-        &mut engine,
-        events,
-        order,
-        compact_every,
-        most_bytes,
-        host,
-        out,
-        steps,
-    );
+    let stop = answer_file(alloc, &mut engine, events, options, host, out, steps);
     leaving(stop, engine)
 }
 
@@ -149,42 +121,28 @@ fn answer_file<H: Host, K: Sink, L: Ledger>(
     alloc: Global,
     engine: &mut Engine,
     events: &str,
-    order: Order,
-    compact_every: Option<u64>,
-    most_bytes: u64,
+    options: RunOptions,
     host: &mut H,
     out: &mut K,
     steps: &mut Steps<L>,
 ) -> Stop<H::Src>
     requires fresh { StandsFor engine.old [] }
     requires none { count_of engine.old ≡ 0 }
-    ensures stop { EventsStop (record { faults = H.Src.faults; left = H.Src.left })
-        (record {
-          order = order;
-          schema = engine.old.schema;
-          queries = engine.old.queries;
-          most_bytes = most_bytes;
-        })
+    ensures stop { FileStop (record { faults = H.Src.faults; left = H.Src.left })
+        (λ source. answers_said [] (asked_by options engine.old) source (K.taken out.old)
+        (K.taken out.new))
         (H.content host.old events.now)
         (H.faults host.old events.now) (H.faults host.new events.now)
         (K.faults out.old) (K.faults out.new) (K.taken out.old) (K.taken out.new)
         result.cause result.failed }
-    ensures steps { StepsBy compact_every
-        (λ Says. (bytes : List ℕ) → H.content host.old events.now ≡ Holds bytes → Says (record {
-          order = order;
-          schema = engine.old.schema;
-          queries = engine.old.queries;
-          most_bytes = most_bytes;
-        }) bytes)
+    ensures steps { StepsBy options.compact_every
+        (λ Says. (bytes : List ℕ) → H.content host.old events.now ≡ Holds bytes → Says (asked_by
+        options engine.old) bytes)
         result.cause (K.taken out.old) (K.taken out.new) steps.old steps.new }
     ensures left { result.cause ≡ Cause.Fine → (bytes : List ℕ)
         → H.content host.old events.now ≡ Holds bytes
-        → StandsForAll compact_every (peak_of engine.old) (record {
-          order = order;
-          schema = engine.old.schema;
-          queries = engine.old.queries;
-          most_bytes = most_bytes;
-        }) bytes engine.new }
+        → StandsForAll options.compact_every (peak_of engine.old) (asked_by options engine.old)
+        bytes engine.new }
     ensures none_left { result.left ≡ None }
     ensures same { SameQueries engine.old engine.new }
     ensures counts { StopCounts result.cause events.now (H.faults host.old) (H.faults host.new) }
@@ -193,16 +151,7 @@ fn answer_file<H: Host, K: Sink, L: Ledger>(
     ensures kept { (any : List ℕ) → H.content host.new any ≡ H.content host.old any }
 {
     match open(alloc, host, File::Events, events) {
-        Ok(source) => answer_source(
-            alloc,
-            engine,
-            source,
-            order,
-            compact_every,
-            most_bytes,
-            out,
-            steps,
-        ),
+        Ok(source) => answer_source(alloc, engine, source, options, out, steps),
         Err(stop) => stop,
     }
 }
@@ -212,9 +161,7 @@ fn answer_source<S: Source + Drop, K: Sink, L: Ledger>(
     alloc: Global,
     engine: &mut Engine,
     mut source: S,
-    order: Order,
-    compact_every: Option<u64>,
-    most_bytes: u64,
+    options: RunOptions,
     out: &mut K,
     steps: &mut Steps<L>,
 ) -> Stop<S>
@@ -222,67 +169,21 @@ fn answer_source<S: Source + Drop, K: Sink, L: Ledger>(
     requires none { count_of engine.old ≡ 0 }
     requires sound { S.faults source ≡ 0 }
     ensures stop { SourceStop (record { faults = S.faults; left = S.left })
-        (record {
-          order = order;
-          schema = engine.old.schema;
-          queries = engine.old.queries;
-          most_bytes = most_bytes;
-        })
-        (S.left source)
-        (K.faults out.old) (K.faults out.new) (K.taken out.old) (K.taken out.new)
+        (answers_said [] (asked_by options engine.old) (S.left source) (K.taken out.old)
+        (K.taken out.new)) (K.faults out.old) (K.faults out.new)
         result.cause result.failed }
-    ensures steps { StepsBy compact_every
-        (λ Says. (bytes : List ℕ) → S.left source ≡ Some bytes → Says (record {
-          order = order;
-          schema = engine.old.schema;
-          queries = engine.old.queries;
-          most_bytes = most_bytes;
-        }) bytes)
+    ensures steps { StepsBy options.compact_every
+        (λ Says. (bytes : List ℕ) → S.left source ≡ Some bytes → Says (asked_by options engine.old)
+        bytes)
         result.cause (K.taken out.old) (K.taken out.new) steps.old steps.new }
     ensures left { result.cause ≡ Cause.Fine → (bytes : List ℕ) → S.left source ≡ Some bytes
-        → StandsForAll compact_every (peak_of engine.old) (record {
-          order = order;
-          schema = engine.old.schema;
-          queries = engine.old.queries;
-          most_bytes = most_bytes;
-        }) bytes engine.new }
+        → StandsForAll options.compact_every (peak_of engine.old) (asked_by options engine.old)
+        bytes engine.new }
     ensures none_left { result.left ≡ None }
     ensures same { SameQueries engine.old engine.new }
     ensures writes { CountsWrites result.cause (K.faults out.old) (K.faults out.new) }
 {
     let before = out.fault_count();
-    match write_answers(
-        alloc,
-        order,
-        most_bytes,
-        compact_every,
-        engine,
-        &mut source,
-        out,
-        steps,
-    ) {
-        Ok(()) => Stop::of(Cause::Fine),
-        Err(OrMemory::Memory) => Stop::of(Cause::Memory),
-        Err(OrMemory::Fault(StreamFault::Event { line, fault })) => {
-            Stop::of(Cause::Event { line, fault })
-        }
-        Err(OrMemory::Fault(StreamFault::InputTooLong { taken })) => {
-            Stop::of(Cause::InputTooLong { taken })
-        }
-        Err(OrMemory::Fault(StreamFault::WriteFault)) => {
-            let after = out.fault_count();
-            Stop::of(Cause::WriteFault { before, after })
-        }
-        Err(OrMemory::Fault(StreamFault::ReadFault)) => {
-            let after = source.fault_count();
-            Stop {
-                cause: Cause::ReadFault {
-                    file: File::Events,
-                    after,
-                },
-                failed: Some(source),
-                left: None,
-            }
-        }
-    }
+    let end = write_answers(alloc, options, engine, &mut source, out, steps);
+    stop_of(end, source, out, before)
 }

@@ -2,20 +2,18 @@
 
 ghost use Rattle.std.specs.Prelude.{◌≡◌, ℕ, List, All};
 ghost use Rattle.cel_terms.specs.Checked.{IsChecked};
-ghost use Rattle.stream_checkpoint.specs.declared.saving.TheConstants as saved;
+ghost use Rattle.stream_checkpoint.specs.Saved.{saved_said};
 ghost use Rattle.core_jobs.specs.Command.{saving};
 ghost use Rattle.core_jobs.specs.Causes.{CountsWrites};
 ghost use Rattle.core_jobs.specs.Run.{JobEnded, StopCounts};
-ghost use Rattle.core_jobs.specs.Saving.{SavingStop, SavingFileStop};
+ghost use Rattle.core_jobs.specs.Ending.{save_asked, FileStop, SourceStop};
 
-use super::opening::{Stop, open};
+use super::opening::{Stop, open, stop_of};
 use super::queries::read_accepted;
 use super::{Cause, File};
 use ceql_parser::Accepted;
-use cer_base::OrMemory;
 use cer_outside::{Host, Sink, Source};
 use std::alloc::Global;
-use stream_answers::StreamFault;
 use stream_checkpoint::{MOST_BYTES, save_events};
 
 /// Reads the query text and all events, and writes their checkpoint.
@@ -57,12 +55,9 @@ fn save_file<H: Host, K: Sink>(
     out: &mut K,
 ) -> Stop<H::Src>
     requires checked { All (IsChecked accepted.now.schema) accepted.now.queries }
-    ensures stop { SavingFileStop (record { faults = H.Src.faults; left = H.Src.left })
-        (record {
-          schema = accepted.now.schema;
-          queries = accepted.now.queries;
-          most_bytes = saved.MOST_BYTES;
-        })
+    ensures stop { FileStop (record { faults = H.Src.faults; left = H.Src.left })
+        (λ source. saved_said (save_asked accepted.now.schema accepted.now.queries) source
+        (K.taken out.old) (K.taken out.new))
         (H.content host.old events.now)
         (H.faults host.old events.now) (H.faults host.new events.now)
         (K.faults out.old) (K.faults out.new) (K.taken out.old) (K.taken out.new)
@@ -88,50 +83,22 @@ fn save_source<S: Source + Drop, K: Sink>(
 ) -> Stop<S>
     requires checked { All (IsChecked accepted.now.schema) accepted.now.queries }
     requires sound { S.faults source ≡ 0 }
-    ensures stop { SavingStop (record { faults = S.faults; left = S.left })
-        (record {
-          schema = accepted.now.schema;
-          queries = accepted.now.queries;
-          most_bytes = saved.MOST_BYTES;
-        })
-        (S.left source)
-        (K.faults out.old) (K.faults out.new) (K.taken out.old) (K.taken out.new)
+    ensures stop { SourceStop (record { faults = S.faults; left = S.left })
+        (saved_said (save_asked accepted.now.schema accepted.now.queries) (S.left source)
+        (K.taken out.old) (K.taken out.new)) (K.faults out.old) (K.faults out.new)
         result.cause result.failed }
     ensures none_left { result.left ≡ None }
     ensures writes { CountsWrites result.cause (K.faults out.old) (K.faults out.new) }
 {
     let before = out.fault_count();
     let queries = accepted.queries.as_slice();
-    match save_events(
+    let end = save_events(
         alloc,
         &accepted.schema,
         queries,
         MOST_BYTES,
         &mut source,
         out,
-    ) {
-        Ok(()) => Stop::of(Cause::Fine),
-        Err(OrMemory::Memory) => Stop::of(Cause::Memory),
-        Err(OrMemory::Fault(StreamFault::Event { line, fault })) => {
-            Stop::of(Cause::Event { line, fault })
-        }
-        Err(OrMemory::Fault(StreamFault::InputTooLong { taken })) => {
-            Stop::of(Cause::InputTooLong { taken })
-        }
-        Err(OrMemory::Fault(StreamFault::WriteFault)) => {
-            let after = out.fault_count();
-            Stop::of(Cause::WriteFault { before, after })
-        }
-        Err(OrMemory::Fault(StreamFault::ReadFault)) => {
-            let after = source.fault_count();
-            Stop {
-                cause: Cause::ReadFault {
-                    file: File::Events,
-                    after,
-                },
-                failed: Some(source),
-                left: None,
-            }
-        }
-    }
+    );
+    stop_of(end, source, out, before)
 }

@@ -3,25 +3,23 @@
 ghost use Rattle.std.specs.Prelude.{◌≡◌, ℕ, List, All, Some};
 ghost use Rattle.cer_outside.specs.Content.{Holds};
 ghost use Rattle.cel_terms.specs.Checked.{IsChecked};
-ghost use Rattle.session_script.specs.declared.script.TheConstants.{MOST_BYTES};
+ghost use Rattle.session_script.specs.Scripts.{play_said};
 ghost use Rattle.core_jobs.specs.Command.{playing};
 ghost use Rattle.core_jobs.specs.Causes.{CountsWrites};
 ghost use Rattle.core_jobs.specs.Run.{JobEnded, StopCounts};
-ghost use Rattle.core_jobs.specs.Playing.{PlayStop, PlayFileStop};
-ghost use Rattle.core_jobs.specs.Steps.{PlayStepsBy, SessionSteps};
+ghost use Rattle.core_jobs.specs.Ending.{FileStop, SourceStop};
+ghost use Rattle.core_jobs.specs.Steps.{script_asked, PlayStepsBy, SessionSteps};
 
-use super::opening::{Stop, open};
+use super::opening::{Stop, open, stop_of};
 use super::queries::read_accepted;
 use super::{Cause, File};
 use ceql_parser::Accepted;
-use cer_base::OrMemory;
 use cer_base::seed::Seed;
 use cer_base::steps::Steps;
 use cer_outside::{Host, Sink, Source};
 use session_script::play_script;
 use std::alloc::Global;
 use std::sync::ledger::Ledger;
-use stream_answers::StreamFault;
 
 /// Reads the query text, and then carries out the commands of the script in order.
 pub fn session_files<H: Host, K: Sink, L: Ledger>(
@@ -67,22 +65,17 @@ fn play_file<H: Host, K: Sink, L: Ledger>(
     steps: &mut Steps<L>,
 ) -> Stop<H::Src>
     requires checked { All (IsChecked accepted.schema) accepted.queries }
-    ensures stop { PlayFileStop (record { faults = H.Src.faults; left = H.Src.left })
-        (record {
-          schema = accepted.schema;
-          queries = accepted.queries;
-          most_bytes = MOST_BYTES;
-        })
+    ensures stop { FileStop (record { faults = H.Src.faults; left = H.Src.left })
+        (λ source. play_said (script_asked accepted.schema accepted.queries) source (K.taken
+        out.old)
+        (K.taken out.new))
         (H.content host.old script.now)
         (H.faults host.old script.now) (H.faults host.new script.now)
         (K.faults out.old) (K.faults out.new) (K.taken out.old) (K.taken out.new)
         result.cause result.failed }
     ensures steps { PlayStepsBy
-        (λ Says. (bytes : List ℕ) → H.content host.old script.now ≡ Holds bytes → Says (record {
-          schema = accepted.schema;
-          queries = accepted.queries;
-          most_bytes = MOST_BYTES;
-        }) bytes)
+        (λ Says. (bytes : List ℕ) → H.content host.old script.now ≡ Holds bytes → Says (script_asked
+        accepted.schema accepted.queries) bytes)
         result.cause (K.taken out.old) (K.taken out.new) steps.old steps.new }
     ensures none_left { result.left ≡ None }
     ensures counts { StopCounts result.cause script.now (H.faults host.old) (H.faults host.new) }
@@ -107,27 +100,19 @@ fn play_source<S: Source + Drop, K: Sink, L: Ledger>(
 ) -> Stop<S>
     requires checked { All (IsChecked accepted.schema) accepted.queries }
     requires sound { S.faults source ≡ 0 }
-    ensures stop { PlayStop (record { faults = S.faults; left = S.left })
-        (record {
-          schema = accepted.schema;
-          queries = accepted.queries;
-          most_bytes = MOST_BYTES;
-        })
-        (S.left source)
-        (K.faults out.old) (K.faults out.new) (K.taken out.old) (K.taken out.new)
+    ensures stop { SourceStop (record { faults = S.faults; left = S.left })
+        (play_said (script_asked accepted.schema accepted.queries) (S.left source) (K.taken out.old)
+        (K.taken out.new)) (K.faults out.old) (K.faults out.new)
         result.cause result.failed }
     ensures steps { PlayStepsBy
-        (λ Says. (bytes : List ℕ) → S.left source ≡ Some bytes → Says (record {
-          schema = accepted.schema;
-          queries = accepted.queries;
-          most_bytes = MOST_BYTES;
-        }) bytes)
+        (λ Says. (bytes : List ℕ) → S.left source ≡ Some bytes → Says (script_asked accepted.schema
+        accepted.queries) bytes)
         result.cause (K.taken out.old) (K.taken out.new) steps.old steps.new }
     ensures none_left { result.left ≡ None }
     ensures writes { CountsWrites result.cause (K.faults out.old) (K.faults out.new) }
 {
     let before = out.fault_count();
-    match play_script(
+    let end = play_script(
         alloc,
         seed,
         accepted.schema,
@@ -135,29 +120,6 @@ fn play_source<S: Source + Drop, K: Sink, L: Ledger>(
         &mut source,
         out,
         steps,
-    ) {
-        Ok(()) => Stop::of(Cause::Fine),
-        Err(OrMemory::Memory) => Stop::of(Cause::Memory),
-        Err(OrMemory::Fault(StreamFault::Event { line, fault })) => {
-            Stop::of(Cause::Event { line, fault })
-        }
-        Err(OrMemory::Fault(StreamFault::InputTooLong { taken })) => {
-            Stop::of(Cause::InputTooLong { taken })
-        }
-        Err(OrMemory::Fault(StreamFault::WriteFault)) => {
-            let after = out.fault_count();
-            Stop::of(Cause::WriteFault { before, after })
-        }
-        Err(OrMemory::Fault(StreamFault::ReadFault)) => {
-            let after = source.fault_count();
-            Stop {
-                cause: Cause::ReadFault {
-                    file: File::Events,
-                    after,
-                },
-                failed: Some(source),
-                left: None,
-            }
-        }
-    }
+    );
+    stop_of(end, source, out, before)
 }

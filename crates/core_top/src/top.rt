@@ -33,6 +33,7 @@ use core_jobs::{
 };
 use std::alloc::Global;
 use std::sync::ledger::Ledger;
+use stream_answers::RunOptions;
 
 /// Does what the words after the program's name ask for.
 ///
@@ -218,9 +219,11 @@ fn run<H: Host, K: Sink, L: Ledger>(
             alloc,
             queries.as_str(),
             events.as_str(),
-            order,
-            compact_every,
-            most_bytes,
+            RunOptions {
+                order,
+                compact_every,
+                most_bytes,
+            },
             host,
             out,
             steps,
@@ -241,9 +244,11 @@ fn run<H: Host, K: Sink, L: Ledger>(
             events.as_str(),
             clock.as_str(),
             late,
-            order,
-            compact_every,
-            most_bytes,
+            RunOptions {
+                order,
+                compact_every,
+                most_bytes,
+            },
             host,
             out,
             steps,
@@ -295,9 +300,11 @@ fn run<H: Host, K: Sink, L: Ledger>(
             queries.as_str(),
             checkpoint.as_str(),
             events.as_str(),
-            order,
-            compact_every,
-            most_bytes,
+            RunOptions {
+                order,
+                compact_every,
+                most_bytes,
+            },
             host,
             out,
             steps,

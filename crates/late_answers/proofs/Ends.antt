@@ -22,7 +22,8 @@ use Rattle.reorder_gate.specs.Gates.{Held, all_due}
 use Rattle.stream_answers.specs.declared.StreamFault.{StreamFault}
 use Rattle.stream_answers.specs.declared.StreamFault.TheVariants as fault
 use Rattle.stream_answers.specs.Gathering.{Gathered, PassesOn, Finished, stream_fault}
-use Rattle.stream_answers.specs.Streams.{WroteOver, HasReadCause, HasWriteCause}
+use Rattle.stream_answers.specs.Ends.{HasReadCause, HasWriteCause}
+use Rattle.stream_answers.specs.Streams.{WroteOver}
 use Rattle.stream_answers.specs.Windows.{is_due}
 use Rattle.stream_answers.proofs.Totals.{none_taken, walk_or_sorted}
 use Rattle.stream_answers.proofs.Windows.{windows_at_first}

@@ -1,17 +1,15 @@
 -- How many steps a late feed takes: those of a run, over the events that the queries take of it.
-use Rattle.std.specs.Prelude.{◌≡◌, ℕ, ◌+◌, List, [], ◌∷◌, ◌++◌, length, Option, Result, Ok, Err}
+use Rattle.std.specs.Prelude.{◌≡◌, ℕ, ◌+◌, List, [], ◌∷◌, ◌++◌, length, Option, None, Result}
 use Rattle.cer_base.specs.declared.OrMemory.{OrMemory}
-use Rattle.cer_base.specs.declared.OrMemory.TheVariants.{Fault, Memory}
 use Rattle.cer_outside.specs.Bytes.{TookAll, TookPart}
 use Rattle.stream_schema.specs.declared.Event.{Event as StreamEvent}
 use Rattle.answer_text.specs.declared.Order.{Order}
 use Rattle.answer_text.specs.declared.Order.TheVariants.{Walk, Sorted}
 use Rattle.answer_text.specs.Rows.{Row, row_line, lines_of, AreOutputRows}
 use Rattle.event_run.specs.Runs.{Stop}
-use Rattle.event_run.specs.Runs as stop
 use Rattle.stream_answers.specs.declared.StreamFault.{StreamFault}
-use Rattle.stream_answers.specs.declared.StreamFault.TheVariants as fault
-use Rattle.stream_answers.specs.Steps.{AreBounded}
+use Rattle.stream_answers.specs.Ends.{ByEnd}
+use Rattle.stream_answers.specs.Steps.{AreBounded, counts_said}
 use Rattle.late_answers.specs.Late.{Feed, RunsLate}
 
 -- The steps are bounded by the events that the queries take of a file of these bytes, and by the rows of their output.
@@ -50,13 +48,7 @@ abbrev pub LateCountsAtFault : Option ℕ → Order → Feed → List ℕ → Op
 LateCountsAtFault every Walk a lines before after old now = LateCountsUpTo every a lines before after old now
 LateCountsAtFault every Sorted a lines before after old now = LateCounts every a lines old now
 
--- The steps of a feed over a file of these bytes, by how it ended. Where it ended by itself the rows are those that were written.
+-- the steps of a feed over a file of these bytes, by how it ended
 abbrev pub LateStepsOver : Option ℕ → Feed → List ℕ → Option (List ℕ) → Option (List ℕ) → ℕ → ℕ → {T : Type 0} → Result T (OrMemory StreamFault) → Type 0
-LateStepsOver every a lines before after old now (Ok done) = LateCountsAll every a lines (λ halt. halt ≡ stop.End) (TookAll before after) old now
-LateStepsOver every a lines before after old now (Err (Fault (fault.Event line refusal))) =
-    LateCountsAll every a lines (λ halt. halt ≡ stop.Event line refusal) (TookAll before after) old now
-LateStepsOver every a lines before after old now (Err (Fault (fault.InputTooLong taken))) =
-    LateCountsAll every a lines (λ halt. halt ≡ stop.InputTooLong taken) (TookAll before after) old now
-LateStepsOver every a lines before after old now (Err (Fault fault.ReadFault)) = LateCounts every a lines old now
-LateStepsOver every a lines before after old now (Err (Fault fault.WriteFault)) = LateCountsAtFault every a.order a lines before after old now
-LateStepsOver every a lines before after old now (Err Memory) = LateCounts every a lines old now
+LateStepsOver every a lines before after old now result =
+    ByEnd (counts_said (λ Stops Took. LateCountsAll every a lines Stops Took old now) (LateCountsAtFault every a.order a lines before after old now) before after) None result

@@ -1,7 +1,6 @@
 -- What has been written of the answers over late events, by how it ended.
-use Rattle.std.specs.Prelude.{◌≡◌, ℕ, List, [], length, Option, Some, None, Result, Ok, Err}
+use Rattle.std.specs.Prelude.{◌≡◌, ℕ, List, [], length, Option, Some, None, Result}
 use Rattle.cer_base.specs.declared.OrMemory.{OrMemory}
-use Rattle.cer_base.specs.declared.OrMemory.TheVariants.{Fault, Memory}
 use Rattle.cer_outside.specs.Bytes.{TookPart}
 use Rattle.stream_schema.specs.declared.Event.{Event as StreamEvent}
 use Rattle.answer_text.specs.Output.{IsOutput}
@@ -12,7 +11,8 @@ use Rattle.event_run.specs.Runs.{Stop}
 use Rattle.event_run.specs.Runs as stop
 use Rattle.reorder_gate.specs.Releasing.{released}
 use Rattle.stream_answers.specs.declared.StreamFault.{StreamFault}
-use Rattle.stream_answers.specs.declared.StreamFault.TheVariants as fault
+use Rattle.stream_answers.specs.declared.RunOptions.{RunOptions}
+use Rattle.stream_answers.specs.Ends.{Said, ByEnd}
 use Rattle.stream_answers.specs.Streams.{Asked, WroteOver}
 use Rattle.stream_answers.specs.Windows.{last_due, FollowsWindows}
 use Rattle.late_answers.specs.Late.{Numbered, Feed, when, TakesOn, RunsLate, AreFed}
@@ -20,6 +20,10 @@ use Rattle.late_answers.specs.Late.{Numbered, Feed, when, TakesOn, RunsLate, Are
 -- what is asked of the answers, but for the clock
 abbrev pub asked : Feed → Asked
 asked a = record { order = a.order; schema = a.schema; queries = a.queries; most_bytes = a.most_bytes }
+
+-- what is asked of the late events of an engine's queries, by the options of a run, the name of the clock and by how much an event may come late
+abbrev pub feed_by : RunOptions → List ℕ → ℕ → State → Feed
+feed_by options clock late engine = record { order = options.order; schema = engine.schema; queries = engine.queries; clock = clock; late = late; most_bytes = options.most_bytes }
 
 -- The bytes are the answers over the events that the queries take of a file of these bytes.
 pub record AreLateAnswers (a : Feed) (lines bytes : List ℕ) : Type 0 where
@@ -60,10 +64,13 @@ pub record WroteLatePart (a : Feed) (source : Option (List ℕ)) (Took : List �
   pub are : (lines : List ℕ) → source ≡ Some lines → AreLateAnswers a lines bytes
 
 -- all answers up to the stop; those over what the lines that were read released; a proper part after a fault of the sink; a first part where memory ran out
+abbrev pub late_said : Feed → Option (List ℕ) → Option (List ℕ) → Option (List ℕ) → Said
+late_said a source before after = record {
+  stops = λ halt. WroteLateAll a source halt before after;
+  unread = λ left. WroteOver (asked a) source (AreReleasedRead a left) before after;
+  unwritten = WroteLatePart a source (TookPart before after);
+  wants = WroteLatePart a source (TookPrefix before after);
+}
+
 abbrev pub WroteLate : Feed → Option (List ℕ) → Option (List ℕ) → Option (List ℕ) → Option (List ℕ) → {T : Type 0} → Result T (OrMemory StreamFault) → Type 0
-WroteLate a source left before after (Ok done) = WroteLateAll a source stop.End before after
-WroteLate a source left before after (Err (Fault (fault.Event line refusal))) = WroteLateAll a source (stop.Event line refusal) before after
-WroteLate a source left before after (Err (Fault (fault.InputTooLong taken))) = WroteLateAll a source (stop.InputTooLong taken) before after
-WroteLate a source left before after (Err (Fault fault.ReadFault)) = WroteOver (asked a) source (AreReleasedRead a left) before after
-WroteLate a source left before after (Err (Fault fault.WriteFault)) = WroteLatePart a source (TookPart before after)
-WroteLate a source left before after (Err Memory) = WroteLatePart a source (TookPrefix before after)
+WroteLate a source left before after result = ByEnd (late_said a source before after) left result

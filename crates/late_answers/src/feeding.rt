@@ -5,7 +5,7 @@ ghost use Rattle.stream_schema.specs.Events.{IsOfSchema};
 ghost use Rattle.stream_schema.specs.declared.Event.{Event};
 ghost use Rattle.event_reader.specs.Events.{event_of_line};
 ghost use Rattle.reorder_gate.specs.Gates.{StandsFor};
-ghost use Rattle.stream_answers.specs.Streams.{HasReadCause, HasWriteCause};
+ghost use Rattle.stream_answers.specs.Ends.{HasReadCause, HasWriteCause};
 ghost use Rattle.late_answers.specs.Late.{Feed};
 ghost use Rattle.late_answers.specs.Flowing.{AfterPut, AfterText, AreOfSchema, HasFedOf, Sits, TakesRoom};
 

@@ -5,15 +5,14 @@ ghost use Rattle.stream_schema.specs.declared.Event.{Event};
 ghost use Rattle.query_engine.specs.Engine.{State, StandsFor, SameQueries, count_of, peak_of};
 ghost use Rattle.event_run.specs.Runs.{End};
 ghost use Rattle.reorder_gate.specs.Clocks.{clock_fits};
-ghost use Rattle.stream_answers.specs.Streams.{HasReadCause, HasWriteCause};
+ghost use Rattle.stream_answers.specs.Ends.{HasReadCause, HasWriteCause};
 ghost use Rattle.late_answers.specs.Late.{Feed};
-ghost use Rattle.late_answers.specs.Written.{StandsForLate, WroteLate};
+ghost use Rattle.late_answers.specs.Written.{feed_by, StandsForLate, WroteLate};
 ghost use Rattle.late_answers.specs.Steps.{LateStepsOver};
 ghost use Rattle.late_answers.specs.Flowing.{AreOfSchema, Closed, Ended, Feeds, Flowing, IsFresh, is_write_fault};
 
 use crate::feeding::put_line;
 use crate::releasing::release;
-use answer_text::Order;
 use cer_base::steps::Steps;
 use cer_base::{Memory, OrMemory};
 use cer_outside::{Sink, Source, WriteFault};
@@ -22,13 +21,12 @@ use query_engine::Engine;
 use reorder_gate::Gate;
 use std::alloc::Global;
 use std::sync::ledger::Ledger;
-use stream_answers::{Output, StreamFault, finish};
+use stream_answers::{Output, RunOptions, StreamFault, finish};
 
 /// Gives the engine, which is new, the events of the source by their clocks, ties in the order of
 /// their lines, and writes the answers at each. The clock is the attribute of this name, which every
 /// declared type has as a whole number. An event may come late by `late`: each waits until its clock
-/// is at most the greatest one that came less `late`, or until the source ends. Of the source
-/// `most_bytes` bytes are too many.
+/// is at most the greatest one that came less `late`, or until the source ends.
 ///
 /// After each line the events that need not wait are taken, and only the end of the source lets all
 /// of them go. The first of these faults ends it, after the answers that come before were written;
@@ -46,11 +44,9 @@ use stream_answers::{Output, StreamFault, finish};
 /// last compaction and those in the windows that it left, and its peaks likewise.
 pub fn write_late<Q: Source, K: Sink, L: Ledger>(
     alloc: Global,
-    order: Order,
     clock: &str,
     late: u64,
-    most_bytes: u64,
-    compact_every: Option<u64>,
+    options: RunOptions,
     engine: &mut Engine,
     source: &mut Q,
     out: &mut K,
@@ -59,38 +55,19 @@ pub fn write_late<Q: Source, K: Sink, L: Ledger>(
     requires fits { clock_fits engine.old.schema clock.now ≡ true }
     requires fresh { StandsFor engine.old [] }
     requires none { count_of engine.old ≡ 0 }
-    ensures wrote { WroteLate (record {
-      order = order;
-      schema = engine.old.schema;
-      queries = engine.old.queries;
-      clock = clock.now;
-      late = late;
-      most_bytes = most_bytes;
-    })
+    ensures wrote { WroteLate (feed_by options clock.now late engine.old)
         (Q.left source.old) (Q.left source.new) (K.taken out.old) (K.taken out.new) result }
     ensures steps { (bytes : List ℕ) → Q.left source.old ≡ Some bytes
-        → LateStepsOver compact_every (record {
-          order = order;
-          schema = engine.old.schema;
-          queries = engine.old.queries;
-          clock = clock.now;
-          late = late;
-          most_bytes = most_bytes;
-        }) bytes (K.taken out.old) (K.taken out.new) steps.old steps.new result }
+        → LateStepsOver options.compact_every (feed_by options clock.now late engine.old) bytes
+        (K.taken out.old) (K.taken out.new) steps.old steps.new result }
     ensures stands { OnOk result ((bytes : List ℕ) → Q.left source.old ≡ Some bytes
-        → StandsForLate compact_every (peak_of engine.old) (record {
-          order = order;
-          schema = engine.old.schema;
-          queries = engine.old.queries;
-          clock = clock.now;
-          late = late;
-          most_bytes = most_bytes;
-        }) bytes engine.new) }
+        → StandsForLate options.compact_every (peak_of engine.old) (feed_by options clock.now late
+        engine.old) bytes engine.new) }
     ensures same { SameQueries engine.old engine.new }
     ensures read_cause { HasReadCause (Q.faults source.old) (Q.faults source.new) result }
     ensures write_cause { HasWriteCause (K.faults out.old) (K.faults out.new) result }
 {
-    let mut lines = match Lines::new(alloc, most_bytes) {
+    let mut lines = match Lines::new(alloc, options.most_bytes) {
         Ok(lines) => lines,
         Err(Memory) => return Err(OrMemory::Memory),
     };
@@ -98,13 +75,13 @@ pub fn write_late<Q: Source, K: Sink, L: Ledger>(
         Ok(gate) => gate,
         Err(Memory) => return Err(OrMemory::Memory),
     };
-    let mut output = Output::new(alloc, order);
+    let mut output = Output::new(alloc, options.order);
     answer_lines(
         alloc,
         &mut lines,
         &mut gate,
         &mut output,
-        compact_every,
+        options.compact_every,
         engine,
         source,
         out,

@@ -5,10 +5,10 @@ ghost use Rattle.std.specs.List.{AllByRecursion};
 ghost use Rattle.stream_schema.specs.Events.{IsOfSchema};
 ghost use Rattle.query_engine.specs.Engine.{StandsFor, SameQueries, count_of, peak_of};
 ghost use Rattle.checkpoint_text.specs.Spelling.{IsHistory};
-ghost use Rattle.stream_answers.specs.Streams.{HasReadCause, HasWriteCause};
+ghost use Rattle.stream_answers.specs.Ends.{HasReadCause, HasWriteCause};
+ghost use Rattle.stream_answers.specs.Streams.{asked_by};
 ghost use Rattle.resumed_answers.specs.Resumed.{WroteResumed, StandsForResumed, StepsResumed};
 
-use answer_text::Order;
 use cer_base::steps::Steps;
 use cer_base::{Memory, OrMemory};
 use cer_outside::{Sink, Source};
@@ -16,10 +16,10 @@ use checkpoint_text::{History, replay};
 use query_engine::Engine;
 use std::alloc::Global;
 use std::sync::ledger::Ledger;
-use stream_answers::{StreamFault, write_answers_after};
+use stream_answers::{RunOptions, StreamFault, write_answers_after};
 
 /// Takes the history into the engine, which is new, without an answer, and goes on with the events
-/// of the source, of which `most_bytes` bytes are too many: it writes the answers at each of these, in
+/// of the source: it writes the answers at each of these, in
 /// the way of `write_answers`. The history is one that a checkpoint may tell of the engine's queries,
 /// and its events are of the engine's schema, as `read_checkpoint` gives it.
 ///
@@ -34,9 +34,7 @@ use stream_answers::{StreamFault, write_answers_after};
 /// Where it ends well, the engine stands for the events of the history and then those of the source.
 pub fn resume_answers<Q: Source, K: Sink, L: Ledger>(
     alloc: Global,
-    order: Order,
-    most_bytes: u64,
-    compact_every: Option<u64>,
+    options: RunOptions,
     engine: &mut Engine,
     history: &History,
     source: &mut Q,
@@ -48,28 +46,15 @@ pub fn resume_answers<Q: Source, K: Sink, L: Ledger>(
     requires history { IsHistory engine.old.schema engine.old.queries history.now }
     requires of_schema { AllByRecursion (λ e. IsOfSchema engine.old.schema e.event)
         history.now.events }
-    requires room { history.now.positions + most_bytes < 2 ^ 64 }
-    ensures wrote { WroteResumed history.now (record {
-      order = order;
-      schema = engine.old.schema;
-      queries = engine.old.queries;
-      most_bytes = most_bytes;
-    })
+    requires room { history.now.positions + options.most_bytes < 2 ^ 64 }
+    ensures wrote { WroteResumed history.now (asked_by options engine.old)
         (Q.left source.old) (Q.left source.new) (K.taken out.old) (K.taken out.new) result }
     ensures steps { (bytes : List ℕ) → Q.left source.old ≡ Some bytes
-        → StepsResumed compact_every history.now (record {
-          order = order;
-          schema = engine.old.schema;
-          queries = engine.old.queries;
-          most_bytes = most_bytes;
-        }) bytes (K.taken out.old) (K.taken out.new) steps.old steps.new result }
+        → StepsResumed options.compact_every history.now (asked_by options engine.old) bytes
+        (K.taken out.old) (K.taken out.new) steps.old steps.new result }
     ensures stands { OnOk result ((bytes : List ℕ) → Q.left source.old ≡ Some bytes
-        → StandsForResumed compact_every (peak_of engine.old) history.now (record {
-          order = order;
-          schema = engine.old.schema;
-          queries = engine.old.queries;
-          most_bytes = most_bytes;
-        }) bytes engine.new) }
+        → StandsForResumed options.compact_every (peak_of engine.old) history.now (asked_by options
+        engine.old) bytes engine.new) }
     ensures same { SameQueries engine.old engine.new }
     ensures read_cause { HasReadCause (Q.faults source.old) (Q.faults source.new) result }
     ensures write_cause { HasWriteCause (K.faults out.old) (K.faults out.new) result }
@@ -78,14 +63,5 @@ pub fn resume_answers<Q: Source, K: Sink, L: Ledger>(
         Ok(()) => {}
         Err(Memory) => return Err(OrMemory::Memory),
     }
-    write_answers_after(
-        alloc,
-        order,
-        most_bytes,
-        compact_every,
-        engine,
-        source,
-        out,
-        steps,
-    )
+    write_answers_after(alloc, options, engine, source, out, steps)
 }

@@ -11,7 +11,7 @@ use Rattle.answer_blocks.proofs.Writing.{prefix_none, prefix_after}
 use Rattle.stream_answers.proofs.Portions.{took_none, took_both, took_then_part, prefix_of_all}
 use Rattle.stream_answers.specs.declared.StreamFault.{StreamFault}
 use Rattle.stream_answers.specs.declared.StreamFault.TheVariants as fault
-use Rattle.stream_answers.specs.Streams.{HasReadCause, HasWriteCause}
+use Rattle.stream_answers.specs.Ends.{HasReadCause, HasWriteCause}
 use Rattle.event_reader.specs.declared.LineFault.{LineFault}
 use Rattle.event_reader.specs.declared.LineFault.TheVariants as line
 use Rattle.event_reader.specs.Reading as reading

@@ -2,7 +2,6 @@
 use Rattle.std.specs.Prelude.{◌≡◌, ℕ, ◌+◌, ◌==◌, ◌⊎◌, if◌then◌else◌, List, [], ◌∷◌, ◌++◌, length, Option, Some, None, Result, Ok, Err}
 use Rattle.std.specs.Str.Lines.{strip_carriage_return}
 use Rattle.cer_base.specs.declared.OrMemory.{OrMemory}
-use Rattle.cer_base.specs.declared.OrMemory.TheVariants.{Fault, Memory}
 use Rattle.cer_outside.specs.Bytes.{TookAll, TookPart}
 use Rattle.stream_schema.specs.Types.{Declared}
 use Rattle.cel_terms.specs.declared.Query.{Query}
@@ -15,7 +14,7 @@ use Rattle.event_reader.specs.Reading.{whole_lines}
 use Rattle.event_run.specs.Runs.{Stop, stop_of}
 use Rattle.event_run.specs.Runs as stop
 use Rattle.stream_answers.specs.declared.StreamFault.{StreamFault}
-use Rattle.stream_answers.specs.declared.StreamFault.TheVariants as fault
+use Rattle.stream_answers.specs.Ends.{Said, ByEnd}
 use Rattle.stream_answers.specs.Streams.{EventsAsked}
 use Rattle.cursor_session.specs.declared.command.Command.{Command}
 use Rattle.cursor_session.specs.declared.command.CommandFault.{CommandFault}
@@ -136,11 +135,13 @@ abbrev pub WrotePart : EventsAsked → Option (List ℕ) → (List ℕ → Type 
 WrotePart a source Took = WroteOver source (BeginsPlay a.schema a.queries a.most_bytes) Took
 
 -- what was written, up to the stop; of the lines that were read; a proper part after a fault of the sink; a first part where memory ran out
+abbrev pub play_said : EventsAsked → Option (List ℕ) → Option (List ℕ) → Option (List ℕ) → Said
+play_said a source before after = record {
+  stops = λ halt. WroteAll a source halt before after;
+  unread = λ left. WroteOver source (λ script bytes. WritesRead a.schema a.queries a.most_bytes script left bytes) (TookAll before after);
+  unwritten = WrotePart a source (TookPart before after);
+  wants = WrotePart a source (TookPrefix before after);
+}
+
 abbrev pub WrotePlay : EventsAsked → Option (List ℕ) → Option (List ℕ) → Option (List ℕ) → Option (List ℕ) → {T : Type 0} → Result T (OrMemory StreamFault) → Type 0
-WrotePlay a source left before after (Ok done) = WroteAll a source stop.End before after
-WrotePlay a source left before after (Err (Fault (fault.Event line refused))) = WroteAll a source (stop.Event line refused) before after
-WrotePlay a source left before after (Err (Fault (fault.InputTooLong taken))) = WroteAll a source (stop.InputTooLong taken) before after
-WrotePlay a source left before after (Err (Fault fault.ReadFault)) =
-    WroteOver source (λ script bytes. WritesRead a.schema a.queries a.most_bytes script left bytes) (TookAll before after)
-WrotePlay a source left before after (Err (Fault fault.WriteFault)) = WrotePart a source (TookPart before after)
-WrotePlay a source left before after (Err Memory) = WrotePart a source (TookPrefix before after)
+WrotePlay a source left before after result = ByEnd (play_said a source before after) left result

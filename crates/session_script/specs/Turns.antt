@@ -1,7 +1,6 @@
 -- How many steps a script takes: of each command that was begun its cost on the machine that it found.
 use Rattle.std.specs.Prelude.{◌≡◌, ℕ, ◌+◌, ◌≤◌, ◌⊎◌, List, [], ◌∷◌, ◌++◌, length, map, sum, Option, Some, None, Result, Ok, Err}
 use Rattle.cer_base.specs.declared.OrMemory.{OrMemory}
-use Rattle.cer_base.specs.declared.OrMemory.TheVariants.{Fault, Memory}
 use Rattle.cer_outside.specs.Bytes.{TookAll}
 use Rattle.stream_schema.specs.Types.{Declared}
 use Rattle.stream_schema.specs.declared.Event.{Event as StreamEvent}
@@ -10,7 +9,7 @@ use Rattle.event_reader.specs.declared.EventFault.{EventFault}
 use Rattle.event_reader.specs.Lines.{file_lines}
 use Rattle.query_engine.specs.Counts.{MeetMost}
 use Rattle.stream_answers.specs.declared.StreamFault.{StreamFault}
-use Rattle.stream_answers.specs.declared.StreamFault.TheVariants as fault
+use Rattle.stream_answers.specs.Ends.{Said, ByEnd}
 use Rattle.stream_answers.specs.Streams.{EventsAsked}
 use Rattle.cursor_session.specs.declared.command.Command.{Command}
 use Rattle.cursor_session.specs.Machine.{Machine, at_first}
@@ -87,11 +86,14 @@ pub record CountsBegun (a : EventsAsked) (script : List ℕ) (Took : List ℕ �
 abbrev pub TookFirst : Option (List ℕ) → List ℕ → Type 0
 TookFirst before bytes = (middle : Option (List ℕ)) × TookAll before middle bytes
 
--- The steps of a script of these bytes, by how it ended: those of the turns whose bytes were written, and where a write failed or memory ran out the command that was begun as well.
+-- the steps of a script of these bytes, by how it ended: those of the turns whose bytes were written, and where a write failed or memory ran out the command that was begun as well
+abbrev pub turns_said : EventsAsked → List ℕ → Option (List ℕ) → Option (List ℕ) → ℕ → ℕ → Said
+turns_said a script before after old now = record {
+  stops = λ halt. CountsTurns a script (TookAll before after) old now;
+  unread = λ left. CountsTurns a script (TookAll before after) old now;
+  unwritten = CountsBegun a script (TookFirst before) old now;
+  wants = CountsTurns a script (TookAll before after) old now ⊎ CountsBegun a script (TookFirst before) old now;
+}
+
 abbrev pub StepsOverPlay : EventsAsked → List ℕ → Option (List ℕ) → Option (List ℕ) → ℕ → ℕ → {T : Type 0} → Result T (OrMemory StreamFault) → Type 0
-StepsOverPlay a script before after old now (Ok done) = CountsTurns a script (TookAll before after) old now
-StepsOverPlay a script before after old now (Err (Fault (fault.Event line refused))) = CountsTurns a script (TookAll before after) old now
-StepsOverPlay a script before after old now (Err (Fault (fault.InputTooLong taken))) = CountsTurns a script (TookAll before after) old now
-StepsOverPlay a script before after old now (Err (Fault fault.ReadFault)) = CountsTurns a script (TookAll before after) old now
-StepsOverPlay a script before after old now (Err (Fault fault.WriteFault)) = CountsBegun a script (TookFirst before) old now
-StepsOverPlay a script before after old now (Err Memory) = CountsTurns a script (TookAll before after) old now ⊎ CountsBegun a script (TookFirst before) old now
+StepsOverPlay a script before after old now result = ByEnd (turns_said a script before after old now) None result

@@ -4,7 +4,7 @@ ghost use Rattle.std.specs.Prelude.{◌≡◌, ◌≤◌, ℕ, List, [], false, 
 ghost use Rattle.cel_terms.specs.Checked.{IsChecked};
 ghost use Rattle.event_reader.specs.Reading.{HasGiven};
 ghost use Rattle.query_engine.specs.Engine.{count_of};
-ghost use Rattle.stream_answers.specs.Streams.{HasReadCause, HasWriteCause};
+ghost use Rattle.stream_answers.specs.Ends.{HasReadCause, HasWriteCause};
 ghost use Rattle.cursor_session.specs.Machine.{at_first};
 ghost use Rattle.cursor_session.specs.Sessions.{Stands};
 ghost use Rattle.session_script.specs.Scripts.{WrotePlay};

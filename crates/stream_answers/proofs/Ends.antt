@@ -22,7 +22,8 @@ use Rattle.stream_answers.specs.declared.StreamFault.{StreamFault}
 use Rattle.stream_answers.specs.declared.StreamFault.TheVariants as fault
 use Rattle.stream_answers.specs.Windows.{last_of, FollowsWindowsBy}
 use Rattle.stream_answers.specs.Gathering.{PassesOn, Running, Finished, stream_fault}
-use Rattle.stream_answers.specs.Streams.{Asked, StandsForAllAfter, WroteOverAfter, WroteAllAfter, WrotePartOfAfter, WroteStreamAfter, HasReadCause}
+use Rattle.stream_answers.specs.Ends.{HasReadCause}
+use Rattle.stream_answers.specs.Streams.{Asked, StandsForAllAfter, WroteOverAfter, WroteAllAfter, WrotePartOfAfter, WroteStreamAfter}
 use Rattle.stream_answers.proofs.Portions.{took_both, took_then_part, part_of_more, prefix_of_more, prefix_of_all}
 use Rattle.stream_answers.proofs.Wholes.{part_of_run}
 use Rattle.stream_answers.proofs.Running.{Owing, Came, output_with, in_turn, begins_so}

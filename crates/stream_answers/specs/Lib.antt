@@ -1,3 +1,4 @@
+pub mod Ends
 pub mod Windows
 pub mod Streams
 pub mod Steps

@@ -1,8 +1,7 @@
 -- How many steps a run takes: of each event and query twice the bound of an update and one, of each answer its delay, and of each compaction and query nine times the bound of an update for each event so far.
-use Rattle.std.specs.Prelude.{◌≡◌, ℕ, ◌+◌, ◌*◌, ◌≤◌, Bool, cond, List, [], ◌∷◌, ◌++◌, length, map, sum, Option, Some, None, Result, Ok, Err}
+use Rattle.std.specs.Prelude.{◌≡◌, ℕ, ◌+◌, ◌*◌, ◌≤◌, Bool, cond, List, [], ◌∷◌, ◌++◌, length, map, sum, Option, Some, None, Result}
 use Rattle.std.specs.List.{range_with_len}
 use Rattle.cer_base.specs.declared.OrMemory.{OrMemory}
-use Rattle.cer_base.specs.declared.OrMemory.TheVariants.{Fault, Memory}
 use Rattle.cer_outside.specs.Bytes.{TookAll, TookPart}
 use Rattle.stream_schema.specs.Types.{Declared}
 use Rattle.stream_schema.specs.declared.Event.{Event as StreamEvent}
@@ -14,9 +13,8 @@ use Rattle.answer_text.specs.Rows.{Row, row_line, lines_of}
 use Rattle.output_laws.specs.After.{AreRowsAfter}
 use Rattle.answer_blocks.specs.Counted.{row_delays}
 use Rattle.event_run.specs.Runs.{Stop, RunsAfter}
-use Rattle.event_run.specs.Runs as stop
 use Rattle.stream_answers.specs.declared.StreamFault.{StreamFault}
-use Rattle.stream_answers.specs.declared.StreamFault.TheVariants as fault
+use Rattle.stream_answers.specs.Ends.{Said, ByEnd}
 use Rattle.stream_answers.specs.Streams.{Asked}
 pub use Rattle.stream_answers.specs.Windows.{is_due}
 
@@ -84,16 +82,19 @@ abbrev pub CountsAtFaultAfter : (ℕ → Bool) → List StreamEvent → Order �
 CountsAtFaultAfter due earlier Walk a lines before after old now = CountsUpToAfter due earlier a lines before after old now
 CountsAtFaultAfter due earlier Sorted a lines before after old now = CountsAfter due earlier a lines old now
 
--- The steps of a run over a file of these bytes, by how it ended. Where it ended by itself the rows are those that were written.
+-- How the steps are bounded by what passes for the stop and what was taken of the lines, by how it ended: where it ended by itself these are its stop and all that was written.
+abbrev pub counts_said : ((Stop → Type 0) → (List ℕ → Type 0) → Type 0) → Type 0 → Option (List ℕ) → Option (List ℕ) → Said
+counts_said All AtFault before after = record {
+  stops = λ halt. All (λ stop. stop ≡ halt) (TookAll before after);
+  unread = λ left. All (λ halt. Unit {0}) (λ bytes. Unit {0});
+  unwritten = AtFault;
+  wants = All (λ halt. Unit {0}) (λ bytes. Unit {0});
+}
+
+-- the steps of a run over a file of these bytes
 abbrev pub StepsOverAfter : (ℕ → Bool) → List StreamEvent → Asked → List ℕ → Option (List ℕ) → Option (List ℕ) → ℕ → ℕ → {T : Type 0} → Result T (OrMemory StreamFault) → Type 0
-StepsOverAfter due earlier a lines before after old now (Ok done) = CountsAllAfter due earlier a lines (λ halt. halt ≡ stop.End) (TookAll before after) old now
-StepsOverAfter due earlier a lines before after old now (Err (Fault (fault.Event line refusal))) =
-    CountsAllAfter due earlier a lines (λ halt. halt ≡ stop.Event line refusal) (TookAll before after) old now
-StepsOverAfter due earlier a lines before after old now (Err (Fault (fault.InputTooLong taken))) =
-    CountsAllAfter due earlier a lines (λ halt. halt ≡ stop.InputTooLong taken) (TookAll before after) old now
-StepsOverAfter due earlier a lines before after old now (Err (Fault fault.ReadFault)) = CountsAfter due earlier a lines old now
-StepsOverAfter due earlier a lines before after old now (Err (Fault fault.WriteFault)) = CountsAtFaultAfter due earlier a.order a lines before after old now
-StepsOverAfter due earlier a lines before after old now (Err Memory) = CountsAfter due earlier a lines old now
+StepsOverAfter due earlier a lines before after old now result =
+    ByEnd (counts_said (λ Stops Took. CountsAllAfter due earlier a lines Stops Took old now) (CountsAtFaultAfter due earlier a.order a lines before after old now) before after) None result
 
 -- THE SAME WITH NO EVENT BEFORE
 

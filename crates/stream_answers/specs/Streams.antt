@@ -1,8 +1,6 @@
 -- What has been written of the answers over the events of a source, which may come after others, by how it ended.
-use Rattle.std.specs.Prelude.{◌≡◌, ℕ, ◌⊎◌, Bool, List, [], length, Option, Some, Result, Ok, Err}
+use Rattle.std.specs.Prelude.{◌≡◌, ℕ, Bool, List, [], length, Option, Some, Result}
 use Rattle.cer_base.specs.declared.OrMemory.{OrMemory}
-use Rattle.cer_base.specs.declared.OrMemory.TheVariants.{Fault, Memory}
-use Rattle.cer_outside.specs.Causes.{Rose}
 use Rattle.cer_outside.specs.Bytes.{TookAll, TookPart}
 use Rattle.stream_schema.specs.Types.{Declared}
 use Rattle.stream_schema.specs.declared.Event.{Event as StreamEvent}
@@ -15,8 +13,9 @@ use Rattle.event_run.specs.Runs.{Stop, RunsAfter}
 use Rattle.event_run.specs.Runs as stop
 use Rattle.event_run.specs.Taking.{AreEventsReadAfter}
 use Rattle.stream_answers.specs.Windows.{is_due, last_of, FollowsWindowsBy}
+use Rattle.stream_answers.specs.declared.RunOptions.{RunOptions}
 use Rattle.stream_answers.specs.declared.StreamFault.{StreamFault}
-use Rattle.stream_answers.specs.declared.StreamFault.TheVariants as fault
+use Rattle.stream_answers.specs.Ends.{Said, ByEnd}
 
 -- the schema and the queries, and how many bytes of events, or of a script, are too many
 pub record EventsAsked : Type 0 where
@@ -30,6 +29,10 @@ pub record Asked : Type 0 where
   pub schema : Declared
   pub queries : List Query
   pub most_bytes : ℕ
+
+-- what is asked of the events of an engine's queries, by the options of a run
+abbrev pub asked_by : RunOptions → State → Asked
+asked_by options engine = record { order = options.order; schema = engine.schema; queries = engine.queries; most_bytes = options.most_bytes }
 
 -- WHAT COMES AFTER OTHER EVENTS
 -- `earlier` are events that came before and whose answers are not asked for; `events` are these and then those of the file.
@@ -68,14 +71,16 @@ pub record WrotePartOfAfter (earlier : List StreamEvent) (a : Asked) (source : O
   pub are : (lines : List ℕ) → source ≡ Some lines → AreAnswersAfter earlier a lines bytes
 
 -- all answers up to the stop; those over the lines that were read; a proper part after a fault of the sink; a first part where memory ran out
+abbrev pub answers_said : List StreamEvent → Asked → Option (List ℕ) → Option (List ℕ) → Option (List ℕ) → Said
+answers_said earlier a source old new = record {
+  stops = λ halt. WroteAllAfter earlier a source halt old new;
+  unread = λ left. WroteOverAfter earlier a source (λ lines events. AreEventsReadAfter earlier a.schema a.queries a.most_bytes lines left events) old new;
+  unwritten = WrotePartOfAfter earlier a source (TookPart old new);
+  wants = WrotePartOfAfter earlier a source (TookPrefix old new);
+}
+
 abbrev pub WroteStreamAfter : List StreamEvent → Asked → Option (List ℕ) → Option (List ℕ) → Option (List ℕ) → Option (List ℕ) → {T : Type 0} → Result T (OrMemory StreamFault) → Type 0
-WroteStreamAfter earlier a source left old new (Ok done) = WroteAllAfter earlier a source stop.End old new
-WroteStreamAfter earlier a source left old new (Err (Fault (fault.Event line refusal))) = WroteAllAfter earlier a source (stop.Event line refusal) old new
-WroteStreamAfter earlier a source left old new (Err (Fault (fault.InputTooLong taken))) = WroteAllAfter earlier a source (stop.InputTooLong taken) old new
-WroteStreamAfter earlier a source left old new (Err (Fault fault.ReadFault)) =
-    WroteOverAfter earlier a source (λ lines events. AreEventsReadAfter earlier a.schema a.queries a.most_bytes lines left events) old new
-WroteStreamAfter earlier a source left old new (Err (Fault fault.WriteFault)) = WrotePartOfAfter earlier a source (TookPart old new)
-WroteStreamAfter earlier a source left old new (Err Memory) = WrotePartOfAfter earlier a source (TookPrefix old new)
+WroteStreamAfter earlier a source left old new result = ByEnd (answers_said earlier a source old new) left result
 
 -- THE SAME WITH NO EVENT BEFORE
 
@@ -100,21 +105,3 @@ WrotePartOf a source Took = WrotePartOfAfter [] a source Took
 -- all answers up to the stop, or those over what was read, or a part of them
 abbrev pub WroteStream : Asked → Option (List ℕ) → Option (List ℕ) → Option (List ℕ) → Option (List ℕ) → {T : Type 0} → Result T (OrMemory StreamFault) → Type 0
 WroteStream a source left old new result = WroteStreamAfter [] a source left old new result
-
--- the source's count of faults rose where it failed, and else stays; where the sink failed the source may have failed before
-abbrev pub HasReadCause : {T : Type 0} → ℕ → ℕ → Result T (OrMemory StreamFault) → Type 0
-HasReadCause before now (Err (Fault fault.ReadFault)) = Rose before now
-HasReadCause before now (Err (Fault fault.WriteFault)) = (now ≡ before) ⊎ Rose before now
-HasReadCause before now (Err (Fault (fault.Event line refusal))) = now ≡ before
-HasReadCause before now (Err (Fault (fault.InputTooLong taken))) = now ≡ before
-HasReadCause before now (Err Memory) = now ≡ before
-HasReadCause before now (Ok done) = now ≡ before
-
--- the sink's count rose where it failed, and else stays
-abbrev pub HasWriteCause : {T : Type 0} → ℕ → ℕ → Result T (OrMemory StreamFault) → Type 0
-HasWriteCause before now (Err (Fault fault.WriteFault)) = Rose before now
-HasWriteCause before now (Err (Fault fault.ReadFault)) = now ≡ before
-HasWriteCause before now (Err (Fault (fault.Event line refusal))) = now ≡ before
-HasWriteCause before now (Err (Fault (fault.InputTooLong taken))) = now ≡ before
-HasWriteCause before now (Err Memory) = now ≡ before
-HasWriteCause before now (Ok done) = now ≡ before

@@ -8,11 +8,11 @@ ghost use Rattle.query_engine.specs.Counts.{MeetMost, HasFewNodes};
 ghost use Rattle.stream_answers.specs.Gathering.{Finished, stream_fault};
 ghost use Rattle.stream_answers.specs.Steps.{AreBoundedBy, StepsOver, StepsOverAfter, compaction_by};
 ghost use Rattle.stream_answers.specs.Windows.{is_due, is_due_after, last_of, FollowsEvents, FollowsWindowsBy};
-ghost use Rattle.stream_answers.specs.Streams.{WroteStream, WroteStreamAfter, StandsForAll, StandsForAllAfter, HasReadCause, HasWriteCause};
+ghost use Rattle.stream_answers.specs.Ends.{HasReadCause, HasWriteCause};
+ghost use Rattle.stream_answers.specs.Streams.{asked_by, WroteStream, WroteStreamAfter, StandsForAll, StandsForAllAfter};
 
-use crate::StreamFault;
 use crate::output::Output;
-use answer_text::Order;
+use crate::{RunOptions, StreamFault};
 use cer_base::steps::Steps;
 use cer_base::{Memory, OrMemory};
 use cer_outside::{Sink, Source, WriteFault};
@@ -22,13 +22,12 @@ use query_engine::Engine;
 use std::alloc::Global;
 use std::sync::ledger::Ledger;
 
-/// Gives the engine, which is new, the events of the source, of which `most_bytes` bytes are too
-/// many, and writes the answers at each. In walk order a line is written before the next answer is
-/// asked for. In sorted order lines are gathered, and written at the latest when 65,536 bytes of
-/// them stand or the next line of the source is not at hand: none waits while the source is asked.
+/// Gives the engine, which is new, the events of the source, and writes the answers at each. In walk
+/// order a line is written before the next answer is asked for. In sorted order lines are gathered,
+/// and written at the latest when 65,536 bytes of them stand or the next line of the source is not at
+/// hand: none waits while the source is asked.
 ///
-/// With `compact_every` the engine is compacted after every so many events, their answers being
-/// written or held. Without it, or with 0, it never is.
+/// Where the engine is compacted after an event, the answers at it are written or held.
 ///
 /// The first fault ends it, after the answers that come before were written; where writing fails,
 /// that is the answer.
@@ -40,9 +39,7 @@ use std::sync::ledger::Ledger;
 /// those in the windows that it left, and its peaks likewise.
 pub fn write_answers<Q: Source, K: Sink, L: Ledger>(
     alloc: Global,
-    order: Order,
-    most_bytes: u64,
-    compact_every: Option<u64>,
+    options: RunOptions,
     engine: &mut Engine,
     source: &mut Q,
     out: &mut K,
@@ -50,42 +47,26 @@ pub fn write_answers<Q: Source, K: Sink, L: Ledger>(
 ) -> Result<(), OrMemory<StreamFault>>
     requires fresh { StandsFor engine.old [] }
     requires none { count_of engine.old ≡ 0 }
-    ensures wrote { WroteStream (record {
-      order = order;
-      schema = engine.old.schema;
-      queries = engine.old.queries;
-      most_bytes = most_bytes;
-    })
+    ensures wrote { WroteStream (asked_by options engine.old)
         (Q.left source.old) (Q.left source.new) (K.taken out.old) (K.taken out.new) result }
     ensures steps { (bytes : List ℕ) → Q.left source.old ≡ Some bytes
-        → StepsOver compact_every (record {
-          order = order;
-          schema = engine.old.schema;
-          queries = engine.old.queries;
-          most_bytes = most_bytes;
-        }) bytes (K.taken out.old) (K.taken out.new) steps.old steps.new result }
+        → StepsOver options.compact_every (asked_by options engine.old) bytes (K.taken out.old)
+        (K.taken out.new) steps.old steps.new result }
     ensures stands { OnOk result ((bytes : List ℕ) → Q.left source.old ≡ Some bytes
-        → StandsForAll compact_every (peak_of engine.old) (record {
-          order = order;
-          schema = engine.old.schema;
-          queries = engine.old.queries;
-          most_bytes = most_bytes;
-        }) bytes engine.new) }
+        → StandsForAll options.compact_every (peak_of engine.old) (asked_by options engine.old)
+        bytes engine.new) }
     ensures same { SameQueries engine.old engine.new }
     ensures read_cause { HasReadCause (Q.faults source.old) (Q.faults source.new) result }
     ensures write_cause { HasWriteCause (K.faults out.old) (K.faults out.new) result }
 {
-    write_answers_after(
-        alloc,
-        order,
-        most_bytes,
-        compact_every,
-        engine,
-        source,
-        out,
-        steps,
-    )
+    has_64_bits(options.most_bytes);
+    write_answers_after(alloc, options, engine, source, out, steps)
 }
+
+/// Nothing is done: a field is not known to be below 2^64 by itself, where a parameter is.
+fn has_64_bits(n: u64)
+    ensures { n < 2 ^ 64 }
+{}
 
 /// The same for an engine that took events before, in which no answer was asked for: it goes on with
 /// the events of the source, and writes the answers at each of these. Positions go on from those
@@ -97,59 +78,44 @@ pub fn write_answers<Q: Source, K: Sink, L: Ledger>(
 /// were taken, where these took no more than their own bound.
 pub fn write_answers_after<Q: Source, K: Sink, L: Ledger>(
     alloc: Global,
-    order: Order,
-    most_bytes: u64,
-    compact_every: Option<u64>,
+    options: RunOptions,
     engine: &mut Engine,
     source: &mut Q,
     out: &mut K,
     steps: &mut Steps<L>,
 ) -> Result<(), OrMemory<StreamFault>>
-    requires room { count_of engine.old + most_bytes < 2 ^ 64 }
+    requires room { count_of engine.old + options.most_bytes < 2 ^ 64 }
     ensures wrote { (peaks : ℕ → ℕ) (earlier : List Event) → FollowsEvents peaks engine.old earlier
-        → WroteStreamAfter earlier (record {
-          order = order;
-          schema = engine.old.schema;
-          queries = engine.old.queries;
-          most_bytes = most_bytes;
-        })
+        → WroteStreamAfter earlier (asked_by options engine.old)
         (Q.left source.old) (Q.left source.new) (K.taken out.old) (K.taken out.new) result }
     ensures steps { (peaks : ℕ → ℕ) (earlier : List Event) (begun : ℕ)
         → FollowsEvents peaks engine.old earlier
-        → AreBoundedBy (is_due_after compact_every (length earlier)) engine.old.schema
+        → AreBoundedBy (is_due_after options.compact_every (length earlier)) engine.old.schema
         engine.old.queries earlier [] begun steps.old
         → (bytes : List ℕ) → Q.left source.old ≡ Some bytes
-        → StepsOverAfter (is_due_after compact_every (length earlier)) earlier (record {
-          order = order;
-          schema = engine.old.schema;
-          queries = engine.old.queries;
-          most_bytes = most_bytes;
-        }) bytes (K.taken out.old) (K.taken out.new) begun steps.new result }
+        → StepsOverAfter (is_due_after options.compact_every (length earlier)) earlier (asked_by
+        options engine.old) bytes (K.taken out.old) (K.taken out.new) begun steps.new result }
     ensures stands { OnOk result ((peaks : ℕ → ℕ) (earlier : List Event)
         → FollowsEvents peaks engine.old earlier
         → (bytes : List ℕ) → Q.left source.old ≡ Some bytes
-        → StandsForAllAfter (is_due_after compact_every (length earlier)) peaks earlier (record {
-          order = order;
-          schema = engine.old.schema;
-          queries = engine.old.queries;
-          most_bytes = most_bytes;
-        }) bytes engine.new) }
+        → StandsForAllAfter (is_due_after options.compact_every (length earlier)) peaks earlier
+        (asked_by options engine.old) bytes engine.new) }
     ensures same { SameQueries engine.old engine.new }
     ensures read_cause { HasReadCause (Q.faults source.old) (Q.faults source.new) result }
     ensures write_cause { HasWriteCause (K.faults out.old) (K.faults out.new) result }
 {
-    let mut lines = match Lines::new(alloc, most_bytes) {
+    let mut lines = match Lines::new(alloc, options.most_bytes) {
         Ok(lines) => lines,
         Err(Memory) => return Err(OrMemory::Memory),
     };
     let mut row = Row::new(alloc);
-    let mut output = Output::new(alloc, order);
+    let mut output = Output::new(alloc, options.order);
     answer_events(
         alloc,
         &mut lines,
         &mut row,
         &mut output,
-        compact_every,
+        options.compact_every,
         engine,
         source,
         out,

@@ -11,7 +11,8 @@ use Rattle.event_reader.specs.Lines.{file_lines}
 use Rattle.event_run.specs.Runs.{RunsTo}
 use Rattle.event_run.specs.Runs as stop
 use Rattle.stream_answers.specs.declared.StreamFault.{StreamFault}
-use Rattle.stream_answers.specs.AtEnd.{WroteAtEnd}
+use Rattle.stream_answers.specs.AtEnd.{text_said}
+use Rattle.stream_answers.specs.Ends.{Said, ByEnd}
 use Rattle.stream_answers.specs.Streams.{EventsAsked}
 use Rattle.checkpoint_text.specs.Keeping.{checkpoint_text}
 use Rattle.checkpoint_text.specs.KeepLaws.{placed_lines, kept_lines}
@@ -39,5 +40,8 @@ abbrev pub IsCheckpointOver : EventsAsked → Option (List ℕ) → List ℕ →
 IsCheckpointOver a source text = (lines : List ℕ) → source ≡ Some lines → IsCheckpointOf a.schema a.queries a.most_bytes lines text
 
 -- all of the checkpoint, or a proper part of it after a fault of the sink; else nothing
+abbrev pub saved_said : EventsAsked → Option (List ℕ) → Option (List ℕ) → Option (List ℕ) → Said
+saved_said a source before after = text_said a.schema a.queries a.most_bytes (IsCheckpointOver a source) source before after
+
 abbrev pub Wrote : EventsAsked → Option (List ℕ) → Option (List ℕ) → Option (List ℕ) → Option (List ℕ) → {T : Type 0} → Result T (OrMemory StreamFault) → Type 0
-Wrote a source left before after result = WroteAtEnd a.schema a.queries a.most_bytes (IsCheckpointOver a source) source left before after result
+Wrote a source left before after result = ByEnd (saved_said a source before after) left result

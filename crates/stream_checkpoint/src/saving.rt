@@ -7,7 +7,7 @@ ghost use Rattle.event_reader.specs.Events.{event_of_line};
 ghost use Rattle.checkpoint_text.specs.declared.numbers.TheConstants as most;
 ghost use Rattle.event_run.specs.Taking.{HasSourceCause};
 ghost use Rattle.event_run.specs.Listing.{StopsBy};
-ghost use Rattle.stream_answers.specs.Streams.{HasReadCause, HasWriteCause};
+ghost use Rattle.stream_answers.specs.Ends.{HasReadCause, HasWriteCause};
 ghost use Rattle.stream_checkpoint.specs.Saved.{Wrote};
 ghost use Rattle.stream_checkpoint.specs.Lines.{AddsEvent, FallsWith, AddsLine, StopsLine, HasKept, HasKeptAll};
 

@@ -17,7 +17,7 @@ use std::alloc::{AllocError, Global};
 use std::marker::Brand;
 use std::sync::ledger::Ledger;
 use std::test::Fail;
-use stream_answers::StreamFault;
+use stream_answers::{RunOptions, StreamFault};
 
 /// One query, which has one answer at each event of type A.
 const EACH: &str = "DECLARE EVENT A(t INT)\nDECLARE EVENT B(t INT)\n\
@@ -91,9 +91,12 @@ fn run_over<L: Ledger>(
         return Err(OrMemory::Memory);
     }
     let mut steps: Steps<L> = Steps::start(opening);
-    write_late(
-        alloc, order, "t", late, most_bytes, None, engine, source, out, &mut steps,
-    )
+    let options = RunOptions {
+        order,
+        compact_every: None,
+        most_bytes,
+    };
+    write_late(alloc, "t", late, options, engine, source, out, &mut steps)
 }
 
 /// What is answered over these bytes by an engine of these queries, where an event may come `late`

@@ -15,7 +15,7 @@ use std::alloc::{AllocError, Global};
 use std::marker::Brand;
 use std::sync::ledger::Ledger;
 use std::test::Fail;
-use stream_answers::{StreamFault, write_answers};
+use stream_answers::{RunOptions, StreamFault, write_answers};
 
 /// One query, which has one answer at each event of type A.
 const QUERY: &str = "DECLARE EVENT A(v INT)\nDECLARE EVENT B(v INT)\n\
@@ -72,7 +72,12 @@ fn run_over<L: Ledger>(
     requires parts { opening.parts ≡ L.parts }
 {
     let mut steps: Steps<L> = Steps::start(opening);
-    write_answers(alloc, order, AMPLE, None, engine, source, out, &mut steps)
+    let options = RunOptions {
+        order,
+        compact_every: None,
+        most_bytes: AMPLE,
+    };
+    write_answers(alloc, options, engine, source, out, &mut steps)
 }
 
 /// What is answered over these bytes, of which a read brings at most `piece`, where the read and the

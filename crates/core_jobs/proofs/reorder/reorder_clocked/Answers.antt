@@ -2,6 +2,7 @@ use Rattle.std.proofs.Common.{◌≡◌, ℕ, true, false, List, refl, rules, in
 use Rattle.cer_outside.specs.Content.{Holds}
 use Rattle.reorder_gate.specs.Clocks.{clock_fits}
 use Rattle.late_answers.specs.Late.{Feed}
+use Rattle.late_answers.specs.Written.{feed_by}
 use Rattle.core_jobs.specs.Steps.{late_bounds, late_fault_bounds}
 use Rattle.core_jobs.proofs.ReorderEnds.{unfit_stays, unfit_not_written, unfit_not_fine}
 use Rattle.core_jobs.proofs.StepClauses.{unfit_steps}
@@ -14,8 +15,8 @@ returns-then-not-clock_fits-clause-stop g c =
 
 pub returns-then-not-clock_fits-clause-steps : goal.returns-then-not-clock_fits-clause-steps
 returns-then-not-clock_fits-clause-steps g c =
-    let a : Feed = record { order = c.args.order; schema = c.args.engine.now.schema; queries = c.args.engine.now.queries; clock = c.args.clock.now; late = c.args.late; most_bytes = c.args.most_bytes } in
-    unfit_steps (late_bounds c.args.compact_every) (late_fault_bounds c.args.compact_every) (λ Says. (bytes : List ℕ) → g.H.Host.content c.args.host.now c.args.events.now ≡ Holds bytes → Says a bytes) c.unfit.result.cause c.args.clock.now (g.K.Sink.taken c.args.out.now) (g.K.Sink.taken c.args.out.now) c.args.steps.now c.unfit.ensures.unfit
+    let a : Feed = feed_by c.args.options c.args.clock.now c.args.late c.args.engine.now in
+    unfit_steps (late_bounds c.args.options.compact_every) (late_fault_bounds c.args.options.compact_every) (λ Says. (bytes : List ℕ) → g.H.Host.content c.args.host.now c.args.events.now ≡ Holds bytes → Says a bytes) c.unfit.result.cause c.args.clock.now (g.K.Sink.taken c.args.out.now) (g.K.Sink.taken c.args.out.now) c.args.steps.now c.unfit.ensures.unfit
 
 pub returns-then-not-clock_fits-clause-left : goal.returns-then-not-clock_fits-clause-left
 returns-then-not-clock_fits-clause-left g c = λ fine. absurd (unfit_not_fine c.unfit.result.cause c.args.clock.now c.unfit.ensures.unfit fine)

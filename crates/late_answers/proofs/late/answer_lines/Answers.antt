@@ -6,7 +6,7 @@ use Rattle.stream_schema.specs.declared.Event.{Event}
 use Rattle.cer_outside.specs.Causes.{Rose}
 use Rattle.query_engine.specs.Engine.{count_of, peak_of}
 use Rattle.reorder_gate.specs.Gates.{Held}
-use Rattle.stream_answers.specs.Streams.{HasReadCause, HasWriteCause}
+use Rattle.stream_answers.specs.Ends.{HasReadCause, HasWriteCause}
 use Rattle.late_answers.specs.Flowing.{AreOfSchema, Flowing}
 use Rattle.late_answers.proofs.Ends.{starts, line_flows, due_open, settles, settles_failing, ends_at_line, read_cause_of, write_cause_of}
 use Rattle.late_answers.proofs.late.answer_lines.Goals as goal

@@ -6,16 +6,16 @@ use Rattle.late_answers.proofs.Ends.{closed_none}
 use Rattle.late_answers.proofs.late.write_late.Goals as goal
 
 pub returns-in-Err-clause-wrote : goal.returns-in-Err-clause-wrote
-returns-in-Err-clause-wrote g c = (closed_none c.args.compact_every (peak_of c.args.engine.now) _ (g.Q.Source.left c.args.source.now) (g.Q.Source.left c.args.source.now) (g.K.Sink.taken c.args.out.now) c.args.engine.now c.args.steps.now).wrote
+returns-in-Err-clause-wrote g c = (closed_none c.args.options.compact_every (peak_of c.args.engine.now) _ (g.Q.Source.left c.args.source.now) (g.Q.Source.left c.args.source.now) (g.K.Sink.taken c.args.out.now) c.args.engine.now c.args.steps.now).wrote
 
 pub returns-in-Err-clause-steps : goal.returns-in-Err-clause-steps
-returns-in-Err-clause-steps g c = (closed_none c.args.compact_every (peak_of c.args.engine.now) _ (g.Q.Source.left c.args.source.now) (g.Q.Source.left c.args.source.now) (g.K.Sink.taken c.args.out.now) c.args.engine.now c.args.steps.now).steps
+returns-in-Err-clause-steps g c = (closed_none c.args.options.compact_every (peak_of c.args.engine.now) _ (g.Q.Source.left c.args.source.now) (g.Q.Source.left c.args.source.now) (g.K.Sink.taken c.args.out.now) c.args.engine.now c.args.steps.now).steps
 
 pub returns-in-Err-new-clause-wrote : goal.returns-in-Err-new-clause-wrote
-returns-in-Err-new-clause-wrote g c = (closed_none c.args.compact_every (peak_of c.args.engine.now) _ (g.Q.Source.left c.args.source.now) (g.Q.Source.left c.args.source.now) (g.K.Sink.taken c.args.out.now) c.args.engine.now c.args.steps.now).wrote
+returns-in-Err-new-clause-wrote g c = (closed_none c.args.options.compact_every (peak_of c.args.engine.now) _ (g.Q.Source.left c.args.source.now) (g.Q.Source.left c.args.source.now) (g.K.Sink.taken c.args.out.now) c.args.engine.now c.args.steps.now).wrote
 
 pub returns-in-Err-new-clause-steps : goal.returns-in-Err-new-clause-steps
-returns-in-Err-new-clause-steps g c = (closed_none c.args.compact_every (peak_of c.args.engine.now) _ (g.Q.Source.left c.args.source.now) (g.Q.Source.left c.args.source.now) (g.K.Sink.taken c.args.out.now) c.args.engine.now c.args.steps.now).steps
+returns-in-Err-new-clause-steps g c = (closed_none c.args.options.compact_every (peak_of c.args.engine.now) _ (g.Q.Source.left c.args.source.now) (g.Q.Source.left c.args.source.now) (g.K.Sink.taken c.args.out.now) c.args.engine.now c.args.steps.now).steps
 
 pub returns-clause-wrote : goal.returns-clause-wrote
 returns-clause-wrote g c =

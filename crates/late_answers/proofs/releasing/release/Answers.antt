@@ -1,7 +1,7 @@
 use Rattle.std.proofs.Common.{◌≡◌, ℕ, Err, length, refl, sym, ◌∙◌, ap, subst, arith}
 use Rattle.reorder_gate.specs.Gates.{Held, all_due}
 use Rattle.stream_schema.specs.Types.{Declared}
-use Rattle.stream_answers.specs.Streams.{HasWriteCause}
+use Rattle.stream_answers.specs.Ends.{HasWriteCause}
 use Rattle.late_answers.specs.Flowing.{AreOfSchema, Flowing}
 use Rattle.late_answers.proofs.Flows.{owes}
 use Rattle.late_answers.proofs.releasing.release.Goals as goal

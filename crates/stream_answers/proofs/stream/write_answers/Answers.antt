@@ -10,10 +10,10 @@ returns-clause-wrote g c = c.write_answers_after.ensures.wrote (peak_of c.args.e
 
 pub returns-clause-steps : goal.returns-clause-steps
 returns-clause-steps g c = λ bytes same.
-    c.write_answers_after.ensures.steps (peak_of c.args.engine.now) [] c.args.steps.now (follows_none c.args.engine.now c.requires.fresh) (bounded_none (is_due c.args.compact_every) _ _ [] [] c.args.steps.now) bytes same
+    c.write_answers_after.ensures.steps (peak_of c.args.engine.now) [] c.args.steps.now (follows_none c.args.engine.now c.requires.fresh) (bounded_none (is_due c.args.options.compact_every) _ _ [] [] c.args.steps.now) bytes same
 
 pub returns-clause-stands : goal.returns-clause-stands
 returns-clause-stands g c = on_ok c.write_answers_after.result _ _ (λ stands. stands (peak_of c.args.engine.now) [] (follows_none c.args.engine.now c.requires.fresh)) c.write_answers_after.ensures.stands
 
 pub write_answers_after-requires : goal.write_answers_after-requires
-write_answers_after-requires g c = let none = c.requires.none in let range = c.ranges.most_bytes in record { room = omega (arith, none, range) }
+write_answers_after-requires g c = let none = c.requires.none in let range = c.has_64_bits.ensures in record { room = omega (arith, none, range) }

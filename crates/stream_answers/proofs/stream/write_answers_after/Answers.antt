@@ -21,25 +21,25 @@ pub returns-in-Err-clause-wrote : goal.returns-in-Err-clause-wrote
 returns-in-Err-clause-wrote g c = λ peaks earlier f. wrote_none earlier _ _ _
 
 pub returns-in-Err-clause-steps : goal.returns-in-Err-clause-steps
-returns-in-Err-clause-steps g c = λ peaks earlier begun f paid bytes same. counts_none (is_due_after c.args.compact_every (length earlier)) earlier _ bytes begun _ paid
+returns-in-Err-clause-steps g c = λ peaks earlier begun f paid bytes same. counts_none (is_due_after c.args.options.compact_every (length earlier)) earlier _ bytes begun _ paid
 
 pub answer_events-requires-clause-room : goal.answer_events-requires-clause-room
 answer_events-requires-clause-room g c = let room = c.requires.room in let budget = c.in-Ok.ensures.budget in omega (arith, room, budget)
 
 pub returns-clause-wrote : goal.returns-clause-wrote
 returns-clause-wrote g c = λ peaks earlier f.
-    let asked = asked_is c.new-output.result.order c.args.order c.args.engine.now.schema c.args.engine.now.queries c.in-Ok.lines.budget c.args.most_bytes (ap (λ o. o.order) c.new-output.ensures) c.in-Ok.ensures.budget in
+    let asked = asked_is c.new-output.result.order c.args.options.order c.args.engine.now.schema c.args.engine.now.queries c.in-Ok.lines.budget c.args.options.most_bytes (ap (λ o. o.order) c.new-output.ensures) c.in-Ok.ensures.budget in
     subst (λ (a : Asked). WroteStreamAfter earlier a (g.Q.Source.left c.args.source.now) (g.Q.Source.left c.answer_events.new.source) (g.K.Sink.taken c.args.out.now) (g.K.Sink.taken c.answer_events.new.out) c.answer_events.result) asked
     (c.answer_events.ensures.wrote peaks earlier f)
 
 pub returns-clause-steps : goal.returns-clause-steps
 returns-clause-steps g c = λ peaks earlier begun f paid bytes same.
-    let asked = asked_is c.new-output.result.order c.args.order c.args.engine.now.schema c.args.engine.now.queries c.in-Ok.lines.budget c.args.most_bytes (ap (λ o. o.order) c.new-output.ensures) c.in-Ok.ensures.budget in
-    subst (λ (a : Asked). StepsOverAfter (is_due_after c.args.compact_every (length earlier)) earlier a bytes (g.K.Sink.taken c.args.out.now) (g.K.Sink.taken c.answer_events.new.out) begun c.answer_events.new.steps c.answer_events.result) asked
+    let asked = asked_is c.new-output.result.order c.args.options.order c.args.engine.now.schema c.args.engine.now.queries c.in-Ok.lines.budget c.args.options.most_bytes (ap (λ o. o.order) c.new-output.ensures) c.in-Ok.ensures.budget in
+    subst (λ (a : Asked). StepsOverAfter (is_due_after c.args.options.compact_every (length earlier)) earlier a bytes (g.K.Sink.taken c.args.out.now) (g.K.Sink.taken c.answer_events.new.out) begun c.answer_events.new.steps c.answer_events.result) asked
     (c.answer_events.ensures.steps peaks earlier begun f paid bytes same)
 
 pub returns-clause-stands : goal.returns-clause-stands
 returns-clause-stands g c =
-    let asked = asked_is c.new-output.result.order c.args.order c.args.engine.now.schema c.args.engine.now.queries c.in-Ok.lines.budget c.args.most_bytes (ap (λ o. o.order) c.new-output.ensures) c.in-Ok.ensures.budget in
-    on_ok c.answer_events.result _ _ (λ stands peaks earlier f bytes same. subst (λ (a : Asked). StandsForAllAfter (is_due_after c.args.compact_every (length earlier)) peaks earlier a bytes c.answer_events.new.engine) asked (stands peaks earlier f bytes same))
+    let asked = asked_is c.new-output.result.order c.args.options.order c.args.engine.now.schema c.args.engine.now.queries c.in-Ok.lines.budget c.args.options.most_bytes (ap (λ o. o.order) c.new-output.ensures) c.in-Ok.ensures.budget in
+    on_ok c.answer_events.result _ _ (λ stands peaks earlier f bytes same. subst (λ (a : Asked). StandsForAllAfter (is_due_after c.args.options.compact_every (length earlier)) peaks earlier a bytes c.answer_events.new.engine) asked (stands peaks earlier f bytes same))
     c.answer_events.ensures.stands

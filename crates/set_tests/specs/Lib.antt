@@ -1,0 +1,4 @@
+pub mod Ledgers
+pub mod Parts
+pub mod Ready
+pub mod Rows

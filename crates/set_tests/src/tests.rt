@@ -1,0 +1,4 @@
+mod automata;
+mod compactions;
+mod listings;
+mod updates;

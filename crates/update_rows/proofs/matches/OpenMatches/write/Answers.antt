@@ -1,5 +1,0 @@
-use Rattle.update_rows.proofs.Ready.{roots_at}
-use Rattle.update_rows.proofs.matches.OpenMatches.write.Goals as goal
-
-pub write_list-requires-clause-roots : goal.write_list-requires-clause-roots
-write_list-requires-clause-roots g c = roots_at c.self.inside.store.nodes c.self.inside.active.entries c.loop-k.k c.list.result.now c.self.invariant.stand.lists c.list.ensures

@@ -1,6 +1,0 @@
-use Rattle.std.proofs.Common.{◌≡◌, length, All}
-use Rattle.cea_determinise.specs.Cea.{IsSet}
-use Rattle.update_rows.proofs.patterns.rows_of.Given as goal
-
-abbrev pub invariant-loop-k : goal.invariant-loop-k
-invariant-loop-k l = record { count : length l.rows.items ≡ l.k; sets : All (IsSet l.size) l.rows.items }

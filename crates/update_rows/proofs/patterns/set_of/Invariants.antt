@@ -1,5 +1,0 @@
-use Rattle.cea_determinise.specs.Cea.{IsSet}
-use Rattle.update_rows.proofs.patterns.set_of.Given as goal
-
-abbrev pub invariant-loop-k : goal.invariant-loop-k
-invariant-loop-k l = IsSet l.size l.set

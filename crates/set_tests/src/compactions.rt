@@ -21,7 +21,7 @@ use tecs_enumerate::Cursor;
 use union_lists::{UList, one};
 
 /// What a compaction left: how many nodes, and the members that the lists and the held cursor give.
-#[derive(Drop, Debug)]
+#[derive(Drop)]
 pub struct Outcome {
     pub nodes: u64,
     pub lists: String,

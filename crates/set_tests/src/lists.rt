@@ -17,7 +17,7 @@ use union_lists::{UList, one};
 
 /// What became of a list: the greatest starts of its entries, how many nodes the inserts made, and
 /// how many the merge made.
-#[derive(Drop, Debug)]
+#[derive(Drop)]
 pub struct Outcome {
     pub starts: Vec<u64>,
     pub by_inserts: u64,

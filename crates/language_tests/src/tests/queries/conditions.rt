@@ -1,3 +1,5 @@
+//! Which leaves an event meets.
+
 use cer_base::{Listed, Memory};
 use predicate_bits::Conditions;
 use query_leaves::{Leaf, Test};

@@ -1,7 +1,7 @@
 //! Texts that are refused, and how deeply parentheses may nest.
 
 use crate::tests::grammar::shown::{answer, rows_hold};
-use crate::tests::same;
+use crate::tests::{repeated, same};
 use std::alloc::{AllocError, Global};
 use std::process::Abort;
 use std::test::*;
@@ -249,10 +249,10 @@ fn the_first_token_that_does_not_fit_is_refused(rt: HostRuntime) -> Result<(), F
 struct NestedText {
     name: &'static str,
     before: &'static str,
-    open: usize,
-    close: usize,
+    open: u64,
+    close: u64,
     after: &'static str,
-    times: usize,
+    times: u64,
     wanted: &'static str,
 }
 
@@ -331,27 +331,13 @@ const DEEP_TEXTS: &[NestedText] = &[
     },
 ];
 
-fn push_many(text: &mut String, part: &str, times: usize) -> Result<(), AllocError> {
-    for _ in 0..times {
-        text.push_str(part)?;
-    }
-    Ok(())
-}
-
 /// The text of the row, with a blank between the wholes.
 fn text_of(alloc: Global, row: &NestedText) -> Result<String, AllocError> {
-    let mut text = String::new(alloc);
-    let mut blank = "";
-    for _ in 0..row.times {
-        text.push_str(blank)?;
-        text.push_str(row.before)?;
-        push_many(&mut text, "(", row.open)?;
-        text.push_str("A")?;
-        push_many(&mut text, ")", row.close)?;
-        text.push_str(row.after)?;
-        blank = " ";
-    }
-    Ok(text)
+    let opened = repeated(alloc, row.before, "(", row.open, "A")?;
+    let whole = repeated(alloc, opened.as_str(), ")", row.close, row.after)?;
+    let next = format!(in alloc; " {whole}")?;
+    let more = row.times.saturating_sub(1);
+    repeated(alloc, whole.as_str(), next.as_str(), more, "")
 }
 
 fn nested_hold(rt: &impl Abort, alloc: Global, rows: &[NestedText]) -> Result<(), Fail> {

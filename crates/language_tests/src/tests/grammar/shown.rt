@@ -21,88 +21,72 @@ fn op_sign(op: Op) -> &'static str {
     }
 }
 
-fn push_value(alloc: Global, out: &mut String, value: &Value) -> Result<(), AllocError> {
-    let text = match value {
-        Value::Int(n) => format!(in alloc; "{n}")?,
-        Value::Text(text) => format!(in alloc; "'{}'", text.as_str())?,
-        Value::Flag(flag) => format!(in alloc; "{flag}")?,
-        Value::Dec { scaled, places } => format!(in alloc; "{scaled}/{places}")?,
-    };
-    out.push_str(text.as_str())
+fn push_value(out: &mut String, value: &Value) -> Result<(), AllocError> {
+    match value {
+        Value::Int(n) => write!(out, "{n}"),
+        Value::Text(text) => write!(out, "'{}'", text.as_str()),
+        Value::Flag(flag) => write!(out, "{flag}"),
+        Value::Dec { scaled, places } => write!(out, "{scaled}/{places}"),
+    }
 }
 
 fn push_names(out: &mut String, names: &[Name]) -> Result<(), AllocError> {
     let mut comma = "";
     for name in names {
-        out.push_str(comma)?;
-        out.push_str(name.text.as_str())?;
+        write!(out, "{comma}{}", name.text.as_str())?;
         comma = ",";
     }
     Ok(())
 }
 
 #[cycle(pred)]
-fn push_preds(
-    alloc: Global,
-    out: &mut String,
-    preds: &[Pred],
-    sign: &str,
-) -> Result<(), AllocError> {
-    out.push_str("(")?;
-    let mut before = "";
+fn push_preds(out: &mut String, preds: &[Pred], sign: &str) -> Result<(), AllocError> {
+    let mut before = "(";
     for pred in preds {
         out.push_str(before)?;
-        push_pred(alloc, out, pred)?;
+        push_pred(out, pred)?;
         before = sign;
     }
     out.push_str(")")
 }
 
 #[cycle(pred)]
-fn push_pred(alloc: Global, out: &mut String, pred: &Pred) -> Result<(), AllocError> {
+fn push_pred(out: &mut String, pred: &Pred) -> Result<(), AllocError> {
     match pred {
         Pred::Cmp(name, op, value) => {
-            out.push_str(name.text.as_str())?;
-            out.push_str(op_sign(*op))?;
-            push_value(alloc, out, value)
+            write!(out, "{}{}", name.text.as_str(), op_sign(*op))?;
+            push_value(out, value)
         }
         Pred::Not(inner) => {
             out.push_str("!")?;
-            push_pred(alloc, out, inner)
+            push_pred(out, inner)
         }
-        Pred::All(preds) => push_preds(alloc, out, preds.as_slice(), "&"),
-        Pred::Any(preds) => push_preds(alloc, out, preds.as_slice(), "|"),
+        Pred::All(preds) => push_preds(out, preds.as_slice(), "&"),
+        Pred::Any(preds) => push_preds(out, preds.as_slice(), "|"),
     }
 }
 
 #[cycle(filter)]
-fn push_filters(
-    alloc: Global,
-    out: &mut String,
-    filters: &[Filter],
-    sign: &str,
-) -> Result<(), AllocError> {
-    out.push_str("(")?;
-    let mut before = "";
+fn push_filters(out: &mut String, filters: &[Filter], sign: &str) -> Result<(), AllocError> {
+    let mut before = "(";
     for filter in filters {
         out.push_str(before)?;
-        push_filter(alloc, out, filter)?;
+        push_filter(out, filter)?;
         before = sign;
     }
     out.push_str(")")
 }
 
 #[cycle(filter)]
-fn push_filter(alloc: Global, out: &mut String, filter: &Filter) -> Result<(), AllocError> {
+fn push_filter(out: &mut String, filter: &Filter) -> Result<(), AllocError> {
     match filter {
         Filter::On(name, pred) => {
-            out.push_str(name.text.as_str())?;
-            out.push_str("[")?;
-            push_pred(alloc, out, pred)?;
+            write!(out, "{}[", name.text.as_str())?;
+            push_pred(out, pred)?;
             out.push_str("]")
         }
-        Filter::All(filters) => push_filters(alloc, out, filters.as_slice(), "&"),
-        Filter::Any(filters) => push_filters(alloc, out, filters.as_slice(), "|"),
+        Filter::All(filters) => push_filters(out, filters.as_slice(), "&"),
+        Filter::Any(filters) => push_filters(out, filters.as_slice(), "|"),
     }
 }
 
@@ -110,10 +94,7 @@ fn push_postfix(out: &mut String, postfix: &Postfix) -> Result<(), AllocError> {
     match postfix {
         Postfix::Plus => out.push_str("+"),
         Postfix::NextPlus => out.push_str(":+"),
-        Postfix::Named(name) => {
-            out.push_str(" as ")?;
-            out.push_str(name.text.as_str())
-        }
+        Postfix::Named(name) => write!(out, " as {}", name.text.as_str()),
         Postfix::Keep(names) => {
             out.push_str(" keep[")?;
             push_names(out, names.as_slice())?;
@@ -124,57 +105,51 @@ fn push_postfix(out: &mut String, postfix: &Postfix) -> Result<(), AllocError> {
 
 /// The base of postfixes: one that has postfixes itself stands in parentheses.
 #[cycle(formula)]
-fn push_base(alloc: Global, out: &mut String, base: &Formula) -> Result<(), AllocError> {
+fn push_base(out: &mut String, base: &Formula) -> Result<(), AllocError> {
     match base {
         Formula::Post(_, _) => {
             out.push_str("(")?;
-            push_formula(alloc, out, base)?;
+            push_formula(out, base)?;
             out.push_str(")")
         }
-        _ => push_formula(alloc, out, base),
+        _ => push_formula(out, base),
     }
 }
 
 #[cycle(formula)]
-fn push_formulas(
-    alloc: Global,
-    out: &mut String,
-    formulas: &[Formula],
-    sign: &str,
-) -> Result<(), AllocError> {
-    out.push_str("(")?;
-    let mut before = "";
+fn push_formulas(out: &mut String, formulas: &[Formula], sign: &str) -> Result<(), AllocError> {
+    let mut before = "(";
     for formula in formulas {
         out.push_str(before)?;
-        push_formula(alloc, out, formula)?;
+        push_formula(out, formula)?;
         before = sign;
     }
     out.push_str(")")
 }
 
 #[cycle(formula)]
-fn push_links(alloc: Global, out: &mut String, links: &[Link]) -> Result<(), AllocError> {
+fn push_links(out: &mut String, links: &[Link]) -> Result<(), AllocError> {
     for link in links {
         out.push_str(if link.tight { ":" } else { ";" })?;
-        push_formula(alloc, out, &link.next)?;
+        push_formula(out, &link.next)?;
     }
     Ok(())
 }
 
 #[cycle(formula)]
-fn push_formula(alloc: Global, out: &mut String, formula: &Formula) -> Result<(), AllocError> {
+fn push_formula(out: &mut String, formula: &Formula) -> Result<(), AllocError> {
     match formula {
         Formula::Of(name) => out.push_str(name.text.as_str()),
-        Formula::Chain(parts) => push_formulas(alloc, out, parts.as_slice(), ";"),
+        Formula::Chain(parts) => push_formulas(out, parts.as_slice(), ";"),
         Formula::Linked(first, links) => {
             out.push_str("(")?;
-            push_formula(alloc, out, first)?;
-            push_links(alloc, out, links.as_slice())?;
+            push_formula(out, first)?;
+            push_links(out, links.as_slice())?;
             out.push_str(")")
         }
-        Formula::Either(choices) => push_formulas(alloc, out, choices.as_slice(), "|"),
+        Formula::Either(choices) => push_formulas(out, choices.as_slice(), "|"),
         Formula::Post(base, postfixes) => {
-            push_base(alloc, out, base)?;
+            push_base(out, base)?;
             for postfix in postfixes {
                 push_postfix(out, postfix)?;
             }
@@ -182,59 +157,50 @@ fn push_formula(alloc: Global, out: &mut String, formula: &Formula) -> Result<()
         }
         Formula::Under(base, filters) => {
             out.push_str("(")?;
-            push_formula(alloc, out, base)?;
+            push_formula(out, base)?;
             out.push_str(" under")?;
             for filter in filters {
                 out.push_str(" ")?;
-                push_filter(alloc, out, filter)?;
+                push_filter(out, filter)?;
             }
             out.push_str(")")
         }
     }
 }
 
-fn push_number(alloc: Global, out: &mut String, number: NumberAt) -> Result<(), AllocError> {
-    let text = format!(in alloc;
-        "{}@{}:{}",
-        number.value, number.place.line, number.place.col
-    )?;
-    out.push_str(text.as_str())
+fn push_number(out: &mut String, number: NumberAt) -> Result<(), AllocError> {
+    let place = number.place;
+    write!(out, "{}@{}:{}", number.value, place.line, place.col)
 }
 
-fn push_kind(alloc: Global, out: &mut String, kind: KindDecl) -> Result<(), AllocError> {
+fn push_kind(out: &mut String, kind: KindDecl) -> Result<(), AllocError> {
     match kind {
         KindDecl::Int => out.push_str("int"),
         KindDecl::Text => out.push_str("text"),
         KindDecl::Flag => out.push_str("flag"),
         KindDecl::Dec(number) => {
             out.push_str("dec ")?;
-            push_number(alloc, out, number)
+            push_number(out, number)
         }
     }
 }
 
-fn push_window(alloc: Global, out: &mut String, window: &Window) -> Result<(), AllocError> {
+fn push_window(out: &mut String, window: &Window) -> Result<(), AllocError> {
     match window {
         Window::Free => Ok(()),
-        Window::Events(n) => {
-            let text = format!(in alloc; " within {n} events")?;
-            out.push_str(text.as_str())
-        }
-        Window::Clock(name, n) => {
-            let text = format!(in alloc; " within {n} of {}", name.text.as_str())?;
-            out.push_str(text.as_str())
-        }
+        Window::Events(n) => write!(out, " within {n} events"),
+        Window::Clock(name, n) => write!(out, " within {n} of {}", name.text.as_str()),
     }
 }
 
 /// What stands between `select` and the names.
-fn push_modes(alloc: Global, out: &mut String, select: &Select) -> Result<(), AllocError> {
+fn push_modes(out: &mut String, select: &Select) -> Result<(), AllocError> {
     if select.query.strict {
         out.push_str("strict ")?;
     }
     if let Some(number) = select.any {
         out.push_str("any ")?;
-        push_number(alloc, out, number)?;
+        push_number(out, number)?;
         out.push_str(" ")?;
     }
     Ok(())
@@ -258,58 +224,44 @@ fn push_partition(out: &mut String, names: &[Name]) -> Result<(), AllocError> {
 }
 
 /// What stands behind `where`.
-fn push_query(alloc: Global, out: &mut String, query: &Query) -> Result<(), AllocError> {
+fn push_query(out: &mut String, query: &Query) -> Result<(), AllocError> {
     out.push_str(" where ")?;
-    push_formula(alloc, out, &query.formula)?;
+    push_formula(out, &query.formula)?;
     push_partition(out, query.partition.as_slice())?;
-    push_window(alloc, out, &query.window)
+    push_window(out, &query.window)
 }
 
-fn push_select(alloc: Global, out: &mut String, select: &Select) -> Result<(), AllocError> {
+fn push_select(out: &mut String, select: &Select) -> Result<(), AllocError> {
     let place = select.query.place;
-    let place = format!(in alloc; "{}:{} select ", place.line, place.col)?;
-    out.push_str(place.as_str())?;
-    push_modes(alloc, out, select)?;
+    write!(out, "{}:{} select ", place.line, place.col)?;
+    push_modes(out, select)?;
     push_selected(out, &select.query)?;
-    push_query(alloc, out, &select.query)
+    push_query(out, &select.query)
 }
 
-fn push_attributes(alloc: Global, out: &mut String, attrs: &[AttrDecl]) -> Result<(), AllocError> {
+fn push_attributes(out: &mut String, attrs: &[AttrDecl]) -> Result<(), AllocError> {
     let mut comma = "";
     for attr in attrs {
-        out.push_str(comma)?;
-        out.push_str(attr.name.text.as_str())?;
-        out.push_str(" ")?;
-        push_kind(alloc, out, attr.kind)?;
+        write!(out, "{comma}{} ", attr.name.text.as_str())?;
+        push_kind(out, attr.kind)?;
         comma = ",";
     }
     Ok(())
 }
 
-/// What is declared, with its name.
-fn push_declared(out: &mut String, what: &str, name: &Name) -> Result<(), AllocError> {
-    out.push_str(what)?;
-    out.push_str(name.text.as_str())?;
-    out.push_str("(")
-}
-
-fn push_statement(
-    alloc: Global,
-    out: &mut String,
-    statement: &Statement,
-) -> Result<(), AllocError> {
+fn push_statement(out: &mut String, statement: &Statement) -> Result<(), AllocError> {
     match statement {
         Statement::Event(name, attrs) => {
-            push_declared(out, "event ", name)?;
-            push_attributes(alloc, out, attrs.as_slice())?;
+            write!(out, "event {}(", name.text.as_str())?;
+            push_attributes(out, attrs.as_slice())?;
             out.push_str(")")
         }
         Statement::Stream(name, types) => {
-            push_declared(out, "stream ", name)?;
+            write!(out, "stream {}(", name.text.as_str())?;
             push_names(out, types.as_slice())?;
             out.push_str(")")
         }
-        Statement::Select(select) => push_select(alloc, out, select),
+        Statement::Select(select) => push_select(out, select),
     }
 }
 
@@ -317,11 +269,10 @@ fn push_statement(
 fn script_text(alloc: Global, script: &Script) -> Result<String, AllocError> {
     let mut out = String::new(alloc);
     for statement in script.statements.as_slice() {
-        push_statement(alloc, &mut out, statement)?;
+        push_statement(&mut out, statement)?;
         out.push_str("\n")?;
     }
-    let end = format!(in alloc; "end {}:{}", script.end.line, script.end.col)?;
-    out.push_str(end.as_str())?;
+    write!(out, "end {}:{}", script.end.line, script.end.col)?;
     Ok(out)
 }
 

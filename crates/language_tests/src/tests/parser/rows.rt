@@ -1,6 +1,6 @@
 //! What a text has, as tests show it, and rows of texts that are held against it.
 
-use crate::tests::same;
+use crate::tests::{repeated, same};
 use ceql_parser::{QueryError, read_queries};
 use cer_base::OrMemory;
 use std::alloc::{AllocError, Global};
@@ -66,12 +66,8 @@ pub struct LongText {
 }
 
 fn long_text(alloc: Global, row: &LongText) -> Result<String, AllocError> {
-    let mut text = format!(in alloc; "{}{}", row.base, row.before)?;
-    for _ in 0..row.times {
-        text.push_str(row.part)?;
-    }
-    text.push_str(row.after)?;
-    Ok(text)
+    let before = format!(in alloc; "{}{}", row.base, row.before)?;
+    repeated(alloc, before.as_str(), row.part, row.times, row.after)
 }
 
 /// Holds each row against what is wanted.

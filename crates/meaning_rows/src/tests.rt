@@ -1,5 +1,0 @@
-mod answers;
-mod conditions;
-mod explaining;
-mod leaves;
-mod terms;

@@ -6,10 +6,9 @@ use Rattle.std.proofs.lemmas.List.Sorted.{IsPermutation-refl, IsPermutation-sym,
 use Rattle.stream_schema.specs.Types.{Declared}
 use Rattle.stream_schema.specs.declared.Event.{Event}
 use Rattle.cel_terms.specs.declared.Query.{Query}
-use Rattle.cel_terms.specs.Answers.{Answer, IsAnswer}
+use Rattle.cel_terms.specs.Answers.{Answer, IsAnswer, AreAnswersAt}
 use Rattle.cel_plain.specs.Lists.{matches_of}
 use Rattle.cel_plain.specs.Below.{substream_positions, answers_from}
-use Rattle.cel_plain.specs.Valuations.{AreAnswersAt}
 use Rattle.cel_plain.proofs.Answering.{are_answers}
 use Rattle.cer_base.specs.Repeats.{HasNoRepeats}
 use Rattle.cer_base.proofs.Repeats.{HasNoRepeats-permutation}

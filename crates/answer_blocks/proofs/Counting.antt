@@ -13,8 +13,7 @@ use Rattle.cer_base.proofs.Repeats.{HasNoRepeats-permutation}
 use Rattle.stream_schema.specs.Types.{Declared}
 use Rattle.stream_schema.specs.declared.Event.{Event}
 use Rattle.cel_terms.specs.declared.Query.{Query}
-use Rattle.cel_terms.specs.Answers.{Answer}
-use Rattle.cel_plain.specs.Valuations.{AreAnswersAt}
+use Rattle.cel_terms.specs.Answers.{Answer, AreAnswersAt}
 use Rattle.cer_outside.specs.Bytes.{TookAll}
 use Rattle.query_engine.specs.Bounds.{delay, update_bound, for_each_query}
 use Rattle.query_engine.specs.Engine.{State, StandsFor}

@@ -8,8 +8,7 @@ use Rattle.std.proofs.lemmas.List.Sorted.{IsPermutation-refl}
 use Rattle.stream_schema.specs.Types.{Declared}
 use Rattle.stream_schema.specs.declared.Event.{Event}
 use Rattle.cel_terms.specs.declared.Query.{Query}
-use Rattle.cel_terms.specs.Answers.{Answer}
-use Rattle.cel_plain.specs.Valuations.{AreAnswersAt}
+use Rattle.cel_terms.specs.Answers.{Answer, AreAnswersAt}
 use Rattle.cer_base.specs.Repeats.{HasNoRepeats}
 use Rattle.query_engine.specs.Engine.{State, StandsFor}
 use Rattle.answer_text.specs.declared.Order.{Order}

@@ -4,7 +4,7 @@ use Rattle.std.proofs.lemmas.Bool.{cases_lt}
 use Rattle.std.proofs.lemmas.List.{append-nil}
 use Rattle.stream_schema.specs.declared.Event.{Event}
 use Rattle.cel_terms.specs.declared.Query.{Query}
-use Rattle.cel_plain.specs.Valuations.{AreAnswersAt}
+use Rattle.cel_terms.specs.Answers.{AreAnswersAt}
 use Rattle.query_engine.proofs.Named.{among_at, found_at}
 use Rattle.query_engine.specs.Engine.{State, StandsFor}
 use Rattle.query_engine.specs.Running.{is_among, AreAnswering}

@@ -2,8 +2,7 @@
 use Rattle.std.specs.Prelude.{◌≡◌, ℕ, zero, suc, ◌-◌, Bool, true, false, List, length, map, take, Option, Some, None, slice_get}
 use Rattle.stream_schema.specs.declared.Event.{Event}
 use Rattle.cel_terms.specs.declared.Query.{Query}
-use Rattle.cel_terms.specs.Answers.{Answer}
-use Rattle.cel_plain.specs.Valuations.{AreAnswersAt}
+use Rattle.cel_terms.specs.Answers.{Answer, AreAnswersAt}
 use Rattle.query_engine.specs.Engine.{State, Open, StandsFor, rest}
 use Rattle.query_engine.specs.Holding.{answer_of}
 

@@ -11,14 +11,13 @@ use Rattle.cel_terms.specs.declared.Name.{Name}
 use Rattle.cel_terms.specs.declared.Query.{Query}
 use Rattle.cel_terms.specs.declared.Formula.{Formula}
 use Rattle.cel_terms.specs.Meaning.{Stream, Valuation, meaning}
-use Rattle.cel_terms.specs.Answers.{Answer, IsAnswer, HasMarks, AreMarks, IsOfSubstream, selected, substream}
+use Rattle.cel_terms.specs.Answers.{Answer, IsAnswer, HasMarks, AreMarks, IsOfSubstream, selected, substream, AreAnswersAt}
 use Rattle.cel_terms.specs.Laws.{stream_of}
 use Rattle.cel_terms.proofs.Marked.{Binds, bound_within, lies_selected}
 use Rattle.cel_plain.specs.declared.found.Match.{Match}
 use Rattle.cel_plain.specs.Lists.{matches_of}
 use Rattle.cel_plain.specs.Below.{substream_positions, marks_of, is_in_window, is_strict_enough, answer_of, same_answer, with_new, answers_from}
 use Rattle.cer_base.specs.Repeats.{HasNoRepeats}
-use Rattle.cel_plain.specs.Valuations.{AreAnswersAt}
 use Rattle.cel_plain.proofs.Members.{Among, contains_from, among_from, among_left, among_right, among_cases, any_among, among_any}
 use Rattle.cel_plain.proofs.Sequences.{and_from, and_to}
 use Rattle.cel_plain.proofs.Places.{rises, one_list}

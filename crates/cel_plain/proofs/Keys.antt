@@ -13,7 +13,8 @@ use Rattle.cel_terms.specs.declared.Name.{Name}
 use Rattle.cel_terms.specs.declared.Query.{Query}
 use Rattle.cel_terms.specs.Predicate.{attr_value}
 use Rattle.cel_terms.specs.Answers.{query_types, values_at, IsOfSubstream}
-use Rattle.cel_plain.specs.Below.{below, both_same, same_attr, query_reads, shares, shares_at, substream_positions}
+use Rattle.cel_terms.specs.Reading.{query_reads}
+use Rattle.cel_plain.specs.Below.{below, both_same, same_attr, shares, shares_at, substream_positions}
 use Rattle.cel_plain.proofs.Members.{Among, contains_from, among_from, any_among, among_any}
 use Rattle.cel_plain.proofs.Sequences.{and_from, and_to}
 use Rattle.cel_plain.proofs.Places.{below_to, below_from}

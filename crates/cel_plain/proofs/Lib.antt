@@ -12,8 +12,6 @@ pub mod Sequences
 pub mod Meets
 -- the matches of a formula are exactly its valuations
 pub mod Exact
--- which types a query reads
-pub mod Reading
 -- the numbers below a bound that pass a test, and lists of numbers that rise
 pub mod Places
 -- streams with the same events and the same positions give a formula the same valuations

@@ -16,7 +16,8 @@ use Rattle.cel_terms.specs.declared.Window.{Window}
 use Rattle.cel_terms.specs.declared.Window.TheVariants.{Free, Events, Clock}
 use Rattle.cel_terms.specs.Predicate.{attr_value}
 use Rattle.cel_terms.specs.Meaning.{Bound, Valuation, lists_name}
-use Rattle.cel_terms.specs.Answers.{Answer, query_types, is_bound}
+use Rattle.cel_terms.specs.Answers.{Answer, is_bound}
+use Rattle.cel_terms.specs.Reading.{query_reads}
 use Rattle.cel_plain.specs.declared.found.Match.{Match}
 
 -- the numbers below a bound that pass, ascending
@@ -31,10 +32,6 @@ both_same _ _ = false
 
 abbrev pub same_attr : Declared → Event → Event → Name → Bool
 same_attr schema a b name = both_same (attr_value schema a name.text) (attr_value schema b name.text)
-
--- the query reads the event's type
-abbrev pub query_reads : Declared → Query → Event → Bool
-query_reads schema q event = list_any (λ ty. ty == event.ty) (query_types schema q.streams)
 
 -- both are of the query's types and have equal keys
 abbrev pub shares : Declared → Query → Event → Event → Bool

@@ -3,7 +3,7 @@
 ghost use Rattle.std.specs.Prelude.{◌≡◌, ◌==◌, IfOk, OnOk};
 ghost use Rattle.std.specs.Cmp.Lexicographic.{pointwise};
 ghost use Rattle.std.specs.List.{list_any};
-ghost use Rattle.cel_plain.specs.Valuations.{AreAnswersAt};
+ghost use Rattle.cel_terms.specs.Answers.{AreAnswersAt};
 ghost use Rattle.cel_plain.specs.Below.{answer_of, answers_from, is_strict_enough, same_answer, with_new};
 
 use crate::found::Match;

@@ -1,46 +1,12 @@
 //! Whether a predicate holds of an event.
 
-ghost use Rattle.std.specs.Prelude.{◌≡◌, bytes_eq, slice_get};
-ghost use Rattle.std.specs.Option.{option_copied};
-ghost use Rattle.std.specs.List.{list_all, list_any, position_from};
+ghost use Rattle.std.specs.Prelude.{◌≡◌};
+ghost use Rattle.std.specs.List.{list_all, list_any};
 ghost use Rattle.cel_terms.specs.Predicate.{attr_value, some_meets, holds};
 
 use cel_terms::Pred;
-use stream_schema::{Attr, Event, Schema, Value, is_met_by};
-
-/// Whether the attribute has the name.
-fn is_named(attr: &Attr, name: &str) -> bool
-    ensures { result ≡ bytes_eq attr.now.name name.now }
-{
-    attr.name.as_str() == name
-}
-
-/// The place of the attribute of this name among the type's.
-fn attr_place(attrs: &[Attr], name: &str) -> Option<usize>
-    ensures { result ≡ position_from (λ a. bytes_eq a.name name.now) 0 attrs.now }
-{
-    attrs.iter().position(|attr| is_named(attr, name))
-}
-
-/// The value at the place.
-fn value_at(values: &[Value], place: usize) -> Option<&Value>
-    ensures { option_copied result ≡ slice_get values.now place }
-{
-    values.get(place)
-}
-
-/// The event's value of the attribute, or `None` where its type lacks it.
-pub fn value_of<'e>(schema: &Schema, event: &'e Event, name: &str) -> Option<&'e Value>
-    ensures { option_copied result ≡ attr_value schema.now event.now name.now }
-{
-    match schema.attrs(event.ty) {
-        Some(attrs) => match attr_place(attrs, name) {
-            Some(place) => value_at(event.values.as_slice(), place),
-            None => None,
-        },
-        None => None,
-    }
-}
+use cel_terms::reading::value_of;
+use stream_schema::{Event, Schema, is_met_by};
 
 /// Whether each of the predicates holds of the event.
 #[cycle(holds)]

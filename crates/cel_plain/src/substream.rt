@@ -1,17 +1,15 @@
 //! The substream that an event is in.
 
-ghost use Rattle.std.specs.Prelude.{◌≡◌, ◌==◌, IfOk, false, length};
-ghost use Rattle.std.specs.List.{list_any, list_all};
+ghost use Rattle.std.specs.Prelude.{◌≡◌, IfOk, false, length, slice_get};
+ghost use Rattle.std.specs.List.{list_all};
 ghost use Rattle.std.specs.Option.{option_map_or};
-ghost use Rattle.std.specs.Prelude.{slice_get};
-ghost use Rattle.cel_terms.specs.Answers.{types_of_stream};
-ghost use Rattle.cel_plain.specs.Below.{below, same_attr, query_reads, shares, shares_at, substream_positions};
+ghost use Rattle.cel_plain.specs.Below.{below, same_attr, shares, shares_at, substream_positions};
 
-use crate::predicate::value_of;
+use cel_terms::reading::{query_reads, value_of};
 use cel_terms::{Name, Query};
 use cer_base::{Memory, Pos};
 use std::alloc::Global;
-use stream_schema::{Event, Schema, TypeId, same_value};
+use stream_schema::{Event, Schema, same_value};
 
 /// Whether both events have the attribute, with equal values.
 fn same_attr(schema: &Schema, a: &Event, b: &Event, name: &Name) -> bool
@@ -36,37 +34,6 @@ fn same_key(schema: &Schema, a: &Event, b: &Event, names: &[Name]) -> bool
         }
     }
     true
-}
-
-fn has_number(types: &[TypeId], ty: TypeId) -> bool
-    ensures { result ≡ list_any (λ t. t == ty) types.now }
-{
-    types.iter().any(|t| *t == ty)
-}
-
-/// Whether the stream of this name has the type.
-fn stream_has(schema: &Schema, name: &Name, ty: TypeId) -> bool
-    ensures { result ≡ list_any (λ t. t == ty) (types_of_stream schema.now.streams name.now.text) }
-{
-    match schema.streams(name.text.as_str()) {
-        Some(types) => has_number(types.as_slice(), ty),
-        None => false,
-    }
-}
-
-/// Whether some of the streams has the type.
-fn some_stream_has(schema: &Schema, names: &[Name], ty: TypeId) -> bool
-    ensures { result ≡ list_any (λ n.
-        list_any (λ t. t == ty) (types_of_stream schema.now.streams n.text)) names.now }
-{
-    names.iter().any(|name| stream_has(schema, name, ty))
-}
-
-/// Whether one of the query's streams has the event's type.
-pub fn query_reads(schema: &Schema, query: &Query, event: &Event) -> bool
-    ensures { result ≡ query_reads schema.now query.now event.now }
-{
-    some_stream_has(schema, query.streams.as_slice(), event.ty)
 }
 
 /// Whether both events are of the query's types and have equal keys.

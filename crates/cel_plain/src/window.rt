@@ -5,8 +5,8 @@ ghost use Rattle.std.specs.Option.{option_copied, option_map_or};
 ghost use Rattle.cel_terms.specs.Predicate.{attr_value};
 ghost use Rattle.cel_plain.specs.Below.{are_close, window_holds, is_in_window};
 
-use crate::predicate::value_of;
 use cel_terms::Window;
+use cel_terms::reading::value_of;
 use cer_base::Pos;
 use stream_schema::{Event, Schema, Value};
 

@@ -8,3 +8,5 @@ pub mod Intervals
 pub mod Marked
 -- events whose type number is not declared
 pub mod Undeclared
+-- which types a query reads, and the value of an attribute
+pub mod TypesAndValues

@@ -1,6 +1,7 @@
 -- The complex events that a query has at a position: those of its valuations, within its partition and window.
 use Rattle.std.specs.Prelude.{◌≡◌, ℕ, ◌<◌, ◌↔◌, ℤ, pos, ◌+ℤ◌, ◌≤ℤ◌, Bool, true, false, List, [], ◌∷◌, ◌++◌, Any, Contains, Option, Some, None, slice_get, option_map, option_and_then}
 use Rattle.std.specs.Option.{option_map_or}
+use Rattle.cer_base.specs.Repeats.{HasNoRepeats}
 use Rattle.stream_schema.specs.Types.{Declared, DeclaredStream}
 use Rattle.stream_schema.specs.Names.{stream_types}
 use Rattle.stream_schema.specs.declared.Event.{Event}
@@ -117,3 +118,9 @@ pub record IsAnswer (schema : Declared) (q : Query) (events : List Event) (end :
   pub marks : HasMarks (selected q.select (meaning (substream schema q events end) q.formula)) answer.start end answer.marks
   pub strict : WhereStrict q.strict (AreContiguous (IsOfSubstream schema q events end) answer.marks)
   pub window : IsInWindow schema q events answer.start end
+
+-- The list has exactly the answers of the query at the end, each once.
+pub record AreAnswersAt (schema : Declared) (q : Query) (events : List Event) (end : ℕ) (answers : List Answer) : Type 0 where
+  pub each : (a : Answer) → Contains answers a → IsAnswer schema q events end a
+  pub all : (a : Answer) → IsAnswer schema q events end a → Contains answers a
+  pub once : HasNoRepeats answers

@@ -3,7 +3,8 @@
 //!
 //! The meaning stands in `specs/Predicate`, `specs/Meaning` and `specs/Answers`, and when a query is
 //! checked for a schema in `specs/Checked`; they know no automaton, run or node. `laws` says what
-//! follows of the meaning. It stands on `stream_schema` for types and events.
+//! follows of the meaning; `reading` tells whether a query reads an event, and an attribute's value.
+//! It stands on `stream_schema` for types and events.
 #![tactic(auto)]
 
 ghost use Rattle.std.specs.Prelude.{◌≡◌, List, ℕ};
@@ -12,6 +13,7 @@ use cer_base::{Listed, Place, Text};
 use stream_schema::Value;
 
 pub mod laws;
+pub mod reading;
 
 pub use stream_schema::Op;
 

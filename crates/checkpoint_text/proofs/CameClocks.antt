@@ -8,7 +8,7 @@ use Rattle.stream_schema.specs.declared.Event.{Event}
 use Rattle.cel_terms.specs.declared.Query.{Query}
 use Rattle.cel_terms.specs.Checked.{IsChecked}
 use Rattle.cel_terms.specs.Answers.{HasClock}
-use Rattle.cel_plain.specs.Below.{query_reads}
+use Rattle.cel_terms.specs.Reading.{query_reads}
 use Rattle.window_clock.specs.Clocks.{clock_of}
 use Rattle.query_standing.proofs.Reading.{is_read}
 use Rattle.query_part.proofs.Clocks.{each_has_clock}

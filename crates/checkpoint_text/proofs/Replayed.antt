@@ -11,7 +11,7 @@ use Rattle.stream_schema.specs.Types.{Declared, IsWellDeclared}
 use Rattle.stream_schema.specs.declared.Event.{Event}
 use Rattle.cel_terms.specs.declared.Query.{Query}
 use Rattle.cel_terms.specs.Answers.{HasClock}
-use Rattle.cel_plain.specs.Below.{query_reads}
+use Rattle.cel_terms.specs.Reading.{query_reads}
 use Rattle.window_clock.specs.Clocks.{clock_of}
 use Rattle.query_standing.proofs.Reading.{reads_is, is_read}
 use Rattle.query_engine.specs.Clocks.{Reads, FallsBack, NoneFallsBack, IsFirstToFall}

@@ -16,7 +16,7 @@ use Rattle.cel_terms.specs.declared.Window.TheVariants.{Free, Events, Clock}
 use Rattle.cel_terms.specs.Checked.{IsChecked}
 use Rattle.cel_terms.specs.Predicate.{attr_value}
 use Rattle.cel_terms.specs.Answers.{Answer, IsAnswer, HasClock, WithinWidth}
-use Rattle.cel_plain.specs.Below.{query_reads}
+use Rattle.cel_terms.specs.Reading.{query_reads}
 use Rattle.window_clock.specs.Clocks.{int_of, clock_of}
 use Rattle.output_laws.specs.Laws.{IsSameFor, AreSameWithin}
 use Rattle.output_laws.proofs.EarlierAnswers.{spans, look_within, within_turned}

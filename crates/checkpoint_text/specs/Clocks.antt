@@ -3,7 +3,7 @@ use Rattle.std.specs.Prelude.{◌≡◌, ℤ, int_lt, Bool, false, if◌then◌e
 use Rattle.std.specs.List.{list_any}
 use Rattle.stream_schema.specs.Types.{Declared}
 use Rattle.cel_terms.specs.declared.Query.{Query}
-use Rattle.cel_plain.specs.Below.{query_reads}
+use Rattle.cel_terms.specs.Reading.{query_reads}
 use Rattle.window_clock.specs.Clocks.{clock_of}
 use Rattle.checkpoint_text.specs.declared.history.EventAt.{EventAt}
 

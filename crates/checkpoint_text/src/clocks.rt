@@ -6,7 +6,7 @@ ghost use Rattle.checkpoint_text.specs.LastClocks.{any_back, fall_of, first_back
 ghost use Rattle.checkpoint_text.specs.Keeping.{is_within, are_within, any_needs};
 
 use crate::EventAt;
-use cel_plain::substream::query_reads;
+use cel_terms::reading::query_reads;
 use cel_terms::{Query, Window};
 use cer_base::{Memory, Pos};
 use std::alloc::Global;

@@ -2,7 +2,7 @@
 //!
 //! Promised: `read_checkpoint` answers exactly the history that the text tells, or exactly the first
 //! line that is refused, and why; the laws say so apart from how it is read.
-//! It stands on `event_reader` for lines and events, and on `cel_plain` for what a query reads.
+//! It stands on `event_reader` for lines and events, and on `cel_terms` for what a query reads.
 #![tactic(auto)]
 
 ghost use Rattle.std.specs.Prelude.{◌≡◌};

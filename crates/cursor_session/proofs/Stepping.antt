@@ -11,8 +11,7 @@ use Rattle.cer_outside.specs.Bytes.{TookAll}
 use Rattle.cer_outside.specs.declared.WriteFault.{WriteFault as Failure}
 use Rattle.stream_schema.specs.declared.Event.{Event}
 use Rattle.cel_terms.specs.declared.Query.{Query}
-use Rattle.cel_terms.specs.Answers.{Answer}
-use Rattle.cel_plain.specs.Valuations.{AreAnswersAt}
+use Rattle.cel_terms.specs.Answers.{Answer, AreAnswersAt}
 use Rattle.query_engine.specs.Clocks.{NoneFallsBack, IsFirstToFall}
 use Rattle.query_engine.specs.Engine.{State, Open, StandsFor, Fits, rest, count_of, KeepsCursors, SameQueries, update_bounds}
 use Rattle.query_engine.specs.Windows.{HasAdded}

@@ -7,8 +7,8 @@ ghost use Rattle.event_run.specs.Runs.{StopsInTime};
 ghost use Rattle.event_run.specs.Runs as stop;
 ghost use Rattle.event_run.specs.Listing.{as_fall};
 
-use cel_plain::substream::query_reads;
 use cel_terms::Query;
+use cel_terms::reading::query_reads;
 use event_reader::EventFault;
 use stream_schema::{Event, Schema};
 use window_clock::plain::clock_of;

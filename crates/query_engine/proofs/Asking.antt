@@ -7,7 +7,7 @@ use Rattle.std.proofs.lemmas.Option.{slice_get-get_or}
 use Rattle.stream_schema.specs.Types.{Declared}
 use Rattle.stream_schema.specs.declared.Event.{Event}
 use Rattle.cel_terms.specs.declared.Query.{Query}
-use Rattle.cel_plain.specs.Valuations.{AreAnswersAt}
+use Rattle.cel_terms.specs.Answers.{AreAnswersAt}
 use Rattle.tecs_enumerate.specs.Rest.{CursorState, recent_of}
 use Rattle.tecs_enumerate.specs.Rest as walks
 use Rattle.query_standing.specs.Bounds.{MeetAtMost}

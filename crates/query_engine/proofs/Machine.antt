@@ -6,7 +6,7 @@ use Rattle.std.specs.List.Sorted.{IsPermutation}
 use Rattle.std.proofs.lemmas.List.Sorted.{IsPermutation-refl}
 use Rattle.stream_schema.specs.declared.Event.{Event}
 use Rattle.cel_terms.specs.declared.Query.{Query}
-use Rattle.cel_plain.specs.Valuations.{AreAnswersAt}
+use Rattle.cel_terms.specs.Answers.{AreAnswersAt}
 use Rattle.cer_base.specs.declared.node.Stamp.{Stamp}
 use Rattle.cer_base.specs.Members.{Member}
 use Rattle.query_engine.specs.Clocks.{NoneFallsBack, IsFirstToFall}

@@ -5,8 +5,7 @@ use Rattle.std.specs.List.Sorted.{IsPermutation}
 use Rattle.stream_schema.specs.Types.{Declared}
 use Rattle.stream_schema.specs.declared.Event.{Event}
 use Rattle.cel_terms.specs.declared.Query.{Query}
-use Rattle.cel_terms.specs.Answers.{Answer}
-use Rattle.cel_plain.specs.Valuations.{AreAnswersAt}
+use Rattle.cel_terms.specs.Answers.{Answer, AreAnswersAt}
 use Rattle.cer_base.specs.declared.node.Stamp.{Stamp}
 use Rattle.query_engine.specs.Clocks.{NoneFallsBack, IsFirstToFall}
 use Rattle.query_engine.specs.Holding.{answer_of}

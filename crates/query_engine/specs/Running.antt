@@ -3,7 +3,7 @@ use Rattle.std.specs.Prelude.{◌≡◌, ℕ, ◌+◌, ◌-◌, ◌<◌, ◌≤�
 use Rattle.stream_schema.specs.Types.{Declared}
 use Rattle.stream_schema.specs.declared.Event.{Event}
 use Rattle.cel_terms.specs.declared.Query.{Query}
-use Rattle.cel_plain.specs.Valuations.{AreAnswersAt}
+use Rattle.cel_terms.specs.Answers.{AreAnswersAt}
 use Rattle.all_or_none.specs.Phases.{Phase, IsIdle, IsQuiet, StandsAt, MayAnswer}
 pub use Rattle.all_or_none.specs.Phases.{is_among, AreRising}
 use Rattle.all_or_none.specs.Dormancy.{dormant_at}

@@ -3,7 +3,7 @@ use Rattle.std.proofs.Common.{◌≡◌, ℕ, ℤ, ◌<◌, Bool, true, false, L
 use Rattle.std.specs.Prelude.{IsSomeAnd, option_and_then, option_map, bytes_eq}
 use Rattle.std.proofs.lemmas.Bool.{false≢true, and_parts}
 use Rattle.std.proofs.lemmas.Option.{slice_get_within}
-use Rattle.cel_plain.specs.Below.{query_reads as reads}
+use Rattle.cel_terms.specs.Reading.{query_reads as reads}
 use Rattle.query_standing.specs.Clocks.{Reads}
 use Rattle.query_standing.proofs.Reading.{reads_is, is_read}
 use Rattle.cer_base.specs.Bits.{has, room_for}

@@ -18,7 +18,7 @@ use Rattle.query_standing.specs.Kept.{Part, PartStands}
 use Rattle.query_standing.specs.Steps.{Advances}
 use Rattle.query_standing.specs.Dormancy.{IsLastOfType, AreLasts, IsGreatest, dormant, IsClockOf, StandsWithClock, CanCome, IsMoved, Moves, IsLetPass, IsNoOp, AreNoOps, ShareClock, IsHeadOf, AreHeads}
 use Rattle.query_standing.proofs.Passing.{append_none}
-use Rattle.cel_plain.specs.Below.{query_reads as is_reading}
+use Rattle.cel_terms.specs.Reading.{query_reads as is_reading}
 use Rattle.query_standing.proofs.Growing.{get_last, get_cases}
 use Rattle.query_standing.proofs.Parts.{clock_front, part_unread, length_more}
 use Rattle.query_standing.proofs.PartSteps.{part_no_key, part_resting, part_begins_none}

@@ -15,7 +15,7 @@ use Rattle.stream_schema.specs.Types.{Declared}
 use Rattle.stream_schema.specs.declared.Event.{Event}
 use Rattle.stream_schema.specs.declared.Value.{Value}
 use Rattle.cel_terms.specs.declared.Query.{Query}
-use Rattle.cel_terms.specs.Answers.{Answer, IsAnswer, IsAscending, IsInWindow, IsOfSubstream, HasKey, HasClock}
+use Rattle.cel_terms.specs.Answers.{Answer, IsAnswer, IsAscending, IsInWindow, IsOfSubstream, HasKey, HasClock, AreAnswersAt}
 use Rattle.query_leaves.specs.Expand.{tree_of}
 use Rattle.query_leaves.specs.Leaves.{occurrences}
 use Rattle.cea_determinise.specs.Runs.{Automaton, Entry, accepts, has_mark}
@@ -24,7 +24,6 @@ use Rattle.cea_compile.specs.Compiled.{automaton_of}
 use Rattle.cea_compile.specs.DeterminisedRuns.{ListsSubstream, from_to, reads_at, entry_at, IsAcceptedRun}
 use Rattle.cea_compile.proofs.Answers.{listed_is}
 use Rattle.cea_compile.proofs.Accepted.{answers_are_accepted}
-use Rattle.cel_plain.specs.Valuations.{AreAnswersAt}
 use Rattle.cer_base.specs.Repeats as plain
 use Rattle.event_update.specs.Reach.{Seen, entry, RunEndsIn, Reaches, Has, all_of}
 use Rattle.event_update.specs.Still.{IsSilent}

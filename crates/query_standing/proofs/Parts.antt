@@ -8,14 +8,13 @@ use Rattle.stream_schema.specs.Types.{Declared}
 use Rattle.stream_schema.specs.declared.Event.{Event}
 use Rattle.stream_schema.specs.declared.Value.{Value}
 use Rattle.cel_terms.specs.declared.Query.{Query}
-use Rattle.cel_terms.specs.Answers.{Answer, IsAnswer, HasKey, HasClock}
+use Rattle.cel_terms.specs.Answers.{Answer, IsAnswer, HasKey, HasClock, AreAnswersAt}
 use Rattle.query_leaves.specs.Expand.{tree_of}
 use Rattle.cea_determinise.specs.declared.cea.StateSets.{StateSets}
 use Rattle.cea_determinise.specs.Strict.{Standing}
 use Rattle.cea_determinise.specs.Cea.{standing_of}
 use Rattle.cea_determinise.specs.Det.{standing_at}
 use Rattle.cea_compile.specs.Compiled.{automaton_of}
-use Rattle.cel_plain.specs.Valuations.{AreAnswersAt}
 use Rattle.std.specs.Option.{option_map_or}
 use Rattle.tecs_enumerate.specs.Rest.{CursorState, rest, recent_of}
 use Rattle.query_standing.specs.Bounds.{IsMet}

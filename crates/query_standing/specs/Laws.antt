@@ -4,7 +4,7 @@ use Rattle.stream_schema.specs.Types.{Declared}
 use Rattle.stream_schema.specs.declared.Event.{Event}
 use Rattle.stream_schema.specs.declared.Value.{Value}
 use Rattle.cel_terms.specs.declared.Query.{Query}
-use Rattle.cel_terms.specs.Answers.{Answer, IsAnswer, HasKey, HasClock}
+use Rattle.cel_terms.specs.Answers.{Answer, IsAnswer, HasKey, HasClock, AreAnswersAt}
 use Rattle.query_leaves.specs.Expand.{tree_of}
 use Rattle.cer_base.specs.declared.node.Node.{Node}
 use Rattle.cer_base.specs.Members.{Member}
@@ -13,7 +13,6 @@ use Rattle.cea_determinise.specs.Strict.{Standing}
 use Rattle.cea_determinise.specs.Cea as stored
 use Rattle.cea_determinise.specs.Det.{Table, standing_at}
 use Rattle.cea_compile.specs.Compiled.{automaton_of}
-use Rattle.cel_plain.specs.Valuations.{AreAnswersAt}
 use Rattle.tecs_enumerate.specs.Rest.{CursorState, rest, recent_of}
 use Rattle.event_update.specs.Reach.{Seen}
 use Rattle.event_update.specs.Stands.{Stands}

@@ -4,8 +4,8 @@ ghost use Rattle.std.specs.Prelude.{◌≡◌, Some};
 ghost use Rattle.window_clock.specs.Clocks.{int_of, clock_of};
 
 use crate::int_of;
-use cel_plain::predicate::value_of;
 use cel_terms::Window;
+use cel_terms::reading::value_of;
 use cer_base::Pos;
 use stream_schema::{Event, Schema};
 

@@ -3,7 +3,7 @@ use Rattle.std.specs.Prelude.{◌==◌}
 use Rattle.std.specs.List.{list_any}
 use Rattle.std.specs.Option.{option_map_or}
 use Rattle.stream_schema.specs.Names.{stream_types}
-use Rattle.cel_plain.proofs.Reading.{types_are}
+use Rattle.cel_terms.proofs.TypesAndValues.{types_are}
 use Rattle.query_part.proofs.Marked.{marked_none, marked_alike}
 use Rattle.query_part.proofs.types.mark_stream.Goals as goal
 

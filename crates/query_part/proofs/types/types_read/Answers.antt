@@ -4,7 +4,7 @@ use Rattle.std.specs.List.{list_any}
 use Rattle.std.proofs.lemmas.List.{with_items_is}
 use Rattle.cel_terms.specs.declared.Name.{Name}
 use Rattle.cel_terms.specs.Answers.{types_of_stream}
-use Rattle.cel_plain.proofs.Reading.{reads_is}
+use Rattle.cel_terms.proofs.TypesAndValues.{reads_is}
 use Rattle.query_part.proofs.types.types_read.Goals as goal
 
 pub returns : goal.returns

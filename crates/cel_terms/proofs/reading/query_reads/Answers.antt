@@ -2,8 +2,8 @@ use Rattle.std.proofs.Common.{ap, sym, ◌∙◌}
 use Rattle.std.specs.Prelude.{◌==◌}
 use Rattle.std.specs.List.{list_any}
 use Rattle.cel_terms.specs.Answers.{types_of_stream}
-use Rattle.cel_plain.proofs.Reading.{reads_is}
-use Rattle.cel_plain.proofs.substream.query_reads.Goals as goal
+use Rattle.cel_terms.proofs.TypesAndValues.{reads_is}
+use Rattle.cel_terms.proofs.reading.query_reads.Goals as goal
 
 pub returns : goal.returns
 returns c =

@@ -1,7 +1,7 @@
 use Rattle.std.proofs.Common.{ap, ◌∙◌}
 use Rattle.std.specs.Prelude.{slice_get}
-use Rattle.cel_plain.proofs.Predicates.{value_there}
-use Rattle.cel_plain.proofs.predicate.value_of.Goals as goal
+use Rattle.cel_terms.proofs.TypesAndValues.{value_there}
+use Rattle.cel_terms.proofs.reading.value_of.Goals as goal
 
 pub returns-in-Some-attr_place : goal.returns-in-Some-attr_place
 returns-in-Some-attr_place c =

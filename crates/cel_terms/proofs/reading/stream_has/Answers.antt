@@ -3,8 +3,8 @@ use Rattle.std.specs.Prelude.{◌==◌}
 use Rattle.std.specs.List.{list_any}
 use Rattle.std.specs.Option.{option_map_or}
 use Rattle.stream_schema.specs.Names.{stream_types}
-use Rattle.cel_plain.proofs.Reading.{types_are}
-use Rattle.cel_plain.proofs.substream.stream_has.Goals as goal
+use Rattle.cel_terms.proofs.TypesAndValues.{types_are}
+use Rattle.cel_terms.proofs.reading.stream_has.Goals as goal
 
 pub returns-in-Some : goal.returns-in-Some
 returns-in-Some c =

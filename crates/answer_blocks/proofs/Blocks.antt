@@ -7,9 +7,7 @@ use Rattle.stream_schema.specs.Types.{Declared}
 use Rattle.stream_schema.specs.declared.Event.{Event}
 use Rattle.cel_terms.specs.declared.Query.{Query}
 use Rattle.cel_terms.specs.Answers.{Answer, IsAnswer, AreAnswersAt}
-use Rattle.cel_plain.specs.Lists.{matches_of}
-use Rattle.cel_plain.specs.Below.{substream_positions, answers_from}
-use Rattle.cel_plain.proofs.Answering.{are_answers}
+use Rattle.cel_lists.proofs.Answering.{some_answers_are}
 use Rattle.cer_base.specs.Repeats.{HasNoRepeats}
 use Rattle.cer_base.proofs.Repeats.{HasNoRepeats-permutation}
 use Rattle.answer_text.specs.declared.Order.{Order}
@@ -61,34 +59,20 @@ block_of_wanted order schema number q events end all answers h moved ordered = r
   written = refl;
 }
 
--- the answers that the definitions compute
-computed : Declared → Query → List Event → ℕ → List Answer
-computed schema q events end =
-    let positions = substream_positions schema q events end in
-    answers_from schema q events positions end (matches_of schema events positions q.formula)
-
-computed_are : (schema : Declared) (q : Query) (events : List Event) (end : ℕ) → AreAnswersAt schema q events end (computed schema q events end)
-unfolding computed
-computed_are schema q events end =
-    let positions = substream_positions schema q events end in
-    let ms = matches_of schema events positions q.formula in
-    are_answers schema q events end positions ms (answers_from schema q events positions end ms) refl refl refl
-
 -- There is a block of each query at each position,
 pub some_block_is : (order : Order) (schema : Declared) (number : ℕ) (q : Query) (events : List Event) (end : ℕ) →
     (bytes : List ℕ) × IsBlock order schema number q events end bytes
 some_block_is Walk schema number q events end =
-    let all = computed schema q events end in
-    let given = wanted q.any all in (
+    let all = some_answers_are schema q events end in
+    let given = wanted q.any all.0 in (
       flat_map (line number end) given,
-      block_of_wanted Walk schema number q events end all given (computed_are schema q events end) (IsPermutation-refl given) tt,
+      block_of_wanted Walk schema number q events end all.0 given all.1 (IsPermutation-refl given) tt,
     )
 some_block_is Sorted schema number q events end =
-    let all = computed schema q events end in
-    let are = computed_are schema q events end in
-    let given = wanted q.any all in (
+    let all = some_answers_are schema q events end in
+    let given = wanted q.any all.0 in (
       flat_map (line number end) (in_order given),
-      block_of_wanted Sorted schema number q events end all (in_order given) are (in_order_moves given) (in_order_is given (wanted_once q.any all are.once)),
+      block_of_wanted Sorted schema number q events end all.0 (in_order given) all.1 (in_order_moves given) (in_order_is given (wanted_once q.any all.0 all.1.once)),
     )
 
 -- and there are blocks of several queries.

@@ -8,7 +8,7 @@ use Rattle.stream_schema.specs.declared.Event.{Event}
 use Rattle.cel_terms.specs.declared.Name.{Name}
 use Rattle.cel_terms.specs.declared.Filter.{Filter, All, Any, All', Any', Row_of-Filter, end_of-Filter, more_of-Filter, items-the_row-Filter, items_hidden-the_row-Filter-0}
 use Rattle.cel_terms.specs.Meaning.{Valuation, lists_name}
-use Rattle.cel_plain.specs.Lists.{meets, meets_all, meets_any}
+use Rattle.cel_lists.specs.Lists.{meets, meets_all, meets_any}
 
 pub lists_is : (names : List (List ℕ)) (name : List ℕ) → lists_name names name ≡ list_any (λ n. bytes_eq n name) names
 lists_is [] name = refl

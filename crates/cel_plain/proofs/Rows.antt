@@ -6,8 +6,8 @@ use Rattle.stream_schema.specs.Types.{Declared}
 use Rattle.stream_schema.specs.declared.Event.{Event}
 use Rattle.cel_terms.specs.declared.Link.{Link}
 use Rattle.cel_terms.specs.declared.Formula.{Formula, Chain, Chain', Linked, Linked', Either, Either', Row_of-Formula, end_of-Formula, more_of-Formula, items-the_row-Formula, items_hidden-the_row-Formula-0, Row_of-Link, end_of-Link, more_of-Link, items-the_row-Link, items_hidden-the_row-Link-1}
-use Rattle.cel_plain.specs.declared.found.Match.{Match}
-use Rattle.cel_plain.specs.Lists.{in_sequence, matches_of, matches_of_first, matches_of_chain, matches_of_links, matches_of_choices, listed_chain, listed_links, listed_choices}
+use Rattle.cel_lists.specs.declared.Match.{Match}
+use Rattle.cel_lists.specs.Lists.{in_sequence, matches_of, matches_of_first, matches_of_chain, matches_of_links, matches_of_choices, listed_chain, listed_links, listed_choices}
 
 chain_listed : (schema : Declared) (events : List Event) (positions : List ℕ) (before : List Match) (n : _) (row : Row_of-Formula n) → matches_of_chain schema events positions before row ≡ fold (λ b g. in_sequence positions false b (matches_of schema events positions g)) before (items-the_row-Formula n row)
 chain_listed schema events positions before n end_of-Formula = refl

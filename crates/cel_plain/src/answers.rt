@@ -4,13 +4,13 @@ ghost use Rattle.std.specs.Prelude.{◌≡◌, ◌==◌, IfOk, OnOk};
 ghost use Rattle.std.specs.Cmp.Lexicographic.{pointwise};
 ghost use Rattle.std.specs.List.{list_any};
 ghost use Rattle.cel_terms.specs.Answers.{AreAnswersAt};
-ghost use Rattle.cel_plain.specs.Below.{answer_of, answers_from, is_strict_enough, same_answer, with_new};
+ghost use Rattle.cel_lists.specs.Below.{answer_of, answers_from, is_strict_enough, same_answer, with_new};
 
-use crate::found::Match;
 use crate::marks::{is_contiguous, marks};
 use crate::matches::matches;
 use crate::substream::positions;
 use crate::window::is_in_window;
+use cel_lists::Match;
 use cel_terms::Query;
 use cer_base::{Memory, Pos};
 use std::alloc::Global;

@@ -4,10 +4,10 @@ ghost use Rattle.std.specs.Prelude.{◌≡◌, IfOk, true, fold, slice_get, byte
 ghost use Rattle.std.specs.List.{list_any, list_all};
 ghost use Rattle.std.specs.Option.{option_map_or};
 ghost use Rattle.cel_terms.specs.Predicate.{holds};
-ghost use Rattle.cel_plain.specs.Lists.{passes, meets, filtered};
+ghost use Rattle.cel_lists.specs.Lists.{passes, meets, filtered};
 
-use crate::found::{BoundAt, Match};
 use crate::predicate::holds;
+use cel_lists::{BoundAt, Match};
 use cel_terms::{Filter, Pred};
 use cer_base::{Memory, Pos, Text};
 use std::alloc::Global;

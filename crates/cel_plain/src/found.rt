@@ -1,57 +1,11 @@
-//! A valuation with its interval, and copies of its parts.
+//! Copies of valuations and of their parts.
 
 ghost use Rattle.std.specs.Prelude.{◌≡◌, ◌++◌, IfOk, OnOk};
-ghost use Rattle.cel_plain.specs.Lists.{joined};
+ghost use Rattle.cel_lists.specs.Lists.{joined};
 
-use cer_base::{Listed, Memory, Pos, Text};
+use cel_lists::{BoundAt, Match};
+use cer_base::{Listed, Memory, Text};
 use std::alloc::Global;
-use std::marker::Model;
-
-/// What a valuation says of one position: the names whose sets have it.
-#[derive(Drop, Debug)]
-pub struct BoundAt {
-    position: Pos,
-    names: Vec<Text>,
-}
-
-impl Model for BoundAt {
-    ghost use Rattle.cel_terms.specs.Meaning.{Bound};
-
-    ghost Value = { Bound };
-
-    ghost view = { λ b. record { position = b.position; names = b.names.items } };
-}
-
-impl BoundAt {
-    /// The position with these names.
-    pub fn new(position: Pos, names: Vec<Text>) -> BoundAt
-        ensures { result ≡ record { position = position; names = names.items } }
-    {
-        BoundAt { position, names }
-    }
-
-    /// The position, from 0 in the whole stream.
-    pub fn position(&self) -> Pos
-        ensures { result ≡ self.now.position }
-    {
-        self.position
-    }
-
-    /// The names whose sets have the position.
-    pub fn names(&self) -> &[Text]
-        ensures { result.now ≡ self.now.names }
-    {
-        self.names.as_slice()
-    }
-}
-
-/// A valuation with the positions where its interval starts and ends.
-#[derive(Drop, Debug)]
-pub struct Match {
-    pub start: Pos,
-    pub end: Pos,
-    pub bounds: Listed<BoundAt>,
-}
 
 /// Names of their own with the same texts.
 pub fn copy_names(alloc: Global, names: &[Text]) -> Result<Vec<Text>, Memory>

@@ -4,7 +4,7 @@
 //! once; `matches::valuations` exactly the valuations of a formula with their intervals;
 //! `predicate::holds` tells exactly whether a predicate holds of an event. The only other answer is
 //! memory that ran out. It may take exponential time, and ends.
-//! It stands on `cel_terms` and `stream_schema`.
+//! It stands on `cel_lists` for the lists that it makes, and on `cel_terms` and `stream_schema`.
 #![tactic(auto)]
 
 pub mod answers;

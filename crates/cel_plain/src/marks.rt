@@ -4,10 +4,10 @@ ghost use Rattle.std.specs.Prelude.{◌≡◌, ◌==◌, ◌||◌, not, IfOk, So
 ghost use Rattle.std.specs.List.{list_any, list_all};
 ghost use Rattle.cel_terms.specs.Answers.{is_bound};
 ghost use Rattle.cel_terms.specs.Meaning.{lists_name};
-ghost use Rattle.cel_plain.specs.Below.{is_kept, marks_at, is_mark, marks_of, is_inside, is_contiguous};
+ghost use Rattle.cel_lists.specs.Below.{is_kept, marks_at, is_mark, marks_of, is_inside, is_contiguous};
 
-use crate::found::BoundAt;
 use crate::postfix::lists;
+use cel_lists::BoundAt;
 use cel_terms::{Name, Names};
 use cer_base::{Memory, Pos, Text};
 use std::alloc::Global;

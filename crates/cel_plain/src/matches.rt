@@ -3,14 +3,15 @@
 ghost use Rattle.std.specs.Prelude.{◌≡◌, IfOk};
 ghost use Rattle.cel_terms.specs.Laws.{stream_of};
 ghost use Rattle.cel_terms.specs.Meaning.{meaning};
-ghost use Rattle.cel_plain.specs.Valuations.{AreMatchesOf};
-ghost use Rattle.cel_plain.specs.Lists.{matches_of, listed_chain, listed_links, listed_choices};
+ghost use Rattle.cel_lists.specs.Valuations.{AreMatchesOf};
+ghost use Rattle.cel_lists.specs.Lists.{matches_of, listed_chain, listed_links, listed_choices};
 
 use crate::filter::all_filtered;
-use crate::found::{Match, add_copies};
+use crate::found::add_copies;
 use crate::postfix::after_postfixes;
 use crate::sequence::in_sequence;
 use crate::single::singles;
+use cel_lists::Match;
 use cel_terms::{Formula, Link};
 use cer_base::{Memory, Pos};
 use std::alloc::Global;

@@ -3,10 +3,10 @@
 ghost use Rattle.std.specs.Prelude.{◌≡◌, IfOk, map, fold, bytes_eq};
 ghost use Rattle.std.specs.List.{list_any};
 ghost use Rattle.cel_terms.specs.Meaning.{with_name, only_names, lists_name};
-ghost use Rattle.cel_plain.specs.Lists.{change, changed, changed_bound, after_postfix};
+ghost use Rattle.cel_lists.specs.Lists.{change, changed, changed_bound, after_postfix};
 
-use crate::found::{BoundAt, Match};
 use crate::sequence::repetitions;
+use cel_lists::{BoundAt, Match};
 use cel_terms::{Name, Postfix};
 use cer_base::{Listed, Memory, Pos, Text};
 use std::alloc::Global;

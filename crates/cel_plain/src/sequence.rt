@@ -2,9 +2,10 @@
 
 ghost use Rattle.std.specs.Prelude.{◌≡◌, ◌++◌, IfOk, OnOk};
 ghost use Rattle.std.specs.List.{list_any, filter_map};
-ghost use Rattle.cel_plain.specs.Lists.{is_between, may_follow, join_if, in_sequence, times, up_to};
+ghost use Rattle.cel_lists.specs.Lists.{is_between, may_follow, join_if, in_sequence, times, up_to};
 
-use crate::found::{Match, add_copies, joined};
+use crate::found::{add_copies, joined};
+use cel_lists::Match;
 use cer_base::{Memory, Pos};
 use std::alloc::Global;
 

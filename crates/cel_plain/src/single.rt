@@ -3,9 +3,9 @@
 ghost use Rattle.std.specs.Prelude.{◌≡◌, IfOk, false, slice_get};
 ghost use Rattle.std.specs.List.{filter_map};
 ghost use Rattle.std.specs.Option.{option_map_or};
-ghost use Rattle.cel_plain.specs.Lists.{is_of_type, single, single_at, singles};
+ghost use Rattle.cel_lists.specs.Lists.{is_of_type, single, single_at, singles};
 
-use crate::found::{BoundAt, Match};
+use cel_lists::{BoundAt, Match};
 use cer_base::{Listed, Memory, Pos, Text};
 use std::alloc::Global;
 use stream_schema::{Event, Schema};

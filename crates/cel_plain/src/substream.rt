@@ -3,7 +3,7 @@
 ghost use Rattle.std.specs.Prelude.{◌≡◌, IfOk, false, length, slice_get};
 ghost use Rattle.std.specs.List.{list_all};
 ghost use Rattle.std.specs.Option.{option_map_or};
-ghost use Rattle.cel_plain.specs.Below.{below, same_attr, shares, shares_at, substream_positions};
+ghost use Rattle.cel_lists.specs.Below.{below, same_attr, shares, shares_at, substream_positions};
 
 use cel_terms::reading::{query_reads, value_of};
 use cel_terms::{Name, Query};

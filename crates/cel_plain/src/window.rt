@@ -3,7 +3,7 @@
 ghost use Rattle.std.specs.Prelude.{◌≡◌, Some, false, slice_get};
 ghost use Rattle.std.specs.Option.{option_copied, option_map_or};
 ghost use Rattle.cel_terms.specs.Predicate.{attr_value};
-ghost use Rattle.cel_plain.specs.Below.{are_close, window_holds, is_in_window};
+ghost use Rattle.cel_lists.specs.Below.{are_close, window_holds, is_in_window};
 
 use cel_terms::Window;
 use cel_terms::reading::value_of;

@@ -13,8 +13,8 @@ use Rattle.query_leaves.specs.Leaves.{names_in}
 use Rattle.cea_compile.specs.Paths.{Step, Reading, valuation}
 use Rattle.cea_compile.specs.Positions.{Steps, done, step, Walk, walk}
 use Rattle.query_leaves.specs.LeafTree.{LeafTree}
-use Rattle.cel_plain.proofs.Members.{Among, contains_from, among_from, among_map, map_among, among_filter_map, filter_map_among}
-use Rattle.cel_plain.proofs.Places.{Rises, ascends}
+use Rattle.cel_lists.proofs.Members.{Among, contains_from, among_from, among_map, map_among, among_filter_map, filter_map_among}
+use Rattle.cel_lists.proofs.Places.{Rises, ascends}
 use Rattle.match_explain.specs.declared.Binding.{Binding}
 use Rattle.match_explain.specs.Explains.{Binds, IsInSetOf, AreBindingsOf}
 use Rattle.match_explain.specs.LeafNames.{LeafNames}

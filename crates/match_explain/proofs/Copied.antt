@@ -9,7 +9,7 @@ use Rattle.cel_terms.specs.declared.Postfix.{Postfix}
 use Rattle.cel_terms.specs.declared.Postfix.TheVariants.{Plus, NextPlus, Named, Keep}
 use Rattle.cel_terms.specs.declared.Formula.{Formula, Of, Chain, Chain', Linked, Linked', Either, Either', Post', Under', Row_of-Formula, end_of-Formula, more_of-Formula, items-the_row-Formula, items_hidden-the_row-Formula-0, Row_of-Link, end_of-Link, more_of-Link, items-the_row-Link, items_hidden-the_row-Link-1}
 use Rattle.cel_terms.specs.declared.Filter.{Filter, On, All, All', Any, Any', Row_of-Filter, end_of-Filter, more_of-Filter, items-the_row-Filter, items_hidden-the_row-Filter-0}
-use Rattle.cel_plain.specs.Lists.{change}
+use Rattle.cel_lists.specs.Lists.{change}
 use Rattle.query_leaves.specs.LeafTree.{LeafTree, leaf, none, sequence, either, plus}
 use Rattle.query_leaves.specs.Expand.{Occurrence, at_leaves, rename_leaf, test_leaf, filtered, filtered_by_all, filtered_by_any, under_all, one_or_more, postfixed, postfixed_by_all, expand, expand_chain, expand_on, expand_links, expand_choices}
 use Rattle.query_leaves.specs.Leaves.{occurrences}

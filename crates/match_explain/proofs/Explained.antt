@@ -8,7 +8,7 @@ use Rattle.cel_terms.specs.declared.Name.{Name}
 use Rattle.cel_terms.specs.declared.Query.{Query}
 use Rattle.cel_terms.specs.Meaning.{Bound, Valuation, Meaning, meaning, lists_name}
 use Rattle.cel_terms.specs.Answers.{IsAnswer, IsAscending, IsBoundAt, is_bound, IsOfSubstream, selected, substream}
-use Rattle.cel_plain.proofs.Members.{Among, contains_from, among_from, among_filter, filter_among, any_among, among_any, among_map, map_among}
+use Rattle.cel_lists.proofs.Members.{Among, contains_from, among_from, among_filter, filter_among, any_among, among_any, among_map, map_among}
 use Rattle.cel_plain.proofs.Naming.{listed_is as names_listed_is}
 use Rattle.query_leaves.specs.Expand.{Occurrence, tree_of, expand}
 use Rattle.query_leaves.specs.Leaves.{occurrences, numbered, names_in, leaf_is_marked}
@@ -22,7 +22,7 @@ use Rattle.cea_compile.proofs.Compiled.{automaton_is}
 use Rattle.cea_compile.proofs.Glushkov.{path_iff_walk}
 use Rattle.cea_compile.proofs.Leaves.{numbered_linear}
 use Rattle.cea_compile.proofs.Queries.{query_expanded}
-use Rattle.cel_plain.proofs.Windows.{window_from}
+use Rattle.cel_lists.proofs.Windows.{window_from}
 use Rattle.match_explain.specs.declared.Binding.{Binding}
 use Rattle.match_explain.specs.declared.turns.Turn.{Turn}
 use Rattle.match_explain.specs.declared.moves.Last.TheVariants.{Start}

@@ -10,7 +10,7 @@ use Rattle.std.specs.Cmp.Lexicographic.{slice_cmp, nat_list_cmp_total}
 use Rattle.std.proofs.lemmas.Map.Text.{is_eq-slice_cmp}
 use Rattle.std.proofs.lemmas.Map.Keys.{sorted_head, sorted_tail}
 use Rattle.std.proofs.lemmas.Slice.Eq.{bytes_eq-Decides}
-use Rattle.cel_plain.proofs.Members.{Among, among_any, any_among}
+use Rattle.cel_lists.proofs.Members.{Among, among_any, any_among}
 use Rattle.match_explain.specs.LeafNames.{LeafNames}
 use Rattle.match_explain.specs.Bindings.{with_one, with_each, all_names, names_at, has_name}
 

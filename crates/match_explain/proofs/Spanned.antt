@@ -10,10 +10,10 @@ use Rattle.stream_schema.specs.declared.Event.{Event}
 use Rattle.cel_terms.specs.declared.Query.{Query}
 use Rattle.cel_terms.specs.Answers.{IsAnswer, IsAscending, IsOfSubstream, AreContiguous, WhereStrict, substream}
 use Rattle.cel_terms.proofs.Marked.{lies_selected, marks_within}
-use Rattle.cel_plain.specs.Below.{below, shares_at, substream_positions}
-use Rattle.cel_plain.proofs.Places.{below_rises, ascends as ascends_rising}
-use Rattle.cel_plain.proofs.Keys.{positions_from, positions_to}
-use Rattle.cel_plain.proofs.Windows.{window_to}
+use Rattle.cel_lists.specs.Below.{below, shares_at, substream_positions}
+use Rattle.cel_lists.proofs.Places.{below_rises, ascends as ascends_rising}
+use Rattle.cel_lists.proofs.Keys.{positions_from, positions_to}
+use Rattle.cel_lists.proofs.Windows.{window_to}
 use Rattle.query_leaves.specs.Expand.{tree_of}
 use Rattle.query_leaves.specs.Leaves.{occurrences}
 use Rattle.cea_determinise.specs.Runs.{has_mark}

@@ -6,7 +6,7 @@ use Rattle.cel_terms.specs.declared.Filter.{Filter, On, All', Any', Row_of-Filte
 use Rattle.cel_terms.specs.declared.Formula.{Formula, Of, Chain', Linked', Either', Post', Under', Row_of-Formula, end_of-Formula, more_of-Formula, Row_of-Link, end_of-Link, more_of-Link}
 use Rattle.cel_terms.specs.declared.Postfix.{Postfix}
 use Rattle.cel_terms.specs.declared.Link.{Link, out-Link}
-use Rattle.cel_plain.specs.Lists.{change}
+use Rattle.cel_lists.specs.Lists.{change}
 
 -- for each leaf its names
 abbrev pub LeafNames : Type 0

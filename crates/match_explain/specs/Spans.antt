@@ -6,7 +6,7 @@ use Rattle.stream_schema.specs.Types.{Declared}
 use Rattle.stream_schema.specs.declared.Event.{Event}
 use Rattle.cel_terms.specs.declared.Query.{Query}
 use Rattle.cel_terms.specs.Answers.{IsAscending}
-use Rattle.cel_plain.specs.Below.{is_in_window}
+use Rattle.cel_lists.specs.Below.{is_in_window}
 use Rattle.cea_determinise.specs.Runs.{has_mark}
 
 -- above the first of the marks, and below the last

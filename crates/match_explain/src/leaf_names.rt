@@ -4,7 +4,7 @@ ghost use Rattle.std.specs.Prelude.{◌≡◌, ◌++◌, [], ◌∷◌, map, fol
 ghost use Rattle.std.specs.List.{flat_map};
 ghost use Rattle.std.specs.Prelude.{bytes_eq};
 ghost use Rattle.cel_terms.specs.Meaning.{with_name, only_names};
-ghost use Rattle.cel_plain.specs.Lists.{change};
+ghost use Rattle.cel_lists.specs.Lists.{change};
 ghost use Rattle.match_explain.specs.LeafNames.{changed_leaves, copies, leaf_names, leaf_names_listed, leaf_names_linked};
 
 use cel_plain::found::copy_names;

@@ -1,7 +1,7 @@
 use Rattle.std.proofs.Common.{ap, sym, ◌∙◌, ℕ, List}
-use Rattle.cel_plain.specs.Lists.{matches_of}
-use Rattle.cel_plain.proofs.Exact.{if_ok}
-use Rattle.cel_plain.proofs.Answering.{are_answers}
+use Rattle.cel_lists.specs.Lists.{matches_of}
+use Rattle.cel_lists.proofs.Exact.{if_ok}
+use Rattle.cel_lists.proofs.Answering.{are_answers}
 use Rattle.cel_plain.proofs.answers.answers.Goals as goal
 
 pub returns : goal.returns

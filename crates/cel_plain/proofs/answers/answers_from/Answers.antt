@@ -1,7 +1,7 @@
 use Rattle.std.proofs.Common.{ap, sym, ◌∙◌, get_or, List, arith}
 use Rattle.cel_terms.specs.Answers.{Answer}
-use Rattle.cel_plain.specs.Below.{answer_of, with_new}
-use Rattle.cel_plain.proofs.Places.{answers_more}
+use Rattle.cel_lists.specs.Below.{answer_of, with_new}
+use Rattle.cel_lists.proofs.Places.{answers_more}
 use Rattle.cel_plain.proofs.answers.answers_from.Goals as goal
 
 pub loop-one-preserved : goal.loop-one-preserved

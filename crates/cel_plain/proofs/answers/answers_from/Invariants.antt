@@ -1,5 +1,5 @@
 use Rattle.std.proofs.Common.{◌≡◌, take}
-use Rattle.cel_plain.specs.Below.{answers_from}
+use Rattle.cel_lists.specs.Below.{answers_from}
 use Rattle.cel_plain.proofs.answers.answers_from.Given as goal
 
 abbrev pub invariant-loop-one : goal.invariant-loop-one

@@ -1,6 +1,6 @@
 use Rattle.std.proofs.Common.{ap, sym, ◌∙◌}
 use Rattle.std.specs.List.{list_all, list_any}
-use Rattle.cel_plain.specs.Lists.{meets}
+use Rattle.cel_lists.specs.Lists.{meets}
 use Rattle.cel_plain.proofs.Naming.{meets_all_is, meets_any_is}
 use Rattle.cel_plain.proofs.filter.+meets.Goals as goal
 

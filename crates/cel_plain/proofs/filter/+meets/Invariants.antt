@@ -1,6 +1,6 @@
 use Rattle.std.proofs.Common.{◌≡◌, true, false, take}
 use Rattle.std.specs.List.{list_all, list_any}
-use Rattle.cel_plain.specs.Lists.{meets}
+use Rattle.cel_lists.specs.Lists.{meets}
 use Rattle.cel_plain.proofs.filter.+meets.Given as goal
 
 abbrev pub invariant-meets_all-loop-filter : goal.invariant-meets_all-loop-filter

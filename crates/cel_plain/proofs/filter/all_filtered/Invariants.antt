@@ -1,6 +1,6 @@
 use Rattle.std.proofs.Common.{◌≡◌, take}
 use Rattle.std.specs.Prelude.{fold}
-use Rattle.cel_plain.specs.Lists.{filtered}
+use Rattle.cel_lists.specs.Lists.{filtered}
 use Rattle.cel_plain.proofs.filter.all_filtered.Given as goal
 
 abbrev pub invariant-loop-filter : goal.invariant-loop-filter

@@ -1,6 +1,6 @@
 use Rattle.std.proofs.Common.{◌≡◌, true, take}
 use Rattle.std.specs.List.{list_all}
-use Rattle.cel_plain.specs.Lists.{passes}
+use Rattle.cel_lists.specs.Lists.{passes}
 use Rattle.cel_plain.proofs.filter.all_pass.Given as goal
 
 abbrev pub invariant-loop-bound : goal.invariant-loop-bound

@@ -1,5 +1,5 @@
 use Rattle.std.proofs.Common.{◌≡◌, take}
-use Rattle.cel_plain.specs.Lists.{filtered}
+use Rattle.cel_lists.specs.Lists.{filtered}
 use Rattle.cel_plain.proofs.filter.filtered.Given as goal
 
 abbrev pub invariant-loop-found : goal.invariant-loop-found

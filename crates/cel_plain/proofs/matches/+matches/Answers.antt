@@ -1,7 +1,7 @@
 use Rattle.std.proofs.Common.{◌≡◌, ap, sym, subst, ◌∙◌, List}
 use Rattle.std.specs.Prelude.{IfOk}
-use Rattle.cel_plain.specs.declared.found.Match.{Match}
-use Rattle.cel_plain.specs.Lists.{matches_of, listed_chain, listed_links, listed_choices}
+use Rattle.cel_lists.specs.declared.Match.{Match}
+use Rattle.cel_lists.specs.Lists.{matches_of, listed_chain, listed_links, listed_choices}
 use Rattle.cel_plain.proofs.Rows.{chain_is, choices_are, links_are}
 use Rattle.cel_plain.proofs.matches.+matches.Goals as goal
 

@@ -1,5 +1,5 @@
 use Rattle.std.proofs.Common.{◌≡◌, take}
-use Rattle.cel_plain.specs.Lists.{listed_chain, listed_links, listed_choices}
+use Rattle.cel_lists.specs.Lists.{listed_chain, listed_links, listed_choices}
 use Rattle.cel_plain.proofs.matches.+matches.Given as goal
 
 abbrev pub invariant-chain-loop-i : goal.invariant-chain-loop-i

@@ -1,4 +1,4 @@
-use Rattle.cel_plain.proofs.Exact.{if_ok, are_matches}
+use Rattle.cel_lists.proofs.Exact.{if_ok, are_matches}
 use Rattle.cel_plain.proofs.matches.valuations.Goals as goal
 
 pub returns : goal.returns

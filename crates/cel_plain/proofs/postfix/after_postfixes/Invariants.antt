@@ -1,6 +1,6 @@
 use Rattle.std.proofs.Common.{◌≡◌, take}
 use Rattle.std.specs.Prelude.{fold}
-use Rattle.cel_plain.specs.Lists.{after_postfix}
+use Rattle.cel_lists.specs.Lists.{after_postfix}
 use Rattle.cel_plain.proofs.postfix.after_postfixes.Given as goal
 
 abbrev pub invariant-loop-postfix : goal.invariant-loop-postfix

@@ -1,6 +1,6 @@
 use Rattle.std.proofs.Common.{◌≡◌, ◌++◌, take}
 use Rattle.std.specs.List.{filter_map}
-use Rattle.cel_plain.specs.Lists.{join_if}
+use Rattle.cel_lists.specs.Lists.{join_if}
 use Rattle.cel_plain.proofs.sequence.add_joined.Given as goal
 
 abbrev pub invariant-loop-next : goal.invariant-loop-next

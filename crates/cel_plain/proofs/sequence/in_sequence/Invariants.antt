@@ -1,5 +1,5 @@
 use Rattle.std.proofs.Common.{◌≡◌, take}
-use Rattle.cel_plain.specs.Lists.{in_sequence}
+use Rattle.cel_lists.specs.Lists.{in_sequence}
 use Rattle.cel_plain.proofs.sequence.in_sequence.Given as goal
 
 abbrev pub invariant-loop-one : goal.invariant-loop-one

@@ -1,5 +1,5 @@
 use Rattle.std.proofs.Common.{◌≡◌}
-use Rattle.cel_plain.specs.Lists.{times, up_to}
+use Rattle.cel_lists.specs.Lists.{times, up_to}
 use Rattle.cel_plain.proofs.sequence.repetitions.Given as goal
 
 abbrev pub invariant-loop-round : goal.invariant-loop-round

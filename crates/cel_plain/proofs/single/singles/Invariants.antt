@@ -1,5 +1,5 @@
 use Rattle.std.proofs.Common.{◌≡◌, take}
-use Rattle.cel_plain.specs.Lists.{singles}
+use Rattle.cel_lists.specs.Lists.{singles}
 use Rattle.cel_plain.proofs.single.singles.Given as goal
 
 abbrev pub invariant-loop-position : goal.invariant-loop-position

@@ -1,5 +1,5 @@
 use Rattle.std.proofs.Common.{◌≡◌}
-use Rattle.cel_plain.specs.Below.{below, shares_at}
+use Rattle.cel_lists.specs.Below.{below, shares_at}
 use Rattle.cel_plain.proofs.substream.positions_with.Given as goal
 
 abbrev pub invariant-loop-position : goal.invariant-loop-position

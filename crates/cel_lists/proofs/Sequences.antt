@@ -8,9 +8,9 @@ use Rattle.stream_schema.specs.declared.Event.{Event}
 use Rattle.cel_terms.specs.Meaning.{Meaning, Valuation, MayFollow, Sequence, Repeated, once, again}
 use Rattle.cel_terms.specs.Laws.{stream_of}
 use Rattle.cel_terms.proofs.Operations.{Within}
-use Rattle.cel_plain.specs.declared.found.Match.{Match}
-use Rattle.cel_plain.specs.Lists.{is_between, may_follow, joined, join_if, in_sequence, times, up_to}
-use Rattle.cel_plain.proofs.Members.{Among, contains_from, among_from, among_left, among_right, among_cases, among_filter_map, filter_map_among, among_flat_map, flat_map_among, any_among, among_any}
+use Rattle.cel_lists.specs.declared.Match.{Match}
+use Rattle.cel_lists.specs.Lists.{is_between, may_follow, joined, join_if, in_sequence, times, up_to}
+use Rattle.cel_lists.proofs.Members.{Among, contains_from, among_from, among_left, among_right, among_cases, among_filter_map, filter_map_among, among_flat_map, flat_map_among, any_among, among_any}
 
 -- the valuations with their intervals that are in the list
 abbrev pub In : List Match → Meaning

@@ -14,10 +14,10 @@ use Rattle.cel_terms.specs.declared.Query.{Query}
 use Rattle.cel_terms.specs.Predicate.{attr_value}
 use Rattle.cel_terms.specs.Answers.{query_types, values_at, IsOfSubstream}
 use Rattle.cel_terms.specs.Reading.{query_reads}
-use Rattle.cel_plain.specs.Below.{below, both_same, same_attr, shares, shares_at, substream_positions}
-use Rattle.cel_plain.proofs.Members.{Among, contains_from, among_from, any_among, among_any}
-use Rattle.cel_plain.proofs.Sequences.{and_from, and_to}
-use Rattle.cel_plain.proofs.Places.{below_to, below_from}
+use Rattle.cel_lists.specs.Below.{below, both_same, same_attr, shares, shares_at, substream_positions}
+use Rattle.cel_lists.proofs.Members.{Among, contains_from, among_from, any_among, among_any}
+use Rattle.cel_lists.proofs.Sequences.{and_from, and_to}
+use Rattle.cel_lists.proofs.Places.{below_to, below_from}
 
 both_from : (o p : Option Value) → both_same o p ≡ true → (v : Value) × (o ≡ Some v) × (p ≡ Some v)
 both_from None None e = absurd cc

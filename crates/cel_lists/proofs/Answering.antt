@@ -1,4 +1,4 @@
--- The answers that are computed are exactly those of the query, each once.
+-- The answers that are computed are exactly those of the query, each once. For callers of the crate too.
 use Rattle.std.proofs.Common.{◌≡◌, refl, sym, ap, ap₂, subst, ◌∙◌, ℕ, ◌<◌, ◌⊎◌, inl, inr, Bool, true, false, ◌&&◌, List, [], ◌∷◌, ◌++◌, length, Option, Some, None, arith}
 use Rattle.std.specs.Prelude.{◌==◌, if◌then◌else◌, Contains, fold}
 use Rattle.std.specs.List.{list_any}
@@ -14,18 +14,18 @@ use Rattle.cel_terms.specs.Meaning.{Stream, Valuation, meaning}
 use Rattle.cel_terms.specs.Answers.{Answer, IsAnswer, HasMarks, AreMarks, IsOfSubstream, selected, substream, AreAnswersAt}
 use Rattle.cel_terms.specs.Laws.{stream_of}
 use Rattle.cel_terms.proofs.Marked.{Binds, bound_within, lies_selected}
-use Rattle.cel_plain.specs.declared.found.Match.{Match}
-use Rattle.cel_plain.specs.Lists.{matches_of}
-use Rattle.cel_plain.specs.Below.{substream_positions, marks_of, is_in_window, is_strict_enough, answer_of, same_answer, with_new, answers_from}
+use Rattle.cel_lists.specs.declared.Match.{Match}
+use Rattle.cel_lists.specs.Lists.{matches_of}
+use Rattle.cel_lists.specs.Below.{substream_positions, marks_of, is_in_window, is_strict_enough, answer_of, same_answer, with_new, answers_from}
 use Rattle.cer_base.specs.Repeats.{HasNoRepeats}
-use Rattle.cel_plain.proofs.Members.{Among, contains_from, among_from, among_left, among_right, among_cases, any_among, among_any}
-use Rattle.cel_plain.proofs.Sequences.{and_from, and_to}
-use Rattle.cel_plain.proofs.Places.{rises, one_list}
-use Rattle.cel_plain.proofs.Keys.{positions_from, positions_to}
-use Rattle.cel_plain.proofs.Agreement.{agrees}
-use Rattle.cel_plain.proofs.Exact.{exact}
-use Rattle.cel_plain.proofs.Windows.{window_from, window_to}
-use Rattle.cel_plain.proofs.Marking.{left_by, are_marks, strict_from, strict_to}
+use Rattle.cel_lists.proofs.Members.{Among, contains_from, among_from, among_left, among_right, among_cases, any_among, among_any}
+use Rattle.cel_lists.proofs.Sequences.{and_from, and_to}
+use Rattle.cel_lists.proofs.Places.{rises, one_list}
+use Rattle.cel_lists.proofs.Keys.{positions_from, positions_to}
+use Rattle.cel_lists.proofs.Agreement.{agrees}
+use Rattle.cel_lists.proofs.Exact.{exact}
+use Rattle.cel_lists.proofs.Windows.{window_from, window_to}
+use Rattle.cel_lists.proofs.Marking.{left_by, are_marks, strict_from, strict_to}
 
 -- equal answers
 same_from : (a b : Answer) → same_answer a b ≡ true → a ≡ b
@@ -217,3 +217,11 @@ are_answers schema q events end positions ms answers p m a =
     from_gathered : (x : Answer) → Among x [] ⊎ ((y : Match) × Among y (matches_of schema events (substream_positions schema q events end) q.formula) × (answer_of schema q events (substream_positions schema q events end) end y ≡ Some x)) → IsAnswer schema q events end x
     from_gathered x (inl h) = absurd h
     from_gathered x (inr r) = answer_from schema q events end r.0 x r.1 r.2
+
+-- So each query has such a list.
+pub some_answers_are : (schema : Declared) (q : Query) (events : List Event) (end : ℕ) → (answers : List Answer) × AreAnswersAt schema q events end answers
+some_answers_are schema q events end =
+    let positions = substream_positions schema q events end in
+    let ms = matches_of schema events positions q.formula in
+    let answers = answers_from schema q events positions end ms in
+    (answers, are_answers schema q events end positions ms answers refl refl refl)

@@ -13,7 +13,7 @@ use Rattle.cel_terms.specs.declared.Formula.{Formula, Of, Chain', Linked', Eithe
 use Rattle.cel_terms.specs.declared.Link.{Link, out-Link}
 use Rattle.cel_terms.specs.Predicate.{holds}
 use Rattle.cel_terms.specs.Meaning.{Bound, Valuation, event_type_name, lists_name, with_name, only_names}
-use Rattle.cel_plain.specs.declared.found.Match.{Match}
+use Rattle.cel_lists.specs.declared.Match.{Match}
 
 abbrev pub is_between : ℕ → ℕ → ℕ → Bool
 is_between from to p = nat_lt from p && nat_lt p to

@@ -1,6 +1,6 @@
 -- The matches of a formula are exactly its valuations.
 use Rattle.std.proofs.Common.{◌≡◌, refl, sym, ap, subst, ◌∙◌, ℕ, ◌≤◌, ◌⊎◌, inl, inr, Bool, true, false, List, [], ◌∷◌, ◌++◌, map, Option, Some, None, length, arith}
-use Rattle.cel_plain.specs.Valuations.{AreMatchesOf}
+use Rattle.cel_lists.specs.Valuations.{AreMatchesOf}
 use Rattle.std.specs.Prelude.{Result, Ok, Err, IfOk, slice_get, bytes_eq, fold}
 use Rattle.std.specs.Option.{option_map_or}
 use Rattle.stream_schema.specs.Types.{Declared}
@@ -15,11 +15,11 @@ use Rattle.std.proofs.lemmas.Slice.Eq.{bytes_eq-Decides}
 use Rattle.cel_terms.proofs.Operations.{Within, Moves-refl, sequence_within, repeated_within}
 use Rattle.cel_terms.proofs.Induction.{Every, Always, every_postfix}
 use Rattle.cel_terms.proofs.Intervals.{Lies, lies, lies_kept}
-use Rattle.cel_plain.specs.declared.found.Match.{Match}
-use Rattle.cel_plain.specs.Lists.{change, changed, is_of_type, single, single_at, singles, meets, filtered, in_sequence, up_to, after_postfix, matches_of, matches_of_first, matches_of_chain, matches_of_links, matches_of_choices}
-use Rattle.cel_plain.proofs.Members.{Among, contains_from, among_from, among_left, among_right, among_cases, among_map, map_among, among_filter_map, filter_map_among, among_filter, filter_among}
-use Rattle.cel_plain.proofs.Sequences.{In, if_to, if_from, sequence_in, in_sequence_means, up_to_repeat, repeat_up_to}
-use Rattle.cel_plain.proofs.Meets.{meets_from, meets_to}
+use Rattle.cel_lists.specs.declared.Match.{Match}
+use Rattle.cel_lists.specs.Lists.{change, changed, is_of_type, single, single_at, singles, meets, filtered, in_sequence, up_to, after_postfix, matches_of, matches_of_first, matches_of_chain, matches_of_links, matches_of_choices}
+use Rattle.cel_lists.proofs.Members.{Among, contains_from, among_from, among_left, among_right, among_cases, among_map, map_among, among_filter_map, filter_map_among, among_filter, filter_among}
+use Rattle.cel_lists.proofs.Sequences.{In, if_to, if_from, sequence_in, in_sequence_means, up_to_repeat, repeat_up_to}
+use Rattle.cel_lists.proofs.Meets.{meets_from, meets_to}
 
 -- The list has exactly the valuations of the meaning.
 pub record Same (part : Meaning) (ms : List Match) : Type 0 where

@@ -10,9 +10,9 @@ use Rattle.cel_terms.specs.declared.Filter.{Filter, On, All', Any', Row_of-Filte
 use Rattle.cel_terms.specs.Predicate.{holds}
 use Rattle.cel_terms.specs.Meaning.{Valuation, lists_name, AllHold, Meets, MeetsAll, MeetsAny}
 use Rattle.cel_terms.specs.Laws.{stream_of}
-use Rattle.cel_plain.specs.Lists.{passes, meets, meets_all, meets_any}
-use Rattle.cel_plain.proofs.Members.{or_here, or_later, or_cases}
-use Rattle.cel_plain.proofs.Sequences.{and_from, and_to}
+use Rattle.cel_lists.specs.Lists.{passes, meets, meets_all, meets_any}
+use Rattle.cel_lists.proofs.Members.{or_here, or_later, or_cases}
+use Rattle.cel_lists.proofs.Sequences.{and_from, and_to}
 
 passes_from : (test : Event → Bool) (named : Bool) (found : Option Event) → (not named || option_map_or test found true) ≡ true → named ≡ true → (event : Event) → found ≡ Some event → IsTrue (test event)
 passes_from test false found e n event is = absurd cc

@@ -7,9 +7,9 @@ use Rattle.stream_schema.specs.Types.{Declared}
 use Rattle.stream_schema.specs.declared.Event.{Event}
 use Rattle.cel_terms.specs.declared.Query.{Query}
 use Rattle.cel_terms.specs.Answers.{IsAscending}
-use Rattle.cel_plain.specs.declared.found.Match.{Match}
-use Rattle.cel_plain.specs.Below.{below, with_new, answer_of, answers_from}
-use Rattle.cel_plain.proofs.Members.{Among, among_left, among_right, among_cases}
+use Rattle.cel_lists.specs.declared.Match.{Match}
+use Rattle.cel_lists.specs.Below.{below, with_new, answer_of, answers_from}
+use Rattle.cel_lists.proofs.Members.{Among, among_left, among_right, among_cases}
 
 pub answers_more : (schema : Declared) (q : Query) (events : List Event) (positions : List ℕ) (end : ℕ) (ms : List Match) (i : ℕ) (d : Match) → i < length ms → answers_from schema q events positions end (take (i + 1) ms) ≡ with_new (answers_from schema q events positions end (take i ms)) (answer_of schema q events positions end (get_or ms i d))
 answers_more schema q events positions end ms i d less = fold_more (λ found m. with_new found (answer_of schema q events positions end m)) [] ms i d less

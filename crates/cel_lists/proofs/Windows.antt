@@ -13,8 +13,8 @@ use Rattle.cel_terms.specs.declared.Window.{Window}
 use Rattle.cel_terms.specs.declared.Window.TheVariants.{Free, Events, Clock}
 use Rattle.cel_terms.specs.Predicate.{attr_value}
 use Rattle.cel_terms.specs.Answers.{HasClock, WithinWidth, IsInWindow}
-use Rattle.cel_plain.specs.Below.{are_close, window_holds, is_in_window}
-use Rattle.cel_plain.proofs.Keys.{some_from}
+use Rattle.cel_lists.specs.Below.{are_close, window_holds, is_in_window}
+use Rattle.cel_lists.proofs.Keys.{some_from}
 
 record Clocks (schema : Declared) (w : Window) (first last : Event) (start end : ℕ) : Type 0 where
   from : ℤ

@@ -10,10 +10,10 @@ use Rattle.cel_terms.specs.Meaning.{Bound, Valuation, lists_name, only_names}
 use Rattle.cel_terms.specs.Answers.{is_bound, AreMarks, AreContiguous, WhereStrict}
 use Rattle.cel_terms.proofs.Induction.{renamed}
 use Rattle.cel_terms.proofs.Marked.{Binds, any_from_binds, binds_from_any}
-use Rattle.cel_plain.specs.Below.{is_kept, marks_at, is_mark, marks_of, is_inside, is_contiguous, is_strict_enough}
-use Rattle.cel_plain.proofs.Members.{Among, contains_from, among_from, any_among, among_any, or_here, or_later, or_cases}
-use Rattle.cel_plain.proofs.Sequences.{and_from, and_to}
-use Rattle.cel_plain.proofs.Places.{below_to, below_from, below_rises, ascends}
+use Rattle.cel_lists.specs.Below.{is_kept, marks_at, is_mark, marks_of, is_inside, is_contiguous, is_strict_enough}
+use Rattle.cel_lists.proofs.Members.{Among, contains_from, among_from, any_among, among_any, or_here, or_later, or_cases}
+use Rattle.cel_lists.proofs.Sequences.{and_from, and_to}
+use Rattle.cel_lists.proofs.Places.{below_to, below_from, below_rises, ascends}
 
 named_if : (b : Bool) (n : List ℕ) (ns : List (List ℕ)) → is_bound (cond b (n ∷ ns) ns) ≡ (b || is_bound ns)
 named_if true n ns = refl

@@ -13,7 +13,7 @@ pub data Reaches (nodes : List Node) (roots : List ℕ) : ℕ → Type 0 where
   Left : (id l r k : ℕ) (m q : Stamp) → slice_get nodes id ≡ Some (Union l r k m q) → Reaches nodes roots id → Reaches nodes roots l
   Right : (id l r k : ℕ) (m q : Stamp) → slice_get nodes id ≡ Some (Union l r k m q) → Reaches nodes roots id → Reaches nodes roots r
 
--- likewise, but by no right child that is too old
+-- The node is needed: it is reached from the roots by no right child that is too old.
 pub data Needs (low : ℤ) (nodes : List Node) (roots : List ℕ) : ℕ → Type 0 where
   Root : (id : ℕ) → Contains roots id → Needs low nodes roots id
   Child : (id p c k : ℕ) (m : Stamp) → slice_get nodes id ≡ Some (Output p c m k) → Needs low nodes roots id → Needs low nodes roots c

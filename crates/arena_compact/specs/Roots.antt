@@ -22,7 +22,7 @@ ids_of es = map (λ e. e.id) es
 abbrev pub row_roots : ℤ → List (ℕ × List Root) → List ℕ
 row_roots low rows = flat_map (λ (r : ℕ × List Root). ids_of (recent_entries low r.1)) rows
 
--- likewise of all keys' lists
+-- the roots of all keys' lists
 abbrev pub key_roots : ℤ → List (List (ℕ × List Root)) → List ℕ
 key_roots low keys = flat_map (row_roots low) keys
 

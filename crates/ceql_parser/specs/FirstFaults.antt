@@ -23,7 +23,7 @@ abbrev pub unless : Bool → QueryFault → Place → Option QueryError
 unless true fault place = None
 unless false fault place = Some (record { fault = fault; place = place })
 
--- the same with a name, which is told with the fault, and whose place it is
+-- no fault where it passes, else the fault with the name, at the name's place
 abbrev pub unless_named : Bool → (List ℕ → QueryFault) → Name → Option QueryError
 unless_named passes fault name = unless passes (fault name.text) name.place
 

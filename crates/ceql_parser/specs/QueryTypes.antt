@@ -9,7 +9,7 @@ use Rattle.cel_terms.specs.Meaning.{lists_name}
 pub record HaveSameNumbers (numbers others : List ℕ) : Type 0 where
   pub at : (test : ℕ → Bool) → list_any test numbers ≡ list_any test others
 
--- the same of types
+-- two lists of types have the same ones, by any test
 pub record HaveSameTypes (types others : List DeclaredType) : Type 0 where
   pub at : (test : DeclaredType → Bool) → list_any test types ≡ list_any test others
 

@@ -19,7 +19,7 @@ is_within Free from last = true
 is_within (Events n) from last = not (int_lt (from +ℤ pos n) last)
 is_within (Clock name n) from last = not (int_lt (from +ℤ n) last)
 
--- the same, where the first is there; before any last one all are
+-- whether an event's clock, where it has one, is within the window of the last clock; before any last one all are
 abbrev pub are_within : Window → Option ℤ → Option ℤ → Bool
 are_within window (Some from) (Some last) = is_within window from last
 are_within window (Some from) None = true
@@ -37,7 +37,7 @@ is_needed schema queries events e = list_any (needs schema events e) queries
 abbrev pub kept : Declared → List Query → List EventAt → List EventAt
 kept schema queries events = filter (is_needed schema queries events) events
 
--- the same from the last clocks of the queries
+-- whether some query needs the event, from the last clocks of the queries
 abbrev pub any_needs : Declared → List Query → List (Option ℤ) → EventAt → Bool
 any_needs schema [] lasts e = false
 any_needs schema (q ∷ queries) [] e = false

@@ -24,7 +24,7 @@ pub record AreGoodBefore (schema : Declared) (queries : List Query) (bytes rest 
   pub told : Told
   pub good : told_by schema queries texts ≡ Ok told
 
--- the same of a source that tells what it has left
+-- the first lines of a text, which a source that tells what it has left no longer has, are not refused
 abbrev pub AreGoodRead : Declared → List Query → List ℕ → Option (List ℕ) → Type 0
 AreGoodRead schema queries bytes None = ⊥
 AreGoodRead schema queries bytes (Some rest) = AreGoodBefore schema queries bytes rest

@@ -23,7 +23,7 @@ use stream_schema::{Event, Schema};
 pub enum Awaited {
     Header,
     Counts,
-    /// That of a position, or none where all events were told.
+    /// The line of a position, or none where all events were told.
     Position,
     /// The event at this position.
     EventOf(Pos),
@@ -145,7 +145,7 @@ pub fn take_line(
     }
 }
 
-/// The same of a line that is no event's, after so many events.
+/// Takes a line that is no event's, after so many events.
 fn take_words(stand: &mut Stand, count: u64, text: &[u8]) -> Result<(), OrMemory<CheckpointFault>>
     ensures told { OnOk result (words_after stand.old stand.old.awaited count text.now
         ≡ Ok stand.new) }
@@ -161,7 +161,7 @@ fn take_words(stand: &mut Stand, count: u64, text: &[u8]) -> Result<(), OrMemory
     }
 }
 
-/// The same of the line of the event at the position.
+/// Takes the line of the event at the position.
 fn take_event(
     alloc: Global,
     schema: &Schema,

@@ -16,11 +16,11 @@ repeated id = record (new_rule id) { action = Some Append }
 abbrev pub option : Text → Rule
 option id = record (new_rule id) { long = Some id }
 
--- the same, where the value is a whole number from the least to the most
+-- the argument, where its value is a whole number from the least to the most
 abbrev pub numbered : ℕ → ℕ → Rule → Rule
 numbered least most rule = record rule { parser = Some (Unsigned least most) }
 
--- the same, where the value is a whole number of 64 bits
+-- the argument, where its value is a whole number of 64 bits
 abbrev pub whole : Rule → Rule
 whole rule = numbered 0 18446744073709551615 rule
 

@@ -57,7 +57,7 @@ fn command_named(
     other_named(alloc, name, found)
 }
 
-/// The same of the names that are not a run's, a sample's or a session's.
+/// The command of a name that is not a run's, a reordered run's, a sample's or a session's.
 fn other_named(
     alloc: Global,
     name: &str,

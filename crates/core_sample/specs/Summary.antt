@@ -27,7 +27,7 @@ pub record IsToldOf (seed count : ℕ) (q : Query) (number total : ℕ) : Type 0
   pub number_is : number ≡ answers % 2 ^ 64
   pub total_is : total ≡ weight % 2 ^ 64
 
--- the same of both queries
+-- The numbers and sums are those of both queries.
 pub record AreToldOf (seed count first_number first_total second_number second_total : ℕ) : Type 0 where
   pub first : Query
   pub second : Query

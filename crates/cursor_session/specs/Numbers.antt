@@ -12,6 +12,6 @@ is_command_number digits = nat_lt 0 (length digits) && nat_le (length digits) MO
 abbrev pub command_number : List ℕ → Option ℕ
 command_number digits = if is_command_number digits then Some (digits_value 10 digits) else None
 
--- the same, where it is from 1 to so many
+-- the number that the digits write, where it is from 1 to so many
 abbrev pub one_of : ℕ → List ℕ → Option ℕ
 one_of most digits = option_and_then (λ n. if nat_le 1 n && nat_le n most then Some n else None) (command_number digits)

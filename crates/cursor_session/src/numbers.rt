@@ -26,7 +26,7 @@ pub fn command_number(digits: &[u8]) -> Option<u64>
     value_of(digits)
 }
 
-/// The same, where it is from 1 to so many.
+/// The number that the digits write, where it is from 1 to so many.
 pub fn one_of(most: u64, digits: &[u8]) -> Option<u64>
     ensures { result ≡ one_of most digits.now }
 {

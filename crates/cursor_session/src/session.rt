@@ -104,7 +104,7 @@ impl Session {
         Session::seeded(alloc, Seed::default(), schema, queries)
     }
 
-    /// The same over an engine whose tables hash by the seed. No answer depends on it.
+    /// A new session over an engine whose tables hash by the seed. No answer depends on it.
     pub fn seeded(
         alloc: Global,
         seed: Seed,

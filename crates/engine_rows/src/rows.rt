@@ -49,7 +49,7 @@ pub fn engine_of(alloc: Global, text: &str) -> Result<Engine, RowFault> {
     seeded_engine_of(alloc, Seed::default(), text)
 }
 
-/// The same, with tables that hash by the seed.
+/// An engine for the text, with tables that hash by the seed.
 pub fn seeded_engine_of(alloc: Global, seed: Seed, text: &str) -> Result<Engine, RowFault> {
     match read_queries(alloc, text.as_bytes()) {
         Ok(Accepted { schema, queries }) => Ok(Engine::seeded(alloc, seed, schema, queries)?),

@@ -93,7 +93,7 @@ pub record IsWalked (text : List ℕ) (state : FieldState) (cell rest : List ℕ
   pub cells : cells_from Start [] text ≡ cells_from state cell rest
   pub ends : ends_inside Start text ≡ ends_inside state rest
 
--- The same outside of quotes, which are not opened there, before the bytes behind so many of the text.
+-- So far the field stands outside of quotes, which are not opened there, before the bytes behind so many of the text.
 pub record IsPlainFrom (text cell : List ℕ) (from : ℕ) : Type 0 where
   pub within : from ≤ length text
   pub walked : IsWalked text Plain cell (drop from text)

@@ -55,7 +55,7 @@ pub record HasRead (reader : LineReader) (bytes left : List ℕ) (texts : List (
   pub texts_are : unmarked lines ≡ texts
   pub rest : lines_from reader.budget 1 [] bytes reader.budget ≡ followed_by lines (to_come reader left)
 
--- the same of a source that tells its bytes; it holds of no other
+-- what a reader has given of a source that tells its bytes; it holds of no other
 abbrev pub HasGiven : LineReader → List ℕ → Option (List ℕ) → List (List ℕ) → Type 0
 HasGiven reader bytes None texts = ⊥
 HasGiven reader bytes (Some left) texts = HasRead reader bytes left texts

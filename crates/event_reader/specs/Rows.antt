@@ -13,7 +13,7 @@ TellsEvent held (Ok false) given = given ≡ Ok None
 TellsEvent held (Err (Fault fault)) given = given ≡ Err fault
 TellsEvent held (Err Memory) given = given ≢ Ok None
 
--- The same of an answer that has the number of the event's type, where these are its values.
+-- An answer that has the number of the event's type, where these are its values, tells what the line gives.
 abbrev pub TellsType : List Value → Result (Option ℕ) (OrMemory EventFault) → Result (Option Event) EventFault → Type 0
 TellsType values (Ok (Some ty)) given = given ≡ Ok (Some (record { ty = ty; values = values }))
 TellsType values (Ok None) given = given ≡ Ok None

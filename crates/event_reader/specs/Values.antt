@@ -44,7 +44,7 @@ abbrev pub scaled_by : ℕ → Bool → List ℕ → Option ℤ
 scaled_by places minus text =
     if is_decimal places (has_point text) (before_first is_point text) (after_first is_point text) then signed minus (digits_value 10 (digits_of places (before_first is_point text) (after_first is_point text))) else None
 
--- the same of a field, which may have a sign
+-- the number of so many places that a field, which may have a sign, stands for
 abbrev pub scaled : ℕ → List ℕ → Option ℤ
 scaled places field = scaled_by places (starts_with_minus field) (without_leading_sign field)
 

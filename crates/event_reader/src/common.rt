@@ -75,7 +75,7 @@ fn cell_end(text: &[u8]) -> Option<usize>
     Some(text.len())
 }
 
-/// The same, unless it has a quote, a carriage return or a byte of 128 or more.
+/// Where the field ends, unless it has a quote, a carriage return or a byte of 128 or more.
 #[inline]
 #[tactic(auto, using(crate::proofs::Texts::ascii_more))]
 fn ascii_end(text: &[u8]) -> Option<usize>
@@ -139,7 +139,7 @@ pub fn fit(values: &mut Vec<Value>, len: usize) -> bool
     refill(values, len)
 }
 
-/// The same, of a list of another length.
+/// Makes a list of another length one of so many values.
 #[inline(never)]
 fn refill(values: &mut Vec<Value>, len: usize) -> bool
     ensures { result ≡ true → length values.new.items ≡ len }
@@ -191,7 +191,7 @@ fn read_field(alloc: Global, kind: Kind, text: &[u8], value: &mut Value) -> Opti
     }
 }
 
-/// The same of a whole number.
+/// Puts a whole number at the beginning of the text into the value, and says where it ends.
 #[inline(always)]
 fn read_number(text: &[u8], value: &mut Value) -> Option<usize>
     ensures { IfSome result (λ end. IsFieldUpTo kind.Int text.now value.new end) }
@@ -203,7 +203,7 @@ fn read_number(text: &[u8], value: &mut Value) -> Option<usize>
     Some(end)
 }
 
-/// The same of a whole number that may have a sign.
+/// Puts a whole number that may have a sign into the value, and says where it ends.
 #[inline(never)]
 fn read_signed(text: &[u8], value: &mut Value) -> Option<usize>
     ensures { IfSome result (λ end. IsFieldUpTo kind.Int text.now value.new end) }
@@ -246,7 +246,8 @@ fn read_digits(text: &[u8]) -> Option<(u64, usize)>
     if most == 0 { None } else { Some((size, most)) }
 }
 
-/// The same of a text. Bytes that are all below 128 are one, so that they are gone through once.
+/// Puts a text into the value. Bytes that are all below 128 are one, so that they are gone through
+/// once.
 #[inline(never)]
 fn read_text(alloc: Global, text: &[u8], value: &mut Value) -> Option<usize>
     ensures { IfSome result (λ end. IsFieldUpTo kind.Text text.now value.new end) }
@@ -261,7 +262,7 @@ fn read_text(alloc: Global, text: &[u8], value: &mut Value) -> Option<usize>
     }
 }
 
-/// The same, whatever the bytes of the text are.
+/// Puts a text into the value, whatever its bytes are.
 #[inline(never)]
 fn read_any_text(alloc: Global, text: &[u8], value: &mut Value) -> Option<usize>
     ensures { IfSome result (λ end. IsFieldUpTo kind.Text text.now value.new end) }
@@ -276,7 +277,7 @@ fn read_any_text(alloc: Global, text: &[u8], value: &mut Value) -> Option<usize>
     }
 }
 
-/// The same of a field of any kind.
+/// Puts a field of any kind into the value.
 #[inline(never)]
 fn read_other(alloc: Global, kind: Kind, text: &[u8], value: &mut Value) -> Option<usize>
     ensures { IfSome result (λ end. IsFieldUpTo kind text.now value.new end) }

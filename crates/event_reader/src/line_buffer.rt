@@ -209,7 +209,7 @@ impl LineBuffer {
         self.seek_on(source, room)
     }
 
-    /// The same, in as many steps as it takes.
+    /// Seeks the end of the line, in as many reads as it takes.
     #[inline(never)]
     fn seek_on<Q: Source>(&mut self, source: &mut Q, room: u64) -> Result<Stop, Failed>
         requires { length self.old.pending ≤ room }

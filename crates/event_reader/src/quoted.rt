@@ -175,7 +175,7 @@ fn put_value(alloc: Global, kind: Kind, field: &[u8], value: &mut Value) -> bool
     }
 }
 
-/// The same of a whole number.
+/// Puts the whole number of the field into the value, and says whether it is one.
 fn put_whole(field: &[u8], value: &mut Value) -> bool
     ensures { result ≡ true → value_of kind.Int field.now ≡ Some value.new }
 {
@@ -188,7 +188,7 @@ fn put_whole(field: &[u8], value: &mut Value) -> bool
     }
 }
 
-/// The same of any kind.
+/// Puts the value of the field, of any kind, into the value, and says whether it is one.
 fn put_other(alloc: Global, kind: Kind, field: &[u8], value: &mut Value) -> bool
     ensures { result ≡ true → value_of kind field.now ≡ Some value.new }
 {
@@ -220,7 +220,7 @@ fn part_at(text: &[u8]) -> Option<Part>
     })
 }
 
-/// The same, where a quote stands before the text.
+/// The field at the beginning of a text before which a quote stands.
 fn quoted_part(text: &[u8]) -> Option<Part>
     ensures { IfSome result (λ part. IsPart (QUOTE ∷ text.now) part.start part.stop part.end) }
 {

@@ -91,7 +91,7 @@ impl Row {
         self.read_line(alloc, schema, text)
     }
 
-    /// The same, but for what is said of the schema.
+    /// Reads the event of the line. Nothing is said of the schema.
     #[inline(always)]
     fn read_line(
         &mut self,
@@ -115,7 +115,7 @@ impl Row {
         self.read_any(alloc, schema, line)
     }
 
-    /// The same of any line without its end.
+    /// Reads the event of any line without its end.
     #[cold]
     #[inline(never)]
     fn read_any(

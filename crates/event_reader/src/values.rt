@@ -50,7 +50,7 @@ pub fn put_text(alloc: Global, field: &[u8], held: &mut Value) -> bool
     }
 }
 
-/// The same of a field whose bytes are all below 128, which makes them a text.
+/// The value of a field whose bytes are all below 128, which makes them a text.
 #[inline]
 #[tactic(auto, using(crate::proofs::Texts::ascii_is))]
 pub fn put_ascii(alloc: Global, field: &[u8], held: &mut Value) -> bool

@@ -49,7 +49,7 @@ pub record AreEventsBeforeRest (before : List Event) (schema : Declared) (querie
   pub cut : IsCutOff most_bytes bytes rest texts
   pub good : AreEventsAfter schema queries before texts events
 
--- the same of a source that tells what it has left
+-- these are the events of the lines that a source, which tells what it has left, no longer has
 abbrev pub AreEventsReadAfter : List Event → Declared → List Query → ℕ → List ℕ → Option (List ℕ) → List Event → Type 0
 AreEventsReadAfter before schema queries most_bytes bytes None events = ⊥
 AreEventsReadAfter before schema queries most_bytes bytes (Some rest) events = AreEventsBeforeRest before schema queries most_bytes bytes rest events

@@ -24,7 +24,7 @@ pub enum Last {
 }
 
 impl Last {
-    /// The same when the next event is passed over.
+    /// What it is when the next event is passed over.
     pub fn passed(self) -> Last
         ensures { result ≡ passed self }
     {

@@ -36,7 +36,7 @@ fn slot(values: &[Value]) -> usize {
     (number % HINTS) as usize
 }
 
-/// The same for the key of the values at the places.
+/// The slot of the key of the values at the places.
 pub fn slot_at(places: &[u64], values: &[Value]) -> usize {
     let mut number: u64 = 0;
     for place in places {
@@ -52,7 +52,7 @@ fn no_hints(alloc: Global) -> Result<Vec<u64>, Memory> {
     Ok(vec![in alloc; 0; HINTS as usize]?)
 }
 
-/// The same, where there are no hints yet.
+/// Makes room for hints, where there are none yet.
 pub fn make_hints(alloc: Global, hints: &mut Vec<u64>) -> Result<(), Memory> {
     if hints.is_empty() {
         *hints = no_hints(alloc)?;

@@ -207,7 +207,7 @@ pub fn hold_by(range: &Range, checks: &Option<Vec<Check>>, tests: &[Test], event
     each_holds(tests, event)
 }
 
-/// That of a leaf's tests.
+/// The sieve of a leaf's tests.
 fn sieve_of(alloc: Global, tests: &[Test]) -> Result<Sieve, Memory>
     ensures { IfOk result (IsSieve tests.now) }
 {
@@ -216,7 +216,7 @@ fn sieve_of(alloc: Global, tests: &[Test]) -> Result<Sieve, Memory>
     Ok(Sieve { range, checks })
 }
 
-/// That of each leaf, by the leaf's number.
+/// The sieve of each leaf, by the leaf's number.
 pub fn sieves_of(alloc: Global, list: &[Leaf]) -> Result<Vec<Sieve>, Memory>
     ensures { IfOk result (λ sieves. AreSieves list.now sieves.items) }
 {

@@ -106,7 +106,7 @@ fn holds(test: &Test, event: &Event) -> bool
     }
 }
 
-/// The same. A comparison is made here.
+/// Whether the test holds of the event. A comparison is made here.
 fn holds_flat(test: &Test, event: &Event) -> bool
     ensures { result ≡ test_holds test.now event.now }
 {

@@ -147,7 +147,7 @@ fn numbers_over(first: &Value, last: &Value, op: Op, literal: &Value) -> Outcome
     }
 }
 
-/// The same, where the literal may be of any kind.
+/// What a comparison may come to between two values, where the literal may be of any kind.
 fn ends_over(first: &Value, last: &Value, op: Op, literal: &Value) -> Outcome
     ensures { (value : ValueData) → IsBetween first.now value last.now
         → allows result (value_meets op value literal.now) ≡ true }

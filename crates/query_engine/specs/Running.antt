@@ -24,7 +24,7 @@ pub record IsRunning (schema : Declared) (count : ℕ) (parts : List Phase) (pea
   pub quiet : All (IsQuiet count) parts
   pub peaks_are : length peaks ≡ length parts
 
--- The same of parts as they are kept, some of which the last events passed by, and which have no clocks.
+-- The parts as they are kept, some of which the last events passed by and which have no clocks, are those of a running engine.
 pub record IsKeeping (schema : Declared) (count : ℕ) (clocks : List (Option ℤ)) (parts : List Phase) (peaks : List ℕ) : Type 0 where
   pub schemas : All (λ (p : Phase). p.schema ≡ schema) parts
   pub idle : All IsIdle parts

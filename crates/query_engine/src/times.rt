@@ -38,7 +38,7 @@ pub struct Times {
 }
 
 impl Group {
-    /// That of the part alone, whose query has this number, before any event.
+    /// The group of the part alone, whose query has this number, before any event.
     fn of(alloc: Global, schema: &Schema, part: &Part, query: u64) -> Result<Group, Memory>
         requires checked { IsChecked schema.now part.now.query }
         ensures query { IfOk result (λ g. g.query ≡ query) }
@@ -154,7 +154,7 @@ fn groups_reading(
     Ok(numbers)
 }
 
-/// The same for each declared type.
+/// The groups that read each declared type, by the type's number.
 fn groups_by_type(
     alloc: Global,
     schema: &Schema,

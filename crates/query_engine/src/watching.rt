@@ -33,7 +33,7 @@ pub struct Watching {
 }
 
 impl Watching {
-    /// That of the queries, before their parts are looked at.
+    /// The index and the marks of the queries, before their parts are looked at.
     pub fn of(alloc: Global, schema: &Schema, queries: &[Query]) -> Result<Watching, Memory>
         ensures watch { IfOk result (λ w. IsWatch schema.now queries.now w.watch.rows
             w.watch.leaves) }

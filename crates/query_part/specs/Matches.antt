@@ -170,7 +170,7 @@ pub record HasWorked (bits : List Bool) (key : List Value) (old : Held) (before 
   pub states_are : states ≡ 0 ∷ map (λ (r : ℕ × List Root). r.0) rows
   pub work : IsWithinWork mid.table states bits before after
 
--- the same for the event's own key
+-- what was prepared of the event for its own key
 abbrev pub IsOwnReady : Stamp → ℤ → List Bool → Option (List Value) → ℕ → Staged → Held → Held → Type 0
 IsOwnReady stamp low bits own number staged old new = (key : List Value) × (own ≡ Some key) × IsReady stamp low bits key number staged old new
 

@@ -51,7 +51,8 @@ impl Lists {
         }
     }
 
-    /// The same. If that is looked at, they rest too where their states are all known to be still.
+    /// Puts the staged lists in place. If that is looked at, they rest too where their states are all
+    /// known to be still.
     pub fn put(&mut self, still: &[bool], looks: bool, stage: &mut Stage, staged: Staged)
         ensures rows { self.new.active.entries ≡ rows_after self.old.active.entries staged }
         ensures rests { (t : Table) → AreStill t still.now → MayRest t self.old → MayRest t self.new }

@@ -93,7 +93,7 @@ fn machine_of(alloc: Global, seed: Seed, leaves: &Leaves) -> Result<Machine, Mem
 }
 
 impl Machine {
-    /// That of the query. Its tables hash by the seed.
+    /// The machine of the query. Its tables hash by the seed.
     pub fn of(alloc: Global, seed: Seed, schema: &Schema, query: &Query) -> Result<Machine, Memory>
         ensures machine { IfOk result (λ m. IsMachineOf query.now m.no_leaves m.matches) }
         ensures first { IfOk result (λ m. AreFirst query.now m.first) }

@@ -326,7 +326,7 @@ impl Matches {
         self.work(sizes, number, bits, stamp, low, steps)
     }
 
-    /// The same for the key of this number, which is there.
+    /// Prepares the event for the key of this number, which is there.
     pub fn advance_at<L: Ledger>(
         &mut self,
         sizes: &mut Sizes,

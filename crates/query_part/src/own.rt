@@ -70,7 +70,7 @@ fn is_nothing_at(matches: &Matches, number: u64, first: &Bits, bits: &Bits) -> b
     matches.has_none(number) && begins_none(first, bits)
 }
 
-/// The same of an event that has the key.
+/// Whether an event that has the key is nothing to the part.
 fn is_nothing(matches: &Matches, key: &Key, first: &Bits, bits: &Bits) -> bool
     requires room { length first.now ≡ length bits.now }
     ensures { result ≡ true → OwnNone matches.now (Some key.now) first.now bits.now }

@@ -80,7 +80,7 @@ pub struct Part {
     /// For each type whether the query reads it.
     types: Vec<bool>,
     query: Query,
-    /// That of the engine, which all parts share.
+    /// The engine's schema, which all parts share.
     schema: Rc<Schema>,
 }
 

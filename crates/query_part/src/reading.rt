@@ -49,7 +49,7 @@ fn places_in(
     Ok(Some(places))
 }
 
-/// The same, to be kept.
+/// The places of the key's values, in a list that is kept.
 fn key_places_in(
     alloc: Global,
     schema: &Schema,

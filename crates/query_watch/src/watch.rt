@@ -27,7 +27,7 @@ use stream_schema::{Event, Schema, TypeId};
 pub struct Watch {
     /// The rows of the leaves of each type, by the type's number.
     rows: Vec<Vec<Row>>,
-    /// The same rows by the values that an event may have, by the type's number.
+    /// The rows of each type by the values that an event may have, by the type's number.
     indexes: Vec<Vec<Index>>,
     /// The leaves of all queries, by their numbers.
     leaves: Vec<Watched>,
@@ -77,7 +77,7 @@ fn rows_for(
 }
 
 impl Watch {
-    /// That of the queries.
+    /// The index of the queries' leaves.
     pub fn of(alloc: Global, schema: &Schema, queries: &[Query]) -> Result<Watch, Memory>
         ensures watch { IfOk result (λ w. IsWatch schema.now queries.now w.rows w.leaves) }
         ensures exact { IfOk result (λ w. AreExact schema.now queries.now w.rows w.leaves) }

@@ -27,7 +27,7 @@ pub fn sorting_keeps_parts<A, B>()
     ensures { SortingKeepsParts A B }
 {}
 
-/// The same of what is released.
+/// What is released is one part after another too.
 pub fn releasing_keeps_parts<A, B>()
     ensures { ReleasingKeepsParts A B }
 {}

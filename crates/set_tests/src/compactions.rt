@@ -182,7 +182,7 @@ pub fn with_a_held_cursor<L: Ledger>(
     )
 }
 
-/// The same with no cursor held.
+/// A compaction with no cursor held.
 pub fn with_none_held<L: Ledger>(
     alloc: Global,
     low: i128,

@@ -83,7 +83,7 @@ fn seven_takes_in_three<S: NodeStore, L: Ledger>(
     })
 }
 
-/// The same in an arena of its own, with a count of its own.
+/// Seven takes in three in an arena of its own, with a count of its own.
 pub fn seven_takes_in_three_in_an_arena<L: Ledger>(
     alloc: Global,
     opening: Opening,

@@ -102,7 +102,7 @@ fn agree_over<L: Ledger>(
     Ok(true)
 }
 
-/// The same from each start to this end.
+/// The answers agree from each start to this end.
 fn agree_to<L: Ledger>(
     alloc: Global,
     machine: &mut Machine,
@@ -119,7 +119,7 @@ fn agree_to<L: Ledger>(
     Ok(true)
 }
 
-/// The same to each end.
+/// The answers agree to each end.
 fn agree_to_each<L: Ledger>(
     alloc: Global,
     machine: &mut Machine,

@@ -25,7 +25,7 @@ pub record Counted (due : ℕ → Bool) (earlier : List Event) (a : Asked) (sour
   pub bounded : AreBoundedBy due a.schema a.queries running.events rows first now
   pub few : (most : ℕ → ℕ) → MeetMost a.schema a.queries running.events most → HasFewNodes engine (length running.events) most
 
--- The same, and the nodes follow the windows of the queries; these were the peaks before any event.
+-- The steps are counted so far, and the nodes follow the windows of the queries; these were the peaks before any event.
 pub record Following (due : ℕ → Bool) (earlier : List Event) (a : Asked) (source : Option (List ℕ)) (reader : LineReader) (left before after : Option (List ℕ)) (held : List ℕ) (engine : State) (first now : ℕ) (peaks : ℕ → ℕ) : Type 0 where
   pub counting : Counted due earlier a source reader left before after held engine first now
   pub windows : FollowsWindowsBy due peaks (last_of due (length counting.running.events)) counting.running.events engine
@@ -41,7 +41,7 @@ abbrev pub StepsAtFault : Order → Option (List ℕ) → Option (List ℕ) → 
 StepsAtFault Walk before after rows most now = StopsAmong before after rows most now
 StepsAtFault Sorted before after rows most now = now ≤ most + row_delays rows
 
--- the same by how the call ended
+-- the steps of the lines of a position, by how the call that puts them ended
 abbrev pub StepsPut : {T F : Type 0} → Order → Option (List ℕ) → Option (List ℕ) → List Row → ℕ → ℕ → Result T (OrMemory F) → Type 0
 StepsPut order before after rows most now (Ok done) = now ≤ most + row_delays rows
 StepsPut order before after rows most now (Err Memory) = now ≤ most + row_delays rows

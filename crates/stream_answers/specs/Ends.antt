@@ -15,7 +15,7 @@ pub record Said : Type 1 where
   pub unwritten : Type 0
   pub wants : Type 0
 
--- that of how it ended
+-- what is said of the end that it came to
 abbrev pub ByEnd : Said → Option (List ℕ) → {T : Type 0} → Result T (OrMemory StreamFault) → Type 0
 ByEnd said left (Ok done) = said.stops stop.End
 ByEnd said left (Err (Fault (fault.Event line refusal))) = said.stops (stop.Event line refusal)

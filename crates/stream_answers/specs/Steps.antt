@@ -22,7 +22,7 @@ pub use Rattle.stream_answers.specs.Windows.{is_due}
 abbrev pub compaction_by : (ℕ → Bool) → ℕ → (ℕ → ℕ) → ℕ → ℕ
 compaction_by due queries most events = cond (due events) (compaction_bound queries most events) 0
 
--- the same where one is due after every N-th event
+-- the bound of a compaction after so many events, where one is due after every N-th
 abbrev pub compaction_at : Option ℕ → ℕ → (ℕ → ℕ) → ℕ → ℕ
 compaction_at every queries most events = compaction_by (is_due every) queries most events
 

@@ -11,7 +11,7 @@ abbrev pub is_due : Option ℕ → ℕ → Bool
 is_due None events = false
 is_due (Some n) events = nat_lt 0 n && (events % n == 0)
 
--- the same after the first so many events, which do not count
+-- whether one is due after so many events, of which the first so many do not count
 abbrev pub is_due_after : Option ℕ → ℕ → ℕ → Bool
 is_due_after every zero = is_due every
 is_due_after every (suc n) = λ events. nat_lt (suc n) events && is_due every (events - suc n)
@@ -21,7 +21,7 @@ abbrev pub last_of : (ℕ → Bool) → ℕ → ℕ
 last_of due zero = 0
 last_of due (suc n) = cond (due (suc n)) (suc n) (last_of due n)
 
--- the same for one after every N-th event
+-- after how many events the last one was due, where one is due after every N-th
 abbrev pub last_due : Option ℕ → ℕ → ℕ
 last_due every events = last_of (is_due every) events
 
@@ -37,7 +37,7 @@ pub record FollowsWindowsBy (due : ℕ → Bool) (before : ℕ → ℕ) (first :
   pub nodes : FollowsWindowSince first engine events
   pub peaks : (k : ℕ) (q : Query) → slice_get engine.queries k ≡ Some q → (peak_of engine (k + 1) ≤ before (k + 1)) ⊎ HasPeak due events engine k q
 
--- the same for a compaction after every N-th event
+-- the windows are followed with a compaction after every N-th event
 abbrev pub FollowsWindows : Option ℕ → (ℕ → ℕ) → ℕ → List Event → State → Type 0
 FollowsWindows every before first events engine = FollowsWindowsBy (is_due every) before first events engine
 

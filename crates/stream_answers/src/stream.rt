@@ -68,10 +68,10 @@ fn has_64_bits(n: u64)
     ensures { n < 2 ^ 64 }
 {}
 
-/// The same for an engine that took events before, in which no answer was asked for: it goes on with
-/// the events of the source, and writes the answers at each of these. Positions go on from those
-/// before; line numbers are those of the source. With `compact_every` the engine is compacted after
-/// every so many events of the source, and before the first of them it is not.
+/// Gives an engine that took events before, in which no answer was asked for, the events of the
+/// source, and writes the answers at each of these. Positions go on from those before; line numbers
+/// are those of the source. With `compact_every` the engine is compacted after every so many events of
+/// the source, and before the first of them it is not.
 ///
 /// The steps are bounded by all events, those before and those of the source, by the answers at the
 /// events of the source, and by the compactions; they may be counted from before the earlier events
@@ -202,7 +202,7 @@ fn is_due(every: Option<u64>, events: u64) -> bool
     }
 }
 
-/// The same where the first so many do not count.
+/// Whether a compaction is due after so many events, of which the first so many do not count.
 fn is_due_after(every: Option<u64>, first: u64, events: u64) -> bool
     ensures { result ≡ is_due_after every first events }
 {

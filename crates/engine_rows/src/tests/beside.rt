@@ -90,7 +90,7 @@ fn defined_under(
     Ok(text)
 }
 
-/// The same under the declarations of the text, for its queries.
+/// What the definition finds after each line, under the declarations of the text and for its queries.
 fn defined_after_each(alloc: Global, text: &str, lines: &[u8]) -> Result<String, RowFault> {
     match read_queries(alloc, text.as_bytes()) {
         Ok(accepted) => defined_under(alloc, &accepted.schema, accepted.queries.as_slice(), lines),
@@ -118,7 +118,7 @@ fn sorted(alloc: Global, answers: &str) -> Result<String, AllocError> {
     Ok(text)
 }
 
-/// The same by the engine.
+/// What the engine finds after each line.
 fn found_after_each(
     alloc: Global,
     text: &str,

@@ -192,7 +192,8 @@ fn texts_are_their_histories(rt: HostRuntime) -> Result<(), Fail> {
     Ok(())
 }
 
-/// The same where clocks stand still, rise, or fall: of a type that the query reads, and of another.
+/// Checkpoints and what they tell where clocks stand still, rise, or fall: of a type that the query
+/// reads, and of another.
 const CLOCKS: &str = "core checkpoint 1;events 9 3;at 1;A,2;at 2;A,2;at 4;A,3;|9: 1 2 4\n\
 core checkpoint 1;events 9 2;at 1;A,2;at 2;A,1;|line 6: bad event\n\
 core checkpoint 1;events 9 3;at 1;A,2;at 2;B,1;at 3;A,2;|9: 1 2 3\n\

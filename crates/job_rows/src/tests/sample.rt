@@ -27,7 +27,7 @@ fn read(alloc: Global) -> Result<String, AllocError> {
     }
 }
 
-/// The same of the sample.
+/// The schema and the queries of the sample, shown.
 fn built(alloc: Global) -> Result<String, AllocError> {
     let Ok(schema) = sample_schema(alloc) else {
         return Err(AllocError);

@@ -97,7 +97,7 @@ const RUNS: [(&str, &str); 59] = [
     ("run q e -o walk", "usage"),
 ];
 
-/// The same of other words: too few or too many, questions, and what the program does not have.
+/// Words and what they ask for: too few or too many, questions, and what the program does not have.
 const OTHERS: [(&str, &str); 59] = [
     // too few names, too many, and names of no command
     ("run", "usage"),

@@ -65,7 +65,7 @@ fn explanation(
     Ok(text)
 }
 
-/// The same, of a query over the events of these lines.
+/// The explanation by a query over the events of these lines, shown.
 fn shown(
     alloc: Global,
     asked: &str,

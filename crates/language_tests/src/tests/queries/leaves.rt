@@ -34,7 +34,7 @@ fn leaves_text(alloc: Global, accepted: &Accepted) -> Result<String, Memory> {
     Ok(text)
 }
 
-/// The same, of a query.
+/// The leaves of a query, shown.
 fn shown(alloc: Global, asked: &str) -> Result<String, Fail> {
     let accepted = accepted(alloc, DECLARED, asked)?;
     Ok(leaves_text(alloc, &accepted)?)

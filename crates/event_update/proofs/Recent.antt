@@ -130,6 +130,7 @@ known_recent t class low (r ∷ rows) (s ∷ ss) h =
 
 pub build_recent : (stamp : Stamp) (nodes : List Node) (low : ℤ) (rows : List (ℕ × List Root)) → CanBuild stamp nodes rows → CanBuild stamp nodes (recent_rows low rows)
 build_recent stamp nodes low rows can = record {
+  store = can.store;
   before = members_recent (IsBefore stamp.pos) nodes low rows can.before;
   distinct = distinct_recent nodes low [] rows can.distinct;
   lists = All-filter (λ (r : ℕ × List Root). is_recent low r.1) (λ (r : ℕ × List Root). IsUnionList nodes r.1) rows can.lists;

@@ -3,7 +3,7 @@
 ghost use Rattle.std.specs.Prelude.{◌≡◌, ℕ, ◌+◌, true, ◌∷◌, length, IfOk, IfSome};
 ghost use Rattle.cea_determinise.specs.Rows.{IsEffect};
 ghost use Rattle.event_update.specs.ActiveLists.{keys};
-ghost use Rattle.event_update.specs.Update.{AreKnown, IsTold, IsRowOf};
+ghost use Rattle.event_update.specs.Update.{AreKnown, AreMoves, IsRowOf};
 
 use crate::Active;
 use crate::moves::stay;
@@ -100,8 +100,7 @@ fn effect_of(active: &Active, moves: &[Successors]) -> Result<Effect, Memory>
 
 /// The row of the states, whose successors on events of the class are these, the start's first.
 pub fn row_of(active: &Active, class: EventClass, moves: &[Successors]) -> Result<KnownRow, Memory>
-    requires count { length moves.now ≡ 1 + length active.now.entries }
-    requires told { IsTold (0 ∷ keys active.now) moves.now }
+    requires moves { AreMoves active.now.entries moves.now }
     ensures row { IfOk result (IsRowOf (keys active.now)) }
     ensures class { IfOk result (λ r. r.class ≡ class) }
     ensures successors { IfOk result (λ r. r.successors.items ≡ moves.now) }

@@ -1,5 +1,5 @@
 -- What a compaction leaves.
-use Rattle.std.specs.Prelude.{◌≡◌, ℕ, ◌<◌, ◌≤◌, ◌==◌, ℤ, ◌≤ℤ◌, int_le, cond, List, [], ◌∷◌, ◌++◌, length, map, Contains}
+use Rattle.std.specs.Prelude.{◌≡◌, ℕ, ◌<◌, ◌≤◌, ◌==◌, ℤ, ◌≤ℤ◌, int_le, cond, List, [], ◌∷◌, ◌++◌, length, map, get_or, All, Contains}
 use Rattle.std.specs.List.{flat_map}
 use Rattle.cer_base.specs.declared.node.Stamp.{Stamp}
 use Rattle.cer_base.specs.declared.node.Root.{Root}
@@ -57,3 +57,16 @@ pub record CursorCompacted (query : ℕ) (old new : List Node) (w v : CursorStat
   pub fits : w.query ≡ query → Fits v new
   pub same : v ≡ record w { stack = v.stack }
   pub other : (w.query ≡ query → ⊥) → v ≡ w
+
+-- What is asked of the store, of all lists and of the query's cursors, and for how many nodes there must be room.
+pub record CanCompact (query places : ℕ) (nodes : List Node) (keys : List (List (ℕ × List Root))) (ws : List CursorState) : Type 0 where
+  pub well_formed : WellFormed nodes
+  pub lists : All (λ (rows : List (ℕ × List Root)). All (λ (r : ℕ × List Root). IsUnionList nodes r.1) rows) keys
+  pub cursors : All (λ (w : CursorState). w.query ≡ query → Fits w nodes) ws
+  pub room : length nodes ≤ places
+
+-- What a compaction leaves of the store, of all lists and of all cursors.
+pub record AreCompacted (query : ℕ) (low : ℤ) (old new : List Node) (keys keys_new : List (List (ℕ × List Root))) (ws ws_new : List CursorState) : Type 0 where
+  pub nodes : Compacted low old new (roots_of query keys_new ws_new)
+  pub lists : KeysCompacted low old new keys keys_new
+  pub cursors : (k : ℕ) (d : CursorState) → k < length ws → CursorCompacted query old new (get_or ws k d) (get_or ws_new k d)

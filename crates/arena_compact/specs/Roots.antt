@@ -1,6 +1,6 @@
 -- Where a compaction begins: the recent entries of lists and what cursors still have. And where these are
 -- after it.
-use Rattle.std.specs.Prelude.{◌≡◌, ℕ, ◌<◌, ◌==◌, ℤ, ◌≤ℤ◌, All, int_le, cond, List, [], ◌∷◌, length, map, filter, sum_by, Option, Some, slice_get, ◌+◌, swap}
+use Rattle.std.specs.Prelude.{◌≡◌, ℕ, ◌<◌, ◌≤◌, ◌==◌, ℤ, ◌≤ℤ◌, All, int_le, true, cond, List, [], ◌∷◌, length, map, filter, sum_by, Option, Some, slice_get, ◌+◌, ◌*◌, swap}
 use Rattle.std.specs.Prelude.{slice_set as set}
 use Rattle.std.specs.List.{flat_map}
 use Rattle.cer_base.specs.declared.node.Root.{Root}
@@ -80,6 +80,17 @@ RowsMoved nodes table [] [] = Unit {0}
 RowsMoved nodes table [] (s ∷ moved) = ⊥
 RowsMoved nodes table (r ∷ rows) [] = ⊥
 RowsMoved nodes table (r ∷ rows) (s ∷ moved) = (s.0 ≡ r.0) × EntriesMoved nodes table r.1 s.1 × RowsMoved nodes table rows moved
+
+-- What is asked of a key's lists before they are moved: clocks do not rise in any, and the nodes of recent entries have places.
+pub record CanMove (low : ℤ) (nodes : List Node) (table : List (Option ℕ)) (rows : List (ℕ × List Root)) : Type 0 where
+  pub older : All (λ (r : ℕ × List Root). AreOlder r.1) rows
+  pub placed : All (λ (r : ℕ × List Root). All (λ (e : Root). int_le low e.max.clock ≡ true → IsPlaced nodes table e.id) r.1) rows
+
+-- The rows that have a recent entry stay, and are moved; steps are counted for the entries that there were and for those that stay.
+pub record MovesRows (low : ℤ) (nodes : List Node) (table : List (Option ℕ)) (rows rows_new : List (ℕ × List Root)) (before after : ℕ) : Type 0 where
+  pub moved : RowsMoved nodes table (kept_rows low rows) rows_new
+  pub steps : after ≤ before + 3 * entries_in rows
+  pub counted : 3 * entries_in (kept_rows low rows) + before ≤ after
 
 -- each key's rows that stay are moved
 abbrev pub KeysMoved : ℤ → List Node → List (Option ℕ) → List (List (ℕ × List Root)) → List (List (ℕ × List Root)) → Type 0

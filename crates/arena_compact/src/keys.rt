@@ -1,11 +1,11 @@
 //! The lists of all keys, wherever a caller has them.
-ghost use Rattle.std.specs.Prelude.{◌≡◌, ◌+◌, ◌*◌, ◌<◌, ◌≤◌, ◌++◌, List, ℕ, All, Some, true, length, map, slice_get, int_le};
+ghost use Rattle.std.specs.Prelude.{◌≡◌, ◌+◌, ◌*◌, ◌<◌, ◌≤◌, ◌++◌, List, ℕ, All, length, map};
 ghost use Rattle.cer_base.specs.declared.node.Node.{Node};
 ghost use Rattle.cer_base.specs.declared.node.Root.{Root};
 ghost use Rattle.cer_base.specs.Nodes.{IsRoot};
 ghost use Rattle.event_update.specs.Update.{entries_in};
 ghost use Rattle.arena_compact.specs.Marks.{AreNodeMarks};
-ghost use Rattle.arena_compact.specs.Roots.{key_roots, places, AreOlder, IsPlaced, kept_rows, RowsMoved, KeysMoved};
+ghost use Rattle.arena_compact.specs.Roots.{key_roots, places, CanMove, kept_rows, RowsMoved, KeysMoved};
 
 use super::rows::{keep_rows, move_rows};
 use cer_base::node::Id;
@@ -86,9 +86,7 @@ fn move_key<S: NodeStore, K: HasLists, L: Ledger>(
     table: &[Option<Id>],
     steps: &mut Steps<L>,
 )
-    requires older { All (λ r. AreOlder r.1) (K.rows key.old) }
-    requires placed { All (λ r. All (λ e. int_le low e.max.clock ≡ true
-        → IsPlaced (S.nodes store.now) table.now e.id) r.1) (K.rows key.old) }
+    requires can { CanMove low (S.nodes store.now) table.now (K.rows key.old) }
     ensures moved { RowsMoved (S.nodes store.now) table.now (kept_rows low (K.rows key.old))
         (K.rows key.new) }
     ensures steps { steps.new ≤ steps.old + 3 * entries_in (K.rows key.old) }
@@ -107,9 +105,7 @@ pub fn move_keys<S: NodeStore, K: HasLists, L: Ledger>(
     table: &[Option<Id>],
     steps: &mut Steps<L>,
 )
-    requires older { All (λ rows. All (λ r. AreOlder r.1) rows) (map K.rows keys.old) }
-    requires placed { All (λ rows. All (λ r. All (λ e. int_le low e.max.clock ≡ true
-        → IsPlaced (S.nodes store.now) table.now e.id) r.1) rows) (map K.rows keys.old) }
+    requires can { All (CanMove low (S.nodes store.now) table.now) (map K.rows keys.old) }
     ensures moved { KeysMoved low (S.nodes store.now) table.now (map K.rows keys.old)
         (map K.rows keys.new) }
     ensures steps { steps.new ≤ steps.old + 3 * places (map K.rows keys.old) }

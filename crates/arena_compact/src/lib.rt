@@ -31,7 +31,7 @@ ghost use Rattle.tecs_enumerate.specs.Rest.{CursorState, Fits};
 ghost use Rattle.union_lists.specs.Lists.{IsUnionList};
 ghost use Rattle.arena_compact.specs.Marks.{AreNodeMarks};
 ghost use Rattle.arena_compact.specs.Roots.{key_roots, cursor_roots, places};
-ghost use Rattle.arena_compact.specs.Compacted.{least_of, roots_of, Compacted, KeysCompacted, CursorCompacted};
+ghost use Rattle.arena_compact.specs.Compacted.{least_of, roots_of, Compacted, KeysCompacted, CursorCompacted, CanCompact, AreCompacted};
 
 use cer_base::Memory;
 use cer_base::node::Id;
@@ -93,12 +93,9 @@ fn keep_all<S: NodeStore, K: HasLists, C: HasCursor, L: Ledger>(
     table: &mut [Option<Id>],
     steps: &mut Steps<L>,
 )
-    requires well_formed { WellFormed (S.nodes store.now) }
-    requires lists { All (λ rows. All (λ r. IsUnionList (S.nodes store.now) r.1) rows)
-        (map K.rows keys.now) }
-    requires cursors { All (λ w. w.query ≡ query → (least ≤ℤ w.low)
-        × Fits w (S.nodes store.now)) (map C.walk cursors.now) }
-    requires room { length (S.nodes store.now) ≤ length table.old }
+    requires can { CanCompact query (length table.old) (S.nodes store.now) (map K.rows keys.now)
+        (map C.walk cursors.now) }
+    requires least { All (λ w. w.query ≡ query → least ≤ℤ w.low) (map C.walk cursors.now) }
     requires blank { (id : ℕ) → get_or table.old id None ≡ None }
     ensures marks { AreNodeMarks least (S.nodes store.now)
         (key_roots least (map K.rows keys.now)
@@ -125,23 +122,15 @@ fn move_all<S: NodeStore, K: HasLists, C: HasCursor, L: Ledger>(
     table: &mut [Option<Id>],
     steps: &mut Steps<L>,
 )
-    requires well_formed { WellFormed (S.nodes store.old) }
-    requires lists { All (λ rows. All (λ r. IsUnionList (S.nodes store.old) r.1) rows)
-        (map K.rows keys.old) }
-    requires cursors { All (λ w. w.query ≡ query → (least ≤ℤ w.low)
-        × Fits w (S.nodes store.old)) (map C.walk cursors.old) }
-    requires room { length (S.nodes store.old) ≤ length table.old }
+    requires can { CanCompact query (length table.old) (S.nodes store.old) (map K.rows keys.old)
+        (map C.walk cursors.old) }
+    requires least { All (λ w. w.query ≡ query → least ≤ℤ w.low) (map C.walk cursors.old) }
     requires marks { AreNodeMarks least (S.nodes store.old)
         (key_roots least (map K.rows keys.old)
         ++ cursor_roots query (map C.walk cursors.old)) 0 table.old }
-    ensures nodes { Compacted least (S.nodes store.old) (S.nodes store.new)
-        (roots_of query (map K.rows keys.new) (map C.walk cursors.new)) }
-    ensures lists { KeysCompacted least (S.nodes store.old) (S.nodes store.new)
-        (map K.rows keys.old) (map K.rows keys.new) }
-    ensures cursors { (k : ℕ) → (d : CursorState) → k < length cursors.old
-        → CursorCompacted query (S.nodes store.old) (S.nodes store.new)
-        (get_or (map C.walk cursors.old) k d)
-        (get_or (map C.walk cursors.new) k d) }
+    ensures compacted { AreCompacted query least (S.nodes store.old) (S.nodes store.new)
+        (map K.rows keys.old) (map K.rows keys.new) (map C.walk cursors.old)
+        (map C.walk cursors.new) }
     ensures count { length cursors.new ≡ length cursors.old }
     ensures steps { steps.new
         ≤ steps.old + 4 * length (S.nodes store.old) + 3 * places (map K.rows keys.old) }
@@ -172,20 +161,11 @@ fn compact_in<S: NodeStore, K: HasLists, C: HasCursor, L: Ledger>(
     table: &mut [Option<Id>],
     steps: &mut Steps<L>,
 )
-    requires well_formed { WellFormed (S.nodes store.old) }
-    requires lists { All (λ rows. All (λ r. IsUnionList (S.nodes store.old) r.1) rows)
-        (map K.rows keys.old) }
-    requires cursors { All (λ w. w.query ≡ query
-        → Fits w (S.nodes store.old)) (map C.walk cursors.old) }
-    requires room { length (S.nodes store.old) ≤ length table.old }
-    ensures nodes { Compacted (least_of query low (map C.walk cursors.old)) (S.nodes store.old)
-        (S.nodes store.new) (roots_of query (map K.rows keys.new) (map C.walk cursors.new)) }
-    ensures lists { KeysCompacted (least_of query low (map C.walk cursors.old)) (S.nodes store.old)
-        (S.nodes store.new) (map K.rows keys.old) (map K.rows keys.new) }
-    ensures cursors { (k : ℕ) → (d : CursorState) → k < length cursors.old
-        → CursorCompacted query (S.nodes store.old) (S.nodes store.new)
-        (get_or (map C.walk cursors.old) k d)
-        (get_or (map C.walk cursors.new) k d) }
+    requires can { CanCompact query (length table.old) (S.nodes store.old) (map K.rows keys.old)
+        (map C.walk cursors.old) }
+    ensures compacted { AreCompacted query (least_of query low (map C.walk cursors.old))
+        (S.nodes store.old) (S.nodes store.new) (map K.rows keys.old) (map K.rows keys.new)
+        (map C.walk cursors.old) (map C.walk cursors.new) }
     ensures count { length cursors.new ≡ length cursors.old }
     ensures steps { steps.new
         ≤ steps.old + 8 * length (S.nodes store.old) + 4 * places (map K.rows keys.old) }

@@ -1,12 +1,11 @@
 //! The lists of one key, each with its state.
-ghost use Rattle.std.specs.Prelude.{◌≡◌, ◌+◌, ◌*◌, ◌<◌, ◌≤◌, ◌++◌, [], List, ℕ, All, Some, true, false, length, take, map, nat_eq, slice_get, int_le};
-ghost use Rattle.std.specs.List.{IsDistinct};
+ghost use Rattle.std.specs.Prelude.{◌≡◌, ◌+◌, ◌*◌, ◌<◌, ◌≤◌, ◌++◌, List, ℕ, All, Some, true, length, take, slice_get, int_le};
 ghost use Rattle.cer_base.specs.declared.node.Node.{Node};
 ghost use Rattle.cer_base.specs.declared.node.Root.{Root};
 ghost use Rattle.cer_base.specs.Nodes.{IsRoot};
 ghost use Rattle.event_update.specs.Update.{entries_in};
 ghost use Rattle.arena_compact.specs.Marks.{AreNodeMarks};
-ghost use Rattle.arena_compact.specs.Roots.{recent_entries, row_roots, AreOlder, IsPlaced, kept_rows, RowsMoved, MovedAt};
+ghost use Rattle.arena_compact.specs.Roots.{recent_entries, row_roots, AreOlder, IsPlaced, CanMove, MovesRows, MovedAt};
 
 use super::lists::{keep_list, move_list};
 use cea_determinise::table::State;
@@ -78,14 +77,10 @@ fn move_each<S: NodeStore, L: Ledger>(
     table: &[Option<Id>],
     steps: &mut Steps<L>,
 ) -> usize
-    requires older { All (λ r. AreOlder r.1) rows.old }
-    requires placed { All (λ r. All (λ e. int_le low e.max.clock ≡ true
-        → IsPlaced (S.nodes store.now) table.now e.id) r.1) rows.old }
-    ensures moved { RowsMoved (S.nodes store.now) table.now (kept_rows low rows.old)
-        (take result rows.new) }
+    requires can { CanMove low (S.nodes store.now) table.now rows.old }
+    ensures rows { MovesRows low (S.nodes store.now) table.now rows.old (take result rows.new)
+        steps.old steps.new }
     ensures upto { result ≤ length rows.new }
-    ensures steps { steps.new ≤ steps.old + 3 * entries_in rows.old }
-    ensures counted { 3 * entries_in (kept_rows low rows.old) + steps.old ≤ steps.new }
 {
     let mut kept = 0;
     for k in 0..rows.len() {
@@ -103,13 +98,9 @@ fn move_some<S: NodeStore, L: Ledger>(
     table: &[Option<Id>],
     steps: &mut Steps<L>,
 ) -> Vec<(State, UList)>
-    requires older { All (λ r. AreOlder r.1) rows.items }
-    requires placed { All (λ r. All (λ e. int_le low e.max.clock ≡ true
-        → IsPlaced (S.nodes store.now) table.now e.id) r.1) rows.items }
-    ensures moved { RowsMoved (S.nodes store.now) table.now (kept_rows low rows.items)
-        result.items }
-    ensures steps { steps.new ≤ steps.old + 3 * entries_in rows.items }
-    ensures counted { 3 * entries_in (kept_rows low rows.items) + steps.old ≤ steps.new }
+    requires can { CanMove low (S.nodes store.now) table.now rows.items }
+    ensures rows { MovesRows low (S.nodes store.now) table.now rows.items result.items
+        steps.old steps.new }
 {
     let kept = move_each(store, low, rows.as_mut_slice(), table, steps);
     rows.truncate(kept);
@@ -125,13 +116,9 @@ pub fn move_rows<S: NodeStore, L: Ledger>(
     table: &[Option<Id>],
     steps: &mut Steps<L>,
 ) -> Active
-    requires older { All (λ r. AreOlder r.1) active.entries }
-    requires placed { All (λ r. All (λ e. int_le low e.max.clock ≡ true
-        → IsPlaced (S.nodes store.now) table.now e.id) r.1) active.entries }
-    ensures moved { RowsMoved (S.nodes store.now) table.now (kept_rows low active.entries)
-        result.entries }
-    ensures steps { steps.new ≤ steps.old + 3 * entries_in active.entries }
-    ensures counted { 3 * entries_in (kept_rows low active.entries) + steps.old ≤ steps.new }
+    requires can { CanMove low (S.nodes store.now) table.now active.entries }
+    ensures rows { MovesRows low (S.nodes store.now) table.now active.entries result.entries
+        steps.old steps.new }
 {
     let rows = active.into_rows();
     let kept = move_some(store, low, rows, table, steps);

@@ -9,12 +9,12 @@ use Rattle.arena_compact.proofs.Rests.{fits_at}
 use Rattle.arena_compact.proofs.keep_all.Goals as goal
 
 pub keep_keys-requires : goal.keep_keys-requires
-keep_keys-requires g c = record { inside = λ k d lt i r at j e within. let root = (c.requires.lists k d lt i r at).roots j e within in let inside = root.inside in omega arith }
+keep_keys-requires g c = record { inside = λ k d lt i r at j e within. let root = (c.requires.can.lists k d lt i r at).roots j e within in let inside = root.inside in omega arith }
 
 pub keep_cursors-requires : goal.keep_cursors-requires
 keep_cursors-requires g c = record {
   inside = λ k d lt mine j i within.
-      let fits = (c.requires.cursors k d lt mine).1 in
+      let fits = c.requires.can.cursors k d lt mine in
       let here = fits_at _ _ _ _ j _ fits (slice_get-get_or (map id_of (get_or (map g.C.HasCursor.walk c.args.cursors.now) k d).stack) j i within) in
       let inside = here.0 in let long = c.keep_keys.ensures.long in omega arith;
 }
@@ -26,5 +26,5 @@ returns-clause-marks g c =
     let last = rw (to_z-of_z w128 c.args.least c.ranges.least) at c.keep_needed.ensures.marks in
     let long = c.keep_keys.ensures.long in
     last (key_roots c.args.least keys ++ cursor_roots c.args.query (map g.C.HasCursor.walk c.args.cursors.now))
-    (c.keep_cursors.ensures.marks c.args.least nodes (key_roots c.args.least keys) (omega arith) c.requires.cursors
-    (first nodes [] c.requires.room (λ k d lt i r at. (c.requires.lists k d lt i r at).roots) (marks_none c.args.least nodes c.args.table.now c.requires.blank)))
+    (c.keep_cursors.ensures.marks c.args.least nodes (key_roots c.args.least keys) (omega arith) (λ k d lt mine. (c.requires.least k d lt mine, c.requires.can.cursors k d lt mine))
+    (first nodes [] c.requires.can.room (λ k d lt i r at. (c.requires.can.lists k d lt i r at).roots) (marks_none c.args.least nodes c.args.table.now c.requires.blank)))

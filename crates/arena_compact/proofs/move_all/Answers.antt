@@ -14,27 +14,27 @@ move_cursors-requires g c = record {
       moved_kept _ _ _ _ _ _ _ c.requires.marks moved (cursor_kept (λ (id : ℕ). IsKept c.args.table.now id) c.args.least c.args.query (map g.K.HasLists.rows c.args.keys.now) (map g.C.HasCursor.walk c.args.cursors.now) k d lt mine c.requires.marks.rooted j i within);
 }
 
-pub move_keys-requires-clause-older : goal.move_keys-requires-clause-older
-move_keys-requires-clause-older g c = λ k d lt i r at. list_older _ c.requires.well_formed (get_or (get_or (map g.K.HasLists.rows c.args.keys.now) k d) i r).1 (c.requires.lists k d lt i r at)
-
-pub move_keys-requires-clause-placed : goal.move_keys-requires-clause-placed
-move_keys-requires-clause-placed g c = λ k d lt i r at j e within test.
+pub move_keys-requires : goal.move_keys-requires
+move_keys-requires g c =
+    let nodes = g.S.NodeStore.nodes c.args.store.now in
+    let keys = map g.K.HasLists.rows c.args.keys.now in
     let moved = rw (to_z-of_z w128 c.args.least c.ranges.least) at c.move_nodes.ensures.moved in
-    moved_placed _ _ _ _ _ _ _ c.requires.marks moved (entries_kept (λ (id : ℕ). IsKept c.args.table.now id) c.args.least c.args.query (map g.K.HasLists.rows c.args.keys.now) (map g.C.HasCursor.walk c.args.cursors.now) c.requires.marks.rooted k d lt i r at j e within (rw (to_z-of_z w128 c.args.least c.ranges.least) at test))
+    record {
+      can = λ k d lt. record {
+        older = λ i r at. list_older _ c.requires.can.well_formed (get_or (get_or keys k d) i r).1 (c.requires.can.lists k d lt i r at);
+        placed = λ i r at j e within test. moved_placed _ _ _ _ _ _ _ c.requires.marks moved (entries_kept (λ (id : ℕ). IsKept c.args.table.now id) c.args.least c.args.query keys (map g.C.HasCursor.walk c.args.cursors.now) c.requires.marks.rooted k d lt i r at j e within (rw (to_z-of_z w128 c.args.least c.ranges.least) at test));
+      };
+    }
 
-pub returns-clause-nodes : goal.returns-clause-nodes
-returns-clause-nodes g c =
+pub returns-clause-compacted : goal.returns-clause-compacted
+returns-clause-compacted g c =
+    let keys = map g.K.HasLists.rows c.args.keys.now in
+    let ws = map g.C.HasCursor.walk c.args.cursors.now in
     let moved = rw (to_z-of_z w128 c.args.least c.ranges.least) at c.move_nodes.ensures.moved in
     let lists = rw (to_z-of_z w128 c.args.least c.ranges.least) at c.move_keys.ensures.moved in
-    compacted c.args.least c.args.query _ _ _ _ (map g.K.HasLists.rows c.args.keys.now) _ (map g.C.HasCursor.walk c.args.cursors.now) _ c.requires.well_formed c.requires.marks moved lists (length-map c.move_cursors.new.cursors g.C.HasCursor.walk ∙ c.move_cursors.ensures.length ∙ sym (length-map c.args.cursors.now g.C.HasCursor.walk)) (λ k d lt. c.move_cursors.ensures.moved k d (let n = length-map c.args.cursors.now g.C.HasCursor.walk in omega arith))
-
-pub returns-clause-lists : goal.returns-clause-lists
-returns-clause-lists g c =
-    let moved = rw (to_z-of_z w128 c.args.least c.ranges.least) at c.move_nodes.ensures.moved in
-    let lists = rw (to_z-of_z w128 c.args.least c.ranges.least) at c.move_keys.ensures.moved in
-    keys_compacted c.args.least _ _ _ _ c.requires.well_formed moved (map g.K.HasLists.rows c.args.keys.now) _ c.requires.lists lists
-
-pub returns-clause-cursors : goal.returns-clause-cursors
-returns-clause-cursors g c = λ k d lt.
-    let moved = rw (to_z-of_z w128 c.args.least c.ranges.least) at c.move_nodes.ensures.moved in
-    cursor_compacted c.args.least _ _ _ _ c.requires.well_formed moved c.args.query _ _ (c.requires.cursors k d (let n = length-map c.args.cursors.now g.C.HasCursor.walk in omega arith)) (c.move_cursors.ensures.moved k d lt)
+    let n = length-map c.args.cursors.now g.C.HasCursor.walk in
+    record {
+      nodes = compacted c.args.least c.args.query _ _ _ _ keys _ ws _ c.requires.can.well_formed c.requires.marks moved lists (length-map c.move_cursors.new.cursors g.C.HasCursor.walk ∙ c.move_cursors.ensures.length ∙ sym n) (λ k d lt. c.move_cursors.ensures.moved k d (omega arith));
+      lists = keys_compacted c.args.least _ _ _ _ c.requires.can.well_formed moved keys _ c.requires.can.lists lists;
+      cursors = λ k d lt. cursor_compacted c.args.least _ _ _ _ c.requires.can.well_formed moved c.args.query _ _ (λ mine. (c.requires.least k d lt mine, c.requires.can.cursors k d lt mine)) (c.move_cursors.ensures.moved k d (omega arith));
+    }

@@ -1,28 +1,18 @@
-use Rattle.std.proofs.Common.{◌≡◌, ◌<◌, ℕ, List, All, length, map, take, get_or, arith, sym}
-use Rattle.std.specs.Prelude.{int_le, true}
+use Rattle.std.proofs.Common.{◌≡◌, ◌<◌, length, map, take, get_or, arith, sym}
 use Rattle.std.specs.Int.{w128}
 use Rattle.std.proofs.lemmas.Int.{to_z-of_z}
 use Rattle.std.proofs.lemmas.List.{length-map, map-set, get_or-map, take_all}
-use Rattle.cer_base.specs.declared.node.Root.{Root}
-use Rattle.arena_compact.specs.Roots.{AreOlder, IsPlaced}
+use Rattle.arena_compact.specs.Roots.{CanMove}
 use Rattle.arena_compact.proofs.Readings.{all_read, places_more, places_set, key_here, keys_more}
 use Rattle.arena_compact.proofs.keys.move_keys.Goals as goal
 
-pub move_key-requires-clause-older : goal.move_key-requires-clause-older
-move_key-requires-clause-older g c =
+pub move_key-requires : goal.move_key-requires
+move_key-requires g c =
     let f = g.K.HasLists.rows in let key = get_or c.loop-k.keys c.loop-k.k c.index-keys-k.result in
     let n = length-map c.args.keys.now f in let long = c.loop-k.auto.keys in
     let at = sym (get_or-map f c.loop-k.keys c.loop-k.k c.index-keys-k.result (f key) (omega arith)) in
     let here = key_here _ _ _ _ _ _ (f key) c.loop-k.invariant.turned (omega arith) at in
-    all_read (λ (rs : List (ℕ × List Root)). All (λ (s : ℕ × List Root). AreOlder s.1) rs) (map f c.args.keys.now) c.loop-k.k (f key) (omega arith) here c.requires.older
-
-pub move_key-requires-clause-placed : goal.move_key-requires-clause-placed
-move_key-requires-clause-placed g c =
-    let f = g.K.HasLists.rows in let key = get_or c.loop-k.keys c.loop-k.k c.index-keys-k.result in
-    let n = length-map c.args.keys.now f in let long = c.loop-k.auto.keys in
-    let at = sym (get_or-map f c.loop-k.keys c.loop-k.k c.index-keys-k.result (f key) (omega arith)) in
-    let here = key_here _ _ _ _ _ _ (f key) c.loop-k.invariant.turned (omega arith) at in
-    rw (to_z-of_z w128 c.args.low c.ranges.low) (all_read (λ (rs : List (ℕ × List Root)). All (λ (s : ℕ × List Root). All (λ (e : Root). int_le c.args.low e.max.clock ≡ true → IsPlaced (g.S.NodeStore.nodes c.args.store.now) c.args.table.now e.id) s.1) rs) (map f c.args.keys.now) c.loop-k.k (f key) (omega arith) here c.requires.placed)
+    record { can = rw (to_z-of_z w128 c.args.low c.ranges.low) (all_read (CanMove c.args.low (g.S.NodeStore.nodes c.args.store.now) c.args.table.now) (map f c.args.keys.now) c.loop-k.k (f key) (omega arith) here c.requires.can) }
 
 pub loop-k-preserved : goal.loop-k-preserved
 loop-k-preserved g c =

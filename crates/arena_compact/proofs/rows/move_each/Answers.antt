@@ -26,9 +26,9 @@ loop-k-preserved g c =
 pub move_row-kept-requires-clause-older : goal.move_row-kept-requires-clause-older
 move_row-kept-requires-clause-older g c = λ r at.
     let here = row_here _ _ _ _ _ _ _ r c.loop-k.invariant.keeping at in
-    all_read (λ (s : ℕ × List Root). AreOlder s.1) c.args.rows.now c.loop-k.k r (slice_get_within c.args.rows.now c.loop-k.k r here) (sym (get_or_from_slice_get c.args.rows.now c.loop-k.k r r here)) c.requires.older
+    all_read (λ (s : ℕ × List Root). AreOlder s.1) c.args.rows.now c.loop-k.k r (slice_get_within c.args.rows.now c.loop-k.k r here) (sym (get_or_from_slice_get c.args.rows.now c.loop-k.k r r here)) c.requires.can.older
 
 pub move_row-kept-requires-clause-placed : goal.move_row-kept-requires-clause-placed
 move_row-kept-requires-clause-placed g c = λ r at.
     let here = row_here _ _ _ _ _ _ _ r c.loop-k.invariant.keeping at in
-    rw (to_z-of_z w128 c.args.low c.ranges.low) (all_read (λ (s : ℕ × List Root). All (λ (e : Root). int_le c.args.low e.max.clock ≡ true → IsPlaced (g.S.NodeStore.nodes c.args.store.now) c.args.table.now e.id) s.1) c.args.rows.now c.loop-k.k r (slice_get_within c.args.rows.now c.loop-k.k r here) (sym (get_or_from_slice_get c.args.rows.now c.loop-k.k r r here)) c.requires.placed)
+    rw (to_z-of_z w128 c.args.low c.ranges.low) (all_read (λ (s : ℕ × List Root). All (λ (e : Root). int_le c.args.low e.max.clock ≡ true → IsPlaced (g.S.NodeStore.nodes c.args.store.now) c.args.table.now e.id) s.1) c.args.rows.now c.loop-k.k r (slice_get_within c.args.rows.now c.loop-k.k r here) (sym (get_or_from_slice_get c.args.rows.now c.loop-k.k r r here)) c.requires.can.placed)

@@ -8,27 +8,35 @@ use Rattle.command_words.specs.CommandLine.{AskNothing, AsksFor, bytes_in, comma
 use Rattle.command_words.specs.Program.{program}
 use Rattle.command_words.specs.declared.Command.{Command}
 use Rattle.command_words.specs.declared.Command.TheVariants.{Resume}
+use Rattle.command_words.specs.declared.ResumeWords.{ResumeWords}
 use Rattle.command_words.proofs.Taken.{taken_is_found}
 
 pub one_command : (words : List (List ℕ)) (a b : Command) → AsksFor words a → AsksFor words b → a ≡ b
 one_command words a b first second = ap (λ asked. unwrap_or asked a) (sym first ∙ second)
 
+-- how many bytes are too many for a run that goes on from a checkpoint, or for none
+abbrev words_most : Command → ℕ
+words_most (Resume asked) = asked.most_bytes
+words_most _ = 0
+
 -- a run that goes on from a checkpoint takes at most so many bytes: no other command is one
-resume_at : (run sample session late question kept restart : Bool) (rows : List Row) (order : Option Order) (queries checkpoint events : List ℕ) (asked : Order) (every : Option ℕ) (most : ℕ) → order ≡ order_in rows →
+resume_at : (run sample session late question kept restart : Bool) (rows : List Row) (order : Option Order) (asked : ResumeWords) → order ≡ order_in rows →
     cond run (option_map (run_with rows) order) (cond sample (Some (sample_in rows)) (cond session (Some (session_in rows)) (cond late (option_map (reorder_with rows) order)
-    (cond question (Some (explain_in rows)) (cond kept (Some (save_in rows)) (cond restart (option_map (resume_with rows) order) None)))))) ≡ Some (Resume queries checkpoint events asked every most) →
-    most ≡ bytes_in rows
-resume_at true sample session late question kept restart rows None queries checkpoint events asked every most is e = absurd cc
-resume_at true sample session late question kept restart rows (Some order) queries checkpoint events asked every most is e = absurd cc
-resume_at false true session late question kept restart rows order queries checkpoint events asked every most is e = absurd cc
-resume_at false false true late question kept restart rows order queries checkpoint events asked every most is e = absurd cc
-resume_at false false false true question kept restart rows None queries checkpoint events asked every most is e = absurd cc
-resume_at false false false true question kept restart rows (Some order) queries checkpoint events asked every most is e = absurd cc
-resume_at false false false false true kept restart rows order queries checkpoint events asked every most is e = absurd cc
-resume_at false false false false false true restart rows order queries checkpoint events asked every most is e = absurd cc
-resume_at false false false false false false true rows None queries checkpoint events asked every most is e = absurd cc
-resume_at false false false false false false true rows (Some order) queries checkpoint events asked every most is e = cc
-resume_at false false false false false false false rows order queries checkpoint events asked every most is e = absurd cc
+    (cond question (Some (explain_in rows)) (cond kept (Some (save_in rows)) (cond restart (option_map (resume_with rows) order) None)))))) ≡ Some (Resume asked) →
+    asked.most_bytes ≡ bytes_in rows
+resume_at true sample session late question kept restart rows None asked is e = absurd cc
+resume_at true sample session late question kept restart rows (Some order) asked is e = absurd cc
+resume_at false true session late question kept restart rows order asked is e = absurd cc
+resume_at false false true late question kept restart rows order asked is e = absurd cc
+resume_at false false false true question kept restart rows None asked is e = absurd cc
+resume_at false false false true question kept restart rows (Some order) asked is e = absurd cc
+resume_at false false false false true kept restart rows order asked is e = absurd cc
+resume_at false false false false false true restart rows order asked is e = absurd cc
+resume_at false false false false false false true rows None asked is e = absurd cc
+resume_at false false false false false false true rows (Some order) asked is e =
+    let same : resume_with rows order ≡ Resume asked = cc in
+    ap words_most (sym same)
+resume_at false false false false false false false rows order asked is e = absurd cc
 
 -- clap took the words of a command, but the order is neither `walk` nor `sorted`
 abbrev pub HasNoOrderBehind : Text → List (List ℕ) → Type 0
@@ -75,17 +83,17 @@ nothing_is_refused words nothing = go (clap_takes words) refl
       | inr (inr (inr (inr (inr (inr (inr none)))))) ↦ absurd none
     ]
 
-resume_found : (found : Option (Text × List Row)) (queries checkpoint events : List ℕ) (order : Order) (every : Option ℕ) (most : ℕ) → command_at found ≡ Some (Resume queries checkpoint events order every most) → most ≤ 4611686018427387904
-resume_found None queries checkpoint events order every most e = absurd cc
-resume_found (Some p) queries checkpoint events order every most e =
+resume_found : (found : Option (Text × List Row)) (asked : ResumeWords) → command_at found ≡ Some (Resume asked) → asked.most_bytes ≤ 4611686018427387904
+resume_found None asked e = absurd cc
+resume_found (Some p) asked e =
     let is = resume_at (bytes_eq p.0 (codes "run")) (bytes_eq p.0 (codes "sample")) (bytes_eq p.0 (codes "session")) (bytes_eq p.0 (codes "reorder")) (bytes_eq p.0 (codes "explain")) (bytes_eq p.0 (codes "save")) (bytes_eq p.0 (codes "resume"))
-    p.1 (order_in p.1) queries checkpoint events order every most refl e in
+    p.1 (order_in p.1) asked refl e in
     omega (arith, is)
 
 -- the bytes of a run that goes on from a checkpoint have a bound
-pub resume_has_bound : (words : List (List ℕ)) (queries checkpoint events : List ℕ) (order : Order) (every : Option ℕ) (most : ℕ) → AsksFor words (Resume queries checkpoint events order every most) → most ≤ 4611686018427387904
-resume_has_bound words queries checkpoint events order every most asked = go (clap_takes words) refl asked
+pub resume_has_bound : (words : List (List ℕ)) (r : ResumeWords) → AsksFor words (Resume r) → r.most_bytes ≤ 4611686018427387904
+resume_has_bound words r asked = go (clap_takes words) refl asked
   where
-    go : (taken : Bool) → clap_takes words ≡ taken → cond taken (command_at (subcommand_of program words)) None ≡ Some (Resume queries checkpoint events order every most) → most ≤ 4611686018427387904
-    go true is e = resume_found (subcommand_of program words) queries checkpoint events order every most e
+    go : (taken : Bool) → clap_takes words ≡ taken → cond taken (command_at (subcommand_of program words)) None ≡ Some (Resume r) → r.most_bytes ≤ 4611686018427387904
+    go true is e = resume_found (subcommand_of program words) r e
     go false is e = absurd cc

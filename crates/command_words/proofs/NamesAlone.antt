@@ -75,6 +75,6 @@ module _ (queries events : Text) (first : strip_byte 45 queries ≡ None) (secon
   unfolding walked program
   found_is = ap (λ (w : Walk). Some (codes "run", finished below.rules w.held)) two_is
 
-  pub names_alone : AsksFor (codes "run" ∷ queries ∷ events ∷ []) (Run queries events Sorted None 1099511627776)
+  pub names_alone : AsksFor (codes "run" ∷ queries ∷ events ∷ []) (Run (record { queries = queries; events = events; order = Sorted; compact_every = None; most_bytes = 1099511627776 }))
   unfolding program
   names_alone = rw (ap has_no_kind fault_is) (ap command_at found_is)

@@ -43,8 +43,13 @@ abbrev pub order_in : List Row → Option Order
 order_in rows = option_map_or order_of (first_of (codes "order") rows) (Some Sorted)
 
 abbrev pub run_with : List Row → Order → Command
-run_with rows order = Run (text_in (codes "queries") rows) (text_in (codes "events") rows) order
-    (number_under (codes "compact-every") rows) (number_in 1099511627776 (codes "max-bytes") rows)
+run_with rows order = Run (record {
+  queries = text_in (codes "queries") rows;
+  events = text_in (codes "events") rows;
+  order = order;
+  compact_every = number_under (codes "compact-every") rows;
+  most_bytes = number_in 1099511627776 (codes "max-bytes") rows;
+})
 
 -- what was found after `run`, as a run; none where the order is of neither name
 abbrev pub run_in : List Row → Option Command
@@ -52,16 +57,22 @@ run_in rows = option_map (run_with rows) (order_in rows)
 
 -- what was found after `sample`, as a sample
 abbrev pub sample_in : List Row → Command
-sample_in rows = Sample (number_in 0 (codes "seed") rows) (number_in 0 (codes "count") rows)
+sample_in rows = Sample (record { seed = number_in 0 (codes "seed") rows; count = number_in 0 (codes "count") rows })
 
 -- what was found behind `session`, as a session
 abbrev pub session_in : List Row → Command
-session_in rows = Session (text_in (codes "queries") rows) (text_in (codes "script") rows)
+session_in rows = Session (record { queries = text_in (codes "queries") rows; script = text_in (codes "script") rows })
 
 abbrev pub reorder_with : List Row → Order → Command
-reorder_with rows order = Reorder (text_in (codes "queries") rows) (text_in (codes "events") rows)
-    (text_in (codes "clock") rows) (number_in 0 (codes "late") rows) order
-    (number_under (codes "compact-every") rows) (number_in 1099511627776 (codes "max-bytes") rows)
+reorder_with rows order = Reorder (record {
+  queries = text_in (codes "queries") rows;
+  events = text_in (codes "events") rows;
+  clock = text_in (codes "clock") rows;
+  late = number_in 0 (codes "late") rows;
+  order = order;
+  compact_every = number_under (codes "compact-every") rows;
+  most_bytes = number_in 1099511627776 (codes "max-bytes") rows;
+})
 
 -- what was found after `reorder`; none where the order is of neither name
 abbrev pub reorder_in : List Row → Option Command
@@ -69,22 +80,34 @@ reorder_in rows = option_map (reorder_with rows) (order_in rows)
 
 -- what was found after `explain`, as a question
 abbrev pub explain_in : List Row → Command
-explain_in rows = Explain (text_in (codes "queries") rows) (text_in (codes "events") rows)
-    (number_in 0 (codes "query") rows) (number_in 0 (codes "start") rows)
-    (number_in 0 (codes "end") rows) (numbers_in (codes "positions") rows)
+explain_in rows = Explain (record {
+  queries = text_in (codes "queries") rows;
+  events = text_in (codes "events") rows;
+  question = record {
+    query = number_in 0 (codes "query") rows;
+    start = number_in 0 (codes "start") rows;
+    end = number_in 0 (codes "end") rows;
+    positions = numbers_in (codes "positions") rows;
+  };
+})
 
 -- what was found after `save`, as a checkpoint that is asked for
 abbrev pub save_in : List Row → Command
-save_in rows = Save (text_in (codes "queries") rows) (text_in (codes "events") rows)
+save_in rows = Save (record { queries = text_in (codes "queries") rows; events = text_in (codes "events") rows })
 
 -- how many bytes are too many; clap takes no number above this bound
 abbrev pub bytes_in : List Row → ℕ
 bytes_in rows = min (number_in 1099511627776 (codes "max-bytes") rows) 4611686018427387904
 
 abbrev pub resume_with : List Row → Order → Command
-resume_with rows order = Resume (text_in (codes "queries") rows)
-    (text_in (codes "checkpoint") rows) (text_in (codes "events") rows) order
-    (number_under (codes "compact-every") rows) (bytes_in rows)
+resume_with rows order = Resume (record {
+  queries = text_in (codes "queries") rows;
+  checkpoint = text_in (codes "checkpoint") rows;
+  events = text_in (codes "events") rows;
+  order = order;
+  compact_every = number_under (codes "compact-every") rows;
+  most_bytes = bytes_in rows;
+})
 
 -- what was found after `resume`; none where the order is of neither name
 abbrev pub resume_in : List Row → Option Command

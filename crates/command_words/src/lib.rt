@@ -20,73 +20,99 @@ use answer_text::Order;
 use cer_base::{Listed, OrMemory, Text};
 use std::alloc::Global;
 
+/// A run: the answers to the queries of one file over the events of another.
+#[derive(Drop)]
+pub struct RunWords {
+    pub queries: Text,
+    pub events: Text,
+    pub order: Order,
+    /// From 1. The engine is compacted after every so many events, where it is given.
+    pub compact_every: Option<u64>,
+    /// From 1.
+    pub most_bytes: u64,
+}
+
+/// A run over events that come late.
+#[derive(Drop)]
+pub struct ReorderWords {
+    pub queries: Text,
+    pub events: Text,
+    /// The name of the attribute that is an event's clock.
+    pub clock: Text,
+    /// By how much an event's clock may be below one before it, from 0 to 2^63 - 1.
+    pub late: u64,
+    pub order: Order,
+    /// From 1. The engine is compacted after every so many events, where it is given.
+    pub compact_every: Option<u64>,
+    /// From 1.
+    pub most_bytes: u64,
+}
+
+/// Which complex event is asked about.
+#[derive(Drop)]
+pub struct Question {
+    /// The query's number, from 1.
+    pub query: u64,
+    /// The first and the last position of the complex event, from 0.
+    pub start: u64,
+    pub end: u64,
+    /// Its marked positions, as they were given.
+    pub positions: Listed<u64>,
+}
+
+/// Why a complex event is an answer to a query of one file over the events of another.
+#[derive(Drop)]
+pub struct ExplainWords {
+    pub queries: Text,
+    pub events: Text,
+    pub question: Question,
+}
+
+/// The commands of one file, among which events come and cursors are opened, on the queries of
+/// another.
+#[derive(Drop)]
+pub struct SessionWords {
+    pub queries: Text,
+    pub script: Text,
+}
+
+/// A checkpoint of the events of one file, for the queries of another.
+#[derive(Drop)]
+pub struct SaveWords {
+    pub queries: Text,
+    pub events: Text,
+}
+
+/// A run over events that come after those that a checkpoint keeps.
+#[derive(Drop)]
+pub struct ResumeWords {
+    pub queries: Text,
+    pub checkpoint: Text,
+    pub events: Text,
+    pub order: Order,
+    /// From 1. The engine is compacted after every so many events, where it is given.
+    pub compact_every: Option<u64>,
+    /// From 1 to 2^62.
+    pub most_bytes: u64,
+}
+
+/// A summary of two fixed queries over events that are made up from a seed.
+#[derive(Drop)]
+pub struct SampleWords {
+    pub seed: u64,
+    pub count: u64,
+}
+
 /// What the words after the program's name ask for.
 #[derive(Drop)]
 pub enum Command {
-    /// The answers to the queries of one file over the events of another.
-    Run {
-        queries: Text,
-        events: Text,
-        order: Order,
-        /// From 1. The engine is compacted after every so many events, where it is given.
-        compact_every: Option<u64>,
-        /// From 1.
-        most_bytes: u64,
-    },
-    /// The answers over events that are made up from a seed.
-    Sample {
-        seed: u64,
-        count: u64,
-    },
-    /// The commands of one file, among which events come and cursors are opened, on the queries of
-    /// another.
-    Session {
-        queries: Text,
-        script: Text,
-    },
-    /// The answers to the queries of one file over the events of another, which come late.
-    Reorder {
-        queries: Text,
-        events: Text,
-        /// The name of the attribute that is an event's clock.
-        clock: Text,
-        /// By how much an event's clock may be below one before it, from 0 to 2^63 - 1.
-        late: u64,
-        order: Order,
-        /// From 1. The engine is compacted after every so many events, where it is given.
-        compact_every: Option<u64>,
-        /// From 1.
-        most_bytes: u64,
-    },
-    /// Why a complex event is an answer to a query of one file over the events of another.
-    Explain {
-        queries: Text,
-        events: Text,
-        /// The query's number, from 1.
-        query: u64,
-        /// The first and the last position of the complex event, from 0.
-        start: u64,
-        end: u64,
-        /// Its marked positions, as they were given.
-        positions: Listed<u64>,
-    },
-    /// A checkpoint of the events of one file, for the queries of another.
-    Save {
-        queries: Text,
-        events: Text,
-    },
-    /// The answers to the queries of one file over the events of another, which come after those
-    /// that a checkpoint keeps.
-    Resume {
-        queries: Text,
-        checkpoint: Text,
-        events: Text,
-        order: Order,
-        /// From 1. The engine is compacted after every so many events, where it is given.
-        compact_every: Option<u64>,
-        /// From 1 to 2^62.
-        most_bytes: u64,
-    },
+    Run(RunWords),
+    Sample(SampleWords),
+    Session(SessionWords),
+    Reorder(ReorderWords),
+    Explain(ExplainWords),
+    Save(SaveWords),
+    Resume(ResumeWords),
 }
 
 /// The words ask for nothing that the program does.

@@ -6,7 +6,10 @@ ghost use Rattle.cer_base.specs.Answers.{OnFault};
 ghost use Rattle.command_words.specs.CommandLine.{command_at, command_named, number_under, number_in, parsed_number, numbers_in, other_named};
 ghost use Rattle.command_words.specs.CommandLine.{explain_in, order_in, order_of, reorder_in, resume_in, run_in, sample_in, save_in, session_in, text_in};
 
-use crate::{Command, Usage};
+use crate::{
+    Command, ExplainWords, Question, ReorderWords, ResumeWords, RunWords, SampleWords, SaveWords,
+    SessionWords, Usage,
+};
 use answer_text::Order;
 use cer_base::{Listed, Memory, OrMemory, Text};
 use clap::ArgMatches;
@@ -92,13 +95,13 @@ fn run_in(alloc: Global, matches: &ArgMatches<'_>) -> Result<Command, OrMemory<U
     let events = text_in(alloc, matches, "events")?;
     let compact_every = number_under(matches, "compact-every");
     let most_bytes = number_in(matches, "max-bytes", MOST_BYTES);
-    Ok(Command::Run {
+    Ok(Command::Run(RunWords {
         queries,
         events,
         order,
         compact_every,
         most_bytes,
-    })
+    }))
 }
 
 /// What was found after `sample`.
@@ -107,7 +110,7 @@ fn sample_in(matches: &ArgMatches<'_>) -> Command
 {
     let seed = number_in(matches, "seed", 0);
     let count = number_in(matches, "count", 0);
-    Command::Sample { seed, count }
+    Command::Sample(SampleWords { seed, count })
 }
 
 /// What was found after `session`.
@@ -115,10 +118,10 @@ fn session_in(alloc: Global, matches: &ArgMatches<'_>) -> Result<Command, OrMemo
     ensures read { IfOk result (λ c. c ≡ session_in (rows_of (found_of matches.now))) }
     ensures none { OnFault result (λ u. ⊥) }
 {
-    Ok(Command::Session {
+    Ok(Command::Session(SessionWords {
         queries: text_in(alloc, matches, "queries")?,
         script: text_in(alloc, matches, "script")?,
-    })
+    }))
 }
 
 /// What was found after `reorder`.
@@ -129,7 +132,7 @@ fn reorder_in(alloc: Global, matches: &ArgMatches<'_>) -> Result<Command, OrMemo
     let Some(order) = order_in(matches) else {
         return Err(OrMemory::Fault(Usage));
     };
-    Ok(Command::Reorder {
+    Ok(Command::Reorder(ReorderWords {
         queries: text_in(alloc, matches, "queries")?,
         events: text_in(alloc, matches, "events")?,
         clock: text_in(alloc, matches, "clock")?,
@@ -137,7 +140,7 @@ fn reorder_in(alloc: Global, matches: &ArgMatches<'_>) -> Result<Command, OrMemo
         order,
         compact_every: number_under(matches, "compact-every"),
         most_bytes: number_in(matches, "max-bytes", MOST_BYTES),
-    })
+    }))
 }
 
 /// What was found after `explain`.
@@ -145,14 +148,16 @@ fn explain_in(alloc: Global, matches: &ArgMatches<'_>) -> Result<Command, OrMemo
     ensures read { IfOk result (λ c. c ≡ explain_in (rows_of (found_of matches.now))) }
     ensures none { OnFault result (λ u. ⊥) }
 {
-    Ok(Command::Explain {
+    Ok(Command::Explain(ExplainWords {
         queries: text_in(alloc, matches, "queries")?,
         events: text_in(alloc, matches, "events")?,
-        query: number_in(matches, "query", 0),
-        start: number_in(matches, "start", 0),
-        end: number_in(matches, "end", 0),
-        positions: numbers_in(alloc, matches, "positions")?,
-    })
+        question: Question {
+            query: number_in(matches, "query", 0),
+            start: number_in(matches, "start", 0),
+            end: number_in(matches, "end", 0),
+            positions: numbers_in(alloc, matches, "positions")?,
+        },
+    }))
 }
 
 /// What was found after `save`.
@@ -160,10 +165,10 @@ fn save_in(alloc: Global, matches: &ArgMatches<'_>) -> Result<Command, OrMemory<
     ensures read { IfOk result (λ c. c ≡ save_in (rows_of (found_of matches.now))) }
     ensures none { OnFault result (λ u. ⊥) }
 {
-    Ok(Command::Save {
+    Ok(Command::Save(SaveWords {
         queries: text_in(alloc, matches, "queries")?,
         events: text_in(alloc, matches, "events")?,
-    })
+    }))
 }
 
 /// What was found after `resume`.
@@ -174,14 +179,14 @@ fn resume_in(alloc: Global, matches: &ArgMatches<'_>) -> Result<Command, OrMemor
     let Some(order) = order_in(matches) else {
         return Err(OrMemory::Fault(Usage));
     };
-    Ok(Command::Resume {
+    Ok(Command::Resume(ResumeWords {
         queries: text_in(alloc, matches, "queries")?,
         checkpoint: text_in(alloc, matches, "checkpoint")?,
         events: text_in(alloc, matches, "events")?,
         order,
         compact_every: number_under(matches, "compact-every"),
         most_bytes: number_in(matches, "max-bytes", MOST_BYTES).min(GREATEST_BYTES),
-    })
+    }))
 }
 
 fn text_in(alloc: Global, matches: &ArgMatches<'_>, id: &str) -> Result<Text, Memory>

@@ -1,5 +1,7 @@
 -- In reading order.
--- what the end of a job says of each answer
+-- what the words ask for is one thing
+mod Words
+-- what the end of a task says of each answer
 mod Clauses
 -- a note for which there was no memory
 mod Noted

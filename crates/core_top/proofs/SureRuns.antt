@@ -6,11 +6,13 @@ use Rattle.cer_outside.specs.States.{FileState}
 use Rattle.cer_outside.specs.Files.{file_under, content_of, content_under, sure_faults_under}
 use Rattle.fault_notes.specs.declared.File.{File}
 use Rattle.fault_notes.specs.declared.File.TheVariants as file
-use Rattle.core_jobs.specs.declared.Cause.{Cause}
-use Rattle.core_jobs.specs.declared.Cause.TheVariants as cause
-use Rattle.core_jobs.specs.Command.{Job, query_file_of, checkpoint_file_of, event_file_of, HasCheckpoint, AsksJob}
-use Rattle.core_jobs.specs.Causes.{ReadsFile, ComesInTurn, IsFineOrOutside, IsFineOrMemory, HasOpenFault, HasReadFault, name_of}
-use Rattle.core_jobs.proofs.Words.{one_job}
+use Rattle.command_base.specs.declared.Cause.{Cause}
+use Rattle.command_base.specs.declared.Cause.TheVariants as cause
+use Rattle.command_base.specs.Tasks.{Task, HasCheckpoint, ReadsFile, ComesInTurn, name_in, name_of}
+use Rattle.command_base.specs.Causes.{IsFineOrOutside, IsFineOrMemory}
+use Rattle.core_top.specs.Jobs.{Job, task_of, AsksJob}
+use Rattle.core_top.specs.Faults.{HasOpenFault, HasReadFault}
+use Rattle.core_top.proofs.Words.{one_job}
 
 -- a count that is 0 has not risen
 pub never_rose : (before after : ℕ) → after ≡ 0 → Rose before after → ⊥
@@ -25,25 +27,25 @@ pub no_faults : (files : List FileState) (others : ℕ) (name bytes : List ℕ) 
 no_faults files others name bytes told = none_of (file_under files name) bytes others told
 
 -- none of the names has faults
-pub no_name : (new : List ℕ → ℕ) (job : Job) → new (query_file_of job) ≡ 0 → (HasCheckpoint job → new (checkpoint_file_of job) ≡ 0) → new (event_file_of job) ≡ 0 → (opened : File) → ReadsFile job opened → new (name_of opened job) ≡ 0
-no_name new job first middle second file.Queries reads = first
-no_name new job first middle second file.Checkpoint reads = middle reads
-no_name new job first middle second file.Events reads = second
+pub no_name : (new : List ℕ → ℕ) (t : Task) → new t.queries ≡ 0 → (HasCheckpoint t → new (name_in t.checkpoint) ≡ 0) → new t.events ≡ 0 → (opened : File) → ReadsFile t opened → new (name_of opened t) ≡ 0
+no_name new t first middle second file.Queries reads = first
+no_name new t first middle second file.Checkpoint reads = middle reads
+no_name new t first middle second file.Events reads = second
 
--- what comes in its turn is a file of the job
-in_turn : (job : Job) (opened : File) (content : List ℕ → Content) → ComesInTurn job opened content → ReadsFile job opened
-in_turn job file.Queries content turn = tt
-in_turn job file.Checkpoint content turn = turn.0
-in_turn job file.Events content turn = tt
+-- what comes in its turn is a file of the task
+in_turn : (t : Task) (opened : File) (content : List ℕ → Content) → ComesInTurn t opened content → ReadsFile t opened
+in_turn t file.Queries content turn = tt
+in_turn t file.Checkpoint content turn = turn.0
+in_turn t file.Events content turn = tt
 
 -- no file of the words failed to open
 pub never_open : (words : List (List ℕ)) (content : List ℕ → Content) (old new : List ℕ → ℕ) (job : Job) (opened : File) (before after : ℕ) →
-    AsksJob words job → new (query_file_of job) ≡ 0 → (HasCheckpoint job → new (checkpoint_file_of job) ≡ 0) → new (event_file_of job) ≡ 0 → HasOpenFault words content old new opened before after → ⊥
+    AsksJob words job → new (task_of job).queries ≡ 0 → (HasCheckpoint (task_of job) → new (name_in (task_of job).checkpoint) ≡ 0) → new (task_of job).events ≡ 0 → HasOpenFault words content old new opened before after → ⊥
 never_open words content old new job opened before after is first middle second fault =
     let same = one_job words fault.job job fault.asked is in
-    let R : Job → Type 0 = λ w. ReadsFile w opened in
-    let reads : ReadsFile job opened = subst R same (in_turn fault.job opened content fault.turn) in
-    let here : new (name_of opened fault.job) ≡ 0 = ap (λ w. new (name_of opened w)) same ∙ no_name new job first middle second opened reads in
+    let R : Job → Type 0 = λ w. ReadsFile (task_of w) opened in
+    let reads : ReadsFile (task_of job) opened = subst R same (in_turn (task_of fault.job) opened content fault.turn) in
+    let here : new (name_of opened (task_of fault.job)) ≡ 0 = ap (λ (w : Job). new (name_of opened (task_of w))) same ∙ no_name new (task_of job) first middle second opened reads in
     never_rose before after (fault.to ∙ here) fault.rose
 
 -- no source failed

@@ -1,12 +1,12 @@
 //! The note of a cause, written to standard error.
 
 ghost use Rattle.std.specs.Prelude.{◌≡◌, ◌⊎◌, OnOk, OnErr};
-ghost use Rattle.core_jobs.specs.Notes.{note_of, TookNote, NeedsMemory, IsToldAs};
+ghost use Rattle.command_base.specs.Notes.{note_of, TookNote, NeedsMemory, IsToldAs};
 
 use cer_base::Memory;
 use cer_outside::Sink;
 use cer_outside::writing::put_all;
-use core_jobs::{Cause, Stop};
+use command_base::{Cause, Stop};
 use fault_notes::{
     checkpoint_note, clock_note, event_note, memory_note, open_note, query_note, read_note,
     too_long_note, usage_note, write_note,

@@ -5,9 +5,9 @@ ghost use Rattle.cer_outside.specs.Causes.{Rose};
 ghost use Rattle.cer_outside.specs.Content.{Holds};
 ghost use Rattle.cer_outside.specs.Files.{content_under};
 ghost use Rattle.event_run.specs.Runs as stop;
-ghost use Rattle.core_jobs.specs.Command.{Job, query_file_of, event_file_of, AsksJob};
-ghost use Rattle.core_jobs.specs.Accepted.{JobStops};
-ghost use Rattle.core_jobs.specs.Causes.{CheckpointHolds, IsFineOrMemory};
+ghost use Rattle.command_base.specs.Tasks.{CheckpointHolds, TaskStops};
+ghost use Rattle.command_base.specs.Causes.{IsFineOrMemory};
+ghost use Rattle.core_top.specs.Jobs.{Job, task_of, AsksJob};
 
 use super::Done;
 use super::top::core_main;
@@ -30,10 +30,10 @@ pub fn run_over_sure<K: Sink, N: Sink, L: Ledger>(
     steps: &mut Steps<L>,
 ) -> Done<SureSource>
     ensures { (job : Job) (text kept lines : List ℕ) → AsksJob (map string_bytes words.items) job
-        → content_under host.old.files (query_file_of job) ≡ Holds text
-        → CheckpointHolds (content_under host.old.files) job kept
-        → content_under host.old.files (event_file_of job) ≡ Holds lines
-        → JobStops job text kept lines stop.End
+        → content_under host.old.files (task_of job).queries ≡ Holds text
+        → CheckpointHolds (content_under host.old.files) (task_of job) kept
+        → content_under host.old.files (task_of job).events ≡ Holds lines
+        → TaskStops (task_of job) text kept lines stop.End
         → (Rose (K.faults out.old) (K.faults out.new) → ⊥) → IsFineOrMemory result.cause }
 {
     core_main(alloc, words, host, out, notes, steps)

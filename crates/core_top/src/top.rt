@@ -9,31 +9,38 @@ ghost use Rattle.cer_outside.specs.Content.{Missing, Holds};
 ghost use Rattle.event_run.specs.Runs as stop;
 ghost use Rattle.fault_notes.specs.declared.File.{File};
 ghost use Rattle.command_words.specs.CommandLine.{AskNothing};
-ghost use Rattle.core_jobs.specs.Command.{Job, query_file_of, event_file_of, AsksJob, AsksSample};
-ghost use Rattle.core_jobs.specs.Accepted.{IsRefusedBy, LacksItsClock, RefusesCheckpoint, JobStops};
-ghost use Rattle.core_jobs.specs.Causes.{status_of, name_of, ReadsFile, CheckpointHolds, Exactly, IsFineOrOutside, IsReading};
-ghost use Rattle.core_jobs.specs.Causes.{HasOpenFault, HasReadFault, HasWriteFault, CountsOpens, CountsWrites, EndsWithout};
-ghost use Rattle.core_jobs.specs.Opening.{OpensInTurn};
-ghost use Rattle.core_jobs.specs.Output.{WroteBy, WroteSample};
-ghost use Rattle.core_jobs.specs.Left.{IsLeftBy};
-ghost use Rattle.core_jobs.specs.Steps.{StepsOf};
-ghost use Rattle.core_jobs.specs.Notes.{note_of, TookNote};
-ghost use Rattle.core_jobs.specs.Run.{CallEnded, left_by};
+ghost use Rattle.command_words.specs.declared.SampleWords.{SampleWords};
+ghost use Rattle.command_base.specs.Accepted.{IsRefusedText};
+ghost use Rattle.command_base.specs.Tasks.{ReadsFile, CheckpointHolds, LacksItsClock, RefusesCheckpoint, TaskStops, name_of};
+ghost use Rattle.command_base.specs.Causes.{status_of, Exactly, IsFineOrOutside, IsReading, CountsOpens, CountsWrites, EndsWithout};
+ghost use Rattle.command_base.specs.Opening.{OpensInTurn};
+ghost use Rattle.command_base.specs.Output.{WroteBy};
+ghost use Rattle.command_base.specs.Leaving.{IsLeftBy};
+ghost use Rattle.command_base.specs.Steps.{StepsBy};
+ghost use Rattle.command_base.specs.Notes.{note_of, TookNote};
+ghost use Rattle.command_base.specs.Sources.{left_by};
+ghost use Rattle.command_sample.specs.Ending.{WroteSample};
+ghost use Rattle.core_top.specs.Jobs.{Job, task_of, AsksJob, AsksSample};
+ghost use Rattle.core_top.specs.Steps.{steps_of};
+ghost use Rattle.core_top.specs.Left.{leaves_of};
+ghost use Rattle.core_top.specs.Faults.{HasOpenFault, HasReadFault, HasWriteFault};
+ghost use Rattle.core_top.specs.Calls.{CallEnded};
 
 use super::Done;
 use super::notes::noted;
-use answer_explain::Question;
 use cer_base::OrMemory;
 use cer_base::steps::Steps;
 use cer_outside::{Host, Sink};
+use command_base::{Cause, Stop};
+use command_checkpoint::{resume, save};
+use command_explain::explain;
+use command_reorder::reorder;
+use command_run::run;
+use command_sample::sample;
+use command_session::play;
 use command_words::{Command, read_command};
-use core_jobs::{
-    Cause, Stop, explain_files, reorder_files, resume_files, run_files, run_sample, save_files,
-    session_files,
-};
 use std::alloc::Global;
 use std::sync::ledger::Ledger;
-use stream_answers::RunOptions;
 
 /// Does what the words after the program's name ask for.
 ///
@@ -65,11 +72,11 @@ pub fn core_main<H: Host, K: Sink, N: Sink, L: Ledger>(
     // then the event file, at the positions after the history; where the checkpoint is refused it
     // has written nothing.
     ensures wrote { (job : Job) → AsksJob (map string_bytes words.items) job
-        → WroteBy result.cause (H.content host.old) job
+        → WroteBy result.cause (H.content host.old) (task_of job)
         (left_by (record { faults = H.Src.faults; left = H.Src.left }) result.failed)
         (K.taken out.old) (K.taken out.new) }
-    ensures sampled { (seed count : ℕ) → AsksSample (map string_bytes words.items) seed count
-        → WroteSample result.cause seed count (K.taken out.old) (K.taken out.new) }
+    ensures sampled { (sample : SampleWords) → AsksSample (map string_bytes words.items) sample
+        → WroteSample result.cause sample (K.taken out.old) (K.taken out.new) }
     ensures silent { AskNothing (map string_bytes words.items)
         → K.taken out.new ≡ K.taken out.old }
     ensures status { result.status ≡ status_of result.cause }
@@ -78,31 +85,31 @@ pub fn core_main<H: Host, K: Sink, N: Sink, L: Ledger>(
     ensures usage { Exactly result.cause Cause.Usage (AskNothing (map string_bytes words.items)) }
     ensures queries { (job : Job) (text : List ℕ) (fault : QueryFault) (place : Place)
         → AsksJob (map string_bytes words.items) job
-        → H.content host.old (query_file_of job) ≡ Holds text
-        → Exactly result.cause (Cause.Queries fault place) (IsRefusedBy job text fault place) }
+        → H.content host.old (task_of job).queries ≡ Holds text
+        → Exactly result.cause (Cause.Queries fault place) (IsRefusedText text fault place) }
     ensures clock { (job : Job) (text name : List ℕ) → AsksJob (map string_bytes words.items) job
-        → H.content host.old (query_file_of job) ≡ Holds text
-        → Exactly result.cause (Cause.ClockKind name) (LacksItsClock job text name) }
+        → H.content host.old (task_of job).queries ≡ Holds text
+        → Exactly result.cause (Cause.ClockKind name) (LacksItsClock (task_of job) text name) }
     ensures checkpoint { (job : Job) (text kept : List ℕ) (line : ℕ) (fault : CheckpointFault)
         → AsksJob (map string_bytes words.items) job
-        → H.content host.old (query_file_of job) ≡ Holds text
-        → CheckpointHolds (H.content host.old) job kept
+        → H.content host.old (task_of job).queries ≡ Holds text
+        → CheckpointHolds (H.content host.old) (task_of job) kept
         → Exactly result.cause (Cause.Checkpoint line fault)
-        (RefusesCheckpoint job text kept line fault) }
+        (RefusesCheckpoint (task_of job) text kept line fault) }
     ensures event { (job : Job) (text kept lines : List ℕ) (line : ℕ) (fault : EventFault)
         → AsksJob (map string_bytes words.items) job
-        → H.content host.old (query_file_of job) ≡ Holds text
-        → CheckpointHolds (H.content host.old) job kept
-        → H.content host.old (event_file_of job) ≡ Holds lines
+        → H.content host.old (task_of job).queries ≡ Holds text
+        → CheckpointHolds (H.content host.old) (task_of job) kept
+        → H.content host.old (task_of job).events ≡ Holds lines
         → Exactly result.cause (Cause.Event line fault)
-        (JobStops job text kept lines (stop.Event line fault)) }
+        (TaskStops (task_of job) text kept lines (stop.Event line fault)) }
     ensures too_long { (job : Job) (text kept lines : List ℕ) (taken : ℕ)
         → AsksJob (map string_bytes words.items) job
-        → H.content host.old (query_file_of job) ≡ Holds text
-        → CheckpointHolds (H.content host.old) job kept
-        → H.content host.old (event_file_of job) ≡ Holds lines
+        → H.content host.old (task_of job).queries ≡ Holds text
+        → CheckpointHolds (H.content host.old) (task_of job) kept
+        → H.content host.old (task_of job).events ≡ Holds lines
         → Exactly result.cause (Cause.InputTooLong taken)
-        (JobStops job text kept lines (stop.InputTooLong taken)) }
+        (TaskStops (task_of job) text kept lines (stop.InputTooLong taken)) }
     ensures open_fault { (file : File) (before after : ℕ)
         → result.cause ≡ Cause.OpenFault file before after
         → HasOpenFault (map string_bytes words.items) (H.content host.old)
@@ -116,41 +123,41 @@ pub fn core_main<H: Host, K: Sink, N: Sink, L: Ledger>(
 
     // A file that the host lacks is never opened, and nothing is written without it.
     ensures missing { (job : Job) (file : File) → AsksJob (map string_bytes words.items) job
-        → ReadsFile job file → H.content host.old (name_of file job) ≡ Missing
+        → ReadsFile (task_of job) file → H.content host.old (name_of file (task_of job)) ≡ Missing
         → EndsWithout file result.cause × (K.taken out.new ≡ K.taken out.old) }
 
     // A text and a checkpoint that the job takes and an event file that is read to its end, or a
     // script without a refusal, are answered, but for memory and the outside.
     ensures complete { (job : Job) (text kept lines : List ℕ)
         → AsksJob (map string_bytes words.items) job
-        → H.content host.old (query_file_of job) ≡ Holds text
-        → CheckpointHolds (H.content host.old) job kept
-        → H.content host.old (event_file_of job) ≡ Holds lines
-        → JobStops job text kept lines stop.End → IsFineOrOutside result.cause }
+        → H.content host.old (task_of job).queries ≡ Holds text
+        → CheckpointHolds (H.content host.old) (task_of job) kept
+        → H.content host.old (task_of job).events ≡ Holds lines
+        → TaskStops (task_of job) text kept lines stop.End → IsFineOrOutside result.cause }
 
     // Each file is opened once and in its turn, and the host is asked by no other call; no call failed
     // but the one that is the cause.
     ensures opens { (job : Job) → AsksJob (map string_bytes words.items) job
-        → OpensInTurn H.opens (H.content host.old) job result.cause host.old host.new }
+        → OpensInTurn H.opens (H.content host.old) (task_of job) result.cause host.old host.new }
     ensures unopened { AskNothing (map string_bytes words.items) → host.new ≡ host.old }
-    ensures unopened_sample { (seed count : ℕ)
-        → AsksSample (map string_bytes words.items) seed count → host.new ≡ host.old }
+    ensures unopened_sample { (sample : SampleWords)
+        → AsksSample (map string_bytes words.items) sample → host.new ≡ host.old }
     ensures counts_opens { (job : Job) → AsksJob (map string_bytes words.items) job
-        → CountsOpens result.cause job (H.faults host.old) (H.faults host.new) }
+        → CountsOpens result.cause (task_of job) (H.faults host.old) (H.faults host.new) }
     ensures counts_writes { CountsWrites result.cause (K.faults out.old) (K.faults out.new) }
 
     // However a run ends, its steps are bounded by the events of the file, those of a checkpoint
     // before it among them, and by their answers; an explanation takes none, nor does saving events.
     // Those of a session are bounded by the commands that it carries out.
     ensures steps { (job : Job) → AsksJob (map string_bytes words.items) job
-        → StepsOf result.cause (H.content host.old) job (K.taken out.old) (K.taken out.new)
-        steps.old steps.new }
+        → StepsBy result.cause (steps_of job (H.content host.old)) (K.taken out.old)
+        (K.taken out.new) steps.old steps.new }
 
     // The engine of a run, over late events or not, is left with status 0, and with no other; it
     // stands for exactly the events of the event file, after those of a checkpoint where there is
     // one. No other call leaves one.
     ensures left { (job : Job) → AsksJob (map string_bytes words.items) job
-        → IsLeftBy result.cause (H.content host.old) job result.left }
+        → IsLeftBy result.cause (leaves_of job (H.content host.old)) result.left }
     ensures none_left { ((job : Job) → AsksJob (map string_bytes words.items) job → ⊥)
         → result.left ≡ None }
 
@@ -158,7 +165,7 @@ pub fn core_main<H: Host, K: Sink, N: Sink, L: Ledger>(
         (N.faults notes.old) (N.faults notes.new) (note_of result.cause) }
     ensures kept { (name : List ℕ) → H.content host.new name ≡ H.content host.old name }
 {
-    let stop = run(alloc, words.as_slice(), host, out, steps);
+    let stop = obey(alloc, words.as_slice(), host, out, steps);
     done(noted(alloc, notes, stop))
 }
 
@@ -178,7 +185,7 @@ fn done<S>(stop: Stop<S>) -> Done<S>
 }
 
 /// What the words ask for, or a usage fault.
-fn run<H: Host, K: Sink, L: Ledger>(
+fn obey<H: Host, K: Sink, L: Ledger>(
     alloc: Global,
     words: &[String],
     host: &mut H,
@@ -198,121 +205,22 @@ fn run<H: Host, K: Sink, L: Ledger>(
         })
         host.old host.new result.cause result.failed }
     ensures steps { (job : Job) → AsksJob (map string_bytes words.now) job
-        → StepsOf result.cause (H.content host.old) job (K.taken out.old) (K.taken out.new)
-        steps.old steps.new }
+        → StepsBy result.cause (steps_of job (H.content host.old)) (K.taken out.old)
+        (K.taken out.new) steps.old steps.new }
     ensures left { (job : Job) → AsksJob (map string_bytes words.now) job
-        → IsLeftBy result.cause (H.content host.old) job result.left }
+        → IsLeftBy result.cause (leaves_of job (H.content host.old)) result.left }
     ensures none_left { ((job : Job) → AsksJob (map string_bytes words.now) job → ⊥)
         → result.left ≡ None }
     ensures kept { (name : List ℕ) → H.content host.new name ≡ H.content host.old name }
 {
     match read_command(alloc, words) {
-        Ok(
-            Command::Run {
-                queries,
-                events,
-                order,
-                compact_every,
-                most_bytes,
-            },
-        ) => run_files(
-            alloc,
-            queries.as_str(),
-            events.as_str(),
-            RunOptions {
-                order,
-                compact_every,
-                most_bytes,
-            },
-            host,
-            out,
-            steps,
-        ),
-        Ok(
-            Command::Reorder {
-                queries,
-                events,
-                clock,
-                late,
-                order,
-                compact_every,
-                most_bytes,
-            },
-        ) => reorder_files(
-            alloc,
-            queries.as_str(),
-            events.as_str(),
-            clock.as_str(),
-            late,
-            RunOptions {
-                order,
-                compact_every,
-                most_bytes,
-            },
-            host,
-            out,
-            steps,
-        ),
-        Ok(
-            Command::Explain {
-                queries,
-                events,
-                query,
-                start,
-                end,
-                positions,
-            },
-        ) => {
-            let question = Question {
-                query,
-                start,
-                end,
-                positions,
-            };
-            explain_files(
-                alloc,
-                queries.as_str(),
-                events.as_str(),
-                &question,
-                host,
-                out,
-            )
-        }
-        Ok(Command::Session { queries, script }) => session_files(
-            alloc,
-            queries.as_str(),
-            script.as_str(),
-            host,
-            out,
-            steps,
-        ),
-        Ok(
-            Command::Resume {
-                queries,
-                checkpoint,
-                events,
-                order,
-                compact_every,
-                most_bytes,
-            },
-        ) => resume_files(
-            alloc,
-            queries.as_str(),
-            checkpoint.as_str(),
-            events.as_str(),
-            RunOptions {
-                order,
-                compact_every,
-                most_bytes,
-            },
-            host,
-            out,
-            steps,
-        ),
-        Ok(Command::Save { queries, events }) => {
-            save_files(alloc, queries.as_str(), events.as_str(), host, out)
-        }
-        Ok(Command::Sample { seed, count }) => run_sample(alloc, seed, count, out, steps),
+        Ok(Command::Run(asked)) => run(alloc, &asked, host, out, steps),
+        Ok(Command::Reorder(asked)) => reorder(alloc, &asked, host, out, steps),
+        Ok(Command::Explain(asked)) => explain(alloc, &asked, host, out),
+        Ok(Command::Session(asked)) => play(alloc, &asked, host, out, steps),
+        Ok(Command::Resume(asked)) => resume(alloc, &asked, host, out, steps),
+        Ok(Command::Save(asked)) => save(alloc, &asked, host, out),
+        Ok(Command::Sample(asked)) => sample(alloc, &asked, out, steps),
         Err(OrMemory::Memory) => Stop::of(Cause::Memory),
         Err(OrMemory::Fault(_)) => Stop::of(Cause::Usage),
     }

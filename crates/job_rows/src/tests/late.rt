@@ -10,7 +10,7 @@ use cer_base::steps::{Opening, Steps};
 use cer_base::{Memory, OrMemory};
 use cer_outside::sinks::MemSink;
 use cer_outside::sources::MemSource;
-use late_answers::write_late;
+use command_reorder::write_late;
 use query_engine::Engine;
 use reorder_gate::clock_fits;
 use std::alloc::{AllocError, Global};

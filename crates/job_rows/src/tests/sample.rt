@@ -1,7 +1,7 @@
 //! The schema and the queries of the sample beside the text that they stand for.
 
 use ceql_parser::read_queries;
-use core_sample::{sample_queries, sample_schema};
+use command_sample::{sample_queries, sample_schema};
 use query_engine::Queries;
 use std::alloc::{AllocError, Global};
 use std::test::*;

@@ -7,10 +7,10 @@ use ceql_parser::read_queries;
 use cer_base::OrMemory;
 use cer_outside::sinks::MemSink;
 use cer_outside::sources::MemSource;
+use command_checkpoint::save_events;
 use std::alloc::{AllocError, Global};
 use std::test::Fail;
 use stream_answers::StreamFault;
-use stream_checkpoint::save_events;
 
 /// Two types with a whole number each, and a stream of both.
 const FIRST: &str = "DECLARE EVENT A(v INT)\nDECLARE EVENT B(v INT)\nDECLARE STREAM S(A, B)\n";

@@ -198,83 +198,60 @@ fn words_of(alloc: Global, line: &str) -> Result<Vec<String>, Fail> {
 
 fn shown(alloc: Global, asked: Result<Command, OrMemory<Usage>>) -> Result<String, Fail> {
     Ok(match asked {
-        Ok(
-            Command::Run {
-                queries,
-                events,
-                order,
-                compact_every,
-                most_bytes,
-            },
-        ) => {
-            let names = format!(in alloc; "run {} {}", queries.as_str(), events.as_str())?;
-            match compact_every {
-                Some(n) => {
-                    format!(in alloc; "{names} {order:?} {most_bytes}, compacted every {n}")?
-                }
-                None => format!(in alloc; "{names} {order:?} {most_bytes}")?,
-            }
+        Ok(Command::Run(run)) => {
+            let names = format!(in alloc; "run {} {}", run.queries.as_str(), run.events.as_str())?;
+            let asked = format!(in alloc; "{names} {:?} {}", run.order, run.most_bytes)?;
+            with_compactions(alloc, asked, run.compact_every)?
         }
-        Ok(
-            Command::Reorder {
-                queries,
-                events,
-                clock,
-                late,
-                order,
-                compact_every,
-                most_bytes,
-            },
-        ) => {
-            let names = format!(in alloc; "reorder {} {}", queries.as_str(), events.as_str())?;
-            let asked = format!(in alloc; "{names} {} {late}", clock.as_str())?;
-            match compact_every {
-                Some(n) => {
-                    format!(in alloc; "{asked} {order:?} {most_bytes}, compacted every {n}")?
-                }
-                None => format!(in alloc; "{asked} {order:?} {most_bytes}")?,
-            }
+        Ok(Command::Reorder(run)) => {
+            let names = (run.queries.as_str(), run.events.as_str());
+            let names = format!(in alloc; "reorder {} {}", names.0, names.1)?;
+            let asked = format!(in alloc; "{names} {} {}", run.clock.as_str(), run.late)?;
+            let asked = format!(in alloc; "{asked} {:?} {}", run.order, run.most_bytes)?;
+            with_compactions(alloc, asked, run.compact_every)?
         }
-        Ok(
-            Command::Resume {
-                queries,
-                checkpoint,
-                events,
-                order,
-                compact_every,
-                most_bytes,
-            },
-        ) => {
-            let names = format!(in alloc; "resume {} {}", queries.as_str(), checkpoint.as_str())?;
-            let asked = format!(in alloc; "{names} {} {order:?} {most_bytes}", events.as_str())?;
-            match compact_every {
-                Some(n) => format!(in alloc; "{asked}, compacted every {n}")?,
-                None => asked,
-            }
+        Ok(Command::Resume(run)) => {
+            let names = (run.queries.as_str(), run.checkpoint.as_str());
+            let names = format!(in alloc; "resume {} {}", names.0, names.1)?;
+            let asked = format!(in alloc; "{names} {} {:?}", run.events.as_str(), run.order)?;
+            let asked = format!(in alloc; "{asked} {}", run.most_bytes)?;
+            with_compactions(alloc, asked, run.compact_every)?
         }
-        Ok(Command::Save { queries, events }) => {
-            format!(in alloc; "save {} {}", queries.as_str(), events.as_str())?
+        Ok(Command::Save(save)) => {
+            format!(in alloc; "save {} {}", save.queries.as_str(), save.events.as_str())?
         }
-        Ok(Command::Sample { seed, count }) => format!(in alloc; "sample {seed} {count}")?,
-        Ok(Command::Session { queries, script }) => {
-            format!(in alloc; "session {} {}", queries.as_str(), script.as_str())?
+        Ok(Command::Sample(sample)) => {
+            format!(in alloc; "sample {} {}", sample.seed, sample.count)?
         }
-        Ok(
-            Command::Explain {
-                queries,
-                events,
-                query,
-                start,
-                end,
-                positions,
-            },
-        ) => {
-            let names = format!(in alloc; "explain {} {}", queries.as_str(), events.as_str())?;
-            format!(in alloc; "{names} {query} {start} {end} {:?}", positions.as_slice())?
+        Ok(Command::Session(session)) => {
+            format!(in alloc;
+                "session {} {}",
+                session.queries.as_str(),
+                session.script.as_str()
+            )?
+        }
+        Ok(Command::Explain(explain)) => {
+            let names = (explain.queries.as_str(), explain.events.as_str());
+            let names = format!(in alloc; "explain {} {}", names.0, names.1)?;
+            let question = &explain.question;
+            let ends = format!(in alloc; "{} {} {}", question.query, question.start, question.end)?;
+            format!(in alloc; "{names} {ends} {:?}", question.positions.as_slice())?
         }
         Err(OrMemory::Fault(Usage)) => "usage".to_string(alloc)?,
         Err(OrMemory::Memory) => "memory".to_string(alloc)?,
     })
+}
+
+/// The words, and after how many events each time the engine is compacted.
+fn with_compactions(
+    alloc: Global,
+    asked: String,
+    compact_every: Option<u64>,
+) -> Result<String, Fail> {
+    match compact_every {
+        Some(n) => Ok(format!(in alloc; "{asked}, compacted every {n}")?),
+        None => Ok(asked),
+    }
 }
 
 fn row_holds(rt: &impl Abort, alloc: Global, line: &str, wanted: &str) -> Result<(), Fail> {

@@ -1,5 +1,5 @@
 use cer_base::{Listed, OrMemory, Text};
-use cursor_session::{Command, CommandFault, command_text, read_command};
+use command_session::{Command, CommandFault, command_text, read_command};
 use std::alloc::{AllocError, Global};
 use std::test::Fail;
 use stream_schema::{Attr, Kind, Schema, SchemaFault};

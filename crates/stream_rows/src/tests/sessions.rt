@@ -8,7 +8,7 @@ use cer_base::Memory;
 use cer_base::steps::{Opening, Steps};
 use cer_outside::Sink;
 use cer_outside::sinks::MemSink;
-use cursor_session::{Refusal, RunFault, Session, read_command};
+use command_session::{Refusal, RunFault, Session, read_command};
 use std::alloc::{AllocError, Global};
 use std::marker::Brand;
 use std::sync::ledger::Ledger;

@@ -1,0 +1,54 @@
+-- What is said by how what ran over a source ended is what is said by the cause. For commands.
+use Rattle.std.proofs.Common.{◌≡◌, ℕ, inr, List, Option, Some, None, Result, Ok, Err, refl, subst}
+use Rattle.std.specs.Prelude.{OnOk}
+use Rattle.cer_base.specs.declared.OrMemory.{OrMemory}
+use Rattle.cer_base.specs.declared.OrMemory.TheVariants.{Fault, Memory}
+use Rattle.cer_outside.specs.Causes.{Rose}
+use Rattle.stream_answers.specs.declared.StreamFault.{StreamFault}
+use Rattle.stream_answers.specs.declared.StreamFault.TheVariants as fault
+use Rattle.stream_answers.specs.Ends.{Said, ByEnd, HasReadCause, HasWriteCause}
+use Rattle.stream_answers.specs.Steps.{counts_said}
+use Rattle.command_base.specs.declared.Cause.TheVariants as cause
+use Rattle.command_base.specs.Causes.{CountsWrites}
+use Rattle.command_base.specs.Sources.{Sources}
+use Rattle.command_base.specs.Ending.{cause_of, failed_by, SourceStop}
+use Rattle.command_base.specs.Steps.{Counts, StepsBy, counts_where}
+
+-- what was written, with the source that failed
+pub source_stops : {S T : Type 0} (sources : Sources S) (said : Said) (source : S) (first out_old out_new : ℕ) (end : Result T (OrMemory StreamFault)) → first ≡ 0 → ByEnd said (sources.left source) end →
+    HasReadCause first (sources.faults source) end → HasWriteCause out_old out_new end → SourceStop sources said out_old out_new (cause_of end out_old out_new (sources.faults source)) (failed_by end source)
+source_stops sources said source first out_old out_new (Ok done) none is read wrote = (refl, is)
+source_stops sources said source first out_old out_new (Err (Fault (fault.Event line refusal))) none is read wrote = (refl, is)
+source_stops sources said source first out_old out_new (Err (Fault (fault.InputTooLong taken))) none is read wrote = (refl, is)
+source_stops sources said source first out_old out_new (Err (Fault fault.ReadFault)) none is read wrote = (refl, (refl, subst (λ n. Rose n (sources.faults source)) none read), is)
+source_stops sources said source first out_old out_new (Err (Fault fault.WriteFault)) none is read wrote = (refl, refl, refl, wrote, is)
+source_stops sources said source first out_old out_new (Err Memory) none is read wrote = (refl, is)
+
+-- the output's count of faults
+pub source_writes : {T : Type 0} (old new reads : ℕ) (end : Result T (OrMemory StreamFault)) → HasWriteCause old new end → CountsWrites (cause_of end old new reads) old new
+source_writes old new reads (Ok done) wrote = wrote
+source_writes old new reads (Err (Fault (fault.Event line refusal))) wrote = wrote
+source_writes old new reads (Err (Fault (fault.InputTooLong taken))) wrote = wrote
+source_writes old new reads (Err (Fault fault.ReadFault)) wrote = wrote
+source_writes old new reads (Err (Fault fault.WriteFault)) wrote = wrote
+source_writes old new reads (Err Memory) wrote = wrote
+
+-- the steps
+pub source_steps : {T : Type 0} (counts : List ℕ → Counts) (source before after : Option (List ℕ)) (old now from to reads : ℕ) (end : Result T (OrMemory StreamFault)) →
+    ((lines : List ℕ) → source ≡ Some lines → ByEnd (counts_said (λ Stops Took. (counts lines).all Stops Took old now) ((counts lines).at_fault before after old now) before after) None end) →
+    StepsBy (cause_of end from to reads) (counts_where (λ lines. source ≡ Some lines) counts) before after old now
+source_steps counts source before after old now from to reads (Ok done) steps = steps
+source_steps counts source before after old now from to reads (Err (Fault (fault.Event line refusal))) steps = steps
+source_steps counts source before after old now from to reads (Err (Fault (fault.InputTooLong taken))) steps = steps
+source_steps counts source before after old now from to reads (Err (Fault fault.ReadFault)) steps = steps
+source_steps counts source before after old now from to reads (Err (Fault fault.WriteFault)) steps = steps
+source_steps counts source before after old now from to reads (Err Memory) steps = inr steps
+
+-- where all is well, it ended well
+pub ended_well : {T Says : Type 0} (from to reads : ℕ) (end : Result T (OrMemory StreamFault)) → cause_of end from to reads ≡ cause.Fine → OnOk end Says → Says
+ended_well from to reads (Ok done) fine says = says
+ended_well from to reads (Err (Fault (fault.Event line refusal))) fine says = absurd (let wrong = fine in cc)
+ended_well from to reads (Err (Fault (fault.InputTooLong taken))) fine says = absurd (let wrong = fine in cc)
+ended_well from to reads (Err (Fault fault.ReadFault)) fine says = absurd (let wrong = fine in cc)
+ended_well from to reads (Err (Fault fault.WriteFault)) fine says = absurd (let wrong = fine in cc)
+ended_well from to reads (Err Memory) fine says = absurd (let wrong = fine in cc)

@@ -1,0 +1,12 @@
+pub mod Accepted
+pub mod SourceBytes
+pub mod Sources
+pub mod ReadLines
+pub mod Tasks
+pub mod Causes
+pub mod Opening
+pub mod Output
+pub mod Steps
+pub mod Leaving
+pub mod Notes
+pub mod Ending

@@ -1,0 +1,68 @@
+-- What a history leaves, for the events that come after it.
+use Rattle.std.proofs.Common.{◌≡◌, ℕ, ◌+◌, ◌*◌, ◌≤◌, Bool, List, [], length, Option, Result, Ok, Err, refl, sym, subst, arith}
+use Rattle.cer_base.specs.declared.OrMemory.{OrMemory}
+use Rattle.cer_base.specs.declared.OrMemory.TheVariants.{Fault, Memory}
+use Rattle.stream_schema.specs.Types.{Declared}
+use Rattle.stream_schema.specs.declared.Event.{Event}
+use Rattle.cel_terms.specs.declared.Query.{Query}
+use Rattle.query_engine.specs.Counts.{MeetMost, event_bound}
+use Rattle.query_engine.specs.Engine.{State, SameQueries}
+use Rattle.query_engine.specs.Peaks.{PeaksFollow}
+use Rattle.checkpoint_text.specs.declared.history.History.{History}
+use Rattle.checkpoint_text.specs.Replaying.{Replayed}
+use Rattle.checkpoint_text.specs.Streams.{IsStreamOf}
+use Rattle.stream_answers.specs.declared.RunOptions.{RunOptions}
+use Rattle.stream_answers.specs.declared.StreamFault.{StreamFault}
+use Rattle.stream_answers.specs.declared.StreamFault.TheVariants as fault
+use Rattle.stream_answers.specs.Ends.{Said, ByEnd}
+use Rattle.stream_answers.specs.Steps.{AreBoundedBy, StepsOverAfter}
+use Rattle.stream_answers.specs.Streams.{Asked, asked_by, WroteStreamAfter, StandsForAllAfter}
+use Rattle.stream_answers.specs.Windows.{is_due_after, FollowsEvents}
+use Rattle.command_checkpoint.specs.Resumed.{each_said}
+
+-- the engine follows each stream that the history tells
+pub follows : (peaks : ℕ → ℕ) (schema : Declared) (history : History) (engine : State) → Replayed schema history.events history.positions engine → ((stream : List Event) → IsStreamOf schema history stream → PeaksFollow peaks engine stream) →
+    (earlier : List Event) → IsStreamOf schema history earlier → FollowsEvents peaks engine earlier
+follows peaks schema history engine replayed peaks_are earlier is = record { stands = replayed.stands earlier is; dense = replayed.dense earlier is; peaks_are = peaks_are earlier is }
+
+-- its steps are within the bound of its events
+pub paid : (every : Option ℕ) (schema : Declared) (queries : List Query) (earlier : List Event) (begun now : ℕ) → ((most : ℕ → ℕ) → MeetMost schema queries earlier most → now ≤ begun + length earlier * event_bound (length queries) most) →
+    AreBoundedBy (is_due_after every (length earlier)) schema queries earlier [] begun now
+paid every schema queries earlier begun now steps = λ most meet. (let p = steps most meet in omega (arith, p))
+
+-- what is asked, by the schema and the queries of an engine
+abbrev asked_of : RunOptions → Declared → List Query → Asked
+asked_of options schema queries = record { order = options.order; schema = schema; queries = queries; most_bytes = options.most_bytes }
+
+module _ (options : RunOptions) (old new : State) (same : SameQueries old new) (earlier : List Event) where
+  -- the same is asked where the engine's schema and queries have another name
+  asked_same : asked_by options new ≡ asked_by options old
+  asked_same =
+      subst (λ (s : Declared). asked_by options new ≡ asked_of options s old.queries) same.0
+      (subst (λ (qs : List Query). asked_by options new ≡ asked_of options new.schema qs) same.1 refl)
+
+  pub bounded_as : (due : ℕ → Bool) (begun now : ℕ) → AreBoundedBy due old.schema old.queries earlier [] begun now → AreBoundedBy due new.schema new.queries earlier [] begun now
+  bounded_as due begun now bounded =
+      subst (λ (s : Declared). AreBoundedBy due s new.queries earlier [] begun now) (sym same.0) (subst (λ (qs : List Query). AreBoundedBy due old.schema qs earlier [] begun now) (sym same.1) bounded)
+
+  pub wrote_as : {T : Type 0} (source left before after : Option (List ℕ)) (result : Result T (OrMemory StreamFault)) →
+      WroteStreamAfter earlier (asked_by options new) source left before after result → WroteStreamAfter earlier (asked_by options old) source left before after result
+  wrote_as source left before after result wrote = subst (λ (a : Asked). WroteStreamAfter earlier a source left before after result) asked_same wrote
+
+  pub steps_as : {T : Type 0} (due : ℕ → Bool) (bytes : List ℕ) (before after : Option (List ℕ)) (begun now : ℕ) (result : Result T (OrMemory StreamFault)) →
+      StepsOverAfter due earlier (asked_by options new) bytes before after begun now result → StepsOverAfter due earlier (asked_by options old) bytes before after begun now result
+  steps_as due bytes before after begun now result steps = subst (λ (a : Asked). StepsOverAfter due earlier a bytes before after begun now result) asked_same steps
+
+  pub stands_as : (due : ℕ → Bool) (peaks : ℕ → ℕ) (bytes : List ℕ) (engine : State) →
+      StandsForAllAfter due peaks earlier (asked_by options new) bytes engine → StandsForAllAfter due peaks earlier (asked_by options old) bytes engine
+  stands_as due peaks bytes engine stands = subst (λ (a : Asked). StandsForAllAfter due peaks earlier a bytes engine) asked_same stands
+
+-- what is said after each stream of the history, by how it ended
+pub each_ended : {T : Type 0} (schema : Declared) (history : History) (said : List Event → Said) (left : Option (List ℕ)) (result : Result T (OrMemory StreamFault)) →
+    ((earlier : List Event) → IsStreamOf schema history earlier → ByEnd (said earlier) left result) → ByEnd (each_said schema history said) left result
+each_ended schema history said left (Ok done) each = each
+each_ended schema history said left (Err (Fault (fault.Event line refusal))) each = each
+each_ended schema history said left (Err (Fault (fault.InputTooLong taken))) each = each
+each_ended schema history said left (Err (Fault fault.ReadFault)) each = each
+each_ended schema history said left (Err (Fault fault.WriteFault)) each = each
+each_ended schema history said left (Err Memory) each = each

@@ -1,0 +1,14 @@
+use Rattle.std.proofs.Common.{refl}
+use Rattle.command_base.proofs.Ends.{queries_ended}
+use Rattle.command_checkpoint.specs.Saving.{save_task}
+use Rattle.command_checkpoint.proofs.SavedFiles.{save_ended}
+use Rattle.command_checkpoint.proofs.save_command.save.Goals as goal
+
+pub returns-in-Err-clause-ended : goal.returns-in-Err-clause-ended
+returns-in-Err-clause-ended g c =
+    queries_ended _ _ _ (save_task c.args.words.now) _ _ refl refl _ _ _ refl (rw c.as_str.ensures at c.read_accepted.ensures.asked.opened) (rw c.as_str.ensures at c.in-Err.ensures.stop)
+
+pub returns-clause-ended : goal.returns-clause-ended
+returns-clause-ended g c =
+    save_ended _ _ _ c.args.words.now _ _ _ c.in-Ok.accepted.schema c.in-Ok.accepted.queries _ _ _ _ c.read_accepted.ensures.asked.kept c.in-Ok.ensures.counts (rw c.as_str.ensures at c.in-Ok.ensures.accepted)
+    (rw c.as_str.ensures at c.read_accepted.ensures.asked.opened) (rw c.as_str-events.ensures at c.save_file.ensures.asked.opened) (rw c.as_str-events.ensures at c.save_file.ensures.stop)

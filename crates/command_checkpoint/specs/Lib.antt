@@ -1,0 +1,10 @@
+pub mod Saved
+pub mod Lines
+pub mod Rereading
+pub mod Saving
+pub mod Resumed
+pub mod GoingOn
+pub mod Counted
+pub mod Left
+pub mod Histories
+pub mod TwoParts

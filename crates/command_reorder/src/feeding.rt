@@ -1,0 +1,118 @@
+//! One more line of a file, whose event is put into a gate.
+
+ghost use Rattle.std.specs.Prelude.{◌≡◌, ◌+◌, ◌≤◌, ℕ, List, Option, false, Some, Ok, length};
+ghost use Rattle.stream_schema.specs.Events.{IsOfSchema};
+ghost use Rattle.stream_schema.specs.declared.Event.{Event};
+ghost use Rattle.event_reader.specs.Events.{event_of_line};
+ghost use Rattle.reorder_gate.specs.Gates.{StandsFor};
+ghost use Rattle.stream_answers.specs.Ends.{HasReadCause, HasWriteCause};
+ghost use Rattle.command_reorder.specs.Late.{Feed};
+ghost use Rattle.command_reorder.specs.Flowing.{AfterPut, AfterText, AreOfSchema, HasFedOf, Sits, TakesRoom};
+
+use cer_base::OrMemory;
+use cer_outside::Source;
+use event_reader::{EventFault, Lines, Next, read_event};
+use event_run::{RunFault, fault_of};
+use reorder_gate::{Gate, TooLate};
+use std::alloc::Global;
+use stream_answers::{StreamFault, stream_fault};
+use stream_schema::{Event, Schema};
+
+/// Reads the next line and puts its event, where it has one, into the gate, which is not finished.
+/// Answers whether there was a line: `false` at the end of the file. After the end or a fault the
+/// reader is not asked again.
+pub fn put_line<Q: Source>(
+    alloc: Global,
+    lines: &mut Lines,
+    gate: &mut Gate,
+    schema: &Schema,
+    source: &mut Q,
+) -> Result<bool, OrMemory<StreamFault>>
+    requires open { lines.old.closed ≡ false }
+    requires going { gate.old.is_finished ≡ false }
+    requires of_schema { AreOfSchema schema.now gate.old }
+    ensures put { (a : Feed) (told : Option (List ℕ)) (put gone : List (ℕ × Event))
+        → Sits a gate.old → a.schema ≡ schema.now → a.most_bytes ≡ lines.old.budget
+        → StandsFor gate.old put gone → HasFedOf a told lines.old (Q.left source.old) put
+        → AfterPut a told lines.new (Q.left source.new) gate.new put gone result }
+    ensures sits { (a : Feed) → Sits a gate.old → Sits a gate.new }
+    ensures going { gate.new.is_finished ≡ false }
+    ensures of_schema { AreOfSchema schema.now gate.new }
+    ensures budget { lines.new.budget ≡ lines.old.budget }
+    ensures room { TakesRoom lines.old lines.new gate.old gate.new result }
+    ensures cause { HasReadCause (Q.faults source.old) (Q.faults source.new) result }
+    ensures write_cause { (now : ℕ) → HasWriteCause now now result }
+{
+    match lines.next(source) {
+        Ok(Next::Line) => {}
+        Ok(Next::End) => return Ok(false),
+        Err(fault) => return Err(stream_fault(OrMemory::Fault(fault_of(fault)))),
+    }
+    match put_text(alloc, lines, gate, schema) {
+        Ok(()) => Ok(true),
+        Err(OrMemory::Memory) => Err(OrMemory::Memory),
+        Err(OrMemory::Fault(fault)) => {
+            let line = lines.number();
+            Err(stream_fault(OrMemory::Fault(RunFault::Event { line, fault })))
+        }
+    }
+}
+
+/// Puts the event of the line that the reader gave last, where it has one, into the gate.
+fn put_text(
+    alloc: Global,
+    lines: &Lines,
+    gate: &mut Gate,
+    schema: &Schema,
+) -> Result<(), OrMemory<EventFault>>
+    requires going { gate.old.is_finished ≡ false }
+    requires of_schema { AreOfSchema schema.now gate.old }
+    ensures put { (a : Feed) (put gone : List (ℕ × Event)) → Sits a gate.old
+        → a.schema ≡ schema.now → StandsFor gate.old put gone
+        → AfterText a lines.now.number lines.now.text gate.new put gone result }
+    ensures sits { (a : Feed) → Sits a gate.old → Sits a gate.new }
+    ensures going { gate.new.is_finished ≡ false }
+    ensures of_schema { AreOfSchema schema.now gate.new }
+    ensures held { length gate.new.events ≤ length gate.old.events + 1 }
+{
+    match read_event(alloc, schema, lines.text()) {
+        Ok(Some(event)) => put_event(lines.number(), event, gate, schema),
+        Ok(None) => Ok(()),
+        Err(stop) => Err(stop),
+    }
+}
+
+/// Puts the event, which the line of this number gave, into the gate.
+fn put_event(
+    line: u64,
+    event: Event,
+    gate: &mut Gate,
+    schema: &Schema,
+) -> Result<(), OrMemory<EventFault>>
+    requires going { gate.old.is_finished ≡ false }
+    requires of_schema { AreOfSchema schema.now gate.old }
+    requires one_of_schema { IsOfSchema schema.now event }
+    ensures put { (a : Feed) (text : List ℕ) (put gone : List (ℕ × Event)) → Sits a gate.old
+        → event_of_line a.schema text ≡ Ok (Some event) → StandsFor gate.old put gone
+        → AfterText a line text gate.new put gone result }
+    ensures sits { (a : Feed) → Sits a gate.old → Sits a gate.new }
+    ensures going { gate.new.is_finished ≡ false }
+    ensures of_schema { AreOfSchema schema.now gate.new }
+    ensures held { length gate.new.events ≤ length gate.old.events + 1 }
+{
+    match gate.put(line, event) {
+        Ok(()) => Ok(()),
+        Err(OrMemory::Memory) => Err(OrMemory::Memory),
+        Err(OrMemory::Fault(late)) => Err(OrMemory::Fault(late_fault(late))),
+    }
+}
+
+/// The fault of a line whose event comes too late.
+fn late_fault(late: TooLate) -> EventFault
+    ensures { result ≡ EventFault.TooLate late.high late.now }
+{
+    EventFault::TooLate {
+        high: late.high,
+        now: late.now,
+    }
+}

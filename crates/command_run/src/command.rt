@@ -1,0 +1,106 @@
+//! The order of work of a run: the query file, the event file, the answers.
+
+ghost use Rattle.std.specs.Prelude.{◌≡◌, ℕ, List, [], None};
+ghost use Rattle.cer_outside.specs.Content.{Holds};
+ghost use Rattle.query_engine.specs.Engine.{StandsFor, SameQueries, count_of, peak_of};
+ghost use Rattle.stream_answers.specs.Streams.{asked_by, answers_said, StandsForAll};
+ghost use Rattle.command_base.specs.Ending.{TaskEnded, FileStop, IsAskedFor};
+ghost use Rattle.command_base.specs.Steps.{StepsBy, counts_where};
+ghost use Rattle.command_base.specs.Leaving.{IsLeftBy};
+ghost use Rattle.command_run.specs.Runs.{run_task};
+ghost use Rattle.command_run.specs.Steps.{run_counts, run_steps};
+ghost use Rattle.command_run.specs.Left.{run_leaves};
+
+use cer_base::steps::Steps;
+use cer_outside::{Host, Sink, Source};
+use command_base::{Cause, File, Stop, leaving, open, read_engine, stop_of};
+use command_words::RunWords;
+use query_engine::Engine;
+use std::alloc::Global;
+use std::sync::ledger::Ledger;
+use stream_answers::{RunOptions, write_answers};
+
+/// Reads the query text, and then writes the answers of its queries over the event file.
+pub fn run<H: Host, K: Sink, L: Ledger>(
+    alloc: Global,
+    words: &RunWords,
+    host: &mut H,
+    out: &mut K,
+    steps: &mut Steps<L>,
+) -> Stop<H::Src>
+    ensures ended { TaskEnded (record { faults = H.Src.faults; left = H.Src.left }) H.opens
+        (record {
+          content = H.content host.old;
+          old = H.faults host.old;
+          new = H.faults host.new;
+          out_old = K.faults out.old;
+          out_new = K.faults out.new;
+          before = K.taken out.old;
+          after = K.taken out.new;
+        })
+        (run_task words.now) host.old host.new result.cause result.failed }
+    ensures steps { StepsBy result.cause (run_steps words.now (H.content host.old))
+        (K.taken out.old) (K.taken out.new) steps.old steps.new }
+    ensures left { IsLeftBy result.cause (run_leaves words.now (H.content host.old)) result.left }
+    ensures kept { (any : List ℕ) → H.content host.new any ≡ H.content host.old any }
+{
+    let mut engine = match read_engine(alloc, host, words.queries.as_str()) {
+        Ok(engine) => engine,
+        Err(stop) => return stop,
+    };
+    let options = RunOptions {
+        order: words.order,
+        compact_every: words.compact_every,
+        most_bytes: words.most_bytes,
+    };
+    let events = words.events.as_str();
+    let stop = answer_file(alloc, &mut engine, events, options, host, out, steps);
+    leaving(stop, engine)
+}
+
+/// Writes the answers of the engine's queries over the host's file.
+fn answer_file<H: Host, K: Sink, L: Ledger>(
+    alloc: Global,
+    engine: &mut Engine,
+    events: &str,
+    options: RunOptions,
+    host: &mut H,
+    out: &mut K,
+    steps: &mut Steps<L>,
+) -> Stop<H::Src>
+    requires fresh { StandsFor engine.old [] }
+    requires none { count_of engine.old ≡ 0 }
+    ensures stop { FileStop (record { faults = H.Src.faults; left = H.Src.left })
+        (λ source. answers_said [] (asked_by options engine.old) source (K.taken out.old)
+        (K.taken out.new))
+        events.now
+        (record {
+          content = H.content host.old;
+          old = H.faults host.old;
+          new = H.faults host.new;
+          out_old = K.faults out.old;
+          out_new = K.faults out.new;
+          before = K.taken out.old;
+          after = K.taken out.new;
+        })
+        result.cause result.failed }
+    ensures steps { StepsBy result.cause
+        (counts_where (λ bytes. H.content host.old events.now ≡ Holds bytes)
+        (run_counts options.compact_every (asked_by options engine.old)))
+        (K.taken out.old) (K.taken out.new) steps.old steps.new }
+    ensures left { result.cause ≡ Cause.Fine → (bytes : List ℕ)
+        → H.content host.old events.now ≡ Holds bytes
+        → StandsForAll options.compact_every (peak_of engine.old) (asked_by options engine.old)
+        bytes engine.new }
+    ensures none_left { result.left ≡ None }
+    ensures same { SameQueries engine.old engine.new }
+    ensures asked { IsAskedFor H.opens H.content events.now host.old host.new }
+{
+    let mut source = match open(alloc, host, File::Events, events) {
+        Ok(source) => source,
+        Err(stop) => return stop,
+    };
+    let before = out.fault_count();
+    let end = write_answers(alloc, options, engine, &mut source, out, steps);
+    stop_of(end, source, out, before)
+}

@@ -1,5 +1,0 @@
-pub mod Generator
-pub mod Queries
-pub mod Tallies
-pub mod Summary
-pub mod Progress

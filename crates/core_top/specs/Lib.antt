@@ -1,0 +1,5 @@
+pub mod Jobs
+pub mod Steps
+pub mod Left
+pub mod Faults
+pub mod Calls

@@ -1,5 +1,0 @@
-use Rattle.cursor_session.proofs.Spelled.{refused, refuses_so}
-use Rattle.cursor_session.proofs.laws.refusals_are_of_lines.Goals as goal
-
-pub returns : goal.returns
-returns c = λ schema text refusal. (refused schema text refusal, refuses_so schema text refusal)

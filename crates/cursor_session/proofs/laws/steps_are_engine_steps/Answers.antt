@@ -1,5 +1,0 @@
-use Rattle.cursor_session.proofs.EngineTalk.{talked}
-use Rattle.cursor_session.proofs.laws.steps_are_engine_steps.Goals as goal
-
-pub returns : goal.returns
-returns c = λ schema queries command old new bytes. talked schema queries command old new bytes

@@ -1,4 +1,0 @@
-pub mod Scripts
-pub mod Turns
-pub mod Laws
-pub mod Playing

@@ -1,5 +1,0 @@
-use Rattle.stream_checkpoint.proofs.ReadAgain.{is_read}
-use Rattle.stream_checkpoint.proofs.laws.checkpoints_are_read.Goals as goal
-
-pub returns : goal.returns
-returns c = is_read c.keepers_keep.ensures c.saved_is_read.ensures

@@ -1,5 +1,6 @@
 -- What a history leaves, for the events that come after it.
-use Rattle.std.proofs.Common.{◌≡◌, ℕ, ◌+◌, ◌*◌, ◌≤◌, Bool, List, [], length, Option, Result, Ok, Err, refl, sym, subst, arith}
+use Rattle.std.proofs.Common.{◌≡◌, ℕ, ◌+◌, ◌*◌, ◌≤◌, List, [], length, Option, Result, Ok, Err, refl, sym, subst, arith}
+use Rattle.std.proofs.Math.Nat.{mul-le-mul_left}
 use Rattle.cer_base.specs.declared.OrMemory.{OrMemory}
 use Rattle.cer_base.specs.declared.OrMemory.TheVariants.{Fault, Memory}
 use Rattle.stream_schema.specs.Types.{Declared}
@@ -15,10 +16,12 @@ use Rattle.stream_answers.specs.declared.RunOptions.{RunOptions}
 use Rattle.stream_answers.specs.declared.StreamFault.{StreamFault}
 use Rattle.stream_answers.specs.declared.StreamFault.TheVariants as fault
 use Rattle.stream_answers.specs.Ends.{Said, ByEnd}
-use Rattle.stream_answers.specs.Steps.{AreBoundedBy, StepsOverAfter}
+use Rattle.stream_answers.specs.Schedules.{Timing, pace}
+use Rattle.stream_answers.specs.Steps.{AreBoundedBy, AreOfEvents, StepsOverAfter}
 use Rattle.stream_answers.specs.Streams.{Asked, asked_by, WroteStreamAfter, StandsForAllAfter}
-use Rattle.stream_answers.specs.Windows.{is_due_after, FollowsEvents}
-use Rattle.command_checkpoint.specs.Resumed.{each_said}
+use Rattle.stream_answers.specs.Windows.{FollowsEvents}
+use Rattle.stream_answers.proofs.Growing.{pace_least}
+use Rattle.command_checkpoint.specs.Resumed.{timing_after, each_said}
 
 -- the engine follows each stream that the history tells
 pub follows : (peaks : ℕ → ℕ) (schema : Declared) (history : History) (engine : State) → Replayed schema history.events history.positions engine → ((stream : List Event) → IsStreamOf schema history stream → PeaksFollow peaks engine stream) →
@@ -26,9 +29,12 @@ pub follows : (peaks : ℕ → ℕ) (schema : Declared) (history : History) (eng
 follows peaks schema history engine replayed peaks_are earlier is = record { stands = replayed.stands earlier is; dense = replayed.dense earlier is; peaks_are = peaks_are earlier is }
 
 -- its steps are within the bound of its events
-pub paid : (every : Option ℕ) (schema : Declared) (queries : List Query) (earlier : List Event) (begun now : ℕ) → ((most : ℕ → ℕ) → MeetMost schema queries earlier most → now ≤ begun + length earlier * event_bound (length queries) most) →
-    AreBoundedBy (is_due_after every (length earlier)) schema queries earlier [] begun now
-paid every schema queries earlier begun now steps = λ most meet. (let p = steps most meet in omega (arith, p))
+pub paid : (every : Option ℕ) (schema : Declared) (queries : List Query) (earlier : List Event) (begun now : ℕ) → AreOfEvents schema queries earlier begun now → AreBoundedBy (timing_after every earlier) schema queries earlier [] begun now
+paid every schema queries earlier begun now steps = λ most meet. (
+    let p = steps most meet in
+    let paced = mul-le-mul_left (length earlier) (pace_least every (length queries) most) in
+    omega (arith, p, paced)
+    )
 
 -- what is asked, by the schema and the queries of an engine
 abbrev asked_of : RunOptions → Declared → List Query → Asked
@@ -41,21 +47,21 @@ module _ (options : RunOptions) (old new : State) (same : SameQueries old new) (
       subst (λ (s : Declared). asked_by options new ≡ asked_of options s old.queries) same.0
       (subst (λ (qs : List Query). asked_by options new ≡ asked_of options new.schema qs) same.1 refl)
 
-  pub bounded_as : (due : ℕ → Bool) (begun now : ℕ) → AreBoundedBy due old.schema old.queries earlier [] begun now → AreBoundedBy due new.schema new.queries earlier [] begun now
-  bounded_as due begun now bounded =
-      subst (λ (s : Declared). AreBoundedBy due s new.queries earlier [] begun now) (sym same.0) (subst (λ (qs : List Query). AreBoundedBy due old.schema qs earlier [] begun now) (sym same.1) bounded)
+  pub paid_as : (begun now : ℕ) → AreOfEvents old.schema old.queries earlier begun now → AreOfEvents new.schema new.queries earlier begun now
+  paid_as begun now steps =
+      subst (λ (s : Declared). AreOfEvents s new.queries earlier begun now) (sym same.0) (subst (λ (qs : List Query). AreOfEvents old.schema qs earlier begun now) (sym same.1) steps)
 
   pub wrote_as : {T : Type 0} (source left before after : Option (List ℕ)) (result : Result T (OrMemory StreamFault)) →
       WroteStreamAfter earlier (asked_by options new) source left before after result → WroteStreamAfter earlier (asked_by options old) source left before after result
   wrote_as source left before after result wrote = subst (λ (a : Asked). WroteStreamAfter earlier a source left before after result) asked_same wrote
 
-  pub steps_as : {T : Type 0} (due : ℕ → Bool) (bytes : List ℕ) (before after : Option (List ℕ)) (begun now : ℕ) (result : Result T (OrMemory StreamFault)) →
-      StepsOverAfter due earlier (asked_by options new) bytes before after begun now result → StepsOverAfter due earlier (asked_by options old) bytes before after begun now result
-  steps_as due bytes before after begun now result steps = subst (λ (a : Asked). StepsOverAfter due earlier a bytes before after begun now result) asked_same steps
+  pub steps_as : {T : Type 0} (timing : Timing) (bytes : List ℕ) (before after : Option (List ℕ)) (begun now : ℕ) (result : Result T (OrMemory StreamFault)) →
+      StepsOverAfter timing earlier (asked_by options new) bytes before after begun now result → StepsOverAfter timing earlier (asked_by options old) bytes before after begun now result
+  steps_as timing bytes before after begun now result steps = subst (λ (a : Asked). StepsOverAfter timing earlier a bytes before after begun now result) asked_same steps
 
-  pub stands_as : (due : ℕ → Bool) (peaks : ℕ → ℕ) (bytes : List ℕ) (engine : State) →
-      StandsForAllAfter due peaks earlier (asked_by options new) bytes engine → StandsForAllAfter due peaks earlier (asked_by options old) bytes engine
-  stands_as due peaks bytes engine stands = subst (λ (a : Asked). StandsForAllAfter due peaks earlier a bytes engine) asked_same stands
+  pub stands_as : (timing : Timing) (peaks : ℕ → ℕ) (bytes : List ℕ) (engine : State) →
+      StandsForAllAfter timing peaks earlier (asked_by options new) bytes engine → StandsForAllAfter timing peaks earlier (asked_by options old) bytes engine
+  stands_as timing peaks bytes engine stands = subst (λ (a : Asked). StandsForAllAfter timing peaks earlier a bytes engine) asked_same stands
 
 -- what is said after each stream of the history, by how it ended
 pub each_ended : {T : Type 0} (schema : Declared) (history : History) (said : List Event → Said) (left : Option (List ℕ)) (result : Result T (OrMemory StreamFault)) →

@@ -1,21 +1,21 @@
 -- How many steps a run takes that goes on from a checkpoint.
-use Rattle.std.specs.Prelude.{◌≡◌, ℕ, List, length, Option}
+use Rattle.std.specs.Prelude.{◌≡◌, ℕ, List, Option}
 use Rattle.cer_outside.specs.Content.{Content, Holds}
 use Rattle.stream_schema.specs.Types.{Declared}
 use Rattle.stream_schema.specs.declared.Event.{Event}
 use Rattle.cel_terms.specs.declared.Query.{Query}
 use Rattle.stream_answers.specs.Steps.{CountsAllAfter, CountsAtFaultAfter}
 use Rattle.stream_answers.specs.Streams.{Asked}
-use Rattle.stream_answers.specs.Windows.{is_due_after}
 use Rattle.command_words.specs.declared.ResumeWords.{ResumeWords}
 use Rattle.command_base.specs.Steps.{Counts}
+use Rattle.command_checkpoint.specs.Resumed.{timing_after}
 use Rattle.command_checkpoint.specs.GoingOn.{resume_asked_of, SaysAfter}
 
--- The steps after these events: they are bounded by these and the events of a file of these bytes, by the answers after these, and by the compactions, which count the events of the file alone.
+-- The steps after these events: they are bounded by these and the events of a file of these bytes, by the answers after these, and by the compactions of all queries, which count the events of the file alone.
 abbrev pub counts_after : Option ℕ → List Event → Asked → List ℕ → Counts
 counts_after every earlier a lines = record {
-  all = λ Stops Took old now. CountsAllAfter (is_due_after every (length earlier)) earlier a lines Stops Took old now;
-  at_fault = λ before after old now. CountsAtFaultAfter (is_due_after every (length earlier)) earlier a.order a lines before after old now;
+  all = λ Stops Took old now. CountsAllAfter (timing_after every earlier) earlier a lines Stops Took old now;
+  at_fault = λ before after old now. CountsAtFaultAfter (timing_after every earlier) earlier a.order a lines before after old now;
 }
 
 -- where the host tells all three files, this is said of every stream of the checkpoint's history and of the bytes of the event file

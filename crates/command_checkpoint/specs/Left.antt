@@ -9,7 +9,7 @@ use Rattle.command_base.specs.Accepted.{Accepts}
 use Rattle.command_checkpoint.specs.Resumed.{StandsForResumed}
 use Rattle.command_checkpoint.specs.GoingOn.{resume_asked_of}
 
--- Where the host tells all three files, the engine stands for every stream of the history and then the events of the event file, which is read to its end. It was compacted after every so many of the latter, where that was asked for, and its nodes follow the windows; before any event it had none.
+-- Where the host tells all three files, the engine stands for every stream of the history and then the events of the event file, which is read to its end. It was compacted after every so many of the latter, where that was asked for, and its nodes follow the windows; before any event it had none. Where no number was asked for, each of its queries is kept small.
 pub record StandsForThreeFiles (content : List ℕ → Content) (r : ResumeWords) (engine : State) : Type 0 where
   pub told : (text kept lines : List ℕ) → content r.queries ≡ Holds text → content r.checkpoint ≡ Holds kept → content r.events ≡ Holds lines →
       Accepts text engine.schema engine.queries × ((history : History) × (checkpoint_of engine.schema engine.queries kept ≡ Ok history)

@@ -1,6 +1,6 @@
 -- What has been written of the answers over the events of a source that come after a history.
 -- A history leaves open which blank events it has: each of these is said of all streams that it tells.
-use Rattle.std.specs.Prelude.{ℕ, Bool, List, length, Option, None, Result}
+use Rattle.std.specs.Prelude.{ℕ, List, length, Option, None, Result}
 use Rattle.cer_base.specs.declared.OrMemory.{OrMemory}
 use Rattle.stream_schema.specs.Types.{Declared}
 use Rattle.stream_schema.specs.declared.Event.{Event}
@@ -11,7 +11,7 @@ use Rattle.stream_answers.specs.declared.StreamFault.{StreamFault}
 use Rattle.stream_answers.specs.Ends.{Said, ByEnd}
 use Rattle.stream_answers.specs.Streams.{Asked, answers_said, StandsForAllAfter}
 use Rattle.stream_answers.specs.Steps.{CountsAllAfter, CountsAtFaultAfter, counts_said}
-use Rattle.stream_answers.specs.Windows.{is_due_after}
+use Rattle.stream_answers.specs.Schedules.{Timing}
 
 -- what is said of every stream of the history
 abbrev pub AfterEach : Declared → History → (List Event → Type 0) → Type 0
@@ -33,16 +33,20 @@ resumed_said history a source before after = each_said a.schema history (λ earl
 abbrev pub WroteResumed : History → Asked → Option (List ℕ) → Option (List ℕ) → Option (List ℕ) → Option (List ℕ) → {T : Type 0} → Result T (OrMemory StreamFault) → Type 0
 WroteResumed history a source left before after result = ByEnd (resumed_said history a source before after) left result
 
--- The engine stands for the events of the history and then those of a file of these bytes; compactions count those of the file alone; these were its peaks before.
+-- after every so many events, where those of a history do not count
+abbrev pub timing_after : Option ℕ → List Event → Timing
+timing_after every earlier = record { every = every; first = length earlier }
+
+-- The engine stands for the events of the history and then those of a file of these bytes; compactions count those of the file alone; these were its peaks before. Without a number for compactions each of its queries is kept small.
 abbrev pub StandsForResumed : Option ℕ → (ℕ → ℕ) → History → Asked → List ℕ → State → Type 0
 StandsForResumed every peaks history a lines engine = (earlier : List Event) → IsStreamOf a.schema history earlier →
-    StandsForAllAfter (is_due_after every (length earlier)) peaks earlier a lines engine
+    StandsForAllAfter (timing_after every earlier) peaks earlier a lines engine
 
--- The steps are bounded by the events of the history and of a file of these bytes, by the answers after the history, and by the compactions.
+-- The steps are bounded by the events of the history and of a file of these bytes, by the answers after the history, and by the compactions of all queries.
 abbrev pub resumed_counts_said : Option ℕ → History → Asked → List ℕ → Option (List ℕ) → Option (List ℕ) → ℕ → ℕ → Said
 resumed_counts_said every history a lines before after old now = each_said a.schema history (λ earlier.
-    let due : ℕ → Bool = is_due_after every (length earlier) in
-    counts_said (λ Stops Took. CountsAllAfter due earlier a lines Stops Took old now) (CountsAtFaultAfter due earlier a.order a lines before after old now) before after)
+    let timing = timing_after every earlier in
+    counts_said (λ Stops Took. CountsAllAfter timing earlier a lines Stops Took old now) (CountsAtFaultAfter timing earlier a.order a lines before after old now) before after)
 
 abbrev pub StepsResumed : Option ℕ → History → Asked → List ℕ → Option (List ℕ) → Option (List ℕ) → ℕ → ℕ → {T : Type 0} → Result T (OrMemory StreamFault) → Type 0
 StepsResumed every history a lines before after old now result = ByEnd (resumed_counts_said every history a lines before after old now) None result

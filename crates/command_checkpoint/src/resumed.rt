@@ -26,7 +26,8 @@ use stream_answers::{RunOptions, StreamFault, write_answers_after};
 /// Positions are those of the history and then of the source, so the first event of the source has the
 /// position after the history's last; the clocks go on from those of the history; line numbers are
 /// those of the source. With `compact_every` the engine is compacted after every so many events of the
-/// source, and it is not while the history is taken.
+/// source, and with 0 never; without it once the history is taken, and then each of its queries once it
+/// has grown enough. It is not compacted while the history is taken.
 ///
 /// The first fault ends it, after the answers that come before were written; where writing fails,
 /// that is the answer. Where memory runs out within the history nothing was written.

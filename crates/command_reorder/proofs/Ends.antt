@@ -1,5 +1,5 @@
 -- How a late feed ends.
-use Rattle.std.proofs.Common.{◌≡◌, ℕ, true, false, cond, inl, inr, List, [], ◌∷◌, ◌++◌, Option, Some, None, Result, Ok, Err, OnOk, refl, sym, ◌∙◌, ap, subst, append_assoc, append-nil, arith}
+use Rattle.std.proofs.Common.{◌≡◌, ℕ, ◌+◌, true, false, cond, inl, inr, List, [], ◌∷◌, ◌++◌, Option, Some, None, Result, Ok, Err, OnOk, refl, sym, ◌∙◌, ap, subst, append_assoc, append-nil, arith}
 use Rattle.cer_base.specs.declared.OrMemory.{OrMemory}
 use Rattle.cer_base.specs.declared.OrMemory.TheVariants.{Fault, Memory}
 use Rattle.cer_outside.specs.Bytes.{TookAll, TookPart}
@@ -7,7 +7,7 @@ use Rattle.stream_schema.specs.declared.Event.{Event as StreamEvent}
 use Rattle.answer_text.specs.Output.{IsOutput}
 use Rattle.answer_blocks.specs.Taken.{TookPrefix}
 use Rattle.event_reader.specs.Reading.{LineReader, HasGiven}
-use Rattle.query_engine.specs.Engine.{State, peak_of}
+use Rattle.query_engine.specs.Engine.{State}
 use Rattle.query_engine.proofs.FewNodes.{first_has_no_node}
 use Rattle.event_run.specs.Runs.{Stop}
 use Rattle.event_run.specs.Runs as stop
@@ -18,18 +18,20 @@ use Rattle.reorder_gate.specs.Gates.{Held, all_due}
 use Rattle.stream_answers.specs.declared.StreamFault.{StreamFault}
 use Rattle.stream_answers.specs.declared.StreamFault.TheVariants as fault
 use Rattle.stream_answers.specs.Gathering.{Gathered, PassesOn, Finished}
+use Rattle.stream_answers.specs.Schedules.{Plan, saved_by, IsOnTime, KeepsUp}
+use Rattle.stream_answers.specs.Steps.{AreBounded}
 use Rattle.stream_answers.specs.Streams.{WroteOver}
-use Rattle.stream_answers.specs.Windows.{is_due}
 use Rattle.stream_answers.proofs.Totals.{none_taken, walk_or_sorted}
-use Rattle.stream_answers.proofs.Windows.{windows_at_first}
+use Rattle.stream_answers.proofs.Growing.{with_none, keeps_up}
+use Rattle.stream_answers.proofs.Windows.{windows_behind}
 use Rattle.stream_answers.proofs.Portions.{took_none, took_both, took_then_part, part_of_more, prefix_of_more, prefix_of_all}
 use Rattle.command_reorder.specs.Late.{Numbered, Feed, Fed, when, fed, let_go, TakesOn, RunsLate}
 use Rattle.command_reorder.specs.Written.{asked, StandsForLate, AreReleasedRead, WroteLate}
 use Rattle.command_reorder.specs.Steps.{LateCountsAll, LateCounts, LateStepsOver}
-use Rattle.command_reorder.specs.Flowing.{Sits, HasFedOf, AreFedRead, Feeds, AfterPut, GoFirst, Counting, Flowing, Unwritten, Ended, Closed, is_write_fault, AfterRelease, Running, IsFresh}
+use Rattle.command_reorder.specs.Flowing.{from_first, Sits, HasFedOf, AreFedRead, Feeds, AfterPut, GoFirst, Counting, Flowing, Unwritten, Ended, Closed, is_write_fault, AfterRelease, Running, IsFresh}
 use Rattle.command_reorder.proofs.FedLines.{first_open, first_closed}
 use Rattle.command_reorder.proofs.Takings.{takes_end}
-use Rattle.command_reorder.proofs.Counts.{counts_whole, counts_stopped, counts_held}
+use Rattle.command_reorder.proofs.Counts.{counted_so, counts_whole, counts_stopped, counts_held}
 use Rattle.command_reorder.proofs.Flows.{part_of_late, begins_at, flow_begins, whole}
 
 -- what a source that failed was read of
@@ -65,8 +67,9 @@ still_none before after held now passed none =
 
 -- AT THE BEGINNING
 
-pub starts : (every : Option ℕ) (a : Feed) (source before : Option (List ℕ)) (reader : LineReader) (g : Held) (o : Gathered) (engine : State) (first : ℕ) → IsFresh a reader g o engine → Running every (peak_of engine) a source reader source g o engine before before first first
-starts every a source before reader g o engine first fresh =
+pub starts : (every : Option ℕ) (plan : Plan) (peaks : ℕ → ℕ) (a : Feed) (source before : Option (List ℕ)) (reader : LineReader) (g : Held) (o : Gathered) (engine : State) (first now : ℕ) → IsFresh every plan peaks a reader g o engine first now →
+    Running every plan peaks a source reader source g o engine before before first now
+starts every plan peaks a source before reader g o engine first now fresh =
     let had : HasFedOf a source reader source [] = λ bytes told. record { texts = []; given = subst (λ l. HasGiven reader bytes l []) (sym told) (fresh.given bytes); good = refl } in
     record {
       put = [];
@@ -80,12 +83,14 @@ starts every a source before reader g o engine first fresh =
         gate_stands = fresh.gate_stands;
         events = [];
         taken = (refl, refl);
-        stands = fresh.stands;
+        stands = fresh.follows.stands;
         written = [];
         took = took_none before;
         output = fresh.none_waits;
-        counting = record { rows = []; are_rows = refl; lines = fresh.none_waits; bounded = λ most meet. omega arith; few = λ most meet. first_has_no_node engine most fresh.stands };
-        windows = windows_at_first (is_due every) engine fresh.stands;
+        timed = fresh.timed;
+        counting = record { rows = []; are_rows = refl; lines = fresh.none_waits; bounded = fresh.bounded; few = λ most meet. first_has_no_node engine most fresh.follows.stands };
+        windows = windows_behind every 0 peaks engine [] refl fresh.follows;
+        on_time = fresh.on_time;
         none_waits = λ walk. fresh.none_waits;
       };
       due = refl;
@@ -135,8 +140,8 @@ module _ (every : Option ℕ) (peaks : ℕ → ℕ) where
       let counts = counts_whole every a bytes u.events u.rows first now (u.begins bytes told) u.are_rows u.bounded in
       elim finished.way [
         | inl fine ↦ subst P (sym fine.0) (well counts fine.1)
-        | inr failed ↦ elim (walk_or_sorted (is_due every) a.order) [
-          | inl walk ↦ let empty = u.none_waits walk in subst P (sym (none empty)) (well counts (none_taken (is_due every) middle after held empty failed.1))
+        | inr failed ↦ elim (walk_or_sorted (from_first every) a.order) [
+          | inl walk ↦ let empty = u.none_waits walk in subst P (sym (none empty)) (well counts (none_taken (from_first every) middle after held empty failed.1))
           | inr is ↦ subst P (sym failed.0) (counts_held every a bytes before after first now is counts)
         ]
       ]
@@ -199,11 +204,12 @@ module _ (every : Option ℕ) (peaks : ℕ → ℕ) where
   closed_before a source left before after held engine first now (Err (Fault fault.ReadFault)) failed ended = absurd cc
   closed_before a source left before after held engine first now (Err Memory) failed ended = absurd cc
 
+module _ (every : Option ℕ) (plan : Plan) (peaks : ℕ → ℕ) where
   -- BETWEEN LINES
 
   -- a line was put
   pub line_flows : (a : Feed) (source : Option (List ℕ)) (old new : LineReader) (had left : Option (List ℕ)) (g now : Held) (o : Gathered) (engine : State) (before after : Option (List ℕ)) (first steps : ℕ) → new.budget ≡ old.budget → now.is_finished ≡ false → Sits a now →
-      (r : Running every peaks a source old had g o engine before after first steps) → (put : AfterPut a source new left now r.put r.flowing.gone (Ok true)) → Flowing every peaks a source put.0 now o engine before after first steps
+      (r : Running every plan peaks a source old had g o engine before after first steps) → (put : AfterPut a source new left now r.put r.flowing.gone (Ok true)) → Flowing every plan peaks a source put.0 now o engine before after first steps
   line_flows a source old new had left g now o engine before after first steps budget going sits r put = record {
     order = r.flowing.order;
     schema = r.flowing.schema;
@@ -218,14 +224,16 @@ module _ (every : Option ℕ) (peaks : ℕ → ℕ) where
     written = r.flowing.written;
     took = r.flowing.took;
     output = r.flowing.output;
+    timed = r.flowing.timed;
     counting = r.flowing.counting;
     windows = r.flowing.windows;
+    on_time = r.flowing.on_time;
     none_waits = r.flowing.none_waits;
   }
 
   -- what is held was written, or waits on
   abbrev pub settles : (a : Feed) (source : Option (List ℕ)) (put : List Numbered) (g : Held) (o now : Gathered) (engine : State) (before middle after : Option (List ℕ)) (first steps : ℕ) → now.order ≡ o.order →
-      (f : Flowing every peaks a source put g o engine before middle first steps) → PassesOn middle after o.held [] now.held [] → Flowing every peaks a source put g now engine before after first steps
+      (f : Flowing every plan peaks a source put g o engine before middle first steps) → PassesOn middle after o.held [] now.held [] → Flowing every plan peaks a source put g now engine before after first steps
   settles a source put g o now engine before middle after first steps order f passed =
       let O : List ℕ → Type 0 = λ h. IsOutput a.order a.schema a.queries f.events (f.written ++ h) in
       let is : o.held ≡ passed.written ++ now.held = sym (append-nil o.held) ∙ passed.whole ∙ ap (λ h. passed.written ++ h) (append-nil now.held) in
@@ -245,21 +253,24 @@ module _ (every : Option ℕ) (peaks : ℕ → ℕ) where
         written = f.written ++ passed.written;
         took = took_both before middle after f.written passed.written f.took passed.took;
         output = subst W (sym (append_assoc f.written passed.written now.held)) (subst O is f.output);
-        counting = subst (λ (l : List ℕ). Counting every a f.events l engine first steps) bytes f.counting;
+        timed = f.timed;
+        counting = subst (λ (l : List ℕ). Counting every a f.events l engine first (steps + saved_by every engine plan.bases)) bytes f.counting;
         windows = f.windows;
+        on_time = f.on_time;
         none_waits = λ walk. still_none middle after o.held now.held passed (f.none_waits walk);
       }
 
   -- a write failed meanwhile, which in walk order none does
   pub settles_failing : (a : Feed) (source : Option (List ℕ)) (put : List Numbered) (g : Held) (o : Gathered) (engine last : State) (left before middle after : Option (List ℕ)) (first steps : ℕ) →
-      Flowing every peaks a source put g o engine before middle first steps → TookPart middle after o.held → (o.held ≡ [] → ⊥) → Closed every peaks a source left before after last first steps {T = Unit {0}} (Err (Fault fault.WriteFault))
+      Flowing every plan peaks a source put g o engine before middle first steps → TookPart middle after o.held → (o.held ≡ [] → ⊥) → Closed every peaks a source left before after last first steps {T = Unit {0}} (Err (Fault fault.WriteFault))
   settles_failing a source put g o engine last left before middle after first steps f part some =
-      let begins = flow_begins every peaks a source put g o engine before middle first steps f in
+      let begins = flow_begins every plan peaks a source put g o engine before middle first steps f in
       record {
         wrote = part_of_late a source f.events (f.written ++ o.held) (TookPart before after) f.output begins (λ rest p. part_of_more before after (f.written ++ o.held) rest p) (took_then_part before middle after f.written o.held f.took part);
         steps = λ bytes told.
-            let counts = counts_whole every a bytes f.events f.counting.rows first steps (begins bytes told) f.counting.are_rows f.counting.bounded in
-            elim (walk_or_sorted (is_due every) a.order) [
+            let so = counted_so every a f.events (f.written ++ o.held) engine first steps (saved_by every engine plan.bases) f.counting in
+            let counts = counts_whole every a bytes f.events so.rows first steps (begins bytes told) so.are_rows so.bounded in
+            elim (walk_or_sorted (from_first every) a.order) [
               | inl walk ↦ absurd (some (f.none_waits walk))
               | inr is ↦ counts_held every a bytes before after first steps is counts
             ];
@@ -269,36 +280,36 @@ module _ (every : Option ℕ) (peaks : ℕ → ℕ) where
   -- THE LAST LINE
 
   -- the feed stops before its end, where all that may go has gone
-  stops : (a : Feed) (source : Option (List ℕ)) (reader : LineReader) (left : Option (List ℕ)) (g : Held) (o : Gathered) (engine : State) (before after : Option (List ℕ)) (first steps : ℕ) (halt : Stop) → (r : Running every peaks a source reader left g o engine before after first steps) →
+  stops : (a : Feed) (source : Option (List ℕ)) (reader : LineReader) (left : Option (List ℕ)) (g : Held) (o : Gathered) (engine : State) (before after : Option (List ℕ)) (first steps : ℕ) (halt : Stop) → (r : Running every plan peaks a source reader left g o engine before after first steps) →
       let_go a r.put halt ≡ released (when a) a.late r.put → Feeds a source r.put halt → Unwritten every a source before after o.held [] first steps (λ bytes events. RunsLate a bytes events halt)
   stops a source reader left g o engine before after first steps halt r not_all feeds =
       let f = r.flowing in
-      whole every peaks a source before after o.held (λ bytes events. RunsLate a bytes events halt) f.events f.written engine first steps f.took f.output (flow_begins every peaks a source r.put g o engine before after first steps f)
+      whole every plan peaks a source before after o.held (λ bytes events. RunsLate a bytes events halt) f.events f.written engine first steps f.took f.output (flow_begins every plan peaks a source r.put g o engine before after first steps f)
       (λ bytes told.
       let F : Fed → Type 0 = λ x. TakesOn a.schema a.queries [] (let_go a x.put x.stop) x.stop f.events halt in
       let L : List Numbered → Type 0 = λ l. TakesOn a.schema a.queries [] l halt f.events halt in
       subst F (sym (feeds bytes told)) (subst L (r.due ∙ sym not_all) (takes_end a.schema a.queries f.gone halt f.events f.taken)))
-      f.counting f.none_waits
+      (counted_so every a f.events (f.written ++ o.held) engine first steps (saved_by every engine plan.bases) f.counting) f.none_waits
 
   -- a line stopped the feed, or the source did
   pub ends_at_line : (a : Feed) (source : Option (List ℕ)) (reader now : LineReader) (had left : Option (List ℕ)) (g new : Held) (o : Gathered) (engine : State) (before after : Option (List ℕ)) (first steps : ℕ) (why : OrMemory StreamFault) →
-      (r : Running every peaks a source reader had g o engine before after first steps) → AfterPut a source now left new r.put r.flowing.gone (Err why) → Ended every peaks a source left before after o.held engine first steps {T = Unit {0}} (Err why)
+      (r : Running every plan peaks a source reader had g o engine before after first steps) → AfterPut a source now left new r.put r.flowing.gone (Err why) → Ended every peaks a source left before after o.held engine first steps {T = Unit {0}} (Err why)
   ends_at_line a source reader now had left g new o engine before after first steps (Fault (fault.Event line refusal)) r put = stops a source reader had g o engine before after first steps (stop.Event line refusal) r refl put
   ends_at_line a source reader now had left g new o engine before after first steps (Fault (fault.InputTooLong taken)) r put = stops a source reader had g o engine before after first steps (stop.InputTooLong taken) r refl put
   ends_at_line a source reader now had left g new o engine before after first steps (Fault fault.ReadFault) r put =
       let f = r.flowing in
-      whole every peaks a source before after o.held (AreReleasedRead a left) f.events f.written engine first steps f.took f.output (flow_begins every peaks a source r.put g o engine before after first steps f)
-      (λ bytes told. released_read a left bytes r.put f.gone f.events r.due f.taken (put bytes told)) f.counting f.none_waits
+      whole every plan peaks a source before after o.held (AreReleasedRead a left) f.events f.written engine first steps f.took f.output (flow_begins every plan peaks a source r.put g o engine before after first steps f)
+      (λ bytes told. released_read a left bytes r.put f.gone f.events r.due f.taken (put bytes told)) (counted_so every a f.events (f.written ++ o.held) engine first steps (saved_by every engine plan.bases) f.counting) f.none_waits
   ends_at_line a source reader now had left g new o engine before after first steps (Fault fault.WriteFault) r put = absurd put
   ends_at_line a source reader now had left g new o engine before after first steps Memory r put =
       let f = r.flowing in
-      ([], whole every peaks a source before after o.held (λ bytes events. Unit {0}) f.events f.written engine first steps f.took f.output (flow_begins every peaks a source r.put g o engine before after first steps f) (λ bytes told. tt) f.counting f.none_waits)
+      ([], whole every plan peaks a source before after o.held (λ bytes events. Unit {0}) f.events f.written engine first steps f.took f.output (flow_begins every plan peaks a source r.put g o engine before after first steps f) (λ bytes told. tt) (counted_so every a f.events (f.written ++ o.held) engine first steps (saved_by every engine plan.bases) f.counting) f.none_waits)
 
   -- THE END OF THE FILE
 
   -- the gate is finished
   pub finishes : (a : Feed) (source : Option (List ℕ)) (put : List Numbered) (g now : Held) (o : Gathered) (engine : State) (before after : Option (List ℕ)) (first steps : ℕ) → now ≡ record g { is_finished = true } →
-      (f : Flowing every peaks a source put g o engine before after first steps) → Feeds a source put stop.End → gates.StandsFor now put f.gone → Flowing every peaks a source put now o engine before after first steps
+      (f : Flowing every plan peaks a source put g o engine before after first steps) → Feeds a source put stop.End → gates.StandsFor now put f.gone → Flowing every plan peaks a source put now o engine before after first steps
   finishes a source put g now o engine before after first steps is f feeds stands =
       let places : now.places ≡ g.places = ap (λ (h : Held). h.places) is in
       let late : now.late ≡ g.late = ap (λ (h : Held). h.late) is in
@@ -317,14 +328,16 @@ module _ (every : Option ℕ) (peaks : ℕ → ℕ) where
         written = f.written;
         took = f.took;
         output = f.output;
+        timed = f.timed;
         counting = f.counting;
         windows = f.windows;
+        on_time = f.on_time;
         none_waits = f.none_waits;
       }
 
   -- all has gone then, or a clock fell, a write failed or memory ran out
   pub ends_at_end : (a : Feed) (source left : Option (List ℕ)) (put : List Numbered) (g : Held) (o : Gathered) (engine : State) (before after : Option (List ℕ)) (first steps : ℕ) (end : Result (Unit {0}) (OrMemory StreamFault)) → g.is_finished ≡ true → Feeds a source put stop.End →
-      AfterRelease every peaks a source put g o engine before after first steps end → Ended every peaks a source left before after o.held engine first steps end
+      AfterRelease every plan peaks a source put g o engine before after first steps end → Ended every peaks a source left before after o.held engine first steps end
   ends_at_end a source left put g o engine before after first steps (Ok done) finished feeds through =
       let f = through.0 in
       let runs : (bytes : List ℕ) → source ≡ Some bytes → RunsLate a bytes f.events stop.End = λ bytes told. (
@@ -332,19 +345,20 @@ module _ (every : Option ℕ) (peaks : ℕ → ℕ) where
       let L : List Numbered → Type 0 = λ l. TakesOn a.schema a.queries [] l stop.End f.events stop.End in
       subst F (sym (feeds bytes told)) (subst L (due_closed a g put f.gone f.sits finished through.1) f.taken)
       ) in (
-        whole every peaks a source before after o.held (λ bytes events. RunsLate a bytes events stop.End) f.events f.written engine first steps f.took f.output (flow_begins every peaks a source put g o engine before after first steps f) runs f.counting f.none_waits,
-        λ bytes told. record { events = f.events; runs = runs bytes told; stands = f.stands; windows = f.windows },
+        whole every plan peaks a source before after o.held (λ bytes events. RunsLate a bytes events stop.End) f.events f.written engine first steps f.took f.output (flow_begins every plan peaks a source put g o engine before after first steps f) runs (counted_so every a f.events (f.written ++ o.held) engine first steps (saved_by every engine plan.bases) f.counting) f.none_waits,
+        λ bytes told. record { events = f.events; runs = runs bytes told; stands = f.stands; windows = f.windows; keeps_up = with_none every (IsOnTime plan engine f.events) (KeepsUp engine f.events) (λ t. keeps_up plan engine f.events t) f.on_time },
       )
   ends_at_end a source left put g o engine before after first steps (Err why) finished feeds through = through left
 
+module _ (every : Option ℕ) (peaks : ℕ → ℕ) where
   -- NOTHING IS WRITTEN
 
-  pub closed_none : (a : Feed) (source left before : Option (List ℕ)) (engine : State) (now : ℕ) → Closed every peaks a source left before before engine now now {T = Unit {0}} (Err Memory)
-  closed_none a source left before engine now =
+  pub closed_none : (a : Feed) (source left before : Option (List ℕ)) (engine : State) (first now : ℕ) → AreBounded every a.schema a.queries [] [] first now → Closed every peaks a source left before before engine first now {T = Unit {0}} (Err Memory)
+  closed_none a source left before engine first now bounded =
       let none : (bytes : List ℕ) → TookPrefix before before bytes = λ bytes. prefix_of_more before before [] bytes (prefix_of_all before before [] (took_none before)) in
       let begins = λ (bytes : List ℕ). begins_at a bytes [] (let_go a (fed a bytes).put (fed a bytes).stop) [] refl (refl, refl) in
       record {
         wrote = part_of_late a source [] [] (TookPrefix before before) refl (λ bytes told. begins bytes) (λ rest p. none rest) (none []);
-        steps = λ bytes told. counts_whole every a bytes [] [] now now (begins bytes) refl (λ most meet. omega arith);
+        steps = λ bytes told. counts_whole every a bytes [] [] first now (begins bytes) refl bounded;
         stands = tt;
       }

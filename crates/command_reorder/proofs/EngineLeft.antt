@@ -30,6 +30,7 @@ from_none every peaks a lines engine none s = record {
   runs = s.runs;
   stands = s.stands;
   windows = windows_before (is_due every) peaks (λ query. 0) (last_due every (length s.events)) s.events engine (λ query. (let is = none query in omega arith)) s.windows;
+  keeps_up = s.keeps_up;
 }
 
 -- over both files

@@ -1,5 +1,5 @@
 -- A late feed from event to event.
-use Rattle.std.proofs.Common.{◌≡◌, ℕ, ◌+◌, ◌-◌, ◌≤◌, inr, inl, List, [], ◌∷◌, ◌++◌, length, Option, Some, None, Ok, Err, refl, sym, ◌∙◌, ap, subst, append_assoc, append-nil, arith}
+use Rattle.std.proofs.Common.{◌≡◌, ℕ, ◌+◌, ◌-◌, ◌*◌, ◌≤◌, inr, inl, List, [], ◌∷◌, ◌++◌, length, Option, Some, None, Ok, Err, refl, sym, ◌∙◌, ap, subst, append_assoc, append-nil, arith}
 use Rattle.cer_base.specs.declared.OrMemory.TheVariants.{Fault, Memory}
 use Rattle.cer_outside.specs.Bytes.{TookAll, TookPart}
 use Rattle.stream_schema.specs.Types.{Declared}
@@ -17,8 +17,9 @@ use Rattle.output_laws.proofs.RowsGrow.{rows_grow_at_last}
 use Rattle.event_reader.specs.declared.EventFault.{EventFault}
 use Rattle.query_engine.specs.Bounds.{update_bound}
 use Rattle.query_engine.specs.Engine.{State, StandsFor, SameQueries, found_of, len_of, update_bounds}
-use Rattle.query_engine.specs.Counts.{MeetMost, HasFewNodes, cursor_bounds}
+use Rattle.query_engine.specs.Counts.{MeetMost, HasFewNodes, event_bound, cursor_bounds}
 use Rattle.query_engine.specs.Clocks.{NoneFallsBack}
+use Rattle.query_engine.specs.Keys.{HasAddedKeys}
 use Rattle.query_engine.specs.Windows.{HasAdded}
 use Rattle.query_engine.proofs.Counting.{first_meet_fewer}
 use Rattle.event_run.specs.Runs.{StopsInTime}
@@ -29,20 +30,22 @@ use Rattle.reorder_gate.specs.Gates as gates
 use Rattle.reorder_gate.specs.Gates.{Held}
 use Rattle.stream_answers.specs.declared.StreamFault.TheVariants as fault
 use Rattle.stream_answers.specs.Gathering.{Gathered, PassesOn}
+use Rattle.stream_answers.specs.Schedules.{Plan, pace, saved_by, WithNoNumber, IsGoingOn, IsOnTime}
 use Rattle.stream_answers.specs.Steps.{compaction_at}
 use Rattle.stream_answers.specs.Windows.{is_due, last_due, FollowsWindows}
 use Rattle.stream_answers.specs.Counting.{IsCompacted, StepsAtFault}
 use Rattle.stream_answers.proofs.Portions.{took_both, took_then_part, part_of_more}
 use Rattle.stream_answers.proofs.Running.{Came, output_with}
-use Rattle.stream_answers.proofs.Compacted.{compacted}
+use Rattle.stream_answers.proofs.Compacted.{met_here, compacted}
+use Rattle.stream_answers.proofs.Growing.{event_pays, goes_on, with_none}
 use Rattle.stream_answers.proofs.Totals.{bounded_on, bounded_more, bounded_wanting}
 use Rattle.stream_answers.proofs.Windows.{windows_due}
 use Rattle.command_reorder.specs.Late.{Numbered, Feed, fed, let_go, TakesOn, RunsLate}
 use Rattle.command_reorder.specs.Written.{asked, AreLateAnswers, WroteLatePart}
 use Rattle.command_reorder.specs.Steps.{LateCountsAtFault}
-use Rattle.command_reorder.specs.Flowing.{Sits, GoFirst, Counting, Flowing, Owing, BeginsLate, Unwritten, Ended, AfterAnswer}
+use Rattle.command_reorder.specs.Flowing.{from_first, Sits, GoFirst, Counting, Flowing, Owing, BeginsLate, Unwritten, Ended, AfterAnswer}
 use Rattle.command_reorder.proofs.Takings.{takes_then, some_takes}
-use Rattle.command_reorder.proofs.Counts.{counts_at_fault}
+use Rattle.command_reorder.proofs.Counts.{counted_so, Pays, counts_at_fault}
 
 -- A part of the answers over the first events is one of the answers over all.
 pub part_of_late : (a : Feed) (source : Option (List ℕ)) (events : List StreamEvent) (bytes : List ℕ) (Took : List ℕ → Type 0) → IsOutput a.order a.schema a.queries events bytes →
@@ -83,7 +86,7 @@ came_of : (a : Feed) (events : List StreamEvent) (more : List Row) → AreRowsAt
 came_of a events more are_more = record { blocks_are = blocks_of_rows a.order a.schema 1 a.queries events (length events - 1) more are_more }
 
 -- The engine took the event, whose answers are not put yet.
-pub record Taken (every : Option ℕ) (peaks : ℕ → ℕ) (a : Feed) (source : Option (List ℕ)) (put : List Numbered) (g : Held) (o : Gathered) (engine : State) (before after : Option (List ℕ)) (first now : ℕ) : Type 0 where
+pub record Taken (every : Option ℕ) (plan : Plan) (peaks : ℕ → ℕ) (a : Feed) (source : Option (List ℕ)) (put : List Numbered) (g : Held) (o : Gathered) (engine : State) (before after : Option (List ℕ)) (first now : ℕ) : Type 0 where
   pub order : o.order ≡ a.order
   pub schema : engine.schema ≡ a.schema
   pub queries : engine.queries ≡ a.queries
@@ -98,30 +101,33 @@ pub record Taken (every : Option ℕ) (peaks : ℕ → ℕ) (a : Feed) (source :
   pub written : List ℕ
   pub took : TookAll before after written
   pub output : IsOutput a.order a.schema a.queries events (written ++ o.held)
+  pub timed : plan.timing ≡ from_first every
   pub was : State
   pub steps : ℕ
-  pub counting : Counting every a events (written ++ o.held) was first steps
+  pub counting : Counting every a events (written ++ o.held) was first (steps + saved_by every was plan.bases)
+  pub pays : Pays every a (events ++ next ∷ []) (saved_by every was plan.bases) (saved_by every engine plan.bases)
   pub windows : FollowsWindows every peaks (last_due every (length (events ++ next ∷ []) - 1)) (events ++ next ∷ []) engine
+  pub going_on : WithNoNumber every (IsGoingOn plan engine (events ++ next ∷ []))
   pub kept : SameQueries was engine
   pub growth : (query : ℕ) → len_of engine query ≤ len_of was query + update_bound (found_of engine query)
   pub cost : now ≤ steps + update_bounds engine
   pub none_waits : a.order ≡ Walk → o.held ≡ []
 
-module _ (every : Option ℕ) (peaks : ℕ → ℕ) where
-  pub flow_begins : (a : Feed) (source : Option (List ℕ)) (put : List Numbered) (g : Held) (o : Gathered) (engine : State) (before after : Option (List ℕ)) (first now : ℕ) → (f : Flowing every peaks a source put g o engine before after first now) →
+module _ (every : Option ℕ) (plan : Plan) (peaks : ℕ → ℕ) where
+  pub flow_begins : (a : Feed) (source : Option (List ℕ)) (put : List Numbered) (g : Held) (o : Gathered) (engine : State) (before after : Option (List ℕ)) (first now : ℕ) → (f : Flowing every plan peaks a source put g o engine before after first now) →
       (bytes : List ℕ) → source ≡ Some bytes → BeginsLate a bytes f.events
   flow_begins a source put g o engine before after first now f bytes told =
       let goes = f.go_first.first bytes told g f.gone f.sits refl f.gate_stands in
       begins_at a bytes f.gone goes.0 f.events goes.1 f.taken
 
   -- the event that is next goes after those that have gone
-  owe_first : (a : Feed) (source : Option (List ℕ)) (put : List Numbered) (g : Held) (e : Numbered) (o : Gathered) (engine : State) (before after : Option (List ℕ)) (first now : ℕ) → (w : Owing every peaks a source put g e o engine before after first now) →
+  owe_first : (a : Feed) (source : Option (List ℕ)) (put : List Numbered) (g : Held) (e : Numbered) (o : Gathered) (engine : State) (before after : Option (List ℕ)) (first now : ℕ) → (w : Owing every plan peaks a source put g e o engine before after first now) →
       (bytes : List ℕ) → source ≡ Some bytes → (rest : List Numbered) × (let_go a (fed a bytes).put (fed a bytes).stop ≡ w.gone ++ e ∷ rest)
   owe_first a source put g e o engine before after first now w bytes told =
       let goes = w.go_first.first bytes told g (w.gone ++ e ∷ []) w.sits refl w.gate_stands in
       (goes.0, goes.1 ∙ append_assoc w.gone (e ∷ []) goes.0)
 
-  owe_begins : (a : Feed) (source : Option (List ℕ)) (put : List Numbered) (g : Held) (e : Numbered) (o : Gathered) (engine : State) (before after : Option (List ℕ)) (first now : ℕ) → (w : Owing every peaks a source put g e o engine before after first now) →
+  owe_begins : (a : Feed) (source : Option (List ℕ)) (put : List Numbered) (g : Held) (e : Numbered) (o : Gathered) (engine : State) (before after : Option (List ℕ)) (first now : ℕ) → (w : Owing every plan peaks a source put g e o engine before after first now) →
       (bytes : List ℕ) → source ≡ Some bytes → BeginsLate a bytes w.events
   owe_begins a source put g e o engine before after first now w bytes told =
       let goes = owe_first a source put g e o engine before after first now w bytes told in
@@ -129,7 +135,7 @@ module _ (every : Option ℕ) (peaks : ℕ → ℕ) where
 
   -- the gate let an event go
   pub owes : (a : Feed) (source : Option (List ℕ)) (put : List Numbered) (g now : Held) (e : Numbered) (o : Gathered) (engine : State) (before after : Option (List ℕ)) (first steps : ℕ) → g ≡ record now { events = e ∷ now.events } →
-      (f : Flowing every peaks a source put g o engine before after first steps) → gates.StandsFor now put (f.gone ++ e ∷ []) → Owing every peaks a source put now e o engine before after first steps
+      (f : Flowing every plan peaks a source put g o engine before after first steps) → gates.StandsFor now put (f.gone ++ e ∷ []) → Owing every plan peaks a source put now e o engine before after first steps
   owes a source put g now e o engine before after first steps is f stands =
       let places : g.places ≡ now.places = ap (λ (h : Held). h.places) is in
       let late : g.late ≡ now.late = ap (λ (h : Held). h.late) is in
@@ -148,8 +154,10 @@ module _ (every : Option ℕ) (peaks : ℕ → ℕ) where
         written = f.written;
         took = f.took;
         output = f.output;
+        timed = f.timed;
         counting = f.counting;
         windows = f.windows;
+        on_time = f.on_time;
         none_waits = f.none_waits;
       }
 
@@ -174,9 +182,9 @@ module _ (every : Option ℕ) (peaks : ℕ → ℕ) where
       }
 
   -- the engine did not take it, since a clock would fall
-  pub answer_falls : (a : Feed) (source : Option (List ℕ)) (put : List Numbered) (g : Held) (e : Numbered) (o : Gathered) (old new : State) (before after : Option (List ℕ)) (first steps now : ℕ) (refusal : EventFault) → Owing every peaks a source put g e o old before after first steps →
+  pub answer_falls : (a : Feed) (source : Option (List ℕ)) (put : List Numbered) (g : Held) (e : Numbered) (o : Gathered) (old new : State) (before after : Option (List ℕ)) (first steps now : ℕ) (refusal : EventFault) → Owing every plan peaks a source put g e o old before after first steps →
       ((events : List StreamEvent) → StandsFor old events → AfterEvent old.schema old.queries e.0 new e.1 events {T = Unit {0}} (Err (Fault refusal))) → now ≡ steps →
-      AfterAnswer every peaks a source put g o new before after first now {T = Unit {0}} (Err (Fault (fault.Event e.0 refusal)))
+      AfterAnswer every plan peaks a source put g o new before after first now {T = Unit {0}} (Err (Fault (fault.Event e.0 refusal)))
   answer_falls a source put g e o old new before after first steps now refusal w took same = λ left.
       let S : Declared → Type 0 = λ d. StopsInTime d old.queries w.events e.1 e.0 (stop.Event e.0 refusal) in
       let Q : List Query → Type 0 = λ q. StopsInTime a.schema q w.events e.1 e.0 (stop.Event e.0 refusal) in
@@ -187,12 +195,12 @@ module _ (every : Option ℕ) (peaks : ℕ → ℕ) where
       let end = (fed a bytes).stop in
       let P : List Numbered → Type 0 = λ l. TakesOn a.schema a.queries [] l end w.events (stop.Event e.0 refusal) in
       subst P (sym goes.1) (takes_then a.schema a.queries [] w.gone (e ∷ goes.0) end w.events w.events (stop.Event e.0 refusal) w.taken (inr (refl, falls))))
-      (subst (λ (n : ℕ). Counting every a w.events (w.written ++ o.held) old first n) (sym same) w.counting) w.none_waits
+      (subst (λ (n : ℕ). Counting every a w.events (w.written ++ o.held) old first n) (sym same) (counted_so every a w.events (w.written ++ o.held) old first steps (saved_by every old plan.bases) w.counting)) w.none_waits
 
   -- memory ran out for it: it is the next of the run, and its answers are neither written nor held
-  pub answer_wants : (a : Feed) (source : Option (List ℕ)) (put : List Numbered) (g : Held) (e : Numbered) (o : Gathered) (old new : State) (before after : Option (List ℕ)) (first steps now : ℕ) → Owing every peaks a source put g e o old before after first steps →
+  pub answer_wants : (a : Feed) (source : Option (List ℕ)) (put : List Numbered) (g : Held) (e : Numbered) (o : Gathered) (old new : State) (before after : Option (List ℕ)) (first steps now : ℕ) → Owing every plan peaks a source put g e o old before after first steps →
       ((events : List StreamEvent) → StandsFor old events → NoneFallsBack old.schema old.queries events e.1 × AreWantingSteps old.schema old.queries (events ++ e.1 ∷ []) steps now) →
-      AfterAnswer every peaks a source put g o new before after first now {T = Unit {0}} (Err Memory)
+      AfterAnswer every plan peaks a source put g o new before after first now {T = Unit {0}} (Err Memory)
   answer_wants a source put g e o old new before after first steps now w wants = λ left.
       let all = w.events ++ e.1 ∷ [] in
       let S : Declared → Type 0 = λ d. NoneFallsBack d old.queries w.events e.1 × AreWantingSteps d old.queries all steps now in
@@ -214,21 +222,22 @@ module _ (every : Option ℕ) (peaks : ℕ → ℕ) where
           rows = w.counting.rows ++ more.0;
           are_rows = rows_grow_at_last a.order a.schema a.queries w.events e.1 w.counting.rows more.0 w.counting.are_rows more.1;
           lines = lines_with w.written o.held w.counting.rows more.0 w.counting.lines;
-          bounded = bounded_wanting (is_due every) (asked a) w.events e.1 w.counting.rows more.0 first steps now w.counting.bounded here.1;
+          bounded = bounded_wanting (from_first every) (asked a) w.events e.1 w.counting.rows more.0 first steps (saved_by every old plan.bases) now w.counting.bounded here.1;
           none_waits = w.none_waits;
         },
       )
 
   pub takes : (a : Feed) (source : Option (List ℕ)) (put : List Numbered) (g : Held) (e : Numbered) (o : Gathered) (old new : State) (before after : Option (List ℕ)) (first steps now : ℕ) → SameQueries old new →
-      Owing every peaks a source put g e o old before after first steps →
-      ((events : List StreamEvent) → StandsFor old events → AfterEvent old.schema old.queries e.0 new e.1 events {T = Unit {0}} (Ok tt)) → HasAdded old new e.1 →
+      Owing every plan peaks a source put g e o old before after first steps →
+      ((events : List StreamEvent) → StandsFor old events → AfterEvent old.schema old.queries e.0 new e.1 events {T = Unit {0}} (Ok tt)) → HasAdded old new e.1 → HasAddedKeys old new e.1 →
       ((query : ℕ) → len_of new query ≤ len_of old query + update_bound (found_of new query)) → now ≤ steps + update_bounds new →
-      Taken every peaks a source put g o new before after first now
-  takes a source put g e o old new before after first steps now same w took added growth cost =
+      Taken every plan peaks a source put g o new before after first now
+  takes a source put g e o old new before after first steps now same w took added keys growth cost =
       let after_it = took w.events w.stands in
       let S : Declared → Type 0 = λ d. NoneFallsBack d old.queries w.events e.1 in
       let Q : List Query → Type 0 = λ q. NoneFallsBack a.schema q w.events e.1 in
       let none = subst Q w.queries (subst S w.schema after_it.1) in
+      let all = w.events ++ e.1 ∷ [] in
       record {
         order = w.order;
         schema = same.0 ∙ w.schema;
@@ -244,33 +253,38 @@ module _ (every : Option ℕ) (peaks : ℕ → ℕ) where
         written = w.written;
         took = w.took;
         output = w.output;
+        timed = w.timed;
         was = old;
         steps = steps;
         counting = w.counting;
+        pays = λ most meet.
+            let P : List Query → Type 0 = λ qs. event_bound (length qs) most + saved_by every new plan.bases ≤ saved_by every old plan.bases + pace every (length qs) most in
+            subst P (same.1 ∙ w.queries) (event_pays every old new w.events e.1 plan.bases most same after_it.0 added keys (met_here (asked a) new all most (same.0 ∙ w.schema) (same.1 ∙ w.queries) meet));
         windows = windows_due (is_due every) peaks old new w.events e.1 same after_it.0 added w.windows;
+        going_on = with_none every (IsOnTime plan old w.events) (IsGoingOn plan new all) (λ t. goes_on plan old new w.events e.1 same added keys t) w.on_time;
         kept = same;
         growth = growth;
         cost = cost;
         none_waits = w.none_waits;
       }
 
-  taken_begins : (a : Feed) (source : Option (List ℕ)) (put : List Numbered) (g : Held) (o : Gathered) (engine : State) (before after : Option (List ℕ)) (first now : ℕ) → (t : Taken every peaks a source put g o engine before after first now) →
+  taken_begins : (a : Feed) (source : Option (List ℕ)) (put : List Numbered) (g : Held) (o : Gathered) (engine : State) (before after : Option (List ℕ)) (first now : ℕ) → (t : Taken every plan peaks a source put g o engine before after first now) →
       (bytes : List ℕ) → source ≡ Some bytes → BeginsLate a bytes (t.events ++ t.next ∷ [])
   taken_begins a source put g o engine before after first now t bytes told =
       let goes = t.go_first.first bytes told g t.gone t.sits refl t.gate_stands in
       begins_at a bytes t.gone goes.0 (t.events ++ t.next ∷ []) goes.1 t.taken
 
   -- the engine was compacted after it, where that is due
-  pub takes_compacted : (a : Feed) (source : Option (List ℕ)) (put : List Numbered) (g : Held) (o : Gathered) (engine last : State) (before after : Option (List ℕ)) (first seen paused now : ℕ) → (t : Taken every peaks a source put g o engine before after first seen) →
+  pub takes_compacted : (a : Feed) (source : Option (List ℕ)) (put : List Numbered) (g : Held) (o : Gathered) (engine last : State) (before after : Option (List ℕ)) (first seen paused now : ℕ) → (t : Taken every plan peaks a source put g o engine before after first seen) →
       SameQueries engine last → ((events : List StreamEvent) → StandsFor engine events → StandsFor last events) → ((query : ℕ) → len_of last query ≤ len_of engine query) →
       ((events : List StreamEvent) (most : ℕ → ℕ) → StandsFor engine events → MeetMost engine.schema engine.queries events most → HasFewNodes engine (length events) most → now ≤ paused + compaction_at every (length engine.queries) most (length events)) →
-      IsCompacted (is_due every) (asked a) (t.events ++ t.next ∷ []) last paused now
+      IsCompacted (from_first every) (asked a) (t.events ++ t.next ∷ []) last paused now
   takes_compacted a source put g o engine last before after first seen paused now t same stands fewer steps =
-      compacted (is_due every) (asked a) t.was engine last t.events t.next paused now t.schema t.queries t.kept same t.stands (stands (t.events ++ t.next ∷ []) t.stands) t.counting.few t.growth fewer
+      compacted (from_first every) (asked a) t.was engine last t.events t.next paused now t.schema t.queries t.kept same t.stands (stands (t.events ++ t.next ∷ []) t.stands) t.counting.few t.growth fewer
       (λ most meet few. steps (t.events ++ t.next ∷ []) most t.stands meet few) (λ most meet. first_meet_fewer a.schema a.queries t.events (t.next ∷ []) most meet)
 
   -- the output over the events with the one that was taken, where its answers were put
-  output_on : (a : Feed) (source : Option (List ℕ)) (put : List Numbered) (g : Held) (o now : Gathered) (engine : State) (before middle after : Option (List ℕ)) (first seen : ℕ) (more : List Row) → (t : Taken every peaks a source put g o engine before middle first seen) →
+  output_on : (a : Feed) (source : Option (List ℕ)) (put : List Numbered) (g : Held) (o now : Gathered) (engine : State) (before middle after : Option (List ℕ)) (first seen : ℕ) (more : List Row) → (t : Taken every plan peaks a source put g o engine before middle first seen) →
       AreRowsAt a.order a.schema 1 a.queries (t.events ++ t.next ∷ []) (length (t.events ++ t.next ∷ []) - 1) more → (passed : PassesOn middle after o.held (lines_of more) now.held []) →
       IsOutput a.order a.schema a.queries (t.events ++ t.next ∷ []) ((t.written ++ passed.written) ++ now.held)
   output_on a source put g o now engine before middle after first seen more t are_more passed =
@@ -281,25 +295,25 @@ module _ (every : Option ℕ) (peaks : ℕ → ℕ) where
       subst (λ h. O ((t.written ++ passed.written) ++ h)) (append-nil now.held) output
 
   -- and its steps, with those of a compaction
-  counting_on : (a : Feed) (source : Option (List ℕ)) (put : List Numbered) (g : Held) (o now : Gathered) (engine last : State) (before middle after : Option (List ℕ)) (first seen paused steps : ℕ) (more : List Row) → (t : Taken every peaks a source put g o engine before middle first seen) →
+  counting_on : (a : Feed) (source : Option (List ℕ)) (put : List Numbered) (g : Held) (o now : Gathered) (engine last : State) (before middle after : Option (List ℕ)) (first seen paused steps : ℕ) (more : List Row) → (t : Taken every plan peaks a source put g o engine before middle first seen) →
       AreRowsAt a.order a.schema 1 a.queries (t.events ++ t.next ∷ []) (length (t.events ++ t.next ∷ []) - 1) more → (passed : PassesOn middle after o.held (lines_of more) now.held []) → paused ≤ seen + cursor_bounds engine + row_delays more →
-      IsCompacted (is_due every) (asked a) (t.events ++ t.next ∷ []) last paused steps → Counting every a (t.events ++ t.next ∷ []) ((t.written ++ passed.written) ++ now.held) last first steps
+      IsCompacted (from_first every) (asked a) (t.events ++ t.next ∷ []) last (paused + saved_by every engine plan.bases) steps → Counting every a (t.events ++ t.next ∷ []) ((t.written ++ passed.written) ++ now.held) last first steps
   counting_on a source put g o now engine last before middle after first seen paused steps more t are_more passed cost c =
       let turn = in_turn t.written o.held (lines_of more) passed.written now.held [] passed.whole in
       record {
         rows = t.counting.rows ++ more;
         are_rows = rows_grow_at_last a.order a.schema a.queries t.events t.next t.counting.rows more t.counting.are_rows are_more;
         lines = ap (λ (h : List ℕ). (t.written ++ passed.written) ++ h) (sym (append-nil now.held)) ∙ (sym turn ∙ lines_with t.written o.held t.counting.rows more t.counting.lines);
-        bounded = bounded_on (is_due every) (asked a) engine t.events t.next t.counting.rows more first t.steps seen paused steps t.schema t.queries t.stands t.counting.bounded t.cost cost c.steps;
+        bounded = bounded_on (from_first every) (asked a) engine t.events t.next t.counting.rows more first t.steps (saved_by every t.was plan.bases) (saved_by every engine plan.bases) seen paused steps t.schema t.queries t.stands t.counting.bounded t.cost cost t.pays c.steps;
         few = c.few;
       }
 
   -- the answers were put, and the engine is compacted
-  pub puts : (a : Feed) (source : Option (List ℕ)) (put : List Numbered) (g : Held) (o now : Gathered) (engine last : State) (before middle after : Option (List ℕ)) (first seen paused steps : ℕ) (more : List Row) → now.order ≡ o.order →
-      (t : Taken every peaks a source put g o engine before middle first seen) → AreRowsAt a.order a.schema 1 a.queries (t.events ++ t.next ∷ []) (length (t.events ++ t.next ∷ []) - 1) more → PassesOn middle after o.held (lines_of more) now.held [] →
-      paused ≤ seen + cursor_bounds engine + row_delays more → (a.order ≡ Walk → now.held ≡ []) → SameQueries engine last → IsCompacted (is_due every) (asked a) (t.events ++ t.next ∷ []) last paused steps →
-      FollowsWindows every peaks (last_due every (length (t.events ++ t.next ∷ []))) (t.events ++ t.next ∷ []) last → Flowing every peaks a source put g now last before after first steps
-  puts a source put g o now engine last before middle after first seen paused steps more order t are_more passed cost none_waits same c windows = record {
+  pub puts : (after_it : Plan) (a : Feed) (source : Option (List ℕ)) (put : List Numbered) (g : Held) (o now : Gathered) (engine last : State) (before middle after : Option (List ℕ)) (first seen paused steps : ℕ) (more : List Row) → now.order ≡ o.order →
+      (t : Taken every plan peaks a source put g o engine before middle first seen) → AreRowsAt a.order a.schema 1 a.queries (t.events ++ t.next ∷ []) (length (t.events ++ t.next ∷ []) - 1) more → PassesOn middle after o.held (lines_of more) now.held [] →
+      paused ≤ seen + cursor_bounds engine + row_delays more → (a.order ≡ Walk → now.held ≡ []) → SameQueries engine last → IsCompacted (from_first every) (asked a) (t.events ++ t.next ∷ []) last (paused + saved_by every engine plan.bases) (steps + saved_by every last after_it.bases) →
+      FollowsWindows every peaks (last_due every (length (t.events ++ t.next ∷ []))) (t.events ++ t.next ∷ []) last → after_it.timing ≡ from_first every → WithNoNumber every (IsOnTime after_it last (t.events ++ t.next ∷ [])) → Flowing every after_it peaks a source put g now last before after first steps
+  puts after_it a source put g o now engine last before middle after first seen paused steps more order t are_more passed cost none_waits same c windows timed on_time = record {
     order = order ∙ t.order;
     schema = same.0 ∙ t.schema;
     queries = same.1 ∙ t.queries;
@@ -313,26 +327,29 @@ module _ (every : Option ℕ) (peaks : ℕ → ℕ) where
     written = t.written ++ passed.written;
     took = took_both before middle after t.written passed.written t.took passed.took;
     output = output_on a source put g o now engine before middle after first seen more t are_more passed;
-    counting = counting_on a source put g o now engine last before middle after first seen paused steps more t are_more passed cost c;
+    timed = timed;
+    counting = counting_on a source put g o now engine last before middle after first seen paused (steps + saved_by every last after_it.bases) more t are_more passed cost c;
     windows = windows;
+    on_time = on_time;
     none_waits = none_waits;
   }
 
   -- memory ran out while it was compacted
-  pub compaction_wants : (a : Feed) (source : Option (List ℕ)) (put : List Numbered) (g : Held) (o now : Gathered) (engine last : State) (before middle after : Option (List ℕ)) (first seen paused steps : ℕ) (more : List Row) →
-      (t : Taken every peaks a source put g o engine before middle first seen) → AreRowsAt a.order a.schema 1 a.queries (t.events ++ t.next ∷ []) (length (t.events ++ t.next ∷ []) - 1) more → PassesOn middle after o.held (lines_of more) now.held [] →
-      paused ≤ seen + cursor_bounds engine + row_delays more → (a.order ≡ Walk → now.held ≡ []) → IsCompacted (is_due every) (asked a) (t.events ++ t.next ∷ []) last paused steps →
+  pub compaction_wants : (after_it : Plan) (a : Feed) (source : Option (List ℕ)) (put : List Numbered) (g : Held) (o now : Gathered) (engine last : State) (before middle after : Option (List ℕ)) (first seen paused steps : ℕ) (more : List Row) →
+      (t : Taken every plan peaks a source put g o engine before middle first seen) → AreRowsAt a.order a.schema 1 a.queries (t.events ++ t.next ∷ []) (length (t.events ++ t.next ∷ []) - 1) more → PassesOn middle after o.held (lines_of more) now.held [] →
+      paused ≤ seen + cursor_bounds engine + row_delays more → (a.order ≡ Walk → now.held ≡ []) → IsCompacted (from_first every) (asked a) (t.events ++ t.next ∷ []) last (paused + saved_by every engine plan.bases) (steps + saved_by every last after_it.bases) →
       (left : Option (List ℕ)) → Ended every peaks a source left before after now.held last first steps {T = Unit {0}} (Err Memory)
-  compaction_wants a source put g o now engine last before middle after first seen paused steps more t are_more passed cost none_waits c left = (
+  compaction_wants after_it a source put g o now engine last before middle after first seen paused steps more t are_more passed cost none_waits c left = (
     [],
     whole a source before after now.held (λ bytes events. Unit {0}) (t.events ++ t.next ∷ []) (t.written ++ passed.written) last first steps (took_both before middle after t.written passed.written t.took passed.took)
         (output_on a source put g o now engine before middle after first seen more t are_more passed) (taken_begins a source put g o engine before middle first seen t) (λ bytes told. tt)
-        (counting_on a source put g o now engine last before middle after first seen paused steps more t are_more passed cost c) none_waits,
+        (counted_so every a (t.events ++ t.next ∷ []) ((t.written ++ passed.written) ++ now.held) last first steps (saved_by every last after_it.bases)
+        (counting_on a source put g o now engine last before middle after first seen paused (steps + saved_by every last after_it.bases) more t are_more passed cost c)) none_waits,
   )
 
   -- memory ran out while they were put
   pub puts_wanting : (a : Feed) (source : Option (List ℕ)) (put : List Numbered) (g : Held) (o now : Gathered) (engine : State) (before middle after : Option (List ℕ)) (first seen steps : ℕ) (more : List Row) →
-      (t : Taken every peaks a source put g o engine before middle first seen) → AreRowsAt a.order a.schema 1 a.queries (t.events ++ t.next ∷ []) (length (t.events ++ t.next ∷ []) - 1) more → (rest : List ℕ) × PassesOn middle after o.held (lines_of more) now.held rest →
+      (t : Taken every plan peaks a source put g o engine before middle first seen) → AreRowsAt a.order a.schema 1 a.queries (t.events ++ t.next ∷ []) (length (t.events ++ t.next ∷ []) - 1) more → (rest : List ℕ) × PassesOn middle after o.held (lines_of more) now.held rest →
       steps ≤ seen + cursor_bounds engine + row_delays more → (a.order ≡ Walk → now.held ≡ []) →
       (left : Option (List ℕ)) → Ended every peaks a source left before after now.held engine first steps {T = Unit {0}} (Err Memory)
   puts_wanting a source put g o now engine before middle after first seen steps more t are_more passed cost none_waits left =
@@ -350,20 +367,20 @@ module _ (every : Option ℕ) (peaks : ℕ → ℕ) where
           rows = t.counting.rows ++ more;
           are_rows = rows_grow_at_last a.order a.schema a.queries t.events t.next t.counting.rows more t.counting.are_rows are_more;
           lines = sym turn ∙ lines_with t.written o.held t.counting.rows more t.counting.lines;
-          bounded = bounded_more (is_due every) (asked a) engine t.events t.next t.counting.rows more first t.steps seen steps t.schema t.queries t.stands t.counting.bounded t.cost cost;
+          bounded = bounded_more (from_first every) (asked a) engine t.events t.next t.counting.rows more first t.steps (saved_by every t.was plan.bases) (saved_by every engine plan.bases) seen steps t.schema t.queries t.stands t.counting.bounded t.cost cost t.pays;
           none_waits = none_waits;
         },
       )
 
   -- a write failed meanwhile
   pub puts_failing : (a : Feed) (source : Option (List ℕ)) (put : List Numbered) (g : Held) (o : Gathered) (engine : State) (before middle after : Option (List ℕ)) (first seen steps : ℕ) (more : List Row) →
-      (t : Taken every peaks a source put g o engine before middle first seen) → AreRowsAt a.order a.schema 1 a.queries (t.events ++ t.next ∷ []) (length (t.events ++ t.next ∷ []) - 1) more → TookPart middle after (o.held ++ lines_of more) →
+      (t : Taken every plan peaks a source put g o engine before middle first seen) → AreRowsAt a.order a.schema 1 a.queries (t.events ++ t.next ∷ []) (length (t.events ++ t.next ∷ []) - 1) more → TookPart middle after (o.held ++ lines_of more) →
       StepsAtFault o.order middle after more (seen + cursor_bounds engine) steps →
       WroteLatePart a source (TookPart before after) × ((bytes : List ℕ) → source ≡ Some bytes → LateCountsAtFault every a.order a bytes before after first steps)
   puts_failing a source put g o engine before middle after first seen steps more t are_more part cost = (
     part_of_late a source (t.events ++ t.next ∷ []) (t.written ++ (o.held ++ lines_of more)) (TookPart before after) (output_with [] (asked a) t.events t.next t.written o.held (lines_of more) (omega arith) t.output (came_of a (t.events ++ t.next ∷ []) more are_more))
         (taken_begins a source put g o engine before middle first seen t) (λ rest p. part_of_more before after (t.written ++ (o.held ++ lines_of more)) rest p) (took_then_part before middle after t.written (o.held ++ lines_of more) t.took part),
     λ bytes told.
-        counts_at_fault every a bytes before middle after t.written o.held engine t.events t.next t.counting.rows more first t.steps seen steps (taken_begins a source put g o engine before middle first seen t bytes told)
-        t.schema t.queries t.stands t.took t.none_waits are_more t.counting.are_rows t.counting.lines t.counting.bounded t.cost (subst (λ (x : Order). StepsAtFault x middle after more (seen + cursor_bounds engine) steps) t.order cost),
+        counts_at_fault every a bytes before middle after t.written o.held engine t.events t.next t.counting.rows more first t.steps (saved_by every t.was plan.bases) (saved_by every engine plan.bases) seen steps (taken_begins a source put g o engine before middle first seen t bytes told)
+        t.schema t.queries t.stands t.took t.none_waits are_more t.counting.are_rows t.counting.lines t.counting.bounded t.pays t.cost (subst (λ (x : Order). StepsAtFault x middle after more (seen + cursor_bounds engine) steps) t.order cost),
   )

@@ -23,11 +23,20 @@ use Rattle.reorder_gate.specs.Releasing.{released, BeginsWith}
 use Rattle.stream_answers.specs.declared.StreamFault.{StreamFault}
 use Rattle.stream_answers.specs.declared.StreamFault.TheVariants as fault
 use Rattle.stream_answers.specs.Gathering.{Gathered}
+use Rattle.stream_answers.specs.Schedules.{Timing, Plan, saved_by, WithNoNumber, IsOnTime}
 use Rattle.stream_answers.specs.Steps.{AreBounded}
-use Rattle.stream_answers.specs.Windows.{last_due, FollowsWindows}
+use Rattle.stream_answers.specs.Windows.{last_due, FollowsEvents, FollowsWindows}
 use Rattle.command_reorder.specs.Late.{Numbered, Feed, when, fed_from, fed, let_go, TakesOn, RunsLate, AreFed}
 use Rattle.command_reorder.specs.Written.{StandsForLate, AreReleasedRead, WroteLatePart, WroteLate}
 use Rattle.command_reorder.specs.Steps.{LateCountsAtFault, LateStepsOver}
+
+-- after every so many events, all of which count
+abbrev pub from_first : Option ℕ → Timing
+from_first every = record { every = every; first = 0 }
+
+-- without a number for compactions the plan has a size for each query
+abbrev pub HasBases : Plan → State → Type 0
+HasBases plan engine = WithNoNumber plan.timing.every (length plan.bases ≡ length engine.queries)
 
 -- The gate has the feed's clock and bound.
 pub record Sits (a : Feed) (g : Held) : Type 0 where
@@ -100,8 +109,8 @@ pub record Counting (every : Option ℕ) (a : Feed) (events : List StreamEvent) 
   pub bounded : AreBounded every a.schema a.queries events rows first now
   pub few : (most : ℕ → ℕ) → MeetMost a.schema a.queries events most → HasFewNodes engine (length events) most
 
--- The queries took the events that have gone, with none of which a clock falls; their answers are written or held, and the nodes follow the windows. These were the peaks before any event.
-pub record Flowing (every : Option ℕ) (peaks : ℕ → ℕ) (a : Feed) (source : Option (List ℕ)) (put : List Numbered) (g : Held) (o : Gathered) (engine : State) (before after : Option (List ℕ)) (first now : ℕ) : Type 0 where
+-- The queries took the events that have gone, with none of which a clock falls; their answers are written or held. The steps are counted with those that the plan has put by, the nodes follow the windows, and the engine is kept by the plan. These were the peaks before any event.
+pub record Flowing (every : Option ℕ) (plan : Plan) (peaks : ℕ → ℕ) (a : Feed) (source : Option (List ℕ)) (put : List Numbered) (g : Held) (o : Gathered) (engine : State) (before after : Option (List ℕ)) (first now : ℕ) : Type 0 where
   pub order : o.order ≡ a.order
   pub schema : engine.schema ≡ a.schema
   pub queries : engine.queries ≡ a.queries
@@ -115,12 +124,14 @@ pub record Flowing (every : Option ℕ) (peaks : ℕ → ℕ) (a : Feed) (source
   pub written : List ℕ
   pub took : TookAll before after written
   pub output : IsOutput a.order a.schema a.queries events (written ++ o.held)
-  pub counting : Counting every a events (written ++ o.held) engine first now
+  pub timed : plan.timing ≡ from_first every
+  pub counting : Counting every a events (written ++ o.held) engine first (now + saved_by every engine plan.bases)
   pub windows : FollowsWindows every peaks (last_due every (length events)) events engine
+  pub on_time : WithNoNumber every (IsOnTime plan engine events)
   pub none_waits : a.order ≡ Walk → o.held ≡ []
 
 -- The same, where the event has gone that the engine is to take next.
-pub record Owing (every : Option ℕ) (peaks : ℕ → ℕ) (a : Feed) (source : Option (List ℕ)) (put : List Numbered) (g : Held) (e : Numbered) (o : Gathered) (engine : State) (before after : Option (List ℕ)) (first now : ℕ) : Type 0 where
+pub record Owing (every : Option ℕ) (plan : Plan) (peaks : ℕ → ℕ) (a : Feed) (source : Option (List ℕ)) (put : List Numbered) (g : Held) (e : Numbered) (o : Gathered) (engine : State) (before after : Option (List ℕ)) (first now : ℕ) : Type 0 where
   pub order : o.order ≡ a.order
   pub schema : engine.schema ≡ a.schema
   pub queries : engine.queries ≡ a.queries
@@ -134,8 +145,10 @@ pub record Owing (every : Option ℕ) (peaks : ℕ → ℕ) (a : Feed) (source :
   pub written : List ℕ
   pub took : TookAll before after written
   pub output : IsOutput a.order a.schema a.queries events (written ++ o.held)
-  pub counting : Counting every a events (written ++ o.held) engine first now
+  pub timed : plan.timing ≡ from_first every
+  pub counting : Counting every a events (written ++ o.held) engine first (now + saved_by every engine plan.bases)
   pub windows : FollowsWindows every peaks (last_due every (length events)) events engine
+  pub on_time : WithNoNumber every (IsOnTime plan engine events)
   pub none_waits : a.order ≡ Walk → o.held ≡ []
 
 -- The run over the file begins with these events.
@@ -159,15 +172,15 @@ pub record Unwritten (every : Option ℕ) (a : Feed) (source before after : Opti
   pub none_waits : a.order ≡ Walk → held ≡ []
 
 -- The lines so far are put, and all that may go has gone.
-pub record Running (every : Option ℕ) (peaks : ℕ → ℕ) (a : Feed) (source : Option (List ℕ)) (reader : LineReader) (left : Option (List ℕ)) (g : Held) (o : Gathered) (engine : State) (before after : Option (List ℕ)) (first now : ℕ) : Type 0 where
+pub record Running (every : Option ℕ) (plan : Plan) (peaks : ℕ → ℕ) (a : Feed) (source : Option (List ℕ)) (reader : LineReader) (left : Option (List ℕ)) (g : Held) (o : Gathered) (engine : State) (before after : Option (List ℕ)) (first now : ℕ) : Type 0 where
   pub put : List Numbered
-  pub flowing : Flowing every peaks a source put g o engine before after first now
+  pub flowing : Flowing every plan peaks a source put g o engine before after first now
   pub due : flowing.gone ≡ released (when a) a.late put
   pub fed : HasFedOf a source reader left put
   pub most_bytes : reader.budget ≡ a.most_bytes
 
--- An engine and a gate to which nothing was given, and a reader at the beginning of its file.
-pub record IsFresh (a : Feed) (reader : LineReader) (g : Held) (o : Gathered) (engine : State) : Type 0 where
+-- An engine and a gate to which nothing was given, and a reader at the beginning of its file. The engine is kept by the plan; these were its peaks.
+pub record IsFresh (every : Option ℕ) (plan : Plan) (peaks : ℕ → ℕ) (a : Feed) (reader : LineReader) (g : Held) (o : Gathered) (engine : State) (first now : ℕ) : Type 0 where
   pub order : o.order ≡ a.order
   pub schema : engine.schema ≡ a.schema
   pub queries : engine.queries ≡ a.queries
@@ -176,7 +189,10 @@ pub record IsFresh (a : Feed) (reader : LineReader) (g : Held) (o : Gathered) (e
   pub going : g.is_finished ≡ false
   pub gate_stands : gates.StandsFor g [] []
   pub held : g.events ≡ []
-  pub stands : StandsFor engine []
+  pub follows : FollowsEvents peaks engine []
+  pub timed : plan.timing ≡ from_first every
+  pub on_time : WithNoNumber every (IsOnTime plan engine [])
+  pub bounded : AreBounded every a.schema a.queries [] [] first (now + saved_by every engine plan.bases)
   pub none_waits : o.held ≡ []
   pub given : (bytes : List ℕ) → HasGiven reader bytes (Some bytes) []
 
@@ -209,11 +225,11 @@ is_write_fault (Err Memory) = false
 is_write_fault (Ok done) = false
 
 -- what became of the event that was next: the engine took it, or the feed ends
-abbrev pub AfterAnswer : Option ℕ → (ℕ → ℕ) → Feed → Option (List ℕ) → List Numbered → Held → Gathered → State → Option (List ℕ) → Option (List ℕ) → ℕ → ℕ → {T : Type 0} → Result T (OrMemory StreamFault) → Type 0
-AfterAnswer every peaks a source put g o engine before after first now (Ok done) = Flowing every peaks a source put g o engine before after first now
-AfterAnswer every peaks a source put g o engine before after first now (Err why) = (left : Option (List ℕ)) → Ended every peaks a source left before after o.held engine first now {T = Unit {0}} (Err why)
+abbrev pub AfterAnswer : Option ℕ → Plan → (ℕ → ℕ) → Feed → Option (List ℕ) → List Numbered → Held → Gathered → State → Option (List ℕ) → Option (List ℕ) → ℕ → ℕ → {T : Type 0} → Result T (OrMemory StreamFault) → Type 0
+AfterAnswer every plan peaks a source put g o engine before after first now (Ok done) = Flowing every plan peaks a source put g o engine before after first now
+AfterAnswer every plan peaks a source put g o engine before after first now (Err why) = (left : Option (List ℕ)) → Ended every peaks a source left before after o.held engine first now {T = Unit {0}} (Err why)
 
 -- what became of the events that the gate could let go: all have gone, or the feed ends
-abbrev pub AfterRelease : Option ℕ → (ℕ → ℕ) → Feed → Option (List ℕ) → List Numbered → Held → Gathered → State → Option (List ℕ) → Option (List ℕ) → ℕ → ℕ → {T : Type 0} → Result T (OrMemory StreamFault) → Type 0
-AfterRelease every peaks a source put g o engine before after first now (Ok done) = (f : Flowing every peaks a source put g o engine before after first now) × (f.gone ≡ all_due g put)
-AfterRelease every peaks a source put g o engine before after first now (Err why) = (left : Option (List ℕ)) → Ended every peaks a source left before after o.held engine first now {T = Unit {0}} (Err why)
+abbrev pub AfterRelease : Option ℕ → Plan → (ℕ → ℕ) → Feed → Option (List ℕ) → List Numbered → Held → Gathered → State → Option (List ℕ) → Option (List ℕ) → ℕ → ℕ → {T : Type 0} → Result T (OrMemory StreamFault) → Type 0
+AfterRelease every plan peaks a source put g o engine before after first now (Ok done) = (f : Flowing every plan peaks a source put g o engine before after first now) × (f.gone ≡ all_due g put)
+AfterRelease every plan peaks a source put g o engine before after first now (Err why) = (left : Option (List ℕ)) → Ended every peaks a source left before after o.held engine first now {T = Unit {0}} (Err why)

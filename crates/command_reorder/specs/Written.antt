@@ -13,6 +13,7 @@ use Rattle.reorder_gate.specs.Releasing.{released}
 use Rattle.stream_answers.specs.declared.StreamFault.{StreamFault}
 use Rattle.stream_answers.specs.declared.RunOptions.{RunOptions}
 use Rattle.stream_answers.specs.Ends.{Said, ByEnd}
+use Rattle.stream_answers.specs.Schedules.{WithNoNumber, KeepsUp}
 use Rattle.stream_answers.specs.Streams.{Asked, WroteOver}
 use Rattle.stream_answers.specs.Windows.{last_due, FollowsWindows}
 use Rattle.command_reorder.specs.Late.{Numbered, Feed, when, TakesOn, RunsLate, AreFed}
@@ -32,12 +33,13 @@ pub record AreLateAnswers (a : Feed) (lines bytes : List ℕ) : Type 0 where
   pub runs : RunsLate a lines events halt
   pub output : IsOutput a.order a.schema a.queries events bytes
 
--- The engine stands for exactly the events that the queries take of a file of these bytes, which is read to its end. It was compacted after every so many of them, in their order, and its nodes follow the windows; these were its peaks before.
+-- The engine stands for exactly the events that the queries take of a file of these bytes, which is read to its end. It was compacted after every so many of them, in their order, and its nodes follow the windows; these were its peaks before. Without such a number its queries are kept small.
 pub record StandsForLate (every : Option ℕ) (peaks : ℕ → ℕ) (a : Feed) (lines : List ℕ) (engine : State) : Type 0 where
   pub events : List StreamEvent
   pub runs : RunsLate a lines events stop.End
   pub stands : StandsFor engine events
   pub windows : FollowsWindows every peaks (last_due every (length events)) events engine
+  pub keeps_up : WithNoNumber every (KeepsUp engine events)
 
 -- All lines that end among the bytes that are no longer left are good, and first lines of the file, none too long and none past the bytes that it may have;
 -- these are the events of them before which none can come that is not too late, in their order, and with none of them a clock falls.

@@ -9,7 +9,7 @@ ghost use Rattle.stream_answers.specs.Ends.{HasReadCause, HasWriteCause};
 ghost use Rattle.command_reorder.specs.Late.{Feed};
 ghost use Rattle.command_reorder.specs.Written.{feed_by, StandsForLate, WroteLate};
 ghost use Rattle.command_reorder.specs.Steps.{LateStepsOver};
-ghost use Rattle.command_reorder.specs.Flowing.{AreOfSchema, Closed, Ended, Feeds, Flowing, IsFresh, is_write_fault};
+ghost use Rattle.command_reorder.specs.Flowing.{AreOfSchema, Closed, Ended, Feeds, Flowing, HasBases, IsFresh, is_write_fault};
 
 use crate::feeding::put_line;
 use crate::releasing::release;
@@ -21,7 +21,7 @@ use query_engine::Engine;
 use reorder_gate::Gate;
 use std::alloc::Global;
 use std::sync::ledger::Ledger;
-use stream_answers::{Output, RunOptions, StreamFault, finish};
+use stream_answers::{Output, RunOptions, Schedule, StreamFault, finish};
 
 /// Gives the engine, which is new, the events of the source by their clocks, ties in the order of
 /// their lines, and writes the answers at each. The clock is the attribute of this name, which every
@@ -38,10 +38,12 @@ use stream_answers::{Output, RunOptions, StreamFault, finish};
 /// - Memory ran out.
 ///
 /// With `compact_every` the engine is compacted after every so many events, their answers being
-/// written or held. Without it, or with 0, it never is. However it ends, its steps are bounded as
-/// those of a run over the events in this order. Where it ends well, the engine stands for exactly
-/// these, and its nodes follow the windows of its queries: they are bounded by the events since the
-/// last compaction and those in the windows that it left, and its peaks likewise.
+/// written or held, and with 0 it never is. Without it each of its queries is compacted once it has
+/// grown enough. However it ends, its steps are bounded as those of a run over the events in this
+/// order. Where it ends well, the engine stands for exactly these, and its nodes follow the windows of
+/// its queries: they are bounded by the events since the last compaction of all queries and those in
+/// the windows that it left, and its peaks likewise. Without a number each query is kept small: what is
+/// kept of it is at most twice what its window needed after some event, and what a few events may add.
 pub fn write_late<Q: Source, K: Sink, L: Ledger>(
     alloc: Global,
     clock: &str,
@@ -76,12 +78,16 @@ pub fn write_late<Q: Source, K: Sink, L: Ledger>(
         Err(Memory) => return Err(OrMemory::Memory),
     };
     let mut output = Output::new(alloc, options.order);
+    let mut schedule = match Schedule::new(alloc, options.compact_every, engine, steps) {
+        Ok(schedule) => schedule,
+        Err(Memory) => return Err(OrMemory::Memory),
+    };
     answer_lines(
         alloc,
         &mut lines,
         &mut gate,
         &mut output,
-        options.compact_every,
+        &mut schedule,
         engine,
         source,
         out,
@@ -95,7 +101,7 @@ fn answer_lines<Q: Source, K: Sink, L: Ledger>(
     lines: &mut Lines,
     gate: &mut Gate,
     output: &mut Output,
-    compact_every: Option<u64>,
+    schedule: &mut Schedule,
     engine: &mut Engine,
     source: &mut Q,
     out: &mut K,
@@ -105,9 +111,12 @@ fn answer_lines<Q: Source, K: Sink, L: Ledger>(
     requires going { gate.old.is_finished ≡ false }
     requires held { gate.old.events ≡ [] }
     requires none { count_of engine.old ≡ 0 }
-    ensures closed { (a : Feed) → IsFresh a lines.old gate.old output.old engine.old
-        → Closed compact_every (peak_of engine.old) a (Q.left source.old) (Q.left source.new)
-        (K.taken out.old) (K.taken out.new) engine.new steps.old steps.new result }
+    requires bases { HasBases schedule.old engine.old }
+    ensures closed { (every : Option ℕ) (peaks : ℕ → ℕ) (a : Feed) (first : ℕ)
+        → IsFresh every schedule.old peaks a lines.old gate.old output.old engine.old first
+        steps.old
+        → Closed every peaks a (Q.left source.old) (Q.left source.new)
+        (K.taken out.old) (K.taken out.new) engine.new first steps.new result }
     ensures same { SameQueries engine.old engine.new }
     ensures read_cause { HasReadCause (Q.faults source.old) (Q.faults source.new) result }
     ensures write_cause { HasWriteCause (K.faults out.old) (K.faults out.new) result }
@@ -116,27 +125,11 @@ fn answer_lines<Q: Source, K: Sink, L: Ledger>(
         match put_line(alloc, lines, gate, engine.schema(), source) {
             Ok(true) => {}
             Ok(false) => {
-                return answer_rest(
-                    lines.number(),
-                    compact_every,
-                    gate,
-                    output,
-                    engine,
-                    out,
-                    steps,
-                );
+                return answer_rest(lines.number(), schedule, gate, output, engine, out, steps);
             }
             Err(stop) => return close(output, out, Err(stop)),
         }
-        match release(
-            lines.number(),
-            compact_every,
-            gate,
-            output,
-            engine,
-            out,
-            steps,
-        ) {
+        match release(lines.number(), schedule, gate, output, engine, out, steps) {
             Ok(()) => {}
             Err(fault) => return close(output, out, Err(fault)),
         }
@@ -150,7 +143,7 @@ fn answer_lines<Q: Source, K: Sink, L: Ledger>(
 /// Gives the engine all events that are held, at the end of the source.
 fn answer_rest<K: Sink, L: Ledger>(
     read: u64,
-    compact_every: Option<u64>,
+    schedule: &mut Schedule,
     gate: &mut Gate,
     output: &mut Output,
     engine: &mut Engine,
@@ -159,18 +152,19 @@ fn answer_rest<K: Sink, L: Ledger>(
 ) -> Result<(), OrMemory<StreamFault>>
     requires counted { count_of engine.old + length gate.old.events ≤ read }
     requires of_schema { AreOfSchema engine.old.schema gate.old }
-    ensures closed { (peaks : ℕ → ℕ) (a : Feed) (told left before : Option (List ℕ))
-        (put : List (ℕ × Event)) (first : ℕ)
-        → Flowing compact_every peaks a told put gate.old output.old engine.old before
+    requires bases { HasBases schedule.old engine.old }
+    ensures closed { (every : Option ℕ) (peaks : ℕ → ℕ) (a : Feed)
+        (told left before : Option (List ℕ)) (put : List (ℕ × Event)) (first : ℕ)
+        → Flowing every schedule.old peaks a told put gate.old output.old engine.old before
         (K.taken out.old) first steps.old → Feeds a told put End
-        → Closed compact_every peaks a told left before (K.taken out.new) engine.new first
-        steps.new result }
+        → Closed every peaks a told left before (K.taken out.new) engine.new first steps.new
+        result }
     ensures same { SameQueries engine.old engine.new }
     ensures read_cause { (now : ℕ) → HasReadCause now now result }
     ensures write_cause { HasWriteCause (K.faults out.old) (K.faults out.new) result }
 {
     gate.finish();
-    let end = release(read, compact_every, gate, output, engine, out, steps);
+    let end = release(read, schedule, gate, output, engine, out, steps);
     close(output, out, end)
 }
 

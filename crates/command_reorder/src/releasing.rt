@@ -7,7 +7,7 @@ ghost use Rattle.query_engine.specs.Engine.{SameQueries, count_of};
 ghost use Rattle.reorder_gate.specs.Gates.{Held};
 ghost use Rattle.stream_answers.specs.Ends.{HasReadCause, HasWriteCause};
 ghost use Rattle.command_reorder.specs.Late.{Feed};
-ghost use Rattle.command_reorder.specs.Flowing.{AfterAnswer, AfterRelease, AreOfSchema, Flowing, Owing};
+ghost use Rattle.command_reorder.specs.Flowing.{AfterAnswer, AfterRelease, AreOfSchema, Flowing, HasBases, Owing};
 
 use cer_base::steps::Steps;
 use cer_base::{Memory, OrMemory};
@@ -16,18 +16,17 @@ use event_run::give_event;
 use query_engine::Engine;
 use reorder_gate::Gate;
 use std::sync::ledger::Ledger;
-use stream_answers::{Output, StreamFault, compact_if_due};
+use stream_answers::{Output, Schedule, StreamFault};
 use stream_schema::Event;
 
-/// Gives the engine all events that the gate can let go, and puts the answers at each. With
-/// `compact_every` the engine is compacted after every so many events. At most `read` events were
-/// put, of which some may have gone.
+/// Gives the engine all events that the gate can let go, puts the answers at each, and keeps to the
+/// schedule of compactions after it. At most `read` events were put, of which some may have gone.
 ///
 /// - `Event`: with an event the clock of a query falls; the line is the event's own.
 /// - `WriteFault`, or memory ran out.
 pub fn release<K: Sink, L: Ledger>(
     read: u64,
-    compact_every: Option<u64>,
+    schedule: &mut Schedule,
     gate: &mut Gate,
     output: &mut Output,
     engine: &mut Engine,
@@ -36,14 +35,16 @@ pub fn release<K: Sink, L: Ledger>(
 ) -> Result<(), OrMemory<StreamFault>>
     requires counted { count_of engine.old + length gate.old.events ≤ read }
     requires of_schema { AreOfSchema engine.old.schema gate.old }
-    ensures released { (peaks : ℕ → ℕ) (a : Feed) (source : Option (List ℕ))
+    requires bases { HasBases schedule.old engine.old }
+    ensures released { (every : Option ℕ) (peaks : ℕ → ℕ) (a : Feed) (source : Option (List ℕ))
         (put : List (ℕ × Event)) (before : Option (List ℕ)) (first : ℕ)
-        → Flowing compact_every peaks a source put gate.old output.old engine.old before
+        → Flowing every schedule.old peaks a source put gate.old output.old engine.old before
         (K.taken out.old) first steps.old
-        → AfterRelease compact_every peaks a source put gate.new output.new engine.new before
+        → AfterRelease every schedule.new peaks a source put gate.new output.new engine.new before
         (K.taken out.new) first steps.new result }
     ensures counted { count_of engine.new + length gate.new.events ≤ read }
     ensures of_schema { AreOfSchema engine.new.schema gate.new }
+    ensures bases { HasBases schedule.new engine.new }
     ensures same { SameQueries engine.old engine.new }
     ensures finished { gate.new.is_finished ≡ gate.old.is_finished }
     ensures read_cause { (now : ℕ) → HasReadCause now now result }
@@ -52,7 +53,7 @@ pub fn release<K: Sink, L: Ledger>(
     loop {
         match gate.take() {
             Some((line, event)) => {
-                match answer_event(line, &event, compact_every, output, engine, out, steps) {
+                match answer_event(line, &event, schedule, output, engine, out, steps) {
                     Ok(()) => {}
                     Err(stop) => return Err(stop),
                 }
@@ -62,12 +63,12 @@ pub fn release<K: Sink, L: Ledger>(
     }
 }
 
-/// Gives the engine the event of the line of this number, puts the answers there, and compacts the
-/// engine where that is due.
+/// Gives the engine the event of the line of this number, puts the answers there, and keeps to the
+/// schedule of compactions.
 fn answer_event<K: Sink, L: Ledger>(
     line: u64,
     event: &Event,
-    compact_every: Option<u64>,
+    schedule: &mut Schedule,
     output: &mut Output,
     engine: &mut Engine,
     out: &mut K,
@@ -75,13 +76,15 @@ fn answer_event<K: Sink, L: Ledger>(
 ) -> Result<(), OrMemory<StreamFault>>
     requires of_schema { IsOfSchema engine.old.schema event.now }
     requires room { count_of engine.old + 1 < 2 ^ 64 }
-    ensures answered { (peaks : ℕ → ℕ) (a : Feed) (source : Option (List ℕ))
+    requires bases { HasBases schedule.old engine.old }
+    ensures answered { (every : Option ℕ) (peaks : ℕ → ℕ) (a : Feed) (source : Option (List ℕ))
         (put : List (ℕ × Event)) (g : Held) (before : Option (List ℕ)) (first : ℕ)
-        → Owing compact_every peaks a source put g (line, event.now) output.old engine.old before
-        (K.taken out.old) first steps.old
-        → AfterAnswer compact_every peaks a source put g output.new engine.new before
+        → Owing every schedule.old peaks a source put g (line, event.now) output.old engine.old
+        before (K.taken out.old) first steps.old
+        → AfterAnswer every schedule.new peaks a source put g output.new engine.new before
         (K.taken out.new) first steps.new result }
     ensures counted { count_of engine.new ≤ count_of engine.old + 1 }
+    ensures bases { HasBases schedule.new engine.new }
     ensures same { SameQueries engine.old engine.new }
     ensures read_cause { (now : ℕ) → HasReadCause now now result }
     ensures write_cause { HasWriteCause (K.faults out.old) (K.faults out.new) result }
@@ -98,7 +101,7 @@ fn answer_event<K: Sink, L: Ledger>(
         Err(OrMemory::Memory) => return Err(OrMemory::Memory),
         Err(OrMemory::Fault(WriteFault)) => return Err(OrMemory::Fault(StreamFault::WriteFault)),
     }
-    match compact_if_due(compact_every, 0, engine, steps) {
+    match schedule.keep_up(engine, steps) {
         Ok(()) => Ok(()),
         Err(Memory) => Err(OrMemory::Memory),
     }

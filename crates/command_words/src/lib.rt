@@ -26,7 +26,8 @@ pub struct RunWords {
     pub queries: Text,
     pub events: Text,
     pub order: Order,
-    /// From 1. The engine is compacted after every so many events, where it is given.
+    /// From 1. The engine is compacted after every so many events; where it is not given each of its
+    /// queries is once it has grown.
     pub compact_every: Option<u64>,
     /// From 1.
     pub most_bytes: u64,
@@ -42,7 +43,8 @@ pub struct ReorderWords {
     /// By how much an event's clock may be below one before it, from 0 to 2^63 - 1.
     pub late: u64,
     pub order: Order,
-    /// From 1. The engine is compacted after every so many events, where it is given.
+    /// From 1. The engine is compacted after every so many events; where it is not given each of its
+    /// queries is once it has grown.
     pub compact_every: Option<u64>,
     /// From 1.
     pub most_bytes: u64,
@@ -90,7 +92,8 @@ pub struct ResumeWords {
     pub checkpoint: Text,
     pub events: Text,
     pub order: Order,
-    /// From 1. The engine is compacted after every so many events, where it is given.
+    /// From 1. The engine is compacted after every so many events; where it is not given each of its
+    /// queries is once it has grown.
     pub compact_every: Option<u64>,
     /// From 1 to 2^62.
     pub most_bytes: u64,

@@ -14,6 +14,7 @@ use Rattle.event_reader.specs.Events.{event_of_line}
 use Rattle.event_reader.specs.Reading.{LineReader, HasGiven, IsCutOff}
 use Rattle.query_engine.specs.Clocks.{NoneFallsBack}
 use Rattle.query_engine.specs.Engine.{State, StandsFor}
+use Rattle.query_engine.specs.Keys.{HasAddedKeys}
 use Rattle.query_engine.specs.Windows.{HasAdded}
 use Rattle.event_run.specs.declared.Taken.{Taken}
 use Rattle.event_run.specs.declared.Taken.TheVariants as taken
@@ -66,7 +67,7 @@ AreEventsRead schema queries most_bytes bytes (Some rest) events = AreEventsBefo
 -- Given `Had`, what the reader had taken before of a file of these bytes, this is what is known of the file, where these events came before all of its own.
 abbrev pub AfterCall : List Event → Declared → List Query → LineReader → State → State → (List ℕ → Type 0) → Option (List ℕ) → List Event → Result Taken (OrMemory RunFault) → Type 0
 AfterCall before schema queries reader old engine Had left events (Ok taken.Event) =
-    (next : Event) × StandsFor engine (events ++ next ∷ []) × ((bytes : List ℕ) → Had bytes → HasTakenAfter before schema queries reader bytes left (events ++ next ∷ [])) × HasAdded old engine next
+    (next : Event) × StandsFor engine (events ++ next ∷ []) × ((bytes : List ℕ) → Had bytes → HasTakenAfter before schema queries reader bytes left (events ++ next ∷ [])) × HasAdded old engine next × HasAddedKeys old engine next
 AfterCall before schema queries reader old engine Had left events (Ok taken.End) =
     StandsFor engine events × ((bytes : List ℕ) → Had bytes → RunsAfter before schema queries reader.budget bytes events stop.End)
 AfterCall before schema queries reader old engine Had left events (Err (Fault (fault.Event line refusal))) =
@@ -111,7 +112,7 @@ AfterEvent schema queries number engine next events (Err Memory) = StandsFor eng
 -- What became of one line: an event that was taken, none, or a stop. Private clauses alone cite it.
 abbrev pub AfterText : Declared → List Query → ℕ → State → State → List ℕ → List Event → Result Bool (OrMemory EventFault) → Type 0
 AfterText schema queries number old engine text events (Ok true) =
-    (next : Event) × (event_of_line schema text ≡ Ok (Some next)) × StandsFor engine (events ++ next ∷ []) × NoneFallsBack schema queries events next × HasAdded old engine next
+    (next : Event) × (event_of_line schema text ≡ Ok (Some next)) × StandsFor engine (events ++ next ∷ []) × NoneFallsBack schema queries events next × HasAdded old engine next × HasAddedKeys old engine next
 AfterText schema queries number old engine text events (Ok false) = (event_of_line schema text ≡ Ok None) × StandsFor engine events
 AfterText schema queries number old engine text events (Err (Fault refusal)) =
     StandsFor engine events × StopsHere schema queries text number events refusal

@@ -5,6 +5,7 @@ ghost use Rattle.stream_schema.specs.declared.Event.{Event};
 ghost use Rattle.stream_schema.specs.Events.{IsOfSchema};
 ghost use Rattle.query_engine.specs.Bounds.{update_bound};
 ghost use Rattle.query_engine.specs.Engine.{StandsFor, count_of, found_of, len_of, SameQueries, update_bounds};
+ghost use Rattle.query_engine.specs.Keys.{HasAddedKeys};
 ghost use Rattle.query_engine.specs.Windows.{HasAdded};
 ghost use Rattle.cer_base.specs.Answers.{OnFault};
 ghost use Rattle.event_reader.specs.Events.{event_of_line};
@@ -147,6 +148,7 @@ pub fn give_event<L: Ledger>(
     ensures growth { OnOk result ((query : ℕ) → len_of engine.new query
         ≤ len_of engine.old query + update_bound (found_of engine.new query)) }
     ensures added { OnOk result (HasAdded engine.old engine.new event.now) }
+    ensures keys { OnOk result (HasAddedKeys engine.old engine.new event.now) }
     ensures unchanged { OnErr result (engine.new ≡ engine.old) }
     ensures same { SameQueries engine.old engine.new }
     ensures steps { OnOk result (steps.new ≤ steps.old + update_bounds engine.new) }

@@ -8,15 +8,15 @@ use Rattle.tecs_enumerate.specs.Rest.{CursorState}
 use Rattle.arena_compact.specs.Moves.{later}
 use Rattle.query_standing.specs.Kept.{Part}
 use Rattle.all_or_none.specs.Phases.{Phase, HasGrown}
-use Rattle.query_engine.specs.Engine.{State, StandsFor, found_of, len_of}
+use Rattle.query_engine.specs.Engine.{State, found_of, len_of}
 use Rattle.query_engine.specs.Running.{IsRunning, raised}
-use Rattle.query_engine.specs.Compacting.{IsCompacted, AreTrimmed}
-use Rattle.query_engine.specs.Windows.{later_of, IsDense, FollowsWindow, HasAdded}
+use Rattle.query_engine.specs.Compacting.{IsCompacted}
+use Rattle.query_engine.specs.Windows.{later_of, IsDense, HasAdded}
 use Rattle.query_engine.proofs.Standing.{state}
 use Rattle.query_engine.proofs.Growth.{nodes_there, states_there}
 use Rattle.query_engine.proofs.Taking.{Took, took_growth, took_unread, took_peak}
-use Rattle.query_engine.proofs.Settled.{settled_same, settled_stands, settled_found, settled_left}
-use Rattle.query_engine.proofs.Windows.{later_added, compaction_keeps_dense, left_follows_window}
+use Rattle.query_engine.proofs.Settled.{settled_same, settled_found}
+use Rattle.query_engine.proofs.Windows.{later_added, compaction_keeps_dense}
 
 -- how many nodes of the part at a place start at the position or later
 abbrev later_there : List Phase → ℕ → ℕ → ℕ
@@ -84,8 +84,3 @@ module _ (schema : Declared) (count : ℕ) (old new : List Phase) (ps qs : List 
   pub settled_dense : (events : List Event) → IsDense s events → IsDense (state schema count new qs) events
   settled_dense events dense =
       compaction_keeps_dense s (state schema count new qs) events (settled_same schema count old new ps qs ws vs running z peaks s is) (settled_found schema count old new ps qs ws vs running z peaks s is) settled_later dense
-
-  pub settled_window : AreTrimmed (length old) vs new → (events : List Event) → StandsFor s events → IsDense s events → FollowsWindow (state schema count new qs) events vs
-  settled_window trimmed events stands dense =
-      left_follows_window (state schema count new qs) events vs (settled_stands schema count old new ps qs ws vs running z peaks s is events stands) (settled_dense events dense)
-      (settled_left schema count old new ps qs ws vs running z peaks s is trimmed)

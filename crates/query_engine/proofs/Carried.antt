@@ -1,18 +1,15 @@
 -- Cursors that are carried over the compaction of the parts, one after the other.
-use Rattle.std.proofs.Common.{◌≡◌, ℕ, zero, suc, ◌+◌, ◌-◌, ◌<◌, ◌≤◌, List, [], ◌∷◌, map, take, drop, add-one, length, get_or, refl, sym, ap, subst, ◌∙◌, All, inl, inr, slice_get, slice_index_or, slice_set, arith}
+use Rattle.std.proofs.Common.{◌≡◌, ℕ, zero, suc, ◌+◌, ◌-◌, ◌<◌, List, [], ◌∷◌, map, drop, length, get_or, refl, sym, ap, subst, ◌∙◌, All, inl, inr, slice_get, slice_index_or, slice_set, arith}
 use Rattle.std.specs.Option.{option_map_or}
 use Rattle.std.proofs.lemmas.Bool.{cases_eq}
-use Rattle.std.specs.Prelude.{sum_by, max}
-use Rattle.std.proofs.lemmas.List.{map-id, take_more}
-use Rattle.std.proofs.lemmas.List.Elements.{All-nil, All-cons, All-append, All-weaker}
-use Rattle.std.proofs.lemmas.List.Sums.{sum_by-cons}
+use Rattle.std.proofs.lemmas.List.{map-id}
 use Rattle.cer_base.specs.declared.node.Node.{Node}
 use Rattle.tecs_enumerate.specs.Rest.{CursorState, Fits, rest}
 use Rattle.query_standing.specs.Kept.{Part}
 use Rattle.all_or_none.specs.Phases.{Phase}
 use Rattle.arena_compact.specs.Compacted.{CursorCompacted}
 use Rattle.query_part.specs.Compacting.{CursorsCompacted}
-use Rattle.query_engine.specs.Compacting.{cost, nodes_of, FitsPart, IsCarried, AreCarried}
+use Rattle.query_engine.specs.Compacting.{nodes_of, FitsPart, IsCarried, AreCarried}
 
 -- the nodes of the part at a place
 abbrev nodes_here : List Phase → ℕ → List Node
@@ -101,25 +98,3 @@ none_carried parts ws fits = record {
     ahead = λ above. refl;
   };
 }
-
-cost_suc : (cur old : List Phase) (k : ℕ) (d : Phase) → k < length cur → length cur ≡ length old → drop k cur ≡ drop k old → sum_by cost (take (suc k) old) ≡ sum_by cost (take k old) + cost (slice_index_or cur k d)
-cost_suc [] old k d lt long left = absurd (omega arith)
-cost_suc (p ∷ cur) [] k d lt long left = absurd (omega arith)
-cost_suc (p ∷ cur) (q ∷ old) zero d lt long left = let same : p ≡ q = cc in let e = sum_by-cons cost q [] in let f = ap cost same in omega arith
-cost_suc (p ∷ cur) (q ∷ old) (suc k) d lt long left =
-    let rest = cost_suc cur old k d (omega arith) (omega arith) left in
-    let a = sum_by-cons cost q (take (suc k) old) in
-    let b = sum_by-cons cost q (take k old) in
-    omega arith
-
--- the steps of one part more
-pub cost_more : (cur old : List Phase) (k : ℕ) (d : Phase) → k < length cur → length cur ≡ length old → drop k cur ≡ drop k old → sum_by cost (take (k + 1) old) ≡ sum_by cost (take k old) + cost (slice_index_or cur k d)
-cost_more cur old k d lt long left = rw add-one (cost_suc cur old k d lt long left)
-
--- none of so many parts has more nodes
-pub most_next : (parts : List Phase) (k most len next : ℕ) (p : Phase) → k < length parts → p ≡ slice_index_or parts k p → len ≡ length p.kept.nodes → next ≡ max len most → All (λ (x : Phase). length x.kept.nodes ≤ most) (take k parts) → All (λ (x : Phase). length x.kept.nodes ≤ next) (take (k + 1) parts)
-most_next parts k most len next p lt here is max_is h =
-    let same = ap (λ (x : Phase). length x.kept.nodes) here in
-    rw (take_more parts k p lt) (All-append (λ (x : Phase). length x.kept.nodes ≤ next) (take k parts) (slice_index_or parts k p ∷ [])
-    (All-weaker (λ (x : Phase). length x.kept.nodes ≤ most) (λ (x : Phase). length x.kept.nodes ≤ next) (λ x le. omega arith) (take k parts) h)
-    (All-cons (λ (x : Phase). length x.kept.nodes ≤ next) (slice_index_or parts k p) [] (omega arith) (All-nil (λ (x : Phase). length x.kept.nodes ≤ next))))

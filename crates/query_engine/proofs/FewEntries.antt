@@ -1,13 +1,12 @@
 -- The lists of all keys have no more entries than there are nodes: each entry is of a node of its own.
-use Rattle.std.proofs.Common.{◌≡◌, ℕ, zero, suc, ◌+◌, ◌<◌, ◌≤◌, ◌⊎◌, inl, inr, Bool, List, [], ◌∷◌, ◌++◌, length, map, refl, sym, ap, subst, ◌∙◌, All, Contains, Some, slice_get, arith}
+use Rattle.std.proofs.Common.{◌≡◌, ℕ, suc, ◌<◌, ◌≤◌, inl, inr, Bool, List, [], ◌∷◌, ◌++◌, length, map, refl, sym, ap, subst, All, Contains, Some, slice_get, arith}
 use Rattle.std.proofs.lemmas.List.{length-append, length-map}
-use Rattle.std.proofs.lemmas.List.Elements.{All-nil, All-cons, All-head, All-tail, All-append, Contains-append_left, Contains-append_right}
+use Rattle.std.proofs.lemmas.List.Elements.{All-head, All-tail, Contains-append_left, Contains-append_right}
 use Rattle.std.proofs.lemmas.List.Sums.{sum_by-cons}
 use Rattle.stream_schema.specs.Types.{Declared}
 use Rattle.stream_schema.specs.declared.Event.{Event}
 use Rattle.stream_schema.specs.declared.Value.{Value}
 use Rattle.cel_terms.specs.declared.Query.{Query}
-use Rattle.cel_terms.specs.Answers.{HasKey}
 use Rattle.cer_base.specs.Repeats.{HasNoRepeats}
 use Rattle.cer_base.specs.declared.node.Stamp.{Stamp}
 use Rattle.cer_base.specs.declared.node.Root.{Root}
@@ -21,11 +20,10 @@ use Rattle.union_lists.specs.Lists.{IsUnionList, members_of}
 use Rattle.event_update.specs.Reach.{Seen, Reaches, Has, all_of}
 use Rattle.event_update.specs.Stands.{member_rows}
 use Rattle.event_update.specs.Update.{entries_in}
-use Rattle.event_update.proofs.Resting.{list_member}
 use Rattle.arena_compact.specs.Roots.{ids_of, places}
-use Rattle.query_standing.specs.Keys.{positions, AreSeen, HasKeyAt}
+use Rattle.query_standing.specs.Keys.{positions, HasKeyAt}
 use Rattle.query_standing.specs.Kept.{Rows, Part, KeyIsKept, PartStands}
-use Rattle.query_standing.proofs.Lists.{here, there, cons_cases, append_cases, none_in_nil, got, no_repeats_front}
+use Rattle.query_standing.proofs.Lists.{here, there, cons_cases, append_cases, none_in_nil, no_repeats_front}
 use Rattle.query_standing.proofs.Link.{positions_append}
 use Rattle.query_engine.proofs.Finite.{few}
 use Rattle.query_engine.proofs.FewPlaces.{one_key, below, below_length, is_below}

@@ -1,7 +1,7 @@
 -- Each key that has a list has an event of its own from the low clock on.
-use Rattle.std.proofs.Common.{◌≡◌, ℕ, zero, suc, ◌+◌, ◌<◌, ◌≤◌, ◌⊎◌, inl, inr, ℤ, Bool, List, [], ◌∷◌, ◌++◌, length, map, refl, sym, ap, subst, ◌∙◌, All, Contains, Option, Some, slice_get, arith}
+use Rattle.std.proofs.Common.{◌≡◌, ℕ, suc, ◌+◌, ◌<◌, ◌≤◌, inl, inr, ℤ, Bool, List, [], ◌∷◌, length, refl, sym, ap, subst, ◌∙◌, All, Contains, Option, Some, slice_get, arith}
 use Rattle.std.specs.Prelude.{◌≤ℤ◌}
-use Rattle.std.proofs.lemmas.List.Elements.{All-head, All-tail, Contains-append_left, Contains-append_right}
+use Rattle.std.proofs.lemmas.List.Elements.{All-head, All-tail, Contains-append_left}
 use Rattle.stream_schema.specs.Types.{Declared}
 use Rattle.stream_schema.specs.declared.Event.{Event}
 use Rattle.stream_schema.specs.declared.Value.{Value}
@@ -20,8 +20,7 @@ use Rattle.cea_determinise.specs.Cea.{automaton_of_cea}
 use Rattle.union_lists.specs.Lists.{IsUnionList}
 use Rattle.event_update.specs.Reach.{Seen, Reaches}
 use Rattle.arena_compact.specs.Roots.{ids_of}
-use Rattle.query_standing.specs.Clocks.{HasClockAt}
-use Rattle.query_standing.specs.Keys.{positions, AreSeen, IsSeen, HasKeyAt}
+use Rattle.query_standing.specs.Keys.{positions, IsSeen, HasKeyAt}
 use Rattle.query_standing.specs.Kept.{Rows, Part, KeyIsKept, PartStands}
 use Rattle.query_standing.proofs.Lists.{here, there, cons_cases, none_in_nil, all_from}
 use Rattle.query_standing.proofs.Link.{positions_append}

@@ -1,5 +1,5 @@
 -- How many nodes there are after so many events, and how many steps a compaction takes then. For callers of the crate too.
-use Rattle.std.proofs.Common.{◌≡◌, ℕ, ◌+◌, ◌-◌, ◌*◌, ◌≤◌, List, [], ◌∷◌, ◌++◌, length, refl, sym, ap, subst, ◌∙◌, All, Contains, Option, Some, None, slice_get, arith, length-append}
+use Rattle.std.proofs.Common.{◌≡◌, ℕ, ◌+◌, ◌-◌, ◌*◌, ◌<◌, ◌≤◌, Bool, true, false, cond, List, [], ◌∷◌, ◌++◌, length, refl, sym, ap, subst, ◌∙◌, All, Contains, Option, Some, None, slice_get, arith, length-append}
 use Rattle.std.specs.Option.{option_map_or}
 use Rattle.std.proofs.Math.Nat.{mul-le-mul_left}
 use Rattle.stream_schema.specs.Types.{Declared}
@@ -10,13 +10,11 @@ use Rattle.cer_base.specs.declared.node.Node.TheVariants.{Bottom, Output, Union}
 use Rattle.arena_compact.specs.Roots.{places}
 use Rattle.query_standing.specs.Bounds.{update_bound}
 use Rattle.query_standing.specs.Kept.{Part, PartStands, KeptState, KeptStands}
-use Rattle.all_or_none.specs.Phases.{Phase}
 use Rattle.query_part.specs.Matches.{HasStatesOnce}
 use Rattle.query_engine.specs.Engine.{State, StandsFor, SameQueries, kept_of, found_of, len_of}
-use Rattle.query_engine.specs.Compacting.{places_of, compact_bounds}
+use Rattle.query_engine.specs.Compacting.{is_chosen, places_of, chosen_bounds}
 use Rattle.query_engine.specs.Counts.{MeetMost, HasFewNodes, compaction_bound}
 use Rattle.query_engine.proofs.Counting.{each_at_most, square, bound_grows, found_are_met, query_at}
-use Rattle.query_engine.proofs.Standing.{state, mapped, all_at}
 use Rattle.query_engine.proofs.FewPlaces.{places_few}
 
 -- NODES
@@ -61,9 +59,9 @@ event_adds_few old new events event most same stands meet growth few k q at =
 
 -- THE STEPS OF A COMPACTION
 
--- no part's key has a list twice of one state
-abbrev pub HaveStatesOnce : State → Type 0
-HaveStatesOnce engine = (k : ℕ) (p : Part) → slice_get engine.parts k ≡ Some p → All HasStatesOnce p.rows
+-- no key of a part that is chosen has a list twice of one state
+abbrev pub AreOnceOf : List Bool → State → Type 0
+AreOnceOf chosen engine = (k : ℕ) (p : Part) → slice_get engine.parts k ≡ Some p → is_chosen chosen k ≡ true → All HasStatesOnce p.rows
 
 -- the lists of one query: their entries are no more than the nodes that the events may add, four to sixteen
 entries_paid : (n m events : ℕ) → n ≤ m → 4 * (events * (n * (n + 2))) ≤ update_bound m * events
@@ -81,35 +79,34 @@ places_kept e events k q stands at None is once n found = omega arith
 places_kept e events k q stands at (Some p) is once n found =
     subst (λ (i : ℕ). places p.rows ≤ length events * (i * (i + 2))) found (places_few e.schema q events p (stands.each k q p at is) (once p refl))
 
-few_places : (engine : State) (events : List Event) → StandsFor engine events → HaveStatesOnce engine → (k : ℕ) (q : Query) → slice_get engine.queries k ≡ Some q →
+few_places : (engine : State) (events : List Event) → StandsFor engine events → (k : ℕ) (q : Query) → slice_get engine.queries k ≡ Some q → ((p : Part) → slice_get engine.parts k ≡ Some p → All HasStatesOnce p.rows) →
     places_of engine (k + 1) ≤ length events * (found_of engine (k + 1) * (found_of engine (k + 1) + 2))
 unfolding StandsFor found_of places_of
-few_places engine events stands once k q at =
+few_places engine events stands k q at once =
     let here : k ≡ k + 1 - 1 = omega arith in
     let P : ℕ → Type 0 = λ i. (let n = option_map_or (λ (p : Part). length p.table.states) (slice_get engine.parts i) 0 in option_map_or (λ (p : Part). places p.rows) (slice_get engine.parts i) 0 ≤ length events * (n * (n + 2))) in
-    subst P here (places_kept (kept_of engine) events k q stands at (slice_get engine.parts k) refl (λ p is. once k p is) _ refl)
+    subst P here (places_kept (kept_of engine) events k q stands at (slice_get engine.parts k) refl once _ refl)
 
-pub compaction_is_bounded : (engine : State) (events : List Event) (most : ℕ → ℕ) → StandsFor engine events → MeetMost engine.schema engine.queries events most → HasFewNodes engine (length events) most → HaveStatesOnce engine →
-    compact_bounds engine ≤ compaction_bound (length engine.queries) most (length events)
-compaction_is_bounded engine events most stands meet few once =
-    each_at_most (length engine.queries) (λ k. 8 * len_of engine k + 4 * places_of engine k) (λ k. 9 * update_bound (most k) * length events)
+pub compaction_is_bounded : (chosen : List Bool) (engine : State) (events : List Event) (most : ℕ → ℕ) → StandsFor engine events → MeetMost engine.schema engine.queries events most → HasFewNodes engine (length events) most → AreOnceOf chosen engine →
+    chosen_bounds chosen engine ≤ compaction_bound (length engine.queries) most (length events)
+compaction_is_bounded chosen engine events most stands meet few once =
+    each_at_most (length engine.queries) (λ k. cond (is_chosen chosen (k - 1)) (8 * len_of engine k + 4 * places_of engine k) 0) (λ k. 9 * update_bound (most k) * length events)
     (λ j less. (
-    let asked = query_at engine.queries j less in
-    let found = found_are_met engine events j asked.0 (most (j + 1)) stands asked.1 (meet j asked.0 asked.1) in
-    let lists = few_places engine events stands once j asked.0 asked.1 in
-    let paid = entries_paid (found_of engine (j + 1)) (most (j + 1)) (length events) found in
-    let nodes = few j asked.0 asked.1 in
-    let b = update_bound (most (j + 1)) in
-    let nine : 9 * b * length events ≡ 8 * (length events * b) + b * length events = omega arith in
-    omega (arith, lists, paid, nodes, nine)
+    let here : j + 1 - 1 ≡ j = omega arith in
+    subst (λ (i : ℕ). cond (is_chosen chosen i) (8 * len_of engine (j + 1) + 4 * places_of engine (j + 1)) 0 ≤ 9 * update_bound (most (j + 1)) * length events) (sym here) (either j less (is_chosen chosen j) refl)
     ))
+  where
+    paid : (j : ℕ) → j < length engine.queries → is_chosen chosen j ≡ true → 8 * len_of engine (j + 1) + 4 * places_of engine (j + 1) ≤ 9 * update_bound (most (j + 1)) * length events
+    paid j less flag =
+        let asked = query_at engine.queries j less in
+        let found = found_are_met engine events j asked.0 (most (j + 1)) stands asked.1 (meet j asked.0 asked.1) in
+        let lists = few_places engine events stands j asked.0 asked.1 (λ p at. once j p at flag) in
+        let entries = entries_paid (found_of engine (j + 1)) (most (j + 1)) (length events) found in
+        let nodes = few j asked.0 asked.1 in
+        let b = update_bound (most (j + 1)) in
+        let nine : 9 * b * length events ≡ 8 * (length events * b) + b * length events = omega arith in
+        omega (arith, lists, entries, nodes, nine)
 
--- the same of what a compaction of the parts took
-pub paid_within : (schema : Declared) (count : ℕ) (parts : List Phase) (ps : List ℕ) (s : State) (before after : ℕ) → state schema count parts ps ≡ s → All (λ (p : Phase). All HasStatesOnce p.kept.rows) parts → after ≤ before + compact_bounds s →
-    (events : List Event) (most : ℕ → ℕ) → StandsFor s events → MeetMost s.schema s.queries events most → HasFewNodes s (length events) most → after ≤ before + compaction_bound (length s.queries) most (length events)
-paid_within schema count parts ps s before after is all paid events most stands meet few =
-    let once : HaveStatesOnce s = subst HaveStatesOnce is (λ k part at. (
-    let there = mapped (λ (p : Phase). p.kept) parts k part at in
-    subst (λ (x : Part). All HasStatesOnce x.rows) there.2 (all_at (λ (p : Phase). All HasStatesOnce p.kept.rows) parts k there.0 all there.1)
-    )) in
-    omega (arith, paid, compaction_is_bounded s events most stands meet few once)
+    either : (j : ℕ) → j < length engine.queries → (flag : Bool) → is_chosen chosen j ≡ flag → cond (is_chosen chosen j) (8 * len_of engine (j + 1) + 4 * places_of engine (j + 1)) 0 ≤ 9 * update_bound (most (j + 1)) * length events
+    either j less true flag = subst (λ (b : Bool). cond b (8 * len_of engine (j + 1) + 4 * places_of engine (j + 1)) 0 ≤ 9 * update_bound (most (j + 1)) * length events) (sym flag) (paid j less flag)
+    either j less false flag = subst (λ (b : Bool). cond b (8 * len_of engine (j + 1) + 4 * places_of engine (j + 1)) 0 ≤ 9 * update_bound (most (j + 1)) * length events) (sym flag) (omega arith)

@@ -8,17 +8,14 @@ use Rattle.stream_schema.specs.Types.{Declared}
 use Rattle.stream_schema.specs.declared.Event.{Event}
 use Rattle.cel_terms.specs.declared.Query.{Query}
 use Rattle.arena_compact.specs.Compacted.{least_of}
-use Rattle.tecs_enumerate.specs.Rest.{CursorState}
 use Rattle.query_standing.specs.Clocks.{Reads}
 use Rattle.query_standing.specs.Kept.{Part, PartStands, low_at}
 use Rattle.all_or_none.specs.Phases.{Phase, HasGrown}
 use Rattle.query_engine.specs.Engine.{State, Open, StandsFor, kept_of, starts_from, MayStartAt}
-use Rattle.query_engine.specs.Running.{IsRunning, raised}
-use Rattle.query_engine.specs.Compacting.{IsTrimmed, IsLeft, IsCompacted, AreTrimmed}
+use Rattle.query_engine.specs.Compacting.{IsTrimmed, IsLeft}
 use Rattle.query_engine.specs.Keys.{keys_of, IsWithin, IsReadSince, HasAddedKeys, KeysFollowWindow}
 use Rattle.query_engine.proofs.Standing.{state}
 use Rattle.query_engine.proofs.Taking.{Took}
-use Rattle.query_engine.proofs.Settled.{settled_stands, settled_left}
 use Rattle.query_engine.proofs.FewKeys.{keys_few}
 use Rattle.query_engine.proofs.Windows.{least_is, own_low, part_of_query}
 
@@ -92,15 +89,12 @@ keys_are engine k part at =
     let number : k + 1 - 1 ≡ k = omega arith in
     ap (λ (i : ℕ). option_map_or (λ (x : Part). length x.keys) (slice_get engine.parts i) 0) number ∙ ap (λ (o : Option Part). option_map_or (λ (x : Part). length x.keys) o 0) at
 
-left_keys : (engine : State) (events : List Event) (held : List Open) → StandsFor engine events → IsLeft engine held → KeysFollowWindow engine events held
+pub query_keys_follow : (engine : State) (events : List Event) (held : List Open) → StandsFor engine events → (k : ℕ) (q : Query) → slice_get engine.queries k ≡ Some q → ((part : Part) → slice_get engine.parts k ≡ Some part → IsTrimmed (k + 1) held q part) → IsWithin (MayStartAt engine events held k q) (keys_of engine (k + 1))
 unfolding StandsFor
-left_keys engine events held stands left k q at =
+query_keys_follow engine events held stands k q at left =
     let found = part_of_query (kept_of engine) events k q stands at in
     subst (IsWithin (MayStartAt engine events held k q)) (sym (keys_are engine k found.0 found.1))
-    (keys_follow engine events held k q found.0 (stands.each k q found.0 at found.1) (left k q found.0 at found.1))
+    (keys_follow engine events held k q found.0 (stands.each k q found.0 at found.1) (left found.0 found.1))
 
-module _ (schema : Declared) (count : ℕ) (old new : List Phase) (ps qs : List ℕ) (ws vs : List CursorState) (running : IsRunning schema count old ps) (z : AllZip IsCompacted old new) (peaks : qs ≡ raised ps old) (s : State) (is : state schema count old ps ≡ s) where
-  pub settled_keys : AreTrimmed (length old) vs new → (events : List Event) → StandsFor s events → KeysFollowWindow (state schema count new qs) events vs
-  settled_keys trimmed events stands =
-      left_keys (state schema count new qs) events vs (settled_stands schema count old new ps qs ws vs running z peaks s is events stands)
-      (settled_left schema count old new ps qs ws vs running z peaks s is trimmed)
+pub left_keys : (engine : State) (events : List Event) (held : List Open) → StandsFor engine events → IsLeft engine held → KeysFollowWindow engine events held
+left_keys engine events held stands left k q at = query_keys_follow engine events held stands k q at (λ part part_at. left k q part at part_at)

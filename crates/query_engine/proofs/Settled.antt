@@ -1,7 +1,8 @@
--- What an engine is after all its parts are compacted.
-use Rattle.std.proofs.Common.{◌≡◌, ℕ, zero, suc, ◌+◌, ◌-◌, ◌*◌, ◌<◌, ◌≤◌, ℤ, List, [], ◌∷◌, map, length, get_or, slice_index_or, refl, sym, ap, ap₂, subst, ◌∙◌, All, Option, Some, slice_get, arith}
-use Rattle.std.specs.Prelude.{sum_by, max}
-use Rattle.std.specs.List.{AllZip}
+-- What an engine is after its parts are compacted, or those of them that are chosen.
+use Rattle.std.proofs.Common.{◌≡◌, ℕ, zero, suc, ◌+◌, ◌-◌, ◌*◌, ◌<◌, ◌≤◌, ℤ, Bool, cond, List, [], ◌∷◌, map, length, get_or, slice_index_or, add-zero, refl, sym, ap, ap₂, subst, ◌∙◌, All, Option, Some, slice_get, arith}
+use Rattle.std.specs.Prelude.{sum, max}
+use Rattle.std.specs.List.{AllZip, range_with_len}
+use Rattle.std.proofs.lemmas.List.Sums.{sum_by-cons}
 use Rattle.std.specs.Option.{option_map_or}
 use Rattle.std.proofs.lemmas.Option.{slice_get_within}
 use Rattle.std.proofs.lemmas.List.Elements.{All-nil, All-cons, All-head, All-tail}
@@ -22,10 +23,10 @@ use Rattle.query_engine.specs.Running.{IsRunning, IsKeeping, raised}
 use Rattle.query_engine.proofs.Growth.{nodes_there, raised_there, raised_count}
 use Rattle.query_engine.specs.Times.{with_clocks, parts_at, IsAfter}
 use Rattle.query_engine.proofs.Clocked.{clocked_all, unclocked_all, clocked_quiet, unclocked_idle, unclocked_stands}
-use Rattle.query_engine.proofs.Keeping.{fresh_all, fresh_quiet, woken_upto, woken_at, woken_running, woken_state, woken_small, raised_seen}
-use Rattle.query_engine.specs.Compacting.{places_of, compact_bounds, cost, CanCompact, IsCompacted, nodes_of, FitsPart, IsTrimmed, AreTrimmed, IsLeft, AreCarried}
+use Rattle.query_engine.proofs.Keeping.{seen_length, fresh_all, fresh_quiet, woken_upto, woken_at, woken_running, woken_state, raised_seen}
+use Rattle.query_engine.specs.Compacting.{is_chosen, places_of, chosen_bounds, cost, cost_of, CanCompact, HaveRoom, IsCompacted, nodes_of, FitsPart, IsTrimmed, AreTrimmed, AreOnce, OthersStay, IsLeftOf, OthersAreKept, AreCarried}
 use Rattle.query_engine.proofs.Standing.{state, mapped, map_at, from_parts, to_parts, length_map}
-use Rattle.query_engine.proofs.Sums.{sum_from}
+use Rattle.query_engine.proofs.FewNodes.{AreOnceOf}
 
 zip_count : (old new : List Phase) → AllZip IsCompacted old new → length new ≡ length old
 zip_count [] [] z = refl
@@ -71,44 +72,69 @@ zip_fewer (o ∷ old) [] k z = absurd z
 zip_fewer (o ∷ old) (n ∷ new) zero z = z.0.fewer
 zip_fewer (o ∷ old) (n ∷ new) (suc k) z = zip_fewer old new k z.1
 
--- in no key's lists of a part that was compacted a state stood twice
-pub zip_once : (old new : List Phase) → AllZip IsCompacted old new → All (λ (p : Phase). All HasStatesOnce p.kept.rows) old
-zip_once [] [] z = All-nil (λ (p : Phase). All HasStatesOnce p.kept.rows)
-zip_once [] (n ∷ new) z = absurd z
-zip_once (o ∷ old) [] z = absurd z
-zip_once (o ∷ old) (n ∷ new) z = All-cons (λ (p : Phase). All HasStatesOnce p.kept.rows) o old z.0.once (zip_once old new z.1)
-
--- the steps, summed over the parts or over the queries' numbers
-costs_same : (schema : Declared) (count : ℕ) (parts : List Phase) (ps : List ℕ) → compact_bounds (state schema count parts ps) ≡ sum_by cost parts
-unfolding len_of places_of
-costs_same schema count parts ps =
-    ap (λ n. for_each_query n each_cost) (length_map (λ (p : Phase). p.query) parts) ∙ sum_from cost each_cost parts 1 each
+-- the steps of those that are chosen, summed over the parts or over the queries' numbers
+chosen_from : (chosen : List Bool) (f : ℕ → ℕ) (parts : List Phase) (a : ℕ) → ((j : ℕ) (p : Phase) → slice_get parts j ≡ Some p → f (a + j) ≡ cond (is_chosen chosen j) (cost p) 0) → sum (map f (range_with_len a (length parts))) ≡ cost_of chosen parts
+chosen_from chosen f [] a is = refl
+chosen_from [] f (p ∷ parts) a is =
+    let head : f a ≡ 0 = ap f (sym (add-zero a)) ∙ is 0 p refl in
+    let rest = chosen_from [] f parts (a + 1) (λ j y at. ap f (omega arith) ∙ is (suc j) y at) in
+    let none : cost_of [] parts ≡ 0 = nothing parts in
+    let one = sum_by-cons (λ (n : ℕ). n) (f a) (map f (range_with_len (a + 1) (length parts))) in
+    omega arith
   where
-    each_cost : ℕ → ℕ
-    each_cost k = 8 * option_map_or (λ (p : Part). length p.nodes) (slice_get (map (λ (p : Phase). p.kept) parts) (k - 1)) 0 + 4 * option_map_or (λ (p : Part). places p.rows) (slice_get (map (λ (p : Phase). p.kept) parts) (k - 1)) 0
+    nothing : (parts : List Phase) → cost_of [] parts ≡ 0
+    nothing [] = refl
+    nothing (p ∷ parts) = refl
+chosen_from (flag ∷ chosen) f (p ∷ parts) a is =
+    let head : f a ≡ cond flag (cost p) 0 = ap f (sym (add-zero a)) ∙ is 0 p refl in
+    let rest = chosen_from chosen f parts (a + 1) (λ j y at. ap f (omega arith) ∙ is (suc j) y at) in
+    let one = sum_by-cons (λ (n : ℕ). n) (f a) (map f (range_with_len (a + 1) (length parts))) in
+    omega arith
 
-    each : (j : ℕ) (p : Phase) → slice_get parts j ≡ Some p → each_cost (1 + j) ≡ cost p
+costs_same : (chosen : List Bool) (schema : Declared) (count : ℕ) (parts : List Phase) (ps : List ℕ) → chosen_bounds chosen (state schema count parts ps) ≡ cost_of chosen parts
+unfolding len_of places_of
+costs_same chosen schema count parts ps =
+    ap (λ n. for_each_query n each_cost) (length_map (λ (p : Phase). p.query) parts) ∙ chosen_from chosen each_cost parts 1 each
+  where
+    of_part : ℕ → ℕ
+    of_part i = 8 * option_map_or (λ (p : Part). length p.nodes) (slice_get (map (λ (p : Phase). p.kept) parts) i) 0 + 4 * option_map_or (λ (p : Part). places p.rows) (slice_get (map (λ (p : Phase). p.kept) parts) i) 0
+
+    each_cost : ℕ → ℕ
+    each_cost k = cond (is_chosen chosen (k - 1)) (of_part (k - 1)) 0
+
+    each : (j : ℕ) (p : Phase) → slice_get parts j ≡ Some p → each_cost (1 + j) ≡ cond (is_chosen chosen j) (cost p) 0
     each j p at =
         let here : 1 + j - 1 ≡ j = omega arith in
         let there = map_at (λ (x : Phase). x.kept) parts j p at in
-        ap (λ i. 8 * option_map_or (λ (x : Part). length x.nodes) (slice_get (map (λ (x : Phase). x.kept) parts) i) 0 + 4 * option_map_or (λ (x : Part). places x.rows) (slice_get (map (λ (x : Phase). x.kept) parts) i) 0) here
-        ∙ ap (λ o. 8 * option_map_or (λ (x : Part). length x.nodes) o 0 + 4 * option_map_or (λ (x : Part). places x.rows) o 0) there
+        ap (λ i. cond (is_chosen chosen i) (of_part i) 0) here
+        ∙ ap (λ o. cond (is_chosen chosen j) (8 * option_map_or (λ (x : Part). length x.nodes) o 0 + 4 * option_map_or (λ (x : Part). places x.rows) o 0) 0) there
 
 most_stays : (x n m : ℕ) → m ≤ n → max (max x n) m ≡ max x n
 most_stays x n m le = omega arith
 
--- before: each part can be compacted, and each held cursor is of a part
-pub can_compact : (schema : Declared) (count : ℕ) (clocks : List (Option ℤ)) (parts mut : List Phase) (ps : List ℕ) (room : ℕ) → IsKeeping schema count clocks parts ps → mut ≡ parts → All (λ (p : Phase). length p.kept.nodes ≤ room) parts → All (CanCompact room) (map (woken count) mut)
-can_compact schema count clocks parts mut ps room keeps mut_is many =
+-- before: each part can be compacted, there is room for those that are chosen, and each held cursor is of a part
+pub can_compact : (schema : Declared) (count : ℕ) (clocks : List (Option ℤ)) (parts mut : List Phase) (ps : List ℕ) → IsKeeping schema count clocks parts ps → mut ≡ parts → All CanCompact (map (woken count) mut)
+can_compact schema count clocks parts mut ps keeps mut_is =
     let r = woken_running schema count clocks parts ps keeps in
-    let small = woken_small count parts room many in
     let stand = unclocked_stands r.run.events (map (woken count) parts) clocks r.run.stands in
     let idle = unclocked_idle (map (woken count) parts) clocks r.idle in
-    subst (λ zs. All (CanCompact room) (map (woken count) zs)) (sym mut_is) (λ k d lt. record {
+    subst (λ zs. All CanCompact (map (woken count) zs)) (sym mut_is) (λ k d lt. record {
       idle = idle k d lt;
       events = record { events = r.run.events; stands = stand k d lt };
-      enough = small k d lt;
     })
+
+pub have_room : (chosen : List Bool) (room count : ℕ) (slice mut : List Phase) → mut ≡ slice → HaveRoom chosen room slice → HaveRoom chosen room (map (woken count) mut)
+have_room chosen room count slice mut mut_is h j p less at flag =
+    let there = mapped (woken count) mut j p at in
+    let same = subst (λ (ps : List Phase). slice_get ps j ≡ Some there.0) mut_is there.1 in
+    let inside = slice_get_within slice j there.0 same in
+    subst (λ (x : Phase). length x.kept.nodes ≤ room) there.2 (h j there.0 inside same flag)
+
+-- as many flags as there are parts
+pub flags_long : (schema : Declared) (count : ℕ) (clocks : List (Option ℤ)) (parts mut : List Phase) (ps : List ℕ) (s : State) (chosen : List Bool) → state schema count (parts_at count parts clocks) ps ≡ s → mut ≡ parts → length chosen ≡ length s.queries → length chosen ≡ length mut
+flags_long schema count clocks parts mut ps s chosen is mut_is long =
+    long ∙ (sym (ap (λ (t : State). length t.queries) is)
+    ∙ (length_map (λ (p : Phase). p.query) (parts_at count parts clocks) ∙ (seen_length count parts clocks ∙ ap length (sym mut_is))))
 
 pub can_hold : (schema : Declared) (count : ℕ) (old mut : List Phase) (ps : List ℕ) (s : State) (held : List CursorState) → state schema count old ps ≡ s → mut ≡ old → All (Fits s) held → All (FitsPart mut) held
 unfolding Fits
@@ -216,14 +242,26 @@ module _ (schema : Declared) (count : ℕ) (old new : List Phase) (ps qs : List 
         rest = ap (λ n. walks.rest (get_or vs j d) (nodes_of new n)) query ∙ here.rest le;
       })
 
-  pub settled_left : AreTrimmed (length old) vs new → IsLeft after vs
-  settled_left trimmed k q p q_at p_at =
+  pub settled_left : (chosen : List Bool) → AreTrimmed chosen (length old) vs new → IsLeftOf chosen after vs
+  settled_left chosen trimmed k q p q_at p_at flag =
       let one = mapped (λ (x : Phase). x.query) new k q q_at in
       let two = mapped (λ (x : Phase). x.kept) new k p p_at in
       let both : one.0 ≡ two.0 = (let e = sym one.1 ∙ two.1 in cc) in
       let inside = slice_get_within new k one.0 one.1 in
       let many = zip_count old new z in
-      subst (IsTrimmed (k + 1) vs q) (ap (λ (x : Phase). x.kept) both ∙ two.2) (subst (λ (y : Query). IsTrimmed (k + 1) vs y one.0.kept) one.2 (trimmed k one.0 (omega arith) one.1))
+      subst (IsTrimmed (k + 1) vs q) (ap (λ (x : Phase). x.kept) both ∙ two.2) (subst (λ (y : Query). IsTrimmed (k + 1) vs y one.0.kept) one.2 (trimmed k one.0 (omega arith) one.1 flag))
 
-  pub settled_steps : (before after' : ℕ) → after' ≤ before + sum_by cost old → after' ≤ before + compact_bounds s
-  settled_steps before after' le = subst (λ (t : State). after' ≤ before + compact_bounds t) is (let e = costs_same schema count old ps in omega arith)
+  pub settled_others : (chosen : List Bool) → OthersStay chosen (length old) old new → OthersAreKept chosen s after
+  settled_others chosen others = subst (λ (t : State). OthersAreKept chosen t after) is (λ k q q_at other. (
+      let there = mapped (λ (x : Phase). x.query) old k q q_at in
+      let inside = slice_get_within old k there.0 there.1 in
+      map_at (λ (x : Phase). x.kept) new k there.0 (others k there.0 inside there.1 other) ∙ sym (map_at (λ (x : Phase). x.kept) old k there.0 there.1)))
+
+  pub settled_once : (chosen : List Bool) → AreOnce chosen (length old) old → AreOnceOf chosen s
+  settled_once chosen once = subst (AreOnceOf chosen) is (λ k part at flag. (
+      let there = mapped (λ (p : Phase). p.kept) old k part at in
+      let inside = slice_get_within old k there.0 there.1 in
+      subst (λ (x : Part). All HasStatesOnce x.rows) there.2 (once k there.0 inside there.1 flag)))
+
+  pub settled_steps : (chosen : List Bool) (before after' : ℕ) → after' ≤ before + cost_of chosen old → after' ≤ before + chosen_bounds chosen s
+  settled_steps chosen before after' le = subst (λ (t : State). after' ≤ before + chosen_bounds chosen t) is (let e = costs_same chosen schema count old ps in omega arith)

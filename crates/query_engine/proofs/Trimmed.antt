@@ -1,5 +1,5 @@
 -- What is left of each part once the parts are compacted one after the other.
-use Rattle.std.proofs.Common.{◌≡◌, ℕ, zero, suc, ◌+◌, ◌<◌, ℤ, cond, List, [], ◌∷◌, ◌++◌, map, length, get_or, refl, sym, ap, ap₂, subst, ◌∙◌, Some, slice_get, slice_set, inl, inr, arith}
+use Rattle.std.proofs.Common.{◌≡◌, ℕ, zero, suc, ◌+◌, ◌<◌, ℤ, Bool, cond, List, [], ◌∷◌, ◌++◌, map, length, get_or, refl, sym, ap, ap₂, subst, ◌∙◌, Some, slice_get, slice_set, inl, inr, arith}
 use Rattle.std.specs.Prelude.{◌==◌, int_le, ◌≤ℤ◌}
 use Rattle.std.specs.List.{flat_map}
 use Rattle.std.proofs.lemmas.List.{map-id}
@@ -96,8 +96,8 @@ set_other (x ∷ parts) (suc k) zero v p lt at = at
 set_other (x ∷ parts) (suc k) (suc j) v p lt at = set_other parts k j v p (omega arith) at
 
 -- one part more is trimmed
-pub all_trimmed : (k : ℕ) (cur : List Phase) (q v : Phase) (vs us : List CursorState) → k < length cur → v.query ≡ q.query → PartCompacted (k + 1) (low_at q.query q.kept.clock) q.kept v.kept (map (λ w. w) vs) (map (λ w. w) us) → AreTrimmed k vs cur → AreTrimmed (k + 1) us (slice_set cur k v)
-all_trimmed k cur q v vs us lt same c h j p less at =
+pub all_trimmed : (chosen : List Bool) (k : ℕ) (cur : List Phase) (q v : Phase) (vs us : List CursorState) → k < length cur → v.query ≡ q.query → PartCompacted (k + 1) (low_at q.query q.kept.clock) q.kept v.kept (map (λ w. w) vs) (map (λ w. w) us) → AreTrimmed chosen k vs cur → AreTrimmed chosen (k + 1) us (slice_set cur k v)
+all_trimmed chosen k cur q v vs us lt same c h j p less at flag =
     let of = subst (λ (xs : List CursorState). PartCompacted (k + 1) (low_at q.query q.kept.clock) q.kept v.kept xs us) (map-id vs) (subst (PartCompacted (k + 1) (low_at q.query q.kept.clock) q.kept v.kept (map (λ w. w) vs)) (map-id us) c) in
     elim (cases_eq j k) [
       | inl is ↦
@@ -109,5 +109,5 @@ all_trimmed k cur q v vs us lt same c h j p less at =
             keys = of.have;
           }))
       | inr other ↦
-          still_trimmed (j + 1) vs us p.query p.kept (alike (j + 1) (k + 1) q.kept.nodes v.kept.nodes vs us (λ e. other (omega arith)) of.cursors) (h j p (omega arith) (set_other cur k j v p (omega arith) at))
+          still_trimmed (j + 1) vs us p.query p.kept (alike (j + 1) (k + 1) q.kept.nodes v.kept.nodes vs us (λ e. other (omega arith)) of.cursors) (h j p (omega arith) (set_other cur k j v p (omega arith) at) flag)
     ]

@@ -1,5 +1,5 @@
 -- What a compaction makes of an engine's parts and of the cursors that are held over it, and how many steps it takes.
-use Rattle.std.specs.Prelude.{◌≡◌, ℕ, ◌+◌, ◌-◌, ◌*◌, ◌<◌, ◌≤◌, ◌≤ℤ◌, Some, List, [], length, map, get_or, All, slice_get}
+use Rattle.std.specs.Prelude.{◌≡◌, ℕ, ◌+◌, ◌-◌, ◌*◌, ◌<◌, ◌≤◌, ◌≤ℤ◌, Bool, true, false, cond, Some, List, [], ◌∷◌, length, map, get_or, All, slice_get, slice_index_or}
 use Rattle.std.specs.Option.{option_map_or}
 use Rattle.stream_schema.specs.declared.Event.{Event}
 use Rattle.cel_terms.specs.declared.Query.{Query}
@@ -33,13 +33,40 @@ compact_bounds engine = for_each_query (length engine.queries) (λ k. 8 * len_of
 abbrev pub cost : Phase → ℕ
 cost p = 8 * length p.kept.nodes + 4 * places p.kept.rows
 
--- What is asked of a part: it is idle, as it is for some events, and there is room.
-pub record CanCompact (room : ℕ) (p : Phase) : Type 0 where
+-- WHICH PARTS ARE COMPACTED
+-- A list of flags tells it, by the parts' numbers from 0.
+
+abbrev pub is_chosen : List Bool → ℕ → Bool
+is_chosen chosen k = slice_index_or chosen k false
+
+-- the steps that a compaction of these may take
+abbrev pub cost_of : List Bool → List Phase → ℕ
+cost_of chosen [] = 0
+cost_of [] (p ∷ parts) = 0
+cost_of (flag ∷ chosen) (p ∷ parts) = cond flag (cost p) 0 + cost_of chosen parts
+
+-- What is asked of a part: it is idle, as it is for some events.
+pub record CanCompact (p : Phase) : Type 0 where
   pub idle : IsIdle p
   pub events : HasEvents p
-  pub enough : length p.kept.nodes ≤ room
 
--- The part of the same query is idle and stands for the same events, with the same states and no more nodes, also of those that start at a position or later. No state stood twice in a key's lists. Both have their clocks.
+-- there is room for the nodes of each of the first k parts that is chosen
+abbrev pub HaveRoomTo : List Bool → ℕ → ℕ → List Phase → Type 0
+HaveRoomTo chosen room k parts = (j : ℕ) (p : Phase) → j < k → slice_get parts j ≡ Some p → is_chosen chosen j ≡ true → length p.kept.nodes ≤ room
+
+-- and of all of them
+abbrev pub HaveRoom : List Bool → ℕ → List Phase → Type 0
+HaveRoom chosen room parts = HaveRoomTo chosen room (length parts) parts
+
+-- of the first k parts, in the lists of each one's keys no state stood twice, where it is chosen
+abbrev pub AreOnce : List Bool → ℕ → List Phase → Type 0
+AreOnce chosen k parts = (j : ℕ) (p : Phase) → j < k → slice_get parts j ≡ Some p → is_chosen chosen j ≡ true → All HasStatesOnce p.kept.rows
+
+-- those of the first k parts that are not chosen are as they were
+abbrev pub OthersStay : List Bool → ℕ → List Phase → List Phase → Type 0
+OthersStay chosen k old new = (j : ℕ) (p : Phase) → j < k → slice_get old j ≡ Some p → is_chosen chosen j ≡ false → slice_get new j ≡ Some p
+
+-- The part of the same query is idle and stands for the same events, with the same states and no more nodes, also of those that start at a position or later. Both have their clocks.
 pub record IsCompacted (old new : Phase) : Type 0 where
   pub schema : new.schema ≡ old.schema
   pub query : new.query ≡ old.query
@@ -49,7 +76,6 @@ pub record IsCompacted (old new : Phase) : Type 0 where
   pub table : new.kept.table ≡ old.kept.table
   pub fewer : length new.kept.nodes ≤ length old.kept.nodes
   pub fewer_later : (position : ℕ) → later position new.kept.nodes ≤ later position old.kept.nodes
-  pub once : All HasStatesOnce old.kept.rows
 
 -- the nodes of the part of this number, from 1
 abbrev pub nodes_of : List Phase → ℕ → List Node
@@ -72,13 +98,25 @@ pub record IsTrimmed (query : ℕ) (held : List CursorState) (q : Query) (p : Pa
   pub recent : (id : ℕ) → id < length p.nodes → least_of query (low_at q p.clock) held ≤ℤ (newest (tree p.nodes id)).clock
   pub keys : HaveListsButOne p.rows
 
--- each of the first k parts is trimmed
-abbrev pub AreTrimmed : ℕ → List CursorState → List Phase → Type 0
-AreTrimmed k held parts = (j : ℕ) (p : Phase) → j < k → slice_get parts j ≡ Some p → IsTrimmed (j + 1) held p.query p.kept
+-- each of the first k parts that is chosen is trimmed
+abbrev pub AreTrimmed : List Bool → ℕ → List CursorState → List Phase → Type 0
+AreTrimmed chosen k held parts = (j : ℕ) (p : Phase) → j < k → slice_get parts j ≡ Some p → is_chosen chosen j ≡ true → IsTrimmed (j + 1) held p.query p.kept
 
 -- Of each query only such nodes are left as its lists or a held cursor reach, from the least of its low clock and those of its held cursors on, and of its keys those that have a list, but for one at most.
 abbrev pub IsLeft : State → List CursorState → Type 0
 IsLeft engine held = (k : ℕ) (q : Query) (p : Part) → slice_get engine.queries k ≡ Some q → slice_get engine.parts k ≡ Some p → IsTrimmed (k + 1) held q p
+
+-- likewise of those queries that are chosen
+abbrev pub IsLeftOf : List Bool → State → List CursorState → Type 0
+IsLeftOf chosen engine held = (k : ℕ) (q : Query) (p : Part) → slice_get engine.queries k ≡ Some q → slice_get engine.parts k ≡ Some p → is_chosen chosen k ≡ true → IsTrimmed (k + 1) held q p
+
+-- the steps of a compaction of these: eight for each node, and four for each entry of a list
+abbrev pub chosen_bounds : List Bool → State → ℕ
+chosen_bounds chosen engine = for_each_query (length engine.queries) (λ k. cond (is_chosen chosen (k - 1)) (8 * len_of engine k + 4 * places_of engine k) 0)
+
+-- what is kept of the others is as it was
+abbrev pub OthersAreKept : List Bool → State → State → Type 0
+OthersAreKept chosen old new = (k : ℕ) (q : Query) → slice_get old.queries k ≡ Some q → is_chosen chosen k ≡ false → slice_get new.parts k ≡ slice_get old.parts k
 
 -- As many cursors, in their order, each carried over.
 pub record AreCarried (k : ℕ) (old new : List Phase) (ws vs : List CursorState) : Type 0 where

@@ -446,6 +446,13 @@ impl Matches {
         self.store.len()
     }
 
+    /// How many keys are kept.
+    pub fn key_count(&self) -> u64
+        ensures { result ≡ length self.now.keys }
+    {
+        self.lists.len() as u64
+    }
+
     /// The entries of the accepting states' lists of the key, none where no key is told.
     fn roots<L: Ledger>(&self, key: Option<u64>, steps: &mut Steps<L>) -> Result<Vec<Root>, Memory>
         requires stands { CanList self.now key }

@@ -194,6 +194,14 @@ impl Part {
         self.matches.len()
     }
 
+    /// How many keys are kept.
+    pub fn key_count(&self) -> u64
+        requires idle { IsIdle self.now }
+        ensures { result ≡ length self.now.kept.keys }
+    {
+        self.matches.key_count()
+    }
+
     /// Whether both, which are of one schema, are known to read the same types, and each event to have the
     /// same clock for both.
     pub fn shares_clock(&self, other: &Part) -> bool

@@ -1,5 +1,5 @@
 -- How a run ends.
-use Rattle.std.proofs.Common.{◌≡◌, ℕ, ◌+◌, ◌≤◌, ◌⊎◌, Bool, List, [], ◌∷◌, ◌++◌, length, Option, Some, None, Result, Ok, Err, inl, inr, refl, sym, ◌∙◌, ap, subst, append_assoc, length-append, arith}
+use Rattle.std.proofs.Common.{◌≡◌, ℕ, ◌+◌, ◌≤◌, ◌⊎◌, List, [], ◌∷◌, ◌++◌, length, Option, Some, None, Result, Ok, Err, inl, inr, refl, sym, ◌∙◌, ap, subst, append_assoc, length-append, arith}
 use Rattle.std.specs.Prelude.{OnOk}
 use Rattle.std.proofs.lemmas.List.{append-nil}
 use Rattle.cer_base.specs.declared.OrMemory.{OrMemory}
@@ -21,6 +21,7 @@ use Rattle.event_run.specs.Taking.{HasTakenAfter, BeginsRunAfter, AfterCall, Has
 use Rattle.stream_answers.specs.declared.StreamFault.{StreamFault}
 use Rattle.stream_answers.specs.declared.StreamFault.TheVariants as fault
 use Rattle.stream_answers.specs.Windows.{last_of, FollowsWindowsBy}
+use Rattle.stream_answers.specs.Schedules.{Timing, due_by, WithNoNumber, KeepsUp}
 use Rattle.stream_answers.specs.Gathering.{PassesOn, Running, Finished, stream_fault}
 use Rattle.stream_answers.specs.Ends.{HasReadCause}
 use Rattle.stream_answers.specs.Streams.{Asked, StandsForAllAfter, WroteOverAfter, WroteAllAfter, WrotePartOfAfter, WroteStreamAfter}
@@ -125,14 +126,15 @@ ends_for_fault earlier a source reader left before middle after held blocks engi
     (begins_so earlier a source reader left (o.events ++ o.next ∷ []) budget o.taken) (λ rest p. part_of_more before after (o.written ++ (held ++ blocks)) rest p) (took_then_part before middle after o.written (held ++ blocks) o.took part)
 
 -- the engine, where the source has ended
-pub stands_at_end : (earlier : List StreamEvent) (due : ℕ → Bool) (peaks : ℕ → ℕ) (a : Asked) (source : Option (List ℕ)) (old_reader reader : LineReader) (had left before middle : Option (List ℕ)) (held : List ℕ) (engine now : State) →
-    reader.budget ≡ a.most_bytes → (r : Running earlier a source old_reader had before middle held engine) → FollowsWindowsBy due peaks (last_of due (length r.events)) r.events engine → now ≡ engine →
-    AfterCall earlier a.schema a.queries reader engine now (λ bytes. HasTakenAfter earlier a.schema a.queries old_reader bytes had r.events) left r.events (Ok taken.End) → (bytes : List ℕ) → source ≡ Some bytes → StandsForAllAfter due peaks earlier a bytes now
-stands_at_end earlier due peaks a source old_reader reader had left before middle held engine now budget r windows kept took bytes told = record {
+pub stands_at_end : (earlier : List StreamEvent) (timing : Timing) (peaks : ℕ → ℕ) (a : Asked) (source : Option (List ℕ)) (old_reader reader : LineReader) (had left before middle : Option (List ℕ)) (held : List ℕ) (engine now : State) →
+    reader.budget ≡ a.most_bytes → (r : Running earlier a source old_reader had before middle held engine) → FollowsWindowsBy (due_by timing) peaks (last_of (due_by timing) (length r.events)) r.events engine → WithNoNumber timing.every (KeepsUp engine r.events) → now ≡ engine →
+    AfterCall earlier a.schema a.queries reader engine now (λ bytes. HasTakenAfter earlier a.schema a.queries old_reader bytes had r.events) left r.events (Ok taken.End) → (bytes : List ℕ) → source ≡ Some bytes → StandsForAllAfter timing peaks earlier a bytes now
+stands_at_end earlier timing peaks a source old_reader reader had left before middle held engine now budget r windows small kept took bytes told = record {
   events = r.events;
   runs = subst (λ n. RunsAfter earlier a.schema a.queries n bytes r.events stop.End) budget (took.1 bytes (r.taken bytes told));
   stands = took.0;
-  windows = subst (FollowsWindowsBy due peaks (last_of due (length r.events)) r.events) (sym kept) windows;
+  windows = subst (FollowsWindowsBy (due_by timing) peaks (last_of (due_by timing) (length r.events)) r.events) (sym kept) windows;
+  keeps_up = subst (λ (e : State). WithNoNumber timing.every (KeepsUp e r.events)) (sym kept) small;
 }
 
 -- a fact, where all was well

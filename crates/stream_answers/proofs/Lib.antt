@@ -7,6 +7,8 @@ mod Putting
 pub mod Wholes
 -- a run from event to event; for callers
 pub mod Running
+-- queries that are compacted as they grow; for callers
+pub mod Growing
 -- the compaction after an event; for callers
 pub mod Compacted
 -- the nodes that follow the windows, from event to event; for callers

@@ -23,7 +23,7 @@ use Rattle.event_reader.specs.Lines.{file_lines}
 use Rattle.query_engine.specs.Bounds.{update_bound, for_each_query}
 use Rattle.query_engine.specs.Engine.{State, StandsFor, update_bounds}
 use Rattle.query_engine.specs.Windows.{IsDense}
-use Rattle.query_engine.specs.Counts.{MeetMost, event_bound, cursor_bounds}
+use Rattle.query_engine.specs.Counts.{MeetMost, HasFewNodes, event_bound, cursor_bounds}
 use Rattle.query_engine.proofs.Counting.{first_meet_fewer, event_is_bounded, refused_is_bounded, one_query_more, fewer_queries}
 use Rattle.query_engine.proofs.DenseNodes.{dense_has_few}
 use Rattle.event_run.specs.declared.Taken.{Taken}
@@ -39,9 +39,11 @@ use Rattle.stream_answers.specs.declared.StreamFault.{StreamFault}
 use Rattle.stream_answers.specs.declared.StreamFault.TheVariants as fault
 use Rattle.stream_answers.specs.Gathering.{Gathered, PassesOn, Passed, Running, Finished, stream_fault}
 use Rattle.stream_answers.specs.Streams.{Asked}
-use Rattle.stream_answers.specs.Steps.{compaction_by, compactions, run_bound, AreBoundedBy, CountsAllAfter, CountsAfter, CountsUpToAfter, CountsAtFaultAfter, StepsOverAfter}
+use Rattle.stream_answers.specs.Schedules.{Timing, due_by, pace, first_compaction}
+use Rattle.stream_answers.specs.Steps.{compaction_by, compactions, run_bound, AreBoundedBy, AreOfEvents, CountsAllAfter, CountsAfter, CountsUpToAfter, CountsAtFaultAfter, StepsOverAfter}
 use Rattle.stream_answers.specs.Counting.{Counted, IsCompacted, StepsAtFault, StepsPut}
 use Rattle.stream_answers.proofs.Compacted.{met_here}
+use Rattle.stream_answers.proofs.Growing.{pace_least, paced_first}
 use Rattle.stream_answers.proofs.Portions.{took_none, took_both, took_then_part, part_of_more}
 use Rattle.stream_answers.proofs.Putting.{passed_walk}
 use Rattle.stream_answers.proofs.Wholes.{begins_at_first}
@@ -95,37 +97,40 @@ kept_rows engine order held now_held s before most now view kept is put =
           (r.0, r.1, ((lines_of r.0, record { written = []; took = took_none before; whole = ap (λ h. h ++ lines_of r.0) (sym kept) }), r.2.1));
     }))
 
-module _ (due : ℕ → Bool) where
+module _ (timing : Timing) where
   -- FROM EVENT TO EVENT
 
-  -- one event more, with the rows at it, and the compaction after it
-  pub bounded_on : (a : Asked) (engine : State) (events : List StreamEvent) (next : StreamEvent) (rows more : List Row) (first old seen paused now : ℕ) → engine.schema ≡ a.schema → engine.queries ≡ a.queries →
-      StandsFor engine (events ++ next ∷ []) → AreBoundedBy due a.schema a.queries events rows first old → seen ≤ old + update_bounds engine → paused ≤ seen + cursor_bounds engine + row_delays more →
-      ((most : ℕ → ℕ) → MeetMost a.schema a.queries (events ++ next ∷ []) most → now ≤ paused + compaction_by due (length a.queries) most (length (events ++ next ∷ []))) →
-      AreBoundedBy due a.schema a.queries (events ++ next ∷ []) (rows ++ more) first now
-  bounded_on a engine events next rows more first old seen paused now same alike stands bounded took put compacted = λ most meet.
+  -- one event more, with the rows at it, and the compaction after it: so much had been put by, and is after the event
+  pub bounded_on : (a : Asked) (engine : State) (events : List StreamEvent) (next : StreamEvent) (rows more : List Row) (first old had mid seen paused now : ℕ) → engine.schema ≡ a.schema → engine.queries ≡ a.queries →
+      StandsFor engine (events ++ next ∷ []) → AreBoundedBy timing a.schema a.queries events rows first (old + had) → seen ≤ old + update_bounds engine → paused ≤ seen + cursor_bounds engine + row_delays more →
+      ((most : ℕ → ℕ) → MeetMost a.schema a.queries (events ++ next ∷ []) most → event_bound (length a.queries) most + mid ≤ had + pace timing.every (length a.queries) most) →
+      ((most : ℕ → ℕ) → MeetMost a.schema a.queries (events ++ next ∷ []) most → now ≤ paused + mid + compaction_by (due_by timing) (length a.queries) most (length (events ++ next ∷ []))) →
+      AreBoundedBy timing a.schema a.queries (events ++ next ∷ []) (rows ++ more) first now
+  bounded_on a engine events next rows more first old had mid seen paused now same alike stands bounded took put paid compacted = λ most meet.
       let all = events ++ next ∷ [] in
       let before = bounded most (first_meet_fewer a.schema a.queries events (next ∷ []) most meet) in
       let S : Declared → Type 0 = λ s. MeetMost s a.queries all most in
       let Q : List Query → Type 0 = λ qs. MeetMost engine.schema qs all most in
       let here = event_is_bounded engine all most stands (subst Q (sym alike) (subst S (sym same) meet)) in
-      let e = event_bound (length a.queries) most in
-      let costs : event_bound (length engine.queries) most ≡ e = ap (λ (qs : List Query). event_bound (length qs) most) alike in
+      let e = pace timing.every (length a.queries) most in
+      let costs : event_bound (length engine.queries) most ≡ event_bound (length a.queries) most = ap (λ (qs : List Query). event_bound (length qs) most) alike in
+      let pays = paid most meet in
       let count : length all ≡ length events + 1 = length-append events (next ∷ []) in
       let product : length all * e ≡ length events * e + e = ap (λ (n : ℕ). n * e) count ∙ omega arith in
       let both = delays_both rows more in
       let last = compacted most meet in
-      let f = compaction_by due (length a.queries) most in
-      let sums : compactions due (length a.queries) most (length all) ≡ compactions due (length a.queries) most (length events) + f (length all) =
-      ap (compactions due (length a.queries) most) count ∙ (one_query_more (length events) f ∙ ap (λ (n : ℕ). compactions due (length a.queries) most (length events) + f n) (sym count)) in
-      omega (arith, before, here, costs, product, both, took, put, last, sums)
+      let f = compaction_by (due_by timing) (length a.queries) most in
+      let sums : compactions (due_by timing) (length a.queries) most (length all) ≡ compactions (due_by timing) (length a.queries) most (length events) + f (length all) =
+      ap (compactions (due_by timing) (length a.queries) most) count ∙ (one_query_more (length events) f ∙ ap (λ (n : ℕ). compactions (due_by timing) (length a.queries) most (length events) + f n) (sym count)) in
+      omega (arith, before, here, costs, pays, product, both, took, put, last, sums)
 
   -- one event more, with the rows at it
-  pub bounded_more : (a : Asked) (engine : State) (events : List StreamEvent) (next : StreamEvent) (rows more : List Row) (first old seen now : ℕ) → engine.schema ≡ a.schema → engine.queries ≡ a.queries →
-      StandsFor engine (events ++ next ∷ []) → AreBoundedBy due a.schema a.queries events rows first old → seen ≤ old + update_bounds engine → now ≤ seen + cursor_bounds engine + row_delays more →
-      AreBoundedBy due a.schema a.queries (events ++ next ∷ []) (rows ++ more) first now
-  bounded_more a engine events next rows more first old seen now same alike stands bounded took put =
-      bounded_on a engine events next rows more first old seen now now same alike stands bounded took put (λ most meet. omega arith)
+  pub bounded_more : (a : Asked) (engine : State) (events : List StreamEvent) (next : StreamEvent) (rows more : List Row) (first old had mid seen now : ℕ) → engine.schema ≡ a.schema → engine.queries ≡ a.queries →
+      StandsFor engine (events ++ next ∷ []) → AreBoundedBy timing a.schema a.queries events rows first (old + had) → seen ≤ old + update_bounds engine → now ≤ seen + cursor_bounds engine + row_delays more →
+      ((most : ℕ → ℕ) → MeetMost a.schema a.queries (events ++ next ∷ []) most → event_bound (length a.queries) most + mid ≤ had + pace timing.every (length a.queries) most) →
+      AreBoundedBy timing a.schema a.queries (events ++ next ∷ []) (rows ++ more) first now
+  bounded_more a engine events next rows more first old had mid seen now same alike stands bounded took put paid =
+      bounded_on a engine events next rows more first old had mid seen now now same alike stands bounded took put paid (λ most meet. omega arith)
 
   -- the rows in the words of those who asked
   pub rows_as : (order asked_order : Order) (schema asked_schema : Declared) (queries asked_queries : List Query) (events : List StreamEvent) (rows : List Row) → order ≡ asked_order → schema ≡ asked_schema → queries ≡ asked_queries →
@@ -138,8 +143,8 @@ module _ (due : ℕ → Bool) where
 
   -- at the beginning
   abbrev pub counts_start : (earlier : List StreamEvent) (a : Asked) (source before : Option (List ℕ)) (reader : LineReader) (held : List ℕ) (engine : State) (first now : ℕ) → engine.schema ≡ a.schema → engine.queries ≡ a.queries →
-      StandsFor engine earlier → IsDense engine earlier → AreBoundedBy due a.schema a.queries earlier [] first now →
-      ((bytes : List ℕ) → HasGiven reader bytes (Some bytes) []) → held ≡ [] → Counted due earlier a source reader source before before held engine first now
+      StandsFor engine earlier → IsDense engine earlier → AreBoundedBy timing a.schema a.queries earlier [] first now →
+      ((bytes : List ℕ) → HasGiven reader bytes (Some bytes) []) → held ≡ [] → Counted timing earlier a source reader source before before held engine first now
   counts_start earlier a source before reader held engine first now same alike stands dense bounded given empty = record {
     running = starts earlier a source before reader held engine stands given empty;
     rows = [];
@@ -157,41 +162,42 @@ module _ (due : ℕ → Bool) where
 
   -- the answers were put, and the engine is compacted where that is due
   abbrev pub counts_on : (earlier : List StreamEvent) (a : Asked) (source : Option (List ℕ)) (reader : LineReader) (left before middle after : Option (List ℕ)) (held now_held : List ℕ) (engine compacted : State) → (o : Owing earlier a source reader left before middle held engine) →
-      (rows more : List Row) (first old seen paused now : ℕ) → engine.schema ≡ a.schema → engine.queries ≡ a.queries → AreRowsAt a.order a.schema 1 a.queries (o.events ++ o.next ∷ []) (length (o.events ++ o.next ∷ []) - 1) more →
+      (rows more : List Row) (first old had mid seen paused now : ℕ) → engine.schema ≡ a.schema → engine.queries ≡ a.queries → AreRowsAt a.order a.schema 1 a.queries (o.events ++ o.next ∷ []) (length (o.events ++ o.next ∷ []) - 1) more →
       PassesOn middle after held (lines_of more) now_held [] → AreRowsAfter (length earlier) a.order a.schema a.queries o.events rows → o.written ++ held ≡ lines_of rows →
-      AreBoundedBy due a.schema a.queries o.events rows first old → seen ≤ old + update_bounds engine → paused ≤ seen + cursor_bounds engine + row_delays more →
-      IsCompacted due a (o.events ++ o.next ∷ []) compacted paused now → Counted due earlier a source reader left before after now_held compacted first now
-  counts_on earlier a source reader left before middle after held now_held engine compacted o rows more first old seen paused now same alike are_more passed are_rows lines bounded took put c =
+      AreBoundedBy timing a.schema a.queries o.events rows first (old + had) → seen ≤ old + update_bounds engine → paused ≤ seen + cursor_bounds engine + row_delays more →
+      ((most : ℕ → ℕ) → MeetMost a.schema a.queries (o.events ++ o.next ∷ []) most → event_bound (length a.queries) most + mid ≤ had + pace timing.every (length a.queries) most) →
+      IsCompacted timing a (o.events ++ o.next ∷ []) compacted (paused + mid) now → Counted timing earlier a source reader left before after now_held compacted first now
+  counts_on earlier a source reader left before middle after held now_held engine compacted o rows more first old had mid seen paused now same alike are_more passed are_rows lines bounded took put paid c =
       let came : Came a (o.events ++ o.next ∷ []) (lines_of more) =
       record { blocks_are = blocks_of_rows a.order a.schema 1 a.queries (o.events ++ o.next ∷ []) (length (o.events ++ o.next ∷ []) - 1) more are_more } in record {
         running = runs_on earlier a source reader left before middle after held (lines_of more) now_held compacted (owes_still earlier a source reader left before middle held engine compacted o c.stands) came passed;
         rows = rows ++ more;
         are_rows = rows_after_grow_at_last (length earlier) a.order a.schema a.queries o.events o.next rows more o.behind are_rows are_more;
         lines = lines_more rows o.written held (lines_of more) passed.written now_held passed.whole lines ∙ sym (lines_both rows more);
-        bounded = bounded_on a engine o.events o.next rows more first old seen paused now same alike o.stands bounded took put c.steps;
+        bounded = bounded_on a engine o.events o.next rows more first old had mid seen paused now same alike o.stands bounded took put paid c.steps;
         few = c.few;
       }
 
   -- OVER A WHOLE FILE
 
   -- What bounds the steps by the first events and their rows bounds them by all.
-  pub bounded_all : (a : Asked) (events later : List StreamEvent) (rows more : List Row) (before now : ℕ) → AreBoundedBy due a.schema a.queries events rows before now →
-      AreBoundedBy due a.schema a.queries (events ++ later) (rows ++ more) before now
+  pub bounded_all : (a : Asked) (events later : List StreamEvent) (rows more : List Row) (before now : ℕ) → AreBoundedBy timing a.schema a.queries events rows before now →
+      AreBoundedBy timing a.schema a.queries (events ++ later) (rows ++ more) before now
   bounded_all a events later rows more before now bounded = λ most meet.
       let all = events ++ later in
       let few = bounded most (first_meet_fewer a.schema a.queries events later most meet) in
-      let e = event_bound (length a.queries) most in
+      let e = pace timing.every (length a.queries) most in
       let count : length all ≡ length events + length later = length-append events later in
       let product : length all * e ≡ length events * e + length later * e = ap (λ (n : ℕ). n * e) count ∙ omega arith in
       let both = delays_both rows more in
-      let f = compaction_by due (length a.queries) most in
-      let grown : compactions due (length a.queries) most (length events) ≤ compactions due (length a.queries) most (length all) =
-      subst (λ (n : ℕ). compactions due (length a.queries) most (length events) ≤ compactions due (length a.queries) most n) (sym count) (fewer_queries (length events) (length later) f) in
+      let f = compaction_by (due_by timing) (length a.queries) most in
+      let grown : compactions (due_by timing) (length a.queries) most (length events) ≤ compactions (due_by timing) (length a.queries) most (length all) =
+      subst (λ (n : ℕ). compactions (due_by timing) (length a.queries) most (length events) ≤ compactions (due_by timing) (length a.queries) most n) (sym count) (fewer_queries (length events) (length later) f) in
       omega (arith, few, product, both, grown)
 
   -- the same over a whole file
   pub counts_whole : (earlier : List StreamEvent) (a : Asked) (lines : List ℕ) (events : List StreamEvent) (rows : List Row) (before now : ℕ) → length earlier ≤ length events → BeginsRunAfter earlier a.schema a.queries a.most_bytes lines events → AreRowsAfter (length earlier) a.order a.schema a.queries events rows →
-      AreBoundedBy due a.schema a.queries events rows before now → CountsAfter due earlier a lines before now
+      AreBoundedBy timing a.schema a.queries events rows before now → CountsAfter timing earlier a lines before now
   counts_whole earlier a lines events rows before now behind begun are_rows bounded =
       let all = events ++ begun.more in
       let grown = rows_after_grow (length earlier) a.order a.schema a.queries events begun.more rows behind (λ end. some_blocks_are a.order a.schema 1 a.queries all end) are_rows in record {
@@ -206,38 +212,49 @@ module _ (due : ℕ → Bool) where
       }
 
   -- no event was taken after those before
-  pub counts_none : (earlier : List StreamEvent) (a : Asked) (lines : List ℕ) (first now : ℕ) → AreBoundedBy due a.schema a.queries earlier [] first now → CountsAfter due earlier a lines first now
+  pub counts_none : (earlier : List StreamEvent) (a : Asked) (lines : List ℕ) (first now : ℕ) → AreBoundedBy timing a.schema a.queries earlier [] first now → CountsAfter timing earlier a lines first now
   counts_none earlier a lines first now bounded = counts_whole earlier a lines earlier [] first now (omega arith) (begins_at_first earlier a lines) (rows_after_none (length earlier) a.order a.schema a.queries earlier refl) bounded
 
   -- nothing was paid yet
-  pub bounded_none : (schema : Declared) (queries : List Query) (events : List StreamEvent) (rows : List Row) (now : ℕ) → AreBoundedBy due schema queries events rows now now
+  pub bounded_none : (schema : Declared) (queries : List Query) (events : List StreamEvent) (rows : List Row) (now : ℕ) → AreBoundedBy timing schema queries events rows now now
   bounded_none schema queries events rows now = λ most meet. omega arith
 
+  -- before the first of the events that count, with the first compaction, where one is made
+  pub bounded_first : (engine : State) (events : List StreamEvent) (first before now : ℕ) → StandsFor engine events → IsDense engine events → AreOfEvents engine.schema engine.queries events first before →
+      ((most : ℕ → ℕ) → MeetMost engine.schema engine.queries events most → HasFewNodes engine (length events) most → now ≤ before + first_compaction timing.every (length engine.queries) most (length events)) →
+      AreBoundedBy timing engine.schema engine.queries events [] first now
+  bounded_first engine events first before now stands dense taken compacted = λ most meet.
+      let of_events = taken most meet in
+      let one = compacted most meet (dense_has_few engine events most stands dense meet) in
+      let paced = paced_first timing.every (length engine.queries) (length events) most in
+      omega (arith, of_events, one, paced)
+
   -- memory ran out while an event was taken
-  pub bounded_wanting : (a : Asked) (events : List StreamEvent) (next : StreamEvent) (rows more : List Row) (first old seen : ℕ) → AreBoundedBy due a.schema a.queries events rows first old →
-      AreWantingSteps a.schema a.queries (events ++ next ∷ []) old seen → AreBoundedBy due a.schema a.queries (events ++ next ∷ []) (rows ++ more) first seen
-  bounded_wanting a events next rows more first old seen bounded wants = λ most meet.
+  pub bounded_wanting : (a : Asked) (events : List StreamEvent) (next : StreamEvent) (rows more : List Row) (first old had seen : ℕ) → AreBoundedBy timing a.schema a.queries events rows first (old + had) →
+      AreWantingSteps a.schema a.queries (events ++ next ∷ []) old seen → AreBoundedBy timing a.schema a.queries (events ++ next ∷ []) (rows ++ more) first seen
+  bounded_wanting a events next rows more first old had seen bounded wants = λ most meet.
       let all = events ++ next ∷ [] in
       let before = bounded most (first_meet_fewer a.schema a.queries events (next ∷ []) most meet) in
       let here = wants most meet in
       let within = refused_is_bounded (length a.queries) most in
-      let e = event_bound (length a.queries) most in
+      let e = pace timing.every (length a.queries) most in
+      let paced = pace_least timing.every (length a.queries) most in
       let count : length all ≡ length events + 1 = length-append events (next ∷ []) in
       let product : length all * e ≡ length events * e + e = ap (λ (n : ℕ). n * e) count ∙ omega arith in
       let both = delays_both rows more in
-      let f = compaction_by due (length a.queries) most in
-      let later : compactions due (length a.queries) most (length events) ≤ compactions due (length a.queries) most (length all) =
-      subst (λ (n : ℕ). compactions due (length a.queries) most (length events) ≤ compactions due (length a.queries) most n) (sym count) (fewer_queries (length events) 1 f) in
-      omega (arith, before, here, within, product, both, later)
+      let f = compaction_by (due_by timing) (length a.queries) most in
+      let later : compactions (due_by timing) (length a.queries) most (length events) ≤ compactions (due_by timing) (length a.queries) most (length all) =
+      subst (λ (n : ℕ). compactions (due_by timing) (length a.queries) most (length events) ≤ compactions (due_by timing) (length a.queries) most n) (sym count) (fewer_queries (length events) 1 f) in
+      omega (arith, before, here, within, paced, product, both, later)
 
-  counts_wanting : (earlier : List StreamEvent) (a : Asked) (lines : List ℕ) (events : List StreamEvent) (next : StreamEvent) (rows : List Row) (first old seen : ℕ) → length earlier ≤ length events → BeginsRunAfter earlier a.schema a.queries a.most_bytes lines (events ++ next ∷ []) →
-      AreRowsAfter (length earlier) a.order a.schema a.queries events rows → AreBoundedBy due a.schema a.queries events rows first old → AreWantingSteps a.schema a.queries (events ++ next ∷ []) old seen → CountsAfter due earlier a lines first seen
-  counts_wanting earlier a lines events next rows first old seen behind begun are_rows bounded wants =
+  counts_wanting : (earlier : List StreamEvent) (a : Asked) (lines : List ℕ) (events : List StreamEvent) (next : StreamEvent) (rows : List Row) (first old had seen : ℕ) → length earlier ≤ length events → BeginsRunAfter earlier a.schema a.queries a.most_bytes lines (events ++ next ∷ []) →
+      AreRowsAfter (length earlier) a.order a.schema a.queries events rows → AreBoundedBy timing a.schema a.queries events rows first (old + had) → AreWantingSteps a.schema a.queries (events ++ next ∷ []) old seen → CountsAfter timing earlier a lines first seen
+  counts_wanting earlier a lines events next rows first old had seen behind begun are_rows bounded wants =
       let all = events ++ next ∷ [] in
       let blocks = some_blocks_are a.order a.schema 1 a.queries all (length all - 1) in
       let more = rows_of_blocks a.order a.schema 1 a.queries all (length all - 1) blocks.0 blocks.1 in
       counts_whole earlier a lines all (rows ++ more.0) first seen (let long = length-append events (next ∷ []) in omega (arith, long, behind)) begun (rows_after_grow_at_last (length earlier) a.order a.schema a.queries events next rows more.0 behind are_rows more.1)
-      (bounded_wanting a events next rows more.0 first old seen bounded wants)
+      (bounded_wanting a events next rows more.0 first old had seen bounded wants)
 
   -- HOW A RUN ENDS
 
@@ -247,17 +264,17 @@ module _ (due : ℕ → Bool) where
   none_taken (Some m) None held none part = absurd part
   none_taken (Some m) (Some n) held none part = absurd (let within = part.within in let l = ap length none in omega arith)
 
-  at_fault : (earlier : List StreamEvent) (a : Asked) (lines : List ℕ) (before after : Option (List ℕ)) (first now : ℕ) (o : Order) → o ≡ Sorted → CountsAfter due earlier a lines first now → CountsAtFaultAfter due earlier o a lines before after first now
-  at_fault earlier a lines before after first now o sorted counts = subst (λ (x : Order). CountsAtFaultAfter due earlier x a lines before after first now) (sym sorted) counts
+  at_fault : (earlier : List StreamEvent) (a : Asked) (lines : List ℕ) (before after : Option (List ℕ)) (first now : ℕ) (o : Order) → o ≡ Sorted → CountsAfter timing earlier a lines first now → CountsAtFaultAfter timing earlier o a lines before after first now
+  at_fault earlier a lines before after first now o sorted counts = subst (λ (x : Order). CountsAtFaultAfter timing earlier x a lines before after first now) (sym sorted) counts
 
   pub walk_or_sorted : (o : Order) → (o ≡ Walk) ⊎ (o ≡ Sorted)
   walk_or_sorted Walk = inl refl
   walk_or_sorted Sorted = inr refl
 
   steps_end : (earlier : List StreamEvent) {T : Type 0} (a : Asked) (lines : List ℕ) (before middle after : Option (List ℕ)) (held : List ℕ) (old new : ℕ) (end result : Result T (OrMemory StreamFault)) (first now : ℕ) →
-      Finished middle after old new held end result → (a.order ≡ Walk → (held ≡ []) × (result ≡ end)) → CountsAfter due earlier a lines first now → (TookAll middle after held → StepsOverAfter due earlier a lines before after first now end) → StepsOverAfter due earlier a lines before after first now result
+      Finished middle after old new held end result → (a.order ≡ Walk → (held ≡ []) × (result ≡ end)) → CountsAfter timing earlier a lines first now → (TookAll middle after held → StepsOverAfter timing earlier a lines before after first now end) → StepsOverAfter timing earlier a lines before after first now result
   steps_end earlier {T} a lines before middle after held old new end result first now finished walk counts well =
-      let P : Result T (OrMemory StreamFault) → Type 0 = λ r. StepsOverAfter due earlier a lines before after first now r in
+      let P : Result T (OrMemory StreamFault) → Type 0 = λ r. StepsOverAfter timing earlier a lines before after first now r in
       elim finished.way [
         | inl fine ↦ subst P (sym fine.0) (well fine.1)
         | inr failed ↦ elim (walk_or_sorted a.order) [
@@ -268,8 +285,8 @@ module _ (due : ℕ → Bool) where
 
   -- the run ended by itself
   stopped : (earlier : List StreamEvent) (a : Asked) (lines : List ℕ) (before middle after : Option (List ℕ)) (held written : List ℕ) (events : List StreamEvent) (halt : Stop) (rows : List Row) (first now : ℕ) →
-      RunsAfter earlier a.schema a.queries a.most_bytes lines events halt → AreRowsAfter (length earlier) a.order a.schema a.queries events rows → written ++ held ≡ lines_of rows → AreBoundedBy due a.schema a.queries events rows first now →
-      TookAll before middle written → TookAll middle after held → CountsAllAfter due earlier a lines (λ h. h ≡ halt) (TookAll before after) first now
+      RunsAfter earlier a.schema a.queries a.most_bytes lines events halt → AreRowsAfter (length earlier) a.order a.schema a.queries events rows → written ++ held ≡ lines_of rows → AreBoundedBy timing a.schema a.queries events rows first now →
+      TookAll before middle written → TookAll middle after held → CountsAllAfter timing earlier a lines (λ h. h ≡ halt) (TookAll before after) first now
   stopped earlier a lines before middle after held written events halt rows first now runs are_rows same bounded took all = record {
     events = events;
     stop = halt;
@@ -288,74 +305,75 @@ module _ (due : ℕ → Bool) where
   runs_as : (earlier : List StreamEvent) (a : Asked) (most : ℕ) (lines : List ℕ) (events : List StreamEvent) (halt : Stop) → most ≡ a.most_bytes → RunsAfter earlier a.schema a.queries most lines events halt → RunsAfter earlier a.schema a.queries a.most_bytes lines events halt
   runs_as earlier a most lines events halt same runs = subst (λ n. RunsAfter earlier a.schema a.queries n lines events halt) same runs
 
-  bounded_same : (a : Asked) (events : List StreamEvent) (rows : List Row) (first old now : ℕ) → now ≡ old → AreBoundedBy due a.schema a.queries events rows first old → AreBoundedBy due a.schema a.queries events rows first now
-  bounded_same a events rows first old now same bounded = subst (λ (n : ℕ). AreBoundedBy due a.schema a.queries events rows first n) (sym same) bounded
+  bounded_same : (a : Asked) (events : List StreamEvent) (rows : List Row) (first old now : ℕ) → now ≤ old → AreBoundedBy timing a.schema a.queries events rows first old → AreBoundedBy timing a.schema a.queries events rows first now
+  bounded_same a events rows first old now less bounded = λ most meet. let b = bounded most meet in omega (arith, less, b)
 
   halts : (earlier : List StreamEvent) {T : Type 0} (a : Asked) (lines : List ℕ) (before middle after : Option (List ℕ)) (held written : List ℕ) (old new : ℕ) (events : List StreamEvent) (halt : Stop) (rows : List Row) (end result : Result T (OrMemory StreamFault)) (first now : ℕ) → length earlier ≤ length events →
-      RunsAfter earlier a.schema a.queries a.most_bytes lines events halt → AreRowsAfter (length earlier) a.order a.schema a.queries events rows → written ++ held ≡ lines_of rows → AreBoundedBy due a.schema a.queries events rows first now →
+      RunsAfter earlier a.schema a.queries a.most_bytes lines events halt → AreRowsAfter (length earlier) a.order a.schema a.queries events rows → written ++ held ≡ lines_of rows → AreBoundedBy timing a.schema a.queries events rows first now →
       TookAll before middle written → Finished middle after old new held end result → (a.order ≡ Walk → (held ≡ []) × (result ≡ end)) →
-      (CountsAllAfter due earlier a lines (λ h. h ≡ halt) (TookAll before after) first now → StepsOverAfter due earlier a lines before after first now end) → StepsOverAfter due earlier a lines before after first now result
+      (CountsAllAfter timing earlier a lines (λ h. h ≡ halt) (TookAll before after) first now → StepsOverAfter timing earlier a lines before after first now end) → StepsOverAfter timing earlier a lines before after first now result
   halts earlier a lines before middle after held written old new events halt rows end result first now behind runs are_rows same bounded took finished walk well =
       steps_end earlier a lines before middle after held old new end result first now finished walk (counts_whole earlier a lines events rows first now behind (whole_run earlier a lines events halt runs) are_rows bounded)
       (λ all. well (stopped earlier a lines before middle after held written events halt rows first now runs are_rows same bounded took all))
 
   pub steps_at_end : (earlier : List StreamEvent) {T : Type 0} (a : Asked) (source : Option (List ℕ)) (lines : List ℕ) (old_reader reader : LineReader) (had left before middle after : Option (List ℕ)) (held : List ℕ) (old new : ℕ) (engine now_engine : State) (done : T) (result : Result T (OrMemory StreamFault)) (first before_steps now : ℕ) →
-      source ≡ Some lines → reader.budget ≡ a.most_bytes → (c : Counted due earlier a source old_reader had before middle held engine first before_steps) →
-      AfterCall earlier a.schema a.queries reader engine now_engine (λ bytes. HasTakenAfter earlier a.schema a.queries old_reader bytes had c.running.events) left c.running.events (Ok taken.End) → now ≡ before_steps →
-      Finished middle after old new held (Ok done) result → (a.order ≡ Walk → (held ≡ []) × (result ≡ Ok done)) → StepsOverAfter due earlier a lines before after first now result
+      source ≡ Some lines → reader.budget ≡ a.most_bytes → (c : Counted timing earlier a source old_reader had before middle held engine first before_steps) →
+      AfterCall earlier a.schema a.queries reader engine now_engine (λ bytes. HasTakenAfter earlier a.schema a.queries old_reader bytes had c.running.events) left c.running.events (Ok taken.End) → now ≤ before_steps →
+      Finished middle after old new held (Ok done) result → (a.order ≡ Walk → (held ≡ []) × (result ≡ Ok done)) → StepsOverAfter timing earlier a lines before after first now result
   steps_at_end earlier a source lines old_reader reader had left before middle after held old new engine now_engine done result first before_steps now told budget c took same finished walk =
       let runs = runs_as earlier a reader.budget lines c.running.events stop.End budget (took.1 lines (c.running.taken lines told)) in
       halts earlier a lines before middle after held c.running.written old new c.running.events stop.End c.rows (Ok done) result first now c.running.behind runs c.are_rows c.lines
       (bounded_same a c.running.events c.rows first before_steps now same c.bounded) c.running.took finished walk (λ all. all)
 
-  pub steps_by : (earlier : List StreamEvent) {T : Type 0} (a : Asked) (source : Option (List ℕ)) (lines : List ℕ) (old_reader reader : LineReader) (had left before middle after : Option (List ℕ)) (held : List ℕ) (old new : ℕ) (engine now_engine : State) (why : OrMemory RunFault) (result : Result T (OrMemory StreamFault)) (first before_steps now : ℕ) →
-      source ≡ Some lines → reader.budget ≡ a.most_bytes → old_reader.budget ≡ a.most_bytes → engine.schema ≡ a.schema → engine.queries ≡ a.queries → (c : Counted due earlier a source old_reader had before middle held engine first before_steps) →
+  pub steps_by : (earlier : List StreamEvent) {T : Type 0} (a : Asked) (source : Option (List ℕ)) (lines : List ℕ) (old_reader reader : LineReader) (had left before middle after : Option (List ℕ)) (held : List ℕ) (old new : ℕ) (engine now_engine : State) (why : OrMemory RunFault) (result : Result T (OrMemory StreamFault)) (first before_steps had_by now : ℕ) →
+      source ≡ Some lines → reader.budget ≡ a.most_bytes → old_reader.budget ≡ a.most_bytes → engine.schema ≡ a.schema → engine.queries ≡ a.queries → (c : Counted timing earlier a source old_reader had before middle held engine first (before_steps + had_by)) →
       AfterCall earlier a.schema a.queries reader engine now_engine (λ bytes. HasTakenAfter earlier a.schema a.queries old_reader bytes had c.running.events) left c.running.events (Err why) → TakesSteps (update_bounds now_engine) before_steps now (Err why) →
       OnMemory {T = Taken} (Err why) (WantsSteps engine.schema engine.queries c.running.events (λ next. (bytes : List ℕ) → HasTakenAfter earlier engine.schema engine.queries old_reader bytes had c.running.events → BeginsRunAfter earlier engine.schema engine.queries reader.budget bytes (c.running.events ++ next ∷ [])) before_steps now) →
-      Finished middle after old new held (Err (stream_fault why)) result → (a.order ≡ Walk → (held ≡ []) × (result ≡ Err (stream_fault why))) → StepsOverAfter due earlier a lines before after first now result
-  steps_by earlier a source lines old_reader reader had left before middle after held old new engine now_engine Memory result first before_steps now told budget same_budget same alike c took steps wants finished walk =
+      Finished middle after old new held (Err (stream_fault why)) result → (a.order ≡ Walk → (held ≡ []) × (result ≡ Err (stream_fault why))) → StepsOverAfter timing earlier a lines before after first now result
+  steps_by earlier a source lines old_reader reader had left before middle after held old new engine now_engine Memory result first before_steps had_by now told budget same_budget same alike c took steps wants finished walk =
       let begun = begins_so earlier a source old_reader had c.running.events same_budget c.running.taken lines told in
       let Wants : Declared → List Query → Type 0 = λ s qs. WantsSteps s qs c.running.events (λ next. (bytes : List ℕ) → HasTakenAfter earlier s qs old_reader bytes had c.running.events → BeginsRunAfter earlier s qs reader.budget bytes (c.running.events ++ next ∷ [])) before_steps now in
       let w : Wants a.schema a.queries = subst (λ (qs : List Query). Wants a.schema qs) alike (subst (λ (s : Declared). Wants s engine.queries) same wants) in
-      let counts : CountsAfter due earlier a lines first now = elim w [
-        | inl none ↦ counts_whole earlier a lines c.running.events c.rows first now c.running.behind begun c.are_rows (bounded_same a c.running.events c.rows first before_steps now none c.bounded)
-        | inr some ↦ counts_wanting earlier a lines c.running.events some.0 c.rows first before_steps now c.running.behind
+      let counts : CountsAfter timing earlier a lines first now = elim w [
+        | inl none ↦ counts_whole earlier a lines c.running.events c.rows first now c.running.behind begun c.are_rows (bounded_same a c.running.events c.rows first (before_steps + had_by) now (omega (arith, none)) c.bounded)
+        | inr some ↦ counts_wanting earlier a lines c.running.events some.0 c.rows first before_steps had_by now c.running.behind
             (subst (λ n. BeginsRunAfter earlier a.schema a.queries n lines (c.running.events ++ some.0 ∷ [])) budget (some.1 lines (c.running.taken lines told))) c.are_rows c.bounded some.2
       ] in
       steps_end earlier a lines before middle after held old new (Err Memory) result first now finished walk counts (λ all. counts)
-  steps_by earlier a source lines old_reader reader had left before middle after held old new engine now_engine (Fault run.ReadFault) result first before_steps now told budget same_budget same alike c took steps wants finished walk =
+  steps_by earlier a source lines old_reader reader had left before middle after held old new engine now_engine (Fault run.ReadFault) result first before_steps had_by now told budget same_budget same alike c took steps wants finished walk =
       let begun = begins_so earlier a source old_reader had c.running.events same_budget c.running.taken lines told in
-      let counts = counts_whole earlier a lines c.running.events c.rows first now c.running.behind begun c.are_rows (bounded_same a c.running.events c.rows first before_steps now steps c.bounded) in
+      let counts = counts_whole earlier a lines c.running.events c.rows first now c.running.behind begun c.are_rows (bounded_same a c.running.events c.rows first (before_steps + had_by) now (omega (arith, steps)) c.bounded) in
       steps_end earlier a lines before middle after held old new (Err (Fault fault.ReadFault)) result first now finished walk counts (λ all. counts)
-  steps_by earlier a source lines old_reader reader had left before middle after held old new engine now_engine (Fault (run.Event line refusal)) result first before_steps now told budget same_budget same alike c took steps wants finished walk =
+  steps_by earlier a source lines old_reader reader had left before middle after held old new engine now_engine (Fault (run.Event line refusal)) result first before_steps had_by now told budget same_budget same alike c took steps wants finished walk =
       let runs = runs_as earlier a reader.budget lines c.running.events (stop.Event line refusal) budget (took.1 lines (c.running.taken lines told)) in
       halts earlier a lines before middle after held c.running.written old new c.running.events (stop.Event line refusal) c.rows (Err (Fault (fault.Event line refusal))) result first now c.running.behind runs c.are_rows c.lines
-      (bounded_same a c.running.events c.rows first before_steps now steps c.bounded) c.running.took finished walk (λ all. all)
-  steps_by earlier a source lines old_reader reader had left before middle after held old new engine now_engine (Fault (run.InputTooLong most)) result first before_steps now told budget same_budget same alike c took steps wants finished walk =
+      (bounded_same a c.running.events c.rows first (before_steps + had_by) now (omega (arith, steps)) c.bounded) c.running.took finished walk (λ all. all)
+  steps_by earlier a source lines old_reader reader had left before middle after held old new engine now_engine (Fault (run.InputTooLong most)) result first before_steps had_by now told budget same_budget same alike c took steps wants finished walk =
       let runs = runs_as earlier a reader.budget lines c.running.events (stop.InputTooLong most) budget (took.1 lines (c.running.taken lines told)) in
       halts earlier a lines before middle after held c.running.written old new c.running.events (stop.InputTooLong most) c.rows (Err (Fault (fault.InputTooLong most))) result first now c.running.behind runs c.are_rows c.lines
-      (bounded_same a c.running.events c.rows first before_steps now steps c.bounded) c.running.took finished walk (λ all. all)
+      (bounded_same a c.running.events c.rows first (before_steps + had_by) now (omega (arith, steps)) c.bounded) c.running.took finished walk (λ all. all)
 
   -- memory ran out while the answers of an event were put
   pub steps_for_memory : (earlier : List StreamEvent) {T : Type 0} (a : Asked) (source : Option (List ℕ)) (lines : List ℕ) (reader : LineReader) (left before middle later after : Option (List ℕ)) (held now_held : List ℕ) (old new : ℕ) (engine : State) → (o : Owing earlier a source reader left before middle held engine) →
-      (rows more : List Row) (first before_steps seen now : ℕ) (result : Result T (OrMemory StreamFault)) → source ≡ Some lines → reader.budget ≡ a.most_bytes → engine.schema ≡ a.schema → engine.queries ≡ a.queries →
+      (rows more : List Row) (first before_steps had mid seen now : ℕ) (result : Result T (OrMemory StreamFault)) → source ≡ Some lines → reader.budget ≡ a.most_bytes → engine.schema ≡ a.schema → engine.queries ≡ a.queries →
       AreRowsAt a.order a.schema 1 a.queries (o.events ++ o.next ∷ []) (length (o.events ++ o.next ∷ []) - 1) more → AreRowsAfter (length earlier) a.order a.schema a.queries o.events rows → o.written ++ held ≡ lines_of rows →
-      AreBoundedBy due a.schema a.queries o.events rows first before_steps → seen ≤ before_steps + update_bounds engine → now ≤ seen + cursor_bounds engine + row_delays more →
-      Finished later after old new now_held (Err Memory) result → (a.order ≡ Walk → (now_held ≡ []) × (result ≡ Err Memory)) → StepsOverAfter due earlier a lines before after first now result
-  steps_for_memory earlier a source lines reader left before middle later after held now_held old new engine o rows more first before_steps seen now result told budget same alike are_more are_rows so_far bounded took put finished walk =
+      AreBoundedBy timing a.schema a.queries o.events rows first (before_steps + had) → seen ≤ before_steps + update_bounds engine → now ≤ seen + cursor_bounds engine + row_delays more →
+      ((most : ℕ → ℕ) → MeetMost a.schema a.queries (o.events ++ o.next ∷ []) most → event_bound (length a.queries) most + mid ≤ had + pace timing.every (length a.queries) most) →
+      Finished later after old new now_held (Err Memory) result → (a.order ≡ Walk → (now_held ≡ []) × (result ≡ Err Memory)) → StepsOverAfter timing earlier a lines before after first now result
+  steps_for_memory earlier a source lines reader left before middle later after held now_held old new engine o rows more first before_steps had mid seen now result told budget same alike are_more are_rows so_far bounded took put paid finished walk =
       let all = o.events ++ o.next ∷ [] in
       let begun = begins_so earlier a source reader left all budget o.taken lines told in
       let counts = counts_whole earlier a lines all (rows ++ more) first now (let long = length-append o.events (o.next ∷ []) in let b = o.behind in omega (arith, long, b)) begun (rows_after_grow_at_last (length earlier) a.order a.schema a.queries o.events o.next rows more o.behind are_rows are_more)
-      (bounded_more a engine o.events o.next rows more first before_steps seen now same alike o.stands bounded took put) in
+      (bounded_more a engine o.events o.next rows more first before_steps had mid seen now same alike o.stands bounded took put paid) in
       steps_end earlier a lines before later after now_held old new (Err Memory) result first now finished walk counts (λ taken. counts)
 
   -- memory ran out while the engine was compacted
-  pub steps_for_compaction : (earlier : List StreamEvent) {T : Type 0} (a : Asked) (source : Option (List ℕ)) (lines : List ℕ) (reader : LineReader) (left before middle after : Option (List ℕ)) (held : List ℕ) (old new : ℕ) (engine : State) (result : Result T (OrMemory StreamFault)) (first now : ℕ) →
-      source ≡ Some lines → reader.budget ≡ a.most_bytes → Counted due earlier a source reader left before middle held engine first now → Finished middle after old new held (Err Memory) result →
-      (a.order ≡ Walk → (held ≡ []) × (result ≡ Err Memory)) → StepsOverAfter due earlier a lines before after first now result
-  steps_for_compaction earlier a source lines reader left before middle after held old new engine result first now told budget c finished walk =
+  pub steps_for_compaction : (earlier : List StreamEvent) {T : Type 0} (a : Asked) (source : Option (List ℕ)) (lines : List ℕ) (reader : LineReader) (left before middle after : Option (List ℕ)) (held : List ℕ) (old new : ℕ) (engine : State) (result : Result T (OrMemory StreamFault)) (first all now : ℕ) →
+      source ≡ Some lines → reader.budget ≡ a.most_bytes → now ≤ all → Counted timing earlier a source reader left before middle held engine first all → Finished middle after old new held (Err Memory) result →
+      (a.order ≡ Walk → (held ≡ []) × (result ≡ Err Memory)) → StepsOverAfter timing earlier a lines before after first now result
+  steps_for_compaction earlier a source lines reader left before middle after held old new engine result first all now told budget less c finished walk =
       let begun = begins_so earlier a source reader left c.running.events budget c.running.taken lines told in
-      let counts = counts_whole earlier a lines c.running.events c.rows first now c.running.behind begun c.are_rows c.bounded in
+      let counts = counts_whole earlier a lines c.running.events c.rows first now c.running.behind begun c.are_rows (bounded_same a c.running.events c.rows first all now less c.bounded) in
       steps_end earlier a lines before middle after held old new (Err Memory) result first now finished walk counts (λ taken. counts)
 
   -- the answer whose line was not written is one of its position
@@ -366,16 +384,18 @@ module _ (due : ℕ → Bool) where
 
   -- a write failed meanwhile
   counts_up_to : (earlier : List StreamEvent) (a : Asked) (source : Option (List ℕ)) (lines : List ℕ) (reader : LineReader) (left before middle after : Option (List ℕ)) (held : List ℕ) (engine : State) → (o : Owing earlier a source reader left before middle held engine) →
-      (rows more : List Row) (first before_steps seen now : ℕ) → BeginsRunAfter earlier a.schema a.queries a.most_bytes lines (o.events ++ o.next ∷ []) → engine.schema ≡ a.schema → engine.queries ≡ a.queries → held ≡ [] →
+      (rows more : List Row) (first before_steps had mid seen now : ℕ) → BeginsRunAfter earlier a.schema a.queries a.most_bytes lines (o.events ++ o.next ∷ []) → engine.schema ≡ a.schema → engine.queries ≡ a.queries → held ≡ [] →
       AreRowsAt a.order a.schema 1 a.queries (o.events ++ o.next ∷ []) (length (o.events ++ o.next ∷ []) - 1) more → AreRowsAfter (length earlier) a.order a.schema a.queries o.events rows → o.written ++ held ≡ lines_of rows →
-      AreBoundedBy due a.schema a.queries o.events rows first before_steps → seen ≤ before_steps + update_bounds engine → StopsAmong middle after more (seen + cursor_bounds engine) now → CountsUpToAfter due earlier a lines before after first now
-  counts_up_to earlier a source lines reader left before middle after held engine o rows more first before_steps seen now begun same alike none are_more are_rows so_far bounded took s =
+      AreBoundedBy timing a.schema a.queries o.events rows first (before_steps + had) → seen ≤ before_steps + update_bounds engine →
+      ((most : ℕ → ℕ) → MeetMost a.schema a.queries (o.events ++ o.next ∷ []) most → event_bound (length a.queries) most + mid ≤ had + pace timing.every (length a.queries) most) →
+      StopsAmong middle after more (seen + cursor_bounds engine) now → CountsUpToAfter timing earlier a lines before after first now
+  counts_up_to earlier a source lines reader left before middle after held engine o rows more first before_steps had mid seen now begun same alike none are_more are_rows so_far bounded took paid s =
       let all = o.events ++ o.next ∷ [] in
       let P : List Row → Type 0 = AreRowsAfter (length earlier) a.order a.schema a.queries all in
       let whole : rows ++ more ≡ (rows ++ s.whole) ++ s.one ∷ s.later = ap (λ (l : List Row). rows ++ l) s.rows_are ∙ sym (append_assoc rows s.whole (s.one ∷ s.later)) in
       let written : o.written ≡ lines_of rows = sym (append-nil o.written) ∙ (ap (λ (l : List ℕ). o.written ++ l) (sym none) ∙ so_far) in
       let count : length all ≡ length o.events + 1 = length-append o.events (o.next ∷ []) in
-      let B : List Row → Type 0 = λ r. AreBoundedBy due a.schema a.queries all r first now in record {
+      let B : List Row → Type 0 = λ r. AreBoundedBy timing a.schema a.queries all r first now in record {
         events = all;
         more = begun.more;
         stop = begun.stop;
@@ -388,21 +408,23 @@ module _ (due : ℕ → Bool) where
         middle = s.middle;
         took = subst (TookAll before s.middle) (sym (lines_both rows s.whole)) (took_both before middle s.middle (lines_of rows) (lines_of s.whole) (subst (TookAll before middle) written o.took) s.took);
         part = s.part;
-        bounded = subst B (sym (append_assoc rows s.whole (s.one ∷ []))) (bounded_more a engine o.events o.next rows (s.whole ++ s.one ∷ []) first before_steps seen now same alike o.stands bounded took s.steps);
+        bounded = subst B (sym (append_assoc rows s.whole (s.one ∷ []))) (bounded_more a engine o.events o.next rows (s.whole ++ s.one ∷ []) first before_steps had mid seen now same alike o.stands bounded took s.steps paid);
       }
 
   pub steps_for_fault : (earlier : List StreamEvent) (a : Asked) (source : Option (List ℕ)) (lines : List ℕ) (reader : LineReader) (left before middle after : Option (List ℕ)) (held : List ℕ) (engine : State) → (o : Owing earlier a source reader left before middle held engine) →
-      (rows more : List Row) (first before_steps seen now : ℕ) (order : Order) → source ≡ Some lines → reader.budget ≡ a.most_bytes → engine.schema ≡ a.schema → engine.queries ≡ a.queries → order ≡ a.order →
+      (rows more : List Row) (first before_steps had mid seen now : ℕ) (order : Order) → source ≡ Some lines → reader.budget ≡ a.most_bytes → engine.schema ≡ a.schema → engine.queries ≡ a.queries → order ≡ a.order →
       AreRowsAt a.order a.schema 1 a.queries (o.events ++ o.next ∷ []) (length (o.events ++ o.next ∷ []) - 1) more → AreRowsAfter (length earlier) a.order a.schema a.queries o.events rows → o.written ++ held ≡ lines_of rows →
-      AreBoundedBy due a.schema a.queries o.events rows first before_steps → seen ≤ before_steps + update_bounds engine → StepsAtFault order middle after more (seen + cursor_bounds engine) now → (a.order ≡ Walk → held ≡ []) →
-      CountsAtFaultAfter due earlier a.order a lines before after first now
-  steps_for_fault earlier a source lines reader left before middle after held engine o rows more first before_steps seen now order told budget same alike is are_more are_rows so_far bounded took put none =
+      AreBoundedBy timing a.schema a.queries o.events rows first (before_steps + had) → seen ≤ before_steps + update_bounds engine →
+      ((most : ℕ → ℕ) → MeetMost a.schema a.queries (o.events ++ o.next ∷ []) most → event_bound (length a.queries) most + mid ≤ had + pace timing.every (length a.queries) most) →
+      StepsAtFault order middle after more (seen + cursor_bounds engine) now → (a.order ≡ Walk → held ≡ []) →
+      CountsAtFaultAfter timing earlier a.order a lines before after first now
+  steps_for_fault earlier a source lines reader left before middle after held engine o rows more first before_steps had mid seen now order told budget same alike is are_more are_rows so_far bounded took paid put none =
       over a.order refl (subst (λ (x : Order). StepsAtFault x middle after more (seen + cursor_bounds engine) now) is put)
     where
-      over : (x : Order) → a.order ≡ x → StepsAtFault x middle after more (seen + cursor_bounds engine) now → CountsAtFaultAfter due earlier x a lines before after first now
+      over : (x : Order) → a.order ≡ x → StepsAtFault x middle after more (seen + cursor_bounds engine) now → CountsAtFaultAfter timing earlier x a lines before after first now
       over Walk walk steps =
-          counts_up_to earlier a source lines reader left before middle after held engine o rows more first before_steps seen now (begins_so earlier a source reader left (o.events ++ o.next ∷ []) budget o.taken lines told) same alike (none walk)
-          are_more are_rows so_far bounded took steps
+          counts_up_to earlier a source lines reader left before middle after held engine o rows more first before_steps had mid seen now (begins_so earlier a source reader left (o.events ++ o.next ∷ []) budget o.taken lines told) same alike (none walk)
+          are_more are_rows so_far bounded took paid steps
       over Sorted sorted steps =
           counts_whole earlier a lines (o.events ++ o.next ∷ []) (rows ++ more) first now (let long = length-append o.events (o.next ∷ []) in let b = o.behind in omega (arith, long, b)) (begins_so earlier a source reader left (o.events ++ o.next ∷ []) budget o.taken lines told) (rows_after_grow_at_last (length earlier) a.order a.schema a.queries o.events o.next rows more o.behind are_rows are_more)
-          (bounded_more a engine o.events o.next rows more first before_steps seen now same alike o.stands bounded took steps)
+          (bounded_more a engine o.events o.next rows more first before_steps had mid seen now same alike o.stands bounded took steps paid)

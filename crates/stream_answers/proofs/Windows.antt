@@ -1,5 +1,5 @@
 -- The nodes of an engine that is compacted after every so many events, from event to event.
-use Rattle.std.proofs.Common.{◌≡◌, ℕ, zero, suc, ◌+◌, ◌-◌, ◌<◌, ◌≤◌, ◌⊎◌, inl, inr, cond, Bool, true, false, List, [], ◌∷◌, ◌++◌, take, length, refl, sym, ap, subst, ◌∙◌, Option, Some, Result, Ok, Err, slice_get, arith, length-append}
+use Rattle.std.proofs.Common.{◌≡◌, ℕ, zero, suc, ◌+◌, ◌-◌, ◌<◌, ◌≤◌, ◌⊎◌, inl, inr, cond, Bool, true, false, List, [], ◌∷◌, ◌++◌, take, length, refl, sym, ap, subst, ◌∙◌, Option, Some, None, Result, Ok, Err, slice_get, arith, length-append}
 use Rattle.std.specs.Prelude.{max, OnOk}
 use Rattle.std.specs.Prelude.{nat_lt, ◌&&◌}
 use Rattle.std.proofs.lemmas.Bool.{cases_Bool, cases_lt, ltb-true}
@@ -12,7 +12,7 @@ use Rattle.query_engine.specs.Clocks.{HasClockAt, IsLastClock}
 use Rattle.query_engine.specs.Engine.{State, Open, StandsFor, SameQueries, found_of, len_of, peak_of}
 use Rattle.query_engine.specs.Windows.{IsBoundedBy, IsReadFrom, IsDense, FollowsWindow, IsRecentAt, FollowsWindowSince, HasAdded}
 use Rattle.query_engine.proofs.DenseNodes.{dense_follows}
-use Rattle.query_engine.proofs.Windows.{bounded_on, event_keeps_dense, event_keeps_window, compacted_follows_window, first_follows_window, recent_inside}
+use Rattle.query_engine.proofs.Windows.{bounded_on, event_keeps_dense, event_keeps_window, compacted_follows_window, first_follows_window, clock_inside, recent_inside}
 use Rattle.stream_answers.specs.Windows.{is_due, is_due_after, last_of, HasPeak, FollowsEvents, FollowsWindowsBy}
 
 -- WHEN A COMPACTION IS DUE
@@ -40,13 +40,14 @@ windows_at_first due engine stands =
     let first = first_follows_window engine stands in
     record { dense = first.0; nodes = first.1; peaks = λ k q at. inl (omega arith) }
 
--- how it is told, by the number of earlier events
-pub due_first : (every : Option ℕ) (first events : ℕ) (b : Bool) → first ≡ 0 → b ≡ is_due every events → b ≡ is_due_after every first events
-due_first every first events b none is = subst (λ (n : ℕ). b ≡ is_due_after every n events) (sym none) is
+-- without a number none ever is
+never : (b : Bool) → (b && false) ≡ false
+never true = refl
+never false = refl
 
-pub due_behind : (every : Option ℕ) (first events : ℕ) (b : Bool) → (first ≡ 0 → ⊥) → b ≡ (nat_lt first events && is_due every (events - first)) → b ≡ is_due_after every first events
-due_behind every zero events b some is = absurd (some refl)
-due_behind every (suc n) events b some is = is
+pub never_due : (first events : ℕ) → is_due_after None first events ≡ false
+never_due zero events = refl
+never_due (suc n) events = never (nat_lt (suc n) events)
 
 -- after earlier events none is due up to the last of these
 not_less : (n m : ℕ) → n ≤ m → nat_lt m n ≡ false
@@ -66,18 +67,18 @@ last_none every (suc k) (suc n) le =
     none_due (nat_lt (suc k) (suc n)) (is_due every (suc n - suc k)) (suc n) (last_of (is_due_after every (suc k)) n) (not_less (suc n) (suc k) le)
     ∙ last_none every (suc k) n (omega arith)
 
-pub windows_behind : (every : Option ℕ) (peaks : ℕ → ℕ) (engine : State) (events : List Event) → FollowsEvents peaks engine events →
-    FollowsWindowsBy (is_due_after every (length events)) peaks (last_of (is_due_after every (length events)) (length events)) events engine
-windows_behind every peaks engine events f = record {
+pub windows_behind : (every : Option ℕ) (first : ℕ) (peaks : ℕ → ℕ) (engine : State) (events : List Event) → first ≡ length events → FollowsEvents peaks engine events →
+    FollowsWindowsBy (is_due_after every first) peaks (last_of (is_due_after every first) (length events)) events engine
+windows_behind every first peaks engine events behind f = record {
   dense = f.dense;
-  nodes = subst (λ (n : ℕ). FollowsWindowSince n engine events) (sym (none_until (length events) (omega arith))) (dense_follows engine events f.dense);
+  nodes = subst (λ (n : ℕ). FollowsWindowSince n engine events) (sym (last_none every first (length events) (omega arith))) (dense_follows engine events f.dense);
   peaks = λ k q at. elim (f.peaks_are k q at) [
     | inl was ↦ inl was
     | inr had ↦ inr (record {
       count = length events;
       among = omega arith;
-      nodes = subst (λ (es : List Event). IsBoundedBy (IsRecentAt engine.schema q es (last_of (is_due_after every (length events)) (length events - 1))) engine (k + 1) (peak_of engine (k + 1))) (sym (take_all (length events) events (omega arith))) (
-          subst (λ (n : ℕ). IsBoundedBy (IsRecentAt engine.schema q events n) engine (k + 1) (peak_of engine (k + 1))) (sym (none_until (length events - 1) (omega arith))) (record {
+      nodes = subst (λ (es : List Event). IsBoundedBy (IsRecentAt engine.schema q es (last_of (is_due_after every first) (length events - 1))) engine (k + 1) (peak_of engine (k + 1))) (sym (take_all (length events) events (omega arith))) (
+          subst (λ (n : ℕ). IsBoundedBy (IsRecentAt engine.schema q events n) engine (k + 1) (peak_of engine (k + 1))) (sym (last_none every first (length events - 1) (omega arith))) (record {
             positions = had.positions;
             distinct = had.distinct;
             each = All-weaker (IsReadFrom engine.schema q events 0) (IsRecentAt engine.schema q events 0) (λ x r. record { clock = r.clock; has = r.has; recent = inl (omega arith) }) had.positions had.each;
@@ -85,9 +86,7 @@ windows_behind every peaks engine events f = record {
           }));
     })
   ];
-} where
-  none_until : (n : ℕ) → n ≤ length events → last_of (is_due_after every (length events)) n ≡ 0
-  none_until n le = last_none every (length events) n le
+}
 
 -- an engine of no event
 pub follows_none : (engine : State) → StandsFor engine [] → FollowsEvents (peak_of engine) engine []
@@ -165,11 +164,22 @@ windows_due due before old new events event same stands added w =
 
 -- A COMPACTION
 
-nothing_held : (held : List Open) → length held ≡ 0 → held ≡ []
+pub nothing_held : (held : List Open) → length held ≡ 0 → held ≡ []
 nothing_held [] none = refl
 nothing_held (c ∷ held) none = absurd (omega arith)
 
--- it is made, with no cursor held
+-- the peaks are as they were
+peaks_stay : (due : ℕ → Bool) (before : ℕ → ℕ) (first : ℕ) (old new : State) (events : List Event) → SameQueries old new → ((query : ℕ) → found_of new query ≡ found_of old query) → ((query : ℕ) → peak_of new query ≡ peak_of old query) →
+    FollowsWindowsBy due before first events old → (k : ℕ) (q : Query) → slice_get new.queries k ≡ Some q → (peak_of new (k + 1) ≤ before (k + 1)) ⊎ HasPeak due events new k q
+peaks_stay due before first old new events same found peak w k q at =
+    let states = found (k + 1) in
+    let most = peak (k + 1) in
+    elim (w.peaks k q (subst (λ (qs : List Query). slice_get qs k ≡ Some q) same.1 at)) [
+      | inl was ↦ inl (omega arith)
+      | inr had ↦ inr (subst (λ (es : List Event). HasPeak due es new k q) (append-nil events) (peak_on due old new events [] k q same.0 (omega arith) (omega arith) had))
+    ]
+
+-- it is made of all, with no cursor held
 pub windows_compacted : (due : ℕ → Bool) (before : ℕ → ℕ) (first : ℕ) (old new : State) (held : List Open) (events : List Event) → due (length events) ≡ true → length held ≡ 0 → SameQueries old new → ((query : ℕ) → found_of new query ≡ found_of old query) →
     ((query : ℕ) → peak_of new query ≡ peak_of old query) → StandsFor new events → IsDense new events → FollowsWindow new events held → FollowsWindowsBy due before first events old → FollowsWindowsBy due before (last_of due (length events)) events new
 windows_compacted due before first old new held events has_come none same found peak stands dense window w =
@@ -177,15 +187,55 @@ windows_compacted due before first old new held events has_come none same found 
     record {
       dense = dense;
       nodes = subst (λ (n : ℕ). FollowsWindowSince n new events) (sym (last_now due (length events) has_come)) (compacted_follows_window new events stands left);
-      peaks = λ k q at. (
-          let states = found (k + 1) in
-          let most = peak (k + 1) in
-          elim (w.peaks k q (subst (λ (qs : List Query). slice_get qs k ≡ Some q) same.1 at)) [
-            | inl was ↦ inl (omega arith)
-            | inr had ↦ inr (subst (λ (es : List Event). HasPeak due es new k q) (append-nil events) (peak_on due old new events [] k q same.0 (omega arith) (omega arith) had))
-          ]
-          );
+      peaks = peaks_stay due before first old new events same found peak w;
     }
+
+-- it is made of some, and none of all is due
+pub windows_kept : (due : ℕ → Bool) (before : ℕ → ℕ) (first : ℕ) (old new : State) (events : List Event) → SameQueries old new → ((query : ℕ) → found_of new query ≡ found_of old query) → ((query : ℕ) → peak_of new query ≡ peak_of old query) →
+    ((query : ℕ) → len_of new query ≤ len_of old query) → IsDense new events → FollowsWindowsBy due before first events old → FollowsWindowsBy due before first events new
+windows_kept due before first old new events same found peak fewer dense w = record {
+  dense = dense;
+  nodes = λ k q at. (
+      let states = found (k + 1) in
+      let Are : ℕ → Type 0 = IsRecentAt old.schema q events first in
+      subst (λ (s : Declared). IsBoundedBy (IsRecentAt s q events first) new (k + 1) (len_of new (k + 1))) (sym same.0) (
+      bounded_on Are Are old new (k + 1) (len_of old (k + 1)) (len_of new (k + 1)) (length events) (λ x r. r) (λ x r. recent_inside old.schema q events first x r) (omega arith) (inl (fewer (k + 1)))
+      (w.nodes k q (subst (λ (qs : List Query). slice_get qs k ≡ Some q) same.1 at)))
+      );
+  peaks = peaks_stay due before first old new events same found peak w;
+}
+
+-- an engine that goes on after it
+pub follows_kept : (peaks : ℕ → ℕ) (old new : State) (events : List Event) → SameQueries old new → ((query : ℕ) → found_of new query ≡ found_of old query) → ((query : ℕ) → peak_of new query ≡ peak_of old query) →
+    StandsFor new events → IsDense new events → FollowsEvents peaks old events → FollowsEvents peaks new events
+follows_kept peaks old new events same found peak stands dense f = record {
+  stands = stands;
+  dense = dense;
+  peaks_are = λ k q at. (
+      let states = found (k + 1) in
+      let most = peak (k + 1) in
+      let Are : ℕ → Type 0 = IsReadFrom old.schema q events 0 in
+      elim (f.peaks_are k q (subst (λ (qs : List Query). slice_get qs k ≡ Some q) same.1 at)) [
+        | inl was ↦ inl (omega arith)
+        | inr had ↦ inr (subst (λ (s : Declared). IsBoundedBy (IsReadFrom s q events 0) new (k + 1) (peak_of new (k + 1))) (sym same.0) (
+            bounded_on Are Are old new (k + 1) (peak_of old (k + 1)) (peak_of new (k + 1)) (length events) (λ x r. r) (λ x r. clock_inside old.schema q events x r.clock r.has) (omega arith) (inl (omega arith)) had))
+      ]
+      );
+}
+
+-- none is due
+pub windows_stay : (due : ℕ → Bool) (engine : State) (count : ℕ) → ((events : List Event) → StandsFor engine events → count ≡ length events) → due count ≡ false →
+    (before : ℕ → ℕ) (events : List Event) → StandsFor engine events → FollowsWindowsBy due before (last_of due (length events - 1)) events engine → FollowsWindowsBy due before (last_of due (length events)) events engine
+windows_stay due engine count counted none before events stands w =
+    let here : due (length events) ≡ false = subst (λ (n : ℕ). due n ≡ false) (counted events stands) none in
+    subst (λ (n : ℕ). FollowsWindowsBy due before n events engine) (sym (last_stays due (length events) here)) w
+
+-- where none ever is, what keeps them keeps them now
+pub windows_looked : (first : ℕ) (old new : State) → ((due : ℕ → Bool) (before : ℕ → ℕ) (n : ℕ) (events : List Event) → FollowsWindowsBy due before n events old → FollowsWindowsBy due before n events new) →
+    (before : ℕ → ℕ) (events : List Event) → StandsFor old events → FollowsWindowsBy (is_due_after None first) before (last_of (is_due_after None first) (length events - 1)) events old → FollowsWindowsBy (is_due_after None first) before (last_of (is_due_after None first) (length events)) events new
+windows_looked first old new kept before events stands w =
+    let due : ℕ → Bool = is_due_after None first in
+    subst (λ (n : ℕ). FollowsWindowsBy due before n events new) (sym (last_stays due (length events) (never_due first (length events)))) (kept due before (last_of due (length events - 1)) events w)
 
 -- by how the call ended
 pub compaction_follows : {T E : Type 0} (r : Result T E) (due : ℕ → Bool) (old new : State) (held : List Open) (count : ℕ) → ((events : List Event) → StandsFor old events → count ≡ length events) → due count ≡ true → length held ≡ 0 →
@@ -206,13 +256,6 @@ windows_before due before others first events engine less w = record {
   nodes = w.nodes;
   peaks = λ k q at. (let le = less (k + 1) in elim (w.peaks k q at) [ inl was ↦ inl (omega arith) | inr had ↦ inr had ]);
 }
-
--- the same of compactions that are counted from there, by another name
-pub windows_counted : (every : Option ℕ) (first n : ℕ) (old new : State) → first ≡ n →
-    ((before : ℕ → ℕ) (events : List Event) → StandsFor old events → FollowsWindowsBy (is_due_after every first) before (last_of (is_due_after every first) (length events - 1)) events old → FollowsWindowsBy (is_due_after every first) before (last_of (is_due_after every first) (length events)) events new) →
-    (before : ℕ → ℕ) (events : List Event) → StandsFor old events → FollowsWindowsBy (is_due_after every n) before (last_of (is_due_after every n) (length events - 1)) events old → FollowsWindowsBy (is_due_after every n) before (last_of (is_due_after every n) (length events)) events new
-windows_counted every first n old new same follows =
-    subst (λ (m : ℕ). (before : ℕ → ℕ) (events : List Event) → StandsFor old events → FollowsWindowsBy (is_due_after every m) before (last_of (is_due_after every m) (length events - 1)) events old → FollowsWindowsBy (is_due_after every m) before (last_of (is_due_after every m) (length events)) events new) same follows
 
 -- a fact that follows, where all was well
 pub on_ok : {T E : Type 0} (r : Result T E) (P Q : Type 0) → (P → Q) → OnOk r P → OnOk r Q

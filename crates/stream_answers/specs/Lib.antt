@@ -5,3 +5,4 @@ pub mod Steps
 pub mod Gathering
 pub mod Counting
 pub mod AtEnd
+pub mod Schedules

@@ -1,4 +1,4 @@
--- How many steps a run takes: of each event and query twice the bound of an update and one, of each answer its delay, and of each compaction and query nine times the bound of an update for each event so far.
+-- How many steps a run takes: of each event and query twice the bound of an update and one, of each answer its delay, and of each compaction and query nine times the bound of an update for each event so far. Where queries are compacted as they grow, 29 times the bound of an update and one of each event and query, in which their compactions are.
 use Rattle.std.specs.Prelude.{◌≡◌, ℕ, ◌+◌, ◌*◌, ◌≤◌, Bool, cond, List, [], ◌∷◌, ◌++◌, length, map, sum, Option, Some, None, Result}
 use Rattle.std.specs.List.{range_with_len}
 use Rattle.cer_base.specs.declared.OrMemory.{OrMemory}
@@ -16,6 +16,7 @@ use Rattle.event_run.specs.Runs.{Stop, RunsAfter}
 use Rattle.stream_answers.specs.declared.StreamFault.{StreamFault}
 use Rattle.stream_answers.specs.Ends.{Said, ByEnd}
 use Rattle.stream_answers.specs.Streams.{Asked}
+use Rattle.stream_answers.specs.Schedules.{Timing, due_by, pace}
 pub use Rattle.stream_answers.specs.Windows.{is_due}
 
 -- the steps of the compaction after so many events, none where none is due
@@ -30,24 +31,28 @@ compaction_at every queries most events = compaction_by (is_due every) queries m
 abbrev pub compactions : (ℕ → Bool) → ℕ → (ℕ → ℕ) → ℕ → ℕ
 compactions due queries most events = sum (map (compaction_by due queries most) (range_with_len 1 events))
 
--- for so many events, the answers of these rows, and the compactions
-abbrev pub run_bound : (ℕ → Bool) → ℕ → (ℕ → ℕ) → ℕ → List Row → ℕ
-run_bound due queries most events rows = events * event_bound queries most + row_delays rows + compactions due queries most events
+-- for so many events, the answers of these rows, and the compactions of all queries
+abbrev pub run_bound : Timing → ℕ → (ℕ → ℕ) → ℕ → List Row → ℕ
+run_bound timing queries most events rows = events * pace timing.every queries most + row_delays rows + compactions (due_by timing) queries most events
 
 -- However many states of each query the runs over the events meet, the steps are bounded by them.
-abbrev pub AreBoundedBy : (ℕ → Bool) → Declared → List Query → List StreamEvent → List Row → ℕ → ℕ → Type 0
-AreBoundedBy due schema queries events rows before now = (most : ℕ → ℕ) → MeetMost schema queries events most →
-    now ≤ before + run_bound due (length queries) most (length events) rows
+abbrev pub AreBoundedBy : Timing → Declared → List Query → List StreamEvent → List Row → ℕ → ℕ → Type 0
+AreBoundedBy timing schema queries events rows before now = (most : ℕ → ℕ) → MeetMost schema queries events most →
+    now ≤ before + run_bound timing (length queries) most (length events) rows
 
--- the same where a compaction is due after every N-th event
+-- the same where all events count
 abbrev pub AreBounded : Option ℕ → Declared → List Query → List StreamEvent → List Row → ℕ → ℕ → Type 0
-AreBounded every schema queries events rows before now = AreBoundedBy (is_due every) schema queries events rows before now
+AreBounded every schema queries events rows before now = AreBoundedBy (record { every = every; first = 0 }) schema queries events rows before now
 
 -- WHAT COMES AFTER OTHER EVENTS
 -- `earlier` are events that came before; `events` are these and then those of the file, and all of them count.
 
+-- The steps of events alone, which are taken before a schedule begins: no cursor is opened on their answers that is counted apart, and no compaction is made.
+abbrev pub AreOfEvents : Declared → List Query → List StreamEvent → ℕ → ℕ → Type 0
+AreOfEvents schema queries events before now = (most : ℕ → ℕ) → MeetMost schema queries events most → now ≤ before + length events * event_bound (length queries) most
+
 -- The steps are bounded by the events, those before and those that the queries take of a file of these bytes, and by the rows of the output after those before.
-pub record CountsAllAfter (due : ℕ → Bool) (earlier : List StreamEvent) (a : Asked) (lines : List ℕ) (Stops : Stop → Type 0) (Took : List ℕ → Type 0) (before now : ℕ) : Type 0 where
+pub record CountsAllAfter (timing : Timing) (earlier : List StreamEvent) (a : Asked) (lines : List ℕ) (Stops : Stop → Type 0) (Took : List ℕ → Type 0) (before now : ℕ) : Type 0 where
   pub events : List StreamEvent
   pub stop : Stop
   pub runs : RunsAfter earlier a.schema a.queries a.most_bytes lines events stop
@@ -55,14 +60,14 @@ pub record CountsAllAfter (due : ℕ → Bool) (earlier : List StreamEvent) (a :
   pub rows : List Row
   pub are_rows : AreRowsAfter (length earlier) a.order a.schema a.queries events rows
   pub took : Took (lines_of rows)
-  pub bounded : AreBoundedBy due a.schema a.queries events rows before now
+  pub bounded : AreBoundedBy timing a.schema a.queries events rows before now
 
 -- whatever ended the run, and whatever was written
-abbrev pub CountsAfter : (ℕ → Bool) → List StreamEvent → Asked → List ℕ → ℕ → ℕ → Type 0
-CountsAfter due earlier a lines before now = CountsAllAfter due earlier a lines (λ halt. Unit {0}) (λ bytes. Unit {0}) before now
+abbrev pub CountsAfter : Timing → List StreamEvent → Asked → List ℕ → ℕ → ℕ → Type 0
+CountsAfter timing earlier a lines before now = CountsAllAfter timing earlier a lines (λ halt. Unit {0}) (λ bytes. Unit {0}) before now
 
 -- A write failed in walk order, at the line of one of the answers: they are bounded by the events up to its position, and by that answer and those whose lines were taken.
-pub record CountsUpToAfter (due : ℕ → Bool) (earlier : List StreamEvent) (a : Asked) (lines : List ℕ) (before after : Option (List ℕ)) (old now : ℕ) : Type 0 where
+pub record CountsUpToAfter (timing : Timing) (earlier : List StreamEvent) (a : Asked) (lines : List ℕ) (before after : Option (List ℕ)) (old now : ℕ) : Type 0 where
   pub events : List StreamEvent
   pub more : List StreamEvent
   pub stop : Stop
@@ -75,12 +80,12 @@ pub record CountsUpToAfter (due : ℕ → Bool) (earlier : List StreamEvent) (a 
   pub middle : Option (List ℕ)
   pub took : TookAll before middle (lines_of whole)
   pub part : TookPart middle after (row_line one)
-  pub bounded : AreBoundedBy due a.schema a.queries events (whole ++ one ∷ []) old now
+  pub bounded : AreBoundedBy timing a.schema a.queries events (whole ++ one ∷ []) old now
 
 -- where a write failed, by the order of the lines
-abbrev pub CountsAtFaultAfter : (ℕ → Bool) → List StreamEvent → Order → Asked → List ℕ → Option (List ℕ) → Option (List ℕ) → ℕ → ℕ → Type 0
-CountsAtFaultAfter due earlier Walk a lines before after old now = CountsUpToAfter due earlier a lines before after old now
-CountsAtFaultAfter due earlier Sorted a lines before after old now = CountsAfter due earlier a lines old now
+abbrev pub CountsAtFaultAfter : Timing → List StreamEvent → Order → Asked → List ℕ → Option (List ℕ) → Option (List ℕ) → ℕ → ℕ → Type 0
+CountsAtFaultAfter timing earlier Walk a lines before after old now = CountsUpToAfter timing earlier a lines before after old now
+CountsAtFaultAfter timing earlier Sorted a lines before after old now = CountsAfter timing earlier a lines old now
 
 -- How the steps are bounded by what passes for the stop and what was taken of the lines, by how it ended: where it ended by itself these are its stop and all that was written.
 abbrev pub counts_said : ((Stop → Type 0) → (List ℕ → Type 0) → Type 0) → Type 0 → Option (List ℕ) → Option (List ℕ) → Said
@@ -92,19 +97,19 @@ counts_said All AtFault before after = record {
 }
 
 -- the steps of a run over a file of these bytes
-abbrev pub StepsOverAfter : (ℕ → Bool) → List StreamEvent → Asked → List ℕ → Option (List ℕ) → Option (List ℕ) → ℕ → ℕ → {T : Type 0} → Result T (OrMemory StreamFault) → Type 0
-StepsOverAfter due earlier a lines before after old now result =
-    ByEnd (counts_said (λ Stops Took. CountsAllAfter due earlier a lines Stops Took old now) (CountsAtFaultAfter due earlier a.order a lines before after old now) before after) None result
+abbrev pub StepsOverAfter : Timing → List StreamEvent → Asked → List ℕ → Option (List ℕ) → Option (List ℕ) → ℕ → ℕ → {T : Type 0} → Result T (OrMemory StreamFault) → Type 0
+StepsOverAfter timing earlier a lines before after old now result =
+    ByEnd (counts_said (λ Stops Took. CountsAllAfter timing earlier a lines Stops Took old now) (CountsAtFaultAfter timing earlier a.order a lines before after old now) before after) None result
 
 -- THE SAME WITH NO EVENT BEFORE
 
 -- The steps are bounded by the events that the queries take of a file of these bytes, and by the rows of their output.
 abbrev pub CountsAll : Option ℕ → Asked → List ℕ → (Stop → Type 0) → (List ℕ → Type 0) → ℕ → ℕ → Type 0
-CountsAll every a lines Stops Took before now = CountsAllAfter (is_due every) [] a lines Stops Took before now
+CountsAll every a lines Stops Took before now = CountsAllAfter (record { every = every; first = 0 }) [] a lines Stops Took before now
 
 abbrev pub CountsAtFault : Option ℕ → Order → Asked → List ℕ → Option (List ℕ) → Option (List ℕ) → ℕ → ℕ → Type 0
-CountsAtFault every order a lines before after old now = CountsAtFaultAfter (is_due every) [] order a lines before after old now
+CountsAtFault every order a lines before after old now = CountsAtFaultAfter (record { every = every; first = 0 }) [] order a lines before after old now
 
 -- by how the run ended
 abbrev pub StepsOver : Option ℕ → Asked → List ℕ → Option (List ℕ) → Option (List ℕ) → ℕ → ℕ → {T : Type 0} → Result T (OrMemory StreamFault) → Type 0
-StepsOver every a lines before after old now result = StepsOverAfter (is_due every) [] a lines before after old now result
+StepsOver every a lines before after old now result = StepsOverAfter (record { every = every; first = 0 }) [] a lines before after old now result

@@ -1,5 +1,5 @@
 -- What has been written of the answers over the events of a source, which may come after others, by how it ended.
-use Rattle.std.specs.Prelude.{◌≡◌, ℕ, Bool, List, [], length, Option, Some, Result}
+use Rattle.std.specs.Prelude.{◌≡◌, ℕ, List, [], length, Option, Some, Result}
 use Rattle.cer_base.specs.declared.OrMemory.{OrMemory}
 use Rattle.cer_outside.specs.Bytes.{TookAll, TookPart}
 use Rattle.stream_schema.specs.Types.{Declared}
@@ -12,7 +12,8 @@ use Rattle.query_engine.specs.Engine.{State, StandsFor}
 use Rattle.event_run.specs.Runs.{Stop, RunsAfter}
 use Rattle.event_run.specs.Runs as stop
 use Rattle.event_run.specs.Taking.{AreEventsReadAfter}
-use Rattle.stream_answers.specs.Windows.{is_due, last_of, FollowsWindowsBy}
+use Rattle.stream_answers.specs.Windows.{last_of, FollowsWindowsBy}
+use Rattle.stream_answers.specs.Schedules.{Timing, due_by, WithNoNumber, KeepsUp}
 use Rattle.stream_answers.specs.declared.RunOptions.{RunOptions}
 use Rattle.stream_answers.specs.declared.StreamFault.{StreamFault}
 use Rattle.stream_answers.specs.Ends.{Said, ByEnd}
@@ -52,12 +53,13 @@ pub record WroteOverAfter (earlier : List StreamEvent) (a : Asked) (source : Opt
   pub took : TookAll old new bytes
   pub are : (lines : List ℕ) → source ≡ Some lines → Are lines events
 
--- The engine stands for exactly the events before and those that the queries take of a file of these bytes, which is read to its end. It was compacted where that was due, and its nodes follow the windows; these were its peaks before.
-pub record StandsForAllAfter (due : ℕ → Bool) (peaks : ℕ → ℕ) (earlier : List StreamEvent) (a : Asked) (lines : List ℕ) (engine : State) : Type 0 where
+-- The engine stands for exactly the events before and those that the queries take of a file of these bytes, which is read to its end. It was compacted where that was due, and its nodes follow the windows; these were its peaks before. Where its queries are compacted as they grow, each is kept small.
+pub record StandsForAllAfter (timing : Timing) (peaks : ℕ → ℕ) (earlier : List StreamEvent) (a : Asked) (lines : List ℕ) (engine : State) : Type 0 where
   pub events : List StreamEvent
   pub runs : RunsAfter earlier a.schema a.queries a.most_bytes lines events stop.End
   pub stands : StandsFor engine events
-  pub windows : FollowsWindowsBy due peaks (last_of due (length events)) events engine
+  pub windows : FollowsWindowsBy (due_by timing) peaks (last_of (due_by timing) (length events)) events engine
+  pub keeps_up : WithNoNumber timing.every (KeepsUp engine events)
 
 -- it took those over all events that the queries take, which stop so
 abbrev pub WroteAllAfter : List StreamEvent → Asked → Option (List ℕ) → Stop → Option (List ℕ) → Option (List ℕ) → Type 0
@@ -92,9 +94,9 @@ AreAnswersOver a lines bytes = AreAnswersAfter [] a lines bytes
 abbrev pub WroteOver : Asked → Option (List ℕ) → (List ℕ → List StreamEvent → Type 0) → Option (List ℕ) → Option (List ℕ) → Type 0
 WroteOver a source Are old new = WroteOverAfter [] a source Are old new
 
--- The engine stands for exactly the events that the queries take of a file of these bytes, which is read to its end. It was compacted after every so many of them, and its nodes follow the windows; these were its peaks before.
+-- The engine stands for exactly the events that the queries take of a file of these bytes, which is read to its end. It was compacted after every so many of them, and its nodes follow the windows; these were its peaks before. Without such a number its queries are kept small.
 abbrev pub StandsForAll : Option ℕ → (ℕ → ℕ) → Asked → List ℕ → State → Type 0
-StandsForAll every peaks a lines engine = StandsForAllAfter (is_due every) peaks [] a lines engine
+StandsForAll every peaks a lines engine = StandsForAllAfter (record { every = every; first = 0 }) peaks [] a lines engine
 
 abbrev pub WroteAll : Asked → Option (List ℕ) → Stop → Option (List ℕ) → Option (List ℕ) → Type 0
 WroteAll a source stop old new = WroteAllAfter [] a source stop old new

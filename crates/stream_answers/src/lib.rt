@@ -11,19 +11,22 @@
 #![tactic(auto)]
 
 mod output;
+pub mod schedule;
 mod stream;
 
 use answer_text::Order;
 use event_reader::EventFault;
 pub use output::Output;
-pub use stream::{compact_if_due, finish, stream_fault, write_answers, write_answers_after};
+pub use schedule::Schedule;
+pub use stream::{finish, stream_fault, write_answers, write_answers_after};
 
 /// What a run is told besides its queries and its events.
 #[derive(Drop, Clone, Copy)]
 pub struct RunOptions {
     /// The order of the lines of one position and query.
     pub order: Order,
-    /// The engine is compacted after every so many events; without a number, or with 0, it never is.
+    /// The engine is compacted after every so many events, and with 0 never; without a number each of its
+    /// queries is compacted once it has grown enough.
     pub compact_every: Option<u64>,
     /// So many bytes of events are too many.
     pub most_bytes: u64,

@@ -6,12 +6,15 @@ ghost use Rattle.event_reader.specs.Reading.{HasGiven};
 ghost use Rattle.query_engine.specs.Engine.{StandsFor, SameQueries, count_of, len_of, peak_of};
 ghost use Rattle.query_engine.specs.Counts.{MeetMost, HasFewNodes};
 ghost use Rattle.stream_answers.specs.Gathering.{Finished, stream_fault};
-ghost use Rattle.stream_answers.specs.Steps.{AreBoundedBy, StepsOver, StepsOverAfter, compaction_by};
-ghost use Rattle.stream_answers.specs.Windows.{is_due, is_due_after, last_of, FollowsEvents, FollowsWindowsBy};
+ghost use Rattle.stream_answers.specs.Counting.{HasBegun};
+ghost use Rattle.stream_answers.specs.Schedules.{saved, WithNoNumber};
+ghost use Rattle.stream_answers.specs.Steps.{AreBoundedBy, AreOfEvents, StepsOver, StepsOverAfter};
+ghost use Rattle.stream_answers.specs.Windows.{FollowsEvents};
 ghost use Rattle.stream_answers.specs.Ends.{HasReadCause, HasWriteCause};
 ghost use Rattle.stream_answers.specs.Streams.{asked_by, WroteStream, WroteStreamAfter, StandsForAll, StandsForAllAfter};
 
 use crate::output::Output;
+use crate::schedule::Schedule;
 use crate::{RunOptions, StreamFault};
 use cer_base::steps::Steps;
 use cer_base::{Memory, OrMemory};
@@ -90,16 +93,16 @@ pub fn write_answers_after<Q: Source, K: Sink, L: Ledger>(
         (Q.left source.old) (Q.left source.new) (K.taken out.old) (K.taken out.new) result }
     ensures steps { (peaks : ℕ → ℕ) (earlier : List Event) (begun : ℕ)
         → FollowsEvents peaks engine.old earlier
-        → AreBoundedBy (is_due_after options.compact_every (length earlier)) engine.old.schema
-        engine.old.queries earlier [] begun steps.old
+        → AreOfEvents engine.old.schema engine.old.queries earlier begun steps.old
         → (bytes : List ℕ) → Q.left source.old ≡ Some bytes
-        → StepsOverAfter (is_due_after options.compact_every (length earlier)) earlier (asked_by
-        options engine.old) bytes (K.taken out.old) (K.taken out.new) begun steps.new result }
+        → StepsOverAfter (record { every = options.compact_every; first = length earlier }) earlier
+        (asked_by options engine.old) bytes (K.taken out.old) (K.taken out.new) begun steps.new
+        result }
     ensures stands { OnOk result ((peaks : ℕ → ℕ) (earlier : List Event)
         → FollowsEvents peaks engine.old earlier
         → (bytes : List ℕ) → Q.left source.old ≡ Some bytes
-        → StandsForAllAfter (is_due_after options.compact_every (length earlier)) peaks earlier
-        (asked_by options engine.old) bytes engine.new) }
+        → StandsForAllAfter (record { every = options.compact_every; first = length earlier }) peaks
+        earlier (asked_by options engine.old) bytes engine.new) }
     ensures same { SameQueries engine.old engine.new }
     ensures read_cause { HasReadCause (Q.faults source.old) (Q.faults source.new) result }
     ensures write_cause { HasWriteCause (K.faults out.old) (K.faults out.new) result }
@@ -110,12 +113,16 @@ pub fn write_answers_after<Q: Source, K: Sink, L: Ledger>(
     };
     let mut row = Row::new(alloc);
     let mut output = Output::new(alloc, options.order);
+    let mut schedule = match Schedule::new(alloc, options.compact_every, engine, steps) {
+        Ok(schedule) => schedule,
+        Err(Memory) => return Err(OrMemory::Memory),
+    };
     answer_events(
         alloc,
         &mut lines,
         &mut row,
         &mut output,
-        options.compact_every,
+        &mut schedule,
         engine,
         source,
         out,
@@ -129,7 +136,7 @@ fn answer_events<Q: Source, K: Sink, L: Ledger>(
     lines: &mut Lines,
     row: &mut Row,
     output: &mut Output,
-    compact_every: Option<u64>,
+    schedule: &mut Schedule,
     engine: &mut Engine,
     source: &mut Q,
     out: &mut K,
@@ -139,7 +146,10 @@ fn answer_events<Q: Source, K: Sink, L: Ledger>(
     requires room { count_of engine.old + lines.old.budget < 2 ^ 64 }
     requires given { (bytes : List ℕ) → HasGiven lines.old bytes (Some bytes) [] }
     requires empty { output.old.held ≡ [] }
-    ensures wrote { (peaks : ℕ → ℕ) (earlier : List Event) → FollowsEvents peaks engine.old earlier
+    requires bases { WithNoNumber schedule.old.timing.every (length schedule.old.bases
+        ≡ length engine.old.queries) }
+    ensures wrote { (peaks : ℕ → ℕ) (earlier : List Event)
+        → HasBegun schedule.old peaks earlier engine.old
         → WroteStreamAfter earlier (record {
           order = output.old.order;
           schema = engine.old.schema;
@@ -148,20 +158,20 @@ fn answer_events<Q: Source, K: Sink, L: Ledger>(
         })
         (Q.left source.old) (Q.left source.new) (K.taken out.old) (K.taken out.new) result }
     ensures steps { (peaks : ℕ → ℕ) (earlier : List Event) (begun : ℕ)
-        → FollowsEvents peaks engine.old earlier
-        → AreBoundedBy (is_due_after compact_every (length earlier)) engine.old.schema
-        engine.old.queries earlier [] begun steps.old
+        → HasBegun schedule.old peaks earlier engine.old
+        → AreBoundedBy schedule.old.timing engine.old.schema engine.old.queries earlier [] begun
+        (steps.old + saved schedule.old engine.old)
         → (bytes : List ℕ) → Q.left source.old ≡ Some bytes
-        → StepsOverAfter (is_due_after compact_every (length earlier)) earlier (record {
+        → StepsOverAfter schedule.old.timing earlier (record {
           order = output.old.order;
           schema = engine.old.schema;
           queries = engine.old.queries;
           most_bytes = lines.old.budget;
         }) bytes (K.taken out.old) (K.taken out.new) begun steps.new result }
     ensures stands { OnOk result ((peaks : ℕ → ℕ) (earlier : List Event)
-        → FollowsEvents peaks engine.old earlier
+        → HasBegun schedule.old peaks earlier engine.old
         → (bytes : List ℕ) → Q.left source.old ≡ Some bytes
-        → StandsForAllAfter (is_due_after compact_every (length earlier)) peaks earlier (record {
+        → StandsForAllAfter schedule.old.timing peaks earlier (record {
           order = output.old.order;
           schema = engine.old.schema;
           queries = engine.old.queries;
@@ -171,7 +181,6 @@ fn answer_events<Q: Source, K: Sink, L: Ledger>(
     ensures read_cause { HasReadCause (Q.faults source.old) (Q.faults source.new) result }
     ensures write_cause { HasWriteCause (K.faults out.old) (K.faults out.new) result }
 {
-    let first = engine.events();
     loop {
         match take_event(alloc, lines, row, source, engine, steps) {
             Ok(Taken::Event) => {}
@@ -185,61 +194,11 @@ fn answer_events<Q: Source, K: Sink, L: Ledger>(
                 return Err(OrMemory::Fault(StreamFault::WriteFault));
             }
         }
-        match compact_if_due(compact_every, first, engine, steps) {
+        match schedule.keep_up(engine, steps) {
             Ok(()) => {}
             Err(Memory) => return finish(output, out, Err(OrMemory::Memory)),
         }
     }
-}
-
-/// Whether the engine is compacted after so many events.
-fn is_due(every: Option<u64>, events: u64) -> bool
-    ensures { result ≡ is_due every events }
-{
-    match every {
-        Some(n) => n > 0 && events % n == 0,
-        None => false,
-    }
-}
-
-/// Whether a compaction is due after so many events, of which the first so many do not count.
-fn is_due_after(every: Option<u64>, first: u64, events: u64) -> bool
-    ensures { result ≡ is_due_after every first events }
-{
-    if first == 0 {
-        return is_due(every, events);
-    }
-    first < events && is_due(every, events - first)
-}
-
-/// Compacts the engine where it has taken so many events after the first that it is due. After
-/// `Memory` it is as it was.
-pub fn compact_if_due<L: Ledger>(
-    every: Option<u64>,
-    first: u64,
-    engine: &mut Engine,
-    steps: &mut Steps<L>,
-) -> Result<(), Memory>
-    ensures stands { (events : List Event) → StandsFor engine.old events
-        → StandsFor engine.new events }
-    ensures same { SameQueries engine.old engine.new }
-    ensures count { count_of engine.new ≡ count_of engine.old }
-    ensures fewer { (query : ℕ) → len_of engine.new query ≤ len_of engine.old query }
-    ensures windows { OnOk result ((before : ℕ → ℕ) (events : List Event) → StandsFor engine.old
-        events → FollowsWindowsBy (is_due_after every first) before
-        (last_of (is_due_after every first) (length events - 1)) events engine.old
-        → FollowsWindowsBy (is_due_after every first) before
-        (last_of (is_due_after every first) (length events)) events engine.new) }
-    ensures steps { (events : List Event) (most : ℕ → ℕ) → StandsFor engine.old events
-        → MeetMost engine.old.schema engine.old.queries events most
-        → HasFewNodes engine.old (length events) most → steps.new ≤ steps.old
-        + compaction_by (is_due_after every first) (length engine.old.queries) most
-        (length events) }
-{
-    if !is_due_after(every, first, engine.events()) {
-        return Ok(());
-    }
-    engine.compact(&mut [], steps)
 }
 
 /// Why no further event was taken.

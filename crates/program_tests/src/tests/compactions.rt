@@ -1,11 +1,12 @@
-//! Runs that compact the engine after every so many events: the same answers, and fewer nodes.
+//! Runs that compact the engine after every so many events, or each query once it has grown: the same
+//! answers, and fewer nodes.
 
 use super::rows::{PLAIN, rows_hold};
 use core_calls::left::left_by;
 use std::alloc::{AllocError, Global};
 use std::test::*;
 
-/// All runs of A so far: the same lines whether the engine is compacted after each event, or never.
+/// All runs of A so far: the same lines whether the engine is compacted after each event, or as it grows.
 const ALL_RUNS: &str = "\
 words | formula | events | output
 run q e | A+ | A,1 / A,2 / A,3 | 1 [0,0] {0} / 1 [0,1] {0,1} / 1 [1,1] {1} / 1 [0,2] {0,1,2} / 1 [0,2] {0,2} / 1 [1,2] {1,2} / 1 [2,2] {2}
@@ -25,6 +26,14 @@ const BACK: &str = "SELECT * FROM S WHERE A+ WITHIN 1 EVENTS\n";
 /// So many events are given to it.
 const EVENTS: u64 = 4000;
 
+/// So many, where it is compacted once it has grown.
+const MANY_EVENTS: u64 = 14_000;
+
+/// What is kept of the query then, in nodes, of which a key counts as eight: at most 8192; twice what
+/// its window needed after some event, in which two were, each with 256 nodes and a key, and one key
+/// more; and what came since it was looked at, which was at most 16 events ago.
+const KEPT: u64 = 8192 + 2 * (2 * (256 + 8) + 8) + 16 * (256 + 8);
+
 /// The nodes that a call of these words leaves, over the query and these events.
 fn nodes_after(
     alloc: Global,
@@ -34,6 +43,15 @@ fn nodes_after(
 ) -> Result<Option<(u64, u64)>, AllocError> {
     let queries = format!(in alloc; "{PLAIN}{BACK}")?;
     left_by(alloc, words, queries.as_bytes(), events, runtime)
+}
+
+/// So many events for it.
+fn some_events(alloc: Global, count: u64) -> Result<String, AllocError> {
+    let mut events = String::new(alloc);
+    for _ in 0..count {
+        events.push_str("A,1\n")?;
+    }
+    Ok(events)
 }
 
 #[test]
@@ -48,12 +66,9 @@ fn answers_stay(rt: HostRuntime) -> Result<(), Fail> {
 #[test]
 fn nodes_go(rt: HostRuntime) -> Result<(), Fail> {
     let alloc = rt.alloc();
-    let mut events = String::new(alloc);
-    for _ in 0..EVENTS {
-        events.push_str("A,1\n")?;
-    }
+    let events = some_events(alloc, EVENTS)?;
     let events = events.as_bytes();
-    let Some((left, most)) = nodes_after(alloc, "run q e", events, &rt)? else {
+    let Some((left, most)) = nodes_after(alloc, "run q e --compact-every 5000", events, &rt)? else {
         return Err(Fail::new("no engine is left"));
     };
     assert!(rt; left >= EVENTS && most >= EVENTS);
@@ -71,5 +86,23 @@ fn nodes_go(rt: HostRuntime) -> Result<(), Fail> {
     assert!(rt; nodes_after(alloc, "reorder q e w 0", events, &rt)?.is_none());
     assert!(rt; nodes_after(alloc, "run q f", events, &rt)?.is_none());
     assert!(rt; nodes_after(alloc, "sample 0 3", events, &rt)?.is_none());
+    Ok(())
+}
+
+/// Without a number the query is compacted by itself: each event adds a node at least, and there are
+/// more events than nodes are kept.
+#[test]
+fn a_query_that_has_grown_is_compacted(rt: HostRuntime) -> Result<(), Fail> {
+    let alloc = rt.alloc();
+    let events = some_events(alloc, MANY_EVENTS)?;
+    let events = events.as_bytes();
+    let Some((left, _)) = nodes_after(alloc, "run q e", events, &rt)? else {
+        return Err(Fail::new("no engine is left"));
+    };
+    assert!(rt; left <= KEPT);
+    let Some((left, _)) = nodes_after(alloc, "reorder q e v 0", events, &rt)? else {
+        return Err(Fail::new("no engine is left"));
+    };
+    assert!(rt; left <= KEPT);
     Ok(())
 }

@@ -1,12 +1,12 @@
-use Rattle.std.proofs.Common.{ℕ, Bool, length, None, arith}
+use Rattle.std.proofs.Common.{None, arith}
 use Rattle.query_engine.specs.Engine.{peak_of}
-use Rattle.stream_answers.specs.Windows.{is_due_after}
 use Rattle.stream_answers.specs.Steps.{CountsAllAfter, CountsAtFaultAfter, counts_said}
 use Rattle.stream_answers.specs.Streams.{answers_said, asked_by}
 use Rattle.stream_answers.proofs.Wholes.{wrote_none}
 use Rattle.stream_answers.proofs.Totals.{counts_none}
 use Rattle.stream_answers.proofs.Windows.{on_ok}
-use Rattle.command_checkpoint.proofs.Resuming.{follows, paid, bounded_as, wrote_as, steps_as, stands_as, each_ended}
+use Rattle.command_checkpoint.specs.Resumed.{timing_after}
+use Rattle.command_checkpoint.proofs.Resuming.{follows, paid, paid_as, wrote_as, steps_as, stands_as, each_ended}
 use Rattle.command_checkpoint.proofs.resumed.resume_answers.Goals as goal
 
 pub write_answers_after-requires : goal.write_answers_after-requires
@@ -17,7 +17,7 @@ returns-in-Err-clause-wrote g c = λ earlier is. wrote_none earlier _ _ _
 
 pub returns-in-Err-clause-steps : goal.returns-in-Err-clause-steps
 returns-in-Err-clause-steps g c = λ bytes told earlier is.
-    counts_none (is_due_after c.args.options.compact_every (length earlier)) earlier _ bytes c.args.steps.now _ (paid c.args.options.compact_every _ _ earlier c.args.steps.now _ (λ most meet. c.replay.ensures.steps earlier most is meet))
+    counts_none (timing_after c.args.options.compact_every earlier) earlier _ bytes c.args.steps.now _ (paid c.args.options.compact_every _ _ earlier c.args.steps.now _ (λ most meet. c.replay.ensures.steps earlier most is meet))
 
 pub returns-clause-wrote : goal.returns-clause-wrote
 returns-clause-wrote g c =
@@ -29,19 +29,18 @@ returns-clause-wrote g c =
 pub returns-clause-steps : goal.returns-clause-steps
 returns-clause-steps g c = λ bytes told.
     each_ended c.args.engine.now.schema c.args.history.now (λ earlier.
-    let due : ℕ → Bool = is_due_after c.args.options.compact_every (length earlier) in
+    let timing = timing_after c.args.options.compact_every earlier in
     let a = asked_by c.args.options c.args.engine.now in
-    counts_said (λ Stops Took. CountsAllAfter due earlier a bytes Stops Took c.args.steps.now c.write_answers_after.new.steps) (CountsAtFaultAfter due earlier a.order a bytes (g.K.Sink.taken c.args.out.now) (g.K.Sink.taken c.write_answers_after.new.out) c.args.steps.now c.write_answers_after.new.steps)
+    counts_said (λ Stops Took. CountsAllAfter timing earlier a bytes Stops Took c.args.steps.now c.write_answers_after.new.steps) (CountsAtFaultAfter timing earlier a.order a bytes (g.K.Sink.taken c.args.out.now) (g.K.Sink.taken c.write_answers_after.new.out) c.args.steps.now c.write_answers_after.new.steps)
     (g.K.Sink.taken c.args.out.now) (g.K.Sink.taken c.write_answers_after.new.out)) None c.write_answers_after.result (λ earlier is.
-    let due : ℕ → Bool = is_due_after c.args.options.compact_every (length earlier) in
-    let before = paid c.args.options.compact_every c.args.engine.now.schema c.args.engine.now.queries earlier c.args.steps.now c.replay.new.steps (λ most meet. c.replay.ensures.steps earlier most is meet) in
-    steps_as c.args.options c.args.engine.now c.replay.new.engine c.replay.ensures.same earlier due bytes _ _ c.args.steps.now _ _
+    let timing = timing_after c.args.options.compact_every earlier in
+    steps_as c.args.options c.args.engine.now c.replay.new.engine c.replay.ensures.same earlier timing bytes _ _ c.args.steps.now _ _
     (c.write_answers_after.ensures.steps (peak_of c.args.engine.now) earlier c.args.steps.now (follows (peak_of c.args.engine.now) c.args.engine.now.schema c.args.history.now c.replay.new.engine c.in-Ok.ensures.replayed c.in-Ok.ensures.peaks earlier is)
-    (bounded_as c.args.options c.args.engine.now c.replay.new.engine c.replay.ensures.same earlier due c.args.steps.now c.replay.new.steps before) bytes told))
+    (paid_as c.args.options c.args.engine.now c.replay.new.engine c.replay.ensures.same earlier c.args.steps.now c.replay.new.steps (λ most meet. c.replay.ensures.steps earlier most is meet)) bytes told))
 
 pub returns-clause-stands : goal.returns-clause-stands
 returns-clause-stands g c =
     on_ok c.write_answers_after.result _ _ (λ stands bytes told earlier is.
-    stands_as c.args.options c.args.engine.now c.replay.new.engine c.replay.ensures.same earlier (is_due_after c.args.options.compact_every (length earlier)) (peak_of c.args.engine.now) bytes c.write_answers_after.new.engine
+    stands_as c.args.options c.args.engine.now c.replay.new.engine c.replay.ensures.same earlier (timing_after c.args.options.compact_every earlier) (peak_of c.args.engine.now) bytes c.write_answers_after.new.engine
     (stands (peak_of c.args.engine.now) earlier (follows (peak_of c.args.engine.now) c.args.engine.now.schema c.args.history.now c.replay.new.engine c.in-Ok.ensures.replayed c.in-Ok.ensures.peaks earlier is) bytes told))
     c.write_answers_after.ensures.stands

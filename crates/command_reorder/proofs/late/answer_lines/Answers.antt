@@ -4,7 +4,7 @@ use Rattle.stream_schema.specs.Types.{Declared}
 use Rattle.stream_schema.specs.Events.{IsOfSchema}
 use Rattle.stream_schema.specs.declared.Event.{Event}
 use Rattle.cer_outside.specs.Causes.{Rose}
-use Rattle.query_engine.specs.Engine.{count_of, peak_of}
+use Rattle.query_engine.specs.Engine.{count_of}
 use Rattle.reorder_gate.specs.Gates.{Held}
 use Rattle.stream_answers.specs.Ends.{HasReadCause, HasWriteCause}
 use Rattle.command_reorder.specs.Flowing.{AreOfSchema, Flowing}
@@ -25,7 +25,8 @@ loop-lines-init g c =
       same = (refl, refl);
       read_faults = refl;
       write_faults = refl;
-      runs = λ a fresh. starts c.args.compact_every a (g.Q.Source.left c.args.source.now) (g.K.Sink.taken c.args.out.now) c.args.lines.now c.args.gate.now c.args.output.now c.args.engine.now c.args.steps.now fresh;
+      bases = c.requires.bases;
+      runs = λ every peaks a first fresh. starts every c.args.schedule.now peaks a (g.Q.Source.left c.args.source.now) (g.K.Sink.taken c.args.out.now) c.args.lines.now c.args.gate.now c.args.output.now c.args.engine.now first c.args.steps.now fresh;
     }
 
 pub put_line-requires-clause-open : goal.put_line-requires-clause-open
@@ -46,12 +47,12 @@ answer_rest-requires-clause-counted g c =
     rw (room.0, c.number.ensures, room.1) c.loop-lines.invariant.counted
 
 pub returns-in-Ok-false-clause-closed : goal.returns-in-Ok-false-clause-closed
-returns-in-Ok-false-clause-closed g c = λ a fresh.
-    let r = c.loop-lines.invariant.runs a fresh in
+returns-in-Ok-false-clause-closed g c = λ every peaks a first fresh.
+    let r = c.loop-lines.invariant.runs every peaks a first fresh in
     let room = rw c.in-Ok-false.field-0-test at c.in-Ok-false.ensures.room in
     let feeds = (rw c.in-Ok-false.field-0-test at c.in-Ok-false.ensures.put) a (g.Q.Source.left c.args.source.now) r.put r.flowing.gone r.flowing.sits (sym r.flowing.schema ∙ sym c.schema.ensures) (sym r.most_bytes) r.flowing.gate_stands r.fed in
-    let P : Held → Type 0 = λ h. Flowing c.args.compact_every (peak_of c.args.engine.now) a (g.Q.Source.left c.args.source.now) r.put h c.loop-lines.output c.loop-lines.engine (g.K.Sink.taken c.args.out.now) (g.K.Sink.taken c.loop-lines.out) c.args.steps.now c.loop-lines.steps in
-    c.answer_rest.ensures.closed (peak_of c.args.engine.now) a (g.Q.Source.left c.args.source.now) (g.Q.Source.left c.put_line.new.source) (g.K.Sink.taken c.args.out.now) r.put c.args.steps.now (subst P (sym room.0) r.flowing) feeds
+    let P : Held → Type 0 = λ h. Flowing every c.loop-lines.schedule peaks a (g.Q.Source.left c.args.source.now) r.put h c.loop-lines.output c.loop-lines.engine (g.K.Sink.taken c.args.out.now) (g.K.Sink.taken c.loop-lines.out) first c.loop-lines.steps in
+    c.answer_rest.ensures.closed every peaks a (g.Q.Source.left c.args.source.now) (g.Q.Source.left c.put_line.new.source) (g.K.Sink.taken c.args.out.now) r.put first (subst P (sym room.0) r.flowing) feeds
 
 pub returns-in-Ok-false-clause-read_cause : goal.returns-in-Ok-false-clause-read_cause
 returns-in-Ok-false-clause-read_cause g c =
@@ -66,13 +67,13 @@ returns-in-Ok-false-clause-write_cause g c =
 -- A LINE THAT STOPS THE FEED
 
 pub returns-in-Err-clause-closed : goal.returns-in-Err-clause-closed
-returns-in-Err-clause-closed g c = λ a fresh.
-    let r = c.loop-lines.invariant.runs a fresh in
+returns-in-Err-clause-closed g c = λ every peaks a first fresh.
+    let r = c.loop-lines.invariant.runs every peaks a first fresh in
     let told = g.Q.Source.left c.args.source.now in
     let put = c.in-Err.ensures.put a told r.put r.flowing.gone r.flowing.sits (sym r.flowing.schema ∙ sym c.schema.ensures) (sym r.most_bytes) r.flowing.gate_stands r.fed in
-    c.close.ensures.closed c.args.compact_every (peak_of c.args.engine.now) a told (g.Q.Source.left c.put_line.new.source) (g.K.Sink.taken c.args.out.now) c.loop-lines.engine c.args.steps.now c.loop-lines.steps (
-    ends_at_line c.args.compact_every (peak_of c.args.engine.now) a told c.loop-lines.lines c.put_line.new.lines (g.Q.Source.left c.loop-lines.source) (g.Q.Source.left c.put_line.new.source) c.loop-lines.gate c.put_line.new.gate c.loop-lines.output c.loop-lines.engine
-    (g.K.Sink.taken c.args.out.now) (g.K.Sink.taken c.loop-lines.out) c.args.steps.now c.loop-lines.steps c.in-Err.stop r put)
+    c.close.ensures.closed every peaks a told (g.Q.Source.left c.put_line.new.source) (g.K.Sink.taken c.args.out.now) c.loop-lines.engine first c.loop-lines.steps (
+    ends_at_line every c.loop-lines.schedule peaks a told c.loop-lines.lines c.put_line.new.lines (g.Q.Source.left c.loop-lines.source) (g.Q.Source.left c.put_line.new.source) c.loop-lines.gate c.put_line.new.gate c.loop-lines.output c.loop-lines.engine
+    (g.K.Sink.taken c.args.out.now) (g.K.Sink.taken c.loop-lines.out) first c.loop-lines.steps c.in-Err.stop r put)
 
 pub returns-in-Err-clause-read_cause : goal.returns-in-Err-clause-read_cause
 returns-in-Err-clause-read_cause g c =
@@ -96,14 +97,14 @@ release-requires-clause-counted g c =
     omega (arith, room.2, room.3, counted, number)
 
 pub returns-in-Err-release-clause-closed : goal.returns-in-Err-release-clause-closed
-returns-in-Err-release-clause-closed g c = λ a fresh.
-    let r = c.loop-lines.invariant.runs a fresh in
+returns-in-Err-release-clause-closed g c = λ every peaks a first fresh.
+    let r = c.loop-lines.invariant.runs every peaks a first fresh in
     let told = g.Q.Source.left c.args.source.now in
     let put = (rw c.in-Ok-true.field-0-test at c.in-Ok-true.ensures.put) a told r.put r.flowing.gone r.flowing.sits (sym r.flowing.schema ∙ sym c.schema.ensures) (sym r.most_bytes) r.flowing.gate_stands r.fed in
-    let f = line_flows c.args.compact_every (peak_of c.args.engine.now) a told c.loop-lines.lines c.put_line.new.lines (g.Q.Source.left c.loop-lines.source) (g.Q.Source.left c.put_line.new.source) c.loop-lines.gate c.put_line.new.gate c.loop-lines.output c.loop-lines.engine
-    (g.K.Sink.taken c.args.out.now) (g.K.Sink.taken c.loop-lines.out) c.args.steps.now c.loop-lines.steps c.put_line.ensures.budget c.put_line.ensures.going (c.put_line.ensures.sits a r.flowing.sits) r put in
-    c.close-in-Err-release.ensures.closed c.args.compact_every (peak_of c.args.engine.now) a told (g.Q.Source.left c.put_line.new.source) (g.K.Sink.taken c.args.out.now) c.release.new.engine c.args.steps.now c.release.new.steps
-    (c.in-Err-release.ensures.released (peak_of c.args.engine.now) a told put.0 (g.K.Sink.taken c.args.out.now) c.args.steps.now f (g.Q.Source.left c.put_line.new.source))
+    let f = line_flows every c.loop-lines.schedule peaks a told c.loop-lines.lines c.put_line.new.lines (g.Q.Source.left c.loop-lines.source) (g.Q.Source.left c.put_line.new.source) c.loop-lines.gate c.put_line.new.gate c.loop-lines.output c.loop-lines.engine
+    (g.K.Sink.taken c.args.out.now) (g.K.Sink.taken c.loop-lines.out) first c.loop-lines.steps c.put_line.ensures.budget c.put_line.ensures.going (c.put_line.ensures.sits a r.flowing.sits) r put in
+    c.close-in-Err-release.ensures.closed every peaks a told (g.Q.Source.left c.put_line.new.source) (g.K.Sink.taken c.args.out.now) c.release.new.engine first c.release.new.steps
+    (c.in-Err-release.ensures.released every peaks a told put.0 (g.K.Sink.taken c.args.out.now) first f (g.Q.Source.left c.put_line.new.source))
 
 pub returns-in-Err-release-clause-read_cause : goal.returns-in-Err-release-clause-read_cause
 returns-in-Err-release-clause-read_cause g c =
@@ -132,19 +133,20 @@ loop-lines-preserved g c =
       going = c.release.ensures.finished ∙ c.put_line.ensures.going;
       counted = subst N c.number-in-loop-lines.ensures c.release.ensures.counted;
       of_schema = c.release.ensures.of_schema;
+      bases = c.release.ensures.bases;
       same = (c.release.ensures.same.0 ∙ inv.same.0, c.release.ensures.same.1 ∙ inv.same.1);
       read_faults = c.in-Ok-true.ensures.cause ∙ inv.read_faults;
       write_faults = c.in-Ok-settle.ensures.cause.well ∙ c.in-Ok.ensures.write_cause ∙ inv.write_faults;
-      runs = λ a fresh.
-          let r = inv.runs a fresh in
+      runs = λ every peaks a first fresh.
+          let r = inv.runs every peaks a first fresh in
           let told = g.Q.Source.left c.args.source.now in
           let put = (rw c.in-Ok-true.field-0-test at c.in-Ok-true.ensures.put) a told r.put r.flowing.gone r.flowing.sits (sym r.flowing.schema ∙ sym c.schema.ensures) (sym r.most_bytes) r.flowing.gate_stands r.fed in
-          let f = line_flows c.args.compact_every (peak_of c.args.engine.now) a told c.loop-lines.lines c.put_line.new.lines (g.Q.Source.left c.loop-lines.source) (g.Q.Source.left c.put_line.new.source) c.loop-lines.gate c.put_line.new.gate c.loop-lines.output c.loop-lines.engine
-          (g.K.Sink.taken c.args.out.now) (g.K.Sink.taken c.loop-lines.out) c.args.steps.now c.loop-lines.steps c.put_line.ensures.budget c.put_line.ensures.going (c.put_line.ensures.sits a r.flowing.sits) r put in
-          let through = c.in-Ok.ensures.released (peak_of c.args.engine.now) a told put.0 (g.K.Sink.taken c.args.out.now) c.args.steps.now f in
+          let f = line_flows every c.loop-lines.schedule peaks a told c.loop-lines.lines c.put_line.new.lines (g.Q.Source.left c.loop-lines.source) (g.Q.Source.left c.put_line.new.source) c.loop-lines.gate c.put_line.new.gate c.loop-lines.output c.loop-lines.engine
+          (g.K.Sink.taken c.args.out.now) (g.K.Sink.taken c.loop-lines.out) first c.loop-lines.steps c.put_line.ensures.budget c.put_line.ensures.going (c.put_line.ensures.sits a r.flowing.sits) r put in
+          let through = c.in-Ok.ensures.released every peaks a told put.0 (g.K.Sink.taken c.args.out.now) first f in
           record {
             put = put.0;
-            flowing = settles c.args.compact_every (peak_of c.args.engine.now) a told put.0 c.release.new.gate c.release.new.output c.settle.new.self c.release.new.engine (g.K.Sink.taken c.args.out.now) (g.K.Sink.taken c.release.new.out) (g.K.Sink.taken c.settle.new.out) c.args.steps.now c.release.new.steps
+            flowing = settles every c.release.new.schedule peaks a told put.0 c.release.new.gate c.release.new.output c.settle.new.self c.release.new.engine (g.K.Sink.taken c.args.out.now) (g.K.Sink.taken c.release.new.out) (g.K.Sink.taken c.settle.new.out) first c.release.new.steps
                 c.settle.ensures.order through.0 c.in-Ok-settle.ensures.kept;
             due = due_open a c.release.new.gate put.0 through.0.gone through.0.sits (c.release.ensures.finished ∙ c.put_line.ensures.going) through.1;
             fed = put.2;
@@ -155,14 +157,14 @@ loop-lines-preserved g c =
 -- A WRITE THAT FAILS
 
 pub returns-in-Err-settle-clause-closed : goal.returns-in-Err-settle-clause-closed
-returns-in-Err-settle-clause-closed g c = λ a fresh.
-    let r = c.loop-lines.invariant.runs a fresh in
+returns-in-Err-settle-clause-closed g c = λ every peaks a first fresh.
+    let r = c.loop-lines.invariant.runs every peaks a first fresh in
     let told = g.Q.Source.left c.args.source.now in
     let put = (rw c.in-Ok-true.field-0-test at c.in-Ok-true.ensures.put) a told r.put r.flowing.gone r.flowing.sits (sym r.flowing.schema ∙ sym c.schema.ensures) (sym r.most_bytes) r.flowing.gate_stands r.fed in
-    let f = line_flows c.args.compact_every (peak_of c.args.engine.now) a told c.loop-lines.lines c.put_line.new.lines (g.Q.Source.left c.loop-lines.source) (g.Q.Source.left c.put_line.new.source) c.loop-lines.gate c.put_line.new.gate c.loop-lines.output c.loop-lines.engine
-    (g.K.Sink.taken c.args.out.now) (g.K.Sink.taken c.loop-lines.out) c.args.steps.now c.loop-lines.steps c.put_line.ensures.budget c.put_line.ensures.going (c.put_line.ensures.sits a r.flowing.sits) r put in
-    let through = c.in-Ok.ensures.released (peak_of c.args.engine.now) a told put.0 (g.K.Sink.taken c.args.out.now) c.args.steps.now f in
-    settles_failing c.args.compact_every (peak_of c.args.engine.now) a told put.0 c.release.new.gate c.release.new.output c.release.new.engine c.release.new.engine (g.Q.Source.left c.put_line.new.source) (g.K.Sink.taken c.args.out.now) (g.K.Sink.taken c.release.new.out) (g.K.Sink.taken c.settle.new.out) c.args.steps.now c.release.new.steps through.0
+    let f = line_flows every c.loop-lines.schedule peaks a told c.loop-lines.lines c.put_line.new.lines (g.Q.Source.left c.loop-lines.source) (g.Q.Source.left c.put_line.new.source) c.loop-lines.gate c.put_line.new.gate c.loop-lines.output c.loop-lines.engine
+    (g.K.Sink.taken c.args.out.now) (g.K.Sink.taken c.loop-lines.out) first c.loop-lines.steps c.put_line.ensures.budget c.put_line.ensures.going (c.put_line.ensures.sits a r.flowing.sits) r put in
+    let through = c.in-Ok.ensures.released every peaks a told put.0 (g.K.Sink.taken c.args.out.now) first f in
+    settles_failing every c.release.new.schedule peaks a told put.0 c.release.new.gate c.release.new.output c.release.new.engine c.release.new.engine (g.Q.Source.left c.put_line.new.source) (g.K.Sink.taken c.args.out.now) (g.K.Sink.taken c.release.new.out) (g.K.Sink.taken c.settle.new.out) first c.release.new.steps through.0
     c.in-Err-settle.ensures.part (λ none. let ok = c.in-Err-settle.ensures.none none in cc)
 
 pub returns-in-Err-settle-clause-read_cause : goal.returns-in-Err-settle-clause-read_cause

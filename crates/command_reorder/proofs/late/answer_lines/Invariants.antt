@@ -1,7 +1,7 @@
-use Rattle.std.proofs.Common.{◌≡◌, ◌+◌, ◌≤◌, false, length}
-use Rattle.query_engine.specs.Engine.{SameQueries, count_of, peak_of}
+use Rattle.std.proofs.Common.{◌≡◌, ◌+◌, ◌≤◌, ℕ, Option, false, length}
+use Rattle.query_engine.specs.Engine.{SameQueries, count_of}
 use Rattle.command_reorder.specs.Late.{Feed}
-use Rattle.command_reorder.specs.Flowing.{AreOfSchema, Running, IsFresh}
+use Rattle.command_reorder.specs.Flowing.{AreOfSchema, HasBases, Running, IsFresh}
 use Rattle.command_reorder.proofs.late.answer_lines.Given as goal
 
 -- the lines so far are put, and the answers over what they release are written or held
@@ -14,8 +14,9 @@ invariant-loop-lines g l = record {
   same : SameQueries l.fn.engine l.engine;
   read_faults : g.Q.Source.faults l.source ≡ g.Q.Source.faults l.fn.source;
   write_faults : g.K.Sink.faults l.out ≡ g.K.Sink.faults l.fn.out;
-  runs : (a : Feed) → IsFresh a l.fn.lines l.fn.gate l.fn.output l.fn.engine
-      → Running l.fn.compact_every (peak_of l.fn.engine) a (g.Q.Source.left l.fn.source) l.lines (g.Q.Source.left l.source) l.gate l.output l.engine (g.K.Sink.taken l.fn.out) (g.K.Sink.taken l.out) l.fn.steps l.steps;
+  bases : HasBases l.schedule l.engine;
+  runs : (every : Option ℕ) (peaks : ℕ → ℕ) (a : Feed) (first : ℕ) → IsFresh every l.fn.schedule peaks a l.fn.lines l.fn.gate l.fn.output l.fn.engine first l.fn.steps
+      → Running every l.schedule peaks a (g.Q.Source.left l.fn.source) l.lines (g.Q.Source.left l.source) l.gate l.output l.engine (g.K.Sink.taken l.fn.out) (g.K.Sink.taken l.out) first l.steps;
 }
 
 abbrev pub decreases-loop-lines : goal.decreases-loop-lines

@@ -4,11 +4,11 @@ use Rattle.command_reorder.proofs.Ends.{finishes, ends_at_end}
 use Rattle.command_reorder.proofs.late.answer_rest.Goals as goal
 
 pub returns-clause-closed : goal.returns-clause-closed
-returns-clause-closed g c = λ peaks a told left before put first f feeds.
-    let now = finishes c.args.compact_every peaks a told put c.args.gate.now c.finish.new.self c.args.output.now c.args.engine.now before (g.K.Sink.taken c.args.out.now) first c.args.steps.now c.finish.ensures.finished f feeds (c.finish.ensures.history put f.gone f.gate_stands) in
-    let through = c.release-end.ensures.released peaks a told put before first now in
-    c.close.ensures.closed c.args.compact_every peaks a told left before c.release-end.new.engine first c.release-end.new.steps (
-    ends_at_end c.args.compact_every peaks a told left put c.release-end.new.gate c.release-end.new.output c.release-end.new.engine before (g.K.Sink.taken c.release-end.new.out) first c.release-end.new.steps c.release-end.result
+returns-clause-closed g c = λ every peaks a told left before put first f feeds.
+    let now = finishes every c.args.schedule.now peaks a told put c.args.gate.now c.finish.new.self c.args.output.now c.args.engine.now before (g.K.Sink.taken c.args.out.now) first c.args.steps.now c.finish.ensures.finished f feeds (c.finish.ensures.history put f.gone f.gate_stands) in
+    let through = c.release-end.ensures.released every peaks a told put before first now in
+    c.close.ensures.closed every peaks a told left before c.release-end.new.engine first c.release-end.new.steps (
+    ends_at_end every c.release-end.new.schedule peaks a told left put c.release-end.new.gate c.release-end.new.output c.release-end.new.engine before (g.K.Sink.taken c.release-end.new.out) first c.release-end.new.steps c.release-end.result
     (c.release-end.ensures.finished ∙ ap (λ (h : Held). h.is_finished) c.finish.ensures.finished) feeds through)
 
 pub returns-clause-read_cause : goal.returns-clause-read_cause

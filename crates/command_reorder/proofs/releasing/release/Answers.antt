@@ -13,7 +13,8 @@ loop-line-init g c = record {
   same = (refl, refl);
   finished = refl;
   faults = refl;
-  flows = λ peaks a source put before first f. f;
+  bases = c.requires.bases;
+  flows = λ every peaks a source put before first f. f;
 }
 
 pub answer_event-requires-clause-of_schema : goal.answer_event-requires-clause-of_schema
@@ -27,11 +28,14 @@ answer_event-requires-clause-room g c =
     let range = c.ranges.read.fits in
     omega (arith, more, counted, range)
 
+pub answer_event-requires-clause-bases : goal.answer_event-requires-clause-bases
+answer_event-requires-clause-bases g c = c.loop-line.invariant.bases
+
 pub returns-in-Err-clause-released : goal.returns-in-Err-clause-released
-returns-in-Err-clause-released g c = λ peaks a source put before first f.
-    let now = c.loop-line.invariant.flows peaks a source put before first f in
-    c.in-Err.ensures.answered peaks a source put c.take.new.self before first (
-    owes c.args.compact_every peaks a source put c.loop-line.gate c.take.new.self _ c.loop-line.output c.loop-line.engine before (g.K.Sink.taken c.loop-line.out) first c.loop-line.steps c.in-Some.ensures.taken now
+returns-in-Err-clause-released g c = λ every peaks a source put before first f.
+    let now = c.loop-line.invariant.flows every peaks a source put before first f in
+    c.in-Err.ensures.answered every peaks a source put c.take.new.self before first (
+    owes every c.loop-line.schedule peaks a source put c.loop-line.gate c.take.new.self _ c.loop-line.output c.loop-line.engine before (g.K.Sink.taken c.loop-line.out) first c.loop-line.steps c.in-Some.ensures.taken now
     (c.in-Some.ensures.history put now.gone now.gate_stands))
 
 pub returns-in-Err-clause-counted : goal.returns-in-Err-clause-counted
@@ -77,17 +81,18 @@ loop-line-preserved g c =
       same = (c.answer_event.ensures.same.0 ∙ inv.same.0, c.answer_event.ensures.same.1 ∙ inv.same.1);
       finished = sym (ap (λ (h : Held). h.is_finished) c.in-Some.ensures.taken) ∙ inv.finished;
       faults = c.in-Ok.ensures.write_cause ∙ inv.faults;
-      flows = λ peaks a source put before first f.
-          let now = inv.flows peaks a source put before first f in
-          c.in-Ok.ensures.answered peaks a source put c.take.new.self before first (
-          owes c.args.compact_every peaks a source put c.loop-line.gate c.take.new.self _ c.loop-line.output c.loop-line.engine before (g.K.Sink.taken c.loop-line.out) first c.loop-line.steps c.in-Some.ensures.taken now
+      bases = c.answer_event.ensures.bases;
+      flows = λ every peaks a source put before first f.
+          let now = inv.flows every peaks a source put before first f in
+          c.in-Ok.ensures.answered every peaks a source put c.take.new.self before first (
+          owes every c.loop-line.schedule peaks a source put c.loop-line.gate c.take.new.self _ c.loop-line.output c.loop-line.engine before (g.K.Sink.taken c.loop-line.out) first c.loop-line.steps c.in-Some.ensures.taken now
           (c.in-Some.ensures.history put now.gone now.gate_stands));
     }
 
 pub returns-in-None-clause-released : goal.returns-in-None-clause-released
-returns-in-None-clause-released g c = λ peaks a source put before first f.
-    let now = c.loop-line.invariant.flows peaks a source put before first f in
-    let P : Held → Type 0 = λ h. (x : Flowing c.args.compact_every peaks a source put h c.loop-line.output c.loop-line.engine before (g.K.Sink.taken c.loop-line.out) first c.loop-line.steps) × (x.gone ≡ all_due h put) in
+returns-in-None-clause-released g c = λ every peaks a source put before first f.
+    let now = c.loop-line.invariant.flows every peaks a source put before first f in
+    let P : Held → Type 0 = λ h. (x : Flowing every c.loop-line.schedule peaks a source put h c.loop-line.output c.loop-line.engine before (g.K.Sink.taken c.loop-line.out) first c.loop-line.steps) × (x.gone ≡ all_due h put) in
     subst P (sym c.in-None.ensures.unchanged) (now, c.in-None.ensures.all put now.gone now.gate_stands)
 
 pub returns-in-None-clause-counted : goal.returns-in-None-clause-counted

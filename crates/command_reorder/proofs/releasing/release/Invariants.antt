@@ -2,7 +2,7 @@ use Rattle.std.proofs.Common.{◌≡◌, ◌+◌, ◌≤◌, ℕ, List, Option, 
 use Rattle.stream_schema.specs.declared.Event.{Event}
 use Rattle.query_engine.specs.Engine.{SameQueries, count_of}
 use Rattle.command_reorder.specs.Late.{Feed}
-use Rattle.command_reorder.specs.Flowing.{AreOfSchema, Flowing}
+use Rattle.command_reorder.specs.Flowing.{AreOfSchema, Flowing, HasBases}
 use Rattle.command_reorder.proofs.releasing.release.Given as goal
 
 -- the events that went so far were taken, and their answers put
@@ -13,8 +13,9 @@ invariant-loop-line g l = record {
   same : SameQueries l.fn.engine l.engine;
   finished : l.gate.is_finished ≡ l.fn.gate.is_finished;
   faults : g.K.Sink.faults l.out ≡ g.K.Sink.faults l.fn.out;
-  flows : (peaks : ℕ → ℕ) (a : Feed) (source : Option (List ℕ)) (put : List (ℕ × Event)) (before : Option (List ℕ)) (first : ℕ) → Flowing l.fn.compact_every peaks a source put l.fn.gate l.fn.output l.fn.engine before (g.K.Sink.taken l.fn.out) first l.fn.steps
-      → Flowing l.fn.compact_every peaks a source put l.gate l.output l.engine before (g.K.Sink.taken l.out) first l.steps;
+  bases : HasBases l.schedule l.engine;
+  flows : (every : Option ℕ) (peaks : ℕ → ℕ) (a : Feed) (source : Option (List ℕ)) (put : List (ℕ × Event)) (before : Option (List ℕ)) (first : ℕ) → Flowing every l.fn.schedule peaks a source put l.fn.gate l.fn.output l.fn.engine before (g.K.Sink.taken l.fn.out) first l.fn.steps
+      → Flowing every l.schedule peaks a source put l.gate l.output l.engine before (g.K.Sink.taken l.out) first l.steps;
 }
 
 abbrev pub decreases-loop-line : goal.decreases-loop-line

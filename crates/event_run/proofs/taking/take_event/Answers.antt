@@ -1,6 +1,7 @@
 use Rattle.std.proofs.Common.{◌+◌, ◌≤◌, None, refl, subst, ◌∙◌, arith}
 use Rattle.query_engine.specs.Bounds.{update_bound}
 use Rattle.query_engine.specs.Engine.{State, found_of, len_of}
+use Rattle.query_engine.specs.Keys.{HasAddedKeys}
 use Rattle.query_engine.specs.Windows.{HasAdded}
 use Rattle.event_run.proofs.Given.{at_end, begins}
 use Rattle.event_run.proofs.RanOut.{wants_as}
@@ -30,6 +31,7 @@ returns-in-Ok-true-clause-took g c = λ before events stands.
           taken_event before _ _ _ _ c.loop-fault.lines c.next.new.self bytes (g.Q.Source.left c.loop-fault.source) (g.Q.Source.left c.next.new.source) events took.0 inv.same.0 inv.same.1
           ((rw c.in-Ok-Line.field-0-is at c.in-Ok-Line.ensures.lines) bytes) took.1 took.3 (inv.taken before events stands bytes had),
       subst (λ (e : State). HasAdded e c.give_line.new.engine took.0) inv.kept took.4,
+      subst (λ (e : State). HasAddedKeys e c.give_line.new.engine took.0) inv.kept took.5,
     )
 
 pub returns-in-Ok-true-clause-growth : goal.returns-in-Ok-true-clause-growth

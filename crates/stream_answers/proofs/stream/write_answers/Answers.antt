@@ -1,8 +1,6 @@
 use Rattle.std.proofs.Common.{◌+◌, ◌^◌, ◌<◌, [], arith}
 use Rattle.query_engine.specs.Engine.{peak_of}
-use Rattle.stream_answers.specs.Windows.{is_due}
 use Rattle.stream_answers.proofs.Windows.{follows_none, on_ok}
-use Rattle.stream_answers.proofs.Totals.{bounded_none}
 use Rattle.stream_answers.proofs.stream.write_answers.Goals as goal
 
 pub returns-clause-wrote : goal.returns-clause-wrote
@@ -10,7 +8,7 @@ returns-clause-wrote g c = c.write_answers_after.ensures.wrote (peak_of c.args.e
 
 pub returns-clause-steps : goal.returns-clause-steps
 returns-clause-steps g c = λ bytes same.
-    c.write_answers_after.ensures.steps (peak_of c.args.engine.now) [] c.args.steps.now (follows_none c.args.engine.now c.requires.fresh) (bounded_none (is_due c.args.options.compact_every) _ _ [] [] c.args.steps.now) bytes same
+    c.write_answers_after.ensures.steps (peak_of c.args.engine.now) [] c.args.steps.now (follows_none c.args.engine.now c.requires.fresh) (λ most meet. omega arith) bytes same
 
 pub returns-clause-stands : goal.returns-clause-stands
 returns-clause-stands g c = on_ok c.write_answers_after.result _ _ (λ stands. stands (peak_of c.args.engine.now) [] (follows_none c.args.engine.now c.requires.fresh)) c.write_answers_after.ensures.stands

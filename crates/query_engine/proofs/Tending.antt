@@ -1,0 +1,208 @@
+-- Queries that are compacted where they have grown: what is left of each, and that what was put by pays for it.
+use Rattle.std.proofs.Common.{◌≡◌, ℕ, ◌+◌, ◌-◌, ◌*◌, ◌<◌, ◌≤◌, ◌⊎◌, inl, inr, ℤ, Bool, true, false, cond, List, map, length, Result, Ok, Err, refl, sym, ap, subst, ◌∙◌, Option, Some, slice_get, arith}
+use Rattle.std.specs.Prelude.{nat_le, ◌&&◌, OnOk}
+use Rattle.std.specs.Option.{option_map_or}
+use Rattle.std.proofs.lemmas.Bool.{cases_lt, cases_Bool, leb-true, le-leb}
+use Rattle.std.proofs.lemmas.Option.{slice_get_within}
+use Rattle.stream_schema.specs.Types.{Declared}
+use Rattle.stream_schema.specs.declared.Event.{Event}
+use Rattle.cel_terms.specs.declared.Query.{Query}
+use Rattle.arena_compact.specs.Roots.{places}
+use Rattle.query_standing.specs.Kept.{Part}
+use Rattle.query_standing.specs.Bounds.{for_each_query}
+use Rattle.all_or_none.specs.Phases.{Phase}
+use Rattle.all_or_none.specs.Dormancy.{dormant_at}
+use Rattle.query_engine.specs.declared.sizes.Size.{Size}
+use Rattle.query_engine.specs.Times.{parts_at}
+use Rattle.query_engine.specs.Engine.{State, Open, StandsFor, SameQueries, kept_of, len_of, MayStartAt}
+use Rattle.query_engine.specs.Compacting.{is_chosen, places_of, compact_bounds, chosen_bounds, IsLeft, IsLeftOf, OthersAreKept}
+use Rattle.query_engine.specs.Keys.{keys_of}
+use Rattle.query_engine.specs.Windows.{IsDense}
+use Rattle.query_engine.specs.Sizes.{size_of, base_of, has_grown, AreSizes, put_by, AreTended}
+use Rattle.query_engine.specs.Choosing.{part_weight, noted_at, AreGrown, NoneHasGrown, AreNoted, AreNotedAll}
+use Rattle.query_engine.proofs.Standing.{state, mapped, map_at, length_map}
+use Rattle.query_engine.proofs.Keeping.{seen_length}
+use Rattle.query_engine.proofs.Clocked.{clocked_back}
+use Rattle.query_engine.proofs.Counting.{each_at_most, each_of_both, query_at}
+use Rattle.query_engine.proofs.FewEntries.{entries_few}
+use Rattle.query_engine.proofs.Windows.{part_of_query, query_follows_window}
+use Rattle.query_engine.proofs.Keys.{query_keys_follow}
+use Rattle.query_engine.proofs.SmallSizes.{sized_by_both}
+
+-- SIZES OF PARTS
+
+sizes_are : (engine : State) (k : ℕ) (part : Part) → slice_get engine.parts k ≡ Some part → size_of engine (k + 1) ≡ length part.nodes + 8 * length part.keys
+unfolding len_of keys_of
+sizes_are engine k part at =
+    let number : k + 1 - 1 ≡ k = omega arith in
+    ap (λ (i : ℕ). option_map_or (λ (x : Part). length x.nodes) (slice_get engine.parts i) 0 + 8 * option_map_or (λ (x : Part). length x.keys) (slice_get engine.parts i) 0) number
+    ∙ ap (λ (o : Option Part). option_map_or (λ (x : Part). length x.nodes) o 0 + 8 * option_map_or (λ (x : Part). length x.keys) o 0) at
+
+pub base_at : (bases : List Size) (k : ℕ) → base_of bases (k + 1) ≡ noted_at bases k
+base_at bases k = let number : k + 1 - 1 ≡ k = omega arith in ap (noted_at bases) number
+
+module _ (schema : Declared) (count : ℕ) (clocks : List (Option ℤ)) (parts : List Phase) (ps : List ℕ) (s : State) (is : state schema count (parts_at count parts clocks) ps ≡ s) where
+  pub parts_long : length s.queries ≡ length parts
+  parts_long = ap (λ (t : State). length t.queries) (sym is) ∙ (length_map (λ (p : Phase). p.query) (parts_at count parts clocks) ∙ seen_length count parts clocks)
+
+  -- the part of a query, and how much it keeps
+  pub weighed : (k : ℕ) (q : Query) → slice_get s.queries k ≡ Some q → (p : Phase) × (slice_get parts k ≡ Some p) × (size_of s (k + 1) ≡ part_weight p)
+  weighed = subst (λ (t : State). (k : ℕ) (q : Query) → slice_get t.queries k ≡ Some q → (p : Phase) × (slice_get parts k ≡ Some p) × (size_of t (k + 1) ≡ part_weight p)) is (λ k q at. (
+      let one = mapped (λ (p : Phase). p.query) (parts_at count parts clocks) k q at in
+      let two = clocked_back (map (dormant_at count) parts) clocks k one.0 one.1 in
+      let three = mapped (dormant_at count) parts k two.0 two.1 in
+      let kept = map_at (λ (p : Phase). p.kept) (parts_at count parts clocks) k one.0 one.1 in
+      (three.0, three.1, sizes_are (state schema count (parts_at count parts clocks) ps) k one.0.kept kept ∙ (ap part_weight (sym two.2) ∙ ap part_weight (sym three.2)))))
+
+  pub are_sizes : (bases : List Size) → length bases ≡ length s.queries → AreNotedAll (length parts) parts bases → AreSizes s bases
+  are_sizes bases long noted = record {
+    count = long;
+    each = λ k q at. (let p = weighed k q at in base_at bases k ∙ (noted k p.0 (slice_get_within parts k p.0 p.1) p.1 ∙ sym p.2));
+  }
+
+  -- flags by what the queries keep
+  pub flags_are : (least : ℕ) (bases : List Size) (chosen : List Bool) → AreGrown least bases (length parts) parts chosen → (k : ℕ) (q : Query) → slice_get s.queries k ≡ Some q → is_chosen chosen k ≡ has_grown least (base_of bases (k + 1)) (size_of s (k + 1))
+  flags_are least bases chosen grown k q at =
+      let p = weighed k q at in
+      grown k p.0 (slice_get_within parts k p.0 p.1) p.1 ∙ (ap (λ (b : ℕ). has_grown least b (part_weight p.0)) (sym (base_at bases k)) ∙ ap (has_grown least (base_of bases (k + 1))) (sym p.2))
+
+  pub none_grown : (least : ℕ) (bases : List Size) → NoneHasGrown least bases (length parts) parts → (k : ℕ) (q : Query) → slice_get s.queries k ≡ Some q → has_grown least (base_of bases (k + 1)) (size_of s (k + 1)) ≡ false
+  none_grown least bases none k q at =
+      let p = weighed k q at in
+      ap (has_grown least (base_of bases (k + 1))) p.2 ∙ (ap (λ (b : ℕ). has_grown least b (part_weight p.0)) (base_at bases k) ∙ none k p.0 (slice_get_within parts k p.0 p.1) p.1)
+
+  pub noted_sizes : (chosen : List Bool) (old new : List Size) → AreNoted chosen (length parts) parts old new → (k : ℕ) (q : Query) → slice_get s.queries k ≡ Some q → is_chosen chosen k ≡ true → base_of new (k + 1) ≡ size_of s (k + 1)
+  noted_sizes chosen old new noted k q at flag =
+      let p = weighed k q at in
+      base_at new k ∙ (noted.chosen_ones k p.0 (slice_get_within parts k p.0 p.1) p.1 flag ∙ sym p.2)
+
+  -- every query is chosen where every part is
+  pub all_chosen : (new : State) → SameQueries s new → (slice : List Phase) → slice ≡ parts → (items flags : List Bool) → flags ≡ items → ((k : ℕ) → k < length slice → is_chosen items k ≡ true) → (k : ℕ) (q : Query) → slice_get new.queries k ≡ Some q → is_chosen flags k ≡ true
+  all_chosen new same slice slice_is items flags flags_is every k q at =
+      let inside = slice_get_within new.queries k q at in
+      let as_many = ap length same.1 in
+      let long = parts_long in
+      let many = ap length slice_is in
+      subst (λ (bs : List Bool). is_chosen bs k ≡ true) (sym flags_is) (every k (omega arith))
+
+-- EVERY QUERY
+
+pub all_left : (chosen : List Bool) (engine : State) (held : List Open) → ((k : ℕ) (q : Query) → slice_get engine.queries k ≡ Some q → is_chosen chosen k ≡ true) → IsLeftOf chosen engine held → IsLeft engine held
+all_left chosen engine held all left k q p q_at p_at = left k q p q_at p_at (all k q q_at)
+
+pub chosen_within : (chosen : List Bool) (engine : State) → chosen_bounds chosen engine ≤ compact_bounds engine
+chosen_within chosen engine = each_at_most (length engine.queries) (λ k. cond (is_chosen chosen (k - 1)) (8 * len_of engine k + 4 * places_of engine k) 0) (λ k. 8 * len_of engine k + 4 * places_of engine k)
+    (λ j less. at_most (is_chosen chosen (j + 1 - 1)) (8 * len_of engine (j + 1) + 4 * places_of engine (j + 1)))
+  where
+    at_most : (b : Bool) (n : ℕ) → cond b n 0 ≤ n
+    at_most true n = omega arith
+    at_most false n = omega arith
+
+-- what follows from two and three facts of a result
+pub on_ok_from : {T F : Type 0} (r : Result T F) (P Q : Type 0) → (P → Q) → OnOk r P → OnOk r Q
+on_ok_from (Ok x) P Q f p = f p
+on_ok_from (Err e) P Q f p = tt
+
+pub on_ok_two : {T F : Type 0} (r : Result T F) (P Q R : Type 0) → (P → Q → R) → OnOk r P → OnOk r Q → OnOk r R
+on_ok_two (Ok x) P Q R f p q = f p q
+on_ok_two (Err e) P Q R f p q = tt
+
+pub on_ok_three : {T F : Type 0} (r : Result T F) (P Q R S : Type 0) → (P → Q → R → S) → OnOk r P → OnOk r Q → OnOk r R → OnOk r S
+on_ok_three (Ok x) P Q R S f p q t = f p q t
+on_ok_three (Err e) P Q R S f p q t = tt
+
+-- WHAT HAS GROWN
+
+not_grown : (least base now : ℕ) → has_grown least base now ≡ false → (now < least) ⊎ (now < 2 * base)
+not_grown least base now none = elim (cases_lt now least) [
+  | inl less ↦ inl less
+  | inr enough ↦ elim (cases_lt now (2 * base)) [
+    | inl less ↦ inr less
+    | inr twice ↦
+        let one : nat_le least now ≡ true = le-leb least now enough in
+        let two : nat_le (2 * base) now ≡ true = le-leb (2 * base) now twice in
+        absurd cc
+  ]
+]
+
+second : (a b : Bool) → a && b ≡ true → b ≡ true
+second true b e = e
+second false b e = absurd cc
+
+has_doubled : (least base now : ℕ) → has_grown least base now ≡ true → 2 * base ≤ now
+has_doubled least base now grown = leb-true (2 * base) now (second (nat_le least now) (nat_le (2 * base) now) grown)
+
+-- What is left alone is as it was.
+pub alone : (least : ℕ) (engine : State) (bases : List Size) → ((k : ℕ) (q : Query) → slice_get engine.queries k ≡ Some q → has_grown least (base_of bases (k + 1)) (size_of engine (k + 1)) ≡ false) → (events : List Event) (held : List Open) → AreTended least engine engine events held bases bases
+alone least engine bases none events held k q at = inr (record { noted = refl; same = refl; small = not_grown least (base_of bases (k + 1)) (size_of engine (k + 1)) (none k q at) })
+
+-- Which queries were chosen, what was noted of them, and that the others are as they were.
+pub record AreChosen (least : ℕ) (chosen : List Bool) (old new : State) (before after : List Size) : Type 0 where
+  pub same : SameQueries old new
+  pub flags : (k : ℕ) (q : Query) → slice_get old.queries k ≡ Some q → is_chosen chosen k ≡ has_grown least (base_of before (k + 1)) (size_of old (k + 1))
+  pub noted : (k : ℕ) (q : Query) → slice_get new.queries k ≡ Some q → is_chosen chosen k ≡ true → base_of after (k + 1) ≡ size_of new (k + 1)
+  pub others : (k : ℕ) → is_chosen chosen k ≡ false → base_of after (k + 1) ≡ base_of before (k + 1)
+  pub stay : OthersAreKept chosen old new
+
+module _ (least : ℕ) (chosen : List Bool) (old new : State) (before after : List Size) (are : AreChosen least chosen old new before after) where
+  query_before : (k : ℕ) (q : Query) → slice_get new.queries k ≡ Some q → slice_get old.queries k ≡ Some q
+  query_before k q at = subst (λ (qs : List Query). slice_get qs k ≡ Some q) are.same.1 at
+
+  same_size : (k : ℕ) (q : Query) → slice_get old.queries k ≡ Some q → is_chosen chosen k ≡ false → size_of new (k + 1) ≡ size_of old (k + 1)
+  unfolding len_of keys_of
+  same_size k q at other =
+      let number : k + 1 - 1 ≡ k = omega arith in
+      let f : Option Part → ℕ = λ o. option_map_or (λ (x : Part). length x.nodes) o 0 + 8 * option_map_or (λ (x : Part). length x.keys) o 0 in
+      ap (λ (i : ℕ). f (slice_get new.parts i)) number ∙ (ap f (are.stay k q at other) ∙ ap (λ (i : ℕ). f (slice_get old.parts i)) (sym number))
+
+  pub tended : (events : List Event) (held : List Open) → StandsFor new events → IsDense new events → IsLeftOf chosen new held → AreTended least old new events held before after
+  tended events held stands dense left k q at = elim (cases_Bool (is_chosen chosen k)) [
+    | inl flag ↦ inl (record {
+      noted = are.noted k q at flag;
+      window = sized_by_both (MayStartAt new events held k q) new (k + 1) (query_follows_window new events held stands dense k q at (λ part part_at. left k q part at part_at flag)) (query_keys_follow new events held stands k q at (λ part part_at. left k q part at part_at flag));
+    })
+    | inr other ↦
+        let was = query_before k q at in
+        inr (record {
+          noted = are.others k other;
+          same = same_size k q was other;
+          small = (let size = same_size k q was other in subst (λ (n : ℕ). (n < least) ⊎ (n < 2 * base_of before (k + 1))) (sym size) (not_grown least (base_of before (k + 1)) (size_of old (k + 1)) (sym (are.flags k q was) ∙ other)));
+        })
+  ]
+
+  -- the entries of lists are no more than the nodes
+  few_entries : (events : List Event) → StandsFor old events → (k : ℕ) (q : Query) → slice_get old.queries k ≡ Some q → places_of old (k + 1) ≤ len_of old (k + 1)
+  unfolding StandsFor len_of places_of
+  few_entries events stands k q at =
+      let found = part_of_query (kept_of old) events k q stands at in
+      let few = entries_few old.schema q events found.0 (stands.each k q found.0 at found.1) in
+      let number : k ≡ k + 1 - 1 = omega arith in
+      let here : option_map_or (λ (x : Part). places x.rows) (slice_get old.parts k) 0 ≤ option_map_or (λ (x : Part). length x.nodes) (slice_get old.parts k) 0 = subst (λ (o : Option Part). option_map_or (λ (x : Part). places x.rows) o 0 ≤ option_map_or (λ (x : Part). length x.nodes) o 0) (sym found.1) few in
+      subst (λ (i : ℕ). option_map_or (λ (x : Part). places x.rows) (slice_get old.parts i) 0 ≤ option_map_or (λ (x : Part). length x.nodes) (slice_get old.parts i) 0) number here
+
+  -- what a query's compaction costs, it has put by
+  query_pays : (events : List Event) → StandsFor old events → (j : ℕ) (q : Query) → slice_get old.queries j ≡ Some q → (flag : Bool) → is_chosen chosen j ≡ flag →
+      cond flag (8 * len_of old (j + 1) + 4 * places_of old (j + 1)) 0 + 24 * (size_of new (j + 1) - base_of after (j + 1)) ≤ 24 * (size_of old (j + 1) - base_of before (j + 1))
+  query_pays events stands j q at true flag =
+      let now = are.noted j q (subst (λ (qs : List Query). slice_get qs j ≡ Some q) (sym are.same.1) at) flag in
+      let twice = has_doubled least (base_of before (j + 1)) (size_of old (j + 1)) (sym (are.flags j q at) ∙ flag) in
+      let few = few_entries events stands j q at in
+      omega (arith, now, twice, few)
+  query_pays events stands j q at false other =
+      let now = are.others j other in
+      let same = same_size j q at other in
+      omega (arith, now, same)
+
+  pub chosen_are_paid : (events : List Event) → StandsFor old events → chosen_bounds chosen old + put_by new after ≤ put_by old before
+  chosen_are_paid events stands =
+      let n = length old.queries in
+      let costs : ℕ → ℕ = λ k. cond (is_chosen chosen (k - 1)) (8 * len_of old k + 4 * places_of old k) 0 in
+      let later : ℕ → ℕ = λ k. 24 * (size_of new k - base_of after k) in
+      let both = each_of_both n costs later (λ k. costs k + later k) (λ j. refl) in
+      let each = each_at_most n (λ k. costs k + later k) (λ k. 24 * (size_of old k - base_of before k)) (λ j less. (
+      let asked = query_at old.queries j less in
+      let number : j + 1 - 1 ≡ j = omega arith in
+      subst (λ (i : ℕ). cond (is_chosen chosen i) (8 * len_of old (j + 1) + 4 * places_of old (j + 1)) 0 + later (j + 1) ≤ 24 * (size_of old (j + 1) - base_of before (j + 1))) (sym number) (query_pays events stands j asked.0 asked.1 (is_chosen chosen j) refl)
+      )) in
+      let queries : put_by new after ≡ for_each_query n later = ap (λ (qs : List Query). for_each_query (length qs) later) are.same.1 in
+      omega (arith, both, each, queries)

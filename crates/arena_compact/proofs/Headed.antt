@@ -13,37 +13,53 @@ use Rattle.cer_base.specs.Members.{SetTree, members, IsWellFormedTree, IsSafe}
 use Rattle.cer_base.specs.Nodes.{tree, WellFormed, IsRoot}
 use Rattle.cer_base.proofs.Walks.{is_rooted, newest_is_rooted, test_passes, test_tells}
 use Rattle.union_lists.specs.Lists.{IsFalling, top, IsHeaded, trees, IsUnionList}
-use Rattle.arena_compact.specs.Pruned.{pruned}
+use Rattle.arena_compact.specs.Pruned.{IsPruned, ArePruned}
 use Rattle.arena_compact.specs.Roots.{AreOlder}
 use Rattle.arena_compact.proofs.Pruned.{newest-pruned, depth-pruned, safe-pruned, IsSublist, sublist-append, sublist-pruned, sublist_nil, sublist-without_repeats}
 
--- all trees of the first entries, pruned
-members_less : (low : ℤ) (ts : List SetTree) (k : ℕ) → IsSublist (flat_map members (map (pruned low) (take k ts))) (flat_map members ts)
-members_less low [] zero = refl
-members_less low [] (suc k) = refl
-members_less low (t ∷ ts) zero = sublist_nil (members t ++ flat_map members ts)
-members_less low (t ∷ ts) (suc k) = sublist-append (members (pruned low t)) (members t) (flat_map members (map (pruned low) (take k ts))) (flat_map members ts) (sublist-pruned low t) (members_less low ts k)
+-- the first trees of a list, pruned
+members_less : (low : ℤ) (ts : List SetTree) (k : ℕ) (us : List SetTree) → ArePruned low (take k ts) us → IsSublist (flat_map members us) (flat_map members ts)
+members_less low [] zero [] p = refl
+members_less low [] zero (u ∷ us) p = absurd p
+members_less low [] (suc k) [] p = refl
+members_less low [] (suc k) (u ∷ us) p = absurd p
+members_less low (t ∷ ts) zero [] p = sublist_nil (members t ++ flat_map members ts)
+members_less low (t ∷ ts) zero (u ∷ us) p = absurd p
+members_less low (t ∷ ts) (suc k) [] p = absurd p
+members_less low (t ∷ ts) (suc k) (u ∷ us) p = sublist-append (members u) (members t) (flat_map members us) (flat_map members ts) (sublist-pruned low t u p.0) (members_less low ts k us p.1)
 
-safe_less : (low : ℤ) (ts : List SetTree) (k : ℕ) → All IsSafe ts → All IsSafe (map (pruned low) (take k ts))
-safe_less low [] zero h = All-nil IsSafe
-safe_less low [] (suc k) h = All-nil IsSafe
-safe_less low (t ∷ ts) zero h = All-nil IsSafe
-safe_less low (t ∷ ts) (suc k) h = All-cons IsSafe (pruned low t) (map (pruned low) (take k ts)) (safe-pruned low t (All-head IsSafe t ts h)) (safe_less low ts k (All-tail IsSafe t ts h))
+safe_less : (low : ℤ) (ts : List SetTree) (k : ℕ) (us : List SetTree) → ArePruned low (take k ts) us → All IsSafe ts → All IsSafe us
+safe_less low [] zero [] p h = All-nil IsSafe
+safe_less low [] zero (u ∷ us) p h = absurd p
+safe_less low [] (suc k) [] p h = All-nil IsSafe
+safe_less low [] (suc k) (u ∷ us) p h = absurd p
+safe_less low (t ∷ ts) zero [] p h = All-nil IsSafe
+safe_less low (t ∷ ts) zero (u ∷ us) p h = absurd p
+safe_less low (t ∷ ts) (suc k) [] p h = absurd p
+safe_less low (t ∷ ts) (suc k) (u ∷ us) p h = All-cons IsSafe u us (safe-pruned low t u p.0 (All-head IsSafe t ts h)) (safe_less low ts k us p.1 (All-tail IsSafe t ts h))
 
-below_less : (low : ℤ) (n : ℕ) (ts : List SetTree) (k : ℕ) → All IsWellFormedTree ts → All (λ u. top u ≤ n) ts → All (λ u. top u ≤ n) (map (pruned low) (take k ts))
-below_less low n [] zero w h = All-nil (λ (u : SetTree). top u ≤ n)
-below_less low n [] (suc k) w h = All-nil (λ (u : SetTree). top u ≤ n)
-below_less low n (t ∷ ts) zero w h = All-nil (λ (u : SetTree). top u ≤ n)
-below_less low n (t ∷ ts) (suc k) w h =
-    All-cons (λ (u : SetTree). top u ≤ n) (pruned low t) (map (pruned low) (take k ts))
-    (subst (λ (s : Stamp). s.pos ≤ n) (sym (newest-pruned low t (All-head IsWellFormedTree t ts w))) (All-head (λ (u : SetTree). top u ≤ n) t ts h))
-    (below_less low n ts k (All-tail IsWellFormedTree t ts w) (All-tail (λ (u : SetTree). top u ≤ n) t ts h))
+below_less : (low : ℤ) (n : ℕ) (ts : List SetTree) (k : ℕ) (us : List SetTree) → ArePruned low (take k ts) us → All IsWellFormedTree ts → All (λ u. top u ≤ n) ts → All (λ u. top u ≤ n) us
+below_less low n [] zero [] p w h = All-nil (λ (x : SetTree). top x ≤ n)
+below_less low n [] zero (u ∷ us) p w h = absurd p
+below_less low n [] (suc k) [] p w h = All-nil (λ (x : SetTree). top x ≤ n)
+below_less low n [] (suc k) (u ∷ us) p w h = absurd p
+below_less low n (t ∷ ts) zero [] p w h = All-nil (λ (x : SetTree). top x ≤ n)
+below_less low n (t ∷ ts) zero (u ∷ us) p w h = absurd p
+below_less low n (t ∷ ts) (suc k) [] p w h = absurd p
+below_less low n (t ∷ ts) (suc k) (u ∷ us) p w h =
+    All-cons (λ (x : SetTree). top x ≤ n) u us
+    (subst (λ (s : Stamp). s.pos ≤ n) (sym (newest-pruned low t u p.0 (All-head IsWellFormedTree t ts w))) (All-head (λ (x : SetTree). top x ≤ n) t ts h))
+    (below_less low n ts k us p.1 (All-tail IsWellFormedTree t ts w) (All-tail (λ (x : SetTree). top x ≤ n) t ts h))
 
-tops_less : (low : ℤ) (ts : List SetTree) (k : ℕ) → All IsWellFormedTree ts → map top (map (pruned low) (take k ts)) ≡ take k (map top ts)
-tops_less low [] zero w = refl
-tops_less low [] (suc k) w = refl
-tops_less low (t ∷ ts) zero w = refl
-tops_less low (t ∷ ts) (suc k) w = ap (λ (s : Stamp). s.pos ∷ map top (map (pruned low) (take k ts))) (newest-pruned low t (All-head IsWellFormedTree t ts w)) ∙ ap (λ ns. top t ∷ ns) (tops_less low ts k (All-tail IsWellFormedTree t ts w))
+tops_less : (low : ℤ) (ts : List SetTree) (k : ℕ) (us : List SetTree) → ArePruned low (take k ts) us → All IsWellFormedTree ts → map top us ≡ take k (map top ts)
+tops_less low [] zero [] p w = refl
+tops_less low [] zero (u ∷ us) p w = absurd p
+tops_less low [] (suc k) [] p w = refl
+tops_less low [] (suc k) (u ∷ us) p w = absurd p
+tops_less low (t ∷ ts) zero [] p w = refl
+tops_less low (t ∷ ts) zero (u ∷ us) p w = absurd p
+tops_less low (t ∷ ts) (suc k) [] p w = absurd p
+tops_less low (t ∷ ts) (suc k) (u ∷ us) p w = ap (λ (s : Stamp). s.pos ∷ map top us) (newest-pruned low t u p.0 (All-head IsWellFormedTree t ts w)) ∙ ap (λ ns. top t ∷ ns) (tops_less low ts k us p.1 (All-tail IsWellFormedTree t ts w))
 
 all_take : (P : ℕ → Type 0) (ns : List ℕ) (k : ℕ) → All P ns → All P (take k ns)
 all_take P [] zero h = All-nil P
@@ -57,14 +73,14 @@ falls_take [] (suc k) h = tt
 falls_take (n ∷ ns) zero h = tt
 falls_take (n ∷ ns) (suc k) h = (all_take (λ y. y < n) ns k h.0, falls_take ns k h.1)
 
--- the first trees of a list, pruned, are a list
-pub headed_less : (low : ℤ) (t : SetTree) (ts : List SetTree) (k : ℕ) → IsWellFormedTree t → All IsWellFormedTree ts → IsHeaded t ts → IsHeaded (pruned low t) (map (pruned low) (take k ts))
-headed_less low t ts k wt w h = record {
-  flat = let d = depth-pruned low t in let flat = h.flat in omega arith;
-  safe = safe_less low ts k h.safe;
-  below = subst (λ (s : Stamp). All (λ u. top u ≤ s.pos) (map (pruned low) (take k ts))) (sym (newest-pruned low t wt)) (below_less low (top t) ts k w h.below);
-  falls = subst IsFalling (sym (tops_less low ts k w)) (falls_take (map top ts) k h.falls);
-  distinct = sublist-without_repeats (members (pruned low t) ++ flat_map members (map (pruned low) (take k ts))) (members t ++ flat_map members ts) (sublist-append (members (pruned low t)) (members t) (flat_map members (map (pruned low) (take k ts))) (flat_map members ts) (sublist-pruned low t) (members_less low ts k)) h.distinct;
+-- they are a list
+pub headed_less : (low : ℤ) (t u : SetTree) (ts : List SetTree) (k : ℕ) (us : List SetTree) → IsPruned low t u → ArePruned low (take k ts) us → IsWellFormedTree t → All IsWellFormedTree ts → IsHeaded t ts → IsHeaded u us
+headed_less low t u ts k us one p wt w h = record {
+  flat = let d = depth-pruned low t u one in let flat = h.flat in omega arith;
+  safe = safe_less low ts k us p h.safe;
+  below = subst (λ (s : Stamp). All (λ x. top x ≤ s.pos) us) (sym (newest-pruned low t u one wt)) (below_less low (top t) ts k us p w h.below);
+  falls = subst IsFalling (sym (tops_less low ts k us p w)) (falls_take (map top ts) k h.falls);
+  distinct = sublist-without_repeats (members u ++ flat_map members us) (members t ++ flat_map members ts) (sublist-append (members u) (members t) (flat_map members us) (flat_map members ts) (sublist-pruned low t u one) (members_less low ts k us p)) h.distinct;
 }
 
 older_than : (nodes : List Node) → WellFormed nodes → (e f : Root) → IsRoot nodes e → IsRoot nodes f → f.max.pos ≤ e.max.pos → f.max.clock ≤ℤ e.max.clock

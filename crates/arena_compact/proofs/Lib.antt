@@ -20,7 +20,11 @@ pub mod Listed
 pub mod Readings
 -- the rows that stay come first, in their order
 pub mod Kept
--- from the moved entries and stacks to what a compaction leaves
+-- a cursor needs no more nodes than before
+pub mod Held
+-- from the moved entries and stacks to the lists and cursors that a compaction leaves
 pub mod Ends
+-- the roots before and after, and what each node is left for
+pub mod Left
 -- lists that stand for some events stand for them after a compaction too
 pub mod Standing

@@ -11,8 +11,8 @@ use Rattle.cer_base.specs.declared.node.Node.TheVariants.{Bottom, Output, Union}
 use Rattle.cer_base.specs.Fields.{max_of}
 use Rattle.cer_base.specs.Nodes.{tree, WellFormed}
 use Rattle.cer_base.proofs.Trees.{tree-append}
-use Rattle.arena_compact.specs.Pruned.{pruned}
-use Rattle.arena_compact.specs.Marks.{IsKept}
+use Rattle.arena_compact.specs.Pruned.{IsPruned}
+use Rattle.arena_compact.specs.Marks.{IsKept, low_of}
 use Rattle.arena_compact.specs.Moves.{later, MovesTo, Follows, AtBottom, AtOutput, AtUnion, AtLeft, Moved}
 
 -- one id below i + 1: below i, or i
@@ -54,8 +54,8 @@ take_next : (xs : List Node) (i : ℕ) (n : Node) → slice_get xs i ≡ Some n 
 take_next xs i n h = take_more xs i n (slice_get_within xs i n h) ∙ ap (λ m. take i xs ++ m ∷ []) (get_or_from_slice_get xs i n n h)
 
 -- no node is moved yet
-pub moved_none : (low : ℤ) (old : List Node) (marks : List (Option ℕ)) → Moved low old marks 0 [] marks
-moved_none low old marks = record {
+pub moved_none : (lows : List ℤ) (old : List Node) (marks : List (Option ℕ)) → Moved lows old marks 0 [] marks
+moved_none lows old marks = record {
   few = omega arith;
   long = refl;
   well_formed = record { true_fields = λ id n h. absurd (cc); well_formed_tree = λ id lt. absurd (omega arith); in_step = λ s t a b le. absurd (let h = a.1 in omega arith) };
@@ -70,8 +70,8 @@ moved_none low old marks = record {
 }
 
 -- a node that is not kept
-pub moved_over : (low : ℤ) (old : List Node) (marks : List (Option ℕ)) (i : ℕ) (new : List Node) (table : List (Option ℕ)) (n : Node) → Moved low old marks i new table → slice_get old i ≡ Some n → get_or table i None ≡ None → Moved low old marks (i + 1) new table
-moved_over low old marks i new table n h at none =
+pub moved_over : (lows : List ℤ) (old : List Node) (marks : List (Option ℕ)) (i : ℕ) (new : List Node) (table : List (Option ℕ)) (n : Node) → Moved lows old marks i new table → slice_get old i ≡ Some n → get_or table i None ≡ None → Moved lows old marks (i + 1) new table
+moved_over lows old marks i new table n h at none =
     let gone : (id f : ℕ) → id ≡ i → MovesTo table id f → ⊥ = λ id f same g. let e : get_or table i None ≡ Some f = ap (λ k. get_or table k None) (sym same) ∙ g.gives in cc in
     let unmarked : (id : ℕ) → id ≡ i → IsKept marks id → ⊥ = λ id same k. let e : get_or table i None ≡ Some k.place = h.ahead i (omega arith) ∙ ap (λ j. get_or marks j None) (sym same) ∙ k.here in cc in
     record {
@@ -93,15 +93,15 @@ pub record Adds (low : ℤ) (old : List Node) (i : ℕ) (new more : List Node) (
   pub few : length more ≤ 1
   pub well_formed : WellFormed (new ++ more)
   pub inside : f < length (new ++ more)
-  pub tree : tree (new ++ more) f ≡ pruned low (tree old i)
+  pub tree : IsPruned low (tree old i) (tree (new ++ more) f)
   pub follows : Follows low (set table i (Some f)) (new ++ more) f n
   pub onto : (j : ℕ) → length new ≤ j → j < length (new ++ more) → j ≡ f
   pub no_new_start : (s : Stamp) → Contains (new ++ more) (Bottom s) → Contains old (Bottom s)
   pub fewer_later : (p : ℕ) → later p (new ++ more) ≤ later p new + later p (n ∷ [])
 
 -- a kept node
-pub moved_on : (low : ℤ) (old : List Node) (marks : List (Option ℕ)) (i : ℕ) (new more : List Node) (table : List (Option ℕ)) (n : Node) (f : ℕ) → WellFormed old → Moved low old marks i new table → slice_get old i ≡ Some n → IsKept marks i → i < length table → Adds low old i new more table n f → Moved low old marks (i + 1) (new ++ more) (set table i (Some f))
-moved_on low old marks i new more table n f w h at marked room a =
+pub moved_on : (lows : List ℤ) (old : List Node) (marks : List (Option ℕ)) (i : ℕ) (new more : List Node) (table : List (Option ℕ)) (n : Node) (f : ℕ) → WellFormed old → Moved lows old marks i new table → slice_get old i ≡ Some n → IsKept marks i → i < length table → Adds (low_of lows i) old i new more table n f → Moved lows old marks (i + 1) (new ++ more) (set table i (Some f))
+moved_on lows old marks i new more table n f w h at marked room a =
     let is_f : (id g : ℕ) → id ≡ i → MovesTo (set table i (Some f)) id g → g ≡ f = λ id g same gives. let e : Some g ≡ Some f = sym gives.gives ∙ ap (λ k. get_or (set table i (Some f)) k None) same ∙ get_or-set_same table i (Some f) None room in cc in
     let back : (id g : ℕ) → id < i → MovesTo (set table i (Some f)) id g → MovesTo table id g = λ id g less gives. gives_set_other table i id g (Some f) (omega arith) gives in
     record {
@@ -118,14 +118,14 @@ moved_on low old marks i new more table n f w h at marked room a =
         | inr same ↦ let e = is_f id g same gives in let there = a.inside in omega arith
       ];
       trees = λ id g lt gives. elim (id_cases id i lt) [
-        | inl less ↦ let g' = back id g less gives in tree-append new more g (h.inside id g less g') ∙ h.trees id g less g'
-        | inr same ↦ ap (tree (new ++ more)) (is_f id g same gives) ∙ a.tree ∙ ap (λ j. pruned low (tree old j)) (sym same)
+        | inl less ↦ let g' = back id g less gives in subst (IsPruned (low_of lows id) (tree old id)) (sym (tree-append new more g (h.inside id g less g'))) (h.trees id g less g')
+        | inr same ↦ subst (λ (j : ℕ). IsPruned (low_of lows j) (tree old j) (tree (new ++ more) g)) (sym same) (subst (λ (k : ℕ). IsPruned (low_of lows i) (tree old i) (tree (new ++ more) k)) (sym (is_f id g same gives)) a.tree)
       ];
       follows = λ id g m lt here gives. elim (id_cases id i lt) [
-        | inl less ↦ follows_on low table old new more i id g (Some f) m w (omega arith) here (h.follows id g m less here (back id g less gives))
+        | inl less ↦ follows_on (low_of lows id) table old new more i id g (Some f) m w (omega arith) here (h.follows id g m less here (back id g less gives))
         | inr same ↦
             let node : n ≡ m = let e : Some n ≡ Some m = sym at ∙ ap (slice_get old) (sym same) ∙ here in cc in
-            subst (λ (k : Node). Follows low (set table i (Some f)) (new ++ more) g k) node (subst (λ (k : ℕ). Follows low (set table i (Some f)) (new ++ more) k n) (sym (is_f id g same gives)) a.follows)
+            subst (λ (j : ℕ). Follows (low_of lows j) (set table i (Some f)) (new ++ more) g m) (sym same) (subst (λ (k : Node). Follows (low_of lows i) (set table i (Some f)) (new ++ more) g k) node (subst (λ (k : ℕ). Follows (low_of lows i) (set table i (Some f)) (new ++ more) k n) (sym (is_f id g same gives)) a.follows))
       ];
       onto = λ j lt. elim (cases_lt j (length new)) [
         | inl less ↦ let o = h.onto j less in (o.0, (let lower = o.1 in omega arith), o.2, gives_kept_other table i o.0 j (Some f) (let lower = o.1 in omega arith) o.3)

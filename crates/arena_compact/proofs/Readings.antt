@@ -9,9 +9,9 @@ use Rattle.std.proofs.lemmas.Grind.{flat_map-append}
 use Rattle.std.proofs.lemmas.Bool.{cases_eq}
 use Rattle.cer_base.specs.declared.node.Root.{Root}
 use Rattle.cer_base.specs.declared.node.Node.{Node}
-use Rattle.tecs_enumerate.specs.Rest.{CursorState, id_of}
+use Rattle.tecs_enumerate.specs.Rest.{CursorState}
 use Rattle.event_update.specs.Update.{entries_in}
-use Rattle.arena_compact.specs.Roots.{cursor_roots, places, CursorMoved, kept_rows, RowsMoved, KeysMoved}
+use Rattle.arena_compact.specs.Roots.{stack_roots, cursor_roots, places, CursorMoved, kept_rows, RowsMoved, KeysMoved}
 
 -- an element as the code reads it
 pub take_read : {X : Type 0} (xs : List X) (k : ℕ) (x : X) → k < length xs → x ≡ get_or xs k x → take (k + 1) xs ≡ take k xs ++ x ∷ []
@@ -43,7 +43,7 @@ row_at rows k l at =
 pub mapped_read : {X Y : Type 0} (f : X → Y) (xs : List X) (k : ℕ) (x : X) → k < length xs → x ≡ get_or xs k x → f x ≡ get_or (map f xs) k (f x)
 mapped_read f xs k x lt e = ap f e ∙ sym (get_or-map f xs k x (f x) lt)
 
-pub roots_more : {X : Type 0} (f : X → List ℕ) (roots : List ℕ) (xs : List X) (k : ℕ) (x : X) → k < length xs → x ≡ get_or xs k x → roots ++ flat_map f (take (k + 1) xs) ≡ (roots ++ flat_map f (take k xs)) ++ f x
+pub roots_more : {X A : Type 0} (f : X → List A) (roots : List A) (xs : List X) (k : ℕ) (x : X) → k < length xs → x ≡ get_or xs k x → roots ++ flat_map f (take (k + 1) xs) ≡ (roots ++ flat_map f (take k xs)) ++ f x
 roots_more f roots xs k x lt e =
     let one : flat_map f (x ∷ []) ≡ f x = append-nil (f x) in
     ap (λ ys. roots ++ flat_map f ys) (take_read xs k x lt e) ∙ ap (λ is. roots ++ is) (flat_map-append f (take k xs) (x ∷ []) ∙ ap (λ is. flat_map f (take k xs) ++ is) one) ∙ sym (append_assoc roots (flat_map f (take k xs)) (f x))
@@ -85,11 +85,11 @@ cursors_more query table old cur k w v h lt at m =
       few = omega arith;
     }
 
-pub roots_next : {X : Type 0} (f : X → List ℕ) (roots : List ℕ) (xs : List X) (k : ℕ) (x : X) → k < length xs → x ≡ get_or xs k x → roots ++ flat_map f (take (k + 1) xs) ≡ (roots ++ flat_map f (take k xs)) ++ flat_map f (x ∷ [])
+pub roots_next : {X A : Type 0} (f : X → List A) (roots : List A) (xs : List X) (k : ℕ) (x : X) → k < length xs → x ≡ get_or xs k x → roots ++ flat_map f (take (k + 1) xs) ≡ (roots ++ flat_map f (take k xs)) ++ flat_map f (x ∷ [])
 roots_next f roots xs k x lt e = ap (λ ys. roots ++ flat_map f ys) (take_read xs k x lt e) ∙ ap (λ is. roots ++ is) (flat_map-append f (take k xs) (x ∷ [])) ∙ sym (append_assoc roots (flat_map f (take k xs)) (flat_map f (x ∷ [])))
 
-pub roots_one : (query : ℕ) (w : CursorState) → w.query ≡ query → cursor_roots query (w ∷ []) ≡ map id_of w.stack
-roots_one query w e = rw (eq-eqb w.query query e) (append-nil (map id_of w.stack))
+pub roots_one : (query : ℕ) (w : CursorState) → w.query ≡ query → cursor_roots query (w ∷ []) ≡ stack_roots w
+roots_one query w e = rw (eq-eqb w.query query e) (append-nil (stack_roots w))
 
 -- The first k keys' rows are moved.
 pub record KeysTurned (low : ℤ) (nodes : List Node) (table : List (Option ℕ)) (old cur : List (List (ℕ × List Root))) (k : ℕ) : Type 0 where

@@ -1,20 +1,20 @@
 -- What a cursor has left after the nodes of its stack are moved.
-use Rattle.std.proofs.Common.{◌≡◌, ℕ, zero, suc, ◌+◌, ◌<◌, ◌≤◌, ℤ, List, [], ◌∷◌, ◌++◌, length, map, take, get_or, set, Option, Some, refl, sym, ap, subst, ◌∙◌, arith, inl, inr, length-set, append_assoc}
+use Rattle.std.proofs.Common.{◌≡◌, ℕ, zero, suc, ◌+◌, ◌<◌, ◌≤◌, ℤ, List, [], ◌∷◌, ◌++◌, length, map, take, get_or, set, Option, Some, refl, sym, ap, subst, ◌∙◌, arith, inl, inr, length-set, append_assoc, All}
 use Rattle.std.specs.Prelude.{◌≤ℤ◌, slice_get}
-use Rattle.std.proofs.lemmas.Int.{ints}
 use Rattle.std.proofs.lemmas.Option.{slice_get_within, get_or_from_slice_get}
-use Rattle.std.proofs.lemmas.List.{take_more, get_or-set_same, get_or-set_other}
+use Rattle.std.proofs.lemmas.List.{take_more, map-append, get_or-set_same, get_or-set_other}
 use Rattle.std.proofs.lemmas.Bool.{cases_eq}
+use Rattle.std.proofs.lemmas.List.Elements.{All-head, All-tail}
 use Rattle.cer_base.specs.declared.node.Stamp.{Stamp}
 use Rattle.cer_base.specs.declared.node.Node.{Node}
-use Rattle.cer_base.specs.Members.{SetTree, newest, need}
+use Rattle.cer_base.specs.Members.{newest, need}
 use Rattle.cer_base.specs.Nodes.{tree, WellFormed}
 use Rattle.cer_base.proofs.Walks.{is_rooted}
 use Rattle.tecs_enumerate.specs.declared.descent.Pending.{Pending}
 use Rattle.tecs_enumerate.specs.Rest.{with_positions, answers, rest_of, Room, AllHaveRoom, id_of, prefix_of}
 use Rattle.arena_compact.specs.Moves.{MovesTo, Moved}
 use Rattle.arena_compact.specs.Roots.{AreMoved}
-use Rattle.arena_compact.specs.Marks.{AreNodeMarks}
+use Rattle.arena_compact.specs.Marks.{AreNodeMarks, IsLowered, low_of, needed_from}
 use Rattle.arena_compact.proofs.Keeping.{marks_root}
 use Rattle.arena_compact.proofs.Pruned.{recent-pruned, newest-pruned, need-pruned}
 
@@ -24,23 +24,23 @@ moved_length table [] (f ∷ fs) h = absurd h
 moved_length table (e ∷ es) [] h = absurd h
 moved_length table (e ∷ es) (f ∷ fs) h = ap suc (moved_length table es fs h.2)
 
-module _ (least : ℤ) (old new : List Node) (marks table : List (Option ℕ)) (w : WellFormed old) (h : Moved least old marks (length old) new table) where
+module _ (lows : List ℤ) (old new : List Node) (marks table : List (Option ℕ)) (w : WellFormed old) (h : Moved lows old marks (length old) new table) where
   same_newest : (id f : ℕ) → id < length old → MovesTo table id f → newest (tree new f) ≡ newest (tree old id)
-  same_newest id f lt gives = ap newest (h.trees id f lt gives) ∙ newest-pruned least (tree old id) (w.well_formed_tree id lt)
+  same_newest id f lt gives = newest-pruned (low_of lows id) (tree old id) (tree new f) (h.trees id f lt gives) (w.well_formed_tree id lt)
 
-  same_answers : (low : ℤ) (front : List ℕ) (id f : ℕ) → least ≤ℤ low → id < length old → MovesTo table id f → answers low front (tree new f) ≡ answers low front (tree old id)
-  same_answers low front id f le lt gives =
-      ap (λ t. answers low front t) (h.trees id f lt gives) ∙ ap (map (with_positions front)) (recent-pruned old w.in_step low least le (tree old id) (is_rooted old w id lt))
+  same_answers : (low : ℤ) (front : List ℕ) (id f : ℕ) → low_of lows id ≤ℤ low → id < length old → MovesTo table id f → answers low front (tree new f) ≡ answers low front (tree old id)
+  same_answers low front id f le lt gives = ap (map (with_positions front)) (recent-pruned old w.in_step low (low_of lows id) le (tree old id) (tree new f) (h.trees id f lt gives) (is_rooted old w id lt))
 
   -- what is left is the same, in the same order
-  pub same_rest : (low : ℤ) (room : Room) (path : List ℕ) (es fs : List Pending) → least ≤ℤ low → AllHaveRoom low old room es → AreMoved table es fs → rest_of low new path fs ≡ rest_of low old path es
+  pub same_rest : (low : ℤ) (room : Room) (path : List ℕ) (es fs : List Pending) → All (λ id. low_of lows id ≤ℤ low) (map id_of es) → AllHaveRoom low old room es → AreMoved table es fs → rest_of low new path fs ≡ rest_of low old path es
   same_rest low room path [] [] le fits m = refl
   same_rest low room path [] (f ∷ fs) le fits m = absurd m
   same_rest low room path (e ∷ es) [] le fits m = absurd m
   same_rest low room path (e ∷ es) (f ∷ fs) le fits m =
+      let Upto : ℕ → Type 0 = λ id. low_of lows id ≤ℤ low in
       ap (λ n. answers low (take n path) (tree new f.id) ++ rest_of low new path fs) m.0
-      ∙ ap (λ ms. ms ++ rest_of low new path fs) (same_answers low (take e.prefix path) e.id f.id le fits.0.inside m.1)
-      ∙ ap (λ ms. answers low (take e.prefix path) (tree old e.id) ++ ms) (same_rest low room path es fs le fits.1 m.2)
+      ∙ ap (λ ms. ms ++ rest_of low new path fs) (same_answers low (take e.prefix path) e.id f.id (All-head Upto e.id (map id_of es) le) fits.0.inside m.1)
+      ∙ ap (λ ms. answers low (take e.prefix path) (tree old e.id) ++ ms) (same_rest low room path es fs (All-tail Upto e.id (map id_of es) le) fits.1 m.2)
 
   -- and there is room for it
   pub still_fits : (low : ℤ) (room : Room) (es fs : List Pending) → AllHaveRoom low old room es → AreMoved table es fs → AllHaveRoom low new room fs
@@ -49,7 +49,7 @@ module _ (least : ℤ) (old new : List Node) (marks table : List (Option ℕ)) (
   still_fits low room (e ∷ es) [] fits m = absurd m
   still_fits low room (e ∷ es) (f ∷ fs) fits m =
       let l = moved_length table es fs m.2 in
-      let less : need (tree new f.id) ≤ need (tree old e.id) = subst (λ (t : SetTree). need t ≤ need (tree old e.id)) (sym (h.trees e.id f.id fits.0.inside m.1)) (need-pruned least (tree old e.id)) in
+      let less : need (tree new f.id) ≤ need (tree old e.id) = need-pruned (low_of lows e.id) (tree old e.id) (tree new f.id) (h.trees e.id f.id fits.0.inside m.1) in
       let stack = fits.0.stack in let front = fits.0.path in let prefix = m.0 in (
         record {
           inside = h.inside e.id f.id fits.0.inside m.1;
@@ -109,11 +109,12 @@ fits_at low nodes room (e ∷ es) zero id fits at = let same : e.id ≡ id = cc 
 fits_at low nodes room (e ∷ es) (suc k) id fits at = fits_at low nodes room es k id fits.1 at
 
 -- one more entry's node is kept
-pub keep_next : (low least : ℤ) (nodes : List Node) (room : Room) (roots : List ℕ) (es : List Pending) (table new : List (Option ℕ)) (k id : ℕ) → least ≤ℤ low → AllHaveRoom low nodes room es → AreNodeMarks least nodes (roots ++ take k (map id_of es)) (length nodes) table → slice_get (map id_of es) k ≡ Some id → length nodes ≤ length table → new ≡ set table id (Some id) → AreNodeMarks least nodes (roots ++ take (k + 1) (map id_of es)) (length nodes) new
-keep_next low least nodes room roots es table new k id le fits h at wide is =
+pub keep_next : (low : ℤ) (nodes : List Node) (room : Room) (roots : List (ℕ × ℤ)) (es : List Pending) (table new : List (Option ℕ)) (lows after : List ℤ) (k id : ℕ) → AllHaveRoom low nodes room es → AreNodeMarks nodes (roots ++ needed_from low (take k (map id_of es))) (length nodes) table lows → slice_get (map id_of es) k ≡ Some id → length nodes ≤ length table → length lows ≡ length table → new ≡ set table id (Some id) → IsLowered table lows id low after → AreNodeMarks nodes (roots ++ needed_from low (take (k + 1) (map id_of es))) (length nodes) new after
+keep_next low nodes room roots es table new lows after k id fits h at wide even is lowered =
     let ids = map id_of es in
     let here = fits_at low nodes room es k id fits at in
-    let inside = here.0 in let recent = here.1 in
+    let inside = here.0 in
     let more : take (k + 1) ids ≡ take k ids ++ id ∷ [] = take_more ids k id (slice_get_within ids k id at) ∙ ap (λ i. take k ids ++ i ∷ []) (get_or_from_slice_get ids k id id at) in
-    let all : roots ++ take (k + 1) ids ≡ (roots ++ take k ids) ++ id ∷ [] = ap (λ is'. roots ++ is') more ∙ sym (append_assoc roots (take k ids) (id ∷ [])) in
-    rw (all, is) (marks_root least nodes (roots ++ take k ids) table id id h (omega arith) inside (omega (arith, ints)))
+    let from : needed_from low (take (k + 1) ids) ≡ needed_from low (take k ids) ++ (id, low) ∷ [] = ap (needed_from low) more ∙ map-append (λ (i : ℕ). (i, low)) (take k ids) (id ∷ []) in
+    let all : roots ++ needed_from low (take (k + 1) ids) ≡ (roots ++ needed_from low (take k ids)) ++ (id, low) ∷ [] = ap (λ is'. roots ++ is') from ∙ sym (append_assoc roots (needed_from low (take k ids)) ((id, low) ∷ [])) in
+    rw (all, is) (marks_root nodes (roots ++ needed_from low (take k ids)) table lows after id id low h (omega arith) (omega arith) inside here.1 lowered)

@@ -11,4 +11,4 @@ use Rattle.arena_compact.specs.Compacted.{RowsCompacted}
 
 -- Lists that stand for some events from a clock on stand for them after a compaction that uses this clock or an earlier one.
 abbrev pub CompactedListsStand : Type 0
-CompactedListsStand = (t : Table) (used from : ℤ) (xs : List Seen) (old new : List Node) (rows moved : List (ℕ × List Root)) → WellFormed old → used ≤ℤ from → Stands t from xs old rows → RowsCompacted used old new (kept_rows used rows) moved → Stands t from xs new moved
+CompactedListsStand = (t : Table) (least used from : ℤ) (xs : List Seen) (old new : List Node) (rows moved : List (ℕ × List Root)) → WellFormed old → used ≤ℤ from → Stands t from xs old rows → RowsCompacted least used old new (kept_rows used rows) moved → Stands t from xs new moved

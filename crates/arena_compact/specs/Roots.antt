@@ -8,6 +8,7 @@ use Rattle.cer_base.specs.declared.node.Node.{Node}
 use Rattle.tecs_enumerate.specs.declared.descent.Pending.{Pending}
 use Rattle.tecs_enumerate.specs.Rest.{CursorState, id_of}
 use Rattle.event_update.specs.Update.{entries_in}
+use Rattle.arena_compact.specs.Marks.{needed_from}
 use Rattle.arena_compact.specs.Moves.{MovesTo}
 use Rattle.arena_compact.specs.Fates.{NeedAt}
 
@@ -18,17 +19,25 @@ recent_entries low es = filter (λ e. int_le low e.max.clock) es
 abbrev pub ids_of : List Root → List ℕ
 ids_of es = map (λ e. e.id) es
 
--- the nodes of the recent entries of a key's lists
-abbrev pub row_roots : ℤ → List (ℕ × List Root) → List ℕ
-row_roots low rows = flat_map (λ (r : ℕ × List Root). ids_of (recent_entries low r.1)) rows
+-- the nodes of the recent entries of a list, needed from the clock on
+abbrev pub list_roots : ℤ → List Root → List (ℕ × ℤ)
+list_roots low es = needed_from low (ids_of (recent_entries low es))
 
--- the roots of all keys' lists
-abbrev pub key_roots : ℤ → List (List (ℕ × List Root)) → List ℕ
+-- those of a key's lists
+abbrev pub row_roots : ℤ → List (ℕ × List Root) → List (ℕ × ℤ)
+row_roots low rows = flat_map (λ (r : ℕ × List Root). list_roots low r.1) rows
+
+-- those of all keys' lists
+abbrev pub key_roots : ℤ → List (List (ℕ × List Root)) → List (ℕ × ℤ)
 key_roots low keys = flat_map (row_roots low) keys
 
--- the nodes that the query's cursors still have on their stacks
-abbrev pub cursor_roots : ℕ → List CursorState → List ℕ
-cursor_roots query ws = flat_map (λ w. cond (w.query == query) (map id_of w.stack) []) ws
+-- the nodes that a cursor still has on its stack, needed from its own clock on
+abbrev pub stack_roots : CursorState → List (ℕ × ℤ)
+stack_roots w = needed_from w.low (map id_of w.stack)
+
+-- those of the query's cursors
+abbrev pub cursor_roots : ℕ → List CursorState → List (ℕ × ℤ)
+cursor_roots query ws = flat_map (λ w. cond (w.query == query) (stack_roots w) []) ws
 
 -- A node has a place, at which a node stands.
 pub record IsPlaced (nodes : List Node) (table : List (Option ℕ)) (id : ℕ) : Type 0 where

@@ -1,14 +1,14 @@
 //! The stacks of held cursors: they say which nodes are kept, and are moved with their nodes.
-ghost use Rattle.std.specs.Prelude.{◌≡◌, ◌+◌, ◌*◌, ◌<◌, ◌≤◌, ◌≤ℤ◌, ◌++◌, [], ◌∷◌, List, ℕ, ℤ, ◌==◌, All, Some, cond, true, false, length, map, get_or, slice_get, slice_set, int_le};
+ghost use Rattle.std.specs.Prelude.{◌≡◌, ◌+◌, ◌*◌, ◌<◌, ◌≤◌, ◌++◌, [], ◌∷◌, List, ℕ, ℤ, All, Some, length, map, get_or, slice_get, slice_set};
 ghost use Rattle.cer_base.specs.declared.node.Node.{Node};
 ghost use Rattle.tecs_enumerate.specs.Rest.{CursorState, Fits, id_of, prefix_of};
-ghost use Rattle.arena_compact.specs.Compacted.{least_of};
 ghost use Rattle.arena_compact.specs.Marks.{IsKept, AreNodeMarks};
-ghost use Rattle.arena_compact.specs.Roots.{cursor_roots, AreMoved, CursorMoved};
+ghost use Rattle.arena_compact.specs.Roots.{stack_roots, cursor_roots, AreMoved, CursorMoved};
 
 use super::marks::keep;
 use super::moves::place_of;
 use cer_base::node::Id;
+use cer_base::time::LowTime;
 use tecs_enumerate::Cursor;
 
 /// What has a cursor: it can be seen, and the nodes of its stack changed. A compaction changes
@@ -48,17 +48,18 @@ impl HasCursor for Cursor {
     }
 }
 
-/// Keeps the nodes that a cursor still has on its stack.
-pub fn keep_cursor(cursor: &Cursor, table: &mut [Option<Id>])
+/// Keeps the nodes that a cursor still has on its stack, from the cursor's clock on.
+pub fn keep_cursor(cursor: &Cursor, table: &mut [Option<Id>], lows: &mut [LowTime])
     requires inside { All (λ id. id < length table.old) (map id_of cursor.now.stack) }
-    ensures marks { (low : ℤ) → (nodes : List Node) → (roots : List ℕ)
-        → length nodes ≤ length table.old → low ≤ℤ cursor.now.low → Fits cursor.now nodes
-        → AreNodeMarks low nodes roots (length nodes) table.old
-        → AreNodeMarks low nodes (roots ++ map id_of cursor.now.stack) (length nodes) table.new }
-    ensures long { length table.new ≡ length table.old }
+    requires even { length lows.old ≡ length table.old }
+    ensures marks { (nodes : List Node) → (roots : List (ℕ × ℤ)) → length nodes ≤ length table.old
+        → Fits cursor.now nodes → AreNodeMarks nodes roots (length nodes) table.old lows.old
+        → AreNodeMarks nodes (roots ++ stack_roots cursor.now) (length nodes) table.new lows.new }
+    ensures long { (length table.new ≡ length table.old) × (length lows.new ≡ length lows.old) }
 {
+    let low = LowTime::of(cursor.low());
     for k in 0..cursor.depth() {
-        keep(table, cursor.at(k));
+        keep(table, lows, cursor.at(k), *&low);
     }
 }
 
@@ -76,37 +77,42 @@ pub fn move_cursor<C: HasCursor>(cursor: &mut C, table: &[Option<Id>])
 }
 
 /// Keeps the nodes that the cursor still has on its stack, if it is the query's.
-fn keep_if(cursor: &Cursor, query: u64, table: &mut [Option<Id>])
+fn keep_if(cursor: &Cursor, query: u64, table: &mut [Option<Id>], lows: &mut [LowTime])
     requires inside { cursor.now.query ≡ query
         → All (λ id. id < length table.old) (map id_of cursor.now.stack) }
-    ensures marks { (low : ℤ) → (nodes : List Node) → (roots : List ℕ)
-        → length nodes ≤ length table.old → (cursor.now.query ≡ query
-        → (low ≤ℤ cursor.now.low) × Fits cursor.now nodes)
-        → AreNodeMarks low nodes roots (length nodes) table.old
-        → AreNodeMarks low nodes (roots ++ cursor_roots query (cursor.now ∷ []))
-        (length nodes) table.new }
-    ensures long { length table.new ≡ length table.old }
+    requires even { length lows.old ≡ length table.old }
+    ensures marks { (nodes : List Node) → (roots : List (ℕ × ℤ)) → length nodes ≤ length table.old
+        → (cursor.now.query ≡ query → Fits cursor.now nodes)
+        → AreNodeMarks nodes roots (length nodes) table.old lows.old
+        → AreNodeMarks nodes (roots ++ cursor_roots query (cursor.now ∷ [])) (length nodes)
+        table.new lows.new }
+    ensures long { (length table.new ≡ length table.old) × (length lows.new ≡ length lows.old) }
 {
     if cursor.query() == query {
-        keep_cursor(cursor, table);
+        keep_cursor(cursor, table, lows);
     }
 }
 
-/// Keeps the nodes that the query's cursors still have on their stacks.
-pub fn keep_cursors<C: HasCursor>(cursors: &[C], query: u64, table: &mut [Option<Id>])
+/// Keeps the nodes that the query's cursors still have on their stacks, each from its cursor's clock
+/// on. A cursor that has given all has none.
+pub fn keep_cursors<C: HasCursor>(
+    cursors: &[C],
+    query: u64,
+    table: &mut [Option<Id>],
+    lows: &mut [LowTime],
+)
     requires inside { All (λ w. w.query ≡ query
         → All (λ id. id < length table.old) (map id_of w.stack)) (map C.walk cursors.now) }
-    ensures marks { (low : ℤ) → (nodes : List Node) → (roots : List ℕ)
-        → length nodes ≤ length table.old → All (λ w. w.query ≡ query
-        → (low ≤ℤ w.low) × Fits w nodes) (map C.walk cursors.now)
-        → AreNodeMarks low nodes roots (length nodes) table.old
-        → AreNodeMarks low nodes (roots ++ cursor_roots query (map C.walk cursors.now))
-        (length nodes)
-        table.new }
-    ensures long { length table.new ≡ length table.old }
+    requires even { length lows.old ≡ length table.old }
+    ensures marks { (nodes : List Node) → (roots : List (ℕ × ℤ)) → length nodes ≤ length table.old
+        → All (λ w. w.query ≡ query → Fits w nodes) (map C.walk cursors.now)
+        → AreNodeMarks nodes roots (length nodes) table.old lows.old
+        → AreNodeMarks nodes (roots ++ cursor_roots query (map C.walk cursors.now)) (length nodes)
+        table.new lows.new }
+    ensures long { (length table.new ≡ length table.old) × (length lows.new ≡ length lows.old) }
 {
     for k in 0..cursors.len() {
-        keep_if(cursors[k].cursor(), query, table);
+        keep_if(cursors[k].cursor(), query, table, lows);
     }
 }
 
@@ -133,34 +139,4 @@ pub fn move_cursors<C: HasCursor>(cursors: &mut [C], query: u64, table: &[Option
     for k in 0..cursors.len() {
         move_if(&mut cursors[k], query, table);
     }
-}
-
-/// Whether the first clock is not above the second.
-fn is_lower(a: i128, b: i128) -> bool
-    ensures { result ≡ int_le a b }
-{
-    a <= b
-}
-
-/// The lower one of a clock and the cursor's, if it is the query's.
-fn lower(cursor: &Cursor, query: u64, low: i128) -> i128
-    ensures { result
-        ≡ cond (cursor.now.query == query)
-        (cond (int_le low cursor.now.low) low cursor.now.low) low }
-{
-    if cursor.query() == query && !is_lower(low, cursor.low()) {
-        return cursor.low();
-    }
-    low
-}
-
-/// The least of a clock and the clocks of the query's cursors.
-pub fn least_low<C: HasCursor>(cursors: &[C], query: u64, low: i128) -> i128
-    ensures { result ≡ least_of query low (map C.walk cursors.now) }
-{
-    let mut least = low;
-    for k in 0..cursors.len() {
-        least = lower(cursors[k].cursor(), query, least);
-    }
-    least
 }

@@ -1,5 +1,5 @@
 //! The lists of all keys, wherever a caller has them.
-ghost use Rattle.std.specs.Prelude.{◌≡◌, ◌+◌, ◌*◌, ◌<◌, ◌≤◌, ◌++◌, List, ℕ, All, length, map};
+ghost use Rattle.std.specs.Prelude.{◌≡◌, ◌+◌, ◌*◌, ◌<◌, ◌≤◌, ◌++◌, List, ℕ, ℤ, All, length, map};
 ghost use Rattle.cer_base.specs.declared.node.Node.{Node};
 ghost use Rattle.cer_base.specs.declared.node.Root.{Root};
 ghost use Rattle.cer_base.specs.Nodes.{IsRoot};
@@ -11,6 +11,7 @@ use super::rows::{keep_rows, move_rows};
 use cer_base::node::Id;
 use cer_base::steps::Steps;
 use cer_base::store::NodeStore;
+use cer_base::time::LowTime;
 use event_update::Active;
 use std::alloc::Global;
 use std::mem;
@@ -55,25 +56,27 @@ impl HasLists for Active {
     }
 }
 
-/// Keeps the nodes of the recent entries of all keys' lists. One step for each entry.
+/// Keeps the nodes of the recent entries of all keys' lists, from the clock on. One step for each entry.
 pub fn keep_keys<K: HasLists, L: Ledger>(
     keys: &[K],
-    low: i128,
+    low: LowTime,
     table: &mut [Option<Id>],
+    lows: &mut [LowTime],
     steps: &mut Steps<L>,
 )
     requires inside { All (λ rows. All (λ r. All (λ e. e.id < length table.old) r.1) rows)
         (map K.rows keys.now) }
-    ensures marks { (nodes : List Node) → (roots : List ℕ) → length nodes ≤ length table.old
+    requires even { length lows.old ≡ length table.old }
+    ensures marks { (nodes : List Node) → (roots : List (ℕ × ℤ)) → length nodes ≤ length table.old
         → All (λ rows. All (λ r. All (IsRoot nodes) r.1) rows) (map K.rows keys.now)
-        → AreNodeMarks low nodes roots (length nodes) table.old
-        → AreNodeMarks low nodes (roots ++ key_roots low (map K.rows keys.now)) (length nodes)
-        table.new }
-    ensures long { length table.new ≡ length table.old }
+        → AreNodeMarks nodes roots (length nodes) table.old lows.old
+        → AreNodeMarks nodes (roots ++ key_roots low (map K.rows keys.now)) (length nodes)
+        table.new lows.new }
+    ensures long { (length table.new ≡ length table.old) × (length lows.new ≡ length lows.old) }
     ensures steps { steps.new ≡ steps.old + places (map K.rows keys.now) }
 {
     for k in 0..keys.len() {
-        keep_rows(keys[k].lists(), low, table, steps);
+        keep_rows(keys[k].lists(), *&low, table, lows, steps);
     }
 }
 
@@ -81,7 +84,7 @@ pub fn keep_keys<K: HasLists, L: Ledger>(
 /// for each that stays.
 fn move_key<S: NodeStore, K: HasLists, L: Ledger>(
     store: &S,
-    low: i128,
+    low: LowTime,
     key: &mut K,
     table: &[Option<Id>],
     steps: &mut Steps<L>,
@@ -100,7 +103,7 @@ fn move_key<S: NodeStore, K: HasLists, L: Ledger>(
 /// for each that stays.
 pub fn move_keys<S: NodeStore, K: HasLists, L: Ledger>(
     store: &S,
-    low: i128,
+    low: LowTime,
     keys: &mut [K],
     table: &[Option<Id>],
     steps: &mut Steps<L>,
@@ -112,6 +115,6 @@ pub fn move_keys<S: NodeStore, K: HasLists, L: Ledger>(
     ensures counted { 3 * places (map K.rows keys.new) + steps.old ≤ steps.new }
 {
     for k in 0..keys.len() {
-        move_key(store, low, &mut keys[k], table, steps);
+        move_key(store, *&low, &mut keys[k], table, steps);
     }
 }

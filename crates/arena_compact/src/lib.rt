@@ -1,11 +1,13 @@
 //! Compaction: of the nodes of a query only those stay that its lists or held cursors still need,
 //! and of these only what is recent.
 //!
-//! A node is needed where it can be reached from a recent entry of a list, or from the stack of a
-//! held cursor, by no right child of a union whose greatest start is too old. The needed nodes are
-//! marked from the newest to the oldest, and then moved down from the oldest to the newest, each to
-//! the first free place. A union whose right child goes is replaced by its left child. Greatest
-//! starts stay as they are; needs are computed anew.
+//! The lists need nodes from the query's low clock on, a held cursor from its own on. A node is
+//! needed where it can be reached from a recent entry of a list, or from what a cursor has left on
+//! its stack, by no right child of a union whose greatest start is too old for that list or cursor.
+//! The needed nodes are marked from the newest to the oldest, each with the least clock from which on
+//! it is needed, and then moved down from the oldest to the newest, each to the first free place. A
+//! union whose right child is older than the union's own clock is replaced by its left child.
+//! Greatest starts stay as they are; needs are computed anew.
 //!
 //! Ten nodes after three events, at the clocks 0, 1 and 2, and one list, of node 8 alone. A join
 //! names its left child, then its right one. To the right is what a compaction from clock 1 on
@@ -24,19 +26,20 @@
 //! has the lists of a key or a cursor.
 #![tactic(auto)]
 
-ghost use Rattle.std.specs.Prelude.{◌≡◌, ◌+◌, ◌*◌, ◌<◌, ◌≤◌, ◌≤ℤ◌, ◌++◌, ℕ, List, All, None, length, map, get_or, IfOk};
+ghost use Rattle.std.specs.Prelude.{◌≡◌, ◌+◌, ◌*◌, ◌<◌, ◌≤◌, ◌++◌, ℕ, List, All, None, length, map, get_or, IfOk};
 ghost use Rattle.cer_base.specs.declared.node.Root.{Root};
 ghost use Rattle.cer_base.specs.Nodes.{WellFormed};
 ghost use Rattle.tecs_enumerate.specs.Rest.{CursorState, Fits};
 ghost use Rattle.union_lists.specs.Lists.{IsUnionList};
 ghost use Rattle.arena_compact.specs.Marks.{AreNodeMarks};
 ghost use Rattle.arena_compact.specs.Roots.{key_roots, cursor_roots, places};
-ghost use Rattle.arena_compact.specs.Compacted.{least_of, roots_of, Compacted, KeysCompacted, CursorCompacted, CanCompact, AreCompacted};
+ghost use Rattle.arena_compact.specs.Compacted.{least_of, Compacted, KeysCompacted, CursorCompacted, CanCompact, AreCompacted};
 
 use cer_base::Memory;
 use cer_base::node::Id;
 use cer_base::steps::Steps;
 use cer_base::store::NodeStore;
+use cer_base::time::LowTime;
 use std::alloc::Global;
 use std::marker::Model;
 use std::sync::ledger::Ledger;
@@ -51,24 +54,26 @@ mod moves;
 mod rows;
 
 pub use cursors::HasCursor;
-use cursors::{keep_cursors, least_low, move_cursors};
+use cursors::{keep_cursors, move_cursors};
 pub use keys::HasLists;
 use keys::{keep_keys, move_keys};
 use marks::keep_needed;
 use moves::move_nodes;
 
-/// Room for a compaction, seen as the number of nodes that it has places for.
+/// Room for a compaction, seen as the number of nodes that it has places for: for each the place that
+/// it moves to, and the clock from which on it is needed.
 #[derive(Drop)]
 pub struct Room {
     places: Vec<Option<Id>>,
+    lows: Vec<LowTime>,
 }
 
 impl Model for Room {
-    ghost use Rattle.std.specs.Prelude.{ℕ, length};
+    ghost use Rattle.std.specs.Prelude.{ℕ, length, min};
 
     ghost Value = { ℕ };
 
-    ghost view = { λ r. length r.places.items };
+    ghost view = { λ r. min (length r.places.items) (length r.lows.items) };
 }
 
 impl Room {
@@ -78,36 +83,37 @@ impl Room {
     {
         Ok(Room {
             places: Vec::from_elem(alloc, None, n as usize)?,
+            lows: Vec::from_elem(alloc, LowTime::of(0), n as usize)?,
         })
     }
 }
 
-/// Marks all nodes that are needed. At most one step for each node and each entry, and at least one for
-/// each entry.
+/// Marks all nodes that are needed, each from the least clock from which on it is. At most one step
+/// for each node and each entry, and at least one for each entry.
 fn keep_all<S: NodeStore, K: HasLists, C: HasCursor, L: Ledger>(
     store: &S,
     query: u64,
     keys: &[K],
     cursors: &[C],
-    least: i128,
+    low: LowTime,
     table: &mut [Option<Id>],
+    lows: &mut [LowTime],
     steps: &mut Steps<L>,
 )
     requires can { CanCompact query (length table.old) (S.nodes store.now) (map K.rows keys.now)
         (map C.walk cursors.now) }
-    requires least { All (λ w. w.query ≡ query → least ≤ℤ w.low) (map C.walk cursors.now) }
+    requires even { length lows.old ≡ length table.old }
     requires blank { (id : ℕ) → get_or table.old id None ≡ None }
-    ensures marks { AreNodeMarks least (S.nodes store.now)
-        (key_roots least (map K.rows keys.now)
-        ++ cursor_roots query (map C.walk cursors.now)) 0 table.new }
-    ensures long { length table.new ≡ length table.old }
+    ensures marks { AreNodeMarks (S.nodes store.now) (key_roots low (map K.rows keys.now)
+        ++ cursor_roots query (map C.walk cursors.now)) 0 table.new lows.new }
+    ensures long { (length table.new ≡ length table.old) × (length lows.new ≡ length lows.old) }
     ensures steps { steps.new
         ≤ steps.old + places (map K.rows keys.now) + length (S.nodes store.now) }
     ensures counted { places (map K.rows keys.now) + steps.old ≤ steps.new }
 {
-    keep_keys(keys, least, table, steps);
-    keep_cursors(cursors, query, table);
-    keep_needed(store, least, table, steps);
+    keep_keys(keys, low, table, lows, steps);
+    keep_cursors(cursors, query, table, lows);
+    keep_needed(store, table, lows, steps);
 }
 
 /// Moves all nodes that are needed, and with them the entries of the lists and the stacks of the
@@ -118,17 +124,17 @@ fn move_all<S: NodeStore, K: HasLists, C: HasCursor, L: Ledger>(
     query: u64,
     keys: &mut [K],
     cursors: &mut [C],
-    least: i128,
+    low: LowTime,
     table: &mut [Option<Id>],
+    lows: &[LowTime],
     steps: &mut Steps<L>,
 )
     requires can { CanCompact query (length table.old) (S.nodes store.old) (map K.rows keys.old)
         (map C.walk cursors.old) }
-    requires least { All (λ w. w.query ≡ query → least ≤ℤ w.low) (map C.walk cursors.old) }
-    requires marks { AreNodeMarks least (S.nodes store.old)
-        (key_roots least (map K.rows keys.old)
-        ++ cursor_roots query (map C.walk cursors.old)) 0 table.old }
-    ensures compacted { AreCompacted query least (S.nodes store.old) (S.nodes store.new)
+    requires even { length lows.now ≡ length table.old }
+    requires marks { AreNodeMarks (S.nodes store.old) (key_roots low (map K.rows keys.old)
+        ++ cursor_roots query (map C.walk cursors.old)) 0 table.old lows.now }
+    ensures compacted { AreCompacted query low (S.nodes store.old) (S.nodes store.new)
         (map K.rows keys.old) (map K.rows keys.new) (map C.walk cursors.old)
         (map C.walk cursors.new) }
     ensures count { length cursors.new ≡ length cursors.old }
@@ -136,9 +142,9 @@ fn move_all<S: NodeStore, K: HasLists, C: HasCursor, L: Ledger>(
         ≤ steps.old + 4 * length (S.nodes store.old) + 3 * places (map K.rows keys.old) }
     ensures counted { 3 * places (map K.rows keys.new) + steps.old ≤ steps.new }
 {
-    move_nodes(store, least, table, steps);
+    move_nodes(store, table, lows, steps);
     move_cursors(cursors, query, table);
-    move_keys(store, least, keys, table, steps);
+    move_keys(store, low, keys, table, steps);
 }
 
 /// Makes all places of the table empty.
@@ -151,42 +157,76 @@ fn blank(table: &mut [Option<Id>])
     }
 }
 
-/// `compact`, over the room as a slice.
+/// `compact`, over the room as slices.
 fn compact_in<S: NodeStore, K: HasLists, C: HasCursor, L: Ledger>(
     store: &mut S,
     query: u64,
     keys: &mut [K],
     cursors: &mut [C],
-    low: i128,
+    low: LowTime,
     table: &mut [Option<Id>],
+    lows: &mut [LowTime],
     steps: &mut Steps<L>,
 )
     requires can { CanCompact query (length table.old) (S.nodes store.old) (map K.rows keys.old)
         (map C.walk cursors.old) }
-    ensures compacted { AreCompacted query (least_of query low (map C.walk cursors.old))
-        (S.nodes store.old) (S.nodes store.new) (map K.rows keys.old) (map K.rows keys.new)
-        (map C.walk cursors.old) (map C.walk cursors.new) }
+    requires even { length lows.old ≡ length table.old }
+    ensures compacted { AreCompacted query low (S.nodes store.old) (S.nodes store.new)
+        (map K.rows keys.old) (map K.rows keys.new) (map C.walk cursors.old)
+        (map C.walk cursors.new) }
     ensures count { length cursors.new ≡ length cursors.old }
     ensures steps { steps.new
         ≤ steps.old + 8 * length (S.nodes store.old) + 4 * places (map K.rows keys.old) }
     ensures counted { places (map K.rows keys.old) + 3 * places (map K.rows keys.new) + steps.old
         ≤ steps.new }
 {
-    let least = least_low(cursors, query, low);
     blank(table);
-    keep_all(store, query, keys, cursors, least, table, steps);
-    move_all(store, query, keys, cursors, least, table, steps);
+    keep_all(store, query, keys, cursors, *&low, table, lows, steps);
+    move_all(store, query, keys, cursors, low, table, lows, steps);
 }
 
-/// Keeps of a query's nodes what the recent entries of the lists and the query's cursors need; a
-/// start is recent where its clock is at least the least of `low` and these cursors' own. The room
-/// is for as many nodes as the store has, or more.
+/// `compact`, over the room's two vectors.
+fn compact_with<S: NodeStore, K: HasLists, C: HasCursor, L: Ledger>(
+    store: &mut S,
+    query: u64,
+    keys: &mut [K],
+    cursors: &mut [C],
+    low: LowTime,
+    table: &mut Vec<Option<Id>>,
+    lows: &mut Vec<LowTime>,
+    steps: &mut Steps<L>,
+)
+    requires can { CanCompact query (length table.old.items) (S.nodes store.old)
+        (map K.rows keys.old) (map C.walk cursors.old) }
+    requires wide { length (S.nodes store.old) ≤ length lows.old.items }
+    ensures compacted { AreCompacted query low (S.nodes store.old) (S.nodes store.new)
+        (map K.rows keys.old) (map K.rows keys.new) (map C.walk cursors.old)
+        (map C.walk cursors.new) }
+    ensures count { length cursors.new ≡ length cursors.old }
+    ensures table { length table.new.items ≡ length table.old.items }
+    ensures lows { length lows.new.items ≡ length lows.old.items }
+    ensures steps { steps.new
+        ≤ steps.old + 8 * length (S.nodes store.old) + 4 * places (map K.rows keys.old) }
+    ensures counted { places (map K.rows keys.old) + 3 * places (map K.rows keys.new) + steps.old
+        ≤ steps.new }
+{
+    let count = store.len() as usize;
+    let table = &mut table.as_mut_slice()[..count];
+    let lows = &mut lows.as_mut_slice()[..count];
+    compact_in(store, query, keys, cursors, low, table, lows, steps);
+}
+
+/// Keeps of a query's nodes what the recent entries of the lists and the query's cursors need. For a
+/// list a start is recent where its clock is at least `low`, for a cursor where it is at least the
+/// cursor's own: a cursor keeps what it has left, and no list is longer for it. A cursor that has
+/// given all keeps nothing. The room is for as many nodes as the store has, or more.
 ///
 /// Of each key the states stay that have a recent entry, in their order, each with its recent entries
-/// in their order; a cursor of the query has the same answers left, and one of another query is not
-/// touched. Nodes get other ids, so a list or a cursor of the query that is not among these no longer
-/// goes with the store. It takes no memory, at most eight steps for each node and four for each
-/// entry, and at least one for each entry and three more for each that stays.
+/// in their order. An entry's node may have older members, where a cursor still needs them too; its
+/// recent ones are the same in the same order. A cursor of the query has the same answers left, and
+/// one of another query is not touched. Nodes get other ids, so a list or a cursor of the query that
+/// is not among these no longer goes with the store. It takes no memory, at most eight steps for each
+/// node and four for each entry, and at least one for each entry and three more for each that stays.
 pub fn compact<S: NodeStore, K: HasLists, C: HasCursor, L: Ledger>(
     store: &mut S,
     query: u64,
@@ -202,10 +242,10 @@ pub fn compact<S: NodeStore, K: HasLists, C: HasCursor, L: Ledger>(
     requires cursors { All (λ w. w.query ≡ query
         → Fits w (S.nodes store.old)) (map C.walk cursors.old) }
     requires room { length (S.nodes store.old) ≤ room.old }
-    ensures nodes { Compacted (least_of query low (map C.walk cursors.old)) (S.nodes store.old)
-        (S.nodes store.new) (roots_of query (map K.rows keys.new) (map C.walk cursors.new)) }
-    ensures lists { KeysCompacted (least_of query low (map C.walk cursors.old)) (S.nodes store.old)
-        (S.nodes store.new) (map K.rows keys.old) (map K.rows keys.new) }
+    ensures nodes { Compacted query low (S.nodes store.old) (S.nodes store.new)
+        (map K.rows keys.new) (map C.walk cursors.new) }
+    ensures lists { KeysCompacted (least_of query low (map C.walk cursors.old)) low
+        (S.nodes store.old) (S.nodes store.new) (map K.rows keys.old) (map K.rows keys.new) }
     ensures cursors { (k : ℕ) → (d : CursorState) → k < length cursors.old
         → CursorCompacted query (S.nodes store.old) (S.nodes store.new)
         (get_or (map C.walk cursors.old) k d)
@@ -217,7 +257,14 @@ pub fn compact<S: NodeStore, K: HasLists, C: HasCursor, L: Ledger>(
     ensures counted { places (map K.rows keys.old) + 3 * places (map K.rows keys.new) + steps.old
         ≤ steps.new }
 {
-    let count = store.len() as usize;
-    let table = &mut room.places.as_mut_slice()[..count];
-    compact_in(store, query, keys, cursors, low, table, steps);
+    compact_with(
+        store,
+        query,
+        keys,
+        cursors,
+        LowTime::of(low),
+        &mut room.places,
+        &mut room.lows,
+        steps,
+    );
 }

@@ -1,43 +1,57 @@
 //! The entries of one union list: they say which nodes are kept, and are moved with their nodes.
-ghost use Rattle.std.specs.Prelude.{◌≡◌, ◌+◌, ◌*◌, ◌<◌, ◌≤◌, ◌++◌, [], List, ℕ, All, Some, cond, true, false, length, slice_get, slice_set, int_le};
+ghost use Rattle.std.specs.Prelude.{◌≡◌, ◌+◌, ◌*◌, ◌<◌, ◌≤◌, ◌++◌, [], List, ℕ, ℤ, All, Some, true, false, length, slice_get, slice_set, int_le};
 ghost use Rattle.cer_base.specs.declared.node.Node.{Node};
 ghost use Rattle.cer_base.specs.declared.node.Root.{Root};
 ghost use Rattle.cer_base.specs.Nodes.{IsRoot};
-ghost use Rattle.arena_compact.specs.Marks.{AreNodeMarks};
-ghost use Rattle.arena_compact.specs.Roots.{recent_entries, ids_of, AreOlder, IsPlaced, EntryMoved, EntriesMoved};
+ghost use Rattle.arena_compact.specs.Marks.{AreNodeMarks, IsLowered};
+ghost use Rattle.arena_compact.specs.Roots.{recent_entries, list_roots, AreOlder, IsPlaced, EntryMoved, EntriesMoved};
 
 use super::marks::{is_recent, keep};
 use super::moves::{need_at, place_of};
 use cer_base::node::{Id, Root};
 use cer_base::steps::Steps;
 use cer_base::store::NodeStore;
+use cer_base::time::LowTime;
 use std::sync::ledger::Ledger;
 use union_lists::UList;
 
 /// Keeps the node of an entry, if it is recent.
-fn keep_entry(entry: Root, low: i128, table: &mut [Option<Id>])
-    requires { entry.id < length table.old }
-    ensures { table.new ≡ cond (int_le low entry.max.clock)
-        (slice_set table.old entry.id (Some entry.id)) table.old }
+fn keep_entry(entry: Root, low: LowTime, table: &mut [Option<Id>], lows: &mut [LowTime])
+    requires inside { entry.id < length table.old }
+    requires even { length lows.old ≡ length table.old }
+    ensures recent { int_le low entry.max.clock ≡ true
+        → (table.new ≡ slice_set table.old entry.id (Some entry.id))
+        × IsLowered table.old lows.old entry.id low lows.new }
+    ensures old { int_le low entry.max.clock ≡ false
+        → (table.new ≡ table.old) × (lows.new ≡ lows.old) }
+    ensures long { (length table.new ≡ length table.old) × (length lows.new ≡ length lows.old) }
 {
-    if is_recent(low, entry.max) {
-        keep(table, entry.id);
+    if is_recent(*&low, entry.max) {
+        keep(table, lows, entry.id, low);
     }
 }
 
-/// Keeps the nodes of a list's recent entries. One step for each entry.
-pub fn keep_list<L: Ledger>(list: &UList, low: i128, table: &mut [Option<Id>], steps: &mut Steps<L>)
+/// Keeps the nodes of a list's recent entries, from the clock on. One step for each entry.
+pub fn keep_list<L: Ledger>(
+    list: &UList,
+    low: LowTime,
+    table: &mut [Option<Id>],
+    lows: &mut [LowTime],
+    steps: &mut Steps<L>,
+)
     requires inside { All (λ e. e.id < length table.old) list.now }
-    ensures marks { (nodes : List Node) → (roots : List ℕ) → length nodes ≤ length table.old
-        → All (IsRoot nodes) list.now → AreNodeMarks low nodes roots (length nodes) table.old
-        → AreNodeMarks low nodes (roots ++ ids_of (recent_entries low list.now)) (length nodes)
-        table.new }
-    ensures long { length table.new ≡ length table.old }
+    requires even { length lows.old ≡ length table.old }
+    ensures marks { (nodes : List Node) → (roots : List (ℕ × ℤ)) → length nodes ≤ length table.old
+        → All (IsRoot nodes) list.now
+        → AreNodeMarks nodes roots (length nodes) table.old lows.old
+        → AreNodeMarks nodes (roots ++ list_roots low list.now) (length nodes) table.new
+        lows.new }
+    ensures long { (length table.new ≡ length table.old) × (length lows.new ≡ length lows.old) }
     ensures steps { steps.new ≡ steps.old + length list.now }
 {
     for k in 0..list.len() {
         steps.tick();
-        keep_entry(list.entry(k), low, table);
+        keep_entry(list.entry(k), *&low, table, lows);
     }
 }
 
@@ -45,7 +59,7 @@ pub fn keep_list<L: Ledger>(list: &UList, low: i128, table: &mut [Option<Id>], s
 /// recent one to read its node and one to write it.
 fn move_entry<S: NodeStore, L: Ledger>(
     store: &S,
-    low: i128,
+    low: LowTime,
     list: &mut UList,
     k: usize,
     table: &[Option<Id>],
@@ -79,7 +93,7 @@ fn move_entry<S: NodeStore, L: Ledger>(
 /// three steps for each entry, and at least three for each recent one.
 pub fn move_list<S: NodeStore, L: Ledger>(
     store: &S,
-    low: i128,
+    low: LowTime,
     list: &mut UList,
     table: &[Option<Id>],
     steps: &mut Steps<L>,
@@ -95,7 +109,7 @@ pub fn move_list<S: NodeStore, L: Ledger>(
     ensures counted { 3 * length (recent_entries low list.old) + steps.old ≤ steps.new }
 {
     for k in 0..list.len() {
-        if !move_entry(store, low, list, k, table, steps) {
+        if !move_entry(store, *&low, list, k, table, steps) {
             if k == 0 {
                 return false;
             }

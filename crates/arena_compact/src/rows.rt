@@ -1,5 +1,5 @@
 //! The lists of one key, each with its state.
-ghost use Rattle.std.specs.Prelude.{◌≡◌, ◌+◌, ◌*◌, ◌<◌, ◌≤◌, ◌++◌, List, ℕ, All, Some, true, length, take, slice_get, int_le};
+ghost use Rattle.std.specs.Prelude.{◌≡◌, ◌+◌, ◌*◌, ◌<◌, ◌≤◌, ◌++◌, List, ℕ, ℤ, All, Some, true, length, take, slice_get, int_le};
 ghost use Rattle.cer_base.specs.declared.node.Node.{Node};
 ghost use Rattle.cer_base.specs.declared.node.Root.{Root};
 ghost use Rattle.cer_base.specs.Nodes.{IsRoot};
@@ -12,28 +12,31 @@ use cea_determinise::table::State;
 use cer_base::node::Id;
 use cer_base::steps::Steps;
 use cer_base::store::NodeStore;
+use cer_base::time::LowTime;
 use event_update::Active;
 use std::sync::ledger::Ledger;
 use union_lists::UList;
 
-/// Keeps the nodes of the recent entries of a key's lists. One step for each entry.
+/// Keeps the nodes of the recent entries of a key's lists, from the clock on. One step for each entry.
 pub fn keep_rows<L: Ledger>(
     active: &Active,
-    low: i128,
+    low: LowTime,
     table: &mut [Option<Id>],
+    lows: &mut [LowTime],
     steps: &mut Steps<L>,
 )
     requires inside { All (λ r. All (λ e. e.id < length table.old) r.1) active.now.entries }
-    ensures marks { (nodes : List Node) → (roots : List ℕ) → length nodes ≤ length table.old
+    requires even { length lows.old ≡ length table.old }
+    ensures marks { (nodes : List Node) → (roots : List (ℕ × ℤ)) → length nodes ≤ length table.old
         → All (λ r. All (IsRoot nodes) r.1) active.now.entries
-        → AreNodeMarks low nodes roots (length nodes) table.old
-        → AreNodeMarks low nodes (roots ++ row_roots low active.now.entries)
-        (length nodes) table.new }
-    ensures long { length table.new ≡ length table.old }
+        → AreNodeMarks nodes roots (length nodes) table.old lows.old
+        → AreNodeMarks nodes (roots ++ row_roots low active.now.entries) (length nodes) table.new
+        lows.new }
+    ensures long { (length table.new ≡ length table.old) × (length lows.new ≡ length lows.old) }
     ensures steps { steps.new ≡ steps.old + entries_in active.now.entries }
 {
     for k in 0..active.len() {
-        keep_list(active.list(k), low, table, steps);
+        keep_list(active.list(k), *&low, table, lows, steps);
     }
 }
 
@@ -42,7 +45,7 @@ pub fn keep_rows<L: Ledger>(
 /// one.
 fn move_row<S: NodeStore, L: Ledger>(
     store: &S,
-    low: i128,
+    low: LowTime,
     rows: &mut [(State, UList)],
     kept: usize,
     k: usize,
@@ -72,7 +75,7 @@ fn move_row<S: NodeStore, L: Ledger>(
 /// each recent one.
 fn move_each<S: NodeStore, L: Ledger>(
     store: &S,
-    low: i128,
+    low: LowTime,
     rows: &mut [(State, UList)],
     table: &[Option<Id>],
     steps: &mut Steps<L>,
@@ -84,7 +87,7 @@ fn move_each<S: NodeStore, L: Ledger>(
 {
     let mut kept = 0;
     for k in 0..rows.len() {
-        kept = move_row(store, low, rows, kept, k, table, steps);
+        kept = move_row(store, *&low, rows, kept, k, table, steps);
     }
     kept
 }
@@ -93,7 +96,7 @@ fn move_each<S: NodeStore, L: Ledger>(
 /// order. At most three steps for each entry, and at least three for each recent one.
 fn move_some<S: NodeStore, L: Ledger>(
     store: &S,
-    low: i128,
+    low: LowTime,
     mut rows: Vec<(State, UList)>,
     table: &[Option<Id>],
     steps: &mut Steps<L>,
@@ -111,7 +114,7 @@ fn move_some<S: NodeStore, L: Ledger>(
 /// order. At most three steps for each entry, and at least three for each recent one.
 pub fn move_rows<S: NodeStore, L: Ledger>(
     store: &S,
-    low: i128,
+    low: LowTime,
     active: Active,
     table: &[Option<Id>],
     steps: &mut Steps<L>,

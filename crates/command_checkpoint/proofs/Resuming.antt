@@ -1,12 +1,11 @@
 -- What a history leaves, for the events that come after it.
-use Rattle.std.proofs.Common.{◌≡◌, ℕ, ◌+◌, ◌*◌, ◌≤◌, List, [], length, Option, Result, Ok, Err, refl, sym, subst, arith}
+use Rattle.std.proofs.Common.{◌≡◌, ℕ, List, [], length, Option, Result, Ok, Err, refl, sym, subst, arith}
 use Rattle.std.proofs.Math.Nat.{mul-le-mul_left}
 use Rattle.cer_base.specs.declared.OrMemory.{OrMemory}
 use Rattle.cer_base.specs.declared.OrMemory.TheVariants.{Fault, Memory}
 use Rattle.stream_schema.specs.Types.{Declared}
 use Rattle.stream_schema.specs.declared.Event.{Event}
 use Rattle.cel_terms.specs.declared.Query.{Query}
-use Rattle.query_engine.specs.Counts.{MeetMost, event_bound}
 use Rattle.query_engine.specs.Engine.{State, SameQueries}
 use Rattle.query_engine.specs.Peaks.{PeaksFollow}
 use Rattle.checkpoint_text.specs.declared.history.History.{History}
@@ -16,7 +15,7 @@ use Rattle.stream_answers.specs.declared.RunOptions.{RunOptions}
 use Rattle.stream_answers.specs.declared.StreamFault.{StreamFault}
 use Rattle.stream_answers.specs.declared.StreamFault.TheVariants as fault
 use Rattle.stream_answers.specs.Ends.{Said, ByEnd}
-use Rattle.stream_answers.specs.Schedules.{Timing, pace}
+use Rattle.stream_answers.specs.Schedules.{Timing}
 use Rattle.stream_answers.specs.Steps.{AreBoundedBy, AreOfEvents, StepsOverAfter}
 use Rattle.stream_answers.specs.Streams.{Asked, asked_by, WroteStreamAfter, StandsForAllAfter}
 use Rattle.stream_answers.specs.Windows.{FollowsEvents}

@@ -1,5 +1,5 @@
 -- The steps of a late feed over a whole file.
-use Rattle.std.proofs.Common.{◌≡◌, ℕ, ◌+◌, ◌-◌, ◌*◌, ◌≤◌, List, [], ◌∷◌, ◌++◌, length, Option, refl, sym, ◌∙◌, ap, subst, append_assoc, append-nil, length-append, arith}
+use Rattle.std.proofs.Common.{◌≡◌, ℕ, ◌+◌, ◌-◌, ◌≤◌, List, [], ◌∷◌, ◌++◌, length, Option, refl, sym, ◌∙◌, ap, subst, append_assoc, append-nil, length-append, arith}
 use Rattle.stream_schema.specs.declared.Event.{Event as StreamEvent}
 use Rattle.cer_outside.specs.Bytes.{TookAll}
 use Rattle.answer_text.specs.declared.Order.{Order}

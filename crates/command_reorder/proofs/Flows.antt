@@ -1,5 +1,5 @@
 -- A late feed from event to event.
-use Rattle.std.proofs.Common.{◌≡◌, ℕ, ◌+◌, ◌-◌, ◌*◌, ◌≤◌, inr, inl, List, [], ◌∷◌, ◌++◌, length, Option, Some, None, Ok, Err, refl, sym, ◌∙◌, ap, subst, append_assoc, append-nil, arith}
+use Rattle.std.proofs.Common.{◌≡◌, ℕ, ◌+◌, ◌-◌, ◌≤◌, inr, inl, List, [], ◌∷◌, ◌++◌, length, Option, Some, None, Ok, Err, refl, sym, ◌∙◌, ap, subst, append_assoc, append-nil, arith}
 use Rattle.cer_base.specs.declared.OrMemory.TheVariants.{Fault, Memory}
 use Rattle.cer_outside.specs.Bytes.{TookAll, TookPart}
 use Rattle.stream_schema.specs.Types.{Declared}
@@ -17,7 +17,7 @@ use Rattle.output_laws.proofs.RowsGrow.{rows_grow_at_last}
 use Rattle.event_reader.specs.declared.EventFault.{EventFault}
 use Rattle.query_engine.specs.Bounds.{update_bound}
 use Rattle.query_engine.specs.Engine.{State, StandsFor, SameQueries, found_of, len_of, update_bounds}
-use Rattle.query_engine.specs.Counts.{MeetMost, HasFewNodes, event_bound, cursor_bounds}
+use Rattle.query_engine.specs.Counts.{MeetMost, HasFewNodes, cursor_bounds}
 use Rattle.query_engine.specs.Clocks.{NoneFallsBack}
 use Rattle.query_engine.specs.Keys.{HasAddedKeys}
 use Rattle.query_engine.specs.Windows.{HasAdded}
@@ -30,14 +30,13 @@ use Rattle.reorder_gate.specs.Gates as gates
 use Rattle.reorder_gate.specs.Gates.{Held}
 use Rattle.stream_answers.specs.declared.StreamFault.TheVariants as fault
 use Rattle.stream_answers.specs.Gathering.{Gathered, PassesOn}
-use Rattle.stream_answers.specs.Schedules.{Plan, pace, saved_by, WithNoNumber, IsGoingOn, IsOnTime}
+use Rattle.stream_answers.specs.Schedules.{Plan, saved_by, WithNoNumber, IsOnTime}
 use Rattle.stream_answers.specs.Steps.{compaction_at}
 use Rattle.stream_answers.specs.Windows.{is_due, last_due, FollowsWindows}
 use Rattle.stream_answers.specs.Counting.{IsCompacted, StepsAtFault}
 use Rattle.stream_answers.proofs.Portions.{took_both, took_then_part, part_of_more}
 use Rattle.stream_answers.proofs.Running.{Came, output_with}
-use Rattle.stream_answers.proofs.Compacted.{met_here, compacted}
-use Rattle.stream_answers.proofs.Growing.{event_pays, goes_on, with_none}
+use Rattle.stream_answers.proofs.Compacted.{compacted, pays_for}
 use Rattle.stream_answers.proofs.Totals.{bounded_on, bounded_more, bounded_wanting}
 use Rattle.stream_answers.proofs.Windows.{windows_due}
 use Rattle.command_reorder.specs.Late.{Numbered, Feed, fed, let_go, TakesOn, RunsLate}
@@ -107,8 +106,10 @@ pub record Taken (every : Option ℕ) (plan : Plan) (peaks : ℕ → ℕ) (a : F
   pub counting : Counting every a events (written ++ o.held) was first (steps + saved_by every was plan.bases)
   pub pays : Pays every a (events ++ next ∷ []) (saved_by every was plan.bases) (saved_by every engine plan.bases)
   pub windows : FollowsWindows every peaks (last_due every (length (events ++ next ∷ []) - 1)) (events ++ next ∷ []) engine
-  pub going_on : WithNoNumber every (IsGoingOn plan engine (events ++ next ∷ []))
   pub kept : SameQueries was engine
+  pub added : HasAdded was engine next
+  pub keys : HasAddedKeys was engine next
+  pub on_time : WithNoNumber every (IsOnTime plan was events)
   pub growth : (query : ℕ) → len_of engine query ≤ len_of was query + update_bound (found_of engine query)
   pub cost : now ≤ steps + update_bounds engine
   pub none_waits : a.order ≡ Walk → o.held ≡ []
@@ -237,7 +238,6 @@ module _ (every : Option ℕ) (plan : Plan) (peaks : ℕ → ℕ) where
       let S : Declared → Type 0 = λ d. NoneFallsBack d old.queries w.events e.1 in
       let Q : List Query → Type 0 = λ q. NoneFallsBack a.schema q w.events e.1 in
       let none = subst Q w.queries (subst S w.schema after_it.1) in
-      let all = w.events ++ e.1 ∷ [] in
       record {
         order = w.order;
         schema = same.0 ∙ w.schema;
@@ -257,12 +257,12 @@ module _ (every : Option ℕ) (plan : Plan) (peaks : ℕ → ℕ) where
         was = old;
         steps = steps;
         counting = w.counting;
-        pays = λ most meet.
-            let P : List Query → Type 0 = λ qs. event_bound (length qs) most + saved_by every new plan.bases ≤ saved_by every old plan.bases + pace every (length qs) most in
-            subst P (same.1 ∙ w.queries) (event_pays every old new w.events e.1 plan.bases most same after_it.0 added keys (met_here (asked a) new all most (same.0 ∙ w.schema) (same.1 ∙ w.queries) meet));
+        pays = pays_for every (asked a) old new w.events e.1 plan.bases (same.0 ∙ w.schema) (same.1 ∙ w.queries) same after_it.0 added keys;
         windows = windows_due (is_due every) peaks old new w.events e.1 same after_it.0 added w.windows;
-        going_on = with_none every (IsOnTime plan old w.events) (IsGoingOn plan new all) (λ t. goes_on plan old new w.events e.1 same added keys t) w.on_time;
         kept = same;
+        added = added;
+        keys = keys;
+        on_time = w.on_time;
         growth = growth;
         cost = cost;
         none_waits = w.none_waits;

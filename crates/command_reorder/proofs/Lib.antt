@@ -5,8 +5,8 @@ mod FedLines
 mod Takings
 -- the steps over a whole file
 mod Counts
--- what a schedule tells of the engine that it keeps
-mod Kept
+-- what a feed has of its schedule
+mod Plans
 -- a feed from event to event
 mod Flows
 -- a file has one late run, also of queries that say the same; for callers

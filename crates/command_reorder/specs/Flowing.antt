@@ -34,9 +34,9 @@ use Rattle.command_reorder.specs.Steps.{LateCountsAtFault, LateStepsOver}
 abbrev pub from_first : Option ℕ → Timing
 from_first every = record { every = every; first = 0 }
 
--- without a number for compactions the plan has a size for each query
+-- the plan has a size for each query
 abbrev pub HasBases : Plan → State → Type 0
-HasBases plan engine = WithNoNumber plan.timing.every (length plan.bases ≡ length engine.queries)
+HasBases plan engine = length plan.bases ≡ length engine.queries
 
 -- The gate has the feed's clock and bound.
 pub record Sits (a : Feed) (g : Held) : Type 0 where

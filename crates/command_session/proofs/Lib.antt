@@ -7,6 +7,8 @@ mod Spelled
 mod Seen
 -- the answers that a pull gives
 mod Pulled
+-- what an event takes and puts by
+mod Paid
 -- each command as a step
 mod Stepping
 -- and what it costs

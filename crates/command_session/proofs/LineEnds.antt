@@ -1,5 +1,5 @@
 -- How one line of a script ends, from how its command does.
-use Rattle.std.proofs.Common.{◌≡◌, ℕ, inl, inr, false, List, [], Option, Some, None, Result, Ok, Err, refl, sym, subst, arith}
+use Rattle.std.proofs.Common.{◌≡◌, ℕ, ◌+◌, inl, inr, false, List, [], Option, Some, None, Result, Ok, Err, refl, sym, subst, arith}
 use Rattle.std.specs.Prelude.{OnOk}
 use Rattle.cer_base.specs.declared.OrMemory.{OrMemory}
 use Rattle.cer_base.specs.declared.OrMemory.TheVariants.{Fault, Memory}
@@ -15,7 +15,7 @@ use Rattle.command_session.specs.declared.session.RunFault.{RunFault}
 use Rattle.command_session.specs.declared.session.RunFault.TheVariants as run
 use Rattle.command_session.specs.declared.session.Refusal.{Refusal}
 use Rattle.command_session.specs.Machine.{Machine, IsRefused}
-use Rattle.command_session.specs.Sessions.{Session, Stands, Ended, Wanted, HasRunCause, EngineEnded, IsWithin}
+use Rattle.command_session.specs.Sessions.{Session, Stands, Ended, Wanted, HasRunCause, EngineEnded, IsWithin, put_by_in}
 use Rattle.command_session.specs.Steps.{CostsAtMost}
 use Rattle.command_session.specs.Scripts.{asked_by}
 use Rattle.command_session.specs.Playing.{LineEnded, LineMade, LineCosts, NoStepIfRefused, HasLineCause, line_end, line_fault}
@@ -81,13 +81,13 @@ unread_cause number count Memory = refl
 -- THE STEPS OF A LINE
 
 -- those of its command
-pub command_costs : (asked : Command) (old : Session) (machine : Machine) (before after : ℕ) (line : Result (Option Command) EventFault) → line ≡ Ok (Some asked) → CostsAtMost asked old machine before after →
-    LineCosts old.engine.schema old.engine.queries old.engine machine before after line
-command_costs asked old machine before after line is costs =
-    let P : Result (Option Command) EventFault → Type 0 = λ l. LineCosts old.engine.schema old.engine.queries old.engine machine before after l in
+pub command_costs : (asked : Command) (old : Session) (machine : Machine) (new : Session) (before after : ℕ) (line : Result (Option Command) EventFault) → line ≡ Ok (Some asked) → CostsAtMost asked old machine new before after →
+    LineCosts old.engine.schema old.engine.queries old.engine machine (before + put_by_in old) (after + put_by_in new) line
+command_costs asked old machine new before after line is costs =
+    let P : Result (Option Command) EventFault → Type 0 = λ l. LineCosts old.engine.schema old.engine.queries old.engine machine (before + put_by_in old) (after + put_by_in new) l in
     subst P (sym is) costs
 
-pub no_costs : (old : Session) (machine : Machine) (before after : ℕ) (line : Result (Option Command) EventFault) → after ≡ before → LineCosts old.engine.schema old.engine.queries old.engine machine before after line
+pub no_costs : (old : Session) (machine : Machine) (before after : ℕ) (line : Result (Option Command) EventFault) → after ≡ before → LineCosts old.engine.schema old.engine.queries old.engine machine (before + put_by_in old) (after + put_by_in old) line
 no_costs old machine before after line same most meet few = omega (arith, same)
 
 -- a command that is refused

@@ -13,10 +13,12 @@ use Rattle.stream_schema.specs.declared.Event.{Event}
 use Rattle.cel_terms.specs.declared.Query.{Query}
 use Rattle.cel_terms.specs.Answers.{Answer, AreAnswersAt}
 use Rattle.query_engine.specs.Clocks.{NoneFallsBack, IsFirstToFall}
+use Rattle.query_engine.specs.declared.sizes.Size.{Size}
 use Rattle.query_engine.specs.Engine.{State, Open, StandsFor, Fits, rest, count_of, KeepsCursors, update_bounds}
 use Rattle.query_engine.specs.Windows.{HasAdded}
 use Rattle.query_engine.specs.Keys.{HasAddedKeys}
 use Rattle.query_engine.specs.Engine as engines
+use Rattle.query_engine.specs.Sizes.{put_by}
 use Rattle.query_engine.specs.Holding.{answer_of}
 use Rattle.answer_blocks.specs.Counted.{delays}
 use Rattle.answer_blocks.specs.Taken.{TookPrefix, TookBy}
@@ -27,12 +29,12 @@ use Rattle.command_session.specs.declared.session.RunFault.{RunFault}
 use Rattle.command_session.specs.declared.session.RunFault.TheVariants.{Memory}
 use Rattle.command_session.specs.declared.opened.Opened.{Opened}
 use Rattle.command_session.specs.Machine.{Machine, OpenCursor, IsStep, cursor_place, position_line, has_number, pull_text, EventStep, PullStep}
-use Rattle.command_session.specs.Sessions.{Session, Stands, Ended, Broke, Writes, IsUnchanged, IsKept, HasTaken, HasCompacted, EventAdds, EventIsWithin, UnlessRefused, as_run_fault, pull_bound, cursor_seen, cursors_seen, left_of}
+use Rattle.command_session.specs.Sessions.{Session, Stands, Ended, Broke, Writes, IsUnchanged, IsKept, HasTaken, IsTended, HasCompacted, IsAddedTo, TakingIsWithin, put_by_in, UnlessRefused, as_run_fault, pull_bound, cursor_seen, cursors_seen, left_of}
 use Rattle.command_session.proofs.Seen.{fits_kept, seen_kept, fits_held, seen_held, place_seen, seen_at, seen_set, seen_more, seen_fewer}
 
 -- a session, by its parts
-abbrev pub session : State → List Opened → List Open → Bool → Session
-session engine opened cursors closed = record { engine = engine; opened = opened; cursors = cursors; closed = closed }
+abbrev pub session : State → List Opened → List Open → Bool → List Size → Session
+session engine opened cursors closed bases = record { engine = engine; opened = opened; cursors = cursors; closed = closed; bases = bases }
 
 pub stands_count : (e : State) (events : List Event) → StandsFor e events → count_of e ≡ length events
 unfolding StandsFor count_of
@@ -55,17 +57,17 @@ pub unchanged : (s new : Session) (taken : Option (List ℕ)) → new ≡ s → 
 unchanged s new taken same = record { session = same; written = refl }
 
 -- The parts stay.
-pub same_parts : (e f : State) (os : List Opened) (cs cs2 : List Open) (d : Bool) (s : Session) → session e os cs d ≡ s → f ≡ e → cs2 ≡ cs → session f os cs2 d ≡ s
-same_parts e f os cs cs2 d s view engine cursors = ap₂ (λ (x : State) (y : List Open). session x os y d) engine cursors ∙ view
+pub same_parts : (e f : State) (os : List Opened) (cs cs2 : List Open) (d : Bool) (bs : List Size) (s : Session) → session e os cs d bs ≡ s → f ≡ e → cs2 ≡ cs → session f os cs2 d bs ≡ s
+same_parts e f os cs cs2 d bs s view engine cursors = ap₂ (λ (x : State) (y : List Open). session x os y d bs) engine cursors ∙ view
 
 -- EVENTS
 
-pub fell : (e f : State) (os : List Opened) (cs : List Open) (d : Bool) (s : Session) (machine : Machine) (event : Event) (number : ℕ) (before now : ℤ) (taken : Option (List ℕ)) →
-    session e os cs d ≡ s → f ≡ e → ((events : List Event) → StandsFor e events → IsFirstToFall e.schema e.queries events event number before now) → Stands s machine →
-    IsFirstToFall s.engine.schema s.engine.queries machine.events event number before now × IsUnchanged s (session f os cs d) taken taken
-fell e f os cs d s machine event number before now taken view engine falls stands =
+pub fell : (e f : State) (os : List Opened) (cs : List Open) (d : Bool) (bs : List Size) (s : Session) (machine : Machine) (event : Event) (number : ℕ) (before now : ℤ) (taken : Option (List ℕ)) →
+    session e os cs d bs ≡ s → f ≡ e → ((events : List Event) → StandsFor e events → IsFirstToFall e.schema e.queries events event number before now) → Stands s machine →
+    IsFirstToFall s.engine.schema s.engine.queries machine.events event number before now × IsUnchanged s (session f os cs d bs) taken taken
+fell e f os cs d bs s machine event number before now taken view engine falls stands =
     let P : Session → Type 0 = λ t. Stands t machine → IsFirstToFall t.engine.schema t.engine.queries machine.events event number before now in
-    (subst P view (λ stands. falls machine.events stands.events) stands, unchanged s (session f os cs d) taken (same_parts e f os cs cs d s view engine refl))
+    (subst P view (λ stands. falls machine.events stands.events) stands, unchanged s (session f os cs d bs) taken (same_parts e f os cs cs d bs s view engine refl))
 
 pub event_step : (s : Session) (machine : Machine) (event : Event) (place : ℕ) → Stands s machine → place ≡ count_of s.engine →
     ((events : List Event) → StandsFor s.engine events → NoneFallsBack s.engine.schema s.engine.queries events event) →
@@ -76,17 +78,17 @@ event_step s machine event place stands is in_time = record {
   written = ap position_line (is ∙ stands_count s.engine machine.events stands.events);
 }
 
-pub went_event : (e f : State) (os : List Opened) (cs : List Open) (d : Bool) (s : Session) (machine : Machine) (event : Event) (place : ℕ) (before after : Option (List ℕ)) →
-    session e os cs d ≡ s → IsKept e os cs → s.closed ≡ false → place ≡ count_of e →
+pub went_event : (e f : State) (os : List Opened) (cs : List Open) (d : Bool) (bs : List Size) (s : Session) (machine : Machine) (event : Event) (place : ℕ) (before after : Option (List ℕ)) →
+    session e os cs d bs ≡ s → IsKept e os cs → s.closed ≡ false → place ≡ count_of e →
     ((events : List Event) → StandsFor e events → StandsFor f (events ++ event ∷ [])) → KeepsCursors e f →
     ((events : List Event) → StandsFor e events → NoneFallsBack e.schema e.queries events event) → TookAll before after (position_line place) →
-    Stands s machine → Ended (command.Event event) s machine (session f os cs d) before after (Ok tt)
-went_event e f os cs d s machine event place before after view kept going is stood keeps in_time took stands =
-    let P : Session → Type 0 = λ t. t.closed ≡ false → Stands t machine → Ended (command.Event event) t machine (session f os cs d) before after (Ok tt) in
+    Stands s machine → Ended (command.Event event) s machine (session f os cs d bs) before after (Ok tt)
+went_event e f os cs d bs s machine event place before after view kept going is stood keeps in_time took stands =
+    let P : Session → Type 0 = λ t. t.closed ≡ false → Stands t machine → Ended (command.Event event) t machine (session f os cs d bs) before after (Ok tt) in
     subst P view (λ going stands. record {
       next = record machine { events = machine.events ++ event ∷ [] };
       bytes = position_line place;
-      step = event_step (session e os cs d) machine event place stands is in_time;
+      step = event_step (session e os cs d bs) machine event place stands is in_time;
       stands = record {
         events = stood machine.events stands.events;
         cursors = stands.cursors ∙ sym (seen_kept e f os cs keeps kept.fit);
@@ -95,31 +97,54 @@ went_event e f os cs d s machine event place before after view kept going is sto
       took = took;
     }) going stands
 
-pub broke_event : (e : State) (os : List Opened) (cs : List Open) (d : Bool) (s new : Session) (machine : Machine) (event : Event) (place : ℕ) (before after : Option (List ℕ)) (stop : OrMemory Failure) (fault : RunFault) →
-    session e os cs d ≡ s → new.closed ≡ true → place ≡ count_of e → fault ≡ as_run_fault stop →
+pub broke_event : (e : State) (os : List Opened) (cs : List Open) (d : Bool) (bs : List Size) (s new : Session) (machine : Machine) (event : Event) (place : ℕ) (before after : Option (List ℕ)) (stop : OrMemory Failure) (fault : RunFault) →
+    session e os cs d bs ≡ s → new.closed ≡ true → place ≡ count_of e → fault ≡ as_run_fault stop →
     ((events : List Event) → StandsFor e events → NoneFallsBack e.schema e.queries events event) → TookBy {T = Unit {0}} before after (position_line place) (Err stop) →
     Stands s machine → Ended (command.Event event) s machine new before after (Err fault)
-broke_event e os cs d s new machine event place before after stop fault view closed is fault_is in_time took stands =
+broke_event e os cs d bs s new machine event place before after stop fault view closed is fault_is in_time took stands =
     let P : Session → Type 0 = λ t. Stands t machine → Ended (command.Event event) t machine new before after (Err fault) in
     subst P view (λ stands.
-    broke (command.Event event) (session e os cs d) machine (record machine { events = machine.events ++ event ∷ [] }) new before after (position_line place) stop fault tt inr fault_is
-    (event_step (session e os cs d) machine event place stands is in_time) closed took) stands
+    broke (command.Event event) (session e os cs d bs) machine (record machine { events = machine.events ++ event ∷ [] }) new before after (position_line place) stop fault tt inr fault_is
+    (event_step (session e os cs d bs) machine event place stands is in_time) closed took) stands
 
 -- the cursors after an event
 pub kept_event : (e f : State) (os : List Opened) (cs : List Open) → KeepsCursors e f → IsKept e os cs → IsKept f os cs
 kept_event e f os cs keeps kept = record { count = kept.count; fit = fits_kept e f cs keeps kept.fit }
 
 -- what it added
-pub adds : (e f : State) (os : List Opened) (cs : List Open) (d : Bool) (s : Session) (event : Event) → session e os cs d ≡ s → HasAdded e f event → HasAddedKeys e f event → HasTaken event s.engine f
-adds e f os cs d s event view added keys = let P : Session → Type 0 = λ t. HasTaken event t.engine f in subst P view (record { added = added; keys = keys })
+pub adds : (e f : State) (os : List Opened) (cs : List Open) (d : Bool) (bs : List Size) (s : Session) (event : Event) → session e os cs d bs ≡ s → HasAdded e f event → HasAddedKeys e f event → HasTaken event s.engine f
+adds e f os cs d bs s event view added keys = let P : Session → Type 0 = λ t. HasTaken event t.engine f in subst P view (record { added = added; keys = keys })
 
-pub adds_untold : (e f : State) (event : Event) (stop : OrMemory Failure) (fault : RunFault) → fault ≡ as_run_fault stop → HasTaken event e f → EventAdds event e f (Err fault)
-adds_untold e f event (or.Fault x) fault is has = subst (λ (y : RunFault). EventAdds event e f (Err y)) (sym is) has
-adds_untold e f event or.Memory fault is has = subst (λ (y : RunFault). EventAdds event e f (Err y)) (sym is) (inr has)
+pub adds_untold : (e f : State) (event : Event) (stop : OrMemory Failure) (fault : RunFault) → fault ≡ as_run_fault stop → HasTaken event e f → IsAddedTo event e f (Err fault)
+adds_untold e f event (or.Fault x) fault is has = subst (λ (y : RunFault). IsAddedTo event e f (Err y)) (sym is) has
+adds_untold e f event or.Memory fault is has = subst (λ (y : RunFault). IsAddedTo event e f (Err y)) (sym is) (inr has)
 
-pub within_untold : (new : Session) (before after : ℕ) (stop : OrMemory Failure) (fault : RunFault) → fault ≡ as_run_fault stop → after ≤ before + update_bounds new.engine → EventIsWithin new before after (Err fault)
-within_untold new before after (or.Fault x) fault is within = subst (λ (y : RunFault). EventIsWithin new before after (Err y)) (sym is) within
-within_untold new before after or.Memory fault is within = subst (λ (y : RunFault). EventIsWithin new before after (Err y)) (sym is) tt
+pub within_untold : (new : Session) (before after : ℕ) (stop : OrMemory Failure) (fault : RunFault) → fault ≡ as_run_fault stop → after ≤ before + update_bounds new.engine → TakingIsWithin new before after (Err fault)
+within_untold new before after (or.Fault x) fault is within = subst (λ (y : RunFault). TakingIsWithin new before after (Err y)) (sym is) within
+within_untold new before after or.Memory fault is within = subst (λ (y : RunFault). TakingIsWithin new before after (Err y)) (sym is) tt
+
+-- the position was written, and the session goes on as the same machine
+pub goes_on : (event : Event) (s : Session) (machine : Machine) (middle new : Session) (before after : Option (List ℕ)) → Ended (command.Event event) s machine middle before after (Ok tt) →
+    ((machine : Machine) → Stands middle machine → Stands new machine) → new.closed ≡ middle.closed → Ended (command.Event event) s machine new before after (Ok tt)
+goes_on event s machine middle new before after went still closed = record {
+  next = went.next;
+  bytes = went.bytes;
+  step = went.step;
+  stands = still went.next went.stands;
+  going = closed ∙ went.going;
+  took = went.took;
+}
+
+-- what a look at the queries leaves of the engine
+pub tended : (e f : State) (os : List Opened) (cs : List Open) (d : Bool) (bs : List Size) (s : Session) → session e os cs d bs ≡ s → IsTended e f → IsTended s.engine f
+tended e f os cs d bs s view has = let P : Session → Type 0 = λ t. IsTended t.engine f in subst P view has
+
+-- what was put by pays for it
+pub paid : (e f : State) (os : List Opened) (cs : List Open) (d : Bool) (bs bs2 : List Size) (s : Session) (machine : Machine) (before after : ℕ) → session e os cs d bs ≡ s →
+    ((events : List Event) → StandsFor e events → after + put_by f bs2 ≤ before + put_by e bs) → Stands s machine → after + put_by f bs2 ≤ before + put_by_in s
+paid e f os cs d bs bs2 s machine before after view pays stands =
+    let P : Session → Type 0 = λ t. Stands t machine → after + put_by f bs2 ≤ before + put_by_in t in
+    subst P view (λ stands. pays machine.events stands.events) stands
 
 -- CURSORS
 
@@ -132,14 +157,14 @@ query_at queries number one most = pick (slice_get_cases queries (number - 1)).1
     pick (inl found) = (found.0, found.2)
     pick (inr past) = absurd (omega (arith, past.0, one, most))
 
-pub went_open : (e : State) (os os2 : List Opened) (cs cs2 : List Open) (d : Bool) (s : Session) (machine : Machine) (query number place : ℕ) (c : Open) (taken : Option (List ℕ)) →
-    session e os cs d ≡ s → IsKept e os cs → s.closed ≡ false → 1 ≤ query → query ≤ length e.queries → 0 < count_of e → position (λ (o : Opened). o.number == number) os ≡ None →
+pub went_open : (e : State) (os os2 : List Opened) (cs cs2 : List Open) (d : Bool) (bs : List Size) (s : Session) (machine : Machine) (query number place : ℕ) (c : Open) (taken : Option (List ℕ)) →
+    session e os cs d bs ≡ s → IsKept e os cs → s.closed ≡ false → 1 ≤ query → query ≤ length e.queries → 0 < count_of e → position (λ (o : Opened). o.number == number) os ≡ None →
     c.query ≡ query → place ≡ count_of e - 1 →
     ((events : List Event) (q : Query) → StandsFor e events → slice_get e.queries (query - 1) ≡ Some q → AreAnswersAt e.schema q events (length events - 1) (map answer_of (rest e c))) →
     os2 ≡ os ++ record { number = number; position = place } ∷ [] → cs2 ≡ cs ++ c ∷ [] →
-    Stands s machine → Ended (command.OpenAt query number) s machine (session e os2 cs2 d) taken taken (Ok tt)
-went_open e os os2 cs cs2 d s machine query number place c taken view kept going one most some free of_query at answers opened cursors stands =
-    let P : Session → Type 0 = λ t. t.closed ≡ false → Stands t machine → Ended (command.OpenAt query number) t machine (session e os2 cs2 d) taken taken (Ok tt) in
+    Stands s machine → Ended (command.OpenAt query number) s machine (session e os2 cs2 d bs) taken taken (Ok tt)
+went_open e os os2 cs cs2 d bs s machine query number place c taken view kept going one most some free of_query at answers opened cursors stands =
+    let P : Session → Type 0 = λ t. t.closed ≡ false → Stands t machine → Ended (command.OpenAt query number) t machine (session e os2 cs2 d bs) taken taken (Ok tt) in
     subst P view (λ going stands.
     let q = query_at e.queries query one most in
     let last : place ≡ length machine.events - 1 = at ∙ ap (λ (n : ℕ). n - 1) (stands_count e machine.events stands.events) in
@@ -184,12 +209,12 @@ pub place_is : (e : State) (os : List Opened) (cs : List Open) (machine : Machin
     place ≡ position (λ (o : Opened). o.number == number) os → cursor_place number machine ≡ place
 place_is e os cs machine number place seen long found = ap (position (has_number number)) seen ∙ (place_seen e number os cs long ∙ sym found)
 
-pub went_drop : (e : State) (os os2 : List Opened) (cs cs2 : List Open) (d : Bool) (s : Session) (machine : Machine) (number k : ℕ) (taken : Option (List ℕ)) →
-    session e os cs d ≡ s → IsKept e os cs → s.closed ≡ false → Some k ≡ position (λ (o : Opened). o.number == number) os → k < length os →
+pub went_drop : (e : State) (os os2 : List Opened) (cs cs2 : List Open) (d : Bool) (bs : List Size) (s : Session) (machine : Machine) (number k : ℕ) (taken : Option (List ℕ)) →
+    session e os cs d bs ≡ s → IsKept e os cs → s.closed ≡ false → Some k ≡ position (λ (o : Opened). o.number == number) os → k < length os →
     os2 ≡ remove os k → cs2 ≡ remove cs k →
-    Stands s machine → Ended (command.Drop number) s machine (session e os2 cs2 d) taken taken (Ok tt)
-went_drop e os os2 cs cs2 d s machine number k taken view kept going found inside opened cursors stands =
-    let P : Session → Type 0 = λ t. t.closed ≡ false → Stands t machine → Ended (command.Drop number) t machine (session e os2 cs2 d) taken taken (Ok tt) in
+    Stands s machine → Ended (command.Drop number) s machine (session e os2 cs2 d bs) taken taken (Ok tt)
+went_drop e os os2 cs cs2 d bs s machine number k taken view kept going found inside opened cursors stands =
+    let P : Session → Type 0 = λ t. t.closed ≡ false → Stands t machine → Ended (command.Drop number) t machine (session e os2 cs2 d bs) taken taken (Ok tt) in
     subst P view (λ going stands. record {
       next = record machine { cursors = remove machine.cursors k };
       bytes = [];
@@ -202,9 +227,9 @@ went_drop e os os2 cs cs2 d s machine number k taken view kept going found insid
       took = took_none taken;
     }) going stands
 
-pub not_open : (e : State) (os : List Opened) (cs : List Open) (d : Bool) (s : Session) (machine : Machine) (number : ℕ) →
-    session e os cs d ≡ s → IsKept e os cs → None ≡ position (λ (o : Opened). o.number == number) os → Stands s machine → cursor_place number machine ≡ None
-not_open e os cs d s machine number view kept found stands =
+pub not_open : (e : State) (os : List Opened) (cs : List Open) (d : Bool) (bs : List Size) (s : Session) (machine : Machine) (number : ℕ) →
+    session e os cs d bs ≡ s → IsKept e os cs → None ≡ position (λ (o : Opened). o.number == number) os → Stands s machine → cursor_place number machine ≡ None
+not_open e os cs d bs s machine number view kept found stands =
     let P : Session → Type 0 = λ t. Stands t machine → cursor_place number machine ≡ None in
     subst P view (λ stands. place_is e os cs machine number None stands.cursors kept.count found) stands
 
@@ -227,12 +252,12 @@ pull_step e os cs machine number n k o c seen long found here there = record {
   written = refl;
 }
 
-pub went_pull : (e : State) (os : List Opened) (cs cs2 : List Open) (d : Bool) (s : Session) (machine : Machine) (number n k : ℕ) (o : Opened) (c c2 : Open) (before after : Option (List ℕ)) →
-    session e os cs d ≡ s → IsKept e os cs → s.closed ≡ false → Some k ≡ position (λ (x : Opened). x.number == number) os → slice_get os k ≡ Some o → slice_get cs k ≡ Some c →
+pub went_pull : (e : State) (os : List Opened) (cs cs2 : List Open) (d : Bool) (bs : List Size) (s : Session) (machine : Machine) (number n k : ℕ) (o : Opened) (c c2 : Open) (before after : Option (List ℕ)) →
+    session e os cs d bs ≡ s → IsKept e os cs → s.closed ≡ false → Some k ≡ position (λ (x : Opened). x.number == number) os → slice_get os k ≡ Some o → slice_get cs k ≡ Some c →
     cs2 ≡ slice_set cs k c2 → left_of e c2 ≡ drop n (left_of e c) → c2.query ≡ c.query → TookAll before after (pull_text c.query o.position n (left_of e c)) →
-    Stands s machine → Ended (command.Pull number n) s machine (session e os cs2 d) before after (Ok tt)
-went_pull e os cs cs2 d s machine number n k o c c2 before after view kept going found here there set left query took stands =
-    let P : Session → Type 0 = λ t. t.closed ≡ false → Stands t machine → Ended (command.Pull number n) t machine (session e os cs2 d) before after (Ok tt) in
+    Stands s machine → Ended (command.Pull number n) s machine (session e os cs2 d bs) before after (Ok tt)
+went_pull e os cs cs2 d bs s machine number n k o c c2 before after view kept going found here there set left query took stands =
+    let P : Session → Type 0 = λ t. t.closed ≡ false → Stands t machine → Ended (command.Pull number n) t machine (session e os cs2 d bs) before after (Ok tt) in
     subst P view (λ going stands.
     let now : OpenCursor = record { number = o.number; query = c.query; position = o.position; left = drop n (left_of e c) } in
     let same : cursor_seen e o c2 ≡ now = ap₂ (λ (q : ℕ) (l : List Answer). record { number = o.number; query = q; position = o.position; left = l }) query left in
@@ -250,23 +275,23 @@ went_pull e os cs cs2 d s machine number n k o c c2 before after view kept going
       took = took;
     }) going stands
 
-pub broke_pull : (e : State) (os : List Opened) (cs : List Open) (d : Bool) (s new : Session) (machine : Machine) (number n k : ℕ) (o : Opened) (c : Open) (before after : Option (List ℕ)) (stop : OrMemory Failure) (fault : RunFault) →
-    session e os cs d ≡ s → IsKept e os cs → new.closed ≡ true → Some k ≡ position (λ (x : Opened). x.number == number) os → slice_get os k ≡ Some o → slice_get cs k ≡ Some c →
+pub broke_pull : (e : State) (os : List Opened) (cs : List Open) (d : Bool) (bs : List Size) (s new : Session) (machine : Machine) (number n k : ℕ) (o : Opened) (c : Open) (before after : Option (List ℕ)) (stop : OrMemory Failure) (fault : RunFault) →
+    session e os cs d bs ≡ s → IsKept e os cs → new.closed ≡ true → Some k ≡ position (λ (x : Opened). x.number == number) os → slice_get os k ≡ Some o → slice_get cs k ≡ Some c →
     fault ≡ as_run_fault stop → TookBy {T = Unit {0}} before after (pull_text c.query o.position n (left_of e c)) (Err stop) →
     Stands s machine → Ended (command.Pull number n) s machine new before after (Err fault)
-broke_pull e os cs d s new machine number n k o c before after stop fault view kept closed found here there fault_is took stands =
+broke_pull e os cs d bs s new machine number n k o c before after stop fault view kept closed found here there fault_is took stands =
     let P : Session → Type 0 = λ t. Stands t machine → Ended (command.Pull number n) t machine new before after (Err fault) in
     subst P view (λ stands.
-    broke (command.Pull number n) (session e os cs d) machine (record machine { cursors = slice_set machine.cursors k (record { number = o.number; query = c.query; position = o.position; left = drop n (left_of e c) }) })
+    broke (command.Pull number n) (session e os cs d bs) machine (record machine { cursors = slice_set machine.cursors k (record { number = o.number; query = c.query; position = o.position; left = drop n (left_of e c) }) })
     new before after (pull_text c.query o.position n (left_of e c)) stop fault tt (λ b. b) fault_is
     (pull_step e os cs machine number n k o c stands.cursors kept.count found here there) closed took) stands
 
 -- the steps of a pull, by what the cursor of the machine has left
-pub within_pull : (e : State) (os : List Opened) (cs : List Open) (d : Bool) (s : Session) (machine : Machine) (number n k before after : ℕ) (o : Opened) (c : Open) →
-    session e os cs d ≡ s → IsKept e os cs → Some k ≡ position (λ (x : Opened). x.number == number) os → slice_get os k ≡ Some o → slice_get cs k ≡ Some c →
+pub within_pull : (e : State) (os : List Opened) (cs : List Open) (d : Bool) (bs : List Size) (s : Session) (machine : Machine) (number n k before after : ℕ) (o : Opened) (c : Open) →
+    session e os cs d bs ≡ s → IsKept e os cs → Some k ≡ position (λ (x : Opened). x.number == number) os → slice_get os k ≡ Some o → slice_get cs k ≡ Some c →
     after ≤ before + (delays (take n (left_of e c)) + 1) → Stands s machine →
     (place : ℕ) (one : OpenCursor) → cursor_place number machine ≡ Some place → slice_get machine.cursors place ≡ Some one → after ≤ before + pull_bound n one
-within_pull e os cs d s machine number n k before after o c view kept found here there within stands place one at is =
+within_pull e os cs d bs s machine number n k before after o c view kept found here there within stands place one at is =
     let P : Session → Type 0 = λ t. Stands t machine → after ≤ before + pull_bound n one in
     subst P view (λ stands.
     let first : Some place ≡ Some k = sym at ∙ place_is e os cs machine number (Some k) stands.cursors kept.count found in
@@ -290,23 +315,31 @@ kept_pull e os cs cs2 k c2 kept fits set =
 
 -- COMPACTION
 
-pub went_compact : (e f : State) (os : List Opened) (cs cs2 : List Open) (d : Bool) (s : Session) (machine : Machine) (taken : Option (List ℕ)) →
-    session e os cs d ≡ s → s.closed ≡ false → ((events : List Event) → StandsFor e events → StandsFor f events) → length cs2 ≡ length cs →
+-- the session over the engine after it, with the cursors that were held, is the same machine
+pub still_stands : (e f : State) (os : List Opened) (cs cs2 : List Open) (d : Bool) (bs bs2 : List Size) (s : Session) (machine : Machine) →
+    session e os cs d bs ≡ s → ((events : List Event) → StandsFor e events → StandsFor f events) → length cs2 ≡ length cs →
+    ((k : ℕ) → (x : Open) → k < length cs → engines.IsKept e f (get_or cs k x) (get_or cs2 k x)) → Stands s machine → Stands (session f os cs2 d bs2) machine
+still_stands e f os cs cs2 d bs bs2 s machine view stood long kept stands =
+    let P : Session → Type 0 = λ t. Stands t machine → Stands (session f os cs2 d bs2) machine in
+    subst P view (λ stands. record { events = stood machine.events stands.events; cursors = stands.cursors ∙ sym (seen_held e f os cs cs2 long kept) }) stands
+
+pub went_compact : (e f : State) (os : List Opened) (cs cs2 : List Open) (d : Bool) (bs bs2 : List Size) (s : Session) (machine : Machine) (taken : Option (List ℕ)) →
+    session e os cs d bs ≡ s → s.closed ≡ false → ((events : List Event) → StandsFor e events → StandsFor f events) → length cs2 ≡ length cs →
     ((k : ℕ) → (x : Open) → k < length cs → engines.IsKept e f (get_or cs k x) (get_or cs2 k x)) →
-    Stands s machine → Ended command.Compact s machine (session f os cs2 d) taken taken (Ok tt)
-went_compact e f os cs cs2 d s machine taken view going stood long kept stands =
-    let P : Session → Type 0 = λ t. t.closed ≡ false → Stands t machine → Ended command.Compact t machine (session f os cs2 d) taken taken (Ok tt) in
-    subst P view (λ going stands. record {
+    Stands s machine → Ended command.Compact s machine (session f os cs2 d bs2) taken taken (Ok tt)
+went_compact e f os cs cs2 d bs bs2 s machine taken view going stood long kept stands =
+    let closed : d ≡ false = ap (λ (t : Session). t.closed) view ∙ going in
+    record {
       next = machine;
       bytes = [];
       step = (refl, refl);
-      stands = record { events = stood machine.events stands.events; cursors = stands.cursors ∙ sym (seen_held e f os cs cs2 long kept) };
-      going = going;
+      stands = still_stands e f os cs cs2 d bs bs2 s machine view stood long kept stands;
+      going = closed;
       took = took_none taken;
-    }) going stands
+    }
 
-pub compacted : (e f : State) (os : List Opened) (cs hs cs2 : List Open) (d : Bool) (s : Session) → session e os cs d ≡ s → cs2 ≡ hs → HasCompacted e f hs → HasCompacted s.engine f cs2
-compacted e f os cs hs cs2 d s view same has =
+pub compacted : (e f : State) (os : List Opened) (cs hs cs2 : List Open) (d : Bool) (bs : List Size) (s : Session) → session e os cs d bs ≡ s → cs2 ≡ hs → HasCompacted e f hs → HasCompacted s.engine f cs2
+compacted e f os cs hs cs2 d bs s view same has =
     let P : Session → Type 0 = λ t. HasCompacted t.engine f cs2 in
     subst P view (subst (λ (l : List Open). HasCompacted e f l) (sym same) has)
 
@@ -328,10 +361,10 @@ place_within os number k found = (position-Some (λ (o : Opened). o.number == nu
 
 -- WHY A CURSOR IS NOT OPENED
 
-pub is_open : (e : State) (os : List Opened) (cs : List Open) (d : Bool) (s : Session) (machine : Machine) (query number : ℕ) (found : Option ℕ) (taken : Option (List ℕ)) →
-    session e os cs d ≡ s → IsKept e os cs → 1 ≤ query → query ≤ length e.queries → 0 < count_of e → found ≡ position (λ (o : Opened). o.number == number) os → true ≡ is_some found → Stands s machine →
+pub is_open : (e : State) (os : List Opened) (cs : List Open) (d : Bool) (bs : List Size) (s : Session) (machine : Machine) (query number : ℕ) (found : Option ℕ) (taken : Option (List ℕ)) →
+    session e os cs d bs ≡ s → IsKept e os cs → 1 ≤ query → query ≤ length e.queries → 0 < count_of e → found ≡ position (λ (o : Opened). o.number == number) os → true ≡ is_some found → Stands s machine →
     ((number ≡ number) × (1 ≤ query) × (query ≤ length s.engine.queries) × (0 < length machine.events) × ((cursor_place number machine ≡ None) → ⊥)) × IsUnchanged s s taken taken
-is_open e os cs d s machine query number found taken view kept one most some at here stands =
+is_open e os cs d bs s machine query number found taken view kept one most some at here stands =
     let P : Session → Type 0 = λ t. Stands t machine → (query ≤ length t.engine.queries) × (0 < length machine.events) × ((cursor_place number machine ≡ None) → ⊥) in
     let p = subst P view (λ stands. (
       most,
@@ -346,8 +379,8 @@ none_found None none = refl
 none_found (Some k) none = absurd (let clash : true ≡ false = none in cc)
 
 -- The lists stay.
-pub same_lists : (e : State) (os os2 : List Opened) (cs cs2 : List Open) (d : Bool) (s : Session) → session e os cs d ≡ s → os2 ≡ os → cs2 ≡ cs → session e os2 cs2 d ≡ s
-same_lists e os os2 cs cs2 d s view opened cursors = ap₂ (λ (x : List Opened) (y : List Open). session e x y d) opened cursors ∙ view
+pub same_lists : (e : State) (os os2 : List Opened) (cs cs2 : List Open) (d : Bool) (bs : List Size) (s : Session) → session e os cs d bs ≡ s → os2 ≡ os → cs2 ≡ cs → session e os2 cs2 d bs ≡ s
+same_lists e os os2 cs cs2 d bs s view opened cursors = ap₂ (λ (x : List Opened) (y : List Open). session e x y d bs) opened cursors ∙ view
 
 pub kept_same : (e : State) (os os2 : List Opened) (cs cs2 : List Open) → IsKept e os cs → os2 ≡ os → cs2 ≡ cs → IsKept e os2 cs2
 kept_same e os os2 cs cs2 kept opened cursors =

@@ -16,7 +16,8 @@ use Rattle.event_reader.specs.Lines.{file_lines}
 use Rattle.event_reader.specs.Reading.{LineReader, HasGiven}
 use Rattle.event_run.proofs.Given.{first_given}
 use Rattle.query_engine.specs.Counts.{MeetMost, HasFewNodes}
-use Rattle.query_engine.specs.Engine.{State, StandsFor, SameQueries, len_of}
+use Rattle.query_engine.specs.Bounds.{update_bound}
+use Rattle.query_engine.specs.Engine.{State, StandsFor, SameQueries, found_of, len_of}
 use Rattle.query_engine.proofs.Counting.{first_meet_fewer}
 use Rattle.query_engine.proofs.FewNodes.{first_has_no_node, event_adds_few}
 use Rattle.stream_answers.proofs.Portions.{took_none}
@@ -26,7 +27,7 @@ use Rattle.stream_answers.specs.Streams.{EventsAsked}
 use Rattle.command_session.specs.declared.command.Command.{Command}
 use Rattle.command_session.specs.declared.command.Command.TheVariants as command
 use Rattle.command_session.specs.Machine.{Machine, at_first, IsStep}
-use Rattle.command_session.specs.Sessions.{Session, Stands, EngineEnded}
+use Rattle.command_session.specs.Sessions.{Session, Stands, EngineEnded, put_by_in}
 use Rattle.command_session.specs.Steps.{events_with, command_cost}
 use Rattle.command_session.specs.Scripts.{asked_by}
 use Rattle.command_session.specs.Turns.{Turn, turns_cost, line_events, line_cost, AfterTurn, AreTurns, CountsTurns, CountsBegun, TookFirst, StepsOverPlay}
@@ -151,7 +152,12 @@ few_after (command.Event event) old e new most same stands meet made few =
     let D : Declared → Type 0 = λ x. MeetMost x e.queries all most in
     let Q : List Query → Type 0 = λ qs. MeetMost new.engine.schema qs all most in
     let met : MeetMost new.engine.schema new.engine.queries all most = subst Q (sym same.1) (subst D (sym same.0) meet) in
-    event_adds_few e new.engine old.events event most same stands met made.added.growth few
+    let grown : (query : ℕ) → len_of new.engine query ≤ len_of e query + update_bound (found_of new.engine query) = λ query. (
+    let added = made.taken.added.growth query in
+    let states = ap update_bound (made.tended.found query) in
+    omega (arith, added, states, made.tended.fewer query)
+    ) in
+    event_adds_few e new.engine old.events event most same stands met grown few
 few_after (command.OpenAt query cursor) old e new most same stands meet made few = few_same e new.engine (length old.events) most made few
 few_after (command.Pull cursor n) old e new most same stands meet made few = few_same e new.engine (length old.events) most made few
 few_after (command.Drop cursor) old e new most same stands meet made few = few_same e new.engine (length old.events) most made few
@@ -166,21 +172,21 @@ few_line (Err refused) old e new most same stands meet made few = absurd made
 
 -- FROM LINE TO LINE
 
-pub counting_begun : (schema : Declared) (queries : List Query) (reader : LineReader) (source taken : Option (List ℕ)) (session : Session) (steps : ℕ) → Stands session at_first →
+pub counting_begun : (schema : Declared) (queries : List Query) (reader : LineReader) (source taken : Option (List ℕ)) (session : Session) (steps : ℕ) → Stands session at_first → put_by_in session ≡ 0 →
     ((script : List ℕ) → HasGiven reader script (Some script) []) → Counting schema queries source reader source taken taken session steps steps
-counting_begun schema queries reader source taken session steps stands given = record {
+counting_begun schema queries reader source taken session steps stands nothing given = record {
   goes = begun schema queries reader source taken session stands given;
   turns = [];
   are = λ script same. let P : Option (List ℕ) → Type 0 = λ l. HasTurns schema queries reader script l [] at_first [] in
       subst P (sym same) (record { texts = []; given = given script; are = (refl, refl, refl) });
-  bounded = λ most meet. omega arith;
+  bounded = λ most meet. omega (arith, nothing);
   few = λ most meet. first_has_no_node session.engine most stands.events;
 }
 
 pub counting_further : (schema : Declared) (queries : List Query) (source : Option (List ℕ)) (old new : LineReader) (had left before middle after : Option (List ℕ)) (session now : Session) (text : List ℕ) (first here later : ℕ) → text ≡ new.text →
     session.engine.schema ≡ schema → session.engine.queries ≡ queries → SameQueries session.engine now.engine →
     ((script : List ℕ) (texts : List (List ℕ)) → HasGiven old script had texts → HasGiven new script left (texts ++ new.text ∷ [])) → (c : Counting schema queries source old had before middle session first here) →
-    WentOn schema queries text c.goes.machine now middle after → LineMade session.engine now (asked_by schema text) → LineCosts schema queries session.engine c.goes.machine here later (asked_by schema text) →
+    WentOn schema queries text c.goes.machine now middle after → LineMade session.engine now (asked_by schema text) → LineCosts schema queries session.engine c.goes.machine (here + put_by_in session) (later + put_by_in now) (asked_by schema text) →
     Counting schema queries source new left before after now first later
 counting_further schema queries source old new had left before middle after session now text first here later read one other same gives c went made costs =
     let m = c.goes.machine in
@@ -234,14 +240,14 @@ counted a source reader left before after session first now budget c script told
       bytes = c.goes.bytes;
       are = t.are;
       took = c.goes.took;
-      bounded = c.bounded;
+      bounded = λ most meet. (let whole = c.bounded most meet in omega (arith, whole));
     }
 
 -- in the line that was given last
-pub counted_begun : (a : EventsAsked) (source : Option (List ℕ)) (old new : LineReader) (had left before middle : Option (List ℕ)) (session : Session) (text : List ℕ) (first here now : ℕ) → new.budget ≡ a.most_bytes → text ≡ new.text →
+pub counted_begun : (a : EventsAsked) (source : Option (List ℕ)) (old new : LineReader) (had left before middle : Option (List ℕ)) (session : Session) (text : List ℕ) (first here now kept : ℕ) → new.budget ≡ a.most_bytes → text ≡ new.text →
     ((script : List ℕ) (texts : List (List ℕ)) → HasGiven old script had texts → HasGiven new script left (texts ++ new.text ∷ [])) → (c : Counting a.schema a.queries source old had before middle session first here) →
-    LineCosts a.schema a.queries session.engine c.goes.machine here now (asked_by a.schema text) → (script : List ℕ) → source ≡ Some script → CountsBegun a script (TookFirst before) first now
-counted_begun a source old new had left before middle session text first here now budget read gives c costs script told =
+    LineCosts a.schema a.queries session.engine c.goes.machine (here + put_by_in session) (now + kept) (asked_by a.schema text) → (script : List ℕ) → source ≡ Some script → CountsBegun a script (TookFirst before) first now
+counted_begun a source old new had left before middle session text first here now kept budget read gives c costs script told =
     let t = c.are script told in
     let f = first_given new script left (t.texts ++ new.text ∷ []) (gives script t.texts t.given) in
     let m = c.goes.machine in
@@ -289,7 +295,7 @@ stop_counts a source reader left before after session first now (unread.InputToo
 pub line_counts : (a : EventsAsked) (source : Option (List ℕ)) (old new : LineReader) (had left before middle after : Option (List ℕ)) (session ended : Session) (why : OrMemory StreamFault) (number : ℕ) (text : List ℕ) (first here now : ℕ) →
     new.budget ≡ a.most_bytes → old.budget ≡ a.most_bytes → text ≡ new.text →
     ((script : List ℕ) (texts : List (List ℕ)) → HasGiven old script had texts → HasGiven new script left (texts ++ new.text ∷ [])) → (c : Counting a.schema a.queries source old had before middle session first here) →
-    LineEnded a.schema a.queries number text c.goes.machine ended middle after (Err why) → NoStepIfRefused here now (Err why) → LineCosts a.schema a.queries session.engine c.goes.machine here now (asked_by a.schema text) →
+    LineEnded a.schema a.queries number text c.goes.machine ended middle after (Err why) → NoStepIfRefused here now (Err why) → LineCosts a.schema a.queries session.engine c.goes.machine (here + put_by_in session) (now + put_by_in ended) (asked_by a.schema text) →
     (script : List ℕ) → source ≡ Some script → StepsOverPlay a script before after first now {T = Unit {0}} (Err why)
 line_counts a source old new had left before middle after session ended (Fault (fault.Event at refused)) number text first here now budget same read gives c end none costs =
     let all : (script : List ℕ) → source ≡ Some script → CountsTurns a script (TookAll before middle) first here = counted a source old had before middle session first here same c in
@@ -297,11 +303,11 @@ line_counts a source old new had left before middle after session ended (Fault (
     let W : Option (List ℕ) → Type 0 = λ w. (script : List ℕ) → source ≡ Some script → CountsTurns a script (TookAll before w) first here in
     subst S (sym none) (subst W (sym end.1) all)
 line_counts a source old new had left before middle after session ended (Fault fault.WriteFault) number text first here now budget same read gives c end none costs =
-    counted_begun a source old new had left before middle session text first here now budget read gives c costs
+    counted_begun a source old new had left before middle session text first here now (put_by_in ended) budget read gives c costs
 line_counts a source old new had left before middle after session ended (Fault (fault.InputTooLong taken)) number text first here now budget same read gives c end none costs = absurd end
 line_counts a source old new had left before middle after session ended (Fault fault.ReadFault) number text first here now budget same read gives c end none costs = absurd end
 line_counts a source old new had left before middle after session ended Memory number text first here now budget same read gives c end none costs =
-    λ script told. inr (counted_begun a source old new had left before middle session text first here now budget read gives c costs script told)
+    λ script told. inr (counted_begun a source old new had left before middle session text first here now (put_by_in ended) budget read gives c costs script told)
 
 -- OVER THE SESSION'S OWN SCHEMA AND QUERIES
 

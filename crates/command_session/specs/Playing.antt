@@ -21,7 +21,7 @@ use Rattle.command_session.specs.declared.session.Refusal.{Refusal}
 use Rattle.command_session.specs.declared.session.RunFault.{RunFault}
 use Rattle.command_session.specs.declared.session.RunFault.TheVariants as run
 use Rattle.command_session.specs.Machine.{Machine, at_first, IsStep, IsRefused}
-use Rattle.command_session.specs.Sessions.{Session, Stands, EngineEnded}
+use Rattle.command_session.specs.Sessions.{Session, Stands, EngineEnded, put_by_in}
 use Rattle.command_session.specs.Scripts.{asked_by, refusal_fault, ArePlayed}
 use Rattle.command_session.specs.Turns.{Turn, turns_cost, line_events, line_cost, AreTurns}
 
@@ -111,7 +111,7 @@ turns_with turns machine (Ok (Some asked)) = turns ++ record { asked = asked; fo
 turns_with turns machine (Ok None) = turns
 turns_with turns machine (Err refused) = turns
 
--- how many steps a line takes at most on the machine, where the engine has few nodes
+-- how many steps a line takes at most on the machine, with what is put by, where the engine has few nodes
 abbrev pub LineCosts : Declared → List Query → State → Machine → ℕ → ℕ → Result (Option Command) EventFault → Type 0
 LineCosts schema queries engine machine before after line = (most : ℕ → ℕ) → MeetMost schema queries (line_events machine line) most → HasFewNodes engine (length machine.events) most →
     after ≤ before + line_cost (length queries) most machine line
@@ -131,12 +131,12 @@ pub record HasTurns (schema : Declared) (queries : List Query) (reader : LineRea
   pub given : HasGiven reader script left texts
   pub are : AreTurns schema queries at_first [] texts turns machine bytes
 
--- The steps from the first to now are bounded by the turns so far, and the engine has no more nodes than the events may have added.
+-- The steps from the first to now, with what is put by, are bounded by the turns so far, and the engine has no more nodes than the events may have added.
 pub record Counting (schema : Declared) (queries : List Query) (source : Option (List ℕ)) (reader : LineReader) (left before after : Option (List ℕ)) (session : Session) (first now : ℕ) : Type 0 where
   pub goes : Goes schema queries source reader left before after session
   pub turns : List Turn
   pub are : (script : List ℕ) → source ≡ Some script → HasTurns schema queries reader script left turns goes.machine goes.bytes
-  pub bounded : (most : ℕ → ℕ) → MeetMost schema queries goes.machine.events most → now ≤ first + turns_cost (length queries) most turns
+  pub bounded : (most : ℕ → ℕ) → MeetMost schema queries goes.machine.events most → now + put_by_in session ≤ first + turns_cost (length queries) most turns
   pub few : (most : ℕ → ℕ) → MeetMost schema queries goes.machine.events most → HasFewNodes session.engine (length goes.machine.events) most
 
 -- why there is no further line

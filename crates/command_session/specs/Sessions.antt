@@ -1,5 +1,5 @@
 -- What contracts see of a session, which machine it is, and how a command may end.
-use Rattle.std.specs.Prelude.{◌≡◌, ℕ, ◌+◌, ◌^◌, ◌<◌, ◌≤◌, ◌⊎◌, Bool, true, false, List, [], ◌∷◌, length, map, take, All, Option, Some, slice_get, Result, Ok, Err}
+use Rattle.std.specs.Prelude.{◌≡◌, ℕ, ◌+◌, ◌*◌, ◌^◌, ◌<◌, ◌≤◌, ◌⊎◌, Bool, true, false, List, [], ◌∷◌, length, map, take, All, Option, Some, slice_get, Result, Ok, Err}
 use Rattle.stream_schema.specs.Types.{Declared}
 use Rattle.stream_schema.specs.declared.Event.{Event as StreamEvent}
 use Rattle.cel_terms.specs.declared.Query.{Query}
@@ -9,8 +9,10 @@ use Rattle.cer_base.specs.declared.OrMemory.{OrMemory}
 use Rattle.cer_base.specs.declared.OrMemory.TheVariants as or
 use Rattle.cer_outside.specs.Causes.{Rose}
 use Rattle.cer_outside.specs.declared.WriteFault.{WriteFault as Failure}
-use Rattle.query_engine.specs.Bounds.{update_bound}
-use Rattle.query_engine.specs.Engine.{State, Open, StandsFor, Fits, rest, count_of, found_of, len_of, peak_of, update_bounds}
+use Rattle.query_engine.specs.Bounds.{update_bound, for_each_query}
+use Rattle.query_engine.specs.declared.sizes.Size.{Size}
+use Rattle.query_engine.specs.Engine.{State, Open, StandsFor, SameQueries, Fits, rest, count_of, found_of, len_of, peak_of, update_bounds}
+use Rattle.query_engine.specs.Sizes.{put_by}
 use Rattle.query_engine.specs.Compacting.{IsLeft, compact_bounds}
 use Rattle.query_engine.specs.Windows.{IsDense, FollowsWindow, HasAdded}
 use Rattle.query_engine.specs.Keys.{HasAddedKeys, KeysFollowWindow}
@@ -24,12 +26,17 @@ use Rattle.command_session.specs.declared.session.RunFault.TheVariants.{Refused,
 use Rattle.command_session.specs.declared.opened.Opened.{Opened}
 use Rattle.command_session.specs.Machine.{Machine, OpenCursor, at_first, IsStep, IsRefused, cursor_place}
 
--- What contracts see of a session: its engine, the numbers of its open cursors with the positions at which they were opened, the cursors in the same order, and whether it is closed.
+-- What contracts see of a session: its engine, the numbers of its open cursors with the positions at which they were opened, the cursors in the same order, whether it is closed, and what was kept of each query once it was compacted last.
 pub record Session : Type 0 where
   pub engine : State
   pub opened : List Opened
   pub cursors : List Open
   pub closed : Bool
+  pub bases : List Size
+
+-- what is put by for the next compactions of the queries that grow
+abbrev pub put_by_in : Session → ℕ
+put_by_in session = put_by session.engine session.bases
 
 -- the answers that a cursor of the engine has not given
 abbrev pub left_of : State → Open → List Answer
@@ -55,6 +62,7 @@ pub record IsNew (schema : Declared) (queries : List Query) (session : Session) 
   pub stands : Stands session at_first
   pub count : count_of session.engine ≡ 0
   pub going : session.closed ≡ false
+  pub nothing_put_by : put_by_in session ≡ 0
 
 -- What a session keeps: each cursor has a number, and can be pulled from the engine.
 pub record IsKept (engine : State) (opened : List Opened) (cursors : List Open) : Type 0 where
@@ -119,7 +127,7 @@ pub record HasCompacted (old new : State) (held : List Open) : Type 0 where
   pub left : IsLeft new held
   pub dense : (events : List StreamEvent) → IsDense old events → IsDense new events
   pub window : (events : List StreamEvent) → StandsFor old events → IsDense old events → FollowsWindow new events held
-  pub keys : (events : List StreamEvent) → StandsFor old events → KeysFollowWindow new events held
+  pub keys : (events : List StreamEvent) → StandsFor old events → KeysFollowWindow new events
   pub found : (query : ℕ) → found_of new query ≡ found_of old query
   pub fewer : (query : ℕ) → len_of new query ≤ len_of old query
   pub peak : (query : ℕ) → peak_of new query ≡ peak_of old query
@@ -129,19 +137,38 @@ pub record HasTaken (event : StreamEvent) (old new : State) : Type 0 where
   pub added : HasAdded old new event
   pub keys : HasAddedKeys old new event
 
--- an event that was taken adds to the engine, also where its position was not written whole; else the engine stays
+-- What is left of the engine where queries that have grown are compacted: the states that were found, and no more nodes.
+pub record IsTended (old new : State) : Type 0 where
+  pub dense : (events : List StreamEvent) → IsDense old events → IsDense new events
+  pub found : (query : ℕ) → found_of new query ≡ found_of old query
+  pub fewer : (query : ℕ) → len_of new query ≤ len_of old query
+  pub peak : (query : ℕ) → peak_of new query ≡ peak_of old query
+
+-- The event was taken, and then queries that have grown may have been compacted.
+pub record HasGoneOn (event : StreamEvent) (old new : State) : Type 0 where
+  pub between : State
+  pub same : SameQueries old between
+  pub taken : HasTaken event old between
+  pub tended : IsTended between new
+
+-- an event that was taken is added to the engine, also where its position was not written whole; else the engine stays
+abbrev pub IsAddedTo : StreamEvent → State → State → Result (Unit {0}) RunFault → Type 0
+IsAddedTo event old new (Ok done) = HasTaken event old new
+IsAddedTo event old new (Err (Refused why)) = new ≡ old
+IsAddedTo event old new (Err WriteFault) = HasTaken event old new
+IsAddedTo event old new (Err Memory) = (new ≡ old) ⊎ HasTaken event old new
+
+-- and once its position was written, the session goes on
 abbrev pub EventAdds : StreamEvent → State → State → Result (Unit {0}) RunFault → Type 0
-EventAdds event old new (Ok done) = HasTaken event old new
-EventAdds event old new (Err (Refused why)) = new ≡ old
-EventAdds event old new (Err WriteFault) = HasTaken event old new
-EventAdds event old new (Err Memory) = (new ≡ old) ⊎ HasTaken event old new
+EventAdds event old new (Ok done) = HasGoneOn event old new
+EventAdds event old new (Err why) = IsAddedTo event old new (Err why)
 
 -- the engine is compacted, or it stays
 abbrev pub CompactionLeaves : State → State → List Open → Result (Unit {0}) RunFault → Type 0
 CompactionLeaves old new held (Ok done) = HasCompacted old new held
 CompactionLeaves old new held (Err why) = new ≡ old
 
--- What a command makes of the engine: an event adds, a compaction leaves what is needed, and all else changes nothing.
+-- What a command makes of the engine: an event adds, after which queries that have grown are compacted, a compaction leaves what is needed, and all else changes nothing.
 abbrev pub EngineEnded : Command → State → Session → Result (Unit {0}) RunFault → Type 0
 EngineEnded (command.Event event) old new result = EventAdds event old new.engine result
 EngineEnded (command.OpenAt query cursor) old new result = new.engine ≡ old
@@ -160,12 +187,21 @@ UnlessRefused before after Bounded (Err (Refused why)) = after ≡ before
 UnlessRefused before after Bounded (Err WriteFault) = Bounded
 UnlessRefused before after Bounded (Err Memory) = Bounded
 
--- so many for an event, none where it is refused, unless memory ran out
-abbrev pub EventIsWithin : Session → ℕ → ℕ → Result (Unit {0}) RunFault → Type 0
-EventIsWithin new before after (Ok done) = after ≤ before + update_bounds new.engine
-EventIsWithin new before after (Err (Refused why)) = after ≡ before
-EventIsWithin new before after (Err WriteFault) = after ≤ before + update_bounds new.engine
-EventIsWithin new before after (Err Memory) = Unit {0}
+-- so many steps for each query with so many states found, which pays for the query's compactions too
+abbrev pub paid_bounds : State → ℕ
+paid_bounds engine = for_each_query (length engine.queries) (λ k. 28 * update_bound (found_of engine k))
+
+-- so many for an event that is taken, none where it is refused, unless memory ran out
+abbrev pub TakingIsWithin : Session → ℕ → ℕ → Result (Unit {0}) RunFault → Type 0
+TakingIsWithin new before after (Ok done) = after ≤ before + update_bounds new.engine
+TakingIsWithin new before after (Err (Refused why)) = after ≡ before
+TakingIsWithin new before after (Err WriteFault) = after ≤ before + update_bounds new.engine
+TakingIsWithin new before after (Err Memory) = Unit {0}
+
+-- so many for an event, with what is put by at it, none where it is refused, unless memory ran out
+abbrev pub EventIsWithin : Session → Session → ℕ → ℕ → Result (Unit {0}) RunFault → Type 0
+EventIsWithin old new before after (Ok done) = after + put_by_in new ≤ before + put_by_in old + paid_bounds new.engine
+EventIsWithin old new before after (Err why) = TakingIsWithin new before after (Err why)
 
 -- so many for a pull from the cursor of the machine that has the number
 abbrev pub PullIsWithin : ℕ → ℕ → Machine → ℕ → ℕ → Type 0
@@ -174,7 +210,7 @@ PullIsWithin number n machine before after =
 
 -- How many steps a command takes at most, none where it is refused. An event for which memory ran out is left open here.
 abbrev pub IsWithin : Command → Session → Machine → Session → ℕ → ℕ → Result (Unit {0}) RunFault → Type 0
-IsWithin (command.Event event) old machine new before after result = EventIsWithin new before after result
+IsWithin (command.Event event) old machine new before after result = EventIsWithin old new before after result
 IsWithin (command.OpenAt query cursor) old machine new before after result = UnlessRefused before after (after ≤ before + update_bound (found_of old.engine query)) result
 IsWithin (command.Pull cursor n) old machine new before after result = UnlessRefused before after (PullIsWithin cursor n machine before after) result
 IsWithin (command.Drop cursor) old machine new before after result = after ≡ before

@@ -6,7 +6,7 @@ ghost use Rattle.event_reader.specs.Lines.{has_line_feed};
 ghost use Rattle.query_engine.specs.Engine.{SameQueries, count_of};
 ghost use Rattle.command_session.specs.Commands.{HasEventOf};
 ghost use Rattle.command_session.specs.Machine.{Machine};
-ghost use Rattle.command_session.specs.Sessions.{Stands};
+ghost use Rattle.command_session.specs.Sessions.{Stands, put_by_in};
 ghost use Rattle.command_session.specs.Scripts.{asked_by, command_fault, refusal_fault};
 ghost use Rattle.command_session.specs.Playing.{LineEnded, LineMade, LineCosts, NoStepIfRefused, HasLineCause, line_end, line_fault};
 
@@ -114,7 +114,8 @@ pub fn play_line<K: Sink, L: Ledger>(
     ensures cause { HasLineCause (K.faults out.old) (K.faults out.new) result }
     ensures costs { (machine : Machine) → Stands session.old machine
         → LineCosts session.old.engine.schema session.old.engine.queries session.old.engine machine
-        steps.old steps.new (asked_by session.old.engine.schema line.now) }
+        (steps.old + put_by_in session.old) (steps.new + put_by_in session.new)
+        (asked_by session.old.engine.schema line.now) }
     ensures refused { (machine : Machine) → Stands session.old machine → NoStepIfRefused steps.old
         steps.new result }
     ensures made { OnOk result (LineMade session.old.engine session.new

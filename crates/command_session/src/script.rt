@@ -6,7 +6,7 @@ ghost use Rattle.event_reader.specs.Reading.{HasGiven};
 ghost use Rattle.query_engine.specs.Engine.{count_of};
 ghost use Rattle.stream_answers.specs.Ends.{HasReadCause, HasWriteCause};
 ghost use Rattle.command_session.specs.Machine.{at_first};
-ghost use Rattle.command_session.specs.Sessions.{Stands};
+ghost use Rattle.command_session.specs.Sessions.{Stands, put_by_in};
 ghost use Rattle.command_session.specs.Scripts.{WrotePlay};
 ghost use Rattle.command_session.specs.Turns.{StepsOverPlay};
 ghost use Rattle.command_session.specs.Playing.{line_stop};
@@ -32,9 +32,9 @@ pub const MOST_BYTES: u64 = 1_099_511_627_776;
 /// that is empty but for a carriage return is passed over.
 ///
 /// The steps are bounded by the commands that were carried out, each on the machine that it found:
-/// an event takes the bound of an update for each query, an opening that of its query, a pull the
-/// delay of each of its answers and one, a compaction nine times the bound of an update for each
-/// query and event. Where a write failed or memory ran out, the command that was begun counts too.
+/// an event takes 28 times the bound of an update for each query, which pays for the compactions that
+/// the session makes by itself, an opening that of its query, a pull the delay of each of its answers
+/// and one, a compaction nine times the bound of an update for each query and event. Where a write failed or memory ran out, the command that was begun counts too.
 ///
 /// The first fault ends it, after the commands before it were carried out:
 ///
@@ -92,6 +92,7 @@ fn play_lines<Q: Source, K: Sink, L: Ledger>(
     requires fresh { Stands session.old at_first }
     requires going { session.old.closed ≡ false }
     requires open { lines.old.closed ≡ false }
+    requires nothing_put_by { put_by_in session.old ≡ 0 }
     requires counted { count_of session.old.engine ≤ lines.old.number }
     requires given { (bytes : List ℕ) → HasGiven lines.old bytes (Some bytes) [] }
     ensures wrote { WrotePlay (record {

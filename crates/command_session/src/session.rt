@@ -8,7 +8,7 @@ ghost use Rattle.query_engine.specs.Engine.{SameQueries, count_of, found_of};
 ghost use Rattle.query_engine.specs.Compacting.{compact_bounds};
 ghost use Rattle.command_session.specs.Commands.{HasEventOf};
 ghost use Rattle.command_session.specs.Machine.{Machine, at_first};
-ghost use Rattle.command_session.specs.Sessions.{Stands, IsNew, Ended, HasRoom, HasRunCause, EngineEnded, IsWithin, EventIsWithin, UnlessRefused, as_run_fault};
+ghost use Rattle.command_session.specs.Sessions.{Stands, IsNew, IsTended, Ended, HasRoom, HasRunCause, EngineEnded, IsAddedTo, IsWithin, EventIsWithin, TakingIsWithin, UnlessRefused, as_run_fault, put_by_in};
 ghost use Rattle.command_session.specs.Steps.{CostsAtMost};
 ghost use Rattle.command_session.specs.declared.command.Command.TheVariants as commands;
 
@@ -23,6 +23,7 @@ use query_engine::{Cursor, Engine, Queries, SeeFault};
 use std::alloc::Global;
 use std::marker::Model;
 use std::sync::ledger::Ledger;
+use stream_answers::Schedule;
 use stream_schema::{Event, Schema};
 
 /// Why a command is refused. Where several hold, the first of these is the answer.
@@ -60,12 +61,15 @@ pub struct Session {
     opened: Vec<Opened>,
     /// the cursors, in the same order.
     cursors: Vec<Cursor>,
+    /// When the engine is compacted by itself.
+    schedule: Schedule,
     /// The line that is written.
     buffer: Vec<u8>,
     closed: bool,
 }
 
 impl Model for Session {
+    ghost use Rattle.std.specs.Prelude.{◌≡◌, length};
     ghost use Rattle.std.specs.Coded.{codes};
     ghost use Rattle.cel_terms.specs.contracts.Formula as formula;
     ghost use Rattle.command_session.specs.Sessions.{Session, IsKept};
@@ -79,9 +83,11 @@ impl Model for Session {
       opened = s.opened.items;
       cursors = s.cursors.items;
       closed = s.closed;
+      bases = s.schedule.bases;
     } };
 
-    ghost invariant = { λ s. IsKept s.engine s.opened.items s.cursors.items };
+    ghost invariant = { λ s. IsKept s.engine s.opened.items s.cursors.items
+        × (length s.schedule.bases ≡ length s.engine.queries) };
 }
 
 /// What a write that stopped is to a session.
@@ -114,10 +120,14 @@ impl Session {
         requires checked { All (IsChecked schema) queries }
         ensures { IfOk result (IsNew schema queries) }
     {
+        let mut schedule = Schedule::of_queries(alloc, queries.as_slice().len() as u64)?;
+        let engine = Engine::seeded(alloc, seed, schema, queries)?;
+        schedule.note(&engine);
         Ok(Session {
-            engine: Engine::seeded(alloc, seed, schema, queries)?,
+            engine,
             opened: Vec::new(alloc),
             cursors: Vec::new(alloc),
+            schedule,
             buffer: Vec::new(alloc),
             closed: false,
         })
@@ -138,6 +148,60 @@ impl Session {
         self.engine.schema()
     }
 
+    /// Its engine.
+    pub fn engine(&self) -> &Engine
+        ensures { result.now ≡ self.now.engine }
+    {
+        &self.engine
+    }
+
+    /// The event comes, and its position is written. Then queries that have grown may be compacted, with
+    /// all open cursors held.
+    fn event<K: Sink, L: Ledger>(
+        &mut self,
+        event: &Event,
+        out: &mut K,
+        steps: &mut Steps<L>,
+    ) -> Result<(), RunFault>
+        requires going { self.old.closed ≡ false }
+        requires of_schema { IsOfSchema self.old.engine.schema event.now }
+        requires room { count_of self.old.engine + 1 < 2 ^ 64 }
+        ensures ended { (machine : Machine) → Stands self.old machine
+            → Ended (commands.Event event.now) self.old machine self.new (K.taken out.old)
+            (K.taken out.new) result }
+        ensures same { SameQueries self.old.engine self.new.engine }
+        ensures count { count_of self.new.engine ≤ count_of self.old.engine + 1 }
+        ensures cause { HasRunCause (K.faults out.old) (K.faults out.new) result }
+        ensures engine { EngineEnded (commands.Event event.now) self.old.engine self.new result }
+        ensures steps { (machine : Machine) → Stands self.old machine
+            → EventIsWithin self.old self.new steps.old steps.new result }
+        ensures costs { (machine : Machine) → Stands self.old machine
+            → CostsAtMost (commands.Event event.now) self.old machine self.new steps.old steps.new }
+    {
+        match self.take_event(event, out, steps) {
+            Ok(()) => {
+                self.keep_small(steps);
+                Ok(())
+            }
+            Err(fault) => Err(fault),
+        }
+    }
+
+    /// Queries that have grown may be compacted, with all open cursors held. The session is the same
+    /// machine.
+    fn keep_small<L: Ledger>(&mut self, steps: &mut Steps<L>)
+        ensures stands { (machine : Machine) → Stands self.old machine → Stands self.new machine }
+        ensures closed { self.new.closed ≡ self.old.closed }
+        ensures same { SameQueries self.old.engine self.new.engine }
+        ensures count { count_of self.new.engine ≡ count_of self.old.engine }
+        ensures tended { IsTended self.old.engine self.new.engine }
+        ensures paid { (machine : Machine) → Stands self.old machine → steps.new
+            + put_by_in self.new ≤ steps.old + put_by_in self.old }
+    {
+        let held = self.cursors.as_mut_slice();
+        self.schedule.keep_small(&mut self.engine, held, steps);
+    }
+
     /// The event comes, and its position is written.
     fn take_event<K: Sink, L: Ledger>(
         &mut self,
@@ -154,10 +218,11 @@ impl Session {
         ensures same { SameQueries self.old.engine self.new.engine }
         ensures count { count_of self.new.engine ≤ count_of self.old.engine + 1 }
         ensures cause { HasRunCause (K.faults out.old) (K.faults out.new) result }
-        ensures engine { EngineEnded (commands.Event event.now) self.old.engine self.new result }
-        ensures steps { EventIsWithin self.new steps.old steps.new result }
+        ensures engine { IsAddedTo event.now self.old.engine self.new.engine result }
+        ensures steps { TakingIsWithin self.new steps.old steps.new result }
+        ensures noted { self.new.bases ≡ self.old.bases }
         ensures costs { (machine : Machine) → Stands self.old machine
-            → CostsAtMost (commands.Event event.now) self.old machine steps.old steps.new }
+            → CostsAtMost (commands.Event event.now) self.old machine self.new steps.old steps.new }
     {
         match self.engine.see(event, steps) {
             Ok(position) => match write_at(out, &mut self.buffer, position) {
@@ -191,7 +256,8 @@ impl Session {
         ensures steps { UnlessRefused steps.old steps.new (steps.new
             ≤ steps.old + update_bound (found_of self.old.engine query)) result }
         ensures costs { (machine : Machine) → Stands self.old machine
-            → CostsAtMost (commands.OpenAt query number) self.old machine steps.old steps.new }
+            → CostsAtMost (commands.OpenAt query number) self.old machine self.new steps.old
+            steps.new }
     {
         if query == 0 || query > self.engine.queries() {
             return Err(RunFault::Refused(Refusal::NoQuery { query }));
@@ -239,7 +305,7 @@ impl Session {
             → IsWithin (commands.Pull number n) self.old machine self.new steps.old steps.new
             result }
         ensures costs { (machine : Machine) → Stands self.old machine
-            → CostsAtMost (commands.Pull number n) self.old machine steps.old steps.new }
+            → CostsAtMost (commands.Pull number n) self.old machine self.new steps.old steps.new }
     {
         match place_among(self.opened.as_slice(), number) {
             None => Err(RunFault::Refused(Refusal::CursorNotOpen { cursor: number })),
@@ -266,6 +332,7 @@ impl Session {
         ensures count { count_of self.new.engine ≤ count_of self.old.engine + 1 }
         ensures cause { (count : ℕ) → HasRunCause count count result }
         ensures engine { self.new.engine ≡ self.old.engine }
+        ensures noted { self.new.bases ≡ self.old.bases }
     {
         match place_among(self.opened.as_slice(), number) {
             None => Err(RunFault::Refused(Refusal::CursorNotOpen { cursor: number })),
@@ -288,10 +355,13 @@ impl Session {
         ensures engine { EngineEnded commands.Compact self.old.engine self.new result }
         ensures steps { steps.new ≤ steps.old + compact_bounds self.old.engine }
         ensures costs { (machine : Machine) → Stands self.old machine
-            → CostsAtMost commands.Compact self.old machine steps.old steps.new }
+            → CostsAtMost commands.Compact self.old machine self.new steps.old steps.new }
     {
         match self.engine.compact(self.cursors.as_mut_slice(), steps) {
-            Ok(()) => Ok(()),
+            Ok(()) => {
+                self.schedule.note(&self.engine);
+                Ok(())
+            }
             Err(_) => Err(RunFault::Memory),
         }
     }
@@ -300,7 +370,9 @@ impl Session {
     /// position after it.
     ///
     /// An event adds to the engine what `Engine::see` says, a compaction leaves of it what
-    /// `Engine::compact` says, and no other command changes it.
+    /// `Engine::compact` says, and no other command changes it. Once an event was taken and its position
+    /// written, queries that have grown may be compacted, with all open cursors held, where there is
+    /// memory for it; that is no step of the machine. What is put by at each event pays for it.
     ///
     /// After a refusal nothing has changed, nothing was written, and no step was taken:
     ///
@@ -332,10 +404,10 @@ impl Session {
         ensures steps { (machine : Machine) → Stands self.old machine → IsWithin command self.old
             machine self.new steps.old steps.new result }
         ensures costs { (machine : Machine) → Stands self.old machine → CostsAtMost command
-            self.old machine steps.old steps.new }
+            self.old machine self.new steps.old steps.new }
     {
         match command {
-            Command::Event(event) => self.take_event(&event, out, steps),
+            Command::Event(event) => self.event(&event, out, steps),
             Command::OpenAt { query, cursor } => self.open(query, cursor, steps),
             Command::Pull { cursor, n } => self.pull(cursor, n, out, steps),
             Command::Drop { cursor } => self.drop_cursor(cursor),

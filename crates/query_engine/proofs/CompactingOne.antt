@@ -53,6 +53,7 @@ part_with_clock number clock old new vs us h =
       kept = c.kept;
       lists = c.lists;
       given = c.given;
+      recent = c.recent;
       have = c.have;
       cursors = c.cursors;
     }
@@ -191,7 +192,7 @@ module _ (clocks : List (Option ℤ)) (old cur : List Phase) (k : ℕ) (d : Phas
         let fit = one_fits ws vs fits held in
         let none : CursorsCompacted (k + 1) here.kept.nodes here.kept.nodes (map (λ v. v) vs) (map (λ v. v) vs) = record {
           count = refl;
-          each = λ j e less. record { same_rest = λ is. refl; fits = fit j e less; same = refl; other = λ no_. refl };
+          each = λ j e less. record { same_rest = λ is. refl; fits = fit j e less; no_more = λ is ids needed. (ids, needed, refl); same = refl; other = λ no_. refl };
         } in
         subst (λ (ps : List Phase). AreCarried (k + 1) (with_clocks old clocks) ps ws vs) same_set
         (all_carried k (with_clocks old clocks) (with_clocks cur clocks) (with_clock (slice_index_or clocks k None) here) within nodes_here (with_clock (slice_index_or clocks k None) here) ws vs vs fits held none)

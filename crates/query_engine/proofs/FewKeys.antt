@@ -25,6 +25,7 @@ use Rattle.query_standing.specs.Kept.{Rows, Part, KeyIsKept, PartStands}
 use Rattle.query_standing.proofs.Lists.{here, there, cons_cases, none_in_nil, all_from}
 use Rattle.query_standing.proofs.Link.{positions_append}
 use Rattle.query_standing.proofs.Passing.{all_front}
+use Rattle.query_part.specs.Compacting.{AreRecent}
 use Rattle.query_part.specs.Dropping.{HaveListsButOne}
 use Rattle.query_engine.specs.Keys.{IsReadSince, IsWithin}
 use Rattle.query_engine.proofs.FewPlaces.{one_key}
@@ -57,11 +58,11 @@ one_empty ((r ∷ rs) ∷ rows) told k one = one_empty rows told (k + 1) (λ n i
 
 -- A KEY WITH A LIST
 
-module _ (schema : Declared) (q : Query) (events : List Event) (p : Part) (low : ℤ) (recent : (id : ℕ) → id < length p.nodes → low ≤ℤ (newest (tree p.nodes id)).clock) where
-  -- a list has a node
-  a_node : (nodes : List Node) (es : List Root) → IsUnionList nodes es → (id : ℕ) × Contains (ids_of es) id × (id < length nodes)
-  a_node nodes [] u = absurd u.list
-  a_node nodes (e ∷ es) u = (e.id, here e.id (ids_of es), (All-head (IsRoot nodes) e es u.roots).inside)
+module _ (schema : Declared) (q : Query) (events : List Event) (p : Part) (low : ℤ) where
+  -- a list has a node, which is recent where all entries are
+  a_node : (nodes : List Node) (es : List Root) → IsUnionList nodes es → All (λ (e : Root). low ≤ℤ e.max.clock) es → (id : ℕ) × Contains (ids_of es) id × (low ≤ℤ (newest (tree nodes id)).clock)
+  a_node nodes [] u late = absurd u.list
+  a_node nodes (e ∷ es) u late = (e.id, here e.id (ids_of es), subst (λ (s : Stamp). low ≤ℤ s.clock) (All-head (IsRoot nodes) e es u.roots).is_max (All-head (λ (f : Root). low ≤ℤ f.max.clock) e es late))
 
   -- where a member starts that the events reach
   starts_at : (a : Automaton) (strict : Bool) (xs : List Seen) (s : Standing) (m : Member) → All (IsSeen schema q events) xs → Reaches a strict xs s m → (x : Seen) × IsSeen schema q events x × Contains (positions xs) x.stamp.pos × (m.start ≡ x.stamp)
@@ -75,11 +76,11 @@ module _ (schema : Declared) (q : Query) (events : List Event) (p : Part) (low :
   abbrev IsOwn : List Value → ℕ → Type 0
   IsOwn key at = HasKeyAt schema q events key at × IsReadSince schema q events low at
 
-  own_event : (key : List Value) (r : ℕ × List Root) (rs : Rows) → KeyIsKept schema q events p key (r ∷ rs) → (at : ℕ) × IsOwn key at
+  own_event : (key : List Value) (r : ℕ × List Root) (rs : Rows) → All (λ (e : Root). low ≤ℤ e.max.clock) r.1 → KeyIsKept schema q events p key (r ∷ rs) → (at : ℕ) × IsOwn key at
   unfolding row_ids
-  own_event key r rs k =
+  own_event key r rs late k =
       let u = All-head (λ (o : ℕ × List Root). IsUnionList p.nodes o.1) r rs k.stands.lists in
-      let node = a_node p.nodes r.1 u in
+      let node = a_node p.nodes r.1 u late in
       let t = tree p.nodes node.0 in
       let m = newest_is_start t in
       let at = of_rows p.nodes (r ∷ rs) node.0 m.0 (Contains-append_left (ids_of r.1) (row_ids rs) node.0 node.1) m.1 in
@@ -95,7 +96,7 @@ module _ (schema : Declared) (q : Query) (events : List Event) (p : Part) (low :
           record {
             clock = x.stamp.clock;
             has = record { event = own.event; at = own.at; read = own.has.0; clock_is = subst (λ (e : Event). HasClock schema q.window e x.stamp.pos x.stamp.clock) same found.1.tells.clock };
-            since = subst (λ (s : Stamp). low ≤ℤ s.clock) (sym stamp) (recent node.0 node.2);
+            since = subst (λ (s : Stamp). low ≤ℤ s.clock) (sym stamp) node.2;
           },
         ),
       )
@@ -108,23 +109,27 @@ module _ (schema : Declared) (q : Query) (events : List Event) (p : Part) (low :
     each : (at : ℕ) → Contains ats at → (key : List Value) × Contains keys key × IsOwn key at
     count : length keys ≤ length ats + empties rows
 
-  many : (keys : List (List Value)) (rows : List Rows) → HasNoRepeats keys → length rows ≡ length keys →
+  -- each entry of a key's lists is from the low clock on
+  abbrev LateRows : Rows → Type 0
+  LateRows rows = All (λ (r : ℕ × List Root). All (λ (e : Root). low ≤ℤ e.max.clock) r.1) rows
+
+  many : (keys : List (List Value)) (rows : List Rows) → HasNoRepeats keys → length rows ≡ length keys → AreRecent low rows →
       ((n : ℕ) (key : List Value) (lists : Rows) → slice_get keys n ≡ Some key → slice_get rows n ≡ Some lists → KeyIsKept schema q events p key lists) → Many keys rows
   unfolding empties
-  many [] [] d same each = record { ats = []; distinct = tt; each = λ at has. absurd (none_in_nil at has); count = omega arith }
-  many [] (r ∷ rows) d same each = absurd (omega arith)
-  many (key ∷ keys) [] d same each = absurd (omega arith)
-  many (key ∷ keys) ([] ∷ rows) d same each =
-      let rest = many keys rows d.1 (omega arith) (λ n l lists at lists_at. each (suc n) l lists at lists_at) in
+  many [] [] d same late each = record { ats = []; distinct = tt; each = λ at has. absurd (none_in_nil at has); count = omega arith }
+  many [] (r ∷ rows) d same late each = absurd (omega arith)
+  many (key ∷ keys) [] d same late each = absurd (omega arith)
+  many (key ∷ keys) ([] ∷ rows) d same late each =
+      let rest = many keys rows d.1 (omega arith) (All-tail LateRows [] rows late) (λ n l lists at lists_at. each (suc n) l lists at lists_at) in
       record {
         ats = rest.ats;
         distinct = rest.distinct;
         each = λ at has. (let e = rest.each at has in (e.0, there key e.0 keys e.1, e.2));
         count = let c = rest.count in omega arith;
       }
-  many (key ∷ keys) ((r ∷ rs) ∷ rows) d same each =
-      let rest = many keys rows d.1 (omega arith) (λ n l lists at lists_at. each (suc n) l lists at lists_at) in
-      let own = own_event key r rs (each 0 key (r ∷ rs) refl refl) in
+  many (key ∷ keys) ((r ∷ rs) ∷ rows) d same late each =
+      let rest = many keys rows d.1 (omega arith) (All-tail LateRows (r ∷ rs) rows late) (λ n l lists at lists_at. each (suc n) l lists at lists_at) in
+      let own = own_event key r rs (All-head (λ (s : ℕ × List Root). All (λ (e : Root). low ≤ℤ e.max.clock) s.1) r rs (All-head LateRows (r ∷ rs) rows late)) (each 0 key (r ∷ rs) refl refl) in
       record {
         ats = own.0 ∷ rest.ats;
         distinct = (λ has. (let e = rest.each own.0 has in d.0 (subst (Contains keys) (one_key schema q events own.0 e.0 key e.2.0 own.1.0) e.1)), rest.distinct);
@@ -136,9 +141,9 @@ module _ (schema : Declared) (q : Query) (events : List Event) (p : Part) (low :
       }
 
   -- No more keys than events from the low clock on, and one.
-  pub keys_few : PartStands schema q events p → HaveListsButOne p.rows → IsWithin (IsReadSince schema q events low) (length p.keys)
-  keys_few s have =
-      let all = many p.keys p.rows s.keys.distinct s.keys.lists s.each in
+  pub keys_few : PartStands schema q events p → AreRecent low p.rows → HaveListsButOne p.rows → IsWithin (IsReadSince schema q events low) (length p.keys)
+  keys_few s late have =
+      let all = many p.keys p.rows s.keys.distinct s.keys.lists late s.each in
       let one = one_empty p.rows have.number 0 (λ n is. have.others n (omega arith) is ∙ ap (λ x. Some x) (omega arith)) in
       record {
         positions = all.ats;

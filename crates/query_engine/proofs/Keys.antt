@@ -1,23 +1,21 @@
 -- How many keys an event adds to an engine's queries, and how many a compaction leaves.
-use Rattle.std.proofs.Common.{◌≡◌, ℕ, zero, suc, ◌+◌, ◌-◌, ◌≤◌, inl, inr, ℤ, List, [], ◌∷◌, map, length, refl, sym, ap, subst, ◌∙◌, All, Option, Some, slice_get, arith}
-use Rattle.std.specs.Prelude.{◌≤ℤ◌}
+use Rattle.std.proofs.Common.{◌≡◌, ℕ, zero, suc, ◌+◌, ◌-◌, ◌≤◌, List, [], ◌∷◌, map, length, refl, sym, ap, subst, ◌∙◌, All, Option, Some, slice_get, arith}
 use Rattle.std.specs.Option.{option_map_or}
 use Rattle.std.specs.List.{AllZip}
 use Rattle.std.proofs.lemmas.List.Elements.{All-head, All-tail, All-weaker}
 use Rattle.stream_schema.specs.Types.{Declared}
 use Rattle.stream_schema.specs.declared.Event.{Event}
 use Rattle.cel_terms.specs.declared.Query.{Query}
-use Rattle.arena_compact.specs.Compacted.{least_of}
 use Rattle.query_standing.specs.Clocks.{Reads}
 use Rattle.query_standing.specs.Kept.{Part, PartStands, low_at}
 use Rattle.all_or_none.specs.Phases.{Phase, HasGrown}
-use Rattle.query_engine.specs.Engine.{State, Open, StandsFor, kept_of, starts_from, MayStartAt}
+use Rattle.query_engine.specs.Engine.{State, Open, StandsFor, kept_of, MayStartAt}
 use Rattle.query_engine.specs.Compacting.{IsTrimmed, IsLeft}
 use Rattle.query_engine.specs.Keys.{keys_of, IsWithin, IsReadSince, HasAddedKeys, KeysFollowWindow}
 use Rattle.query_engine.proofs.Standing.{state}
 use Rattle.query_engine.proofs.Taking.{Took}
 use Rattle.query_engine.proofs.FewKeys.{keys_few}
-use Rattle.query_engine.proofs.Windows.{least_is, own_low, part_of_query}
+use Rattle.query_engine.proofs.Windows.{own_low, part_of_query}
 
 -- how many keys the part at a place has
 abbrev keys_there : List Phase → ℕ → ℕ
@@ -58,28 +56,17 @@ module _ (schema : Declared) (count : ℕ) (old : List Phase) (ps : List ℕ) (e
 -- A COMPACTION
 
 module _ (engine : State) (events : List Event) (held : List Open) (k : ℕ) (q : Query) (part : Part) (stands : PartStands engine.schema q events part) (trimmed : IsTrimmed (k + 1) held q part) where
-  may_start : (x : ℕ) → IsReadSince engine.schema q events (least_of (k + 1) (low_at q part.clock) held) x → MayStartAt engine events held k q x
-  unfolding starts_from
-  may_start x r =
-      let low = low_at q part.clock in
-      let since = r.since in
-      record {
-        clock = r.clock;
-        has = r.has;
-        recent = elim (least_is (k + 1) low held) [
-          | inl own ↦ inl (own_low engine.schema q events part.clock x r.clock stands.clock stands.unread r.has (subst (λ (z : ℤ). z ≤ℤ r.clock) own since))
-          | inr one ↦ inr (one.0, one.1, one.2, subst (λ (z : ℤ). z ≤ℤ r.clock) one.3 since)
-        ];
-      }
+  may_start : (x : ℕ) → IsReadSince engine.schema q events (low_at q part.clock) x → MayStartAt engine events q x
+  may_start x r = record { clock = r.clock; has = r.has; recent = own_low engine.schema q events part.clock x r.clock stands.clock stands.unread r.has r.since }
 
-  keys_follow : IsWithin (MayStartAt engine events held k q) (length part.keys)
+  keys_follow : IsWithin (MayStartAt engine events q) (length part.keys)
   keys_follow =
-      let low = least_of (k + 1) (low_at q part.clock) held in
-      let few = keys_few engine.schema q events part low trimmed.recent stands trimmed.keys in
+      let low = low_at q part.clock in
+      let few = keys_few engine.schema q events part low stands trimmed.entries trimmed.keys in
       record {
         positions = few.positions;
         distinct = few.distinct;
-        each = All-weaker (IsReadSince engine.schema q events low) (MayStartAt engine events held k q) may_start few.positions few.each;
+        each = All-weaker (IsReadSince engine.schema q events low) (MayStartAt engine events q) may_start few.positions few.each;
         bounded = few.bounded;
       }
 
@@ -89,12 +76,12 @@ keys_are engine k part at =
     let number : k + 1 - 1 ≡ k = omega arith in
     ap (λ (i : ℕ). option_map_or (λ (x : Part). length x.keys) (slice_get engine.parts i) 0) number ∙ ap (λ (o : Option Part). option_map_or (λ (x : Part). length x.keys) o 0) at
 
-pub query_keys_follow : (engine : State) (events : List Event) (held : List Open) → StandsFor engine events → (k : ℕ) (q : Query) → slice_get engine.queries k ≡ Some q → ((part : Part) → slice_get engine.parts k ≡ Some part → IsTrimmed (k + 1) held q part) → IsWithin (MayStartAt engine events held k q) (keys_of engine (k + 1))
+pub query_keys_follow : (engine : State) (events : List Event) (held : List Open) → StandsFor engine events → (k : ℕ) (q : Query) → slice_get engine.queries k ≡ Some q → ((part : Part) → slice_get engine.parts k ≡ Some part → IsTrimmed (k + 1) held q part) → IsWithin (MayStartAt engine events q) (keys_of engine (k + 1))
 unfolding StandsFor
 query_keys_follow engine events held stands k q at left =
     let found = part_of_query (kept_of engine) events k q stands at in
-    subst (IsWithin (MayStartAt engine events held k q)) (sym (keys_are engine k found.0 found.1))
+    subst (IsWithin (MayStartAt engine events q)) (sym (keys_are engine k found.0 found.1))
     (keys_follow engine events held k q found.0 (stands.each k q found.0 at found.1) (left found.0 found.1))
 
-pub left_keys : (engine : State) (events : List Event) (held : List Open) → StandsFor engine events → IsLeft engine held → KeysFollowWindow engine events held
+pub left_keys : (engine : State) (events : List Event) (held : List Open) → StandsFor engine events → IsLeft engine held → KeysFollowWindow engine events
 left_keys engine events held stands left k q at = query_keys_follow engine events held stands k q at (λ part part_at. left k q part at part_at)

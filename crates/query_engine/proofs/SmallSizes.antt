@@ -1,9 +1,9 @@
 -- What is put by for compactions, and how large what is kept of a query is. For callers of the crate too.
-use Rattle.std.proofs.Common.{◌≡◌, ℕ, ◌+◌, ◌-◌, ◌*◌, ◌≤◌, inl, inr, List, [], ◌∷◌, ◌++◌, length, take, refl, sym, ap, subst, Contains, Some, slice_get, arith, length-append}
+use Rattle.std.proofs.Common.{All, ◌≡◌, ℕ, ◌+◌, ◌-◌, ◌*◌, ◌≤◌, inl, inr, List, [], ◌∷◌, ◌++◌, length, take, refl, sym, ap, subst, Contains, Some, slice_get, arith, length-append}
 use Rattle.std.proofs.Math.Nat.{mul-le-mul_left, mul-le-mul_right}
 use Rattle.std.proofs.lemmas.Bool.{cases_lt}
 use Rattle.std.proofs.lemmas.List.{take-append-le, take_all}
-use Rattle.std.proofs.lemmas.List.Elements.{All-weaker}
+use Rattle.std.proofs.lemmas.List.Elements.{All-head, All-weaker}
 use Rattle.stream_schema.specs.Types.{Declared}
 use Rattle.stream_schema.specs.declared.Event.{Event}
 use Rattle.cel_terms.specs.declared.Query.{Query}
@@ -13,8 +13,8 @@ use Rattle.query_engine.specs.Clocks.{HasClockAt, IsLastClock}
 use Rattle.query_engine.specs.Counts.{MeetMost, event_bound}
 use Rattle.query_engine.specs.Engine.{State, Open, StandsFor, SameQueries, MayStartAt, found_of, len_of}
 use Rattle.query_engine.specs.Keys.{keys_of, IsWithin, HasAddedKeys, KeysFollowWindow}
-use Rattle.query_engine.specs.Windows.{IsBoundedBy, HasAdded, FollowsWindow}
-use Rattle.query_engine.specs.Sizes.{size_of, base_of, AreSizes, put_by, steady_bound, IsSizedBy, IsLeftAlone, AreTended, IsInWindowAfter, IsKeptSmall, AreKeptSmall}
+use Rattle.query_engine.specs.Windows.{IsBoundedBy, HasAdded, IsHeld, IsFollowed, FollowsWindow}
+use Rattle.query_engine.specs.Sizes.{size_of, base_of, AreSizes, put_by, steady_bound, IsSizedBy, IsSized, IsLeftAlone, AreTended, IsInWindowAfter, IsKeptSmall, AreKeptSmall}
 use Rattle.query_engine.proofs.Counting.{each_at_most, each_of_both, bound_grows, found_are_met, query_at}
 
 -- THE STEPS
@@ -83,47 +83,58 @@ weigh_keys few many b nodes keys less n k =
     omega (arith, n, k, less, whole)
 
 -- nodes and keys that are bounded by such positions, by the more of them
-pub sized_by_both : (Are : ℕ → Type 0) (engine : State) (query : ℕ) → IsBoundedBy Are engine query (len_of engine query) → IsWithin Are (keys_of engine query) → IsSizedBy Are engine query (size_of engine query)
-sized_by_both Are engine query nodes keys =
+sized_by_both : (Are : ℕ → Type 0) (engine : State) (query nodes : ℕ) → IsBoundedBy Are engine query nodes → IsWithin Are (keys_of engine query) → IsSizedBy Are engine query (nodes + 8 * keys_of engine query)
+sized_by_both Are engine query nodes few keys =
     let b = update_bound (found_of engine query) in
-    elim (cases_lt (length nodes.positions) (length keys.positions)) [
-      | inl less ↦ record { positions = keys.positions; distinct = keys.distinct; each = keys.each; bounded = weigh (length nodes.positions) (length keys.positions) b (len_of engine query) (keys_of engine query) (omega arith) nodes.bounded keys.bounded }
-      | inr least ↦ record { positions = nodes.positions; distinct = nodes.distinct; each = nodes.each; bounded = weigh_keys (length keys.positions) (length nodes.positions) b (len_of engine query) (keys_of engine query) (omega arith) nodes.bounded keys.bounded }
+    elim (cases_lt (length few.positions) (length keys.positions)) [
+      | inl less ↦ record { positions = keys.positions; distinct = keys.distinct; each = keys.each; bounded = weigh (length few.positions) (length keys.positions) b nodes (keys_of engine query) (omega arith) few.bounded keys.bounded }
+      | inr least ↦ record { positions = few.positions; distinct = few.distinct; each = few.each; bounded = weigh_keys (length keys.positions) (length few.positions) b nodes (keys_of engine query) (omega arith) few.bounded keys.bounded }
     ]
 
-none_held : (c : Open) → Contains [] c → ⊥
-none_held c has = let less = has.1 in absurd (omega arith)
-
--- where no cursor is held, an answer may start where the window after all events is
-in_window : (engine : State) (events : List Event) (k : ℕ) (q : Query) (x : ℕ) → MayStartAt engine events [] k q x → IsInWindowAfter engine events (length events) q x
-in_window engine events k q x m =
-    let all : take (length events) events ≡ events = take_all (length events) events (omega arith) in
-    elim m.recent [
-      | inr one ↦ absurd (none_held one.0 one.1)
-      | inl own ↦ record {
-        clock = m.clock;
-        has = subst (λ (es : List Event). HasClockAt engine.schema q es x m.clock) (sym all) m.has;
-        now = own.0;
-        last = subst (λ (es : List Event). IsLastClock engine.schema q es own.0) (sym all) own.1;
-        recent = own.2;
-      }
-    ]
-
--- a query that was compacted just now
-fresh_is_small : (least : ℕ) (engine : State) (bases : List Size) (events : List Event) (k : ℕ) (q : Query) → base_of bases (k + 1) ≡ size_of engine (k + 1) → IsSizedBy (MayStartAt engine events [] k q) engine (k + 1) (size_of engine (k + 1)) →
-    IsKeptSmall least (length events) engine bases events k q
-fresh_is_small least engine bases events k q noted sized = record {
-  first = length events;
-  among = omega arith;
-  needed = size_of engine (k + 1);
-  window = sized_on (MayStartAt engine events [] k q) (IsInWindowAfter engine events (length events) q) engine engine (k + 1) (size_of engine (k + 1)) (in_window engine events k q) (omega arith) sized;
-  base = omega arith;
-  size = omega arith;
+pub followed_is_sized : (engine : State) (events : List Event) (held : List Open) (k : ℕ) (q : Query) → IsFollowed engine events held k q → IsWithin (MayStartAt engine events q) (keys_of engine (k + 1)) → IsSized engine events held k q
+followed_is_sized engine events held k q f keys = record {
+  number = f.number + 8 * keys_of engine (k + 1);
+  bounded = sized_by_both (MayStartAt engine events q) engine (k + 1) f.number f.bounded keys;
+  others = f.others;
+  distinct = f.distinct;
+  each = f.each;
+  whole = (let whole = f.whole in omega arith);
 }
 
-pub compacted_are_small : (engine : State) (bases : List Size) (events : List Event) (least : ℕ) → FollowsWindow engine events [] → KeysFollowWindow engine events [] → AreSizes engine bases → AreKeptSmall least (length events) engine bases events
+-- where no cursor is held, an answer may start where the window after all events is
+in_window : (engine : State) (events : List Event) (q : Query) (x : ℕ) → MayStartAt engine events q x → IsInWindowAfter engine events (length events) q x
+in_window engine events q x m =
+    let all : take (length events) events ≡ events = take_all (length events) events (omega arith) in
+    record {
+      clock = m.clock;
+      has = subst (λ (es : List Event). HasClockAt engine.schema q es x m.clock) (sym all) m.has;
+      now = m.recent.0;
+      last = subst (λ (es : List Event). IsLastClock engine.schema q es m.recent.0) (sym all) m.recent.1;
+      recent = m.recent.2;
+    }
+
+none_other : (engine : State) (k : ℕ) (others : List ℕ) → All (IsHeld engine [] k) others → length others ≡ 0
+none_other engine k [] each = refl
+none_other engine k (id ∷ others) each = let held = All-head (IsHeld engine [] k) id others each in absurd (let less = held.among.1 in omega arith)
+
+-- a query that was compacted just now
+fresh_is_small : (least : ℕ) (engine : State) (bases : List Size) (events : List Event) (k : ℕ) (q : Query) → base_of bases (k + 1) ≡ size_of engine (k + 1) → IsSized engine events [] k q →
+    IsKeptSmall least (length events) engine bases events k q
+fresh_is_small least engine bases events k q noted sized =
+    let none = none_other engine k sized.others sized.each in
+    let whole = sized.whole in
+    record {
+      first = length events;
+      among = omega arith;
+      needed = sized.number;
+      window = sized_on (MayStartAt engine events q) (IsInWindowAfter engine events (length events) q) engine engine (k + 1) sized.number (in_window engine events q) (omega arith) sized.bounded;
+      base = omega arith;
+      size = omega arith;
+    }
+
+pub compacted_are_small : (engine : State) (bases : List Size) (events : List Event) (least : ℕ) → FollowsWindow engine events [] → KeysFollowWindow engine events → AreSizes engine bases → AreKeptSmall least (length events) engine bases events
 compacted_are_small engine bases events least nodes keys are k q at =
-    fresh_is_small least engine bases events k q (are.each k q at) (sized_by_both (MayStartAt engine events [] k q) engine (k + 1) (nodes k q at) (keys k q at))
+    fresh_is_small least engine bases events k q (are.each k q at) (followed_is_sized engine events [] k q (nodes k q at) (keys k q at))
 
 -- so much is allowed for one event more
 allowed : (least needed since b c old new : ℕ) → b ≤ c → old ≤ least + 2 * needed + since * (b + 8) → new ≤ old + c + 8 → new ≤ least + 2 * needed + (since + 1) * (c + 8)

@@ -1,9 +1,15 @@
 -- Queries that are compacted where they have grown: what is left of each, and that what was put by pays for it.
-use Rattle.std.proofs.Common.{◌≡◌, ℕ, ◌+◌, ◌-◌, ◌*◌, ◌<◌, ◌≤◌, ◌⊎◌, inl, inr, ℤ, Bool, true, false, cond, List, map, length, Result, Ok, Err, refl, sym, ap, subst, ◌∙◌, Option, Some, slice_get, arith}
-use Rattle.std.specs.Prelude.{nat_le, ◌&&◌, OnOk}
+use Rattle.std.proofs.Common.{◌∷◌, ◌≡◌, ℕ, ◌+◌, ◌-◌, ◌*◌, ◌<◌, ◌≤◌, ◌⊎◌, inl, inr, ℤ, Bool, true, false, cond, List, map, length, Result, Ok, Err, refl, sym, ap, subst, ◌∙◌, Option, Some, slice_get, arith, None, []}
+use Rattle.std.specs.Prelude.{nat_le, ◌&&◌, OnOk, ◌≤ℤ◌, pos, IfSome, IfNone}
+use Rattle.cel_terms.specs.Answers.{HasClock}
+use Rattle.cel_terms.specs.declared.Window.{Window}
+use Rattle.cel_terms.specs.declared.Window.TheVariants.{Free}
+use Rattle.query_engine.specs.Clocks.{Reads, HasClockAt, IsLastClock, low_of}
 use Rattle.std.specs.Option.{option_map_or}
 use Rattle.std.proofs.lemmas.Bool.{cases_lt, cases_Bool, leb-true, le-leb}
+use Rattle.std.proofs.lemmas.Int.{ints}
 use Rattle.std.proofs.lemmas.Option.{slice_get_within}
+use Rattle.std.proofs.lemmas.List.Elements.{All-nil, All-weaker}
 use Rattle.stream_schema.specs.Types.{Declared}
 use Rattle.stream_schema.specs.declared.Event.{Event}
 use Rattle.cel_terms.specs.declared.Query.{Query}
@@ -17,9 +23,10 @@ use Rattle.query_engine.specs.Times.{parts_at}
 use Rattle.query_engine.specs.Engine.{State, Open, StandsFor, SameQueries, kept_of, len_of, MayStartAt}
 use Rattle.query_engine.specs.Compacting.{is_chosen, places_of, compact_bounds, chosen_bounds, IsLeft, IsLeftOf, OthersAreKept}
 use Rattle.query_engine.specs.Keys.{keys_of}
-use Rattle.query_engine.specs.Windows.{IsDense}
+use Rattle.query_engine.specs.Windows.{IsReadFrom, IsDense, IsHeld, IsFollowed, FollowsWindow}
+use Rattle.query_engine.proofs.DenseNodes.{dense_nodes}
 use Rattle.query_engine.specs.Sizes.{size_of, base_of, has_grown, AreSizes, put_by, AreTended}
-use Rattle.query_engine.specs.Choosing.{part_weight, noted_at, AreGrown, NoneHasGrown, AreNoted, AreNotedAll}
+use Rattle.query_engine.specs.Choosing.{part_weight, noted_at, AreGrown, NoneHasGrown, AreNoted, AreNotedAll, OthersAreFree}
 use Rattle.query_engine.proofs.Standing.{state, mapped, map_at, length_map}
 use Rattle.query_engine.proofs.Keeping.{seen_length}
 use Rattle.query_engine.proofs.Clocked.{clocked_back}
@@ -27,7 +34,7 @@ use Rattle.query_engine.proofs.Counting.{each_at_most, each_of_both, query_at}
 use Rattle.query_engine.proofs.FewEntries.{entries_few}
 use Rattle.query_engine.proofs.Windows.{part_of_query, query_follows_window}
 use Rattle.query_engine.proofs.Keys.{query_keys_follow}
-use Rattle.query_engine.proofs.SmallSizes.{sized_by_both}
+use Rattle.query_engine.proofs.SmallSizes.{followed_is_sized}
 
 -- SIZES OF PARTS
 
@@ -71,6 +78,15 @@ module _ (schema : Declared) (count : ℕ) (clocks : List (Option ℤ)) (parts :
       let p = weighed k q at in
       ap (has_grown least (base_of bases (k + 1))) p.2 ∙ (ap (λ (b : ℕ). has_grown least b (part_weight p.0)) (base_at bases k) ∙ none k p.0 (slice_get_within parts k p.0 p.1) p.1)
 
+  -- what is not chosen has no window
+  pub others_free : (chosen : List Bool) → OthersAreFree (length parts) parts chosen → (k : ℕ) (q : Query) → slice_get s.queries k ≡ Some q → is_chosen chosen k ≡ false → q.window ≡ Free
+  others_free chosen free = subst (λ (t : State). (k : ℕ) (q : Query) → slice_get t.queries k ≡ Some q → is_chosen chosen k ≡ false → q.window ≡ Free) is (λ k q at other. (
+      let one = mapped (λ (p : Phase). p.query) (parts_at count parts clocks) k q at in
+      let two = clocked_back (map (dormant_at count) parts) clocks k one.0 one.1 in
+      let three = mapped (dormant_at count) parts k two.0 two.1 in
+      let query : three.0.query ≡ q = ap (λ (p : Phase). p.query) three.2 ∙ (ap (λ (p : Phase). p.query) two.2 ∙ one.2) in
+      ap (λ (x : Query). x.window) (sym query) ∙ free k three.0 (slice_get_within parts k three.0 three.1) three.1 other))
+
   pub noted_sizes : (chosen : List Bool) (old new : List Size) → AreNoted chosen (length parts) parts old new → (k : ℕ) (q : Query) → slice_get s.queries k ≡ Some q → is_chosen chosen k ≡ true → base_of new (k + 1) ≡ size_of s (k + 1)
   noted_sizes chosen old new noted k q at flag =
       let p = weighed k q at in
@@ -110,6 +126,40 @@ on_ok_two (Err e) P Q R f p q = tt
 pub on_ok_three : {T F : Type 0} (r : Result T F) (P Q R S : Type 0) → (P → Q → R → S) → OnOk r P → OnOk r Q → OnOk r R → OnOk r S
 on_ok_three (Ok x) P Q R S f p q t = f p q t
 on_ok_three (Err e) P Q R S f p q t = tt
+
+-- WITHOUT A WINDOW
+
+-- no event is out of it
+none_out : (q : Query) (now clock : ℤ) (position : ℕ) → q.window ≡ Free → clock ≡ pos position → low_of q.window now ≤ℤ clock
+none_out q now clock position free is = subst (λ (z : ℤ). low_of q.window now ≤ℤ z) (sym is) (subst (λ (w : Window). low_of w now ≤ℤ pos position) (sym free) (omega (arith, ints)))
+
+free_clock : (schema : Declared) (q : Query) (events : List Event) (x : ℕ) (clock : ℤ) → q.window ≡ Free → HasClockAt schema q events x clock → clock ≡ pos x
+free_clock schema q events x clock free h = subst (λ (w : Window). HasClock schema w h.event x clock) free h.clock_is
+
+-- so the nodes follow it, compacted or not
+pub free_follows : (engine : State) (events : List Event) (held : List Open) → StandsFor engine events → IsDense engine events → (k : ℕ) (q : Query) → slice_get engine.queries k ≡ Some q → q.window ≡ Free → IsFollowed engine events held k q
+unfolding StandsFor
+free_follows engine events held stands dense k q at free =
+    let found = part_of_query (kept_of engine) events k q stands at in
+    let part = found.0 in
+    let st = stands.each k q part at found.1 in
+    let h = dense_nodes engine events dense k q at in
+    let may : (x : ℕ) → IsReadFrom engine.schema q events 0 x → MayStartAt engine events q x = λ x r. (
+    let clock = free_clock engine.schema q events x r.clock free r.has in
+    let own = last_clock engine.schema q events part.clock x r.clock st.clock st.unread r.has in
+    record { clock = r.clock; has = r.has; recent = (own.0, own.1, none_out q own.0 r.clock x free clock) }) in
+    record {
+      number = len_of engine (k + 1);
+      bounded = record { positions = h.positions; distinct = h.distinct; each = All-weaker (IsReadFrom engine.schema q events 0) (MayStartAt engine events q) may h.positions h.each; bounded = h.bounded };
+      others = [];
+      distinct = tt;
+      each = All-nil (IsHeld engine held k);
+      whole = omega arith;
+    }
+  where
+    last_clock : (schema : Declared) (q : Query) (events : List Event) (c : Option ℤ) (x : ℕ) (clock : ℤ) → IfSome c (IsLastClock schema q events) → IfNone c ((p : ℕ) (e : Event) → slice_get events p ≡ Some e → Reads schema q e → ⊥) → HasClockAt schema q events x clock → (now : ℤ) × IsLastClock schema q events now
+    last_clock schema q events None x clock last none has = absurd (none x has.event has.at has.read)
+    last_clock schema q events (Some now) x clock last none has = (now, last)
 
 -- WHAT HAS GROWN
 
@@ -159,7 +209,7 @@ module _ (least : ℕ) (chosen : List Bool) (old new : State) (before after : Li
   tended events held stands dense left k q at = elim (cases_Bool (is_chosen chosen k)) [
     | inl flag ↦ inl (record {
       noted = are.noted k q at flag;
-      window = sized_by_both (MayStartAt new events held k q) new (k + 1) (query_follows_window new events held stands dense k q at (λ part part_at. left k q part at part_at flag)) (query_keys_follow new events held stands k q at (λ part part_at. left k q part at part_at flag));
+      window = followed_is_sized new events held k q (query_follows_window new events held stands dense k q at (λ part part_at. left k q part at part_at flag)) (query_keys_follow new events held stands k q at (λ part part_at. left k q part at part_at flag));
     })
     | inr other ↦
         let was = query_before k q at in
@@ -206,3 +256,14 @@ module _ (least : ℕ) (chosen : List Bool) (old new : State) (before after : Li
       )) in
       let queries : put_by new after ≡ for_each_query n later = ap (λ (qs : List Query). for_each_query (length qs) later) are.same.1 in
       omega (arith, both, each, queries)
+
+-- A compaction that spares queries without a window leaves nodes that follow the windows.
+pub spared_follows : (chosen : List Bool) (old new : State) (events : List Event) (held : List Open) → SameQueries old new → ((k : ℕ) (q : Query) → slice_get old.queries k ≡ Some q → is_chosen chosen k ≡ false → q.window ≡ Free) → StandsFor new events → IsDense new events → IsLeftOf chosen new held → FollowsWindow new events held
+spared_follows chosen old new events held same free stands dense left k q at = elim (cases_Bool (is_chosen chosen k)) [
+  | inl flag ↦ query_follows_window new events held stands dense k q at (λ part part_at. left k q part at part_at flag)
+  | inr other ↦ free_follows new events held stands dense k q at (free k q (subst (λ (qs : List Query). slice_get qs k ≡ Some q) same.1 at) other)
+]
+
+pub none_held : (held : List Open) → length held ≡ 0 → held ≡ []
+none_held [] long = refl
+none_held (w ∷ held) long = absurd (omega arith)

@@ -1,6 +1,7 @@
 -- Which parts have grown enough to be compacted, and the notes of their sizes.
 use Rattle.std.specs.Prelude.{◌≡◌, ℕ, ◌+◌, ◌*◌, ◌<◌, Bool, true, false, List, length, Some, slice_get, slice_index_or}
 use Rattle.all_or_none.specs.Phases.{Phase}
+use Rattle.cel_terms.specs.declared.Window.TheVariants.{Free}
 use Rattle.query_engine.specs.declared.sizes.Size.{Size}
 use Rattle.query_engine.specs.Compacting.{is_chosen}
 use Rattle.query_engine.specs.Sizes.{weight, has_grown}
@@ -30,3 +31,7 @@ pub record AreNoted (chosen : List Bool) (k : ℕ) (parts : List Phase) (old new
 -- the sizes of the first k parts are noted
 abbrev pub AreNotedAll : ℕ → List Phase → List Size → Type 0
 AreNotedAll k parts bases = (j : ℕ) (p : Phase) → j < k → slice_get parts j ≡ Some p → noted_at bases j ≡ part_weight p
+
+-- of the first k parts those that are not chosen are of queries without a window
+abbrev pub OthersAreFree : ℕ → List Phase → List Bool → Type 0
+OthersAreFree k parts chosen = (j : ℕ) (p : Phase) → j < k → slice_get parts j ≡ Some p → is_chosen chosen j ≡ false → p.query.window ≡ Free

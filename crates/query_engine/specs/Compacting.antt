@@ -1,19 +1,17 @@
 -- What a compaction makes of an engine's parts and of the cursors that are held over it, and how many steps it takes.
-use Rattle.std.specs.Prelude.{◌≡◌, ℕ, ◌+◌, ◌-◌, ◌*◌, ◌<◌, ◌≤◌, ◌≤ℤ◌, Bool, true, false, cond, Some, List, [], ◌∷◌, length, map, get_or, All, slice_get, slice_index_or}
+use Rattle.std.specs.Prelude.{◌≡◌, ℕ, ◌+◌, ◌-◌, ◌*◌, ◌<◌, ◌≤◌, Bool, true, false, cond, Some, List, [], ◌∷◌, length, map, get_or, All, slice_get, slice_index_or}
 use Rattle.std.specs.Option.{option_map_or}
 use Rattle.stream_schema.specs.declared.Event.{Event}
 use Rattle.cel_terms.specs.declared.Query.{Query}
 use Rattle.cer_base.specs.declared.node.Node.{Node}
-use Rattle.cer_base.specs.Members.{newest}
-use Rattle.cer_base.specs.Nodes.{tree}
 use Rattle.tecs_enumerate.specs.Rest.{CursorState}
 use Rattle.tecs_enumerate.specs.Rest as walks
 use Rattle.query_standing.specs.Kept.{Part, low_at}
 use Rattle.all_or_none.specs.Phases.{Phase, IsIdle}
-use Rattle.arena_compact.specs.Marks.{Reaches}
 use Rattle.arena_compact.specs.Moves.{later}
 use Rattle.arena_compact.specs.Roots.{places}
-use Rattle.arena_compact.specs.Compacted.{least_of, roots_of}
+use Rattle.arena_compact.specs.Compacted.{IsLeftFor}
+use Rattle.query_part.specs.Compacting.{AreRecent}
 use Rattle.query_part.specs.Dropping.{HaveListsButOne}
 use Rattle.query_part.specs.Matches.{HasStatesOnce}
 use Rattle.query_part.specs.Parts.{HasEvents}
@@ -92,17 +90,17 @@ pub record IsCarried (k : ℕ) (old new : List Phase) (w v : CursorState) : Type
   pub rest : w.query ≤ k → walks.rest v (nodes_of new w.query) ≡ walks.rest w (nodes_of old w.query)
   pub ahead : k < w.query → v ≡ w
 
--- Each node of the part of this number, which has its clock, is reached from its lists or from a held cursor of it, and its greatest start is of the least of its low clock and those of these cursors, or later. Each of its keys has a list, but for one at most.
+-- Each node of the part of this number, which has its clock, is left for its lists, and recent for its low clock, or for what a held cursor of it has left, and recent for this one. Each entry of a list is from the low clock on, and each key has a list, but for one at most.
 pub record IsTrimmed (query : ℕ) (held : List CursorState) (q : Query) (p : Part) : Type 0 where
-  pub reached : (id : ℕ) → id < length p.nodes → Reaches p.nodes (roots_of query p.rows held) id
-  pub recent : (id : ℕ) → id < length p.nodes → least_of query (low_at q p.clock) held ≤ℤ (newest (tree p.nodes id)).clock
+  pub left : (id : ℕ) → id < length p.nodes → IsLeftFor query (low_at q p.clock) p.nodes p.rows held id
+  pub entries : AreRecent (low_at q p.clock) p.rows
   pub keys : HaveListsButOne p.rows
 
 -- each of the first k parts that is chosen is trimmed
 abbrev pub AreTrimmed : List Bool → ℕ → List CursorState → List Phase → Type 0
 AreTrimmed chosen k held parts = (j : ℕ) (p : Phase) → j < k → slice_get parts j ≡ Some p → is_chosen chosen j ≡ true → IsTrimmed (j + 1) held p.query p.kept
 
--- Of each query only such nodes are left as its lists or a held cursor reach, from the least of its low clock and those of its held cursors on, and of its keys those that have a list, but for one at most.
+-- Of each query only such nodes are left as its lists need from its low clock on, or a held cursor from its own on, of its entries those from its low clock on, and of its keys those that have a list, but for one at most.
 abbrev pub IsLeft : State → List CursorState → Type 0
 IsLeft engine held = (k : ℕ) (q : Query) (p : Part) → slice_get engine.queries k ≡ Some q → slice_get engine.parts k ≡ Some p → IsTrimmed (k + 1) held q p
 

@@ -9,7 +9,7 @@ use Rattle.query_engine.specs.Clocks.{HasClockAt, IsLastClock, low_of}
 use Rattle.query_engine.specs.Counts.{MeetMost, event_bound}
 use Rattle.query_engine.specs.Engine.{State, Open, StandsFor, SameQueries, MayStartAt, found_of, len_of}
 use Rattle.query_engine.specs.Keys.{keys_of, HasAddedKeys, KeysFollowWindow}
-use Rattle.query_engine.specs.Windows.{HasAdded, FollowsWindow}
+use Rattle.query_engine.specs.Windows.{HasAdded, IsHeld, FollowsWindow}
 
 -- a key weighs as much as eight nodes
 abbrev pub weight : Size → ℕ
@@ -61,10 +61,19 @@ pub record IsSizedBy (Are : ℕ → Type 0) (engine : State) (query size : ℕ) 
   pub each : All Are positions
   pub bounded : size ≤ length positions * (update_bound (found_of engine query) + 8) + 8
 
+-- What is kept of the query is bounded by the events at which an answer may start that it will have, but for nodes that a held cursor of it still needs.
+pub record IsSized (engine : State) (events : List Event) (held : List Open) (k : ℕ) (q : Query) : Type 0 where
+  pub number : ℕ
+  pub bounded : IsSizedBy (MayStartAt engine events q) engine (k + 1) number
+  pub others : List ℕ
+  pub distinct : HasNoRepeats others
+  pub each : All (IsHeld engine held k) others
+  pub whole : size_of engine (k + 1) ≤ number + length others
+
 -- The query was compacted, its note is its size, and that follows its window; or it has not grown enough, and it is as it was.
 pub record IsCompactedNow (engine : State) (events : List Event) (held : List Open) (bases : List Size) (k : ℕ) (q : Query) : Type 0 where
   pub noted : base_of bases (k + 1) ≡ size_of engine (k + 1)
-  pub window : IsSizedBy (MayStartAt engine events held k q) engine (k + 1) (size_of engine (k + 1))
+  pub window : IsSized engine events held k q
 
 pub record IsLeftAlone (least : ℕ) (old new : State) (before after : List Size) (k : ℕ) : Type 0 where
   pub noted : base_of after (k + 1) ≡ base_of before (k + 1)
@@ -98,7 +107,7 @@ AreKeptSmall least looked engine bases events = (k : ℕ) (q : Query) → slice_
 -- A compaction of all queries leaves them so, where their sizes are noted then.
 abbrev pub CompactedAreSmall : Type 0
 CompactedAreSmall = (engine : State) (bases : List Size) (events : List Event) (least : ℕ) →
-    StandsFor engine events → FollowsWindow engine events [] → KeysFollowWindow engine events [] → AreSizes engine bases → AreKeptSmall least (length events) engine bases events
+    StandsFor engine events → FollowsWindow engine events [] → KeysFollowWindow engine events → AreSizes engine bases → AreKeptSmall least (length events) engine bases events
 
 -- An event that is taken leaves them so.
 abbrev pub EventKeepsSmall : Type 0

@@ -1,5 +1,5 @@
--- How many nodes are kept of a query: at most the bound of an update for each of its events at which an answer may still start.
-use Rattle.std.specs.Prelude.{◌≡◌, ℕ, ◌+◌, ◌-◌, ◌*◌, ◌≤◌, ◌⊎◌, ℤ, ◌≤ℤ◌, max, List, [], ◌∷◌, ◌++◌, length, take, All, Some, slice_get}
+-- How many nodes are kept of a query: at most the bound of an update for each of its events at which an answer may still start, and those that a held cursor still needs.
+use Rattle.std.specs.Prelude.{◌≡◌, ℕ, ◌+◌, ◌-◌, ◌*◌, ◌≤◌, ◌⊎◌, ℤ, ◌≤ℤ◌, max, List, [], ◌∷◌, ◌++◌, length, take, All, Contains, Some, slice_get}
 use Rattle.std.specs.Option.{option_map_or}
 use Rattle.stream_schema.specs.Types.{Declared}
 use Rattle.stream_schema.specs.declared.Event.{Event}
@@ -9,7 +9,7 @@ use Rattle.arena_compact.specs.Moves.{later}
 use Rattle.query_standing.specs.Kept.{Part}
 use Rattle.query_engine.specs.Bounds.{update_bound}
 use Rattle.query_engine.specs.Clocks.{Reads, HasClockAt, IsLastClock, low_of}
-use Rattle.query_engine.specs.Engine.{State, Open, StandsFor, SameQueries, found_of, len_of, peak_of, MayStartAt}
+use Rattle.query_engine.specs.Engine.{State, Open, StandsFor, SameQueries, found_of, len_of, peak_of, MayStartAt, NeedsNode}
 
 -- how many nodes of the query with this number have their greatest start at the position or later
 unfoldable pub later_of : State → ℕ → ℕ → ℕ
@@ -33,10 +33,25 @@ abbrev pub IsDense : State → List Event → Type 0
 IsDense engine events = (k : ℕ) (q : Query) (p : ℕ) → slice_get engine.queries k ≡ Some q →
     IsBoundedBy (IsReadFrom engine.schema q events p) engine (k + 1) (later_of engine (k + 1) p)
 
--- All nodes are bounded by the events at which an answer may start that the query will have, or that a held cursor of it is to give.
+-- A held cursor of the query, whose number is one more than k, still needs the node.
+pub record IsHeld (engine : State) (held : List Open) (k id : ℕ) : Type 0 where
+  pub cursor : Open
+  pub among : Contains held cursor
+  pub query : cursor.query ≡ k + 1
+  pub needs : NeedsNode engine cursor id
+
+-- The nodes are bounded by the events at which an answer may start that the query will have, but for such as a held cursor of it still needs.
+pub record IsFollowed (engine : State) (events : List Event) (held : List Open) (k : ℕ) (q : Query) : Type 0 where
+  pub number : ℕ
+  pub bounded : IsBoundedBy (MayStartAt engine events q) engine (k + 1) number
+  pub others : List ℕ
+  pub distinct : HasNoRepeats others
+  pub each : All (IsHeld engine held k) others
+  pub whole : len_of engine (k + 1) ≤ number + length others
+
+-- it is so for each query
 abbrev pub FollowsWindow : State → List Event → List Open → Type 0
-FollowsWindow engine events held = (k : ℕ) (q : Query) → slice_get engine.queries k ≡ Some q →
-    IsBoundedBy (MayStartAt engine events held k q) engine (k + 1) (len_of engine (k + 1))
+FollowsWindow engine events held = (k : ℕ) (q : Query) → slice_get engine.queries k ≡ Some q → IsFollowed engine events held k q
 
 -- The query reads the event at the position, which came after the first so many or is in the window of the last of these that it reads.
 pub record IsRecentAt (schema : Declared) (q : Query) (events : List Event) (first position : ℕ) : Type 0 where

@@ -2,10 +2,12 @@
 
 ghost use Rattle.std.specs.Prelude.{◌≡◌, ℕ, ◌<◌, length, All, IfOk, false, true};
 ghost use Rattle.all_or_none.specs.Phases.{IsIdle};
+ghost use Rattle.cel_terms.specs.declared.Window.TheVariants.{Free};
 ghost use Rattle.query_engine.specs.Sizes.{weight, has_grown};
 ghost use Rattle.query_engine.specs.Compacting.{is_chosen};
-ghost use Rattle.query_engine.specs.Choosing.{part_weight, AreGrown, NoneHasGrown, AreNoted, AreNotedAll};
+ghost use Rattle.query_engine.specs.Choosing.{part_weight, AreGrown, NoneHasGrown, AreNoted, AreNotedAll, OthersAreFree};
 
+use cel_terms::Window;
 use cer_base::Memory;
 use query_part::Part;
 use std::alloc::Global;
@@ -76,6 +78,39 @@ pub fn grown(alloc: Global, parts: &[Part], bases: &[Size], least: u64) -> Resul
     let mut chosen = Vec::with_capacity(alloc, parts.len())?;
     for k in 0..parts.len() {
         chosen.push(has_grown(least, bases[k], measure(&parts[k])))?;
+    }
+    Ok(chosen)
+}
+
+/// Whether the part's query has no window: no event goes out of it.
+fn is_free(part: &Part) -> bool
+    ensures { result ≡ true → part.now.query.window ≡ Free }
+{
+    match part.query().window {
+        Window::Free => true,
+        _ => false,
+    }
+}
+
+/// Whether the part's query has no window, and less than three times as much came as was kept of it then.
+fn is_spared(part: &Part, then: Size) -> bool
+    requires { IsIdle part.now }
+    ensures { result ≡ true → part.now.query.window ≡ Free }
+{
+    is_free(part) && weight(measure(part)) < 4 * weight(then)
+}
+
+/// The parts of queries that have a window, and of the others those that have grown to four times what
+/// they were: of these a compaction gives up little.
+pub fn unspared(alloc: Global, parts: &[Part], bases: &[Size]) -> Result<Vec<bool>, Memory>
+    requires idle { All IsIdle parts.now }
+    requires count { length bases.now ≡ length parts.now }
+    ensures count { IfOk result (λ v. length v.items ≡ length parts.now) }
+    ensures free { IfOk result (λ v. OthersAreFree (length parts.now) parts.now v.items) }
+{
+    let mut chosen = Vec::with_capacity(alloc, parts.len())?;
+    for k in 0..parts.len() {
+        chosen.push(!is_spared(&parts[k], bases[k]))?;
     }
     Ok(chosen)
 }

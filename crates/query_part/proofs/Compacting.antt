@@ -1,6 +1,10 @@
 -- What a compaction makes of what is kept of a query.
-use Rattle.std.proofs.Common.{◌≡◌, ℕ, zero, suc, ℤ, ◌≤◌, List, [], ◌∷◌, length, All, Contains, Option, Some, None, refl, sym, ap, subst, ◌∙◌, slice_get, get_or, arith}
-use Rattle.std.specs.Prelude.{◌≤ℤ◌, nat_le}
+use Rattle.std.proofs.Common.{◌≡◌, ℕ, zero, suc, ℤ, ◌≤◌, List, [], ◌∷◌, length, All, Contains, Option, Some, None, refl, sym, ap, subst, ◌∙◌, slice_get, get_or, arith, inl, inr}
+use Rattle.std.specs.Prelude.{◌≤ℤ◌, nat_le, map}
+use Rattle.std.specs.Int.Signed.{le_z}
+use Rattle.std.proofs.lemmas.Int.{ints}
+use Rattle.std.proofs.lemmas.Bool.{cases_Bool}
+use Rattle.std.proofs.lemmas.List.Elements.{All-nil, All-cons, All-head, All-tail}
 use Rattle.std.proofs.Math.Dec.{leb-zero}
 use Rattle.std.proofs.lemmas.List.Recursion.{is_count_by}
 use Rattle.cer_base.specs.Fields.{max_of}
@@ -10,61 +14,102 @@ use Rattle.stream_schema.specs.declared.Event.{Event}
 use Rattle.stream_schema.specs.declared.Value.{Value}
 use Rattle.cel_terms.specs.declared.Query.{Query}
 use Rattle.cer_base.specs.Repeats.{HasNoRepeats}
+use Rattle.cer_base.specs.declared.node.Stamp.{Stamp}
 use Rattle.cer_base.specs.declared.node.Root.{Root}
+use Rattle.cer_base.proofs.Walks.{test_tells}
 use Rattle.cer_base.specs.declared.node.Node.{Node}
 use Rattle.tecs_enumerate.specs.Rest.{CursorState}
 use Rattle.union_lists.specs.Lists.{IsUnionList}
 use Rattle.query_standing.specs.Kept.{Rows, Part, low_at, KeyStands, PartStands}
 use Rattle.all_or_none.specs.Phases.{Phase}
 use Rattle.arena_compact.specs.Moves.{later}
-use Rattle.arena_compact.specs.Roots.{kept_rows}
-use Rattle.arena_compact.specs.Compacted.{least_of, roots_of, Compacted, RowsCompacted, KeysCompacted}
+use Rattle.arena_compact.specs.Roots.{recent_entries, with_row, kept_rows}
+use Rattle.arena_compact.specs.Compacted.{least_of, Compacted, RowsCompacted, KeysCompacted}
 use Rattle.arena_compact.proofs.Standing.{still_stand}
-use Rattle.arena_compact.proofs.Ends.{least_under}
 use Rattle.query_part.specs.Matches.{Held}
 use Rattle.query_part.specs.Parts.{part_of}
-use Rattle.query_part.specs.Compacting.{CursorsCompacted, PartCompacted}
+use Rattle.query_part.specs.Compacting.{CursorsCompacted, AreRecent, PartCompacted}
 use Rattle.query_part.specs.Dropping.{HaveListsButOne}
 use Rattle.query_standing.specs.Giving.{AreGivenUp}
 use Rattle.query_standing.proofs.Giving.{part_gives_up}
-use Rattle.query_part.proofs.KeptRoots.{compacted_stays}
+use Rattle.query_part.proofs.KeptRoots.{all_stay, compacted_stays}
 use Rattle.query_part.proofs.Prepare.{Idle}
 
 -- all nodes have a greatest start at the first position or later
 later_all : (nodes : List Node) → later 0 nodes ≡ length nodes
 later_all nodes = sym (is_count_by (λ (ns : List Node). length ns) (λ n. nat_le 0 (max_of n).pos) refl (λ n ns. rw (leb-zero (max_of n).pos) (omega arith)) nodes)
 
-pub fewer_nodes : (low : ℤ) (old new : List Node) (roots : List ℕ) → Compacted low old new roots → length new ≤ length old
-fewer_nodes low old new roots h = let few = h.fewer_later 0 in let a = later_all old in let b = later_all new in omega arith
+pub fewer_nodes : (query : ℕ) (low : ℤ) (old new : List Node) (rows : List Rows) (ws : List CursorState) → Compacted query low old new rows ws → length new ≤ length old
+fewer_nodes query low old new rows ws h = let few = h.fewer_later 0 in let a = later_all old in let b = later_all new in omega arith
 
-keys_length : (low : ℤ) (old new : List Node) (keys moved : List Rows) → KeysCompacted low old new keys moved → length moved ≡ length keys
-keys_length low old new [] [] c = refl
-keys_length low old new [] (m ∷ moved) c = absurd c
-keys_length low old new (r ∷ keys) [] c = absurd c
-keys_length low old new (r ∷ keys) (m ∷ moved) c = ap suc (keys_length low old new keys moved c.1)
+keys_length : (least low : ℤ) (old new : List Node) (keys moved : List Rows) → KeysCompacted least low old new keys moved → length moved ≡ length keys
+keys_length least low old new [] [] c = refl
+keys_length least low old new [] (m ∷ moved) c = absurd c
+keys_length least low old new (r ∷ keys) [] c = absurd c
+keys_length least low old new (r ∷ keys) (m ∷ moved) c = ap suc (keys_length least low old new keys moved c.1)
 
 -- the lists of a key after it are those of the key before it, compacted
-key_at : (low : ℤ) (old new : List Node) (keys moved : List Rows) (n : ℕ) (ms : Rows) → KeysCompacted low old new keys moved → slice_get moved n ≡ Some ms → (rows : Rows) × (slice_get keys n ≡ Some rows) × RowsCompacted low old new (kept_rows low rows) ms
-key_at low old new [] [] n ms c at = absurd cc
-key_at low old new [] (m ∷ moved) n ms c at = absurd c
-key_at low old new (r ∷ keys) [] n ms c at = absurd c
-key_at low old new (r ∷ keys) (m ∷ moved) zero ms c at = let same : m ≡ ms = cc in (r, refl, subst (RowsCompacted low old new (kept_rows low r)) same c.0)
-key_at low old new (r ∷ keys) (m ∷ moved) (suc n) ms c at = key_at low old new keys moved n ms c.1 at
+key_at : (least low : ℤ) (old new : List Node) (keys moved : List Rows) (n : ℕ) (ms : Rows) → KeysCompacted least low old new keys moved → slice_get moved n ≡ Some ms → (rows : Rows) × (slice_get keys n ≡ Some rows) × RowsCompacted least low old new (kept_rows low rows) ms
+key_at least low old new [] [] n ms c at = absurd cc
+key_at least low old new [] (m ∷ moved) n ms c at = absurd c
+key_at least low old new (r ∷ keys) [] n ms c at = absurd c
+key_at least low old new (r ∷ keys) (m ∷ moved) zero ms c at = let same : m ≡ ms = cc in (r, refl, subst (RowsCompacted least low old new (kept_rows low r)) same c.0)
+key_at least low old new (r ∷ keys) (m ∷ moved) (suc n) ms c at = key_at least low old new keys moved n ms c.1 at
+
+-- the entries of a list that is compacted are recent
+recent_list : (low : ℤ) (es fs : List Root) → map (λ (e : Root). e.max) fs ≡ map (λ (e : Root). e.max) es → All (λ (e : Root). low ≤ℤ e.max.clock) es → All (λ (e : Root). low ≤ℤ e.max.clock) fs
+recent_list low [] [] same h = All-nil (λ (e : Root). low ≤ℤ e.max.clock)
+recent_list low [] (f ∷ fs) same h = absurd cc
+recent_list low (e ∷ es) [] same h = absurd cc
+recent_list low (e ∷ es) (f ∷ fs) same h =
+    let Late : Root → Type 0 = λ x. low ≤ℤ x.max.clock in
+    let first : f.max ≡ e.max = cc in
+    let others : map (λ (x : Root). x.max) fs ≡ map (λ (x : Root). x.max) es = cc in
+    All-cons Late f fs (subst (λ (s : Stamp). low ≤ℤ s.clock) (sym first) (All-head Late e es h)) (recent_list low es fs others (All-tail Late e es h))
+
+recent_picked : (low : ℤ) (es : List Root) → All (λ (e : Root). low ≤ℤ e.max.clock) (recent_entries low es)
+recent_picked low [] = All-nil (λ (e : Root). low ≤ℤ e.max.clock)
+recent_picked low (e ∷ es) = elim (cases_Bool (le_z low e.max.clock)) [
+  | inl pass ↦ rw pass (All-cons (λ (x : Root). low ≤ℤ x.max.clock) e (recent_entries low es) (test_tells low e.max.clock pass) (recent_picked low es))
+  | inr fail ↦ rw fail (recent_picked low es)
+]
+
+abbrev recent_row : ℤ → ℕ × List Root → Type 0
+recent_row low r = All (λ (e : Root). low ≤ℤ e.max.clock) r.1
+
+recent_kept : (low : ℤ) (rows : Rows) → All (recent_row low) (kept_rows low rows)
+recent_kept low [] = All-nil (recent_row low)
+recent_kept low (r ∷ rows) = go (recent_entries low r.1) (recent_picked low r.1) (recent_kept low rows) where
+  go : (es : List Root) → All (λ (e : Root). low ≤ℤ e.max.clock) es → All (recent_row low) (kept_rows low rows) → All (recent_row low) (with_row r.0 es (kept_rows low rows))
+  go [] h rest = rest
+  go (e ∷ es) h rest = All-cons (recent_row low) (r.0, e ∷ es) (kept_rows low rows) h rest
+
+recent_rows : (least low : ℤ) (old new : List Node) (rows moved : Rows) → All (recent_row low) rows → RowsCompacted least low old new rows moved → All (recent_row low) moved
+recent_rows least low old new [] [] h c = All-nil (recent_row low)
+recent_rows least low old new [] (s ∷ moved) h c = absurd c
+recent_rows least low old new (r ∷ rows) [] h c = absurd c
+recent_rows least low old new (r ∷ rows) (s ∷ moved) h c = All-cons (recent_row low) s moved (recent_list low r.1 s.1 c.1.same_max (All-head (recent_row low) r rows h)) (recent_rows least low old new rows moved (All-tail (recent_row low) r rows h) c.2)
+
+recent_keys : (least low : ℤ) (old new : List Node) (keys moved : List Rows) → KeysCompacted least low old new keys moved → AreRecent low moved
+recent_keys least low old new [] [] c = All-nil (λ (rows : Rows). All (recent_row low) rows)
+recent_keys least low old new [] (m ∷ moved) c = absurd c
+recent_keys least low old new (r ∷ keys) [] c = absurd c
+recent_keys least low old new (r ∷ keys) (m ∷ moved) c = All-cons (λ (rows : Rows). All (recent_row low) rows) m moved (recent_rows least low old new (kept_rows low r) m (recent_kept low r) c.0) (recent_keys least low old new keys moved c.1)
 
 module _ (schema : Declared) (q : Query) (events : List Event) where
   -- what stands for the events stands for them with compacted nodes and lists
-  still_stands : (used : ℤ) (part : Part) (nodes : List Node) (rows : List Rows) (roots : List ℕ) → used ≤ℤ low_at q part.clock → Compacted used part.nodes nodes roots → KeysCompacted used part.nodes nodes part.rows rows → PartStands schema q events part → PartStands schema q events (record part { nodes = nodes; rows = rows })
-  still_stands used part nodes rows roots le left lists s = record {
+  still_stands : (query : ℕ) (least used : ℤ) (part : Part) (nodes : List Node) (rows kept : List Rows) (ws : List CursorState) → used ≤ℤ low_at q part.clock → Compacted query used part.nodes nodes kept ws → KeysCompacted least used part.nodes nodes part.rows rows → PartStands schema q events part → PartStands schema q events (record part { nodes = nodes; rows = rows })
+  still_stands query least used part nodes rows kept ws le left lists s = record {
     states = s.states;
     nodes = left.well_formed;
     starts = λ t has. s.starts t (left.no_new_start t has);
     never_falls = s.never_falls;
     clock = s.clock;
     unread = s.unread;
-    keys = record { distinct = s.keys.distinct; others = others; lists = keys_length used part.nodes nodes part.rows rows lists ∙ s.keys.lists };
+    keys = record { distinct = s.keys.distinct; others = others; lists = keys_length least used part.nodes nodes part.rows rows lists ∙ s.keys.lists };
     here = s.here;
     each = λ n key moved at there.
-        let was = key_at used part.nodes nodes part.rows rows n moved lists there in
+        let was = key_at least used part.nodes nodes part.rows rows n moved lists there in
         let stand = s.each n key was.0 at was.1 in
         record {
           taken = stand.taken;
@@ -72,15 +117,15 @@ module _ (schema : Declared) (q : Query) (events : List Event) where
           are_seen = stand.are_seen;
           silent = stand.silent;
           patient = stand.patient;
-          stands = still_stand used part.nodes nodes s.nodes part.table (low_at q part.clock) stand.taken was.0 moved le stand.stands was.2;
+          stands = still_stand least used part.nodes nodes s.nodes part.table (low_at q part.clock) stand.taken was.0 moved le stand.stands was.2;
         };
     last = λ n key moved is at there.
-        let was = key_at used part.nodes nodes part.rows rows n moved lists there in
+        let was = key_at least used part.nodes nodes part.rows rows n moved lists there in
         let stand = s.last n key was.0 is at was.1 in
         record {
           seen = stand.seen;
           are_seen = stand.are_seen;
-          stands = still_stand used part.nodes nodes s.nodes part.table (low_at q part.clock) stand.seen was.0 moved le stand.stands was.2;
+          stands = still_stand least used part.nodes nodes s.nodes part.table (low_at q part.clock) stand.seen was.0 moved le stand.stands was.2;
         };
   } where
     others : (key : List Value) → (Contains part.keys key → ⊥) → KeyStands schema q events (record part { nodes = nodes; rows = rows }) key []
@@ -89,7 +134,7 @@ module _ (schema : Declared) (q : Query) (events : List Event) where
         record {
           seen = stand.seen;
           are_seen = stand.are_seen;
-          stands = still_stand used part.nodes nodes s.nodes part.table (low_at q part.clock) stand.seen [] [] le stand.stands tt;
+          stands = still_stand least used part.nodes nodes s.nodes part.table (low_at q part.clock) stand.seen [] [] le stand.stands tt;
         }
 
   -- each key's lists are lists of the nodes
@@ -101,8 +146,8 @@ module _ (schema : Declared) (q : Query) (events : List Event) where
 -- What the compaction of what is held leaves.
 pub record Left (number : ℕ) (low : ℤ) (h k : Held) (ws vs : List CursorState) : Type 0 where
   pub same : (k.table ≡ h.table) × (k.keys ≡ h.keys)
-  pub nodes : Compacted (least_of number low ws) h.nodes k.nodes (roots_of number k.rows vs)
-  pub lists : KeysCompacted (least_of number low ws) h.nodes k.nodes h.rows k.rows
+  pub nodes : Compacted number low h.nodes k.nodes k.rows vs
+  pub lists : KeysCompacted (least_of number low ws) low h.nodes k.nodes h.rows k.rows
   pub cursors : CursorsCompacted number h.nodes k.nodes ws vs
 
 -- What is left once the keys without lists are given up.
@@ -116,21 +161,22 @@ module _ (schema : Declared) (q : Query) (h k : Held) (n : Option ℕ) (p : Phas
   still_here events s =
       let held : k ≡ record h { nodes = k.nodes; rows = k.rows } = λ j. record { table = left.same.0 j; nodes = k.nodes; keys = left.same.1 j; rows = k.rows } in
       let here : low ≡ low_at q last = is ∙ ap (λ z. low_at z last) (sym i.query_is) in
-      let le : least_of number low ws ≤ℤ low_at q last = subst (λ (l : ℤ). least_of number low ws ≤ℤ l) here (least_under number low ws).0 in
-      subst (λ (x : Held). PartStands schema q events (part_of x last n)) (sym held) (still_stands schema q events (least_of number low ws) (part_of h last n) k.nodes k.rows (roots_of number k.rows vs) le left.nodes left.lists s)
+      let le : low ≤ℤ low_at q last = subst (λ (l : ℤ). low ≤ℤ l) here (omega (arith, ints)) in
+      subst (λ (x : Held). PartStands schema q events (part_of x last n)) (sym held) (still_stands schema q events number (least_of number low ws) low (part_of h last n) k.nodes k.rows k.rows vs le left.nodes left.lists s)
 
   pub part_compacted : (m : Held) (o : Option ℕ) → GivenUp k n m o → (clock : Option ℤ) (events : List Event) → PartStands schema q events (part_of h clock n) → PartCompacted number (low_at p.query last) p.kept (part_of m None o) ws vs
   part_compacted m o g clock events s =
       let distinct : HasNoRepeats k.keys = subst HasNoRepeats (sym left.same.1) s.keys.distinct in
-      let long : length k.rows ≡ length k.keys = keys_length (least_of number low ws) h.nodes k.nodes h.rows k.rows left.lists ∙ (s.keys.lists ∙ ap length (sym left.same.1)) in
+      let long : length k.rows ≡ length k.keys = keys_length (least_of number low ws) low h.nodes k.nodes h.rows k.rows left.lists ∙ (s.keys.lists ∙ ap length (sym left.same.1)) in
       subst (λ (l : ℤ). PartCompacted number l p.kept (part_of m None o) ws vs) is (subst (λ (old : Part). PartCompacted number low old (part_of m None o) ws vs) i.kept_is (record {
         table = g.same.0 ∙ left.same.0;
         clock = refl;
-        nodes = subst (λ (ns : List Node). Compacted (least_of number low ws) h.nodes ns (roots_of number m.rows vs)) (sym g.same.1)
-            (compacted_stays k.keys k.rows n m.keys m.rows o g.given distinct long (least_of number low ws) h.nodes k.nodes number vs left.nodes);
+        nodes = subst (λ (ns : List Node). Compacted number low h.nodes ns m.rows vs) (sym g.same.1)
+            (compacted_stays k.keys k.rows n m.keys m.rows o g.given distinct long number low h.nodes k.nodes vs left.nodes);
         kept = k.rows;
-        lists = subst (λ (ns : List Node). KeysCompacted (least_of number low ws) h.nodes ns h.rows k.rows) (sym g.same.1) left.lists;
+        lists = subst (λ (ns : List Node). KeysCompacted (least_of number low ws) low h.nodes ns h.rows k.rows) (sym g.same.1) left.lists;
         given = subst (λ (ks : List (List Value)). AreGivenUp ks k.rows n m.keys m.rows o) left.same.1 g.given;
+        recent = all_stay (λ rows. All (λ (r : ℕ × List Root). All (λ (e : Root). low ≤ℤ e.max.clock) r.1) rows) k.keys k.rows n m.keys m.rows o g.given long (recent_keys (least_of number low ws) low h.nodes k.nodes h.rows k.rows left.lists);
         have = g.have;
         cursors = subst (λ (ns : List Node). CursorsCompacted number h.nodes ns ws vs) (sym g.same.1) left.cursors;
       }))
@@ -141,4 +187,4 @@ module _ (schema : Declared) (q : Query) (h k : Held) (n : Option ℕ) (p : Phas
       subst (λ (x : Held). PartStands schema q events (part_of x last o)) (sym held) (part_gives_up schema q events (part_of k last n) m.keys m.rows o (still_here events s) g.given)
 
   pub part_fewer : (m : Held) (o : Option ℕ) → GivenUp k n m o → length m.nodes ≤ length p.kept.nodes
-  part_fewer m o g = subst (λ (x : Part). length m.nodes ≤ length x.nodes) i.kept_is (subst (λ (ns : List Node). length ns ≤ length h.nodes) (sym g.same.1) (fewer_nodes (least_of number low ws) h.nodes k.nodes (roots_of number k.rows vs) left.nodes))
+  part_fewer m o g = subst (λ (x : Part). length m.nodes ≤ length x.nodes) i.kept_is (subst (λ (ns : List Node). length ns ≤ length h.nodes) (sym g.same.1) (fewer_nodes number low h.nodes k.nodes k.rows vs left.nodes))

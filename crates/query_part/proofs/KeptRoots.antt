@@ -1,28 +1,31 @@
--- What is reached from the lists of all keys is reached from those of the keys that stay.
-use Rattle.std.proofs.Common.{◌≡◌, ℕ, ℤ, List, [], ◌∷◌, length, sym, subst, ◌∙◌, inl, inr, Contains, Option, Some, slice_get, get_or, arith}
+-- What the lists of all keys need those of the keys that stay need.
+use Rattle.std.proofs.Common.{◌≡◌, ℕ, ℤ, List, [], ◌∷◌, length, sym, subst, ◌∙◌, inl, inr, Contains, Option, Some, slice_get, get_or, arith, All}
 use Rattle.std.specs.List.{flat_map}
 use Rattle.std.proofs.lemmas.List.Concat.{flat_map-cons}
 use Rattle.std.proofs.lemmas.List.Elements.{Contains-append_left, Contains-append_right}
-use Rattle.std.proofs.lemmas.Option.{slice_get-get_or, slice_get_within}
+use Rattle.std.proofs.lemmas.Option.{slice_get-get_or, slice_get_within, get_or_from_slice_get}
 use Rattle.stream_schema.specs.declared.Value.{Value}
 use Rattle.cer_base.specs.Repeats.{HasNoRepeats}
 use Rattle.cer_base.specs.declared.node.Root.{Root}
 use Rattle.cer_base.specs.declared.node.Node.{Node}
 use Rattle.tecs_enumerate.specs.Rest.{CursorState}
-use Rattle.arena_compact.specs.Marks.{Reaches}
-use Rattle.arena_compact.specs.Roots.{ids_of, cursor_roots}
-use Rattle.arena_compact.specs.Compacted.{roots_of, Compacted}
+use Rattle.arena_compact.specs.Roots.{ids_of}
+use Rattle.arena_compact.specs.Compacted.{entries_of, IsLeftFor, Lists, Held, Compacted}
+use Rattle.arena_compact.proofs.Reached.{needs_within}
 use Rattle.query_standing.specs.Kept.{Rows}
 use Rattle.query_standing.specs.Giving.{AreGivenUp}
 use Rattle.query_standing.proofs.Lists.{here, there, cons_cases, append_cases, none_in_nil, got, at}
 use Rattle.query_standing.proofs.KeyCases.{at_one_place}
 
--- what is reached from some nodes is reached from more
-reached_more : (nodes : List Node) (roots more : List ℕ) → ((id : ℕ) → Contains roots id → Contains more id) → (id : ℕ) → Reaches nodes roots id → Reaches nodes more id
-reached_more nodes roots more all _ (Reaches.Root id has) = Reaches.Root id (all id has)
-reached_more nodes roots more all _ (Reaches.Child id p c k m is r) = Reaches.Child id p c k m is (reached_more nodes roots more all id r)
-reached_more nodes roots more all _ (Reaches.Left id l r k m q is x) = Reaches.Left id l r k m q is (reached_more nodes roots more all id x)
-reached_more nodes roots more all _ (Reaches.Right id l r k m q is x) = Reaches.Right id l r k m q is (reached_more nodes roots more all id x)
+-- what holds of the lists of all keys holds of those of the keys that stay
+pub all_stay : (P : Rows → Type 0) (old : List (List Value)) (kept : List Rows) (before : Option ℕ) (new : List (List Value)) (rows : List Rows) (after : Option ℕ) → AreGivenUp old kept before new rows after → length kept ≡ length old → All P kept → All P rows
+all_stay P old kept before new rows after given long h = λ i d lt.
+    let count = given.lists long in
+    let key = get_or new i [] in
+    let key_is : slice_get new i ≡ Some key = slice_get-get_or new i [] (omega arith) in
+    let own = get_or rows i d in
+    let was = given.stays i key own key_is (slice_get-get_or rows i d lt) in
+    subst P (get_or_from_slice_get kept was.0 own d was.2) (h was.0 d (slice_get_within kept was.0 own was.2))
 
 -- what stands in lists that are joined stands in one of them
 in_one : {X A : Type 0} (f : X → List A) (xs : List X) (a : A) → Contains (flat_map f xs) a → (x : X) × Contains xs x × Contains (f x) a
@@ -70,21 +73,21 @@ module _ (old : List (List Value)) (kept : List Rows) (before : Option ℕ) (new
             )
       ]
 
-  nodes_stay : (query : ℕ) (ws : List CursorState) (id : ℕ) → Contains (roots_of query kept ws) id → Contains (roots_of query rows ws) id
-  nodes_stay query ws id has = elim (append_cases (flat_map row_nodes kept) (cursor_roots query ws) id has) [
-    | inl listed ↦ (
-        let one = in_one row_nodes kept id listed in
-        let i = at kept one.0 one.1 in
-        Contains-append_left (flat_map row_nodes rows) (cursor_roots query ws) id (in_joined row_nodes rows one.0 id (lists_stay i.0 one.0 id i.1 one.2) one.2)
-        )
-    | inr held ↦ Contains-append_right (flat_map row_nodes rows) (cursor_roots query ws) id held
-  ]
+  nodes_stay : (id : ℕ) → Contains (entries_of kept) id → Contains (entries_of rows) id
+  nodes_stay id has =
+      let one = in_one row_nodes kept id has in
+      let i = at kept one.0 one.1 in
+      in_joined row_nodes rows one.0 id (lists_stay i.0 one.0 id i.1 one.2) one.2
 
-  -- a compaction's nodes are reached from the lists that stay
-  pub compacted_stays : (low : ℤ) (olds news : List Node) (query : ℕ) (ws : List CursorState) → Compacted low olds news (roots_of query kept ws) → Compacted low olds news (roots_of query rows ws)
-  compacted_stays low olds news query ws c = record {
+  still_left : (query : ℕ) (low : ℤ) (nodes : List Node) (ws : List CursorState) (id : ℕ) → IsLeftFor query low nodes kept ws id → IsLeftFor query low nodes rows ws id
+  still_left query low nodes ws id (Lists needs late) = Lists (needs_within low nodes (entries_of kept) (entries_of rows) nodes_stay id needs) late
+  still_left query low nodes ws id (Held w among mine needs late) = Held w among mine needs late
+
+  -- a compaction's nodes are left for the lists that stay, or for a cursor
+  pub compacted_stays : (query : ℕ) (low : ℤ) (olds news : List Node) (ws : List CursorState) → Compacted query low olds news kept ws → Compacted query low olds news rows ws
+  compacted_stays query low olds news ws c = record {
     well_formed = c.well_formed;
     no_new_start = c.no_new_start;
     fewer_later = c.fewer_later;
-    reached = λ id lt. (reached_more news (roots_of query kept ws) (roots_of query rows ws) (nodes_stay query ws) id (c.reached id lt).0, (c.reached id lt).1);
+    left = λ id lt. still_left query low news ws id (c.left id lt);
   }

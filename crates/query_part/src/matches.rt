@@ -15,7 +15,7 @@ ghost use Rattle.event_update.specs.Update.{rows_after, work_bound};
 ghost use Rattle.tecs_enumerate.specs.Rest.{CursorState, rest, recent_of, Fits};
 ghost use Rattle.union_lists.specs.Lists.{IsUnionList};
 ghost use Rattle.arena_compact.specs.Roots.{places};
-ghost use Rattle.arena_compact.specs.Compacted.{least_of, roots_of, Compacted, KeysCompacted, CursorCompacted};
+ghost use Rattle.arena_compact.specs.Compacted.{least_of, Compacted, KeysCompacted, CursorCompacted};
 ghost use Rattle.query_standing.specs.Giving.{AreGivenUp};
 ghost use Rattle.query_part.specs.Dropping.{HaveListsButOne};
 ghost use Rattle.query_part.specs.Matches.{Held, HasStatesOnce, MayRest, awake_in, AreStill, HasKeyThere, HasNoneOf, HasBegun, MayPass, none_open, cut, CanCut, AreSizes, TakesKey, CanTake, IsReady, HasWorked, CanList, entries_for};
@@ -381,9 +381,10 @@ impl Matches {
         );
     }
 
-    /// Keeps of the nodes what the recent entries of the lists and the query's cursors need; a start
-    /// is recent where its clock is at least the least of `low` and these cursors' own. The room is for
-    /// as many nodes as there are. It takes no memory. No state stood twice in a key's lists.
+    /// Keeps of the nodes what the recent entries of the lists and the query's cursors need; for a list
+    /// a start is recent where its clock is at least `low`, for a cursor where it is at least the
+    /// cursor's own. The room is for as many nodes as there are. It takes no memory. No state stood
+    /// twice in a key's lists.
     pub fn compact<C: HasCursor, L: Ledger>(
         &mut self,
         query: u64,
@@ -399,10 +400,10 @@ impl Matches {
             (map C.walk cursors.old) }
         requires room { length self.old.nodes ≤ room.old }
         ensures same { (self.new.table ≡ self.old.table) × (self.new.keys ≡ self.old.keys) }
-        ensures nodes { Compacted (least_of query low (map C.walk cursors.old)) self.old.nodes
-            self.new.nodes (roots_of query self.new.rows (map C.walk cursors.new)) }
-        ensures lists { KeysCompacted (least_of query low (map C.walk cursors.old)) self.old.nodes
-            self.new.nodes self.old.rows self.new.rows }
+        ensures nodes { Compacted query low self.old.nodes self.new.nodes self.new.rows
+            (map C.walk cursors.new) }
+        ensures lists { KeysCompacted (least_of query low (map C.walk cursors.old)) low
+            self.old.nodes self.new.nodes self.old.rows self.new.rows }
         ensures cursors { (k : ℕ) → (d : CursorState) → k < length cursors.old
             → CursorCompacted query self.old.nodes self.new.nodes
             (get_or (map C.walk cursors.old) k d) (get_or (map C.walk cursors.new) k d) }

@@ -293,8 +293,8 @@ impl Part {
         self.upto = count;
     }
 
-    /// Keeps of the nodes what the lists and the part's cursors, those with its number, need from
-    /// the low clock and their own on, where the events have the last clock of this one. It stands for
+    /// Keeps of the nodes what the lists need from the low clock on, and the part's cursors, those with
+    /// its number, each from its own on, where the events have the last clock of this one. It stands for
     /// the same such events as before, and each of these cursors has the same answers left; the others are
     /// not touched. Keys without a list are given up then, but for one at most. The room is for as many
     /// nodes as there are. It takes no memory. The last event did not pass the part by, or it was settled.

@@ -59,9 +59,8 @@ pays_for every a old engine events next bases same alike kept stands added keys 
     event_pays every old engine events next bases most kept stands added keys (met_here a engine (events ++ next ∷ []) most same alike meet))
 
 -- as many notes as queries
-pub noted_all : (was timing : Timing) (bases : List Size) (queries others : List Query) → was ≡ timing → others ≡ queries → WithNoNumber timing.every (length bases ≡ length queries) → WithNoNumber was.every (length bases ≡ length others)
-noted_all was timing bases queries others same alike noted =
-    subst (λ (t : Timing). WithNoNumber t.every (length bases ≡ length others)) (sym same) (subst (λ (qs : List Query). WithNoNumber timing.every (length bases ≡ length qs)) (sym alike) noted)
+pub noted_all : (bases : List Size) (queries others : List Query) → others ≡ queries → length bases ≡ length queries → length bases ≡ length others
+noted_all bases queries others alike noted = noted ∙ ap length (sym alike)
 
 module _ (plan now : Plan) (timing : Timing) (old new : State) (is : plan.timing ≡ timing) where
   pub paid_in_time : (before after : ℕ) → now.timing ≡ plan.timing → ((events : List Event) (most : ℕ → ℕ) → StandsFor old events → MeetMost old.schema old.queries events most → HasFewNodes old (length events) most →

@@ -1,19 +1,19 @@
 //! When the engine of a run is compacted: after every N-th event, or where no N is given as its queries
 //! grow.
 
-ghost use Rattle.std.specs.Prelude.{◌≡◌, ◌+◌, ◌-◌, ◌*◌, ◌≤◌, ℕ, Bool, List, [], length, IfOk, OnOk, OnErr};
+ghost use Rattle.std.specs.Prelude.{◌≡◌, ◌+◌, ◌-◌, ◌*◌, ◌<◌, ◌≤◌, ℕ, Bool, List, [], All, None, length, get_or, IfOk, OnOk, OnErr};
 ghost use Rattle.stream_schema.specs.declared.Event.{Event};
-ghost use Rattle.query_engine.specs.Engine.{StandsFor, SameQueries, count_of, len_of};
+ghost use Rattle.query_engine.specs.Engine.{Open, StandsFor, SameQueries, Fits, IsKept, count_of, found_of, len_of, peak_of};
 ghost use Rattle.query_engine.specs.Counts.{MeetMost, HasFewNodes, compaction_bound};
 ghost use Rattle.query_engine.specs.Sizes.{AreKeptSmall, AreSizes, put_by};
-ghost use Rattle.query_engine.specs.Windows.{IsDense};
+ghost use Rattle.query_engine.specs.Windows.{IsDense, FollowsWindow};
 ghost use Rattle.stream_answers.specs.Schedules.{due_by, saved, first_compaction, WithNoNumber, IsOnTime, IsGoingOn};
 ghost use Rattle.stream_answers.specs.Steps.{compaction_by};
 ghost use Rattle.stream_answers.specs.Windows.{is_due, is_due_after, last_of, FollowsEvents, FollowsWindowsBy};
 
 use cer_base::Memory;
 use cer_base::steps::Steps;
-use query_engine::{Engine, Size};
+use query_engine::{Cursor, Engine, Size};
 use std::alloc::Global;
 use std::marker::Model;
 use std::sync::ledger::Ledger;
@@ -35,7 +35,7 @@ pub struct Schedule {
     looked: u64,
     /// After how many they are next.
     next: u64,
-    /// What was kept of each query once it was compacted last.
+    /// What was kept of each query once it was compacted last, and with a number nothing before that.
     bases: Vec<Size>,
 }
 
@@ -66,8 +66,7 @@ impl Schedule {
             ≡ record { every = every; first = count_of engine.old }) }
         ensures first { IfOk result (λ plan. (events : List Event) → StandsFor engine.old events
             → plan.timing.first ≡ length events) }
-        ensures bases { IfOk result (λ plan. WithNoNumber every (length plan.bases
-            ≡ length engine.old.queries)) }
+        ensures bases { IfOk result (λ plan. length plan.bases ≡ length engine.old.queries) }
         ensures stands { (events : List Event) → StandsFor engine.old events
             → StandsFor engine.new events }
         ensures same { SameQueries engine.old engine.new }
@@ -89,13 +88,16 @@ impl Schedule {
     {
         let first = engine.events();
         match every {
-            Some(_) => Ok(Schedule {
-                every,
-                first,
-                looked: first,
-                next: first,
-                bases: Vec::new(alloc),
-            }),
+            Some(_) => {
+                let bases = vec![in alloc; Size::zero(); engine.queries() as usize]?;
+                Ok(Schedule {
+                    every,
+                    first,
+                    looked: first,
+                    next: first,
+                    bases,
+                })
+            }
             None => {
                 let bases = begin(alloc, engine, steps)?;
                 let next = next_look(first, engine.queries());
@@ -110,16 +112,32 @@ impl Schedule {
         }
     }
 
+    /// A schedule without a number for an engine that is still to come, with so many queries: nothing is
+    /// kept of them so far.
+    pub fn of_queries(alloc: Global, queries: u64) -> Result<Schedule, Memory>
+        ensures timing { IfOk result (λ plan. plan.timing ≡ record { every = None; first = 0 }) }
+        ensures bases { IfOk result (λ plan. length plan.bases ≡ queries) }
+    {
+        let bases = vec![in alloc; Size::zero(); queries as usize]?;
+        Ok(Schedule {
+            every: None,
+            first: 0,
+            looked: 0,
+            next: next_look(0, queries),
+            bases,
+        })
+    }
+
     /// Compacts the engine where that is due after the last event: all queries after every N-th event;
     /// without a number, where enough events have come since they were looked at last, those that have
     /// grown. After `Memory` the engine and the schedule are as they were.
+    #[inline(always)]
     pub fn keep_up<L: Ledger>(
         &mut self,
         engine: &mut Engine,
         steps: &mut Steps<L>,
     ) -> Result<(), Memory>
-        requires bases { WithNoNumber self.old.timing.every (length self.old.bases
-            ≡ length engine.old.queries) }
+        requires bases { length self.old.bases ≡ length engine.old.queries }
         ensures timing { self.new.timing ≡ self.old.timing }
         ensures bases { length self.new.bases ≡ length self.old.bases }
         ensures stands { (events : List Event) → StandsFor engine.old events
@@ -146,7 +164,7 @@ impl Schedule {
         match self.every {
             Some(_) => {
                 if is_due_after(self.every, self.first, engine.events()) {
-                    engine.compact(&mut [], steps)
+                    self.compact(engine, steps)
                 } else {
                     Ok(())
                 }
@@ -161,7 +179,86 @@ impl Schedule {
         }
     }
 
+    /// Compacts all queries, sparing those without a window that have not grown much.
+    #[inline(never)]
+    fn compact<L: Ledger>(
+        &mut self,
+        engine: &mut Engine,
+        steps: &mut Steps<L>,
+    ) -> Result<(), Memory>
+        requires bases { length self.old.bases ≡ length engine.old.queries }
+        ensures timing { self.new.timing ≡ self.old.timing }
+        ensures bases { length self.new.bases ≡ length self.old.bases }
+        ensures stands { OnOk result ((events : List Event) → StandsFor engine.old events
+            → StandsFor engine.new events) }
+        ensures dense { OnOk result ((events : List Event) → IsDense engine.old events
+            → IsDense engine.new events) }
+        ensures window { OnOk result ((events : List Event) → StandsFor engine.old events
+            → IsDense engine.old events → FollowsWindow engine.new events []) }
+        ensures same { SameQueries engine.old engine.new }
+        ensures count { count_of engine.new ≡ count_of engine.old }
+        ensures found { (query : ℕ) → found_of engine.new query ≡ found_of engine.old query }
+        ensures fewer { (query : ℕ) → len_of engine.new query ≤ len_of engine.old query }
+        ensures peak { (query : ℕ) → peak_of engine.new query ≡ peak_of engine.old query }
+        ensures unchanged { OnErr result (engine.new ≡ engine.old) }
+        ensures bounded { (events : List Event) (most : ℕ → ℕ) → StandsFor engine.old events
+            → MeetMost engine.old.schema engine.old.queries events most
+            → HasFewNodes engine.old (length events) most → steps.new
+            ≤ steps.old + compaction_bound (length engine.old.queries) most (length events) }
+    {
+        let bases = self.bases.as_mut_slice();
+        engine.compact_sparing(bases, steps)
+    }
+
+    /// Compacts the queries that have grown, where enough events have come since they were looked at
+    /// last, with these cursors held. The schedule has no number. Where memory runs out all is left as it
+    /// was until the next look.
+    pub fn keep_small<L: Ledger>(
+        &mut self,
+        engine: &mut Engine,
+        held: &mut [Cursor],
+        steps: &mut Steps<L>,
+    )
+        requires bases { length self.old.bases ≡ length engine.old.queries }
+        requires fits { All (Fits engine.old) held.old }
+        ensures timing { self.new.timing ≡ self.old.timing }
+        ensures bases { length self.new.bases ≡ length self.old.bases }
+        ensures stands { (events : List Event) → StandsFor engine.old events
+            → StandsFor engine.new events }
+        ensures cursors { (k : ℕ) → (d : Open) → k < length held.old → IsKept engine.old engine.new
+            (get_or held.old k d) (get_or held.new k d) }
+        ensures held { length held.new ≡ length held.old }
+        ensures same { SameQueries engine.old engine.new }
+        ensures count { count_of engine.new ≡ count_of engine.old }
+        ensures dense { (events : List Event) → IsDense engine.old events → IsDense engine.new
+            events }
+        ensures found { (query : ℕ) → found_of engine.new query ≡ found_of engine.old query }
+        ensures fewer { (query : ℕ) → len_of engine.new query ≤ len_of engine.old query }
+        ensures peak { (query : ℕ) → peak_of engine.new query ≡ peak_of engine.old query }
+        ensures steps { (events : List Event) → StandsFor engine.old events → steps.new
+            + put_by engine.new self.new.bases ≤ steps.old + put_by engine.old self.old.bases }
+    {
+        if engine.events() < self.next {
+            return;
+        }
+        self.looked = engine.events();
+        self.next = next_look(self.looked, engine.queries());
+        let bases = self.bases.as_mut_slice();
+        tend(engine, bases, held, steps);
+    }
+
+    /// Notes how much is kept of each query, as after a compaction that was asked for. The schedule has no
+    /// number.
+    pub fn note(&mut self, engine: &Engine)
+        requires bases { length self.old.bases ≡ length engine.now.queries }
+        ensures timing { self.new.timing ≡ self.old.timing }
+        ensures sizes { AreSizes engine.now self.new.bases }
+    {
+        engine.note_all(self.bases.as_mut_slice());
+    }
+
     /// Compacts the queries that have grown. The schedule has no number.
+    #[inline(never)]
     fn look<L: Ledger>(&mut self, engine: &mut Engine, steps: &mut Steps<L>) -> Result<(), Memory>
         requires bases { length self.old.bases ≡ length engine.old.queries }
         ensures timing { self.new.timing ≡ self.old.timing }
@@ -214,6 +311,37 @@ fn begin<L: Ledger>(
     engine.compact(&mut [], steps)?;
     engine.note_all(bases.as_mut_slice());
     Ok(bases)
+}
+
+/// Compacts the queries that have grown, with these cursors held; where memory runs out all is left as
+/// it was.
+fn tend<L: Ledger>(
+    engine: &mut Engine,
+    bases: &mut [Size],
+    held: &mut [Cursor],
+    steps: &mut Steps<L>,
+)
+    requires bases { length bases.old ≡ length engine.old.queries }
+    requires fits { All (Fits engine.old) held.old }
+    ensures bases { length bases.new ≡ length bases.old }
+    ensures stands { (events : List Event) → StandsFor engine.old events
+        → StandsFor engine.new events }
+    ensures cursors { (k : ℕ) → (d : Open) → k < length held.old → IsKept engine.old engine.new
+        (get_or held.old k d) (get_or held.new k d) }
+    ensures held { length held.new ≡ length held.old }
+    ensures same { SameQueries engine.old engine.new }
+    ensures count { count_of engine.new ≡ count_of engine.old }
+    ensures dense { (events : List Event) → IsDense engine.old events → IsDense engine.new events }
+    ensures found { (query : ℕ) → found_of engine.new query ≡ found_of engine.old query }
+    ensures fewer { (query : ℕ) → len_of engine.new query ≤ len_of engine.old query }
+    ensures peak { (query : ℕ) → peak_of engine.new query ≡ peak_of engine.old query }
+    ensures steps { (events : List Event) → StandsFor engine.old events → steps.new
+        + put_by engine.new bases.new ≤ steps.old + put_by engine.old bases.old }
+{
+    match engine.compact_grown(LEAST_SIZE, bases, held, steps) {
+        Ok(()) => {}
+        Err(_) => {}
+    }
 }
 
 /// After how many events the queries are looked at next.

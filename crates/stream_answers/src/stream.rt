@@ -7,7 +7,7 @@ ghost use Rattle.query_engine.specs.Engine.{StandsFor, SameQueries, count_of, le
 ghost use Rattle.query_engine.specs.Counts.{MeetMost, HasFewNodes};
 ghost use Rattle.stream_answers.specs.Gathering.{Finished, stream_fault};
 ghost use Rattle.stream_answers.specs.Counting.{HasBegun};
-ghost use Rattle.stream_answers.specs.Schedules.{saved, WithNoNumber};
+ghost use Rattle.stream_answers.specs.Schedules.{saved};
 ghost use Rattle.stream_answers.specs.Steps.{AreBoundedBy, AreOfEvents, StepsOver, StepsOverAfter};
 ghost use Rattle.stream_answers.specs.Windows.{FollowsEvents};
 ghost use Rattle.stream_answers.specs.Ends.{HasReadCause, HasWriteCause};
@@ -146,8 +146,7 @@ fn answer_events<Q: Source, K: Sink, L: Ledger>(
     requires room { count_of engine.old + lines.old.budget < 2 ^ 64 }
     requires given { (bytes : List ℕ) → HasGiven lines.old bytes (Some bytes) [] }
     requires empty { output.old.held ≡ [] }
-    requires bases { WithNoNumber schedule.old.timing.every (length schedule.old.bases
-        ≡ length engine.old.queries) }
+    requires bases { length schedule.old.bases ≡ length engine.old.queries }
     ensures wrote { (peaks : ℕ → ℕ) (earlier : List Event)
         → HasBegun schedule.old peaks earlier engine.old
         → WroteStreamAfter earlier (record {

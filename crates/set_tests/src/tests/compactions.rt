@@ -6,12 +6,22 @@ use cer_base::steps::Opening;
 use std::marker::Brand;
 use std::test::*;
 
+/// A low clock, how many nodes are left while a cursor from clock 0 on is held, and the members that
+/// the lists still give: a list of the low clock or later shares the cursor's nodes, an older one goes.
+const HELD: &[(i128, u64, &str)] = &[(1, 7, "1: 1 [2, 1]; 0 [2, 1, 0]; "), (2, 7, "")];
+
 #[test]
 fn a_held_cursor_keeps_its_answers_and_what_they_need(rt: HostRuntime) -> Result<(), Memory> {
-    let outcome = with_a_held_cursor::<Brand>(rt.alloc(), 2, Opening::new(&rt))?;
-    assert_eq!(rt; outcome.nodes, 7);
-    assert_eq!(rt; outcome.lists.as_str(), "1: 1 [2, 1]; 0 [2, 1, 0]; ");
-    assert_eq!(rt; outcome.cursor.as_str(), "1 [2, 1]; 0 [2, 1, 0]; ");
+    for &(low, nodes, lists) in HELD {
+        let outcome = with_a_held_cursor::<Brand>(rt.alloc(), low, Opening::new(&rt))?;
+        assert_eq!(rt; outcome.nodes, nodes, "from {low}");
+        assert_eq!(rt; outcome.lists.as_str(), lists, "from {low}");
+        assert_eq!(rt;
+            outcome.cursor.as_str(),
+            "1 [2, 1]; 0 [2, 1, 0]; ",
+            "from {low}"
+        );
+    }
     Ok(())
 }
 

@@ -17,10 +17,10 @@ use std::test::Fail;
 const QUERIES: &str = "DECLARE EVENT A()\nDECLARE STREAM S(A)\n\
 SELECT * FROM S WHERE A\nSELECT * FROM S WHERE A+\n";
 
-fn session(alloc: Global) -> Result<Session, Memory>
+fn session(alloc: Global, queries: &str) -> Result<Session, Memory>
     ensures { IfOk result (λ s. count_of s.engine ≡ 0) }
 {
-    match read_queries(alloc, QUERIES.as_bytes()) {
+    match read_queries(alloc, queries.as_bytes()) {
         Ok(accepted) => Session::new(alloc, accepted.schema, accepted.queries),
         Err(_) => Err(Memory),
     }
@@ -81,7 +81,7 @@ fn play<K: Sink, L: Ledger>(
     requires parts { opening.parts ≡ L.parts }
 {
     let mut steps = Steps::<L>::start(opening);
-    match session(alloc) {
+    match session(alloc, QUERIES) {
         Ok(mut session) => play_lines(alloc, &mut session, script.as_str(), out, &mut steps),
         Err(_) => Err(RunFault::Memory),
     }
@@ -248,5 +248,110 @@ fn scripts_end_at_what_is_refused(rt: HostRuntime) -> Result<(), Fail> {
     let alloc = rt.alloc();
     let wrong = first_wrong(alloc, ENDS, &rt)?;
     assert_eq!(rt; wrong.as_str(), "");
+    Ok(())
+}
+
+/// Two queries whose windows reach one event back. Of each two states are met, so an event adds at most
+/// 16 * (2 + 2) ^ 2 = 256 nodes to it, and at least one.
+const BACK: &str = "DECLARE EVENT A()\nDECLARE STREAM S(A)\n\
+SELECT * FROM S WHERE A+ WITHIN 1 EVENTS\nSELECT * FROM S WHERE A+ WITHIN 1 EVENTS\n";
+
+/// So many events come after the first three.
+const MORE_EVENTS: u64 = 20_000;
+
+/// What is kept of the second query then, in nodes, of which a key counts as eight: at most 8192; twice
+/// what its window needed after some event, in which two were, each with 256 nodes and a key, and one key
+/// more; and what came since it was looked at, which was at most 2 * 16 events ago.
+const KEPT: u64 = 8192 + 2 * (2 * (256 + 8) + 8) + 2 * 16 * (256 + 8);
+
+/// Plays the line so many times.
+fn play_again<K: Sink, L: Ledger>(
+    alloc: Global,
+    session: &mut Session,
+    line: &str,
+    times: u64,
+    out: &mut K,
+    steps: &mut Steps<L>,
+) -> Result<(), RunFault>
+    requires { count_of session.old.engine + times < 2 ^ 64 }
+    ensures { count_of session.new.engine ≤ count_of session.old.engine + times }
+{
+    for _k in 0..times {
+        match play_line(alloc, session, line, out, steps) {
+            Ok(()) => {}
+            Err(fault) => return Err(fault),
+        }
+    }
+    Ok(())
+}
+
+/// A cursor of the first query is opened at the third event, and pulled after many more.
+fn play_long<K: Sink, L: Ledger>(
+    alloc: Global,
+    session: &mut Session,
+    out: &mut K,
+    steps: &mut Steps<L>,
+) -> Result<(), RunFault>
+    requires { count_of session.old.engine ≡ 0 }
+{
+    match play_again(alloc, session, "event A", 3, out, steps) {
+        Ok(()) => {}
+        Err(fault) => return Err(fault),
+    }
+    match play_line(alloc, session, "open 1 1", out, steps) {
+        Ok(()) => {}
+        Err(fault) => return Err(fault),
+    }
+    match play_again(alloc, session, "event A", MORE_EVENTS, out, steps) {
+        Ok(()) => {}
+        Err(fault) => return Err(fault),
+    }
+    play_line(alloc, session, "pull 1 5", out, steps)
+}
+
+/// How many nodes are kept of the second query.
+fn kept(session: &Session) -> Option<u64> {
+    let engine = session.engine();
+    if engine.queries() < 2 {
+        return None;
+    }
+    Some(engine.len(2))
+}
+
+/// How many of the second query are kept after the long script.
+fn kept_after<K: Sink, L: Ledger>(alloc: Global, out: &mut K, opening: Opening) -> Option<u64>
+    requires name { opening.name ≡ L.name }
+    requires parts { opening.parts ≡ L.parts }
+{
+    let mut steps = Steps::<L>::start(opening);
+    match session(alloc, BACK) {
+        Ok(mut session) => match play_long(alloc, &mut session, out, &mut steps) {
+            Ok(()) => kept(&session),
+            Err(_) => None,
+        },
+        Err(_) => None,
+    }
+}
+
+fn kept_with(alloc: Global, out: &mut MemSink, runtime: &HostRuntime) -> Option<u64> {
+    kept_after::<MemSink, Brand>(alloc, out, Opening::new(runtime))
+}
+
+/// What the pull writes stands last, in one of two orders.
+fn has_both_answers(text: &[u8]) -> bool {
+    text.ends_with(b"at 20002\n1 [1,2] {1,2}\n1 [2,2] {2}\nend\n")
+        || text.ends_with(b"at 20002\n1 [2,2] {2}\n1 [1,2] {1,2}\nend\n")
+}
+
+#[test]
+fn a_session_compacts_by_itself(rt: HostRuntime) -> Result<(), Fail> {
+    let alloc = rt.alloc();
+    let mut out = MemSink::new(alloc, 4096, 1_000_000, Vec::new(alloc))?;
+    let left = kept_with(alloc, &mut out, &rt);
+    assert!(rt;
+        matches!(left, Some(nodes) if nodes <= KEPT),
+        "too many nodes"
+    );
+    assert!(rt; has_both_answers(out.as_slice()), "other answers");
     Ok(())
 }

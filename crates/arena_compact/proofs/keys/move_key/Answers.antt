@@ -1,14 +1,12 @@
 use Rattle.std.proofs.Common.{arith}
-use Rattle.std.specs.Int.{w128}
-use Rattle.std.proofs.lemmas.Int.{to_z-of_z}
 use Rattle.arena_compact.proofs.Kept.{as_many_entries}
 use Rattle.arena_compact.proofs.keys.move_key.Goals as goal
 
 pub move_rows-lists-requires : goal.move_rows-lists-requires
-move_rows-lists-requires g c = record { can = rw (to_z-of_z w128 c.args.low c.ranges.low, c.take.ensures) c.requires.can }
+move_rows-lists-requires g c = record { can = rw (c.take.ensures) c.requires.can }
 
 pub returns-clause-moved : goal.returns-clause-moved
-returns-clause-moved g c = rw (c.put.ensures) (rw (to_z-of_z w128 c.args.low c.ranges.low, c.take.ensures) at c.move_rows-lists.ensures.rows.moved)
+returns-clause-moved g c = rw (c.put.ensures) (rw (c.take.ensures) at c.move_rows-lists.ensures.rows.moved)
 
 pub returns-clause-steps : goal.returns-clause-steps
 returns-clause-steps g c = rw (c.take.ensures) at c.move_rows-lists.ensures.rows.steps

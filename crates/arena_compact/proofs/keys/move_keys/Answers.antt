@@ -1,6 +1,4 @@
 use Rattle.std.proofs.Common.{◌≡◌, ◌<◌, length, map, take, get_or, arith, sym}
-use Rattle.std.specs.Int.{w128}
-use Rattle.std.proofs.lemmas.Int.{to_z-of_z}
 use Rattle.std.proofs.lemmas.List.{length-map, map-set, get_or-map, take_all}
 use Rattle.arena_compact.specs.Roots.{CanMove}
 use Rattle.arena_compact.proofs.Readings.{all_read, places_more, places_set, key_here, keys_more}
@@ -12,7 +10,7 @@ move_key-requires g c =
     let n = length-map c.args.keys.now f in let long = c.loop-k.auto.keys in
     let at = sym (get_or-map f c.loop-k.keys c.loop-k.k c.index-keys-k.result (f key) (omega arith)) in
     let here = key_here _ _ _ _ _ _ (f key) c.loop-k.invariant.turned (omega arith) at in
-    record { can = rw (to_z-of_z w128 c.args.low c.ranges.low) (all_read (CanMove c.args.low (g.S.NodeStore.nodes c.args.store.now) c.args.table.now) (map f c.args.keys.now) c.loop-k.k (f key) (omega arith) here c.requires.can) }
+    record { can = (all_read (CanMove c.args.low (g.S.NodeStore.nodes c.args.store.now) c.args.table.now) (map f c.args.keys.now) c.loop-k.k (f key) (omega arith) here c.requires.can) }
 
 pub loop-k-preserved : goal.loop-k-preserved
 loop-k-preserved g c =

@@ -1,6 +1,4 @@
 use Rattle.std.proofs.Common.{ℕ, List, Option, arith, sym}
-use Rattle.std.specs.Int.{w128}
-use Rattle.std.proofs.lemmas.Int.{to_z-of_z}
 use Rattle.cer_base.specs.declared.node.Node.{Node}
 use Rattle.arena_compact.specs.Marks.{IsKept}
 use Rattle.arena_compact.specs.Fates.{HasPlace, NotKept, KeptLeft, KeptBottom, KeptOutput, KeptUnion}
@@ -30,10 +28,10 @@ pub place_of-first-requires : goal.place_of-first-requires
 place_of-first-requires g c = has_kept _ _ _ (c.requires.places _ c.in-Union.ensures.node (c.is_kept.ensures.kept c.if-not-is_kept.false)).0
 
 pub returns-then-not-is_recent-clause-fate : goal.returns-then-not-is_recent-clause-fate
-returns-then-not-is_recent-clause-fate g c = KeptLeft _ _ _ _ _ _ (c.is_kept.ensures.kept c.if-not-is_kept.false) c.in-Union.ensures.node (sym (rw (to_z-of_z w128 c.args.low c.ranges.low) at c.if-not-is_recent.ensures)) c.place_of-first.ensures
+returns-then-not-is_recent-clause-fate g c = KeptLeft _ _ _ _ _ _ (c.is_kept.ensures.kept c.if-not-is_kept.false) c.in-Union.ensures.node (sym (rw (c.low_at.ensures) at c.if-not-is_recent.ensures)) c.place_of-first.ensures
 
 pub place_of-second-requires : goal.place_of-second-requires
-place_of-second-requires g c = has_kept _ _ _ ((c.requires.places _ c.in-Union.ensures.node (c.is_kept.ensures.kept c.if-not-is_kept.false)).1 (sym (rw (to_z-of_z w128 c.args.low c.ranges.low) at c.if-not-is_recent.ensures)))
+place_of-second-requires g c = has_kept _ _ _ ((c.requires.places _ c.in-Union.ensures.node (c.is_kept.ensures.kept c.if-not-is_kept.false)).1 (sym (rw (c.low_at.ensures) at c.if-not-is_recent.ensures)))
 
 pub need_at-first_need-requires : goal.need_at-first_need-requires
 need_at-first_need-requires g c = place_within _ _ _ _ (c.requires.places _ c.in-Union.ensures.node (c.is_kept.ensures.kept c.if-not-is_kept.false)).0 c.place_of-first.ensures
@@ -45,7 +43,7 @@ overflow_add-first_need g c =
     record { fits = omega arith }
 
 pub need_at-second_need-requires : goal.need_at-second_need-requires
-need_at-second_need-requires g c = place_within _ _ _ _ ((c.requires.places _ c.in-Union.ensures.node (c.is_kept.ensures.kept c.if-not-is_kept.false)).1 (sym (rw (to_z-of_z w128 c.args.low c.ranges.low) at c.if-not-is_recent.ensures))) c.place_of-second.ensures
+need_at-second_need-requires g c = place_within _ _ _ _ ((c.requires.places _ c.in-Union.ensures.node (c.is_kept.ensures.kept c.if-not-is_kept.false)).1 (sym (rw (c.low_at.ensures) at c.if-not-is_recent.ensures))) c.place_of-second.ensures
 
 pub returns-in-Bottom-clause-fate : goal.returns-in-Bottom-clause-fate
 returns-in-Bottom-clause-fate g c = KeptBottom _ (c.is_kept.ensures.kept c.if-not-is_kept.false) c.in-Bottom.ensures.node
@@ -55,4 +53,4 @@ returns-in-Output-clause-fate g c = KeptOutput _ _ _ _ _ _ (c.is_kept.ensures.ke
 
 pub returns-else-not-is_recent-clause-fate : goal.returns-else-not-is_recent-clause-fate
 returns-else-not-is_recent-clause-fate g c =
-    rw (c.max.ensures) (KeptUnion _ _ _ _ _ _ _ _ _ (c.is_kept.ensures.kept c.if-not-is_kept.false) c.in-Union.ensures.node (sym (rw (to_z-of_z w128 c.args.low c.ranges.low) at c.if-not-is_recent.ensures)) c.place_of-first.ensures c.place_of-second.ensures c.need_at-first_need.ensures.need c.need_at-second_need.ensures.need)
+    rw (c.max.ensures) (KeptUnion _ _ _ _ _ _ _ _ _ (c.is_kept.ensures.kept c.if-not-is_kept.false) c.in-Union.ensures.node (sym (rw (c.low_at.ensures) at c.if-not-is_recent.ensures)) c.place_of-first.ensures c.place_of-second.ensures c.need_at-first_need.ensures.need c.need_at-second_need.ensures.need)

@@ -1,8 +1,5 @@
 use Rattle.std.proofs.Common.{◌≡◌, ◌<◌, ℕ, List, Some, length, get_or, arith, sym, All, []}
 use Rattle.std.specs.Prelude.{int_le, true, slice_get}
-use Rattle.std.specs.Int.{w128}
-use mir.Val.{to_z, of_z}
-use Rattle.std.proofs.lemmas.Int.{to_z-of_z}
 use Rattle.std.proofs.lemmas.Option.{slice_get_within, get_or_from_slice_get, slice_get-get_or}
 use Rattle.cer_base.specs.declared.node.Root.{Root}
 use Rattle.arena_compact.specs.Roots.{AreOlder, IsPlaced}
@@ -20,7 +17,7 @@ loop-k-preserved g c =
     let step = c.move_row-kept.ensures.steps d at in
     let more = entries_more c.args.rows.now c.loop-k.k d lt (sym (get_or_from_slice_get c.args.rows.now c.loop-k.k d d here)) in
     let each = c.move_row-kept.ensures.counted d at in let counted = c.loop-k.invariant.counted in
-    let recent = recent_more (to_z w128 (of_z w128 c.args.low)) c.args.rows.now c.loop-k.k d here in
+    let recent = recent_more c.args.low c.args.rows.now c.loop-k.k d here in
     record { keeping = keeping_more _ _ _ _ _ _ _ _ _ c.loop-k.invariant.keeping lt c.move_row-kept.ensures.moved; paid = omega arith; counted = omega arith }
 
 pub move_row-kept-requires-clause-older : goal.move_row-kept-requires-clause-older
@@ -31,4 +28,4 @@ move_row-kept-requires-clause-older g c = λ r at.
 pub move_row-kept-requires-clause-placed : goal.move_row-kept-requires-clause-placed
 move_row-kept-requires-clause-placed g c = λ r at.
     let here = row_here _ _ _ _ _ _ _ r c.loop-k.invariant.keeping at in
-    rw (to_z-of_z w128 c.args.low c.ranges.low) (all_read (λ (s : ℕ × List Root). All (λ (e : Root). int_le c.args.low e.max.clock ≡ true → IsPlaced (g.S.NodeStore.nodes c.args.store.now) c.args.table.now e.id) s.1) c.args.rows.now c.loop-k.k r (slice_get_within c.args.rows.now c.loop-k.k r here) (sym (get_or_from_slice_get c.args.rows.now c.loop-k.k r r here)) c.requires.can.placed)
+    (all_read (λ (s : ℕ × List Root). All (λ (e : Root). int_le c.args.low e.max.clock ≡ true → IsPlaced (g.S.NodeStore.nodes c.args.store.now) c.args.table.now e.id) s.1) c.args.rows.now c.loop-k.k r (slice_get_within c.args.rows.now c.loop-k.k r here) (sym (get_or_from_slice_get c.args.rows.now c.loop-k.k r r here)) c.requires.can.placed)

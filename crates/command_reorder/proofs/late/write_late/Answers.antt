@@ -2,7 +2,7 @@ use Rattle.std.proofs.Common.{ℕ, refl, ◌∙◌, ap, arith}
 use Rattle.stream_schema.specs.declared.Event.{Event}
 use Rattle.query_engine.specs.Engine.{peak_of}
 use Rattle.command_reorder.specs.Written.{feed_by}
-use Rattle.command_reorder.proofs.Kept.{timed_first, bases_first, bounded_first, fresh}
+use Rattle.command_reorder.proofs.Plans.{timed_first, bases_first, compacted_first, fresh}
 use Rattle.command_reorder.proofs.Ends.{closed_none}
 use Rattle.command_reorder.proofs.late.write_late.Goals as goal
 
@@ -25,19 +25,19 @@ returns-in-Err-new-clause-steps g c =
 pub returns-in-Err-new-2-clause-wrote : goal.returns-in-Err-new-2-clause-wrote
 returns-in-Err-new-2-clause-wrote g c =
     (closed_none c.args.options.compact_every (peak_of c.args.engine.now) (feed_by c.args.options c.args.clock.now c.args.late c.args.engine.now) (g.Q.Source.left c.args.source.now) (g.Q.Source.left c.args.source.now) (g.K.Sink.taken c.args.out.now) c.new-3.new.engine c.args.steps.now c.new-3.new.steps
-    (bounded_first c.args.options.compact_every c.args.engine.now c.args.steps.now c.new-3.new.steps c.requires.fresh c.in-Err-new-2.ensures.wanting_steps)).wrote
+    (compacted_first c.args.options.compact_every c.args.engine.now c.args.steps.now c.new-3.new.steps c.requires.fresh c.in-Err-new-2.ensures.wanting_steps)).wrote
 
 pub returns-in-Err-new-2-clause-steps : goal.returns-in-Err-new-2-clause-steps
 returns-in-Err-new-2-clause-steps g c =
     (closed_none c.args.options.compact_every (peak_of c.args.engine.now) (feed_by c.args.options c.args.clock.now c.args.late c.args.engine.now) (g.Q.Source.left c.args.source.now) (g.Q.Source.left c.args.source.now) (g.K.Sink.taken c.args.out.now) c.new-3.new.engine c.args.steps.now c.new-3.new.steps
-    (bounded_first c.args.options.compact_every c.args.engine.now c.args.steps.now c.new-3.new.steps c.requires.fresh c.in-Err-new-2.ensures.wanting_steps)).steps
+    (compacted_first c.args.options.compact_every c.args.engine.now c.args.steps.now c.new-3.new.steps c.requires.fresh c.in-Err-new-2.ensures.wanting_steps)).steps
 
 pub answer_lines-requires-clause-none : goal.answer_lines-requires-clause-none
 answer_lines-requires-clause-none g c = c.new-3.ensures.count ∙ c.requires.none
 
 pub answer_lines-requires-clause-bases : goal.answer_lines-requires-clause-bases
 answer_lines-requires-clause-bases g c =
-    bases_first c.args.options.compact_every c.in-Ok-new-2.schedule c.args.engine.now c.new-3.new.engine (timed_first c.args.options.compact_every c.in-Ok-new-2.schedule _ c.in-Ok-new-2.ensures.timing c.requires.none) c.in-Ok-new-2.ensures.bases c.new-3.ensures.same
+    bases_first c.in-Ok-new-2.schedule c.args.engine.now c.new-3.new.engine c.in-Ok-new-2.ensures.bases c.new-3.ensures.same
 
 pub returns-clause-wrote : goal.returns-clause-wrote
 returns-clause-wrote g c =

@@ -1,7 +1,8 @@
-use Rattle.std.proofs.Common.{length, refl, ◌∙◌}
+use Rattle.std.proofs.Common.{refl, ◌∙◌}
+use Rattle.stream_answers.proofs.Compacted.{paid_in_time, windows_in_time, on_in_time}
 use Rattle.stream_answers.proofs.Totals.{rows_as}
 use Rattle.command_reorder.specs.Flowing.{from_first}
-use Rattle.command_reorder.proofs.Kept.{bases_on, kept_steps, kept_windows, kept_on_time}
+use Rattle.command_reorder.proofs.Plans.{bases_on}
 use Rattle.command_reorder.proofs.Flows.{answer_wants, answer_falls, takes, takes_compacted, puts, puts_wanting, puts_failing, compaction_wants}
 use Rattle.command_reorder.proofs.releasing.answer_event.Goals as goal
 
@@ -23,12 +24,12 @@ returns-in-Ok-keep_up-clause-answered g c = λ every peaks a source put gate bef
     let came = c.in-Ok-add.ensures.rows.rows_are _ t.stands in
     let are = rows_as (from_first every) _ _ _ _ _ _ _ came.0 t.order t.schema t.queries came.1 in
     let fits = takes_compacted every old peaks a source put gate c.args.output.now c.give_event.new.engine c.keep_up.new.engine before (g.K.Sink.taken c.args.out.now) first c.give_event.new.steps _ _ t c.keep_up.ensures.same c.keep_up.ensures.stands c.keep_up.ensures.fewer
-    (λ events most stands meet few. kept_steps every old now t.timed c.keep_up.ensures.timing c.give_event.new.engine c.keep_up.new.engine (length c.give_event.new.engine.queries) (length events) c.add.new.steps c.keep_up.new.steps most (c.keep_up.ensures.steps events most stands meet few)) in
+    (λ events most stands meet few. paid_in_time old now (from_first every) c.give_event.new.engine c.keep_up.new.engine t.timed c.add.new.steps c.keep_up.new.steps c.keep_up.ensures.timing c.keep_up.ensures.steps events stands most meet few) in
     puts every old peaks now a source put gate c.args.output.now c.add.new.self c.give_event.new.engine c.keep_up.new.engine before (g.K.Sink.taken c.args.out.now) (g.K.Sink.taken c.add.new.out) first c.give_event.new.steps c.add.new.steps c.keep_up.new.steps came.0
     c.add.ensures.order t are came.2.0 came.2.1 (λ walk. c.add.ensures.walk (t.order ∙ walk)) c.keep_up.ensures.same fits
-    (kept_windows every old now t.timed c.keep_up.ensures.timing c.give_event.new.engine c.keep_up.new.engine peaks _ (c.in-Ok-keep_up.ensures.windows peaks _ t.stands) t.windows)
+    (windows_in_time old now (from_first every) c.give_event.new.engine c.keep_up.new.engine t.timed c.in-Ok-keep_up.ensures.windows peaks _ t.stands t.windows)
     (c.keep_up.ensures.timing ∙ t.timed)
-    (kept_on_time every old now t.timed c.keep_up.ensures.timing c.give_event.new.engine c.keep_up.new.engine _ (c.in-Ok-keep_up.ensures.on_time _ t.stands t.windows.dense) t.going_on)
+    (on_in_time old now (from_first every) c.give_event.new.engine c.keep_up.new.engine t.timed t.was t.events t.next t.kept t.added t.keys (c.in-Ok-keep_up.ensures.on_time _ t.stands t.windows.dense) t.on_time)
 
 pub returns-in-Err-clause-answered : goal.returns-in-Err-clause-answered
 returns-in-Err-clause-answered g c = λ every peaks a source put gate before first w.
@@ -38,7 +39,7 @@ returns-in-Err-clause-answered g c = λ every peaks a source put gate before fir
     let came = c.in-Ok-add.ensures.rows.rows_are _ t.stands in
     let are = rows_as (from_first every) _ _ _ _ _ _ _ came.0 t.order t.schema t.queries came.1 in
     let fits = takes_compacted every old peaks a source put gate c.args.output.now c.give_event.new.engine c.keep_up.new.engine before (g.K.Sink.taken c.args.out.now) first c.give_event.new.steps _ _ t c.keep_up.ensures.same c.keep_up.ensures.stands c.keep_up.ensures.fewer
-    (λ events most stands meet few. kept_steps every old now t.timed c.keep_up.ensures.timing c.give_event.new.engine c.keep_up.new.engine (length c.give_event.new.engine.queries) (length events) c.add.new.steps c.keep_up.new.steps most (c.keep_up.ensures.steps events most stands meet few)) in
+    (λ events most stands meet few. paid_in_time old now (from_first every) c.give_event.new.engine c.keep_up.new.engine t.timed c.add.new.steps c.keep_up.new.steps c.keep_up.ensures.timing c.keep_up.ensures.steps events stands most meet few) in
     compaction_wants every old peaks now a source put gate c.args.output.now c.add.new.self c.give_event.new.engine c.keep_up.new.engine before (g.K.Sink.taken c.args.out.now) (g.K.Sink.taken c.add.new.out) first c.give_event.new.steps c.add.new.steps c.keep_up.new.steps came.0
     t are came.2.0 came.2.1 (λ walk. c.add.ensures.walk (t.order ∙ walk)) fits
 
@@ -61,24 +62,24 @@ returns-in-Err-Fault-add-clause-answered g c = λ every peaks a source put gate 
 -- A SIZE FOR EACH QUERY
 
 pub returns-in-Err-Memory-clause-bases : goal.returns-in-Err-Memory-clause-bases
-returns-in-Err-Memory-clause-bases g c = bases_on c.args.schedule.now c.args.schedule.now c.args.engine.now c.give_event.new.engine refl refl c.give_event.ensures.same c.requires.bases
+returns-in-Err-Memory-clause-bases g c = bases_on c.args.schedule.now c.args.schedule.now c.args.engine.now c.give_event.new.engine refl c.give_event.ensures.same c.requires.bases
 
 pub returns-in-Err-Fault-clause-bases : goal.returns-in-Err-Fault-clause-bases
-returns-in-Err-Fault-clause-bases g c = bases_on c.args.schedule.now c.args.schedule.now c.args.engine.now c.give_event.new.engine refl refl c.give_event.ensures.same c.requires.bases
+returns-in-Err-Fault-clause-bases g c = bases_on c.args.schedule.now c.args.schedule.now c.args.engine.now c.give_event.new.engine refl c.give_event.ensures.same c.requires.bases
 
 pub returns-in-Err-Memory-add-clause-bases : goal.returns-in-Err-Memory-add-clause-bases
-returns-in-Err-Memory-add-clause-bases g c = bases_on c.args.schedule.now c.args.schedule.now c.args.engine.now c.give_event.new.engine refl refl c.give_event.ensures.same c.requires.bases
+returns-in-Err-Memory-add-clause-bases g c = bases_on c.args.schedule.now c.args.schedule.now c.args.engine.now c.give_event.new.engine refl c.give_event.ensures.same c.requires.bases
 
 pub returns-in-Err-Fault-add-clause-bases : goal.returns-in-Err-Fault-add-clause-bases
-returns-in-Err-Fault-add-clause-bases g c = bases_on c.args.schedule.now c.args.schedule.now c.args.engine.now c.give_event.new.engine refl refl c.give_event.ensures.same c.requires.bases
+returns-in-Err-Fault-add-clause-bases g c = bases_on c.args.schedule.now c.args.schedule.now c.args.engine.now c.give_event.new.engine refl c.give_event.ensures.same c.requires.bases
 
 pub keep_up-requires : goal.keep_up-requires
-keep_up-requires g c = record { bases = bases_on c.args.schedule.now c.args.schedule.now c.args.engine.now c.give_event.new.engine refl refl c.give_event.ensures.same c.requires.bases }
+keep_up-requires g c = record { bases = bases_on c.args.schedule.now c.args.schedule.now c.args.engine.now c.give_event.new.engine refl c.give_event.ensures.same c.requires.bases }
 
 pub returns-in-Ok-keep_up-clause-bases : goal.returns-in-Ok-keep_up-clause-bases
 returns-in-Ok-keep_up-clause-bases g c =
-    bases_on c.args.schedule.now c.keep_up.new.self c.args.engine.now c.keep_up.new.engine c.keep_up.ensures.timing c.keep_up.ensures.bases (c.keep_up.ensures.same.0 ∙ c.give_event.ensures.same.0, c.keep_up.ensures.same.1 ∙ c.give_event.ensures.same.1) c.requires.bases
+    bases_on c.args.schedule.now c.keep_up.new.self c.args.engine.now c.keep_up.new.engine c.keep_up.ensures.bases (c.keep_up.ensures.same.0 ∙ c.give_event.ensures.same.0, c.keep_up.ensures.same.1 ∙ c.give_event.ensures.same.1) c.requires.bases
 
 pub returns-in-Err-clause-bases : goal.returns-in-Err-clause-bases
 returns-in-Err-clause-bases g c =
-    bases_on c.args.schedule.now c.keep_up.new.self c.args.engine.now c.keep_up.new.engine c.keep_up.ensures.timing c.keep_up.ensures.bases (c.keep_up.ensures.same.0 ∙ c.give_event.ensures.same.0, c.keep_up.ensures.same.1 ∙ c.give_event.ensures.same.1) c.requires.bases
+    bases_on c.args.schedule.now c.keep_up.new.self c.args.engine.now c.keep_up.new.engine c.keep_up.ensures.bases (c.keep_up.ensures.same.0 ∙ c.give_event.ensures.same.0, c.keep_up.ensures.same.1 ∙ c.give_event.ensures.same.1) c.requires.bases

@@ -35,7 +35,7 @@ returns-in-Ok-None-clause-made g c =
 
 pub returns-in-Ok-Some-clause-costs : goal.returns-in-Ok-Some-clause-costs
 returns-in-Ok-Some-clause-costs g c = λ machine stands.
-    command_costs c.in-Ok-Some.command c.args.session.now machine c.args.steps.now c.run.new.steps _
+    command_costs c.in-Ok-Some.command c.args.session.now machine c.run.new.self c.args.steps.now c.run.new.steps _
     (asked_as c.args.session.now.engine.schema c.schema.result.now c.args.line.now _ c.schema.ensures (rw c.in-Ok-Some.field-0-is at c.in-Ok-Some.ensures.asked)) (c.run.ensures.costs machine stands)
 
 pub returns-in-Ok-Some-clause-refused : goal.returns-in-Ok-Some-clause-refused

@@ -1,11 +1,12 @@
-use Rattle.std.proofs.Common.{refl, ◌∙◌, arith}
+use Rattle.std.proofs.Common.{◌+◌, refl, ◌∙◌, arith}
+use Rattle.command_session.specs.Sessions.{put_by_in}
 use Rattle.command_session.proofs.ScriptEnds.{went_as, line_as, ends_at_end, ends_for_line, ends_in_line, read_cause, no_write, line_read_cause, line_write_cause}
 use Rattle.command_session.proofs.Turning.{counting_begun, counting_further, made_as, costs_as, counted, stop_counts, line_counts}
 use Rattle.command_session.proofs.script.play_lines.Goals as goal
 
 pub loop-fault-init : goal.loop-fault-init
 loop-fault-init g c = record {
-  counting = counting_begun _ _ c.args.lines.now (g.Q.Source.left c.args.source.now) (g.K.Sink.taken c.args.out.now) c.args.session.now c.args.steps.now c.requires.fresh c.requires.given;
+  counting = counting_begun _ _ c.args.lines.now (g.Q.Source.left c.args.source.now) (g.K.Sink.taken c.args.out.now) c.args.session.now c.args.steps.now c.requires.fresh c.requires.nothing_put_by c.requires.given;
   going = c.requires.going;
   open_is = c.requires.open;
   counted = c.requires.counted;
@@ -60,7 +61,7 @@ loop-fault-preserved g c =
       counting = counting_further c.args.session.now.engine.schema c.args.session.now.engine.queries (g.Q.Source.left c.args.source.now) c.loop-fault.lines c.next.new.self (g.Q.Source.left c.loop-fault.source) (g.Q.Source.left c.next.new.source) (g.K.Sink.taken c.args.out.now) (g.K.Sink.taken c.loop-fault.out) (g.K.Sink.taken c.play_line.new.out) c.loop-fault.session c.play_line.new.session c.text.result.now
           c.args.steps.now c.loop-fault.steps c.play_line.new.steps c.text.ensures.value inv.same.0 inv.same.1 c.play_line.ensures.same (rw c.in-Ok-Line.field-0-is at c.in-Ok-Line.ensures.lines) inv.counting went
           (made_as c.args.session.now.engine.schema c.loop-fault.session.engine.schema c.text.result.now c.loop-fault.session.engine c.play_line.new.session inv.same.0 c.in-Ok.ensures.made)
-          (costs_as c.args.session.now.engine.schema c.loop-fault.session.engine.schema c.args.session.now.engine.queries c.loop-fault.session.engine.queries c.text.result.now c.loop-fault.session.engine inv.counting.goes.machine c.loop-fault.steps c.play_line.new.steps inv.same.0 inv.same.1
+          (costs_as c.args.session.now.engine.schema c.loop-fault.session.engine.schema c.args.session.now.engine.queries c.loop-fault.session.engine.queries c.text.result.now c.loop-fault.session.engine inv.counting.goes.machine (c.loop-fault.steps + put_by_in c.loop-fault.session) (c.play_line.new.steps + put_by_in c.play_line.new.session) inv.same.0 inv.same.1
           (c.play_line.ensures.costs inv.counting.goes.machine inv.counting.goes.stands));
       going = went.going;
       open_is = moved.1.closed_is;
@@ -90,5 +91,5 @@ returns-in-Err-play_line-clause-steps g c =
     (line_as c.args.session.now.engine.schema c.loop-fault.session.engine.schema c.args.session.now.engine.queries c.loop-fault.session.engine.queries c.number.result c.text.result.now inv.counting.goes.machine c.play_line.new.session
     (g.K.Sink.taken c.loop-fault.out) (g.K.Sink.taken c.play_line.new.out) c.in-Err-play_line.stop inv.same.0 inv.same.1 (c.in-Err-play_line.ensures.ended inv.counting.goes.machine inv.counting.goes.stands))
     (c.in-Err-play_line.ensures.refused inv.counting.goes.machine inv.counting.goes.stands)
-    (costs_as c.args.session.now.engine.schema c.loop-fault.session.engine.schema c.args.session.now.engine.queries c.loop-fault.session.engine.queries c.text.result.now c.loop-fault.session.engine inv.counting.goes.machine c.loop-fault.steps c.play_line.new.steps inv.same.0 inv.same.1
+    (costs_as c.args.session.now.engine.schema c.loop-fault.session.engine.schema c.args.session.now.engine.queries c.loop-fault.session.engine.queries c.text.result.now c.loop-fault.session.engine inv.counting.goes.machine (c.loop-fault.steps + put_by_in c.loop-fault.session) (c.play_line.new.steps + put_by_in c.play_line.new.session) inv.same.0 inv.same.1
     (c.play_line.ensures.costs inv.counting.goes.machine inv.counting.goes.stands))

@@ -15,7 +15,7 @@ pub compact-requires-clause-cursors : goal.compact-requires-clause-cursors
 compact-requires-clause-cursors g c = All-map (λ (w : CursorState). w.query ≡ 1 → Fits w (g.S.NodeStore.nodes c.args.store.now)) (λ (w : CursorState). w) c.args.cursors.now (λ k d lt mine. (c.requires.cursors k d lt).1)
 
 pub tell-requires-clause-lists : goal.tell-requires-clause-lists
-tell-requires-clause-lists g c = all_of_map (λ (rows : List (ℕ × List Root)). All (λ (r : ℕ × List Root). IsUnionList (g.S.NodeStore.nodes c.compact.new.store) r.1) rows) (λ (a : ActiveLists). a.entries) c.compact.new.keys (keys_lists _ _ _ c.requires.well_formed _ _ c.compact.ensures.lists)
+tell-requires-clause-lists g c = all_of_map (λ (rows : List (ℕ × List Root)). All (λ (r : ℕ × List Root). IsUnionList (g.S.NodeStore.nodes c.compact.new.store) r.1) rows) (λ (a : ActiveLists). a.entries) c.compact.new.keys (keys_lists _ _ _ _ c.requires.well_formed _ _ c.compact.ensures.lists)
 
 pub tell-requires-clause-fits : goal.tell-requires-clause-fits
 tell-requires-clause-fits g c =

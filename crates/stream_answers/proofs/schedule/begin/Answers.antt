@@ -2,7 +2,6 @@ use Rattle.std.proofs.Common.{◌≡◌, ℕ, List, length, sym, subst, arith}
 use Rattle.std.proofs.lemmas.List.{with_items_is}
 use Rattle.query_engine.specs.declared.sizes.Size.{Size}
 use Rattle.query_engine.specs.Engine.{Open}
-use Rattle.query_engine.specs.Keys.{KeysFollowWindow}
 use Rattle.query_engine.specs.Sizes.{AreKeptSmall}
 use Rattle.query_engine.specs.Windows.{FollowsWindow}
 use Rattle.query_engine.proofs.SmallSizes.{compacted_are_small}
@@ -22,5 +21,5 @@ returns-clause-small g c = λ events stands dense.
     let long : length c.note_all.new.bases ≡ c.in_ok-bases.bases.len = (let x = c.as_mut_slice.ensures.len in let y = c.note_all.auto.bases in omega arith) in
     let is = with_items_is c.in_ok-bases.bases c.note_all.new.bases long in
     let nodes = subst (FollowsWindow c.compact.new.self events) held (did.window events stands dense) in
-    let keys = subst (KeysFollowWindow c.compact.new.self events) held (did.keys events stands) in
+    let keys = did.keys events stands in
     subst (λ (bs : List Size). AreKeptSmall LEAST_SIZE (length events) c.compact.new.self bs events) (sym is) (compacted_are_small c.compact.new.self c.note_all.new.bases events LEAST_SIZE nodes keys c.note_all.ensures)

@@ -83,7 +83,7 @@ loop-output-preserved g c =
           }
           );
       timing = c.keep_up.ensures.timing ∙ inv.timing;
-      noted = with_none c.args.schedule.now.timing.every _ _ (λ many. c.keep_up.ensures.bases ∙ many) inv.noted;
+      noted = c.keep_up.ensures.bases ∙ inv.noted;
       none_waits = λ walk. c.put.ensures.walk (inv.order ∙ walk);
       open_is = (rw c.in-Ok-Event.field-0-is at c.in-Ok-Event.ensures.room).1;
       counted = (let kept = c.keep_up.ensures.count in let le = c.take_event.ensures.counted in omega arith);
@@ -255,4 +255,4 @@ returns-in-Err-keep_up-clause-stands g c = none_ok _ _ _ _ _ _ c.finish-in-Err-k
 pub keep_up-requires : goal.keep_up-requires
 keep_up-requires g c =
     let inv = c.loop-output.invariant in
-    record { bases = noted_all c.loop-output.schedule.timing c.args.schedule.now.timing c.loop-output.schedule.bases c.args.engine.now.queries c.take_event.new.engine.queries inv.timing (c.take_event.ensures.same.1 ∙ inv.same.1) inv.noted }
+    record { bases = noted_all c.loop-output.schedule.bases c.args.engine.now.queries c.take_event.new.engine.queries (c.take_event.ensures.same.1 ∙ inv.same.1) inv.noted }

@@ -15,7 +15,7 @@ invariant-loop-output g l = record {
       → Following l.fn.schedule.timing l.schedule earlier (record { order = l.fn.output.order; schema = l.fn.engine.schema; queries = l.fn.engine.queries; most_bytes = l.fn.lines.budget })
       (g.Q.Source.left l.fn.source) l.lines (g.Q.Source.left l.source) (g.K.Sink.taken l.fn.out) (g.K.Sink.taken l.out) l.output.held l.engine begun l.steps peaks;
   timing : l.schedule.timing ≡ l.fn.schedule.timing;
-  noted : WithNoNumber l.fn.schedule.timing.every (length l.schedule.bases ≡ length l.fn.engine.queries);
+  noted : length l.schedule.bases ≡ length l.fn.engine.queries;
   none_waits : l.fn.output.order ≡ Walk → l.output.held ≡ [];
   open_is : l.lines.closed ≡ false;
   counted : count_of l.engine + l.lines.room < 2 ^ 64;

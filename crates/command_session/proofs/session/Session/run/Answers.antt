@@ -1,5 +1,8 @@
 -- Each command is one of the session's own calls.
-use Rattle.std.proofs.Common.{refl}
+use Rattle.std.proofs.Common.{List, refl, ap₂}
+use Rattle.query_engine.specs.declared.sizes.Size.{Size}
+use Rattle.query_engine.specs.Engine.{State}
+use Rattle.query_engine.specs.Sizes.{put_by}
 use Rattle.command_session.proofs.Costs.{costs_nothing}
 use Rattle.command_session.proofs.session.Session.run.Goals as goal
 
@@ -22,10 +25,10 @@ pub returns-in-Compact-clause-cause : goal.returns-in-Compact-clause-cause
 returns-in-Compact-clause-cause g c = c.compact.ensures.cause (g.K.Sink.faults c.args.out.now)
 
 pub returns-in-Event-clause-engine : goal.returns-in-Event-clause-engine
-returns-in-Event-clause-engine g c = rw c.in-Event.is c.take_event.ensures.engine
+returns-in-Event-clause-engine g c = rw c.in-Event.is c.event.ensures.engine
 
 pub returns-in-Event-clause-costs : goal.returns-in-Event-clause-costs
-returns-in-Event-clause-costs g c = λ machine stands. rw c.in-Event.is (c.take_event.ensures.costs machine stands)
+returns-in-Event-clause-costs g c = λ machine stands. rw c.in-Event.is (c.event.ensures.costs machine stands)
 
 pub returns-in-OpenAt-clause-engine : goal.returns-in-OpenAt-clause-engine
 returns-in-OpenAt-clause-engine g c = rw c.in-OpenAt.is c.open.ensures.engine
@@ -43,7 +46,8 @@ pub returns-in-Drop-clause-engine : goal.returns-in-Drop-clause-engine
 returns-in-Drop-clause-engine g c = rw c.in-Drop.is c.drop_cursor.ensures.engine
 
 pub returns-in-Drop-clause-costs : goal.returns-in-Drop-clause-costs
-returns-in-Drop-clause-costs g c = λ machine stands. costs_nothing c.args.command c.args.self.now machine c.args.steps.now c.args.steps.now refl
+returns-in-Drop-clause-costs g c = λ machine stands.
+    costs_nothing c.args.command c.args.self.now machine c.drop_cursor.new.self c.args.steps.now c.args.steps.now refl (ap₂ (λ (e : State) (bases : List Size). put_by e bases) c.drop_cursor.ensures.engine c.drop_cursor.ensures.noted)
 
 pub returns-in-Compact-clause-engine : goal.returns-in-Compact-clause-engine
 returns-in-Compact-clause-engine g c = rw c.in-Compact.is c.compact.ensures.engine

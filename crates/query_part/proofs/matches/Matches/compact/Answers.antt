@@ -5,7 +5,7 @@ use Rattle.std.proofs.lemmas.List.{with_items_is}
 use Rattle.std.proofs.lemmas.List.Elements.{All-map, All-weaker}
 use Rattle.cer_base.specs.declared.node.Node.{Node}
 use Rattle.query_standing.specs.Kept.{Rows}
-use Rattle.arena_compact.specs.Compacted.{least_of, roots_of, Compacted}
+use Rattle.arena_compact.specs.Compacted.{Compacted}
 use Rattle.query_part.specs.declared.lists.Lists.{Lists}
 use Rattle.query_part.specs.Matches.{Held, HasStatesOnce, MayRest, awake_in, AreStill}
 use Rattle.query_part.proofs.matches.Matches.compact.Goals as goal
@@ -26,10 +26,10 @@ returns-clause-nodes g c =
     let long : length c.look_over-self-inside.new.lists ≡ c.self.inside.lists.len = (let a = c.as_mut_slice-lists.ensures.len in let b = c.compact.auto.keys in let d = c.look_over-self-inside.auto.lists in omega arith) in
     let items = with_items_is c.self.inside.lists c.look_over-self-inside.new.lists long in
     let rows = ap (map (λ (l : Lists). l.active.entries)) items ∙ c.look_over-self-inside.ensures.rows in
-    let ws = map g.C.HasCursor.walk c.args.cursors.now in let vs = map g.C.HasCursor.walk c.compact.new.cursors in
+    let vs = map g.C.HasCursor.walk c.compact.new.cursors in
     let left = rw (to_z-of_z w128 c.args.low c.ranges.low) at c.compact.ensures.nodes in
-    subst (λ (rs : List Rows). Compacted (least_of c.args.query c.args.low ws) c.args.self.now.nodes c.compact.new.store.nodes (roots_of c.args.query rs vs)) (sym rows)
-    (subst (λ (ns : List Node). Compacted (least_of c.args.query c.args.low ws) ns c.compact.new.store.nodes (roots_of c.args.query (map (λ (l : Lists). l.active.entries) c.compact.new.keys) vs)) (ap (λ (h : Held). h.nodes) c.self.view_is) left)
+    subst (λ (rs : List Rows). Compacted c.args.query c.args.low c.args.self.now.nodes c.compact.new.store.nodes rs vs) (sym rows)
+    (subst (λ (ns : List Node). Compacted c.args.query c.args.low ns c.compact.new.store.nodes (map (λ (l : Lists). l.active.entries) c.compact.new.keys) vs) (ap (λ (h : Held). h.nodes) c.self.view_is) left)
 
 pub returns-clause-once : goal.returns-clause-once
 returns-clause-once g c =

@@ -1,20 +1,18 @@
-use Rattle.std.proofs.Common.{◌≡◌, ℕ, true, false, None, sym, subst}
+use Rattle.std.proofs.Common.{◌≡◌, ℕ, [], true, false, None, refl, sym, subst}
 use Rattle.stream_answers.specs.Windows.{is_due_after}
 use Rattle.stream_answers.proofs.Windows.{never_due, compaction_follows, windows_stay, windows_looked, on_ok}
-use Rattle.stream_answers.proofs.schedule.Schedule.keep_up.Goals.{then-is_due_after, else-is_due_after}
 use Rattle.stream_answers.proofs.schedule.Schedule.keep_up.Goals as goal
 
-pub returns-after-is_due_after-clause-windows : goal.returns-after-is_due_after-clause-windows
-returns-after-is_due_after-clause-windows g c = rw (← c.self.view_is) (elim c.if-is_due_after.branch [
-  | then-is_due_after w ↦
-      let due : is_due_after c.self.inside.every c.self.inside.first c.events.result ≡ true = (let e = c.is_due_after.ensures in let f = w.if-is_due_after.true in cc) in
-      let did = w.compact.ensures in
-      rw (w.engine-is, w.result-is) (compaction_follows w.compact.result (is_due_after c.self.inside.every c.self.inside.first) c.args.engine.now w.compact.new.self w.compact.new.held c.events.result c.events.ensures.length due did.held did.same did.found did.peak
-      did.stands did.dense did.window)
-  | else-is_due_after w ↦
-      let none : is_due_after c.self.inside.every c.self.inside.first c.events.result ≡ false = (let e = c.is_due_after.ensures in let f = w.if-is_due_after.false in cc) in
-      rw (w.engine-is, w.result-is) (windows_stay (is_due_after c.self.inside.every c.self.inside.first) c.args.engine.now c.events.result c.events.ensures.length none)
-])
+pub returns-then-is_due_after-clause-windows : goal.returns-then-is_due_after-clause-windows
+returns-then-is_due_after-clause-windows g c = rw (← c.self.view_is) (
+    let due : is_due_after c.self.inside.every c.self.inside.first c.events.result ≡ true = (let e = c.is_due_after.ensures in let f = c.if-is_due_after.true in cc) in
+    let did = c.compact.ensures in
+    compaction_follows c.compact.result (is_due_after c.self.inside.every c.self.inside.first) c.args.engine.now c.compact.new.engine [] c.events.result c.events.ensures.length due refl did.same did.found did.peak did.stands did.dense did.window)
+
+pub returns-else-is_due_after-clause-windows : goal.returns-else-is_due_after-clause-windows
+returns-else-is_due_after-clause-windows g c = rw (← c.self.view_is) (
+    let none : is_due_after c.self.inside.every c.self.inside.first c.events.result ≡ false = (let e = c.is_due_after.ensures in let f = c.if-is_due_after.false in cc) in
+    windows_stay (is_due_after c.self.inside.every c.self.inside.first) c.args.engine.now c.events.result c.events.ensures.length none)
 
 pub returns-then-events-self-clause-windows : goal.returns-then-events-self-clause-windows
 returns-then-events-self-clause-windows g c = rw (← c.self.view_is, c.in-None.is) (

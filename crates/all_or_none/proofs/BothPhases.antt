@@ -4,22 +4,22 @@ use Rattle.std.specs.Prelude.{IsSomeAnd, sum_by}
 use Rattle.std.specs.List.{AllZip}
 use Rattle.std.proofs.lemmas.List.Elements.{All-nil, All-cons, All-head, All-tail, All-map}
 use Rattle.stream_schema.specs.declared.Event.{Event}
-use Rattle.query_standing.specs.Kept.{Part}
+use Rattle.query_standing.specs.Kept.{QueryState}
 use Rattle.query_standing.specs.Dormancy.{StandsWithClock}
 use Rattle.std.proofs.lemmas.List.Sums.{sum_by-cons}
-use Rattle.all_or_none.specs.Phases.{Phase, Grows, IsStep, IsIdle, IsQuiet, back, IsTaken, StandsAt, InTime, HasGrown, bound_of, ready_bound, kept_bound}
+use Rattle.all_or_none.specs.Phases.{Phase, Grows, IsStep, IsIdle, HasNoAnswer, back, IsTaken, StandsAt, InTime, HasGrown, bound_of, ready_bound, kept_bound}
 use Rattle.all_or_none.proofs.LoopTurn.{all_mapped}
 
-step_of : (o : Option Part) (p : Part) (S : Part → Type 0) → o ≡ Some p → IsSomeAnd o S → S p
+step_of : (o : Option QueryState) (p : QueryState) (S : QueryState → Type 0) → o ≡ Some p → IsSomeAnd o S → S p
 step_of (Some x) p S e h = let same : x ≡ p = cc in subst S same h
 step_of None p S e h = absurd cc
 
--- What the event made of a part, however it was taken.
+-- What the event made of a query state, however it was taken.
 record Moved (event : Event) (position : ℕ) (old new : Phase) : Type 0 where
   pub schema : new.schema ≡ old.schema
   pub query : new.query ≡ old.query
   pub idle : IsIdle new
-  pub quiet : IsQuiet (position + 1) new
+  pub quiet : HasNoAnswer (position + 1) new
   pub step : IsStep old.schema old.query event position old.kept new.kept
 
 moved : (event : Event) (position : ℕ) (old new : Phase) → IsTaken event position old new → Moved event position old new
@@ -37,9 +37,9 @@ one events event position at_first prepared new len kept taken time stands =
     let m = moved event position prepared new taken in
     let schema : at_first.schema ≡ prepared.schema = ap (λ (p : Phase). p.schema) (sym kept) in
     let query : at_first.query ≡ prepared.query = ap (λ (p : Phase). p.query) (sym kept) in
-    let part : at_first.kept ≡ prepared.kept = ap (λ (p : Phase). p.kept) (sym kept) in
+    let query_state : at_first.kept ≡ prepared.kept = ap (λ (p : Phase). p.kept) (sym kept) in
     let time' = subst (λ s. InTime events event (record prepared { schema = s })) schema (subst (λ q. InTime events event (record prepared { schema = at_first.schema; query = q })) query time) in
-    let stands' = subst (λ k. StandsWithClock prepared.schema prepared.query events k) part (subst (λ q. StandsWithClock prepared.schema q events at_first.kept) query (subst (λ s. StandsWithClock s at_first.query events at_first.kept) schema stands)) in
+    let stands' = subst (λ k. StandsWithClock prepared.schema prepared.query events k) query_state (subst (λ q. StandsWithClock prepared.schema q events at_first.kept) query (subst (λ s. StandsWithClock s at_first.query events at_first.kept) schema stands)) in
     let after = m.step.stands events len time' stands' in
     subst (λ q. StandsWithClock new.schema q (events ++ event ∷ []) new.kept) (sym m.query) (subst (λ s. StandsWithClock s prepared.query (events ++ event ∷ []) new.kept) (sym m.schema) after)
 
@@ -66,7 +66,7 @@ stands_after before after events event position at_first prepared new len kept d
     (sym (map_map back before prepared) ∙ (kept ∙ map_map back before at_first))
     done (All-map (InTime events event) before at_first time) (All-map (StandsAt events) before at_first stands))
 
--- what each part is after the event, however it was taken
+-- what each query state is after the event, however it was taken
 all_moved : (P : Phase → Type 0) (event : Event) (position : ℕ) (old new : List Phase) → ((o n : Phase) → Moved event position o n → P n) → AllZip (IsTaken event position) old new → All P new
 all_moved P event position [] [] f z = All-nil P
 all_moved P event position [] (n ∷ ns) f z = absurd z
@@ -76,21 +76,21 @@ all_moved P event position (o ∷ os) (n ∷ ns) f z = All-cons P n ns (f o n (m
 pub idle_after : {A : Type 0} (before after : A → Phase) (event : Event) (position : ℕ) (prepared new : List A) → AllZip (IsTaken event position) (map before prepared) (map after new) → All (λ p. IsIdle (after p)) new
 idle_after before after event position prepared new z = all_mapped IsIdle after new (all_moved IsIdle event position (map before prepared) (map after new) (λ o n m. m.idle) z)
 
-pub quiet_after : {A : Type 0} (before after : A → Phase) (event : Event) (position : ℕ) (prepared new : List A) → AllZip (IsTaken event position) (map before prepared) (map after new) → All (λ p. IsQuiet (position + 1) (after p)) new
-quiet_after before after event position prepared new z = all_mapped (IsQuiet (position + 1)) after new (all_moved (IsQuiet (position + 1)) event position (map before prepared) (map after new) (λ o n m. m.quiet) z)
+pub quiet_after : {A : Type 0} (before after : A → Phase) (event : Event) (position : ℕ) (prepared new : List A) → AllZip (IsTaken event position) (map before prepared) (map after new) → All (λ p. HasNoAnswer (position + 1) (after p)) new
+quiet_after before after event position prepared new z = all_mapped (HasNoAnswer (position + 1)) after new (all_moved (HasNoAnswer (position + 1)) event position (map before prepared) (map after new) (λ o n m. m.quiet) z)
 
 grown_one : (event : Event) (position : ℕ) (at_first prepared new : Phase) → back prepared ≡ back at_first → IsTaken event position prepared new → HasGrown event at_first new
 grown_one event position at_first prepared new kept taken =
     let m = moved event position prepared new taken in
     let schema : at_first.schema ≡ prepared.schema = ap (λ (p : Phase). p.schema) (sym kept) in
     let query : at_first.query ≡ prepared.query = ap (λ (p : Phase). p.query) (sym kept) in
-    let part : at_first.kept ≡ prepared.kept = ap (λ (p : Phase). p.kept) (sym kept) in
+    let query_state : at_first.kept ≡ prepared.kept = ap (λ (p : Phase). p.kept) (sym kept) in
     record {
       schema = m.schema ∙ sym schema;
       query = m.query ∙ sym query;
       grows =
           subst (λ s. Grows s at_first.query event at_first.kept new.kept) (sym schema)
-          (subst (λ q. Grows prepared.schema q event at_first.kept new.kept) (sym query) (subst (λ k. Grows prepared.schema prepared.query event k new.kept) (sym part) m.step.grows));
+          (subst (λ q. Grows prepared.schema q event at_first.kept new.kept) (sym query) (subst (λ k. Grows prepared.schema prepared.query event k new.kept) (sym query_state) m.step.grows));
     }
 
 grown_all : (event : Event) (position : ℕ) (at_first prepared new : List Phase) → map back prepared ≡ map back at_first → AllZip (IsTaken event position) prepared new → AllZip (HasGrown event) at_first new
@@ -104,7 +104,7 @@ grown_all event position (a ∷ as') (p ∷ ps) (n ∷ ns) kept done =
     let rest : map back ps ≡ map back as' = cc in
     (grown_one event position a p n head done.0, grown_all event position as' ps ns rest done.1)
 
--- each part has grown by the event
+-- each query state has grown by the event
 pub grown_after : {A : Type 0} (before after : A → Phase) (event : Event) (position : ℕ) (at_first prepared new : List A) → map (λ p. back (before p)) prepared ≡ map (λ p. back (before p)) at_first → AllZip (IsTaken event position) (map before prepared) (map after new) → AllZip (HasGrown event) (map before at_first) (map after new)
 grown_after before after event position at_first prepared new kept done =
     grown_all event position (map before at_first) (map before prepared) (map after new) (sym (map_map back before prepared) ∙ (kept ∙ map_map back before at_first)) done

@@ -1,4 +1,4 @@
--- The parts of the numbers so far have committed, and the others are as they were.
+-- The query states of the numbers so far have committed, and the others are as they were.
 use Rattle.std.proofs.Common.{◌≡◌, refl, sym, ap, subst, ◌∙◌, ℕ, zero, suc, ◌+◌, ◌-◌, ◌<◌, ◌≤◌, inl, inr, Bool, true, false, ◌||◌, eqb, List, [], ◌∷◌, length, map, take, Option, Some, None, slice_get, slice_index_or, slice_set, arith}
 use Rattle.std.specs.Prelude.{option_map}
 use Rattle.std.specs.List.{AllZip}
@@ -7,7 +7,7 @@ use Rattle.std.proofs.lemmas.Option.{slice_get_within, slice_get-get_or, slice_g
 use Rattle.std.proofs.lemmas.List.{get_or-take}
 use Rattle.stream_schema.specs.declared.Event.{Event}
 use Rattle.query_standing.specs.Kept.{roots_at}
-use Rattle.all_or_none.specs.Phases.{Phase, HasPassed, IsPrepared, IsTaken, is_among, AreRising, AreSet, MayAnswer}
+use Rattle.all_or_none.specs.Phases.{Phase, IsNoOpFor, IsPrepared, IsTaken, is_among, AreRising, AreSet, MayAnswer}
 use Rattle.all_or_none.proofs.Numbers.{read_other, read_there, as_long, among_next, among_at, found_at}
 
 pub record HasCommitted {P : Type 0} (before after : P → Phase) (event : Event) (position : ℕ) (numbers : List ℕ) (old new : List P) : Type 0 where
@@ -39,7 +39,7 @@ not_before numbers i rising inside = by (is_among (take i numbers) (slice_index_
         let r = rising f.0 i less inside in
         absurd (omega arith)
 
--- The part of the number that comes next.
+-- The query state of the number that comes next.
 module _ {P : Type 0} (before after : P → Phase) (event : Event) (position : ℕ) (numbers : List ℕ) (i n : ℕ) (old cur : List P) (inside : i < length numbers) (here : n ≡ slice_index_or numbers i 0) (set : AreSet before after event position (length old) numbers old) (h : HasCommitted before after event position (take i numbers) old cur) where
   pub is_listed : is_among numbers n ≡ true
   is_listed = subst (λ m. is_among numbers m ≡ true) (sym here) (among_at numbers i inside)
@@ -104,14 +104,14 @@ length_mapped f (x ∷ xs) = let rest = length_mapped f xs in omega arith
 
 -- all numbers have come
 module _ {P : Type 0} (before after : P → Phase) (event : Event) (position : ℕ) (numbers : List ℕ) (old new : List P) (set : AreSet before after event position (length old) numbers old) (h : HasCommitted before after event position numbers old new) where
-  passed_there : (k : ℕ) (w : P) → slice_get new k ≡ Some w → is_among numbers (k + 1) ≡ false → HasPassed event position (before w) (after w)
-  passed_there k w at among = let was = sym (h.left k among) ∙ at in set.others k w (slice_get_within old k w was) was among
+  no_op_there : (k : ℕ) (w : P) → slice_get new k ≡ Some w → is_among numbers (k + 1) ≡ false → IsNoOpFor event position (before w) (after w)
+  no_op_there k w at among = let was = sym (h.left k among) ∙ at in set.others k w (slice_get_within old k w was) was among
 
   taken_there : (k : ℕ) (o w : P) → slice_get old k ≡ Some o → slice_get new k ≡ Some w → (b : Bool) → is_among numbers (k + 1) ≡ b → IsTaken event position (before o) (after w)
   taken_there k o w old_at new_at true among = h.done k o w old_at new_at among
   taken_there k o w old_at new_at false among =
       let same : w ≡ o = (let both = sym new_at ∙ (h.left k among ∙ old_at) in cc) in
-      inr (subst (λ z. HasPassed event position (before z) (after w)) same (passed_there k w new_at among))
+      inr (subst (λ z. IsNoOpFor event position (before z) (after w)) same (no_op_there k w new_at among))
 
   pub committed_all : AllZip (IsTaken event position) (map before old) (map after new)
   committed_all = zip_each (IsTaken event position) before after old new h.count (λ k o w old_at new_at. taken_there k o w old_at new_at (is_among numbers (k + 1)) refl)
@@ -126,6 +126,6 @@ module _ {P : Type 0} (before after : P → Phase) (event : Event) (position : �
     within = λ n among. (let w = set.within n among in let high = w.1 in let long = length_mapped after new in let same = h.count in (w.0, omega arith));
     others = λ k p at among. (
         let m = mapped_at k p (slice_get new k) refl (sym (slice_get-map after new k) ∙ at) in
-        subst (λ z. roots_at z.query z.kept ≡ []) m.2 (passed_there k m.0 m.1 among).quiet
+        subst (λ z. roots_at z.query z.kept ≡ []) m.2 (no_op_there k m.0 m.1 among).quiet
         );
   }

@@ -1,4 +1,4 @@
--- A walk over the marked parts: between two of them each part rests, and the event passes it by.
+-- A walk over the marked query states: between two of them each query state is dormant, and the event is a no-op for it.
 use Rattle.std.proofs.Common.{◌≡◌, refl, sym, ap, subst, ◌∙◌, ℕ, zero, suc, ◌+◌, ◌-◌, ◌<◌, ◌≤◌, ◌⊎◌, inl, inr, Bool, true, false, ◌||◌, eqb, List, [], ◌∷◌, ◌++◌, length, map, take, take_all, drop, All, Some, None, slice_get, slice_index_or, slice_set, arith}
 use Rattle.std.specs.Prelude.{sum_by}
 use Rattle.std.specs.List.{AllZip}
@@ -8,7 +8,7 @@ use Rattle.std.proofs.lemmas.List.Elements.{All-nil, All-cons, All-head, All-tai
 use Rattle.std.proofs.lemmas.List.Sums.{sum_by-cons}
 use Rattle.stream_schema.specs.declared.Event.{Event}
 use Rattle.cer_base.specs.Bits.{has}
-use Rattle.all_or_none.specs.Phases.{Phase, IsIdle, CanPrepare, HasPassed, IsNoted, back, is_among, AreSet, IsTaken, Rests, AreLeft, IsUnread, AreUnread, AreUntouched, IsUnchanged, AreUnchanged, AreOfMarked, AreBack}
+use Rattle.all_or_none.specs.Phases.{Phase, IsIdle, CanPrepare, IsNoOpFor, IsNoted, back, is_among, AreSet, IsTaken, IsDormant, AreLeft, IsUnread, AreUnread, AreUntouched, IsUnchanged, AreUnchanged, AreOfMarked, AreBack}
 use Rattle.all_or_none.proofs.LoopTurn.{same_next, left_next, all_mapped}
 use Rattle.all_or_none.proofs.BothPhases.{map_map}
 use Rattle.all_or_none.proofs.Numbers.{read_other, read_there, as_long, among_push, set_none, set_next}
@@ -51,26 +51,26 @@ sum_more f (x ∷ xs) (suc k) (suc j) le =
     let r = sum_more f xs k j (omega arith) in
     omega arith
 
--- where a marked part changes, the others are as they were
+-- where a marked query state changes, the others are as they were
 pub untouched_next : {P : Type 0} (marked : List Bool) (old cur : List P) (k : ℕ) (v : P) → AreUntouched marked old cur → has marked k ≡ true → AreUntouched marked old (slice_set cur k v)
 untouched_next marked old cur k v others is j unmarked = read_other cur k j v (λ same. false≢true (sym unmarked ∙ (ap (has marked) same ∙ is))) ∙ others j unmarked
 
--- What is asked of the parts before the event.
-pub record CanTake {P : Type 0} (phase : ℕ → P → Phase) (event : Event) (position : ℕ) (marked : List Bool) (parts : List P) : Type 0 where
-  pub idle : All (λ p. IsIdle (phase position p)) parts
-  pub can : All (λ p. CanPrepare event position (phase position p)) parts
-  pub left : AreLeft phase position marked parts
-  pub unread : AreUnread (phase position) event marked parts
+-- What is asked of the query states before the event.
+pub record CanTake {P : Type 0} (phase : ℕ → P → Phase) (event : Event) (position : ℕ) (marked : List Bool) (query_states : List P) : Type 0 where
+  pub idle : All (λ p. IsIdle (phase position p)) query_states
+  pub can : All (λ p. CanPrepare event position (phase position p)) query_states
+  pub left : AreLeft phase position marked query_states
+  pub unread : AreUnread (phase position) event marked query_states
 
-pub passed_there : {P : Type 0} (phase : ℕ → P → Phase) (event : Event) (position : ℕ) (marked : List Bool) (parts : List P) → CanTake phase event position marked parts → (k : ℕ) (p : P) → slice_get parts k ≡ Some p → has marked k ≡ false → HasPassed event position (phase position p) (phase (position + 1) p)
-passed_there phase event position marked parts h k p at unmarked =
+pub no_op_there : {P : Type 0} (phase : ℕ → P → Phase) (event : Event) (position : ℕ) (marked : List Bool) (query_states : List P) → CanTake phase event position marked query_states → (k : ℕ) (p : P) → slice_get query_states k ≡ Some p → has marked k ≡ false → IsNoOpFor event position (phase position p) (phase (position + 1) p)
+no_op_there phase event position marked query_states h k p at unmarked =
     (h.left.others k p at unmarked).passes event position
-    (all_get (λ x. (phase position x).upto ≤ position) parts k p h.left.known at)
-    (all_get (λ x. IsIdle (phase position x)) parts k p h.idle at)
-    (all_get (λ x. CanPrepare event position (phase position x)) parts k p h.can at)
+    (all_get (λ x. (phase position x).upto ≤ position) query_states k p h.left.known at)
+    (all_get (λ x. IsIdle (phase position x)) query_states k p h.idle at)
+    (all_get (λ x. CanPrepare event position (phase position x)) query_states k p h.can at)
     (h.unread k p at unmarked)
 
--- The first so many parts were gone over: the marked ones are prepared or the event passes them by, and the others are as they were.
+-- The first so many query states were gone over: the marked ones are prepared or the event is a no-op for them, and the others are as they were.
 pub record HaveGone {P : Type 0} (phase : ℕ → P → Phase) (event : Event) (position : ℕ) (marked : List Bool) (k : ℕ) (numbers : List ℕ) (old cur : List P) : Type 0 where
   pub count : length cur ≡ length old
   pub kept : map (λ p. back (phase position p)) (take k cur) ≡ map (λ p. back (phase position p)) (take k old)
@@ -79,7 +79,7 @@ pub record HaveGone {P : Type 0} (phase : ℕ → P → Phase) (event : Event) (
   pub listed : AreOfMarked marked numbers
   pub others : AreUntouched marked old cur
 
--- All parts were gone over.
+-- All query states were gone over.
 pub record HasGone {P : Type 0} (phase : ℕ → P → Phase) (event : Event) (position : ℕ) (marked : List Bool) (numbers : List ℕ) (old cur : List P) : Type 0 where
   pub kept : map (λ p. back (phase position p)) cur ≡ map (λ p. back (phase position p)) old
   pub set : AreSet (phase position) (phase (position + 1)) event position (length cur) numbers cur
@@ -95,20 +95,20 @@ gone_none phase event position marked numbers xs none = record {
 }
 
 module _ {P : Type 0} (phase : ℕ → P → Phase) (event : Event) (position : ℕ) (marked : List Bool) (old : List P) (asked : CanTake phase event position marked old) where
-  -- one that is not marked is passed by
+  -- for one that is not marked it is a no-op
   skip_one : (k : ℕ) (numbers : List ℕ) (cur : List P) → HaveGone phase event position marked k numbers old cur → k < length old → has marked k ≡ false → HaveGone phase event position marked (k + 1) numbers old cur
   skip_one k numbers cur h less unmarked =
       let inside : k < length cur = (let e = h.count in omega arith) in
       let x = there cur k inside in
       let same = set_same cur k x.0 x.1 in
       let here : slice_index_or cur k x.0 ≡ x.0 = (let both = sym (slice_get-get_or cur k x.0 inside) ∙ x.1 in cc) in
-      let passed = passed_there phase event position marked old asked k x.0 (sym (h.others k unmarked) ∙ x.1) unmarked in
+      let no_op = no_op_there phase event position marked old asked k x.0 (sym (h.others k unmarked) ∙ x.1) unmarked in
       record {
         count = h.count;
         kept = subst (λ zs. map (λ p. back (phase position p)) (take (k + 1) zs) ≡ map (λ p. back (phase position p)) (take (k + 1) old)) same
             (same_next (λ p. back (phase position p)) (λ p. back (phase position p)) cur old k x.0 x.0 inside h.count h.left h.kept (ap (λ p. back (phase position p)) (sym here)));
         set = subst (λ zs. AreSet (phase position) (phase (position + 1)) event position (k + 1) numbers zs) same
-            (set_next (phase position) (phase (position + 1)) event position k numbers cur x.0 h.set numbers (inr (passed, refl)));
+            (set_next (phase position) (phase (position + 1)) event position k numbers cur x.0 h.set numbers (inr (no_op, refl)));
         left = subst (λ zs. drop (k + 1) zs ≡ drop (k + 1) old) same (left_next cur old k x.0 inside h.count h.left);
         listed = h.listed;
         others = h.others;
@@ -119,7 +119,7 @@ module _ {P : Type 0} (phase : ℕ → P → Phase) (event : Event) (position : 
   skip (suc n) k j numbers cur is le h none =
       skip n (k + 1) j numbers cur (omega arith) le (skip_one k numbers cur h (omega arith) (none k (omega arith) (omega arith))) (λ i above below. none i (omega arith) below)
 
-  -- Those up to a marked one are passed by.
+  -- For those up to a marked one it is a no-op.
   pub skip_to : (k j : ℕ) (numbers : List ℕ) (cur : List P) → k ≤ j → j ≤ length old → HaveGone phase event position marked k numbers old cur → ((i : ℕ) → k ≤ i → i < j → has marked i ≡ false) → HaveGone phase event position marked j numbers old cur
   skip_to k j numbers cur low le h none = skip (j - k) k j numbers cur (omega arith) le h none
 
@@ -134,7 +134,7 @@ module _ {P : Type 0} (phase : ℕ → P → Phase) (event : Event) (position : 
         set = subst (λ n. AreSet (phase position) (phase (position + 1)) event position n numbers cur) (sym h.count) all.set;
       }
 
-  -- A marked one is prepared and noted, or the event passes it by.
+  -- A marked one is prepared and noted, or the event is a no-op for it.
   pub next_one : (k : ℕ) (numbers more : List ℕ) (cur : List P) (v d : P) → HaveGone phase event position marked k numbers old cur → k < length cur → has marked k ≡ true → back (phase position v) ≡ back (phase position (slice_index_or cur k d)) → IsNoted event position (k + 1) (phase position v) (phase (position + 1) v) numbers more → HaveGone phase event position marked (k + 1) more old (slice_set cur k v)
   next_one k numbers more cur v d h inside is_marked same noted = record {
     count = as_long cur k v ∙ h.count;
@@ -153,9 +153,9 @@ module _ {P : Type 0} (phase : ℕ → P → Phase) (event : Event) (position : 
 
       listed_more : (ns : List ℕ) → IsNoted event position (k + 1) (phase position v) (phase (position + 1) v) numbers ns → AreOfMarked marked ns
       listed_more ns (inl done) = subst (AreOfMarked marked) (sym done.1) pushed
-      listed_more ns (inr passed) = subst (AreOfMarked marked) (sym passed.1) h.listed
+      listed_more ns (inr no_op) = subst (AreOfMarked marked) (sym no_op.1) h.listed
 
--- The marked ones among the first so many parts are taken back, and the others are as they were.
+-- The marked ones among the first so many query states are taken back, and the others are as they were.
 pub record AreBackUpTo {P : Type 0} (k : ℕ) (phase : ℕ → P → Phase) (marked : List Bool) (old cur : List P) : Type 0 where
   pub count : length cur ≡ length old
   pub others : AreUntouched marked old cur
@@ -206,36 +206,36 @@ module _ {P : Type 0} (k : ℕ) (phase : ℕ → P → Phase) (marked : List Boo
     ];
   }
 
--- a part that is what it was rests as it did
-rests_as : {P : Type 0} (phase : ℕ → P → Phase) (old new : P) → IsUnchanged phase old new → Rests (λ n. phase n old) → Rests (λ n. phase n new)
-rests_as phase old new same h = record {
-  passes = λ event position. subst (λ a. a.upto ≤ position → IsIdle a → CanPrepare event position a → IsUnread event a → HasPassed event position a (phase (position + 1) new)) (sym (same position))
-      (subst (λ b. (phase position old).upto ≤ position → IsIdle (phase position old) → CanPrepare event position (phase position old) → IsUnread event (phase position old) → HasPassed event position (phase position old) b) (sym (same (position + 1))) (h.passes event position));
+-- a query state that is what it was is dormant as it was
+is_dormant_as : {P : Type 0} (phase : ℕ → P → Phase) (old new : P) → IsUnchanged phase old new → IsDormant (λ n. phase n old) → IsDormant (λ n. phase n new)
+is_dormant_as phase old new same h = record {
+  passes = λ event position. subst (λ a. a.upto ≤ position → IsIdle a → CanPrepare event position a → IsUnread event a → IsNoOpFor event position a (phase (position + 1) new)) (sym (same position))
+      (subst (λ b. (phase position old).upto ≤ position → IsIdle (phase position old) → CanPrepare event position (phase position old) → IsUnread event (phase position old) → IsNoOpFor event position (phase position old) b) (sym (same (position + 1))) (h.passes event position));
 }
 
--- each part that is not among more numbers rests where it is not among fewer
-pub left_more : {P : Type 0} (phase : ℕ → P → Phase) (count : ℕ) (awake marked : List Bool) (parts : List P) → ((k : ℕ) → has awake k ≡ true → has marked k ≡ true) → AreLeft phase count awake parts → AreLeft phase count marked parts
-left_more phase count awake marked parts among left = record { known = left.known; others = λ k p at out. left.others k p at (by k out (has awake k) refl) }
+-- each query state that is not among more numbers is dormant where it is not among fewer
+pub left_more : {P : Type 0} (phase : ℕ → P → Phase) (count : ℕ) (active_queries marked : List Bool) (query_states : List P) → ((k : ℕ) → has active_queries k ≡ true → has marked k ≡ true) → AreLeft phase count active_queries query_states → AreLeft phase count marked query_states
+left_more phase count active_queries marked query_states among left = record { known = left.known; others = λ k p at out. left.others k p at (by k out (has active_queries k) refl) }
   where
-    by : (k : ℕ) → has marked k ≡ false → (b : Bool) → has awake k ≡ b → has awake k ≡ false
+    by : (k : ℕ) → has marked k ≡ false → (b : Bool) → has active_queries k ≡ b → has active_queries k ≡ false
     by k out false e = e
     by k out true e = absurd (false≢true (sym out ∙ among k e))
 
--- After the event each part that is not among those awake rests: of the numbers' parts that was looked at, and the others are as they were.
-pub left_after : {P : Type 0} (phase : ℕ → P → Phase) (count : ℕ) (before awake : List Bool) (numbers : List ℕ) (old prepared new : List P) → length prepared ≡ length old → All (λ p. (phase (count + 1) p).upto ≤ count + 1) new → AreLeft phase count before old → AreUnchanged phase numbers old prepared → ((k : ℕ) → is_among numbers (k + 1) ≡ false → slice_get new k ≡ slice_get prepared k) → ((k : ℕ) (p : P) → slice_get new k ≡ Some p → is_among numbers (k + 1) ≡ true → has awake k ≡ false → Rests (λ n. phase n p)) → ((k : ℕ) → is_among numbers (k + 1) ≡ false → has awake k ≡ has before k) → AreLeft phase (count + 1) awake new
-left_after phase count before awake numbers old prepared new long known left unchanged others rest stay = record { known = known; others = λ k p at out. by k p at out (is_among numbers (k + 1)) refl }
+-- After the event each query state that is not among those that are active is dormant: of the numbers' query states that was looked at, and the others are as they were.
+pub left_after : {P : Type 0} (phase : ℕ → P → Phase) (count : ℕ) (before active_queries : List Bool) (numbers : List ℕ) (old prepared new : List P) → length prepared ≡ length old → All (λ p. (phase (count + 1) p).upto ≤ count + 1) new → AreLeft phase count before old → AreUnchanged phase numbers old prepared → ((k : ℕ) → is_among numbers (k + 1) ≡ false → slice_get new k ≡ slice_get prepared k) → ((k : ℕ) (p : P) → slice_get new k ≡ Some p → is_among numbers (k + 1) ≡ true → has active_queries k ≡ false → IsDormant (λ n. phase n p)) → ((k : ℕ) → is_among numbers (k + 1) ≡ false → has active_queries k ≡ has before k) → AreLeft phase (count + 1) active_queries new
+left_after phase count before active_queries numbers old prepared new long known left unchanged others rest stay = record { known = known; others = λ k p at out. by k p at out (is_among numbers (k + 1)) refl }
   where
-    by : (k : ℕ) (p : _) → slice_get new k ≡ Some p → has awake k ≡ false → (b : Bool) → is_among numbers (k + 1) ≡ b → Rests (λ n. phase n p)
+    by : (k : ℕ) (p : _) → slice_get new k ≡ Some p → has active_queries k ≡ false → (b : Bool) → is_among numbers (k + 1) ≡ b → IsDormant (λ n. phase n p)
     by k p at out true among = rest k p at among out
     by k p at out false among =
         let is = sym (others k among) ∙ at in
         let less = get_within prepared k p is in
         let was = there old k (omega arith) in
-        rests_as phase was.0 p (unchanged k was.0 p was.1 is among) (left.others k was.0 was.1 (sym (stay k among) ∙ out))
+        is_dormant_as phase was.0 p (unchanged k was.0 p was.1 is among) (left.others k was.0 was.1 (sym (stay k among) ∙ out))
 
--- and after a refusal, where the marked ones stay awake
-pub left_again : {P : Type 0} (phase : ℕ → P → Phase) (count : ℕ) (marked before awake : List Bool) (old new : List P) → map (phase count) new ≡ map (phase count) old → AreUntouched marked old new → AreLeft phase count before old → ((k : ℕ) → has awake k ≡ (has before k || has marked k)) → AreLeft phase count awake new
-left_again phase count marked before awake old new unchanged same left members = record {
+-- and after a refusal, where the marked ones stay active
+pub left_again : {P : Type 0} (phase : ℕ → P → Phase) (count : ℕ) (marked before active_queries : List Bool) (old new : List P) → map (phase count) new ≡ map (phase count) old → AreUntouched marked old new → AreLeft phase count before old → ((k : ℕ) → has active_queries k ≡ (has before k || has marked k)) → AreLeft phase count active_queries new
+left_again phase count marked before active_queries old new unchanged same left members = record {
   known = all_mapped (λ (p : Phase). p.upto ≤ count) (phase count) new (subst (All (λ (p : Phase). p.upto ≤ count)) (sym unchanged) (All-map (λ (p : Phase). p.upto ≤ count) (phase count) old left.known));
   others = λ k p at out. (let neither = both (has before k) (has marked k) (sym (members k) ∙ out) in left.others k p (sym (same k neither.1) ∙ at) neither.0);
 }
@@ -246,7 +246,7 @@ left_again phase count marked before awake old new unchanged same left members =
 
 taken_upto : (event : Event) (position : ℕ) (o n : Phase) → IsTaken event position o n → o.upto ≤ position → n.upto ≤ position + 1
 taken_upto event position o n (inl done) le = let e = done.1.upto in omega arith
-taken_upto event position o n (inr passed) le = let e = passed.upto in omega arith
+taken_upto event position o n (inr no_op) le = let e = no_op.upto in omega arith
 
 taken_all : (event : Event) (position : ℕ) (old new : List Phase) → AllZip (IsTaken event position) old new → All (λ (p : Phase). p.upto ≤ position) old → All (λ (p : Phase). p.upto ≤ position + 1) new
 taken_all event position [] [] z h = All-nil (λ (p : Phase). p.upto ≤ position + 1)
@@ -265,14 +265,14 @@ back_upto count (o ∷ os) (n ∷ ns) e h =
     let le : o.upto ≤ count = All-head (λ (p : Phase). p.upto ≤ count) o os h in
     All-cons (λ (p : Phase). p.upto ≤ count) n ns (omega arith) (back_upto count os ns rest (All-tail (λ (p : Phase). p.upto ≤ count) o os h))
 
--- after the event each part's last one is among them
+-- after the event each query state's last one is among them
 pub known_after : {P : Type 0} (phase : ℕ → P → Phase) (event : Event) (position : ℕ) (at_first prepared new : List P) → map (λ p. back (phase position p)) prepared ≡ map (λ p. back (phase position p)) at_first → AllZip (IsTaken event position) (map (phase position) prepared) (map (phase (position + 1)) new) → All (λ p. (phase position p).upto ≤ position) at_first → All (λ p. (phase (position + 1) p).upto ≤ position + 1) new
 known_after phase event position at_first prepared new kept taken known =
     all_mapped (λ (p : Phase). p.upto ≤ position + 1) (phase (position + 1)) new
     (taken_all event position (map (phase position) prepared) (map (phase (position + 1)) new) taken
     (back_upto position (map (phase position) at_first) (map (phase position) prepared) (sym (map_map back (phase position) prepared) ∙ (kept ∙ map_map back (phase position) at_first)) (All-map (λ (p : Phase). p.upto ≤ position) (phase position) at_first known)))
 
--- after a refusal each part is as it was
+-- after a refusal each query state is as it was
 pub unchanged_after : {P : Type 0} (phase : ℕ → P → Phase) (position : ℕ) (marked : List Bool) (at_first prepared new : List P) → All (λ p. IsIdle (phase position p)) at_first → map (λ p. back (phase position p)) prepared ≡ map (λ p. back (phase position p)) at_first → AreUntouched marked at_first prepared → AreBack phase marked prepared new → map (phase position) new ≡ map (phase position) at_first
 unchanged_after phase position marked at_first prepared new idle kept same taken =
     go at_first prepared new 0 idle kept taken.count
@@ -316,9 +316,9 @@ has_within (b ∷ bs) (suc k) is = let r = has_within bs k is in omega arith
 
 still_among : (event : Event) (position number : ℕ) (before after : Phase) (numbers more : List ℕ) (m : ℕ) → IsNoted event position number before after numbers more → is_among numbers m ≡ true → is_among more m ≡ true
 still_among event position number before after numbers more m (inl noted) was = subst (λ ns. is_among ns m ≡ true) (sym noted.1) (among_push numbers number m ∙ or_left (is_among numbers m) (eqb number m) was)
-still_among event position number before after numbers more m (inr passed) was = subst (λ ns. is_among ns m ≡ true) (sym passed.1) was
+still_among event position number before after numbers more m (inr no_op) was = subst (λ ns. is_among ns m ≡ true) (sym no_op.1) was
 
--- where one part more is prepared, or the event passes it by
+-- where one query state more is prepared, or the event is a no-op for it
 pub unchanged_next : {P : Type 0} (phase : ℕ → P → Phase) (event : Event) (position k : ℕ) (numbers more : List ℕ) (old cur : List P) (v d : P) → IsNoted event position (k + 1) (phase position v) (phase (position + 1) v) numbers more → (more ≡ numbers ++ (k + 1) ∷ []) ⊎ IsUnchanged phase (slice_index_or cur k d) v → k < length cur → drop k cur ≡ drop k old → AreUnchanged phase numbers old cur → AreUnchanged phase more old (slice_set cur k v)
 unchanged_next phase event position k numbers more old cur v d noted left inside ahead h j o n at is out = elim (cases_eq j k) [
   | inl same ↦ here same left
@@ -338,6 +338,6 @@ unchanged_next phase event position k numbers more old cur v d noted left inside
         let first : slice_index_or cur k d ≡ o = at_ahead cur old k d o inside ahead (subst (λ i. slice_get old i ≡ Some o) same at) in
         λ count. ap (phase count) new ∙ (as_was count ∙ ap (phase count) first)
 
--- no part changed yet
+-- no query state changed yet
 pub unchanged_none : {P : Type 0} (phase : ℕ → P → Phase) (numbers : List ℕ) (xs : List P) → AreUnchanged phase numbers xs xs
 unchanged_none phase numbers xs k o n at is out = let same : n ≡ o = (let both = sym is ∙ at in cc) in λ count. ap (phase count) same

@@ -1,11 +1,11 @@
--- The numbers of the parts that are prepared, as they come, and as these parts commit one after the other.
+-- The numbers of the query states that are prepared, as they come, and as these query states commit one after the other.
 use Rattle.std.proofs.Common.{◌≡◌, refl, sym, ap, subst, ◌∙◌, ℕ, zero, suc, ◌+◌, ◌<◌, ◌≤◌, ◌==◌, ◌⊎◌, inl, inr, Bool, true, false, ◌||◌, eqb, List, [], ◌∷◌, ◌++◌, length, take, Some, slice_get, slice_index_or, slice_set, arith}
 use Rattle.std.proofs.lemmas.Bool.{cases_lt, eqb-true, eq-eqb, false≢true, or_cases, or_left, or_right}
 use Rattle.std.proofs.lemmas.List.{get_or_append_left, get_or_push}
 use Rattle.std.proofs.lemmas.List.Folds.{list_any-append, list_any_more}
 use Rattle.stream_schema.specs.declared.Event.{Event}
-use Rattle.query_standing.proofs.Parts.{length_more}
-use Rattle.all_or_none.specs.Phases.{Phase, HasPassed, IsPrepared, IsNoted, is_among, AreRising, AreSet}
+use Rattle.query_standing.proofs.QueryStates.{length_more}
+use Rattle.all_or_none.specs.Phases.{Phase, IsNoOpFor, IsPrepared, IsNoted, is_among, AreRising, AreSet}
 
 -- what is read of a list in which an element was written
 pub read_other : {A : Type 0} (xs : List A) (i j : ℕ) (x : A) → (j ≡ i → ⊥) → slice_get (slice_set xs i x) j ≡ slice_get xs j
@@ -69,16 +69,16 @@ rising_push numbers n rising below i j less within = by (cases_lt j (length numb
         let r = below (slice_index_or numbers i 0) (among_at numbers i first) in
         omega arith
 
--- no part yet
-pub set_none : {P : Type 0} (before after : P → Phase) (event : Event) (position : ℕ) (numbers : List ℕ) (parts : List P) → numbers ≡ [] → AreSet before after event position 0 numbers parts
-set_none before after event position numbers parts none = subst (λ ns. AreSet before after event position 0 ns parts) (sym none) (record {
+-- no query state yet
+pub set_none : {P : Type 0} (before after : P → Phase) (event : Event) (position : ℕ) (numbers : List ℕ) (query_states : List P) → numbers ≡ [] → AreSet before after event position 0 numbers query_states
+set_none before after event position numbers query_states none = subst (λ ns. AreSet before after event position 0 ns query_states) (sym none) (record {
   rising = λ i j less within. absurd (omega arith);
   within = λ n among. absurd (false≢true among);
   named = λ k p less at among. absurd (omega arith);
   others = λ k p less at among. absurd (omega arith);
 })
 
--- The part that comes next is prepared and noted.
+-- The query state that comes next is prepared and noted.
 module _ {P : Type 0} (before after : P → Phase) (event : Event) (position k : ℕ) (numbers : List ℕ) (xs : List P) (v : P) (h : AreSet before after event position k numbers xs) where
   above : (j : ℕ) → j < k → (eqb (k + 1) (j + 1) ≡ true) → ⊥
   above j less e = let same = eqb-true (k + 1) (j + 1) e in omega arith
@@ -119,8 +119,8 @@ module _ {P : Type 0} (before after : P → Phase) (event : Event) (position k :
     ];
   }
 
-  set_passed : HasPassed event position (before v) (after v) → AreSet before after event position (k + 1) numbers (slice_set xs k v)
-  set_passed here = record {
+  set_no_op : IsNoOpFor event position (before v) (after v) → AreSet before after event position (k + 1) numbers (slice_set xs k v)
+  set_no_op here = record {
     rising = h.rising;
     within = λ n among. (let w = h.within n among in let high = w.1 in (w.0, omega arith));
     named = λ j p less at among. elim (cases_lt j k) [
@@ -129,10 +129,10 @@ module _ {P : Type 0} (before after : P → Phase) (event : Event) (position k :
     ];
     others = λ j p less at among. elim (cases_lt j k) [
       | inl low ↦ h.others j p low (sym (read_other xs k j v (λ same. omega arith)) ∙ at) among
-      | inr high ↦ (let same : j ≡ k = omega arith in subst (λ z. HasPassed event position (before z) (after z)) (sym (read_there xs k v p (subst (λ i. slice_get (slice_set xs k v) i ≡ Some p) same at))) here)
+      | inr high ↦ (let same : j ≡ k = omega arith in subst (λ z. IsNoOpFor event position (before z) (after z)) (sym (read_there xs k v p (subst (λ i. slice_get (slice_set xs k v) i ≡ Some p) same at))) here)
     ];
   }
 
   pub set_next : (more : List ℕ) → IsNoted event position (k + 1) (before v) (after v) numbers more → AreSet before after event position (k + 1) more (slice_set xs k v)
   set_next more (inl noted) = subst (λ ns. AreSet before after event position (k + 1) ns (slice_set xs k v)) (sym noted.1) (set_noted noted.0)
-  set_next more (inr passed) = subst (λ ns. AreSet before after event position (k + 1) ns (slice_set xs k v)) (sym passed.1) (set_passed passed.0)
+  set_next more (inr no_op) = subst (λ ns. AreSet before after event position (k + 1) ns (slice_set xs k v)) (sym no_op.1) (set_no_op no_op.0)

@@ -1,12 +1,12 @@
 //! One event over what is kept of several queries: all take it, or none does.
 //!
-//! What is kept of one query is a part, given as a trait: it makes ready what the event changes,
-//! which may run out of memory, and then either puts it in or gives it up, which may not; or it tells
-//! that the event passes it by. A part that an event passes by stays as it was: what it is follows
-//! from how many events there were. Promised: the event is taken by all parts or by none, and what
-//! stood for the events stands for one more; after a refusal each part is exactly as it was; the
-//! steps are bounded by the states that were found, and after a refusal by those that any run meets.
-//! It stands on `query_standing`.
+//! What is kept of one query is a query state, given as a trait: it makes ready what the event
+//! changes, which may run out of memory, and then either puts it in or gives it up, which may not;
+//! or it tells that the event is a no-op for it. A query state for which an event is a no-op stays
+//! as it was: what it is follows from how many events there were. Promised: the event is taken by
+//! all query states or by none, and what stood for the events stands for one more; after a refusal
+//! each query state is exactly as it was; the steps are bounded by the states that were found, and
+//! after a refusal by those that any run meets. It stands on `query_standing`.
 #![tactic(auto)]
 
 ghost use Rattle.std.specs.Prelude.{◌≡◌, ◌≢◌, ℕ, ◌+◌, ◌^◌, ◌<◌, ◌≤◌, ◌⊎◌, true, false, List, [], ◌∷◌, ◌++◌, length, map, sum_by, All, Some, slice_get, IfSome, IfNone, IfOk, OnOk, OnErr};
@@ -14,7 +14,7 @@ ghost use Rattle.std.specs.List.{AllZip};
 ghost use Rattle.cer_base.specs.Bits.{has};
 ghost use Rattle.stream_schema.specs.declared.Event.{Event};
 ghost use Rattle.query_standing.specs.Bounds.{update_bound};
-ghost use Rattle.all_or_none.specs.Phases.{Phase, CanPrepare, IsPrepared, IsCommitted, IsIdle, IsQuiet, back, HasPassed, Rests, AreLeft, AreLeavesRead, AreRead, IsUnread, AreUnread, AreUntouched, IsUnchanged, AreUnchanged, AreOfMarked, AreBack, IsNoted, is_among, AreSet, MayAnswer, IsTaken, IsWithin, StandsAt, InTime, ready_bound, kept_bound, AreBounded, HasGrown};
+ghost use Rattle.all_or_none.specs.Phases.{Phase, CanPrepare, IsPrepared, IsCommitted, IsIdle, HasNoAnswer, back, IsNoOpFor, IsDormant, AreLeft, AreLeavesRead, AreRead, IsUnread, AreUnread, AreUntouched, IsUnchanged, AreUnchanged, AreOfMarked, AreBack, IsNoted, is_among, AreSet, MayAnswer, IsTaken, IsWithin, StandsAt, InTime, ready_bound, kept_bound, AreBounded, HasGrown};
 
 pub mod laws;
 
@@ -25,20 +25,21 @@ use std::sync::ledger::Ledger;
 use stream_schema::Event;
 
 /// What is kept of one query. Between `prepare` and `commit` it is still seen as what it was.
-pub trait Keeps {
-    ghost use Rattle.all_or_none.specs.Phases.{Phase, CanPrepare, Rests, AreLeavesRead, IsUnchanged, IsUnread, ready_bound, IsWithin};
+pub trait Participant {
+    ghost use Rattle.all_or_none.specs.Phases.{Phase, CanPrepare, IsDormant, AreLeavesRead, IsUnchanged, IsUnread, ready_bound, IsWithin};
 
     /// What it is after so many events.
     ghost phase: { ℕ → Self → Phase };
 
-    /// Whether it is known to rest: each later event that no leaf of its query reads passes it by.
-    fn rests(&self) -> bool
-        ensures { result ≡ true → Rests (λ n. phase n self.now) };
+    /// Whether it is known to be dormant: each later event that no leaf of its query reads is a
+    /// no-op for it.
+    fn is_dormant(&self) -> bool
+        ensures { result ≡ true → IsDormant (λ n. phase n self.now) };
 
-    /// Makes ready what the event changes, or tells that the event passes it by: it is then as it
-    /// was, and takes the event by being left so. After `Memory` it is as it was. It is told whether
-    /// a leaf of its query reads the event, and where one does the numbers of those that do; where
-    /// none does, that set says nothing.
+    /// Makes ready what the event changes, or tells that the event is a no-op for it: it is then as
+    /// it was, and takes the event by being left so. After `Memory` it is as it was. It is told
+    /// whether a leaf of its query reads the event, and where one does the numbers of those that
+    /// do; where none does, that set says nothing.
     fn prepare<L: Ledger>(
         &mut self,
         event: &Event,
@@ -53,7 +54,7 @@ pub trait Keeps {
             (phase position self.old) }
         requires unread { reads ≡ false → IsUnread event.now (phase position self.old) }
         ensures kept { back (phase position self.new) ≡ back (phase position self.old) }
-        ensures passed { IfOk result (λ by. by ≡ true → HasPassed event.now position
+        ensures no_op { IfOk result (λ by. by ≡ true → IsNoOpFor event.now position
             (phase position self.new) (phase (position + 1) self.new)) }
         ensures left { IfOk result (λ by. by ≡ true → IsUnchanged phase self.old self.new) }
         ensures ready { IfOk result (λ by. by ≡ false → IsPrepared event.now position
@@ -76,10 +77,10 @@ pub trait Keeps {
         ensures { (count : ℕ) → phase count self.new ≡ back (phase count self.old) };
 }
 
-/// The part prepares. Its number is put in last where the event does not pass it by, and where it
-/// does the part is left as it was.
-fn prepare_one<P: Keeps, L: Ledger>(
-    part: &mut P,
+/// The query state prepares. Its number is put in last where the event is not a no-op for it, and
+/// where it does the query state is left as it was.
+fn prepare_one<P: Participant, L: Ledger>(
+    query_state: &mut P,
     number: u64,
     touched: &mut Vec<u64>,
     event: &Event,
@@ -88,23 +89,25 @@ fn prepare_one<P: Keeps, L: Ledger>(
     leaves: &Bits,
     steps: &mut Steps<L>,
 ) -> Result<(), Memory>
-    requires idle { IsIdle (P.phase position part.old) }
-    requires can { CanPrepare event.now position (P.phase position part.old) }
+    requires idle { IsIdle (P.phase position query_state.old) }
+    requires can { CanPrepare event.now position (P.phase position query_state.old) }
     requires read { reads ≡ true → AreLeavesRead event.now leaves.now
-        (P.phase position part.old) }
-    requires unread { reads ≡ false → IsUnread event.now (P.phase position part.old) }
-    ensures kept { back (P.phase position part.new) ≡ back (P.phase position part.old) }
-    ensures noted { OnOk result (IsNoted event.now position number (P.phase position part.new)
-        (P.phase (position + 1) part.new) touched.old.items touched.new.items) }
+        (P.phase position query_state.old) }
+    requires unread { reads ≡ false → IsUnread event.now (P.phase position query_state.old) }
+    ensures kept { back (P.phase position query_state.new)
+        ≡ back (P.phase position query_state.old) }
+    ensures noted { OnOk result
+        (IsNoted event.now position number (P.phase position query_state.new)
+        (P.phase (position + 1) query_state.new) touched.old.items touched.new.items) }
     ensures left { OnOk result ((touched.new.items ≡ touched.old.items ++ number ∷ [])
-        ⊎ IsUnchanged P.phase part.old part.new) }
+        ⊎ IsUnchanged P.phase query_state.old query_state.new) }
     ensures steps { OnOk result (steps.new
-        ≤ steps.old + ready_bound (P.phase position part.new)) }
-    ensures within { IsWithin event.now position (P.phase position part.old)
+        ≤ steps.old + ready_bound (P.phase position query_state.new)) }
+    ensures within { IsWithin event.now position (P.phase position query_state.old)
         steps.old steps.new }
 {
-    let passed = part.prepare(event, position, reads, leaves, steps)?;
-    if !passed {
+    let no_op = query_state.prepare(event, position, reads, leaves, steps)?;
+    if !no_op {
         touched.push(number)?;
     }
     Ok(())
@@ -123,12 +126,13 @@ fn find(marked: &Bits, from: usize, end: usize) -> Option<usize>
     }
 }
 
-/// Each marked part prepares that the event does not pass by, up to the first that cannot. The others
-/// rest, and no leaf of theirs reads the event. A leaf of a part reads it exactly where the part is
-/// among those read, and which do its set in `leaves` tells then. The numbers of the prepared ones,
-/// from 1, are left in `touched`, and each other part is as it was.
-fn prepare_all<P: Keeps, L: Ledger>(
-    parts: &mut [P],
+/// Each marked query state prepares for which the event is not a no-op, up to the first that
+/// cannot. The others are dormant, and no leaf of theirs reads the event. A leaf of a query state
+/// reads it exactly where the query state is among those read, and which do its set in `leaves`
+/// tells then. The numbers of the prepared ones, from 1, are left in `touched`, and each other
+/// query state is as it was.
+fn prepare_all<P: Participant, L: Ledger>(
+    query_states: &mut [P],
     marked: &Bits,
     read: &Bits,
     leaves: &[Bits],
@@ -137,32 +141,33 @@ fn prepare_all<P: Keeps, L: Ledger>(
     position: Pos,
     steps: &mut Steps<L>,
 ) -> Result<(), Memory>
-    requires idle { All (λ p. IsIdle (P.phase position p)) parts.old }
-    requires can { All (λ p. CanPrepare event.now position (P.phase position p)) parts.old }
-    requires left { AreLeft P.phase position marked.now parts.old }
-    requires unread { AreUnread (P.phase position) event.now marked.now parts.old }
-    requires reading { AreRead (P.phase position) event.now read.now leaves.now parts.old }
-    requires told { AreUnread (P.phase position) event.now read.now parts.old }
-    requires leaves { length leaves.now ≡ length parts.old }
-    ensures kept { map (λ p. back (P.phase position p)) parts.new
-        ≡ map (λ p. back (P.phase position p)) parts.old }
+    requires idle { All (λ p. IsIdle (P.phase position p)) query_states.old }
+    requires can { All (λ p. CanPrepare event.now position (P.phase position p)) query_states.old }
+    requires left { AreLeft P.phase position marked.now query_states.old }
+    requires unread { AreUnread (P.phase position) event.now marked.now query_states.old }
+    requires reading { AreRead (P.phase position) event.now read.now leaves.now query_states.old }
+    requires told { AreUnread (P.phase position) event.now read.now query_states.old }
+    requires leaves { length leaves.now ≡ length query_states.old }
+    ensures kept { map (λ p. back (P.phase position p)) query_states.new
+        ≡ map (λ p. back (P.phase position p)) query_states.old }
     ensures set { OnOk result (AreSet (P.phase position) (P.phase (position + 1)) event.now
-        position (length parts.new) touched.new.items parts.new) }
+        position (length query_states.new) touched.new.items query_states.new) }
     ensures marked { OnOk result (AreOfMarked marked.now touched.new.items) }
-    ensures left { OnOk result (AreUnchanged P.phase touched.new.items parts.old parts.new) }
-    ensures others { AreUntouched marked.now parts.old parts.new }
+    ensures left { OnOk result
+        (AreUnchanged P.phase touched.new.items query_states.old query_states.new) }
+    ensures others { AreUntouched marked.now query_states.old query_states.new }
     ensures steps { OnOk result (steps.new
-        ≤ steps.old + sum_by (λ p. ready_bound (P.phase position p)) parts.new) }
+        ≤ steps.old + sum_by (λ p. ready_bound (P.phase position p)) query_states.new) }
     ensures within { (events : List Event) (most : List ℕ) → length events ≡ position
-        → AreBounded events event.now (map (P.phase position) parts.old) most → steps.new
+        → AreBounded events event.now (map (P.phase position) query_states.old) most → steps.new
         ≤ steps.old + sum_by update_bound most }
 {
     touched.clear();
     let mut from: usize = 0;
-    while let Some(k) = find(marked, from, parts.len()) {
+    while let Some(k) = find(marked, from, query_states.len()) {
         let reads = read.contains(k);
         prepare_one(
-            &mut parts[k],
+            &mut query_states[k],
             k as u64 + 1,
             touched,
             event,
@@ -176,127 +181,158 @@ fn prepare_all<P: Keeps, L: Ledger>(
     Ok(())
 }
 
-/// The part commits. Its number, from 0, is in `awake` afterwards exactly where the part is not known
-/// to rest.
-fn commit_one<P: Keeps>(part: &mut P, k: usize, awake: &mut Bits, event: &Event, position: Pos)
+/// The query state commits. Its number, from 0, is in `active_queries` afterwards exactly where the query
+/// state is not known to be dormant.
+fn commit_one<P: Participant>(
+    query_state: &mut P,
+    k: usize,
+    active_queries: &mut Bits,
+    event: &Event,
+    position: Pos,
+)
     requires room { position + 1 < 2 ^ 64 }
-    requires prepared { IsPrepared event.now position (P.phase position part.old) }
-    requires inside { k < length awake.old }
-    ensures taken { IsTaken event.now position (P.phase position part.old)
-        (P.phase (position + 1) part.new) }
-    ensures rest { has awake.new k ≡ false → Rests (λ n. P.phase n part.new) }
-    ensures others { (j : ℕ) → j ≢ k → has awake.new j ≡ has awake.old j }
-    ensures sets { length awake.new ≡ length awake.old }
+    requires prepared { IsPrepared event.now position (P.phase position query_state.old) }
+    requires inside { k < length active_queries.old }
+    ensures taken { IsTaken event.now position (P.phase position query_state.old)
+        (P.phase (position + 1) query_state.new) }
+    ensures rest { has active_queries.new k ≡ false → IsDormant (λ n. P.phase n query_state.new) }
+    ensures others { (j : ℕ) → j ≢ k → has active_queries.new j ≡ has active_queries.old j }
+    ensures sets { length active_queries.new ≡ length active_queries.old }
 {
-    part.commit(event, position);
-    if part.rests() {
-        awake.remove(k);
+    query_state.commit(event, position);
+    if query_state.is_dormant() {
+        active_queries.remove(k);
     } else {
-        awake.insert(k);
+        active_queries.insert(k);
     }
 }
 
-/// The parts of these numbers, which are those that are prepared, commit. Those of them that are not
-/// known to rest are in `awake` afterwards, with the others that were there.
-fn commit_all<P: Keeps>(
-    parts: &mut [P],
+/// The query states of these numbers, which are those that are prepared, commit. Those of them that
+/// are not known to be dormant are in `active_queries` afterwards, with the others that were there.
+fn commit_all<P: Participant>(
+    query_states: &mut [P],
     numbers: &[u64],
-    awake: &mut Bits,
+    active_queries: &mut Bits,
     event: &Event,
     position: Pos,
 )
     requires room { position + 1 < 2 ^ 64 }
     requires set { AreSet (P.phase position) (P.phase (position + 1)) event.now position
-        (length parts.old) numbers.now parts.old }
-    requires inside { (k : ℕ) → is_among numbers.now (k + 1) ≡ true → k < length awake.old }
-    ensures taken { AllZip (IsTaken event.now position) (map (P.phase position) parts.old)
-        (map (P.phase (position + 1)) parts.new) }
-    ensures answering { MayAnswer numbers.now (map (P.phase (position + 1)) parts.new) }
-    ensures others { (k : ℕ) → is_among numbers.now (k + 1) ≡ false → slice_get parts.new k
-        ≡ slice_get parts.old k }
-    ensures rest { (k : ℕ) (p : P) → slice_get parts.new k ≡ Some p → is_among numbers.now (k + 1)
-        ≡ true → has awake.new k ≡ false → Rests (λ n. P.phase n p) }
-    ensures awake { (k : ℕ) → is_among numbers.now (k + 1) ≡ false → has awake.new k
-        ≡ has awake.old k }
-    ensures sets { length awake.new ≡ length awake.old }
+        (length query_states.old) numbers.now query_states.old }
+    requires inside { (k : ℕ) → is_among numbers.now (k + 1) ≡ true
+        → k < length active_queries.old }
+    ensures taken { AllZip (IsTaken event.now position) (map (P.phase position) query_states.old)
+        (map (P.phase (position + 1)) query_states.new) }
+    ensures answering { MayAnswer numbers.now (map (P.phase (position + 1)) query_states.new) }
+    ensures others { (k : ℕ) → is_among numbers.now (k + 1) ≡ false → slice_get query_states.new k
+        ≡ slice_get query_states.old k }
+    ensures rest { (k : ℕ) (p : P) → slice_get query_states.new k ≡ Some p
+        → is_among numbers.now (k + 1)
+        ≡ true → has active_queries.new k ≡ false → IsDormant (λ n. P.phase n p) }
+    ensures active_queries { (k : ℕ) → is_among numbers.now (k + 1) ≡ false
+        → has active_queries.new k
+        ≡ has active_queries.old k }
+    ensures sets { length active_queries.new ≡ length active_queries.old }
 {
     for number in numbers {
         let k = *number as usize - 1;
-        commit_one(&mut parts[k], k, awake, event, position);
+        commit_one(&mut query_states[k], k, active_queries, event, position);
     }
 }
 
-/// Each marked part is taken back.
-fn take_back_all<P: Keeps>(parts: &mut [P], marked: &Bits)
-    ensures { AreBack P.phase marked.now parts.old parts.new }
+/// Each marked query state is taken back.
+fn take_back_all<P: Participant>(query_states: &mut [P], marked: &Bits)
+    ensures { AreBack P.phase marked.now query_states.old query_states.new }
 {
-    for k in 0..parts.len() {
+    for k in 0..query_states.len() {
         if marked.contains(k) {
-            parts[k].take_back();
+            query_states[k].take_back();
         }
     }
 }
 
-/// All parts take the event as the next one, or none does. After `Memory` each part is as it was.
+/// All query states take the event as the next one, or none does. After `Memory` each query state
+/// is as it was.
 ///
-/// It goes to the marked parts alone, by their numbers from 0. Among them are those in `awake`, which
-/// has each part that is not known to rest. No leaf of the query of another part reads the event. Those
-/// of which a leaf reads it are in `read`, and which leaves of one do its set in `leaves` tells; of the
-/// others that says nothing. In `awake` is then each part that is not known to rest, for the next event,
-/// and after `Memory` each marked one beside those that were there. `touched` has then the numbers, from
-/// 1 and rising, of the parts that the event did not pass by; no other may have an answer. They alone
-/// are asked whether they rest: each other part is as it was. The memory of `touched` is used again.
-pub fn see<P: Keeps, L: Ledger>(
-    parts: &mut [P],
+/// It goes to the marked query states alone, by their numbers from 0. Among them are those in
+/// `active_queries`, which has each query state that is not known to be dormant. No leaf of the query of
+/// another query state reads the event. Those of which a leaf reads it are in `read`, and which
+/// leaves of one do its set in `leaves` tells; of the others that says nothing. In `active_queries` is then
+/// each query state that is not known to be dormant, for the next event, and after `Memory` each
+/// marked one beside those that were there. `touched` has then the numbers, from 1 and rising, of
+/// the query states for which the event was not a no-op; no other may have an answer. They alone
+/// are asked whether they are dormant: each other query state is as it was. The memory of `touched`
+/// is used again.
+pub fn see<P: Participant, L: Ledger>(
+    query_states: &mut [P],
     marked: &Bits,
     read: &Bits,
     leaves: &[Bits],
-    awake: &mut Bits,
+    active_queries: &mut Bits,
     touched: &mut Vec<u64>,
     event: &Event,
     position: Pos,
     steps: &mut Steps<L>,
 ) -> Result<(), Memory>
     requires room { position + 1 < 2 ^ 64 }
-    requires idle { All (λ p. IsIdle (P.phase position p)) parts.old }
-    requires can { All (λ p. CanPrepare event.now position (P.phase position p)) parts.old }
-    requires left { AreLeft P.phase position awake.old parts.old }
-    requires awake { (k : ℕ) → has awake.old k ≡ true → has marked.now k ≡ true }
-    requires unread { AreUnread (P.phase position) event.now marked.now parts.old }
-    requires reading { AreRead (P.phase position) event.now read.now leaves.now parts.old }
-    requires told { AreUnread (P.phase position) event.now read.now parts.old }
-    requires leaves { length leaves.now ≡ length parts.old }
-    requires sets { length awake.old ≡ length marked.now }
+    requires idle { All (λ p. IsIdle (P.phase position p)) query_states.old }
+    requires can { All (λ p. CanPrepare event.now position (P.phase position p)) query_states.old }
+    requires left { AreLeft P.phase position active_queries.old query_states.old }
+    requires active_queries { (k : ℕ) → has active_queries.old k ≡ true → has marked.now k ≡ true }
+    requires unread { AreUnread (P.phase position) event.now marked.now query_states.old }
+    requires reading { AreRead (P.phase position) event.now read.now leaves.now query_states.old }
+    requires told { AreUnread (P.phase position) event.now read.now query_states.old }
+    requires leaves { length leaves.now ≡ length query_states.old }
+    requires sets { length active_queries.old ≡ length marked.now }
     ensures stands { OnOk result ((events : List Event) → length events ≡ position
-        → All (λ p. InTime events event.now (P.phase position p)) parts.old
-        → All (λ p. StandsAt events (P.phase position p)) parts.old
-        → All (λ p. StandsAt (events ++ event.now ∷ []) (P.phase (position + 1) p)) parts.new) }
-    ensures idle { OnOk result (All (λ p. IsIdle (P.phase (position + 1) p)) parts.new) }
+        → All (λ p. InTime events event.now (P.phase position p)) query_states.old
+        → All (λ p. StandsAt events (P.phase position p)) query_states.old
+        → All (λ p. StandsAt (events ++ event.now ∷ [])
+        (P.phase (position + 1) p)) query_states.new) }
+    ensures idle { OnOk result (All (λ p. IsIdle (P.phase (position + 1) p)) query_states.new) }
     ensures quiet { OnOk result (All (λ p.
-        IsQuiet (position + 1) (P.phase (position + 1) p)) parts.new) }
-    ensures grown { OnOk result (AllZip (HasGrown event.now) (map (P.phase position) parts.old)
-        (map (P.phase (position + 1)) parts.new)) }
+        HasNoAnswer (position + 1) (P.phase (position + 1) p)) query_states.new) }
+    ensures grown { OnOk result
+        (AllZip (HasGrown event.now) (map (P.phase position) query_states.old)
+        (map (P.phase (position + 1)) query_states.new)) }
     ensures answering { OnOk result (MayAnswer touched.new.items
-        (map (P.phase (position + 1)) parts.new)) }
-    ensures left { OnOk result (AreLeft P.phase (position + 1) awake.new parts.new) }
-    ensures unchanged { OnErr result (map (P.phase position) parts.new
-        ≡ map (P.phase position) parts.old) }
-    ensures still_left { OnErr result (AreLeft P.phase position awake.new parts.new) }
-    ensures sets { length awake.new ≡ length awake.old }
+        (map (P.phase (position + 1)) query_states.new)) }
+    ensures left { OnOk result
+        (AreLeft P.phase (position + 1) active_queries.new query_states.new) }
+    ensures unchanged { OnErr result (map (P.phase position) query_states.new
+        ≡ map (P.phase position) query_states.old) }
+    ensures still_left { OnErr result
+        (AreLeft P.phase position active_queries.new query_states.new) }
+    ensures sets { length active_queries.new ≡ length active_queries.old }
     ensures steps { OnOk result (steps.new
-        ≤ steps.old + sum_by (λ p. kept_bound (P.phase (position + 1) p)) parts.new) }
+        ≤ steps.old + sum_by (λ p. kept_bound (P.phase (position + 1) p)) query_states.new) }
     ensures within { (events : List Event) (most : List ℕ) → length events ≡ position
-        → AreBounded events event.now (map (P.phase position) parts.old) most → steps.new
+        → AreBounded events event.now (map (P.phase position) query_states.old) most → steps.new
         ≤ steps.old + sum_by update_bound most }
 {
-    match prepare_all(parts, marked, read, leaves, touched, event, position, steps) {
+    match prepare_all(
+        query_states,
+        marked,
+        read,
+        leaves,
+        touched,
+        event,
+        position,
+        steps,
+    ) {
         Ok(()) => {
-            commit_all(parts, touched.as_slice(), awake, event, position);
+            commit_all(
+                query_states,
+                touched.as_slice(),
+                active_queries,
+                event,
+                position,
+            );
             Ok(())
         }
         Err(refused) => {
-            take_back_all(parts, marked);
-            awake.unite(marked);
+            take_back_all(query_states, marked);
+            active_queries.unite(marked);
             Err(refused)
         }
     }

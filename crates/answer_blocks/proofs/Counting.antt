@@ -16,16 +16,16 @@ use Rattle.cel_terms.specs.declared.Query.{Query}
 use Rattle.cel_terms.specs.Answers.{Answer, AreAnswersAt}
 use Rattle.cer_outside.specs.Bytes.{TookAll}
 use Rattle.query_engine.specs.Bounds.{delay, update_bound, for_each_query}
-use Rattle.query_engine.specs.Engine.{State, StandsFor}
+use Rattle.query_engine.specs.Engine.{EngineState, StandsFor}
 use Rattle.query_engine.proofs.Counting.{one_query_more, fewer_queries}
 use Rattle.answer_text.specs.declared.Order.{Order}
 use Rattle.answer_text.specs.declared.Order.TheVariants.{Sorted}
 use Rattle.answer_text.specs.Output.{line, AreInOrder}
-use Rattle.answer_text.specs.Rows.{Row, lines_of, row_at, AreRowsOf, AreRowsAt}
+use Rattle.answer_text.specs.OutputRows.{Row, lines_of, row_at, AreRowsOf, AreRowsAt}
 use Rattle.answer_text.proofs.RowLists.{lines_both, lines_at, rows_of_block, rows_of_blocks, rows_append}
-use Rattle.answer_blocks.specs.Taken.{TookPrefix, TookBy}
+use Rattle.answer_blocks.specs.SinkBytes.{TookPrefix, TookBy}
 use Rattle.answer_blocks.specs.Wanted.{wanted, AreWanted}
-use Rattle.answer_blocks.specs.Counted.{delay_of, delays, row_delays, HasRows, HasRowsAt, StopsAmong, WroteRows}
+use Rattle.answer_blocks.specs.RowSteps.{delay_of, delays, row_delays, HasRows, HasRowsAt, StopsAmong, WroteRows}
 use Rattle.answer_blocks.proofs.Blocks.{wanted_are_there, wanted_once, enough, some_block_is, some_blocks_are}
 use Rattle.answer_blocks.proofs.Sorting.{in_order, in_order_moves, in_order_is}
 use Rattle.answer_blocks.proofs.Joined.{item_at, none_wanted, none_in_order}
@@ -84,7 +84,7 @@ rows_of_wanted order schema number q events end all answers h moved ordered = re
 }
 
 -- The rows of what was pulled.
-pub rows_pulled : (order : Order) (engine : State) (number : ℕ) (given answers : List Answer) (P : List Row → Type 0) →
+pub rows_pulled : (order : Order) (engine : EngineState) (number : ℕ) (given answers : List Answer) (P : List Row → Type 0) →
     AreWanted engine number given → IsPermutation given answers → (HasNoRepeats given → AreInOrder order answers) →
     ((end : ℕ) (events : List Event) → StandsFor engine events → end ≡ length events - 1 → P (map (row_at number end) answers)) → HasRows order engine number P
 rows_pulled order engine number given answers P are moved ordered h = record {
@@ -99,7 +99,7 @@ rows_pulled order engine number given answers P are moved ordered h = record {
 }
 
 -- the same, where the position is known
-pub rows_pulled_at : (order : Order) (engine : State) (number end : ℕ) (given answers : List Answer) (P : List Row → Type 0) →
+pub rows_pulled_at : (order : Order) (engine : EngineState) (number end : ℕ) (given answers : List Answer) (P : List Row → Type 0) →
     AreWanted engine number given → IsPermutation given answers → (HasNoRepeats given → AreInOrder order answers) →
     ((events : List Event) → StandsFor engine events → end ≡ length events - 1) → P (map (row_at number end) answers) → HasRows order engine number P
 rows_pulled_at order engine number end given answers P are moved ordered at_end h =
@@ -107,13 +107,13 @@ rows_pulled_at order engine number end given answers P are moved ordered at_end 
     (λ last events stands is. subst (λ (e : ℕ). P (map (row_at number e) answers)) (at_end events stands ∙ sym is) h)
 
 -- the answers that are wanted, in order, whatever the position
-pub rows_in_order : (engine : State) (number : ℕ) (given : List Answer) (P : List Row → Type 0) → AreWanted engine number given →
+pub rows_in_order : (engine : EngineState) (number : ℕ) (given : List Answer) (P : List Row → Type 0) → AreWanted engine number given →
     ((end : ℕ) → P (map (row_at number end) (in_order given))) → HasRows Sorted engine number P
 rows_in_order engine number given P are h =
     rows_pulled Sorted engine number given (in_order given) P are (in_order_moves given) (in_order_is given) (λ end events stands is. h end)
 
 -- Where there is no answer, there is no row.
-pub no_rows_of : (order : Order) (engine : State) (number : ℕ) (P : List Row → Type 0) →
+pub no_rows_of : (order : Order) (engine : EngineState) (number : ℕ) (P : List Row → Type 0) →
     ((events : List Event) (q : Query) → StandsFor engine events → slice_get engine.queries (number - 1) ≡ Some q → AreAnswersAt engine.schema q events (length events - 1) []) →
     P [] → HasRows order engine number P
 no_rows_of order engine number P none h = record {
@@ -123,7 +123,7 @@ no_rows_of order engine number P none h = record {
 }
 
 -- Some rows are those of the query, whatever it is that is said of any rows.
-pub some_rows : (order : Order) (engine : State) (number : ℕ) (P : List Row → Type 0) → ((rows : List Row) → P rows) → HasRows order engine number P
+pub some_rows : (order : Order) (engine : EngineState) (number : ℕ) (P : List Row → Type 0) → ((rows : List Row) → P rows) → HasRows order engine number P
 some_rows order engine number P every = record {
   rows_are = λ events q stands at.
       let some = some_block_is order engine.schema number q events (length events - 1) in
@@ -132,7 +132,7 @@ some_rows order engine number P every = record {
 }
 
 -- a weaker fact of them
-pub rows_weaker : (order : Order) (engine : State) (number : ℕ) (P Q : List Row → Type 0) → ((rows : List Row) → P rows → Q rows) → HasRows order engine number P → HasRows order engine number Q
+pub rows_weaker : (order : Order) (engine : EngineState) (number : ℕ) (P Q : List Row → Type 0) → ((rows : List Row) → P rows → Q rows) → HasRows order engine number P → HasRows order engine number Q
 rows_weaker order engine number P Q less h = record {
   rows_are = λ events q stands at. let r = h.rows_are events q stands at in (r.0, r.1, less r.0 r.2);
 }
@@ -144,7 +144,7 @@ one_of : (order : Order) (schema : Declared) (number : ℕ) (q : Query) (events 
 one_of order schema number q events end rows h = (rows, [], h, refl, sym (append-nil rows))
 
 -- The rows of a query more,
-pub rows_more : (order : Order) (engine : State) (P Q R : List Row → Type 0) (k : ℕ) → k < length engine.queries →
+pub rows_more : (order : Order) (engine : EngineState) (P Q R : List Row → Type 0) (k : ℕ) → k < length engine.queries →
     HasRowsAt order engine (take k engine.queries) P → HasRows order engine (k + 1) Q →
     ((front back : List Row) → P front → Q back → R (front ++ back)) → HasRowsAt order engine (take (k + 1) engine.queries) R
 rows_more order engine P Q R k within h g join = record {
@@ -167,7 +167,7 @@ rows_more order engine P Q R k within h g join = record {
 }
 
 -- and those of the later queries, where it is the last that was begun.
-pub rows_cut : (order : Order) (engine : State) (P Q R : List Row → Type 0) (k : ℕ) → k < length engine.queries →
+pub rows_cut : (order : Order) (engine : EngineState) (P Q R : List Row → Type 0) (k : ℕ) → k < length engine.queries →
     HasRowsAt order engine (take k engine.queries) P → HasRows order engine (k + 1) Q →
     ((front back rest : List Row) → P front → Q back → R (front ++ (back ++ rest))) → HasRowsAt order engine engine.queries R
 rows_cut order engine P Q R k within h g join = record {
@@ -195,11 +195,11 @@ rows_cut order engine P Q R k within h g join = record {
 }
 
 -- No query has been begun,
-pub no_rows : (order : Order) (engine : State) (P : List Row → Type 0) → P [] → HasRowsAt order engine (take 0 engine.queries) P
+pub no_rows : (order : Order) (engine : EngineState) (P : List Row → Type 0) → P [] → HasRowsAt order engine (take 0 engine.queries) P
 no_rows order engine P h = record { rows_are = λ events stands. ([], refl, h) }
 
 -- or all are done.
-pub all_rows : (order : Order) (engine : State) (P Q : List Row → Type 0) (k : ℕ) → length engine.queries ≤ k → ((rows : List Row) → P rows → Q rows) →
+pub all_rows : (order : Order) (engine : EngineState) (P Q : List Row → Type 0) (k : ℕ) → length engine.queries ≤ k → ((rows : List Row) → P rows → Q rows) →
     HasRowsAt order engine (take k engine.queries) P → HasRowsAt order engine engine.queries Q
 all_rows order engine P Q k past less h =
     let all : HasRowsAt order engine engine.queries P = subst (λ (qs : List Query). HasRowsAt order engine qs P) (take_all k engine.queries past) h in

@@ -10,7 +10,7 @@ use Rattle.stream_schema.specs.declared.Event.{Event}
 use Rattle.cel_terms.specs.declared.Query.{Query}
 use Rattle.cel_terms.specs.Answers.{Answer, AreAnswersAt}
 use Rattle.cer_base.specs.Repeats.{HasNoRepeats}
-use Rattle.query_engine.specs.Engine.{State, StandsFor}
+use Rattle.query_engine.specs.Engine.{EngineState, StandsFor}
 use Rattle.answer_text.specs.declared.Order.{Order}
 use Rattle.answer_text.specs.declared.Order.TheVariants.{Walk, Sorted}
 use Rattle.answer_text.specs.Output.{line, AreInOrder, IsBlock, AreBlocks}
@@ -42,7 +42,7 @@ item_at (x ∷ xs) zero within = (x, refl)
 item_at (x ∷ xs) (suc k) within = item_at xs k (omega arith)
 
 -- A block more,
-pub blocks_more : (order : Order) (engine : State) (P Q R : List ℕ → Type 0) (k : ℕ) → k < length engine.queries →
+pub blocks_more : (order : Order) (engine : EngineState) (P Q R : List ℕ → Type 0) (k : ℕ) → k < length engine.queries →
     HasBlocks order engine (take k engine.queries) P → HasBlock order engine (k + 1) Q →
     ((front back : List ℕ) → P front → Q back → R (front ++ back)) → HasBlocks order engine (take (k + 1) engine.queries) R
 blocks_more order engine P Q R k within h g join = record {
@@ -65,7 +65,7 @@ blocks_more order engine P Q R k within h g join = record {
 }
 
 -- and those of the later queries, where it is the last that was begun.
-pub blocks_cut : (order : Order) (engine : State) (P Q R : List ℕ → Type 0) (k : ℕ) → k < length engine.queries →
+pub blocks_cut : (order : Order) (engine : EngineState) (P Q R : List ℕ → Type 0) (k : ℕ) → k < length engine.queries →
     HasBlocks order engine (take k engine.queries) P → HasBlock order engine (k + 1) Q →
     ((front back rest : List ℕ) → P front → Q back → R (front ++ (back ++ rest))) → HasBlocks order engine engine.queries R
 blocks_cut order engine P Q R k within h g join = record {
@@ -92,16 +92,16 @@ blocks_cut order engine P Q R k within h g join = record {
 }
 
 -- No query has been begun,
-pub no_blocks : (order : Order) (engine : State) (P : List ℕ → Type 0) → P [] → HasBlocks order engine (take 0 engine.queries) P
+pub no_blocks : (order : Order) (engine : EngineState) (P : List ℕ → Type 0) → P [] → HasBlocks order engine (take 0 engine.queries) P
 no_blocks order engine P h = record { blocks = λ events stands. ([], refl, h) }
 
 -- or all are done.
-pub all_blocks : (order : Order) (engine : State) (P : List ℕ → Type 0) (k : ℕ) → length engine.queries ≤ k →
+pub all_blocks : (order : Order) (engine : EngineState) (P : List ℕ → Type 0) (k : ℕ) → length engine.queries ≤ k →
     HasBlocks order engine (take k engine.queries) P → HasBlocks order engine engine.queries P
 all_blocks order engine P k past h = subst (λ (qs : List Query). HasBlocks order engine qs P) (take_all k engine.queries past) h
 
 -- The lines of what was pulled are a block.
-pub block_pulled : (order : Order) (engine : State) (number end : ℕ) (given answers : List Answer) (P : List ℕ → Type 0) →
+pub block_pulled : (order : Order) (engine : EngineState) (number end : ℕ) (given answers : List Answer) (P : List ℕ → Type 0) →
     AreWanted engine number given → IsPermutation given answers → (HasNoRepeats given → AreInOrder order answers) →
     ((events : List Event) → StandsFor engine events → end ≡ length events - 1) → P (flat_map (line number end) answers) → HasBlock order engine number P
 block_pulled order engine number end given answers P are moved ordered at_end h = record {
@@ -126,7 +126,7 @@ none_in_order Walk = tt
 none_in_order Sorted = λ i j a b less p q. absurd (cc)
 
 -- Where there is no answer, no line is the block.
-pub no_block : (order : Order) (engine : State) (number : ℕ) (P : List ℕ → Type 0) →
+pub no_block : (order : Order) (engine : EngineState) (number : ℕ) (P : List ℕ → Type 0) →
     ((events : List Event) (q : Query) → StandsFor engine events → slice_get engine.queries (number - 1) ≡ Some q → AreAnswersAt engine.schema q events (length events - 1) []) →
     P [] → HasBlock order engine number P
 no_block order engine number P none h = record {

@@ -6,12 +6,12 @@ use Rattle.stream_schema.specs.declared.Event.{Event}
 use Rattle.cel_terms.specs.declared.Query.{Query}
 use Rattle.cel_terms.specs.Answers.{AreAnswersAt}
 use Rattle.query_engine.proofs.Named.{among_at, found_at}
-use Rattle.query_engine.specs.Engine.{State, StandsFor}
+use Rattle.query_engine.specs.Engine.{EngineState, StandsFor}
 use Rattle.query_engine.specs.Running.{is_among, AreAnswering}
 use Rattle.answer_text.specs.declared.Order.{Order}
-use Rattle.answer_text.specs.Rows.{Row}
+use Rattle.answer_text.specs.OutputRows.{Row}
 use Rattle.answer_blocks.specs.Blocks.{HasBlocks}
-use Rattle.answer_blocks.specs.Counted.{HasRowsAt}
+use Rattle.answer_blocks.specs.RowSteps.{HasRowsAt}
 use Rattle.answer_blocks.proofs.Joined.{blocks_more, no_block}
 use Rattle.answer_blocks.proofs.Counting.{rows_more, no_rows_of}
 
@@ -20,14 +20,14 @@ abbrev pub done_to : List ℕ → ℕ → ℕ
 done_to numbers i = slice_index_or (0 ∷ numbers) i 0
 
 -- The number at a place: those between it and the one before are not among the numbers.
-pub record IsNext (engine : State) (numbers : List ℕ) (i n : ℕ) : Type 0 where
+pub record IsNext (engine : EngineState) (numbers : List ℕ) (i n : ℕ) : Type 0 where
   pub low : 1 ≤ n
   pub high : n ≤ length engine.queries
   pub after : done_to numbers i ≤ n - 1
   pub next : done_to numbers (i + 1) ≡ n - 1 + 1
   pub between : (k : ℕ) → done_to numbers i ≤ k → k < n - 1 → is_among numbers (k + 1) ≡ false
 
-module _ (order : Order) (engine : State) (numbers : List ℕ) (are : AreAnswering engine numbers) where
+module _ (order : Order) (engine : EngineState) (numbers : List ℕ) (are : AreAnswering engine numbers) where
   -- an earlier number is not above the last one
   behind : (i j : ℕ) → j < i → i ≤ length numbers → slice_index_or numbers j 0 ≤ done_to numbers i
   behind zero j less within = absurd (omega arith)

@@ -9,7 +9,7 @@ use Rattle.cer_outside.specs.Bytes.{TookAll, TookPart}
 use Rattle.cer_outside.specs.Causes.{HasCauseOrMemory}
 use Rattle.cel_terms.specs.Answers.{Answer}
 use Rattle.answer_text.specs.Output.{line}
-use Rattle.answer_blocks.specs.Taken.{TookPrefix, TookBy}
+use Rattle.answer_blocks.specs.SinkBytes.{TookPrefix, TookBy}
 
 pub took_none : (now : Option (List ℕ)) → TookAll now now []
 took_none None = refl

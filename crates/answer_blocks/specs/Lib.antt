@@ -1,5 +1,5 @@
-pub mod Laws
-pub mod Taken
+pub mod BlockLaws
+pub mod SinkBytes
 pub mod Wanted
 pub mod Blocks
-pub mod Counted
+pub mod RowSteps

@@ -3,7 +3,7 @@ use Rattle.std.specs.Prelude.{◌≡◌, ℕ, zero, suc, ◌-◌, Bool, true, fa
 use Rattle.stream_schema.specs.declared.Event.{Event}
 use Rattle.cel_terms.specs.declared.Query.{Query}
 use Rattle.cel_terms.specs.Answers.{Answer, AreAnswersAt}
-use Rattle.query_engine.specs.Engine.{State, Open, StandsFor, rest}
+use Rattle.query_engine.specs.Engine.{EngineState, Open, StandsFor, rest}
 use Rattle.query_engine.specs.Holding.{answer_of}
 
 -- all that there are, or that many of them at most
@@ -21,10 +21,10 @@ one_fewer None = None
 one_fewer (Some n) = Some (n - 1)
 
 -- the answers that the cursor is still to give, as many as are still wanted
-abbrev pub to_give : State → Option ℕ → Open → List Answer
+abbrev pub to_give : EngineState → Option ℕ → Open → List Answer
 to_give engine left cursor = wanted left (map answer_of (rest engine cursor))
 
 -- They are as many of the query's answers at the engine's last position as it wants.
-pub record AreWanted (engine : State) (number : ℕ) (answers : List Answer) : Type 0 where
+pub record AreWanted (engine : EngineState) (number : ℕ) (answers : List Answer) : Type 0 where
   pub are : (events : List Event) (q : Query) → StandsFor engine events → slice_get engine.queries (number - 1) ≡ Some q →
       (all : List Answer) × AreAnswersAt engine.schema q events (length events - 1) all × (answers ≡ wanted q.any all)

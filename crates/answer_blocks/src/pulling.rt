@@ -2,7 +2,7 @@
 
 ghost use Rattle.std.specs.Prelude.{◌≡◌, ◌+◌, ◌<◌, ◌≤◌, true, [], ◌∷◌, length, reverse, IfOk, MatchOption};
 ghost use Rattle.query_engine.specs.Bounds.{delay, update_bound};
-ghost use Rattle.query_engine.specs.Engine.{State, count_of, found_of, Fits, IsNumber};
+ghost use Rattle.query_engine.specs.Engine.{EngineState, count_of, found_of, Fits, IsNumber};
 ghost use Rattle.answer_blocks.specs.Wanted.{are_enough, one_fewer, to_give, AreWanted};
 
 use cer_base::steps::Steps;
@@ -12,7 +12,7 @@ use std::sync::ledger::Ledger;
 
 /// The answers of a query at the last position that are still to be written.
 #[derive(Drop)]
-pub struct Pulling {
+pub struct AnswersLeft {
     cursor: Cursor,
     /// How many more are wanted, where the query says so.
     left: Option<u64>,
@@ -36,13 +36,13 @@ fn one_fewer(left: Option<u64>) -> Option<u64>
     }
 }
 
-impl Pulling {
+impl AnswersLeft {
     /// An event was taken, and the query's number is from 1 to the number of queries.
     pub fn start<L: Ledger>(
         engine: &Engine,
         number: u64,
         steps: &mut Steps<L>,
-    ) -> Result<Pulling, Memory>
+    ) -> Result<AnswersLeft, Memory>
         requires seen { 0 < count_of engine.now }
         requires numbered { IsNumber engine.now number }
         ensures fits { IfOk result (λ p. Fits engine.now p.cursor) }
@@ -51,7 +51,7 @@ impl Pulling {
         ensures steps { steps.new ≤ steps.old + update_bound (found_of engine.now number) }
     {
         let cursor = engine.cursor(number, steps)?;
-        Ok(Pulling {
+        Ok(AnswersLeft {
             cursor,
             left: engine.query(number).any,
         })
@@ -84,7 +84,7 @@ impl Pulling {
 
     /// Whether no more answers are wanted, or there are none.
     pub fn is_over(&self) -> bool
-        ensures { (engine : State) → Fits engine self.now.cursor → result ≡ true
+        ensures { (engine : EngineState) → Fits engine self.now.cursor → result ≡ true
             → to_give engine self.now.left self.now.cursor ≡ [] }
     {
         are_enough(self.left) || self.cursor.is_done()

@@ -6,13 +6,13 @@ ghost use Rattle.query_engine.specs.Counts.{cursor_bound, cursor_bounds};
 ghost use Rattle.query_engine.specs.Engine.{StandsFor, count_of, Fits, IsNumber};
 ghost use Rattle.answer_text.specs.declared.Order.TheVariants.{Sorted};
 ghost use Rattle.answer_text.specs.Output.{AreBlocks};
-ghost use Rattle.answer_text.specs.Rows.{lines_of};
+ghost use Rattle.answer_text.specs.OutputRows.{lines_of};
 ghost use Rattle.answer_text.specs.Texts.{StartsWith};
 ghost use Rattle.answer_blocks.specs.Wanted.{to_give};
 ghost use Rattle.answer_blocks.specs.Blocks.{HasBlock, HasBlocks, HasPut};
-ghost use Rattle.answer_blocks.specs.Counted.{delays, row_delays, HasRows, HasRowsAt};
+ghost use Rattle.answer_blocks.specs.RowSteps.{delays, row_delays, HasRows, HasRowsAt};
 
-use crate::pulling::Pulling;
+use crate::pulling::AnswersLeft;
 use answer_text::{Answers, push_line};
 use cer_base::steps::Steps;
 use cer_base::{Memory, Pos};
@@ -23,7 +23,7 @@ use std::sync::ledger::Ledger;
 /// Puts all that are still wanted after the answers.
 fn pull_all<L: Ledger>(
     engine: &Engine,
-    pulling: &mut Pulling,
+    pulling: &mut AnswersLeft,
     found: &mut Answers,
     steps: &mut Steps<L>,
 ) -> Result<(), Memory>
@@ -43,7 +43,7 @@ fn pull_all<L: Ledger>(
 fn push_several<L: Ledger>(
     alloc: Global,
     engine: &Engine,
-    pulling: &mut Pulling,
+    pulling: &mut AnswersLeft,
     start: Pos,
     query: u64,
     end: Pos,
@@ -51,7 +51,8 @@ fn push_several<L: Ledger>(
     steps: &mut Steps<L>,
 ) -> Result<(), Memory>
     requires fits { Fits engine.now pulling.old.cursor }
-    ensures put { HasPut query end (record { start = start; marks = reverse pulling.old.cursor.path }
+    ensures put { HasPut query end
+        (record { start = start; marks = reverse pulling.old.cursor.path }
         ∷ to_give engine.now pulling.old.left pulling.old.cursor)
         text.old.items text.new.items result }
     ensures kept { OnErr result (StartsWith text.old.items text.new.items) }
@@ -69,7 +70,7 @@ fn push_several<L: Ledger>(
 fn push_wanted<L: Ledger>(
     alloc: Global,
     engine: &Engine,
-    pulling: &mut Pulling,
+    pulling: &mut AnswersLeft,
     query: u64,
     end: Pos,
     text: &mut Vec<u8>,
@@ -112,7 +113,7 @@ fn push_block<L: Ledger>(
     if !engine.may_answer(number) {
         return Ok(());
     }
-    let mut pulling = Pulling::start(engine, number, steps)?;
+    let mut pulling = AnswersLeft::start(engine, number, steps)?;
     let end = engine.events() - 1;
     push_wanted(alloc, engine, &mut pulling, number, end, text, steps)
 }

@@ -7,13 +7,13 @@ ghost use Rattle.query_engine.specs.Counts.{cursor_bound, cursor_bounds};
 ghost use Rattle.query_engine.specs.Engine.{StandsFor, count_of, Fits, IsNumber};
 ghost use Rattle.answer_text.specs.declared.Order.TheVariants.{Walk};
 ghost use Rattle.answer_text.specs.Output.{line, AreBlocks};
-ghost use Rattle.answer_text.specs.Rows.{row_at};
-ghost use Rattle.answer_blocks.specs.Taken.{TookBy};
+ghost use Rattle.answer_text.specs.OutputRows.{row_at};
+ghost use Rattle.answer_blocks.specs.SinkBytes.{TookBy};
 ghost use Rattle.answer_blocks.specs.Wanted.{to_give};
 ghost use Rattle.answer_blocks.specs.Blocks.{HasBlock};
-ghost use Rattle.answer_blocks.specs.Counted.{HasRows, HasRowsAt, WroteRows};
+ghost use Rattle.answer_blocks.specs.RowSteps.{HasRows, HasRowsAt, WroteRows};
 
-use crate::pulling::Pulling;
+use crate::pulling::AnswersLeft;
 use answer_text::push_line;
 use cer_base::steps::Steps;
 use cer_base::{OrMemory, Pos};
@@ -46,7 +46,7 @@ pub fn write_line<K: Sink>(
 /// Writes the lines of the answers that are wanted, each before the next one is pulled.
 fn write_answers<K: Sink, L: Ledger>(
     engine: &Engine,
-    pulling: &mut Pulling,
+    pulling: &mut AnswersLeft,
     query: u64,
     end: Pos,
     out: &mut K,
@@ -86,7 +86,7 @@ fn write_block<K: Sink, L: Ledger>(
     if !engine.may_answer(number) {
         return Ok(());
     }
-    let mut pulling = Pulling::start(engine, number, steps)?;
+    let mut pulling = AnswersLeft::start(engine, number, steps)?;
     let end = engine.events() - 1;
     write_answers(engine, &mut pulling, number, end, out, buffer, steps)
 }

@@ -9,7 +9,7 @@ use Rattle.cel_terms.specs.declared.Query.{Query}
 use Rattle.cel_terms.specs.Answers.{Answer}
 use Rattle.answer_text.specs.declared.Order.{Order}
 use Rattle.answer_text.specs.Output.{line, IsBlock, AreBlocks, IsOutputOf}
-use Rattle.answer_text.specs.Rows.{Row, row_line, lines_of, row_at, AreRowsOf, AreRowsAt, AreFirstRows}
+use Rattle.answer_text.specs.OutputRows.{Row, row_line, lines_of, row_at, AreRowsOf, AreRowsAt, AreFirstRows}
 
 -- the lines of rows after others
 pub lines_both : (front rest : List Row) → lines_of (front ++ rest) ≡ lines_of front ++ lines_of rest

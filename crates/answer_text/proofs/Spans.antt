@@ -4,7 +4,7 @@ use Rattle.std.proofs.lemmas.List.{map-append, length-drop, length-append}
 use Rattle.std.proofs.Math.Seq.{take-append-le, drop-append-le, drop-append_seam}
 use Rattle.cel_terms.specs.Answers.{Answer}
 use Rattle.answer_text.specs.declared.answers.Span.{Span}
-use Rattle.answer_text.specs.Held.{answer_of, answer_in, IsWithin}
+use Rattle.answer_text.specs.AnswerSpans.{answer_of, answer_in, IsWithin}
 
 -- those of a span stay,
 kept_one : (ps more : List ℕ) (s : Span) → IsWithin ps s → answer_in (ps ++ more) s ≡ answer_in ps s

@@ -1,5 +1,5 @@
 pub mod Output
-pub mod Rows
+pub mod OutputRows
 pub mod Texts
 pub mod Explanations
-pub mod Held
+pub mod AnswerSpans

@@ -5,7 +5,7 @@ ghost use Rattle.std.specs.Ordering.{nat_cmp};
 ghost use Rattle.std.specs.Cmp.Lexicographic.{slice_cmp};
 ghost use Rattle.std.specs.declared.cmp.Ordering.TheVariants.{Less, Equal, Greater};
 ghost use Rattle.answer_text.specs.Output.{ComesBefore};
-ghost use Rattle.answer_text.specs.Held.{answer_of};
+ghost use Rattle.answer_text.specs.AnswerSpans.{answer_of};
 
 use cer_base::Pos;
 use std::cmp::Ordering;

@@ -6,7 +6,7 @@ ghost use Rattle.cer_base.specs.Repeats.{HasNoRepeats};
 ghost use Rattle.std.specs.declared.cmp.Ordering.TheVariants.{Less};
 ghost use Rattle.answer_text.specs.Output.{line, ComesBefore, EachBeforeNext};
 ghost use Rattle.answer_text.specs.Texts.{StartsWith};
-ghost use Rattle.answer_text.specs.Held.{answer_of, answer_in, positions_in};
+ghost use Rattle.answer_text.specs.AnswerSpans.{answer_of, answer_in, positions_in};
 
 use crate::answer::order;
 use crate::writing::push_line;
@@ -34,7 +34,7 @@ pub struct Answers {
 impl Model for Answers {
     ghost use Rattle.std.specs.Prelude.{List, map, All};
     ghost use Rattle.cel_terms.specs.Answers as answers;
-    ghost use Rattle.answer_text.specs.Held.{answer_in, IsWithin};
+    ghost use Rattle.answer_text.specs.AnswerSpans.{answer_in, IsWithin};
 
     ghost Value = { List answers.Answer };
 

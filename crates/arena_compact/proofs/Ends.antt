@@ -12,7 +12,7 @@ use Rattle.cer_base.specs.Members.{SetTree, members, newest, recent, IsWellForme
 use Rattle.cer_base.specs.Nodes.{tree, WellFormed, IsRoot}
 use Rattle.cer_base.proofs.Trees.{need-tree}
 use Rattle.cer_base.proofs.Walks.{test_tells, is_rooted}
-use Rattle.tecs_enumerate.specs.Rest.{CursorState, id_of, Fits}
+use Rattle.tecs_enumerate.specs.Remaining.{CursorState, id_of, Fits}
 use Rattle.union_lists.specs.Lists.{trees, IsList, IsUnionList}
 use Rattle.arena_compact.specs.Pruned.{pruned, ArePruned}
 use Rattle.arena_compact.specs.Marks.{low_of, IsKeptFrom, AreNodeMarks}

@@ -11,7 +11,7 @@ use Rattle.cer_base.specs.declared.node.Node.TheVariants.{Bottom, Output, Union}
 use Rattle.cer_base.specs.Repeats.{HasNoRepeats}
 use Rattle.cer_base.specs.Nodes.{WellFormed}
 use Rattle.tecs_enumerate.specs.declared.descent.Pending.{Pending}
-use Rattle.tecs_enumerate.specs.Rest.{CursorState, id_of}
+use Rattle.tecs_enumerate.specs.Remaining.{CursorState, id_of}
 use Rattle.arena_compact.specs.Marks.{Needs, IsKept, low_of, AreNodeMarks}
 use Rattle.arena_compact.specs.Moves.{MovesTo, Follows, AtBottom, AtOutput, AtUnion, AtLeft, Moved}
 use Rattle.arena_compact.specs.Roots.{AreMoved}

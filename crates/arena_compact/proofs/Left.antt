@@ -13,7 +13,7 @@ use Rattle.cer_base.specs.Members.{newest}
 use Rattle.cer_base.specs.Nodes.{tree, WellFormed}
 use Rattle.cer_base.proofs.Walks.{test_passes, test_tells}
 use Rattle.tecs_enumerate.specs.declared.descent.Pending.{Pending}
-use Rattle.tecs_enumerate.specs.Rest.{CursorState, id_of}
+use Rattle.tecs_enumerate.specs.Remaining.{CursorState, id_of}
 use Rattle.arena_compact.specs.Marks.{Needs, needed_from, IsKept, low_of, IsKeptFrom, AreNodeMarks}
 use Rattle.arena_compact.specs.Moves.{MovesTo, Moved}
 use Rattle.arena_compact.specs.Roots.{recent_entries, ids_of, list_roots, row_roots, key_roots, stack_roots, cursor_roots, kept_rows, with_row, IsPlaced, EntriesMoved, RowsMoved, KeysMoved, AreMoved, CursorMoved}

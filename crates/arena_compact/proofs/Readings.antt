@@ -9,7 +9,7 @@ use Rattle.std.proofs.lemmas.Grind.{flat_map-append}
 use Rattle.std.proofs.lemmas.Bool.{cases_eq}
 use Rattle.cer_base.specs.declared.node.Root.{Root}
 use Rattle.cer_base.specs.declared.node.Node.{Node}
-use Rattle.tecs_enumerate.specs.Rest.{CursorState}
+use Rattle.tecs_enumerate.specs.Remaining.{CursorState}
 use Rattle.event_update.specs.Update.{entries_in}
 use Rattle.arena_compact.specs.Roots.{stack_roots, cursor_roots, places, CursorMoved, kept_rows, RowsMoved, KeysMoved}
 

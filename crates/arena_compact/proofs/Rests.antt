@@ -11,7 +11,7 @@ use Rattle.cer_base.specs.Members.{newest, need}
 use Rattle.cer_base.specs.Nodes.{tree, WellFormed}
 use Rattle.cer_base.proofs.Walks.{is_rooted}
 use Rattle.tecs_enumerate.specs.declared.descent.Pending.{Pending}
-use Rattle.tecs_enumerate.specs.Rest.{with_positions, answers, rest_of, Room, AllHaveRoom, id_of, prefix_of}
+use Rattle.tecs_enumerate.specs.Remaining.{with_positions, answers, rest_of, Room, AllHaveRoom, id_of, prefix_of}
 use Rattle.arena_compact.specs.Moves.{MovesTo, Moved}
 use Rattle.arena_compact.specs.Roots.{AreMoved}
 use Rattle.arena_compact.specs.Marks.{AreNodeMarks, IsLowered, low_of, needed_from}

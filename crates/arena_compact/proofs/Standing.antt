@@ -15,7 +15,7 @@ use Rattle.cer_base.specs.Members.{SetTree, Member, members, recent}
 use Rattle.cer_base.specs.Nodes.{tree, WellFormed, IsRoot}
 use Rattle.cer_base.proofs.Walks.{test_passes, test_tells, none_recent}
 use Rattle.union_lists.specs.Lists.{trees, IsUnionList, members_of}
-use Rattle.cea_determinise.specs.Det.{Table}
+use Rattle.cea_determinise.specs.LazyDfa.{Table}
 use Rattle.event_update.specs.Narrow.{Tops, IsOrdered, FitsIn, IsNarrow}
 use Rattle.event_update.specs.Reach.{Seen, Has, all_of}
 use Rattle.event_update.specs.Stands.{member_rows, tops_of, tops_rows, IsState, Stands}

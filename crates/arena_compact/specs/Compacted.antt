@@ -9,7 +9,7 @@ use Rattle.cer_base.specs.Repeats.{HasNoRepeats}
 use Rattle.cer_base.specs.Members.{newest, members, recent}
 use Rattle.cer_base.specs.Nodes.{tree, WellFormed}
 use Rattle.tecs_enumerate.specs.declared.descent.Pending.{Pending}
-use Rattle.tecs_enumerate.specs.Rest.{CursorState, id_of, rest, Fits}
+use Rattle.tecs_enumerate.specs.Remaining.{CursorState, id_of, rest, Fits}
 use Rattle.union_lists.specs.Lists.{trees, IsUnionList}
 use Rattle.arena_compact.specs.Pruned.{pruned, ArePruned}
 use Rattle.arena_compact.specs.Marks.{Needs}

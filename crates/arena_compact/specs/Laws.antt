@@ -3,7 +3,7 @@ use Rattle.std.specs.Prelude.{ℤ, ◌≤ℤ◌, ℕ, List}
 use Rattle.cer_base.specs.declared.node.Root.{Root}
 use Rattle.cer_base.specs.declared.node.Node.{Node}
 use Rattle.cer_base.specs.Nodes.{WellFormed}
-use Rattle.cea_determinise.specs.Det.{Table}
+use Rattle.cea_determinise.specs.LazyDfa.{Table}
 use Rattle.event_update.specs.Reach.{Seen}
 use Rattle.event_update.specs.Stands.{Stands}
 use Rattle.arena_compact.specs.Roots.{kept_rows}

@@ -6,7 +6,7 @@ use Rattle.std.specs.List.{flat_map}
 use Rattle.cer_base.specs.declared.node.Root.{Root}
 use Rattle.cer_base.specs.declared.node.Node.{Node}
 use Rattle.tecs_enumerate.specs.declared.descent.Pending.{Pending}
-use Rattle.tecs_enumerate.specs.Rest.{CursorState, id_of}
+use Rattle.tecs_enumerate.specs.Remaining.{CursorState, id_of}
 use Rattle.event_update.specs.Update.{entries_in}
 use Rattle.arena_compact.specs.Marks.{needed_from}
 use Rattle.arena_compact.specs.Moves.{MovesTo}

@@ -1,7 +1,7 @@
 //! The stacks of held cursors: they say which nodes are kept, and are moved with their nodes.
 ghost use Rattle.std.specs.Prelude.{◌≡◌, ◌+◌, ◌*◌, ◌<◌, ◌≤◌, ◌++◌, [], ◌∷◌, List, ℕ, ℤ, All, Some, length, map, get_or, slice_get, slice_set};
 ghost use Rattle.cer_base.specs.declared.node.Node.{Node};
-ghost use Rattle.tecs_enumerate.specs.Rest.{CursorState, Fits, id_of, prefix_of};
+ghost use Rattle.tecs_enumerate.specs.Remaining.{CursorState, Fits, id_of, prefix_of};
 ghost use Rattle.arena_compact.specs.Marks.{IsKept, AreNodeMarks};
 ghost use Rattle.arena_compact.specs.Roots.{stack_roots, cursor_roots, AreMoved, CursorMoved};
 
@@ -15,7 +15,7 @@ use tecs_enumerate::Cursor;
 /// nothing else of it.
 pub trait HasCursor {
     ghost use Rattle.std.specs.Prelude.{◌≡◌, ◌<◌, length, map, slice_set};
-    ghost use Rattle.tecs_enumerate.specs.Rest.{CursorState, id_of, prefix_of};
+    ghost use Rattle.tecs_enumerate.specs.Remaining.{CursorState, id_of, prefix_of};
 
     /// The cursor, as what is left of its walk.
     ghost walk: { Self → CursorState };

@@ -12,7 +12,7 @@ use cer_base::node::Id;
 use cer_base::steps::Steps;
 use cer_base::store::NodeStore;
 use cer_base::time::LowTime;
-use event_update::Active;
+use event_update::ActiveStates;
 use std::alloc::Global;
 use std::mem;
 use std::sync::ledger::Ledger;
@@ -27,31 +27,31 @@ pub trait HasLists {
     ghost rows: { Self → List (ℕ × List Root) };
 
     /// The lists.
-    fn lists(&self) -> &Active
+    fn lists(&self) -> &ActiveStates
         ensures { result.now.entries ≡ rows self.now };
 
     /// Hands the lists over, and may have any others until `put`. It takes no memory.
-    fn take(&mut self) -> Active
+    fn take(&mut self) -> ActiveStates
         ensures { result.entries ≡ rows self.old };
 
     /// Has these lists from now on. It takes no memory.
-    fn put(&mut self, lists: Active)
+    fn put(&mut self, lists: ActiveStates)
         ensures { rows self.new ≡ lists.entries };
 }
 
-impl HasLists for Active {
+impl HasLists for ActiveStates {
     ghost rows = { λ a. a.entries };
 
-    fn lists(&self) -> &Active {
+    fn lists(&self) -> &ActiveStates {
         self
     }
 
-    fn take(&mut self) -> Active {
+    fn take(&mut self) -> ActiveStates {
         let alloc = *self.allocator();
-        mem::replace(self, Active::new(alloc))
+        mem::replace(self, ActiveStates::new(alloc))
     }
 
-    fn put(&mut self, lists: Active) {
+    fn put(&mut self, lists: ActiveStates) {
         *self = lists;
     }
 }

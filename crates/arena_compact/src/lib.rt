@@ -29,7 +29,7 @@
 ghost use Rattle.std.specs.Prelude.{◌≡◌, ◌+◌, ◌*◌, ◌<◌, ◌≤◌, ◌++◌, ℕ, List, All, None, length, map, get_or, IfOk};
 ghost use Rattle.cer_base.specs.declared.node.Root.{Root};
 ghost use Rattle.cer_base.specs.Nodes.{WellFormed};
-ghost use Rattle.tecs_enumerate.specs.Rest.{CursorState, Fits};
+ghost use Rattle.tecs_enumerate.specs.Remaining.{CursorState, Fits};
 ghost use Rattle.union_lists.specs.Lists.{IsUnionList};
 ghost use Rattle.arena_compact.specs.Marks.{AreNodeMarks};
 ghost use Rattle.arena_compact.specs.Roots.{key_roots, cursor_roots, places};

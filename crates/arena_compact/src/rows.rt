@@ -13,13 +13,13 @@ use cer_base::node::Id;
 use cer_base::steps::Steps;
 use cer_base::store::NodeStore;
 use cer_base::time::LowTime;
-use event_update::Active;
+use event_update::ActiveStates;
 use std::sync::ledger::Ledger;
 use union_lists::UList;
 
 /// Keeps the nodes of the recent entries of a key's lists, from the clock on. One step for each entry.
 pub fn keep_rows<L: Ledger>(
-    active: &Active,
+    active: &ActiveStates,
     low: LowTime,
     table: &mut [Option<Id>],
     lows: &mut [LowTime],
@@ -115,15 +115,15 @@ fn move_some<S: NodeStore, L: Ledger>(
 pub fn move_rows<S: NodeStore, L: Ledger>(
     store: &S,
     low: LowTime,
-    active: Active,
+    active: ActiveStates,
     table: &[Option<Id>],
     steps: &mut Steps<L>,
-) -> Active
+) -> ActiveStates
     requires can { CanMove low (S.nodes store.now) table.now active.entries }
     ensures rows { MovesRows low (S.nodes store.now) table.now active.entries result.entries
         steps.old steps.new }
 {
     let rows = active.into_rows();
     let kept = move_some(store, low, rows, table, steps);
-    Active::of(kept)
+    ActiveStates::of(kept)
 }

@@ -7,7 +7,7 @@ use Rattle.stream_schema.specs.Types.{Declared}
 use Rattle.stream_schema.specs.declared.Event.{Event}
 use Rattle.cel_terms.specs.declared.Query.{Query}
 use Rattle.cel_terms.specs.Answers.{Answer, IsAnswer, IsAscending, IsInWindow, IsOfSubstream, substream}
-use Rattle.cel_terms.specs.Laws.{IsSpan}
+use Rattle.cel_terms.specs.MeaningLaws.{IsSpan}
 use Rattle.query_leaves.specs.Expand.{tree_of}
 use Rattle.query_leaves.specs.Leaves.{occurrences}
 use Rattle.cel_terms.proofs.Marked.{lies_selected}

@@ -2,7 +2,7 @@
 use Rattle.std.proofs.Common.{◌≡◌, refl, sym, ◌∙◌, ℕ, ◌<◌, ◌⊎◌, inl, inr, Bool, true, false, not, ◌&&◌, ◌||◌, cond, List, [], ◌∷◌, Option, Some, None, option_and_then, Decides}
 use Rattle.std.proofs.lemmas.Bool.{and_parts, and_from, or_cases, or_left, or_right, not-true, not_from_false, false≢true}
 use Rattle.std.proofs.lemmas.Bool.Decides.{Decides-below_or}
-use Rattle.cea_determinise.specs.Runs.{LeafSet, some_below, Automaton, follow, RunState, pair, candidates, patient, agrees, readers, minds_next, waits_at_once, has_leaf, Entry, run, accepted_run}
+use Rattle.cea_determinise.specs.Runs.{LeafSet, some_below, Automaton, follow, RunState, pair, candidates, skip_insensitive, agrees, readers, minds_next, waits_at_once, has_leaf, Entry, run, accepted_run}
 
 some_below_is : (p : LeafSet) (n : ℕ) → Decides (some_below n p) ((k : ℕ) × (k < n) × (p k ≡ true))
 some_below_is p = Decides-below_or p (λ k. p k ≡ true) (λ n. some_below n p) (λ k. (λ h. h, λ h. h)) refl (λ n. refl)
@@ -112,7 +112,7 @@ abbrev pub fresh_after : Automaton → (ℕ → Bool) → RunState → Entry →
 fresh_after a marks s x k = read_at a marks s x k && minds_next a k
 
 abbrev pub waiting_after : Automaton → (ℕ → Bool) → RunState → Entry → LeafSet
-waiting_after a marks s x k = not (marks x.position) && patient a s k || read_at a marks s x k && waits_at_once a k
+waiting_after a marks s x k = not (marks x.position) && skip_insensitive a s k || read_at a marks s x k && waits_at_once a k
 
 pub read_parts : (a : Automaton) (marks : ℕ → Bool) (s : RunState) (x : Entry) (k : ℕ) → read_at a marks s x k ≡ true → (candidates a s k ≡ true) × (x.bits k ≡ true) × (agrees (marks x.position) (a.marked k) ≡ true)
 read_parts a marks s x k h =
@@ -128,7 +128,7 @@ abbrev pub WasRead : Automaton → (ℕ → Bool) → RunState → Entry → Lis
 WasRead a marks s x xs k = (read_at a marks s x k ≡ true) × Leads a marks true k xs
 
 abbrev pub Passed : Automaton → (ℕ → Bool) → RunState → Entry → List Entry → ℕ → Type 0
-Passed a marks s x xs k = (marks x.position ≡ false) × (patient a s k ≡ true) × Leads a marks false k xs
+Passed a marks s x xs k = (marks x.position ≡ false) × (skip_insensitive a s k ≡ true) × Leads a marks false k xs
 
 abbrev pub LeadsFrom : Automaton → (ℕ → Bool) → LeafSet → LeafSet → List Entry → ℕ → Type 0
 LeadsFrom a marks fresh waiting xs k = ((fresh k ≡ true) × Leads a marks true k xs) ⊎ ((waiting k ≡ true) × Leads a marks false k xs)
@@ -136,8 +136,8 @@ LeadsFrom a marks fresh waiting xs k = ((fresh k ≡ true) × Leads a marks true
 pub came : (a : Automaton) (marks : ℕ → Bool) (s : RunState) (x : Entry) (xs : List Entry) (k : ℕ) →
     LeadsFrom a marks (fresh_after a marks s x) (waiting_after a marks s x) xs k → WasRead a marks s x xs k ⊎ Passed a marks s x xs k
 came a marks s x xs k (inl h) = inl ((and_parts (read_at a marks s x k) (minds_next a k) h.0).0, h.1)
-came a marks s x xs k (inr h) = elim (or_cases (not (marks x.position) && patient a s k) (read_at a marks s x k && waits_at_once a k) h.0) [
-  | inl past ↦ let p = and_parts (not (marks x.position)) (patient a s k) past in inr (not-true (marks x.position) p.0, p.1, h.1)
+came a marks s x xs k (inr h) = elim (or_cases (not (marks x.position) && skip_insensitive a s k) (read_at a marks s x k && waits_at_once a k) h.0) [
+  | inl past ↦ let p = and_parts (not (marks x.position)) (skip_insensitive a s k) past in inr (not-true (marks x.position) p.0, p.1, h.1)
   | inr now ↦ inl ((and_parts (read_at a marks s x k) (waits_at_once a k) now).0, fresher a h.1 refl)
 ]
 
@@ -151,14 +151,14 @@ goes a marks s x xs k read leads = by (minds_next a k) refl
         let waits = as_waiting a e leads in
         let far = far_follower a waits refl in
         let at_once = and_from (not (minds_next a k)) (some_below a.size (a.far k)) (not_from_false (minds_next a k) e) far in
-        inr (or_right (not (marks x.position) && patient a s k) (read_at a marks s x k && waits_at_once a k) (and_from (read_at a marks s x k) (waits_at_once a k) read at_once), waits)
+        inr (or_right (not (marks x.position) && skip_insensitive a s k) (read_at a marks s x k && waits_at_once a k) (and_from (read_at a marks s x k) (waits_at_once a k) read at_once), waits)
 
 passes : (a : Automaton) (marks : ℕ → Bool) (fresh waiting : LeafSet) (x : Entry) (xs : List Entry) (k : ℕ) → marks x.position ≡ false → (fresh k || waiting k) ≡ true → Leads a marks false k xs →
     LeadsFrom a marks (fresh_after a marks (pair fresh waiting) x) (waiting_after a marks (pair fresh waiting) x) xs k
 passes a marks fresh waiting x xs k m h leads =
     let f = far_follower a leads refl in
-    let past = and_from (not (marks x.position)) (patient a (pair fresh waiting) k) (not_from_false (marks x.position) m) (and_from (fresh k || waiting k) (some_below a.size (a.far k)) h f) in
-    inr (or_left (not (marks x.position) && patient a (pair fresh waiting) k) (read_at a marks (pair fresh waiting) x k && waits_at_once a k) past, leads)
+    let past = and_from (not (marks x.position)) (skip_insensitive a (pair fresh waiting) k) (not_from_false (marks x.position) m) (and_from (fresh k || waiting k) (some_below a.size (a.far k)) h f) in
+    inr (or_left (not (marks x.position) && skip_insensitive a (pair fresh waiting) k) (read_at a marks (pair fresh waiting) x k && waits_at_once a k) past, leads)
 
 live_before : (a : Automaton) (marks : ℕ → Bool) (x : Entry) (xs : List Entry) (fresh waiting : LeafSet) → IsLive a marks (fresh_after a marks (pair fresh waiting) x) (waiting_after a marks (pair fresh waiting) x) xs → IsLive a marks fresh waiting (x ∷ xs)
 live_before a marks x xs fresh waiting live = go live.leaf live.below (came a marks (pair fresh waiting) x xs live.leaf live.leads)

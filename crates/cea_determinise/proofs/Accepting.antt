@@ -7,7 +7,7 @@ use Rattle.cea_determinise.specs.declared.cea.Cea.{Cea}
 use Rattle.cea_determinise.specs.declared.cea.StateSets.{StateSets}
 use Rattle.cea_determinise.specs.Runs.{accepts}
 use Rattle.cea_determinise.specs.Cea.{automaton_of_cea, standing, standing_of}
-use Rattle.cea_determinise.specs.Det.{standing_at, Adds, TellsAccepting}
+use Rattle.cea_determinise.specs.LazyDfa.{standing_at, Adds, TellsAccepting}
 use Rattle.cea_determinise.proofs.Growth.{sets_at-later}
 
 in_none : (k : ℕ) (b : Bool) → slice_get [] k ≡ Some b → ⊥

@@ -3,7 +3,7 @@ use Rattle.std.proofs.Common.{◌≡◌, ◌≢◌, length, ℕ, zero, suc, ◌+
 use Rattle.std.specs.Prelude.{not, eqb, slice_index_or}
 use Rattle.std.proofs.lemmas.Bool.{cases_eq, cases_lt, eq-eqb, ne_eqb, and_parts, or_cases, false≢true, false_from_ne_true}
 use Rattle.cer_base.specs.Bits.{has, room_for}
-use Rattle.cea_determinise.specs.Runs.{LeafSet, Automaton, RunState, start, some_below, patient, pair, candidates}
+use Rattle.cea_determinise.specs.Runs.{LeafSet, Automaton, RunState, start, some_below, skip_insensitive, pair, candidates}
 use Rattle.cea_determinise.specs.Cea.{IsSet, AreRows, IsWellFormed, row, automaton_of_cea}
 use Rattle.cea_determinise.specs.declared.cea.Cea.{Cea}
 use Rattle.cea_determinise.proofs.SomeLeaf.{none_below, found_below, some_either}
@@ -70,8 +70,8 @@ pass_more f old n so_far out k =
     ]
 
 -- no leaf from the size on waits
-pub patient_below : (a : Automaton) (fresh waiting : LeafSet) (n : ℕ) → ((k : ℕ) → fresh k ≡ true → k < n) → ((k : ℕ) → waiting k ≡ true → k < n) → (k : ℕ) → patient a (pair fresh waiting) k ≡ true → k < n
-patient_below a fresh waiting n f w k e =
+pub skip_insensitive_below : (a : Automaton) (fresh waiting : LeafSet) (n : ℕ) → ((k : ℕ) → fresh k ≡ true → k < n) → ((k : ℕ) → waiting k ≡ true → k < n) → (k : ℕ) → skip_insensitive a (pair fresh waiting) k ≡ true → k < n
+skip_insensitive_below a fresh waiting n f w k e =
     elim (or_cases (fresh k) (waiting k) (and_parts (fresh k || waiting k) (some_below a.size (a.far k)) e).0) [ inl h ↦ f k h | inr h ↦ w k h ]
 
 pub all_below : (f old : LeafSet) (n : ℕ) → ((k : ℕ) → old k ≡ nat_lt k n && f k) → ((k : ℕ) → f k ≡ true → k < n) → (k : ℕ) → old k ≡ f k

@@ -7,7 +7,7 @@ pub mod Reached
 -- states and transitions keep what they are as the table grows
 pub mod Growth
 -- the class of an event
-pub mod Classes
+pub mod EventClasses
 -- rows that the transitions tell stay told as these grow
 pub mod Listed
 -- the table of the states that accept

@@ -5,7 +5,7 @@ use Rattle.std.proofs.lemmas.Bool.{cases_Bool}
 use Rattle.std.proofs.lemmas.List.Elements.{All-nil, All-weaker}
 use Rattle.cea_determinise.specs.declared.table.TransitionKey.{TransitionKey}
 use Rattle.cea_determinise.specs.declared.table.Successors.{Successors}
-use Rattle.cea_determinise.specs.declared.rows.KnownRow.{KnownRow}
+use Rattle.cea_determinise.specs.declared.rows.CachedTransition.{CachedTransition}
 use Rattle.cea_determinise.specs.Keys.{is_same_key}
 use Rattle.cea_determinise.specs.Rows.{AreListed, IsListed}
 
@@ -16,16 +16,16 @@ lookup_more test (x ∷ xs) ys s h = elim (cases_Bool (test x.0)) [
   | inr miss ↦ rw miss (lookup_more test xs ys s (let g : lookup test xs ≡ Some s = rw miss at h in g))
 ]
 
-listed_more : (xs ys : List (TransitionKey × Successors)) (class : ℕ) (ns : List ℕ) (ss : List Successors) → AreListed xs class ns ss → AreListed (xs ++ ys) class ns ss
-listed_more xs ys class [] [] h = tt
-listed_more xs ys class [] (s ∷ ss) h = absurd h
-listed_more xs ys class (n ∷ ns) [] h = absurd h
-listed_more xs ys class (n ∷ ns) (s ∷ ss) h = (lookup_more (is_same_key (record { state = n; class = class })) xs ys s h.0, listed_more xs ys class ns ss h.1)
+listed_more : (xs ys : List (TransitionKey × Successors)) (event_class : ℕ) (ns : List ℕ) (ss : List Successors) → AreListed xs event_class ns ss → AreListed (xs ++ ys) event_class ns ss
+listed_more xs ys event_class [] [] h = tt
+listed_more xs ys event_class [] (s ∷ ss) h = absurd h
+listed_more xs ys event_class (n ∷ ns) [] h = absurd h
+listed_more xs ys event_class (n ∷ ns) (s ∷ ss) h = (lookup_more (is_same_key (record { state = n; event_class = event_class })) xs ys s h.0, listed_more xs ys event_class ns ss h.1)
 
-pub rows_stay : (old new more : List (TransitionKey × Successors)) (rows : List KnownRow) → new ≡ old ++ more → All (IsListed old) rows → All (IsListed new) rows
+pub rows_stay : (old new more : List (TransitionKey × Successors)) (rows : List CachedTransition) → new ≡ old ++ more → All (IsListed old) rows → All (IsListed new) rows
 rows_stay old new more rows e all =
     subst (λ (ts : List (TransitionKey × Successors)). All (IsListed ts) rows) (sym e)
-    (All-weaker (IsListed old) (IsListed (old ++ more)) (λ r h. record { told = listed_more old more r.class (0 ∷ r.states.items) r.successors.items h.told; effect = h.effect }) rows all)
+    (All-weaker (IsListed old) (IsListed (old ++ more)) (λ r h. record { told = listed_more old more r.event_class (0 ∷ r.states.items) r.successors.items h.told; effect = h.effect }) rows all)
 
-pub no_rows : (ts : List (TransitionKey × Successors)) (rows : List KnownRow) → rows ≡ [] → All (IsListed ts) rows
+pub no_rows : (ts : List (TransitionKey × Successors)) (rows : List CachedTransition) → rows ≡ [] → All (IsListed ts) rows
 no_rows ts rows e = subst (All (IsListed ts)) (sym e) (All-nil (IsListed ts))

@@ -1,7 +1,7 @@
 -- The stored successor is that of the definition.
 use Rattle.std.proofs.Common.{◌≡◌, ℕ, Bool, true, false, ◌&&◌, ◌||◌, Some, None, refl, sym, ap, ◌∙◌}
 use Rattle.std.specs.Prelude.{not}
-use Rattle.cea_determinise.specs.Runs.{LeafSet, Automaton, pair, patient, readers, minds_next, waits_at_once, successor, has_leaf}
+use Rattle.cea_determinise.specs.Runs.{LeafSet, Automaton, pair, skip_insensitive, readers, minds_next, waits_at_once, successor, has_leaf}
 use Rattle.cea_determinise.specs.declared.cea.Phase.{Phase}
 use Rattle.cea_determinise.specs.Strict.{Standing, phase_after, next_standing}
 
@@ -9,7 +9,7 @@ module _ (a : Automaton) (strict : Bool) (s : Standing) (bits : LeafSet) (mark :
   -- the two sets are those of the successor
   abbrev pub AreNext : LeafSet → LeafSet → Type 0
   AreNext fresh waiting = ((k : ℕ) → fresh k ≡ readers a s.sets bits mark k && minds_next a k)
-      × ((k : ℕ) → waiting k ≡ not mark && patient a s.sets k || readers a s.sets bits mark k && waits_at_once a k)
+      × ((k : ℕ) → waiting k ≡ not mark && skip_insensitive a s.sets k || readers a s.sets bits mark k && waits_at_once a k)
 
   sets_are : (fresh waiting : LeafSet) → AreNext fresh waiting → pair fresh waiting ≡ successor a s.sets bits mark
   sets_are fresh waiting are = λ i. pair (λ k. are.0 k i) (λ k. are.1 k i)

@@ -31,7 +31,7 @@ are_same_sets p q = is_same_set p.fresh q.fresh && (is_same_set p.waiting q.wait
 
 -- the state and the class are the same
 abbrev pub is_same_key : TransitionKey → TransitionKey → Bool
-is_same_key p q = eqb p.state q.state && eqb p.class q.class
+is_same_key p q = eqb p.state q.state && eqb p.event_class q.event_class
 
 both : (a b : Bool) → a ≡ true → b ≡ true → a && b ≡ true
 both true b e f = f
@@ -63,7 +63,7 @@ own_sets : (p : StateSets) → are_same_sets p p ≡ true
 own_sets p = both _ _ (own_set p.fresh) (both _ _ (own_set p.waiting) (own_phase p.phase))
 
 own_key : (p : TransitionKey) → is_same_key p p ≡ true
-own_key p = both _ _ ((Decides-eqb p.state p.state).1 refl) ((Decides-eqb p.class p.class).1 refl)
+own_key p = both _ _ ((Decides-eqb p.state p.state).1 refl) ((Decides-eqb p.event_class p.event_class).1 refl)
 
 pub Decides-sets : (p q : StateSets) → Decides (are_same_sets p q) (p ≡ q)
 Decides-sets p q = (same, λ e. subst (λ r. are_same_sets p r ≡ true) e (own_sets p))
@@ -82,7 +82,7 @@ Decides-key p q = (same, λ e. subst (λ r. is_same_key p r ≡ true) e (own_key
   where
     same : is_same_key p q ≡ true → p ≡ q
     same e =
-        let parts = and_parts (eqb p.state q.state) (eqb p.class q.class) e in
+        let parts = and_parts (eqb p.state q.state) (eqb p.event_class q.event_class) e in
         let state = (Decides-eqb p.state q.state).0 parts.0 in
-        let class = (Decides-eqb p.class q.class).0 parts.1 in
-        λ i. record { state = state i; class = class i }
+        let event_class = (Decides-eqb p.event_class q.event_class).0 parts.1 in
+        λ i. record { state = state i; event_class = event_class i }

@@ -1,7 +1,7 @@
 pub mod Runs
 pub mod Strict
 pub mod Cea
-pub mod Det
+pub mod LazyDfa
 pub mod Keys
 pub mod Places
 pub mod Rows

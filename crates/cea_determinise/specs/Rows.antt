@@ -4,7 +4,7 @@ use Rattle.std.specs.List.{IsDistinct}
 use Rattle.std.specs.Map.{lookup}
 use Rattle.cea_determinise.specs.declared.table.TransitionKey.{TransitionKey}
 use Rattle.cea_determinise.specs.declared.table.Successors.{Successors}
-use Rattle.cea_determinise.specs.declared.rows.KnownRow.{KnownRow}
+use Rattle.cea_determinise.specs.declared.rows.CachedTransition.{CachedTransition}
 use Rattle.cea_determinise.specs.declared.rows.Effect.{Effect}
 use Rattle.cea_determinise.specs.declared.rows.Effect.TheVariants.{Stays, Moves, Changes}
 use Rattle.cea_determinise.specs.Keys.{is_same_key}
@@ -21,12 +21,12 @@ IsEffect Changes ns moves = Unit {0}
 
 -- the transitions tell these successors of the states on events of the class, in order
 abbrev pub AreListed : List (TransitionKey × Successors) → ℕ → List ℕ → List Successors → Type 0
-AreListed ts class [] [] = Unit {0}
-AreListed ts class [] (s ∷ ss) = ⊥
-AreListed ts class (n ∷ ns) [] = ⊥
-AreListed ts class (n ∷ ns) (s ∷ ss) = (lookup (is_same_key (record { state = n; class = class })) ts ≡ Some s) × AreListed ts class ns ss
+AreListed ts event_class [] [] = Unit {0}
+AreListed ts event_class [] (s ∷ ss) = ⊥
+AreListed ts event_class (n ∷ ns) [] = ⊥
+AreListed ts event_class (n ∷ ns) (s ∷ ss) = (lookup (is_same_key (record { state = n; event_class = event_class })) ts ≡ Some s) × AreListed ts event_class ns ss
 
 -- The transitions tell the row's successors, and what it does is as it says.
-pub record IsListed (ts : List (TransitionKey × Successors)) (r : KnownRow) : Type 0 where
-  pub told : AreListed ts r.class (0 ∷ r.states.items) r.successors.items
+pub record IsListed (ts : List (TransitionKey × Successors)) (r : CachedTransition) : Type 0 where
+  pub told : AreListed ts r.event_class (0 ∷ r.states.items) r.successors.items
   pub effect : IsEffect r.effect r.states.items r.successors.items

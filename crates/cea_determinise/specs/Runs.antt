@@ -38,9 +38,9 @@ candidates a start k = a.first k
 candidates a (pair fresh waiting) k = some_below a.size (λ j. fresh j && (a.near j k || a.far j k) || waiting j && a.far j k)
 
 -- the leaves that may let the next event pass
-abbrev pub patient : Automaton → RunState → LeafSet
-patient a start k = false
-patient a (pair fresh waiting) k = (fresh k || waiting k) && some_below a.size (a.far k)
+abbrev pub skip_insensitive : Automaton → RunState → LeafSet
+skip_insensitive a start k = false
+skip_insensitive a (pair fresh waiting) k = (fresh k || waiting k) && some_below a.size (a.far k)
 
 -- the leaf's mark is the event's
 abbrev pub agrees : Bool → Bool → Bool
@@ -61,7 +61,7 @@ waits_at_once a k = not (minds_next a k) && some_below a.size (a.far k)
 
 abbrev pub successor : Automaton → RunState → LeafSet → Bool → RunState
 successor a s bits mark = pair (λ k. readers a s bits mark k && minds_next a k)
-    (λ k. not mark && patient a s k || readers a s bits mark k && waits_at_once a k)
+    (λ k. not mark && skip_insensitive a s k || readers a s bits mark k && waits_at_once a k)
 
 abbrev pub has_leaf : Automaton → RunState → Bool
 has_leaf a start = false

@@ -40,9 +40,12 @@ impl Eq for StateSets {
 
 /// The phase is left out: it tells few states apart.
 impl Hash for StateSets {
-    ghost hash_input = { λ p. flat_map fed.u64 (words_of p.fresh) ++ flat_map fed.u64 (words_of p.waiting) };
+    ghost hash_input = { λ p. flat_map fed.u64 (words_of p.fresh)
+        ++ flat_map fed.u64 (words_of p.waiting) };
 
-    ghost respects_eq = { (same_Alike (λ p. flat_map fed.u64 (words_of p.fresh) ++ flat_map fed.u64 (words_of p.waiting)) Decides-sets).fed };
+    ghost respects_eq = { (same_Alike
+        (λ p. flat_map fed.u64 (words_of p.fresh)
+        ++ flat_map fed.u64 (words_of p.waiting)) Decides-sets).fed };
 
     fn hash<H: Hasher>(&self, state: &mut H) {
         self.fresh.hash(state);
@@ -56,7 +59,7 @@ impl PartialEq for TransitionKey {
     ghost laws = { partial_equiv_from_equiv (decided is_same_key Decides-key) };
 
     fn eq(&self, other: &TransitionKey) -> bool {
-        self.state == other.state && self.class == other.class
+        self.state == other.state && self.event_class == other.event_class
     }
 }
 
@@ -65,12 +68,13 @@ impl Eq for TransitionKey {
 }
 
 impl Hash for TransitionKey {
-    ghost hash_input = { λ p. fed.u64 p.state ++ fed.u64 p.class };
+    ghost hash_input = { λ p. fed.u64 p.state ++ fed.u64 p.event_class };
 
-    ghost respects_eq = { (same_Alike (λ p. fed.u64 p.state ++ fed.u64 p.class) Decides-key).fed };
+    ghost respects_eq = { (same_Alike
+        (λ p. fed.u64 p.state ++ fed.u64 p.event_class) Decides-key).fed };
 
     fn hash<H: Hasher>(&self, state: &mut H) {
         self.state.hash(state);
-        self.class.hash(state);
+        self.event_class.hash(state);
     }
 }

@@ -11,7 +11,7 @@ use std::marker::Model;
 pub const SLOTTED_STATES: u64 = 4096;
 
 /// How many classes have slots, from the first on.
-pub const SLOTTED_CLASSES: u64 = 64;
+pub const SLOTTED_EVENT_CLASSES: u64 = 64;
 
 /// A place for each pair of a slotted state and a slotted class: seen as the list of the places.
 #[derive(Drop)]
@@ -31,8 +31,8 @@ impl Model for Places {
 fn slot(key: TransitionKey) -> Option<usize>
     ensures { result ≡ slot_of key }
 {
-    if key.state < SLOTTED_STATES && key.class < SLOTTED_CLASSES {
-        Some((key.state * SLOTTED_CLASSES + key.class) as usize)
+    if key.state < SLOTTED_STATES && key.event_class < SLOTTED_EVENT_CLASSES {
+        Some((key.state * SLOTTED_EVENT_CLASSES + key.event_class) as usize)
     } else {
         None
     }

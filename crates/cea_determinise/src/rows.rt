@@ -35,8 +35,8 @@ pub enum Effect {
 /// Some states other than the start, in order, with what events of a class do to them. What is compared
 /// stands first, and up to three states in the row itself.
 #[derive(Drop)]
-pub struct KnownRow {
-    pub class: EventClass,
+pub struct CachedTransition {
+    pub event_class: EventClass,
     pub effect: Effect,
     pub states: SmallVec<State, 3>,
     /// The successors of the start, then of each state.
@@ -45,17 +45,17 @@ pub struct KnownRow {
 
 /// Rows by numbers that their owner gives them: seen as the list of the rows.
 #[derive(Drop)]
-pub struct KnownRows {
-    rows: Vec<KnownRow>,
+pub struct TransitionCache {
+    rows: Vec<CachedTransition>,
     /// For each number where its row may stand.
     places: Vec<u8>,
 }
 
-impl Model for KnownRows {
+impl Model for TransitionCache {
     ghost use Rattle.std.specs.Prelude.{List};
-    ghost use Rattle.cea_determinise.specs.declared.rows.KnownRow.{KnownRow};
+    ghost use Rattle.cea_determinise.specs.declared.rows.CachedTransition.{CachedTransition};
 
-    ghost Value = { List KnownRow };
+    ghost Value = { List CachedTransition };
 
     ghost view = { λ k. k.rows.items };
 }
@@ -81,12 +81,12 @@ fn tell(places: &mut Vec<u8>, number: u64, place: u8) -> Result<(), Memory> {
     Ok(())
 }
 
-impl KnownRows {
+impl TransitionCache {
     /// No row. It takes no memory.
-    pub fn new(alloc: Global) -> KnownRows
+    pub fn new(alloc: Global) -> TransitionCache
         ensures { result ≡ [] }
     {
-        KnownRows {
+        TransitionCache {
             rows: Vec::new(alloc),
             places: Vec::new(alloc),
         }
@@ -100,7 +100,7 @@ impl KnownRows {
     }
 
     /// The row that was kept last under the number, or another one.
-    pub fn get(&self, number: u64) -> Option<&KnownRow>
+    pub fn get(&self, number: u64) -> Option<&CachedTransition>
         ensures { (ts : List (Key × Found)) → All (IsListed ts) self.now → IfSome result
             (λ r. IsListed ts r.now) }
     {
@@ -114,14 +114,14 @@ impl KnownRows {
 
     /// Keeps the row under the number, in the place of the one that was kept there. It is not kept
     /// where there is no room or no memory, or where the number is too high.
-    pub fn put(&mut self, number: u64, row: KnownRow)
+    pub fn put(&mut self, number: u64, row: CachedTransition)
         ensures { (ts : List (Key × Found)) → All (IsListed ts) self.old → IsListed ts row
             → All (IsListed ts) self.new }
     {
-        let known = place(self.places.as_slice(), number);
+        let cached = place(self.places.as_slice(), number);
         let len = self.rows.len();
-        if known < len {
-            self.rows[known] = row;
+        if cached < len {
+            self.rows[cached] = row;
         } else if len < KEPT_ROWS {
             // Where this has no memory, the row is looked up state by state.
             let _told = tell(&mut self.places, number, len as u8);

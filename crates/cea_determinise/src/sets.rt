@@ -2,7 +2,7 @@
 ghost use Rattle.std.specs.Prelude.{◌≡◌, ℕ, ◌<◌, ◌||◌, ◌&&◌, Bool, List, [], length, slice_index_or, option_map, IfOk, IfSome};
 ghost use Rattle.std.specs.Option.{option_copied};
 ghost use Rattle.cer_base.specs.Bits.{has, room_for};
-ghost use Rattle.cea_determinise.specs.Runs.{some_below, candidates, patient, agrees, pair, minds_next, waits_at_once};
+ghost use Rattle.cea_determinise.specs.Runs.{some_below, candidates, skip_insensitive, agrees, pair, minds_next, waits_at_once};
 ghost use Rattle.cea_determinise.specs.Strict.{phase_after, next_standing};
 ghost use Rattle.cea_determinise.specs.Cea.{row, automaton_of_cea, IsSet, IsWellFormed, HasLeavesBelow, standing_of, standing, takes_marked};
 
@@ -132,7 +132,7 @@ pub fn all_waiting(alloc: Global, cea: &Cea, state_sets: &StateSets) -> Result<B
     requires state_sets { HasLeavesBelow cea.now.size state_sets.now }
     ensures set { IfOk result (IsSet cea.now.size) }
     ensures members { IfOk result (λ w. (k : ℕ) → has w k
-        ≡ patient (automaton_of_cea cea.now) (pair (has state_sets.now.fresh)
+        ≡ skip_insensitive (automaton_of_cea cea.now) (pair (has state_sets.now.fresh)
         (has state_sets.now.waiting)) k) }
 {
     let mut leaves = Bits::blank(alloc, cea.size)?;

@@ -2,7 +2,7 @@
 ghost use Rattle.std.specs.Prelude.{◌≡◌, ℕ, ◌&&◌, ◌||◌, not, length, option_map, IfOk, IfSome};
 ghost use Rattle.std.specs.Option.{option_copied};
 ghost use Rattle.cer_base.specs.Bits.{has, room_for};
-ghost use Rattle.cea_determinise.specs.Runs.{candidates, patient, readers, minds_next, waits_at_once, has_leaf, pair};
+ghost use Rattle.cea_determinise.specs.Runs.{candidates, skip_insensitive, readers, minds_next, waits_at_once, has_leaf, pair};
 ghost use Rattle.cea_determinise.specs.Strict.{next_standing};
 ghost use Rattle.cea_determinise.specs.Cea.{automaton_of_cea, IsSet, IsWellFormed, HasLeavesBelow, standing_of, standing, takes_marked};
 
@@ -69,7 +69,7 @@ fn passing(
     requires state_sets { IfSome state_sets (λ p. HasLeavesBelow cea.now.size p.now) }
     ensures set { IfOk result (IsSet cea.now.size) }
     ensures members { IfOk result (λ w. (k : ℕ) → has w k
-        ≡ not (takes_marked side) && patient (automaton_of_cea cea.now)
+        ≡ not (takes_marked side) && skip_insensitive (automaton_of_cea cea.now)
         (standing (option_copied state_sets.entry)).sets k) }
 {
     match (state_sets, side) {
@@ -92,7 +92,7 @@ fn waiting_after(
     requires readers { IsSet cea.now.size readers.now }
     ensures set { IfOk result (IsSet cea.now.size) }
     ensures members { IfOk result (λ w. (k : ℕ) → has w k
-        ≡ not (takes_marked side) && patient (automaton_of_cea cea.now)
+        ≡ not (takes_marked side) && skip_insensitive (automaton_of_cea cea.now)
         (standing (option_copied state_sets.entry)).sets k
         || has readers.now k && waits_at_once (automaton_of_cea cea.now) k) }
 {
@@ -118,7 +118,7 @@ fn sets_after(
         (standing (option_copied state_sets.entry)).sets (has bits.now) (takes_marked side) k
         && minds_next (automaton_of_cea cea.now) k) }
     ensures waiting { IfOk result (λ r. (k : ℕ) → has r.1 k
-        ≡ not (takes_marked side) && patient (automaton_of_cea cea.now)
+        ≡ not (takes_marked side) && skip_insensitive (automaton_of_cea cea.now)
         (standing (option_copied state_sets.entry)).sets k
         || readers (automaton_of_cea cea.now) (standing (option_copied state_sets.entry)).sets
         (has bits.now) (takes_marked side) k && waits_at_once (automaton_of_cea cea.now) k) }

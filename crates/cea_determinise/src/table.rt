@@ -11,7 +11,7 @@ pub type EventClass = u64;
 #[derive(Drop, Debug, Clone, Copy)]
 pub struct TransitionKey {
     pub state: State,
-    pub class: EventClass,
+    pub event_class: EventClass,
 }
 
 /// The successors of a state on an event, each None exactly where that successor is none.
@@ -27,7 +27,7 @@ pub struct Successors {
 pub struct Sizes {
     pub states: u64,
     pub pairs: u64,
-    pub classes: u64,
+    pub event_classes: u64,
 }
 
 /// The successors of a state on an event, not numbered yet.

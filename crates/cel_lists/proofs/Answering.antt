@@ -12,7 +12,7 @@ use Rattle.cel_terms.specs.declared.Query.{Query}
 use Rattle.cel_terms.specs.declared.Formula.{Formula}
 use Rattle.cel_terms.specs.Meaning.{Stream, Valuation, meaning}
 use Rattle.cel_terms.specs.Answers.{Answer, IsAnswer, HasMarks, AreMarks, IsOfSubstream, selected, substream, AreAnswersAt}
-use Rattle.cel_terms.specs.Laws.{stream_of}
+use Rattle.cel_terms.specs.MeaningLaws.{stream_of}
 use Rattle.cel_terms.proofs.Marked.{Binds, bound_within, lies_selected}
 use Rattle.cel_lists.specs.declared.Match.{Match}
 use Rattle.cel_lists.specs.Lists.{matches_of}

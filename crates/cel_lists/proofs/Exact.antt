@@ -10,7 +10,7 @@ use Rattle.cel_terms.specs.declared.Postfix.{Postfix}
 use Rattle.cel_terms.specs.declared.Postfix.TheVariants.{Plus, NextPlus, Named, Keep}
 use Rattle.cel_terms.specs.declared.Formula.{Formula, Of, Chain', Linked', Either', Post', Under', Row_of-Formula, end_of-Formula, more_of-Formula, Row_of-Link, end_of-Link, more_of-Link}
 use Rattle.cel_terms.specs.Meaning.{Meaning, Valuation, Single, IsTyped, Sequence, Repeated, OneOf, Renamed, Filtered, event_type_name, under, with_postfix, with_postfixes, meaning, first_of_chain, chained, linked, one_of}
-use Rattle.cel_terms.specs.Laws.{stream_of}
+use Rattle.cel_terms.specs.MeaningLaws.{stream_of}
 use Rattle.std.proofs.lemmas.Slice.Eq.{bytes_eq-Decides}
 use Rattle.cel_terms.proofs.Operations.{Within, Moves-refl, sequence_within, repeated_within}
 use Rattle.cel_terms.proofs.Induction.{Every, Always, every_postfix}

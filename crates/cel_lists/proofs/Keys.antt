@@ -13,7 +13,7 @@ use Rattle.cel_terms.specs.declared.Name.{Name}
 use Rattle.cel_terms.specs.declared.Query.{Query}
 use Rattle.cel_terms.specs.Predicate.{attr_value}
 use Rattle.cel_terms.specs.Answers.{query_types, values_at, IsOfSubstream}
-use Rattle.cel_terms.specs.Reading.{query_reads}
+use Rattle.cel_terms.specs.EventsRead.{query_reads}
 use Rattle.cel_lists.specs.Below.{below, both_same, same_attr, shares, shares_at, substream_positions}
 use Rattle.cel_lists.proofs.Members.{Among, contains_from, among_from, any_among, among_any}
 use Rattle.cel_lists.proofs.Sequences.{and_from, and_to}

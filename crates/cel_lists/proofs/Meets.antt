@@ -9,7 +9,7 @@ use Rattle.cel_terms.specs.declared.Pred.{Pred}
 use Rattle.cel_terms.specs.declared.Filter.{Filter, On, All', Any', Row_of-Filter, end_of-Filter, more_of-Filter}
 use Rattle.cel_terms.specs.Predicate.{holds}
 use Rattle.cel_terms.specs.Meaning.{Valuation, lists_name, AllHold, Meets, MeetsAll, MeetsAny}
-use Rattle.cel_terms.specs.Laws.{stream_of}
+use Rattle.cel_terms.specs.MeaningLaws.{stream_of}
 use Rattle.cel_lists.specs.Lists.{passes, meets, meets_all, meets_any}
 use Rattle.cel_lists.proofs.Members.{or_here, or_later, or_cases}
 use Rattle.cel_lists.proofs.Sequences.{and_from, and_to}

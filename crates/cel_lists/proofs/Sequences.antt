@@ -6,7 +6,7 @@ use Rattle.std.specs.List.{list_any, filter_map}
 use Rattle.stream_schema.specs.Types.{Declared}
 use Rattle.stream_schema.specs.declared.Event.{Event}
 use Rattle.cel_terms.specs.Meaning.{Meaning, Valuation, MayFollow, Sequence, Repeated, once, again}
-use Rattle.cel_terms.specs.Laws.{stream_of}
+use Rattle.cel_terms.specs.MeaningLaws.{stream_of}
 use Rattle.cel_terms.proofs.Operations.{Within}
 use Rattle.cel_lists.specs.declared.Match.{Match}
 use Rattle.cel_lists.specs.Lists.{is_between, may_follow, joined, join_if, in_sequence, times, up_to}

@@ -17,7 +17,7 @@ use Rattle.cel_terms.specs.declared.Window.TheVariants.{Free, Events, Clock}
 use Rattle.cel_terms.specs.Predicate.{attr_value}
 use Rattle.cel_terms.specs.Meaning.{Bound, Valuation, lists_name}
 use Rattle.cel_terms.specs.Answers.{Answer, is_bound}
-use Rattle.cel_terms.specs.Reading.{query_reads}
+use Rattle.cel_terms.specs.EventsRead.{query_reads}
 use Rattle.cel_lists.specs.declared.Match.{Match}
 
 -- the numbers below a bound that pass, ascending

@@ -100,7 +100,7 @@ fn filtered(
     let mut after = Vec::new(alloc);
     for found in part.as_slice() {
         if meets(schema, events, filter, found.bounds.as_slice()) {
-            after.push(crate::found::copy_match(alloc, found)?)?;
+            after.push(crate::copies::copy_match(alloc, found)?)?;
         }
     }
     Ok(after)

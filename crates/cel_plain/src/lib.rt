@@ -8,8 +8,8 @@
 #![tactic(auto)]
 
 pub mod answers;
+pub mod copies;
 pub mod filter;
-pub mod found;
 pub mod marks;
 pub mod matches;
 pub mod postfix;

@@ -1,13 +1,13 @@
 //! The valuations of a formula with their intervals.
 
 ghost use Rattle.std.specs.Prelude.{◌≡◌, IfOk};
-ghost use Rattle.cel_terms.specs.Laws.{stream_of};
+ghost use Rattle.cel_terms.specs.MeaningLaws.{stream_of};
 ghost use Rattle.cel_terms.specs.Meaning.{meaning};
 ghost use Rattle.cel_lists.specs.Valuations.{AreMatchesOf};
 ghost use Rattle.cel_lists.specs.Lists.{matches_of, listed_chain, listed_links, listed_choices};
 
+use crate::copies::add_copies;
 use crate::filter::all_filtered;
-use crate::found::add_copies;
 use crate::postfix::after_postfixes;
 use crate::sequence::in_sequence;
 use crate::single::singles;

@@ -59,8 +59,8 @@ fn changed_names(alloc: Global, postfix: &Postfix, names: &[Text]) -> Result<Vec
     ensures { IfOk result (λ after. after.items ≡ change postfix.now names.now) }
 {
     match postfix {
-        Postfix::Plus => crate::found::copy_names(alloc, names),
-        Postfix::NextPlus => crate::found::copy_names(alloc, names),
+        Postfix::Plus => crate::copies::copy_names(alloc, names),
+        Postfix::NextPlus => crate::copies::copy_names(alloc, names),
         Postfix::Named(name) => with_name(alloc, name.text.as_str(), names),
         Postfix::Keep(listed) => only_names(alloc, listed.as_slice(), names),
     }

@@ -4,7 +4,7 @@ ghost use Rattle.std.specs.Prelude.{◌≡◌, ◌++◌, IfOk, OnOk};
 ghost use Rattle.std.specs.List.{list_any, filter_map};
 ghost use Rattle.cel_lists.specs.Lists.{is_between, may_follow, join_if, in_sequence, times, up_to};
 
-use crate::found::{add_copies, joined};
+use crate::copies::{add_copies, joined};
 use cel_lists::Match;
 use cer_base::{Memory, Pos};
 use std::alloc::Global;

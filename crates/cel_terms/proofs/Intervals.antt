@@ -3,7 +3,7 @@ use Rattle.std.proofs.Common.{refl, sym, subst, ℕ, ◌<◌, ◌≤◌, List, [
 use Rattle.std.proofs.lemmas.Option.{slice_get_within}
 use Rattle.cel_terms.specs.declared.Formula.{Formula}
 use Rattle.cel_terms.specs.Meaning.{Stream, Valuation, Single, with_name, only_names, meaning}
-use Rattle.cel_terms.specs.Laws.{IsSpan, IsWithin}
+use Rattle.cel_terms.specs.MeaningLaws.{IsSpan, IsWithin}
 use Rattle.cel_terms.proofs.Induction.{renamed, IsKept, Always, always, every}
 
 -- each position of the valuation is one of the substream, from the start to the end

@@ -10,7 +10,7 @@ use Rattle.cel_terms.specs.declared.Postfix.TheVariants.{Plus, NextPlus, Named, 
 use Rattle.cel_terms.specs.declared.Formula.{Formula, Of, Chain', Linked', Either', Post', Under', Row_of-Formula, end_of-Formula, more_of-Formula, Row_of-Link, end_of-Link, more_of-Link}
 use Rattle.cel_terms.specs.Meaning.{Stream, Bound, Valuation, with_name, only_names, meaning}
 use Rattle.cel_terms.specs.Answers.{Answer, IsAnswer, IsOfSubstream, IsBoundAt, is_bound, selected, substream}
-use Rattle.cel_terms.specs.Laws.{IsWithin, HaveNoKeep, HasNoKeep, AllHaveNoKeep, LinksHaveNoKeep}
+use Rattle.cel_terms.specs.MeaningLaws.{IsWithin, HaveNoKeep, HasNoKeep, AllHaveNoKeep, LinksHaveNoKeep}
 use Rattle.cel_terms.proofs.Induction.{renamed, IsKept, AllCount, PostfixesCount, PartsCount, LinksCount, every}
 use Rattle.cel_terms.proofs.Intervals.{AllWithin, Lies, lies, same_positions}
 

@@ -2,7 +2,7 @@
 use Rattle.std.proofs.Common.{refl, sym, ap, subst, ◌∙◌, ℕ, inl, inr, Bool, List, ◌++◌, append_assoc}
 use Rattle.cel_terms.specs.declared.Filter.{Filter}
 use Rattle.cel_terms.specs.Meaning.{Stream, Meaning, Valuation, MayFollow, Sequence, Repeated, once, again, OneOf, Renamed, Filtered}
-use Rattle.cel_terms.specs.Laws.{AreSame}
+use Rattle.cel_terms.specs.MeaningLaws.{AreSame}
 
 -- each valuation of the one is one of the other
 abbrev pub Within : Meaning → Meaning → Type 0

@@ -1,6 +1,6 @@
 pub mod Predicate
 pub mod Meaning
 pub mod Answers
-pub mod Reading
+pub mod EventsRead
 pub mod Checked
-pub mod Laws
+pub mod MeaningLaws

@@ -1,6 +1,6 @@
 //! Laws of the meaning of queries. Each function does nothing; its contract is the law.
 
-ghost use Rattle.cel_terms.specs.Laws.{ChainsBracketAnywhere, ChoicesCommute, EndsAreMarked, IntervalsSpan, MarksLieWithin, RepetitionUnfolds, UndeclaredIsLeftOut};
+ghost use Rattle.cel_terms.specs.MeaningLaws.{ChainsBracketAnywhere, ChoicesCommute, EndsAreMarked, IntervalsSpan, MarksLieWithin, RepetitionUnfolds, UndeclaredIsLeftOut};
 
 /// `(f ; g) ; h` means what `f ; (g ; h)` means, and so for `:` in either place.
 pub fn chains_bracket_anywhere()

@@ -9,7 +9,7 @@
 
 ghost use Rattle.std.specs.Prelude.{◌≡◌, List, ℕ};
 
-use cer_base::{Listed, Place, Text};
+use cer_base::{Listed, Location, Text};
 use stream_schema::Value;
 
 pub mod laws;
@@ -21,7 +21,7 @@ pub use stream_schema::Op;
 #[derive(Drop, Debug)]
 pub struct Name {
     pub text: Text,
-    pub place: Place,
+    pub place: Location,
 }
 
 pub type Names = Listed<Name>;
@@ -86,5 +86,5 @@ pub struct Query {
     pub formula: Formula,
     pub partition: Names,
     pub window: Window,
-    pub place: Place,
+    pub place: Location,
 }

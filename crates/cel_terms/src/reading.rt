@@ -5,7 +5,7 @@ ghost use Rattle.std.specs.Option.{option_copied};
 ghost use Rattle.std.specs.List.{list_any, position_from};
 ghost use Rattle.cel_terms.specs.Predicate.{attr_value};
 ghost use Rattle.cel_terms.specs.Answers.{types_of_stream};
-ghost use Rattle.cel_terms.specs.Reading.{query_reads};
+ghost use Rattle.cel_terms.specs.EventsRead.{query_reads};
 
 use crate::{Name, Query};
 use stream_schema::{Attr, Event, Schema, TypeId, Value};

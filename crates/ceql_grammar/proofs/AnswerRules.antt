@@ -1,24 +1,24 @@
 -- The answer of a list of tokens: that it is one, and that there is no other. For callers of the crate too.
 use Rattle.std.proofs.Common.{◌≡◌, refl, sym, ◌∙◌, ap, subst, Bool, List, [], ◌∷◌, ◌++◌, arith, append_assoc, append-nil}
 use Rattle.std.specs.Prelude.{Ok, Err}
-use Rattle.cer_base.specs.declared.Place.{Place}
+use Rattle.cer_base.specs.declared.Location.{Location}
 use Rattle.ceql_lexer.specs.declared.Token.{Token}
 use Rattle.ceql_grammar.specs.declared.faults.QueryError.{QueryError}
 use Rattle.ceql_grammar.specs.declared.faults.QueryFault.{QueryFault}
 use Rattle.ceql_grammar.specs.declared.faults.QueryFault.TheVariants.{BadByte, OpenString, NumberTooLarge, NotUtf8, TooFine, Unexpected, NameTaken, UnknownType, UnknownStream, UnknownName, UnknownAttribute, NeverKind, NoOrder, TooDeep, TooManyLeaves, NoQuery, TooManyQueries, WindowKind, TextTooLong, BadScale, BadCount}
 use Rattle.ceql_grammar.specs.Statements.{StatementTree, AreStatements}
 use Rattle.ceql_grammar.specs.Texts.{IsFirstTooDeep, IsShallow, IsTooDeep, IsDeadEnd, IsUnexpectedAt, IsUnexpected, IsParsed, IsUnparsed, ParseAnswer, IsParseOfBody, IsParseOf, is_none, place_of}
-use Rattle.ceql_grammar.specs.Reading as reading
-use Rattle.ceql_grammar.proofs.Reading.{Cuts, same, earlier, later, cuts}
+use Rattle.ceql_grammar.specs.RuleReaders as reading
+use Rattle.ceql_grammar.proofs.RuleReaders.{Cuts, same, earlier, later, cuts}
 use Rattle.ceql_grammar.proofs.Depths.{same_cut}
 use Rattle.ceql_grammar.proofs.TextRules.{accepted, refused_text, one_reading}
 
 -- which of the two faults a refusal is
-data Refusal (tokens body : List Token) (end : Token) (fault : QueryFault) (place : Place) : Type 0 where
+data Refusal (tokens body : List Token) (end : Token) (fault : QueryFault) (place : Location) : Type 0 where
   deep : fault ≡ TooDeep → IsTooDeep tokens place → Refusal tokens body end fault place
   stray : (at_end : Bool) → fault ≡ Unexpected at_end → IsUnexpected tokens body end at_end place → Refusal tokens body end fault place
 
-refusal : (tokens body : List Token) (end : Token) (fault : QueryFault) (place : Place) → IsUnparsed tokens body end fault place → Refusal tokens body end fault place
+refusal : (tokens body : List Token) (end : Token) (fault : QueryFault) (place : Location) → IsUnparsed tokens body end fault place → Refusal tokens body end fault place
 refusal tokens body end (BadByte x0) place h = absurd h
 refusal tokens body end OpenString place h = absurd h
 refusal tokens body end NumberTooLarge place h = absurd h
@@ -50,7 +50,7 @@ first_same tokens before other t u h k =
     let cut = same_cut before other t u h.here.after k.here.after (sym h.here.split ∙ k.here.split) (omega (arith, l, m)) in
     cut.1
 
-deep_same : (tokens : List Token) (p q : Place) → IsTooDeep tokens p → IsTooDeep tokens q → p ≡ q
+deep_same : (tokens : List Token) (p q : Location) → IsTooDeep tokens p → IsTooDeep tokens q → p ≡ q
 deep_same tokens p q h k = h.place_is ∙ ap (λ t. t.place) (first_same tokens h.before k.before h.token k.token h.first k.first) ∙ sym k.place_is
 
 -- a text goes on with the first of the tokens left
@@ -70,15 +70,15 @@ left_same body before left other rest h k (same e) = e
 left_same body before left other rest h k (earlier t us e f) = absurd (continues_statement body before left other rest t us h k e f)
 left_same body before left other rest h k (later t us e f) = absurd (continues_statement body other rest before left t us k h e f)
 
-stray_same : (tokens body : List Token) (end : Token) (a b : Bool) (p q : Place) → IsUnexpected tokens body end a p → IsUnexpected tokens body end b q → (a ≡ b) × (p ≡ q)
+stray_same : (tokens body : List Token) (end : Token) (a b : Bool) (p q : Location) → IsUnexpected tokens body end a p → IsUnexpected tokens body end b q → (a ≡ b) × (p ≡ q)
 stray_same tokens body end a b p q h k =
     let e = left_same body h.before h.left k.before k.left h.here k.here (cuts h.before h.left k.before k.left (sym h.here.split ∙ k.here.split)) in
     (h.end_is ∙ ap is_none e ∙ sym k.end_is, h.place_is ∙ ap (λ left. place_of left end) e ∙ sym k.place_is)
 
-deep_shallow : (tokens : List Token) (p : Place) → IsTooDeep tokens p → IsShallow tokens → ⊥
+deep_shallow : (tokens : List Token) (p : Location) → IsTooDeep tokens p → IsShallow tokens → ⊥
 deep_shallow tokens p h s = s h.before h.token h.first.here
 
-refusals_same : (tokens body : List Token) (end : Token) (f g : QueryFault) (p q : Place) → Refusal tokens body end f p → Refusal tokens body end g q → (f ≡ g) × (p ≡ q)
+refusals_same : (tokens body : List Token) (end : Token) (f g : QueryFault) (p q : Location) → Refusal tokens body end f p → Refusal tokens body end g q → (f ≡ g) × (p ≡ q)
 refusals_same tokens body end f g p q (deep e h) (deep i k) = (e ∙ sym i, deep_same tokens p q h k)
 refusals_same tokens body end f g p q (deep e h) (stray b i k) = absurd (deep_shallow tokens p h k.shallow)
 refusals_same tokens body end f g p q (stray a e h) (deep i k) = absurd (deep_shallow tokens q k h.shallow)
@@ -92,7 +92,7 @@ text_dead : (before left : List Token) (statements : List StatementTree) → IsD
 text_dead before [] statements dead h = dead statements (subst (λ ts. AreStatements ts statements) (append-nil before) h)
 text_dead before (t ∷ left) statements dead h = dead left statements h
 
-accepted_refused : (tokens body : List Token) (end : Token) (ss : List StatementTree) (p : Place) (f : QueryFault) (q : Place) → IsParsed tokens body end ss p → Refusal tokens body end f q → ⊥
+accepted_refused : (tokens body : List Token) (end : Token) (ss : List StatementTree) (p : Location) (f : QueryFault) (q : Location) → IsParsed tokens body end ss p → Refusal tokens body end f q → ⊥
 accepted_refused tokens body end ss p f q h (deep e k) = deep_shallow tokens q k h.shallow
 accepted_refused tokens body end ss p f q h (stray b e k) = text_dead k.before k.left ss k.here.dead (subst (λ ts. AreStatements ts ss) k.here.split h.derived)
 
@@ -123,13 +123,13 @@ one_answer tokens a b h k =
 
 -- THE ANSWERS THAT ARE FOUND
 
-pub found_deep : (tokens body : List Token) (end : Token) (place : Place) → tokens ≡ body ++ end ∷ [] → IsTooDeep tokens place → IsParseOf tokens (Err (record { fault = TooDeep; place = place }))
+pub found_deep : (tokens body : List Token) (end : Token) (place : Location) → tokens ≡ body ++ end ∷ [] → IsTooDeep tokens place → IsParseOf tokens (Err (record { fault = TooDeep; place = place }))
 found_deep tokens body end place e h = record { body = body; end = end; split = e; is = h }
 
-pub found_text : (tokens body : List Token) (end : Token) (ss : List StatementTree) (place : Place) → tokens ≡ body ++ end ∷ [] → IsShallow tokens → reading.text body ≡ Ok (ss, []) → place ≡ end.place → IsParseOf tokens (Ok (ss, place))
+pub found_text : (tokens body : List Token) (end : Token) (ss : List StatementTree) (place : Location) → tokens ≡ body ++ end ∷ [] → IsShallow tokens → reading.text body ≡ Ok (ss, []) → place ≡ end.place → IsParseOf tokens (Ok (ss, place))
 found_text tokens body end ss place e s h p = record { body = body; end = end; split = e; is = record { shallow = s; derived = accepted body ss [] h; place_is = p } }
 
-stray_is : (tokens body : List Token) (end : Token) (left : List Token) (f : QueryFault) (p : Place) → IsShallow tokens → (before : List Token) × IsUnexpectedAt body before left → f ≡ Unexpected (is_none left) → p ≡ place_of left end → IsUnparsed tokens body end f p
+stray_is : (tokens body : List Token) (end : Token) (left : List Token) (f : QueryFault) (p : Location) → IsShallow tokens → (before : List Token) × IsUnexpectedAt body before left → f ≡ Unexpected (is_none left) → p ≡ place_of left end → IsUnparsed tokens body end f p
 stray_is tokens body end left f p s h e k =
     subst (λ f. IsUnparsed tokens body end f p) (sym e) (record { shallow = s; before = h.0; left = left; here = h.1; end_is = refl; place_is = k })
 

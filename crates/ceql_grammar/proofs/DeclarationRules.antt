@@ -12,9 +12,9 @@ use Rattle.ceql_grammar.specs.Values.{is_number}
 use Rattle.ceql_grammar.specs.Formulas.{AreNames}
 use Rattle.ceql_grammar.specs.Statements.{StatementTree, event, stream, placed_number, IsKind, int_kind, text_kind, flag_kind, decimal_kind, IsAttrDecl, attr, AreMoreAttrs, no_more_attrs, comma_attr, AreAttrs, no_attrs, attrs, IsStatement, declares_event, declares_stream}
 use Rattle.ceql_grammar.specs.RuleForms.{Rule, TokenReader, Test, Stops, Bind, bound, NoTokens, no_tokens, Mapped, mapped, One, one, Either, left, right, bind, map_read, give, starts, none, more}
-use Rattle.ceql_grammar.specs.Reading as reading
-use Rattle.ceql_grammar.specs.Reading.{continues_statement}
-use Rattle.ceql_grammar.proofs.Reading.{Goes, NoFront, Outcome, Reads, Filled, Shuns, reads_bind, reads_mapped, reads_one, reads_give, begins_one, shuns_ends, stops_ends, nothing_out, starts_stops, stops_starts, starts_front, shuns_nothing}
+use Rattle.ceql_grammar.specs.RuleReaders as reading
+use Rattle.ceql_grammar.specs.RuleReaders.{continues_statement}
+use Rattle.ceql_grammar.proofs.RuleReaders.{Goes, NoFront, Outcome, Reads, Filled, Shuns, reads_bind, reads_mapped, reads_one, reads_give, begins_one, shuns_ends, stops_ends, nothing_out, starts_stops, stops_starts, starts_front, shuns_nothing}
 use Rattle.ceql_grammar.proofs.Fixpoints.{reads_other, reads_fewer, begins_bind, shuns_apart, shuns_mapped}
 use Rattle.ceql_grammar.proofs.ExclusiveTests.{disjoint, apart, name_apart, a_name, a_number, a_sign, a_word}
 use Rattle.ceql_grammar.proofs.ReaderForms.{none as no_mark, led_rule, closed_rule, repeated_rule, list_rule, reads_led, reads_branch, reads_closed, reads_list, shuns_either, shuns_led, begins_other}

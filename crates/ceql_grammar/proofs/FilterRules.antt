@@ -7,8 +7,8 @@ use Rattle.ceql_grammar.specs.WordsAndSigns.{among, is, token_name}
 use Rattle.ceql_grammar.specs.Trees.{FilterTree, on}
 use Rattle.ceql_grammar.specs.Conditions.{all_filters, any_filter, IsPred, IsFilter, filter, AreOrFilters, or_filters_end, or_filter, IsFilterConjunction, filter_conjunction, AreAndFilters, and_filters_end, and_filter, IsFilterUnit, on_name, filter_in_parens}
 use Rattle.ceql_grammar.specs.RuleForms.{Rule, TokenReader, Bind, bound, Mapped, mapped, one, Either, left, right, none, more}
-use Rattle.ceql_grammar.specs.Reading as reading
-use Rattle.ceql_grammar.proofs.Reading.{Reads, Filled, reads_bind, reads_mapped, shuns_ends, stops_ends}
+use Rattle.ceql_grammar.specs.RuleReaders as reading
+use Rattle.ceql_grammar.proofs.RuleReaders.{Reads, Filled, reads_bind, reads_mapped, shuns_ends, stops_ends}
 use Rattle.ceql_grammar.proofs.Fixpoints.{reads_other, reads_fewer, fixpoint_reads, fixpoint_is}
 use Rattle.ceql_grammar.proofs.ExclusiveTests.{apart, name_apart, a_name, a_sign, a_word}
 use Rattle.ceql_grammar.proofs.ReaderForms.{none as no_mark, led_rule, closed_rule, repeated_rule, list_rule, reads_led, reads_branch, reads_closed, reads_list}

@@ -3,7 +3,7 @@ use Rattle.std.proofs.Common.{◌≡◌, sym, subst, ℕ, zero, suc, ◌<◌, �
 use Rattle.std.specs.Prelude.{Ok, Err}
 use Rattle.ceql_lexer.specs.declared.Token.{Token}
 use Rattle.ceql_grammar.specs.RuleForms.{Rule, Out, TokenReader, Test, Stops, Bind, bound, NoTokens, no_tokens, Mapped, mapped, Either, left, right, bind, map_read, starts, Many, none, more, iterate, fixpoint, many_step, many}
-use Rattle.ceql_grammar.proofs.Reading.{Goes, ReadTo, Outcome, Reads, Shuns, Begins, agree, reads_behind, reads_mapped, reads_maybe, starts_more, stops_ends}
+use Rattle.ceql_grammar.proofs.RuleReaders.{Goes, ReadTo, Outcome, Reads, Shuns, Begins, agree, reads_behind, reads_mapped, reads_maybe, starts_more, stops_ends}
 
 -- ONE RULE FOR ANOTHER OF THE SAME DERIVATIONS
 

@@ -7,9 +7,9 @@ use Rattle.ceql_grammar.specs.Trees.{FormulaTree}
 use Rattle.ceql_grammar.specs.Conditions.{IsFilter}
 use Rattle.ceql_grammar.specs.Formulas.{chain_tree, either_of, is_link, IsEither, alternatives, AreOthers, others_end, other_next, IsChain, sequence, AreLinks, links_end, link_next, IsPost}
 use Rattle.ceql_grammar.specs.RuleForms.{Rule, TokenReader, Test, Bind, bound, Mapped, mapped, One, one, bind, map_read, one_token, Many, none, more}
-use Rattle.ceql_grammar.specs.Reading as reading
-use Rattle.ceql_grammar.specs.Reading.{FormulaParts, parts_tree, is_tight}
-use Rattle.ceql_grammar.proofs.Reading.{Reads, Begins, reads_bind, reads_mapped, begins_one, stops_ends}
+use Rattle.ceql_grammar.specs.RuleReaders as reading
+use Rattle.ceql_grammar.specs.RuleReaders.{FormulaParts, parts_tree, is_tight}
+use Rattle.ceql_grammar.proofs.RuleReaders.{Reads, Begins, reads_bind, reads_mapped, begins_one, stops_ends}
 use Rattle.ceql_grammar.proofs.Fixpoints.{reads_other, reads_fewer, begins_bind, shuns_mapped, Loops, shuns_many, shuns_many_first, reads_many, fixpoint_reads, fixpoint_is}
 use Rattle.ceql_grammar.proofs.ExclusiveTests.{apart, stops_both, stops_some, a_sign, a_word}
 use Rattle.ceql_grammar.proofs.ReaderForms.{none as no_mark, led_rule, repeated_rule, list_rule, reads_led, reads_list}

@@ -8,7 +8,7 @@ use Rattle.cel_terms.specs.declared.Filter as term
 use Rattle.cel_terms.specs.declared.Link.{Link}
 use Rattle.cel_terms.specs.declared.Formula.{Formula, Chain, Chain', Linked, Linked', Either, Either', Row_of-Formula, end_of-Formula, more_of-Formula, items-the_row-Formula, items_hidden-the_row-Formula-0, Row_of-Link, end_of-Link, more_of-Link, items-the_row-Link, items_hidden-the_row-Link-1}
 use Rattle.ceql_grammar.specs.Trees.{pred_then, filter_then, formula_then, link_then, every_pred, some_pred, preds, pred_tree, pred_trees, every_filter, some_filter, filters, filter_tree, filter_trees, FormulaTree, chain, linked, either, formulas, links, formula_tree, formula_trees, link_trees}
-use Rattle.ceql_grammar.specs.Joined.{all_preds_of, any_pred_of, all_filters_of, any_filter_of, any_formula_of}
+use Rattle.ceql_grammar.specs.MemberLists.{all_preds_of, any_pred_of, all_filters_of, any_filter_of, any_formula_of}
 use Rattle.std.specs.List.{list_any}
 use Rattle.ceql_grammar.specs.Formulas.{chain_tree}
 use Rattle.ceql_grammar.specs.LinkViews.{link_view, next_of, tight_of}

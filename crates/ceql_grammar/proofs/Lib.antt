@@ -1,7 +1,7 @@
 -- which tests of tokens exclude one another
 pub mod ExclusiveTests
 -- what it means that a reader is exact for a rule
-pub mod Reading
+pub mod RuleReaders
 -- readers that call themselves
 pub mod Fixpoints
 -- readers after a word, between two signs, and again and again

@@ -6,7 +6,7 @@ use Rattle.cer_base.specs.declared.OrMemory.TheVariants as wanted
 use Rattle.ceql_lexer.specs.declared.Token.{Token}
 use Rattle.ceql_grammar.specs.ReadResults.{ReadsAs, ReadsAllAs, StopsAs}
 use Rattle.ceql_grammar.specs.PartlyRead.{with_front}
-use Rattle.ceql_grammar.specs.Reading.{any_token}
+use Rattle.ceql_grammar.specs.RuleReaders.{any_token}
 use Rattle.ceql_grammar.specs.RuleForms.{Out, TokenReader, ◌>>=◌, Test, bind, map_read, one_token, many, first_token, starts}
 use Rattle.ceql_grammar.proofs.RepeatedReading.{Again, ends_here, fails_here, goes_here, ends_led, fails_led, goes_led}
 

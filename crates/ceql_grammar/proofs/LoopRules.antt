@@ -8,9 +8,9 @@ use Rattle.ceql_grammar.specs.Formulas.{IsPostfix, IsChain, sequence, links_end,
 use Rattle.ceql_grammar.specs.Statements.{IsAttrDecl, IsStatement}
 use Rattle.ceql_grammar.specs.Trees.{FormulaTree}
 use Rattle.ceql_grammar.specs.RuleForms.{Rule, TokenReader, bind, map_read, one_token}
-use Rattle.ceql_grammar.specs.Reading as reading
-use Rattle.ceql_grammar.specs.Reading.{any_token, continues_statement, is_tight, is_postfix, led, many_after, no_value}
-use Rattle.ceql_grammar.proofs.Reading.{Reads, Filled}
+use Rattle.ceql_grammar.specs.RuleReaders as reading
+use Rattle.ceql_grammar.specs.RuleReaders.{any_token, continues_statement, is_tight, is_postfix, led, many_after, no_value}
+use Rattle.ceql_grammar.proofs.RuleReaders.{Reads, Filled}
 use Rattle.ceql_grammar.proofs.Fixpoints.{reads_fewer}
 use Rattle.ceql_grammar.proofs.ExclusiveTests.{disjoint, covered, a_sign, a_word}
 use Rattle.ceql_grammar.proofs.ReaderForms.{none as no_mark, led_rule, loops, reads_led}

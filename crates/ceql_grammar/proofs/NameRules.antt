@@ -8,8 +8,8 @@ use Rattle.cel_terms.specs.declared.Postfix.TheVariants.{Plus, NextPlus, Named, 
 use Rattle.ceql_grammar.specs.WordsAndSigns.{among, is, token_name}
 use Rattle.ceql_grammar.specs.Formulas.{AreMoreNames, no_more_names, comma_name, AreNames, names, AreBracketedNames, bracketed, IsPostfix, plus, next_plus, named, keep, ArePostfixes, postfixes_end, postfix_next}
 use Rattle.ceql_grammar.specs.RuleForms.{Rule, Test, bound, NoTokens, no_tokens, Mapped, mapped, one, Either, left, right, map_read, give, Many, none, more}
-use Rattle.ceql_grammar.specs.Reading as reading
-use Rattle.ceql_grammar.proofs.Reading.{Reads, Filled, Shuns, Begins, reads_mapped, reads_give, stops_ends}
+use Rattle.ceql_grammar.specs.RuleReaders as reading
+use Rattle.ceql_grammar.proofs.RuleReaders.{Reads, Filled, Shuns, Begins, reads_mapped, reads_give, stops_ends}
 use Rattle.ceql_grammar.proofs.Fixpoints.{reads_other, reads_fewer, Loops, reads_many}
 use Rattle.ceql_grammar.proofs.ExclusiveTests.{apart, a_name, a_sign, a_word}
 use Rattle.ceql_grammar.proofs.ReaderForms.{none as no_mark, led_rule, closed_rule, repeated_rule, list_rule, reads_led, reads_branch, reads_closed, reads_list, shuns_either, shuns_led, begins_either, begins_other, begins_led}

@@ -9,8 +9,8 @@ use Rattle.ceql_grammar.specs.Values.{is_op, op_of, is_literal, literal_of}
 use Rattle.ceql_grammar.specs.Trees.{PredTree, compares, negates}
 use Rattle.ceql_grammar.specs.Conditions.{all_preds, any_pred, IsPred, pred, AreOrPreds, or_end, or_next, IsConjunction, conjunction, AreAndPreds, and_end, and_next, IsUnit, affirmed, negated, IsAtom, comparison, in_parens}
 use Rattle.ceql_grammar.specs.RuleForms.{Rule, TokenReader, Test, Bind, bound, Mapped, mapped, One, one, Either, left, right, map_read, none, more}
-use Rattle.ceql_grammar.specs.Reading as reading
-use Rattle.ceql_grammar.proofs.Reading.{Goes, Reads, Filled, Shuns, reads_bind, reads_mapped, reads_one, begins_one, shuns_ends, stops_ends}
+use Rattle.ceql_grammar.specs.RuleReaders as reading
+use Rattle.ceql_grammar.proofs.RuleReaders.{Goes, Reads, Filled, Shuns, reads_bind, reads_mapped, reads_one, begins_one, shuns_ends, stops_ends}
 use Rattle.ceql_grammar.proofs.Fixpoints.{reads_other, reads_fewer, begins_bind, shuns_apart, fixpoint_reads, fixpoint_is}
 use Rattle.ceql_grammar.proofs.ExclusiveTests.{apart, name_apart, a_name, a_number, a_sign, a_word}
 use Rattle.ceql_grammar.proofs.ReaderForms.{none as no_mark, word_rule, led_rule, closed_rule, repeated_rule, list_rule, reads_branch, reads_closed, reads_list, shuns_either, shuns_other}

@@ -4,8 +4,8 @@ use Rattle.std.specs.Prelude.{Ok, Err, Some, None, if◌then◌else◌}
 use Rattle.ceql_lexer.specs.declared.Token.{Token}
 use Rattle.ceql_grammar.specs.WordsAndSigns.{among, is}
 use Rattle.ceql_grammar.specs.RuleForms.{Rule, TokenReader, ◌>>=◌, Test, Stops, Bind, NoTokens, Mapped, One, one, Either, bind, give, map_read, one_token, starts, choose, Many, when, branch}
-use Rattle.ceql_grammar.specs.Reading.{no_value, mark_token, led, closed, many_after}
-use Rattle.ceql_grammar.proofs.Reading.{Goes, Reads, Filled, Shuns, Begins, reads_bind, reads_behind, reads_mapped, reads_one, reads_either, reads_maybe, begins_one, shuns_ends}
+use Rattle.ceql_grammar.specs.RuleReaders.{no_value, mark_token, led, closed, many_after}
+use Rattle.ceql_grammar.proofs.RuleReaders.{Goes, Reads, Filled, Shuns, Begins, reads_bind, reads_behind, reads_mapped, reads_one, reads_either, reads_maybe, begins_one, shuns_ends}
 use Rattle.ceql_grammar.proofs.Fixpoints.{reads_same, reads_goes, reads_fewer, begins_bind, begins_as, shuns_apart, shuns_mapped, Loops, shuns_many, reads_many}
 use Rattle.ceql_grammar.proofs.ExclusiveTests.{disjoint, covered, apart, within, stops_both, stops_some}
 

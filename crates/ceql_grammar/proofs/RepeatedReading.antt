@@ -4,7 +4,7 @@ use Rattle.std.specs.Prelude.{Some, None, Ok, Err, if◌then◌else◌}
 use Rattle.ceql_lexer.specs.declared.Token.{Token}
 use Rattle.ceql_grammar.specs.PartlyRead.{with_front}
 use Rattle.ceql_grammar.specs.RuleForms.{Rule, Out, TokenReader, ◌>>=◌, Test, Many, many, many_step, fixpoint, iterate, bind, map_read, starts, first_token, one_token}
-use Rattle.ceql_grammar.proofs.Reading.{Goes, ReadTo, Outcome, Reads, shorter_rest, agree, stops_ends}
+use Rattle.ceql_grammar.proofs.RuleReaders.{Goes, ReadTo, Outcome, Reads, shorter_rest, agree, stops_ends}
 use Rattle.ceql_grammar.proofs.Fixpoints.{Loops, reads_under, many_steps, iterate_reads, fixpoint_reads}
 
 -- a loop is one step and then the loop again

@@ -11,8 +11,8 @@ use Rattle.ceql_grammar.specs.Values.{is_count, unsigned_number, is_unit, second
 use Rattle.ceql_grammar.specs.Formulas.{AreNames, names, AreBracketedNames, bracketed}
 use Rattle.ceql_grammar.specs.Statements.{IsMode, not_strict, strict, IsAny, not_any, any, IsSelectList, star, listed, IsUnitOrNone, no_unit, unit, is_events, IsWindowSize, events, clock, IsPartitionClause, no_partition, partition, IsWithinClause, free, within}
 use Rattle.ceql_grammar.specs.RuleForms.{Rule, TokenReader, ◌>>=◌, Test, Bind, bound, NoTokens, no_tokens, Mapped, mapped, One, one, Either, left, right, map_read, give, starts, first_token, when, branch}
-use Rattle.ceql_grammar.specs.Reading as reading
-use Rattle.ceql_grammar.proofs.Reading.{Goes, Reads, Filled, Shuns, Begins, reads_bind, reads_mapped, reads_one, reads_give, reads_give_at, begins_one, shuns_ends}
+use Rattle.ceql_grammar.specs.RuleReaders as reading
+use Rattle.ceql_grammar.proofs.RuleReaders.{Goes, Reads, Filled, Shuns, Begins, reads_bind, reads_mapped, reads_one, reads_give, reads_give_at, begins_one, shuns_ends}
 use Rattle.ceql_grammar.proofs.Fixpoints.{reads_same, reads_other, reads_fewer, begins_bind, begins_mapped, shuns_apart, shuns_mapped}
 use Rattle.ceql_grammar.proofs.ExclusiveTests.{disjoint, apart, name_apart, a_name, a_number, a_sign, a_word}
 use Rattle.ceql_grammar.proofs.ReaderForms.{none as no_mark, word_rule, led_rule, closed_rule, reads_led, reads_branch, reads_optional, reads_closed, shuns_either, shuns_other, shuns_led}

@@ -7,9 +7,9 @@ use Rattle.ceql_grammar.specs.Trees.{FilterTree, FormulaTree, of_type}
 use Rattle.ceql_grammar.specs.Conditions.{IsFilter}
 use Rattle.ceql_grammar.specs.Formulas.{AreFilters, filters_end, filter_next, post_of, IsFormula, formula, IsEither, alternatives, others_end, sequence, links_end, IsPost, with_postfixes, IsPostfix, postfixes_end, IsBase, type_name, in_parens}
 use Rattle.ceql_grammar.specs.RuleForms.{Rule, TokenReader, Test, Bind, bound, Mapped, mapped, one, Either, left, right, bind, map_read, Many, none, more}
-use Rattle.ceql_grammar.specs.Reading as reading
-use Rattle.ceql_grammar.specs.Reading.{FormulaParts, parts_tree, is_tight}
-use Rattle.ceql_grammar.proofs.Reading.{Goes, Reads, Filled, reads_bind, reads_mapped, begins_one, shuns_ends}
+use Rattle.ceql_grammar.specs.RuleReaders as reading
+use Rattle.ceql_grammar.specs.RuleReaders.{FormulaParts, parts_tree, is_tight}
+use Rattle.ceql_grammar.proofs.RuleReaders.{Goes, Reads, Filled, reads_bind, reads_mapped, begins_one, shuns_ends}
 use Rattle.ceql_grammar.proofs.Fixpoints.{reads_other, reads_fewer, begins_mapped, shuns_apart, shuns_mapped, Loops, reads_many_first}
 use Rattle.ceql_grammar.proofs.ExclusiveTests.{apart, name_apart, stops_both, stops_some, a_name, a_sign, a_word}
 use Rattle.ceql_grammar.proofs.ReaderForms.{none as no_mark, word_rule, led_rule, repeated_rule, reads_word, reads_led, reads_branch, loops}

@@ -1,7 +1,7 @@
 -- Statements are read exactly.
 use Rattle.std.proofs.Common.{◌≡◌, refl, sym, subst, ℕ, suc, Bool, true, false, List, [], ◌∷◌, ◌++◌, arith, append_assoc}
 use Rattle.std.specs.Prelude.{codes, Option, Some, None}
-use Rattle.cer_base.specs.declared.Place.{Place}
+use Rattle.cer_base.specs.declared.Location.{Location}
 use Rattle.ceql_lexer.specs.declared.Token.{Token}
 use Rattle.cel_terms.specs.declared.Name.{Name}
 use Rattle.cel_terms.specs.declared.Window.{Window}
@@ -12,9 +12,9 @@ use Rattle.ceql_grammar.specs.Trees.{FilterTree, FormulaTree}
 use Rattle.ceql_grammar.specs.Formulas.{AreNames}
 use Rattle.ceql_grammar.specs.Statements.{StatementTree, select, IsMode, not_strict, IsAny, not_any, any, IsSelectList, star, IsPartitionClause, no_partition, IsWithinClause, free, IsStatement, declares_event, declares_stream, selects}
 use Rattle.ceql_grammar.specs.RuleForms.{Rule, Test, Stops, Bind, bound, NoTokens, Mapped, mapped, One, one, Either, left, right}
-use Rattle.ceql_grammar.specs.Reading as reading
-use Rattle.ceql_grammar.specs.Reading.{FormulaParts, parts_tree, continues_statement}
-use Rattle.ceql_grammar.proofs.Reading.{Goes, Reads, Filled, Shuns, Begins, reads_bind, begins_one, shuns_ends, stops_ends, shuns_nothing}
+use Rattle.ceql_grammar.specs.RuleReaders as reading
+use Rattle.ceql_grammar.specs.RuleReaders.{FormulaParts, parts_tree, continues_statement}
+use Rattle.ceql_grammar.proofs.RuleReaders.{Goes, Reads, Filled, Shuns, Begins, reads_bind, begins_one, shuns_ends, stops_ends, shuns_nothing}
 use Rattle.ceql_grammar.proofs.Fixpoints.{reads_other, reads_fewer, begins_bind, begins_as, shuns_apart, shuns_mapped}
 use Rattle.ceql_grammar.proofs.ExclusiveTests.{disjoint, apart, within, name_apart, a_sign, a_word}
 use Rattle.ceql_grammar.proofs.ReaderForms.{none as no_mark, word_rule, led_rule, reads_led, reads_branch, shuns_either, shuns_other, shuns_led, begins_other, begins_either, begins_led}
@@ -55,10 +55,10 @@ within_ends (Clock a n) ts s = stops_ends {X = ℕ} 0 ts
 
 -- THE PARTS OF A SELECT
 
-abbrev made : Place → Bool → Option NumberAt → Option (List Name) → List Name → FormulaParts → List Name → Window → StatementTree
+abbrev made : Location → Bool → Option NumberAt → Option (List Name) → List Name → FormulaParts → List Name → Window → StatementTree
 made place strict number list ns f ps w = select (record { strict = strict; any = number; counted = None; select = list; streams = ns; formula = parts_tree f; partition = ps; window = w; place = place })
 
-abbrev tail_rule : Place → Bool → Option NumberAt → Option (List Name) → List Name → FormulaParts → List Name → Rule StatementTree
+abbrev tail_rule : Location → Bool → Option NumberAt → Option (List Name) → List Name → FormulaParts → List Name → Rule StatementTree
 tail_rule place strict number list ns f ps = Mapped (made place strict number list ns f ps) IsWithinClause
 
 abbrev condition_rule : Rule FormulaParts
@@ -67,22 +67,22 @@ condition_rule = led_rule (codes "WHERE") pair_rule
 abbrev streams_rule : Rule (List Name)
 streams_rule = led_rule (codes "FROM") AreNames
 
-abbrev scope_rule : Place → Bool → Option NumberAt → Option (List Name) → List Name → Rule StatementTree
+abbrev scope_rule : Location → Bool → Option NumberAt → Option (List Name) → List Name → Rule StatementTree
 scope_rule place strict number list ns = Bind condition_rule (λ f. Bind IsPartitionClause (tail_rule place strict number list ns f))
 
-abbrev source_rule : Place → Bool → Option NumberAt → Option (List Name) → Rule StatementTree
+abbrev source_rule : Location → Bool → Option NumberAt → Option (List Name) → Rule StatementTree
 source_rule place strict number list = Bind streams_rule (scope_rule place strict number list)
 
-abbrev list_rule : Place → Bool → Option NumberAt → Rule StatementTree
+abbrev list_rule : Location → Bool → Option NumberAt → Rule StatementTree
 list_rule place strict number = Bind IsSelectList (source_rule place strict number)
 
-abbrev counted_rule : Place → Bool → Rule StatementTree
+abbrev counted_rule : Location → Bool → Rule StatementTree
 counted_rule place strict = Bind IsAny (list_rule place strict)
 
-abbrev selected_rule : Place → Rule StatementTree
+abbrev selected_rule : Location → Rule StatementTree
 selected_rule place = Bind IsMode (counted_rule place)
 
-abbrev place_of : Token → Place
+abbrev place_of : Token → Location
 place_of t = t.place
 
 abbrev select_rule : Rule StatementTree
@@ -91,27 +91,27 @@ select_rule = Bind (One (is (codes "SELECT")) place_of) selected_rule
 a_condition : Filled condition_rule
 a_condition = record { tokens = _; value = _; derived = bound (one {t = a_word (codes "WHERE")} refl) a_pair.derived }
 
-a_tail : (place : Place) (strict : Bool) (number : Option NumberAt) (list : Option (List Name)) (ns : List Name) (f : FormulaParts) (ps : List Name) → Filled (tail_rule place strict number list ns f ps)
+a_tail : (place : Location) (strict : Bool) (number : Option NumberAt) (list : Option (List Name)) (ns : List Name) (f : FormulaParts) (ps : List Name) → Filled (tail_rule place strict number list ns f ps)
 a_tail place strict number list ns f ps = record { tokens = []; value = _; derived = mapped free }
 
-a_scope : (place : Place) (strict : Bool) (number : Option NumberAt) (list : Option (List Name)) (ns : List Name) → Filled (scope_rule place strict number list ns)
+a_scope : (place : Location) (strict : Bool) (number : Option NumberAt) (list : Option (List Name)) (ns : List Name) → Filled (scope_rule place strict number list ns)
 a_scope place strict number list ns = record { tokens = _; value = _; derived = bound a_condition.derived (bound no_partition (a_tail place strict number list ns a_condition.value []).derived) }
 
-a_source : (place : Place) (strict : Bool) (number : Option NumberAt) (list : Option (List Name)) → Filled (source_rule place strict number list)
+a_source : (place : Location) (strict : Bool) (number : Option NumberAt) (list : Option (List Name)) → Filled (source_rule place strict number list)
 a_source place strict number list = record { tokens = _; value = _; derived = bound (bound (one {t = a_word (codes "FROM")} refl) some_names.derived) (a_scope place strict number list some_names.value).derived }
 
-a_list : (place : Place) (strict : Bool) (number : Option NumberAt) → Filled (list_rule place strict number)
+a_list : (place : Location) (strict : Bool) (number : Option NumberAt) → Filled (list_rule place strict number)
 a_list place strict number = record { tokens = _; value = _; derived = bound (star {t = a_sign (codes "*")} refl) (a_source place strict number None).derived }
 
-filtered_shuns : (place : Place) (strict : Bool) (number : Option NumberAt) (list : Option (List Name)) (ns : List Name) (f : FormulaParts) (marks : List (List ℕ)) → disjoint (codes "PARTITION" ∷ []) marks ≡ true → disjoint (codes "WITHIN" ∷ []) marks ≡ true → disjoint begin_marks marks ≡ true → Shuns (Bind IsPartitionClause (tail_rule place strict number list ns f)) (λ _. continues_statement) (among marks)
+filtered_shuns : (place : Location) (strict : Bool) (number : Option NumberAt) (list : Option (List Name)) (ns : List Name) (f : FormulaParts) (marks : List (List ℕ)) → disjoint (codes "PARTITION" ∷ []) marks ≡ true → disjoint (codes "WITHIN" ∷ []) marks ≡ true → disjoint begin_marks marks ≡ true → Shuns (Bind IsPartitionClause (tail_rule place strict number list ns f)) (λ _. continues_statement) (among marks)
 filtered_shuns place strict number list ns f marks d e g = shuns_bind IsPartitionClause (tail_rule place strict number list ns f) (λ _. among marks) (λ _. continues_statement) (among marks) (partition_shuns marks d)
     (λ ps. shuns_mapped (made place strict number list ns f ps) IsWithinClause (λ _. continues_statement) (among marks) (within_shuns marks e g))
 
-behind_formula : (place : Place) (strict : Bool) (number : Option NumberAt) (list : Option (List Name)) (ns : List Name) (f : FormulaParts) (cs : List FilterTree) → Shuns (Bind IsPartitionClause (tail_rule place strict number list ns f)) (λ _. continues_statement) (goes_filters cs)
+behind_formula : (place : Location) (strict : Bool) (number : Option NumberAt) (list : Option (List Name)) (ns : List Name) (f : FormulaParts) (cs : List FilterTree) → Shuns (Bind IsPartitionClause (tail_rule place strict number list ns f)) (λ _. continues_statement) (goes_filters cs)
 behind_formula place strict number list ns f [] = filtered_shuns place strict number list ns f bare_marks refl refl refl
 behind_formula place strict number list ns f (c ∷ cs) = filtered_shuns place strict number list ns f filtered_marks refl refl refl
 
-behind_partition : (place : Place) (strict : Bool) (number : Option NumberAt) (list : Option (List Name)) (ns : List Name) (f : FormulaParts) (qs ps : List Name) → Shuns (tail_rule place strict number list ns f qs) (λ _. continues_statement) (goes_partition ps)
+behind_partition : (place : Location) (strict : Bool) (number : Option NumberAt) (list : Option (List Name)) (ns : List Name) (f : FormulaParts) (qs ps : List Name) → Shuns (tail_rule place strict number list ns f qs) (λ _. continues_statement) (goes_partition ps)
 behind_partition place strict number list ns f qs [] = shuns_mapped (made place strict number list ns f qs) IsWithinClause (λ _. continues_statement) (among (codes "PARTITION" ∷ [])) (within_shuns (codes "PARTITION" ∷ []) refl refl)
 behind_partition place strict number list ns f qs (p ∷ ps) = shuns_ends (tail_rule place strict number list ns f qs) (λ _. continues_statement)
 
@@ -120,7 +120,7 @@ unfolding reading.condition
 reads_condition a m = reads_fewer a condition_rule goes_filtered m (suc m) reading.condition (omega arith)
     (reads_led a (is (codes "WHERE")) reading.no_value (λ _. pair_rule) goes_filtered m (λ _. reading.formula) (a_word (codes "WHERE")) refl (λ _. a_pair) (λ _. reads_formula m))
 
-reads_scope : (a : Test) (m : ℕ) (place : Place) (strict : Bool) (number : Option NumberAt) (list : Option (List Name)) (ns : List Name) → Reads a m (scope_rule place strict number list ns) (λ _. continues_statement) (reading.scope place strict number list ns)
+reads_scope : (a : Test) (m : ℕ) (place : Location) (strict : Bool) (number : Option NumberAt) (list : Option (List Name)) (ns : List Name) → Reads a m (scope_rule place strict number list ns) (λ _. continues_statement) (reading.scope place strict number list ns)
 unfolding reading.scope
 reads_scope a m place strict number list ns = reads_bind a condition_rule (λ f. Bind IsPartitionClause (tail_rule place strict number list ns f)) goes_filtered (λ _. continues_statement) m reading.condition _
     (λ f. behind_formula place strict number list ns f f.1)
@@ -140,23 +140,23 @@ reads_streams a m = reads_fewer a streams_rule (λ _. among comma_marks) m (suc 
 led_begins : {X : Type 0} (mark : List ℕ) (R : Rule X) → Begins (led_rule mark R) (is mark)
 led_begins mark R = begins_bind (word_rule mark) (λ _. R) (is mark) (begins_one (is mark) reading.no_value)
 
-behind_selection : (place : Place) (strict : Bool) (number : Option NumberAt) (list l : Option (List Name)) → Shuns (source_rule place strict number list) (λ _. continues_statement) (goes_selection l)
+behind_selection : (place : Location) (strict : Bool) (number : Option NumberAt) (list l : Option (List Name)) → Shuns (source_rule place strict number list) (λ _. continues_statement) (goes_selection l)
 behind_selection place strict number list None = shuns_ends (source_rule place strict number list) (λ _. continues_statement)
 behind_selection place strict number list (Some ns) = shuns_apart (source_rule place strict number list) (λ _. continues_statement) (is (codes "FROM")) (among comma_marks) (apart (codes "FROM" ∷ []) comma_marks refl) (begins_bind streams_rule _ (is (codes "FROM")) (led_begins (codes "FROM") AreNames))
 
-list_shuns : (place : Place) (strict : Bool) (number : Option NumberAt) (mark : List ℕ) → ((t : Token) → is (codes "*") t ≡ true → is mark t ≡ false) → ((t : Token) → is_name_token t ≡ true → is mark t ≡ false) → Shuns (list_rule place strict number) (λ _. continues_statement) (is mark)
+list_shuns : (place : Location) (strict : Bool) (number : Option NumberAt) (mark : List ℕ) → ((t : Token) → is (codes "*") t ≡ true → is mark t ≡ false) → ((t : Token) → is_name_token t ≡ true → is mark t ≡ false) → Shuns (list_rule place strict number) (λ _. continues_statement) (is mark)
 list_shuns place strict number mark e f = shuns_bind IsSelectList (source_rule place strict number) (λ _. no_mark) (λ _. continues_statement) (is mark) (shuns_selection mark (λ _. no_mark) e f) (λ l. shuns_ends (source_rule place strict number l) (λ _. continues_statement))
 
-behind_any : (place : Place) (strict : Bool) (number n : Option NumberAt) → Shuns (list_rule place strict number) (λ _. continues_statement) (goes_any n)
+behind_any : (place : Location) (strict : Bool) (number n : Option NumberAt) → Shuns (list_rule place strict number) (λ _. continues_statement) (goes_any n)
 behind_any place strict number None = list_shuns place strict number (codes "ANY") (apart (codes "*" ∷ []) (codes "ANY" ∷ []) refl) (name_apart (codes "ANY" ∷ []) refl)
 behind_any place strict number (Some n) = shuns_ends (list_rule place strict number) (λ _. continues_statement)
 
-behind_mode : (place : Place) (strict b : Bool) → Shuns (counted_rule place strict) (λ _. continues_statement) (goes_mode b)
+behind_mode : (place : Location) (strict b : Bool) → Shuns (counted_rule place strict) (λ _. continues_statement) (goes_mode b)
 behind_mode place strict true = shuns_ends (counted_rule place strict) (λ _. continues_statement)
 behind_mode place strict false = shuns_bind IsAny (list_rule place strict) (λ _. is (codes "STRICT")) (λ _. continues_statement) (is (codes "STRICT")) (any_shuns (codes "STRICT") (apart (codes "ANY" ∷ []) (codes "STRICT" ∷ []) refl))
     (λ n. list_shuns place strict n (codes "STRICT") (apart (codes "*" ∷ []) (codes "STRICT" ∷ []) refl) (name_apart (codes "STRICT" ∷ []) refl))
 
-reads_selected : (m : ℕ) (place : Place) → Reads no_mark m (selected_rule place) (λ _. continues_statement) (reading.select_rest place)
+reads_selected : (m : ℕ) (place : Location) → Reads no_mark m (selected_rule place) (λ _. continues_statement) (reading.select_rest place)
 unfolding reading.select_rest
 reads_selected m place = reads_bind no_mark IsMode (counted_rule place) goes_mode (λ _. continues_statement) m reading.mode _ (λ b. behind_mode place b b)
     (λ b. record { tokens = _; value = _; derived = bound not_any (a_list place b None).derived })
@@ -183,7 +183,7 @@ to_statement : (xs : List Token) (s : StatementTree) → statement_rule xs s →
 to_statement _ _ (left (bound (one {t} e) h)) = to_declared t _ _ e h
 to_statement _ _ (right (bound (one e) (bound m (bound a (bound l (bound (bound (one {t = f} fe) h) (bound (bound (one {t = w} we) p) (bound q (mapped r))))))))) = selects f w e m a l fe h we (to_formula _ _ p) q r
 
-from_scope : (place : Place) (strict : Bool) (number : Option NumberAt) (list : Option (List Name)) (ns : List Name) (w : Token) (xs ys zs : List Token) (g : FormulaTree) (ps : List Name) (window : Window) → Is (codes "WHERE") w → Mapped parts_tree pair_rule xs g → IsPartitionClause ys ps → IsWithinClause zs window
+from_scope : (place : Location) (strict : Bool) (number : Option NumberAt) (list : Option (List Name)) (ns : List Name) (w : Token) (xs ys zs : List Token) (g : FormulaTree) (ps : List Name) (window : Window) → Is (codes "WHERE") w → Mapped parts_tree pair_rule xs g → IsPartitionClause ys ps → IsWithinClause zs window
     → scope_rule place strict number list ns (w ∷ xs ++ (ys ++ zs)) (select (record { strict = strict; any = number; counted = None; select = list; streams = ns; formula = g; partition = ps; window = window; place = place }))
 from_scope place strict number list ns w _ ys zs _ ps window e (mapped p) q r = bound (bound (one e) p) (bound q (mapped r))
 

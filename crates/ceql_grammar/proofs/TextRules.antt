@@ -6,9 +6,9 @@ use Rattle.ceql_grammar.specs.WordsAndSigns.{among}
 use Rattle.ceql_grammar.specs.Statements.{StatementTree, IsStatement, AreStatements, text_end, statement}
 use Rattle.ceql_grammar.specs.Texts.{IsDeadEnd, IsUnexpectedAt}
 use Rattle.ceql_grammar.specs.RuleForms.{Out, Test, Stops, Many, none, more}
-use Rattle.ceql_grammar.specs.Reading as reading
-use Rattle.ceql_grammar.specs.Reading.{any_token, continues_statement}
-use Rattle.ceql_grammar.proofs.Reading.{Agrees, Goes, ReadTo, NoFront, ReadsAs, FailsAt, Outcome, Reads, agrees_self, stops_ends}
+use Rattle.ceql_grammar.specs.RuleReaders as reading
+use Rattle.ceql_grammar.specs.RuleReaders.{any_token, continues_statement}
+use Rattle.ceql_grammar.proofs.RuleReaders.{Agrees, Goes, ReadTo, NoFront, ReadsAs, FailsAt, Outcome, Reads, agrees_self, stops_ends}
 use Rattle.ceql_grammar.proofs.Fixpoints.{Loops, reads_many}
 use Rattle.ceql_grammar.proofs.ReaderForms.{none as no_mark}
 use Rattle.ceql_grammar.proofs.DeclarationRules.{begin_marks, begins_ends}

@@ -6,9 +6,9 @@ pub mod Formulas
 pub mod RuleForms
 pub mod Statements
 pub mod Texts
-pub mod Reading
+pub mod RuleReaders
 pub mod PartlyRead
-pub mod Joined
+pub mod MemberLists
 pub mod LinkViews
 pub mod ReadResults
 pub mod LawfulTexts

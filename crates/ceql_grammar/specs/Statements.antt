@@ -1,6 +1,6 @@
 -- The grammar of statements and of whole texts: which tokens stand for which statements.
 use Rattle.std.specs.Prelude.{◌≡◌, ℕ, ◌*◌, pos, Bool, true, false, List, [], ◌∷◌, ◌++◌, codes, Option, Some, None}
-use Rattle.cer_base.specs.declared.Place.{Place}
+use Rattle.cer_base.specs.declared.Location.{Location}
 use Rattle.ceql_lexer.specs.declared.Token.{Token}
 use Rattle.cel_terms.specs.declared.Name.{Name}
 use Rattle.cel_terms.specs.declared.Window.{Window}
@@ -26,7 +26,7 @@ pub record SelectTree : Type 0 where
   pub formula : FormulaTree
   pub partition : List Name
   pub window : Window
-  pub place : Place
+  pub place : Location
 
 -- a statement, as plain data
 pub data StatementTree : Type 0 where

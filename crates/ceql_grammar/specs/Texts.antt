@@ -1,7 +1,7 @@
 -- The answer of a whole text: its statements, or the first place where it is nested too deeply, else the
 -- first token with which no text goes on.
 use Rattle.std.specs.Prelude.{◌≡◌, ℕ, ◌+◌, ◌-◌, ◌≤◌, Bool, true, false, List, [], ◌∷◌, ◌++◌, length, codes, map, if◌then◌else◌, Result, Ok, Err}
-use Rattle.cer_base.specs.declared.Place.{Place}
+use Rattle.cer_base.specs.declared.Location.{Location}
 use Rattle.cer_base.specs.declared.limits.TheConstants.{DEEPEST_NESTING}
 use Rattle.ceql_lexer.specs.declared.Token.{Token}
 use Rattle.ceql_grammar.specs.declared.faults.QueryError.{QueryError}
@@ -57,7 +57,7 @@ pub record IsUnexpectedAt (body before left : List Token) : Type 0 where
   pub dead : IsDeadEnd before left
 
 -- the place of the first token left, and that of the end where none is
-abbrev pub place_of : List Token → Token → Place
+abbrev pub place_of : List Token → Token → Location
 place_of [] end = end.place
 place_of (t ∷ left) end = t.place
 
@@ -66,14 +66,14 @@ is_none [] = true
 is_none (t ∷ left) = false
 
 -- The body is refused at a token as nested too deeply.
-pub record IsTooDeep (tokens : List Token) (place : Place) : Type 0 where
+pub record IsTooDeep (tokens : List Token) (place : Location) : Type 0 where
   pub before : List Token
   pub token : Token
   pub first : IsFirstTooDeep tokens before token
   pub place_is : place ≡ token.place
 
 -- The body, which is not nested too deeply, is refused at a token or at the end.
-pub record IsUnexpected (tokens body : List Token) (end : Token) (at_end : Bool) (place : Place) : Type 0 where
+pub record IsUnexpected (tokens body : List Token) (end : Token) (at_end : Bool) (place : Location) : Type 0 where
   pub shallow : IsShallow tokens
   pub before : List Token
   pub left : List Token
@@ -82,20 +82,20 @@ pub record IsUnexpected (tokens body : List Token) (end : Token) (at_end : Bool)
   pub place_is : place ≡ place_of left end
 
 -- The body, which is not nested too deeply, is a text with these statements, which ends at the place.
-pub record IsParsed (tokens body : List Token) (end : Token) (statements : List StatementTree) (place : Place) : Type 0 where
+pub record IsParsed (tokens body : List Token) (end : Token) (statements : List StatementTree) (place : Location) : Type 0 where
   pub shallow : IsShallow tokens
   pub derived : AreStatements body statements
   pub place_is : place ≡ end.place
 
 -- which faults a body is refused with
-abbrev pub IsUnparsed : List Token → List Token → Token → QueryFault → Place → Type 0
+abbrev pub IsUnparsed : List Token → List Token → Token → QueryFault → Location → Type 0
 IsUnparsed tokens body end TooDeep place = IsTooDeep tokens place
 IsUnparsed tokens body end (Unexpected at_end) place = IsUnexpected tokens body end at_end place
 IsUnparsed tokens body end _ place = ⊥
 
 -- the statements of a text and the place of its end, or its first fault
 abbrev pub ParseAnswer : Type 0
-ParseAnswer = Result (List StatementTree × Place) QueryError
+ParseAnswer = Result (List StatementTree × Location) QueryError
 
 abbrev pub IsParseOfBody : List Token → List Token → Token → ParseAnswer → Type 0
 IsParseOfBody tokens body end (Ok script) = IsParsed tokens body end script.0 script.1
@@ -109,7 +109,7 @@ pub record IsParseOf (tokens : List Token) (answer : ParseAnswer) : Type 0 where
   pub is : IsParseOfBody tokens body end answer
 
 -- what a script says
-abbrev pub script_view : Script → List StatementTree × Place
+abbrev pub script_view : Script → List StatementTree × Location
 script_view script = (map statement_tree script.statements, script.end)
 
 abbrev pub WhereRefused : {Y : Type 0} → OrMemory QueryError → (Result Y QueryError → Type 0) → Type 0

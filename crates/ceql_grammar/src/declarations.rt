@@ -2,7 +2,7 @@
 
 ghost use Rattle.ceql_grammar.specs.ReadResults.{ReadsAs, Stays, StopsAs};
 ghost use Rattle.ceql_grammar.specs.PartlyRead.{with_front};
-ghost use Rattle.ceql_grammar.specs.Reading.{attr, attr_kind, attrs_closed, decimal_kind, declaration, ended, event_declared, more_attrs, some_attrs, stream_declared};
+ghost use Rattle.ceql_grammar.specs.RuleReaders.{attr, attr_kind, attrs_closed, decimal_kind, declaration, ended, event_declared, more_attrs, some_attrs, stream_declared};
 ghost use Rattle.ceql_grammar.specs.Statements.{statement_tree};
 ghost use Rattle.std.specs.Prelude.{◌≡◌, ◌<◌, ◌≤◌, IfErr, IfOk, Ok, length};
 
@@ -15,7 +15,7 @@ use cer_base::{Listed, OrMemory};
 use std::alloc::Global;
 
 /// Nothing, where a statement may end: before DECLARE, before SELECT and at the end.
-#[tactic(auto, unfolding(crate::specs::Reading::ended))]
+#[tactic(auto, unfolding(crate::specs::RuleReaders::ended))]
 fn ended<'a>(tokens: &'a [Token]) -> Result<(), OrMemory<&'a [Token]>>
     ensures { Stays tokens.now result (ended tokens.now) }
 {
@@ -42,7 +42,7 @@ pub fn ending<'a>(statement: Statement, tokens: &'a [Token]) -> Read<'a, Stateme
 }
 
 /// The number of a DECIMAL, in parentheses.
-#[tactic(auto, unfolding(crate::specs::Reading::decimal_kind))]
+#[tactic(auto, unfolding(crate::specs::RuleReaders::decimal_kind))]
 fn decimal_kind<'a>(tokens: &'a [Token]) -> Read<'a, KindDecl>
     ensures value { ReadsAs (λ k. k) result (decimal_kind tokens.now) }
     ensures shorter { IfOk result (λ p. length p.1.now < length tokens.now) }
@@ -53,7 +53,7 @@ fn decimal_kind<'a>(tokens: &'a [Token]) -> Read<'a, KindDecl>
 }
 
 /// What an attribute is declared to hold.
-#[tactic(auto, unfolding(crate::specs::Reading::attr_kind))]
+#[tactic(auto, unfolding(crate::specs::RuleReaders::attr_kind))]
 fn attr_kind<'a>(tokens: &'a [Token]) -> Read<'a, KindDecl>
     ensures value { ReadsAs (λ k. k) result (attr_kind tokens.now) }
     ensures shorter { IfOk result (λ p. length p.1.now < length tokens.now) }
@@ -72,7 +72,7 @@ fn attr_kind<'a>(tokens: &'a [Token]) -> Read<'a, KindDecl>
 }
 
 /// An attribute.
-#[tactic(auto, unfolding(crate::specs::Reading::attr))]
+#[tactic(auto, unfolding(crate::specs::RuleReaders::attr))]
 fn attr<'a>(alloc: Global, tokens: &'a [Token]) -> Read<'a, AttrDecl>
     ensures value { ReadsAs (λ a. a) result (attr tokens.now) }
     ensures shorter { IfOk result (λ p. length p.1.now < length tokens.now) }
@@ -102,7 +102,7 @@ fn more_attrs<'a>(
 }
 
 /// Attributes with commas between them.
-#[tactic(auto, unfolding(crate::specs::Reading::some_attrs))]
+#[tactic(auto, unfolding(crate::specs::RuleReaders::some_attrs))]
 fn some_attrs<'a>(alloc: Global, tokens: &'a [Token]) -> Read<'a, AttrDecls>
     ensures value { ReadsAs (λ l. l) result (some_attrs tokens.now) }
     ensures shorter { IfOk result (λ p. length p.1.now < length tokens.now) }
@@ -115,7 +115,7 @@ fn some_attrs<'a>(alloc: Global, tokens: &'a [Token]) -> Read<'a, AttrDecls>
 }
 
 /// Attributes, of which there may be none, and the `)` after them.
-#[tactic(auto, unfolding(crate::specs::Reading::attrs_closed))]
+#[tactic(auto, unfolding(crate::specs::RuleReaders::attrs_closed))]
 fn attrs_closed<'a>(alloc: Global, tokens: &'a [Token]) -> Read<'a, AttrDecls>
     ensures value { ReadsAs (λ l. l) result (attrs_closed tokens.now) }
     ensures shorter { IfOk result (λ p. length p.1.now < length tokens.now) }
@@ -130,7 +130,7 @@ fn attrs_closed<'a>(alloc: Global, tokens: &'a [Token]) -> Read<'a, AttrDecls>
 }
 
 /// The name and the attributes of a type.
-#[tactic(auto, unfolding(crate::specs::Reading::event_declared))]
+#[tactic(auto, unfolding(crate::specs::RuleReaders::event_declared))]
 fn event<'a>(alloc: Global, tokens: &'a [Token]) -> Read<'a, Statement>
     ensures value { ReadsAs statement_tree result (event_declared tokens.now) }
     ensures shorter { IfOk result (λ p. length p.1.now < length tokens.now) }
@@ -142,7 +142,7 @@ fn event<'a>(alloc: Global, tokens: &'a [Token]) -> Read<'a, Statement>
 }
 
 /// The name and the types of a stream.
-#[tactic(auto, unfolding(crate::specs::Reading::stream_declared))]
+#[tactic(auto, unfolding(crate::specs::RuleReaders::stream_declared))]
 fn stream<'a>(alloc: Global, tokens: &'a [Token]) -> Read<'a, Statement>
     ensures value { ReadsAs statement_tree result (stream_declared tokens.now) }
     ensures shorter { IfOk result (λ p. length p.1.now < length tokens.now) }
@@ -153,7 +153,7 @@ fn stream<'a>(alloc: Global, tokens: &'a [Token]) -> Read<'a, Statement>
 }
 
 /// What stands after DECLARE.
-#[tactic(auto, unfolding(crate::specs::Reading::declaration))]
+#[tactic(auto, unfolding(crate::specs::RuleReaders::declaration))]
 pub fn declaration<'a>(alloc: Global, tokens: &'a [Token]) -> Read<'a, Statement>
     ensures value { ReadsAs statement_tree result (declaration tokens.now) }
     ensures shorter { IfOk result (λ p. length p.1.now < length tokens.now) }

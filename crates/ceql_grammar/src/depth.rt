@@ -6,7 +6,7 @@ ghost use Rattle.std.specs.Prelude.{◌≡◌, ◌≤◌, MatchOption};
 
 use crate::tokens::is;
 use ceql_lexer::Token;
-use cer_base::Place;
+use cer_base::Location;
 use cer_base::limits::DEEPEST_NESTING;
 
 /// How many parentheses are open after the token.
@@ -26,7 +26,7 @@ fn open_after_one(depth: usize, token: &Token) -> usize
 }
 
 /// The place of the first `(` at which as many are open as may be, since the last DECLARE or SELECT.
-pub fn too_deep(tokens: &[Token]) -> Option<Place>
+pub fn too_deep(tokens: &[Token]) -> Option<Location>
     ensures { MatchOption result (IsShallow tokens.now) (λ place. IsTooDeep tokens.now place) }
 {
     let mut depth = 0;

@@ -5,7 +5,7 @@ ghost use Rattle.ceql_grammar.specs.TokenFaults.{token_error, token_fault};
 
 use ceql_lexer::{LexError, LexFault};
 use cer_base::limits::{LONGEST_TEXT, MOST_LEAVES, MOST_PLACES, MOST_QUERIES};
-use cer_base::{Place, Text};
+use cer_base::{Location, Text};
 use std::fmt::{Display, Error, Formatter, Write};
 use stream_schema::Kind;
 
@@ -125,7 +125,7 @@ impl From<LexFault> for QueryFault {
 #[derive(Drop, Debug)]
 pub struct QueryError {
     pub fault: QueryFault,
-    pub place: Place,
+    pub place: Location,
 }
 
 impl From<LexError> for QueryError {

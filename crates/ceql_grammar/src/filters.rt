@@ -1,9 +1,9 @@
 //! Filters: predicates on names, joined by AND and OR.
 
 ghost use Rattle.ceql_grammar.specs.ReadResults.{ReadsAs};
-ghost use Rattle.ceql_grammar.specs.Joined.{all_filters_of, any_filter_of};
+ghost use Rattle.ceql_grammar.specs.MemberLists.{all_filters_of, any_filter_of};
 ghost use Rattle.ceql_grammar.specs.PartlyRead.{with_front};
-ghost use Rattle.ceql_grammar.specs.Reading.{filter, filter_conjunction, filter_unit, more_filter_conjunctions, more_filter_units, more_filters, on_name};
+ghost use Rattle.ceql_grammar.specs.RuleReaders.{filter, filter_conjunction, filter_unit, more_filter_conjunctions, more_filter_units, more_filters, on_name};
 ghost use Rattle.ceql_grammar.specs.Trees.{filter_tree};
 ghost use Rattle.std.specs.Prelude.{◌≡◌, ◌<◌, ◌≤◌, IfOk, length, map};
 
@@ -44,7 +44,7 @@ fn any_filter_of(members: Vec<Filter>) -> Filter
 }
 
 /// A name with a predicate in brackets.
-#[tactic(auto, unfolding(crate::specs::Reading::on_name))]
+#[tactic(auto, unfolding(crate::specs::RuleReaders::on_name))]
 fn on_name<'a>(alloc: Global, tokens: &'a [Token]) -> Read<'a, Filter>
     ensures value { ReadsAs filter_tree result (on_name tokens.now) }
     ensures shorter { IfOk result (λ p. length p.1.now < length tokens.now) }
@@ -57,7 +57,7 @@ fn on_name<'a>(alloc: Global, tokens: &'a [Token]) -> Read<'a, Filter>
 
 /// A predicate on a name, or a parenthesis.
 #[cycle(filter)]
-#[tactic(auto, unfolding(crate::specs::Reading::filter_unit))]
+#[tactic(auto, unfolding(crate::specs::RuleReaders::filter_unit))]
 fn unit<'a>(alloc: Global, tokens: &'a [Token]) -> Read<'a, Filter>
     ensures value { ReadsAs filter_tree result (filter_unit filter tokens.now) }
     ensures shorter { IfOk result (λ p. length p.1.now < length tokens.now) }
@@ -91,7 +91,7 @@ fn more_units<'a>(alloc: Global, members: Vec<Filter>, tokens: &'a [Token]) -> R
 
 /// Units joined by AND.
 #[cycle(filter)]
-#[tactic(auto, unfolding(crate::specs::Reading::filter_conjunction))]
+#[tactic(auto, unfolding(crate::specs::RuleReaders::filter_conjunction))]
 fn conjunction<'a>(alloc: Global, tokens: &'a [Token]) -> Read<'a, Filter>
     ensures value { ReadsAs filter_tree result (filter_conjunction filter tokens.now) }
     ensures shorter { IfOk result (λ p. length p.1.now < length tokens.now) }

@@ -1,10 +1,10 @@
 //! Formulas: names with postfixes, sequences, alternatives and filters.
 
 ghost use Rattle.ceql_grammar.specs.ReadResults.{ReadsAs, SkipsTo};
-ghost use Rattle.ceql_grammar.specs.Joined.{any_formula_of};
+ghost use Rattle.ceql_grammar.specs.MemberLists.{any_formula_of};
 ghost use Rattle.ceql_grammar.specs.PartlyRead.{with_front};
 ghost use Rattle.ceql_grammar.specs.Formulas.{chain_tree, is_link, post_of, under_of};
-ghost use Rattle.ceql_grammar.specs.Reading.{base, chain_step, either_step, formula, is_postfix, is_tight, more_chains, more_links, post_step, postfix, postfixes, parts_tree, word_postfix};
+ghost use Rattle.ceql_grammar.specs.RuleReaders.{base, chain_step, either_step, formula, is_postfix, is_tight, more_chains, more_links, post_step, postfix, postfixes, parts_tree, word_postfix};
 ghost use Rattle.ceql_grammar.specs.RuleForms.{map_read, first_token, starts};
 ghost use Rattle.ceql_grammar.specs.Trees.{filter_tree, formula_tree};
 ghost use Rattle.ceql_grammar.specs.LinkViews.{link_view, next_of, tight_of};
@@ -20,7 +20,7 @@ use cer_base::Memory;
 use std::alloc::Global;
 
 /// AS with a name, or KEEP with names in brackets.
-#[tactic(auto, unfolding(crate::specs::Reading::word_postfix))]
+#[tactic(auto, unfolding(crate::specs::RuleReaders::word_postfix))]
 fn word_postfix<'a>(alloc: Global, tokens: &'a [Token]) -> Read<'a, Postfix>
     ensures value { ReadsAs (λ p. p) result (word_postfix tokens.now) }
     ensures shorter { IfOk result (λ p. length p.1.now < length tokens.now) }
@@ -39,7 +39,7 @@ fn word_postfix<'a>(alloc: Global, tokens: &'a [Token]) -> Read<'a, Postfix>
 }
 
 /// A postfix.
-#[tactic(auto, unfolding(crate::specs::Reading::postfix))]
+#[tactic(auto, unfolding(crate::specs::RuleReaders::postfix))]
 fn postfix<'a>(alloc: Global, tokens: &'a [Token]) -> Read<'a, Postfix>
     ensures value { ReadsAs (λ p. p) result (postfix tokens.now) }
     ensures shorter { IfOk result (λ p. length p.1.now < length tokens.now) }
@@ -168,7 +168,7 @@ fn link_sign<'a>(tokens: &'a [Token]) -> Option<(bool, &'a [Token])>
 
 /// The name of a type, or a parenthesis.
 #[cycle(formula)]
-#[tactic(auto, unfolding(crate::specs::Reading::base))]
+#[tactic(auto, unfolding(crate::specs::RuleReaders::base))]
 fn base<'a>(alloc: Global, tokens: &'a [Token]) -> Read<'a, Formula>
     ensures value { ReadsAs formula_tree result (base formula tokens.now) }
     ensures shorter { IfOk result (λ p. length p.1.now < length tokens.now) }
@@ -187,7 +187,7 @@ fn base<'a>(alloc: Global, tokens: &'a [Token]) -> Read<'a, Formula>
 
 /// A name or a parenthesis with its postfixes.
 #[cycle(formula)]
-#[tactic(auto, unfolding(crate::specs::Reading::post_step))]
+#[tactic(auto, unfolding(crate::specs::RuleReaders::post_step))]
 fn post<'a>(alloc: Global, tokens: &'a [Token]) -> Read<'a, Formula>
     ensures value { ReadsAs formula_tree result (post_step formula tokens.now) }
     ensures shorter { IfOk result (λ p. length p.1.now < length tokens.now) }
@@ -215,7 +215,7 @@ fn more_links<'a>(alloc: Global, tokens: &'a [Token]) -> Read<'a, Vec<Link>>
 
 /// Formulas in sequence.
 #[cycle(formula)]
-#[tactic(auto, unfolding(crate::specs::Reading::chain_step))]
+#[tactic(auto, unfolding(crate::specs::RuleReaders::chain_step))]
 fn chain<'a>(alloc: Global, tokens: &'a [Token]) -> Read<'a, Formula>
     ensures value { ReadsAs formula_tree result (chain_step formula tokens.now) }
     ensures shorter { IfOk result (λ p. length p.1.now < length tokens.now) }
@@ -249,7 +249,7 @@ fn more_chains<'a>(
 
 /// Chains joined by OR.
 #[cycle(formula)]
-#[tactic(auto, unfolding(crate::specs::Reading::either_step))]
+#[tactic(auto, unfolding(crate::specs::RuleReaders::either_step))]
 fn either<'a>(alloc: Global, tokens: &'a [Token]) -> Read<'a, Formula>
     ensures value { ReadsAs formula_tree result (either_step formula tokens.now) }
     ensures shorter { IfOk result (λ p. length p.1.now < length tokens.now) }

@@ -1,7 +1,7 @@
 //! Lists of names.
 
 ghost use Rattle.ceql_grammar.specs.ReadResults.{ReadsAs};
-ghost use Rattle.ceql_grammar.specs.Reading.{bracketed_names, closed, led, names};
+ghost use Rattle.ceql_grammar.specs.RuleReaders.{bracketed_names, closed, led, names};
 ghost use Rattle.std.specs.Prelude.{◌≡◌, ◌<◌, IfOk, length};
 
 use crate::tokens::{Read, closed, expect, name, skip};
@@ -11,7 +11,7 @@ use cer_base::Listed;
 use std::alloc::Global;
 
 /// Names with commas between them.
-#[tactic(auto, unfolding(crate::specs::Reading::names))]
+#[tactic(auto, unfolding(crate::specs::RuleReaders::names))]
 pub fn names<'a>(alloc: Global, tokens: &'a [Token]) -> Read<'a, Names>
     ensures value { ReadsAs (λ ns. ns) result (names tokens.now) }
     ensures shorter { IfOk result (λ p. length p.1.now < length tokens.now) }
@@ -45,7 +45,7 @@ pub fn names_within<'a>(
 }
 
 /// Names with commas between them, in brackets.
-#[tactic(auto, unfolding(crate::specs::Reading::bracketed_names))]
+#[tactic(auto, unfolding(crate::specs::RuleReaders::bracketed_names))]
 pub fn bracketed_names<'a>(alloc: Global, tokens: &'a [Token]) -> Read<'a, Names>
     ensures value { ReadsAs (λ ns. ns) result (bracketed_names tokens.now) }
     ensures shorter { IfOk result (λ p. length p.1.now < length tokens.now) }

@@ -2,7 +2,7 @@
 
 ghost use Rattle.ceql_grammar.specs.ReadResults.{ReadsAs, ReadsAllAs};
 ghost use Rattle.ceql_grammar.specs.LawfulTexts.{IsLawfulStatement};
-ghost use Rattle.ceql_grammar.specs.Reading.{one_statement, text};
+ghost use Rattle.ceql_grammar.specs.RuleReaders.{one_statement, text};
 ghost use Rattle.ceql_grammar.specs.Statements.{statement_tree};
 ghost use Rattle.ceql_grammar.specs.Texts.{ParseAnswer, IsParseOf, WhereAnswered, is_none, place_of, script_view};
 ghost use Rattle.std.specs.Prelude.{◌≡◌, ◌<◌, All, IfOk, length, map};
@@ -14,11 +14,11 @@ use crate::selects::select_statement;
 use crate::terms::{Script, Statement, Statements};
 use crate::tokens::{Read, skip};
 use ceql_lexer::{Token, Tokens};
-use cer_base::{Listed, OrMemory, Place};
+use cer_base::{Listed, Location, OrMemory};
 use std::alloc::Global;
 
 /// A statement.
-#[tactic(auto, unfolding(crate::specs::Reading::one_statement))]
+#[tactic(auto, unfolding(crate::specs::RuleReaders::one_statement))]
 fn statement<'a>(alloc: Global, tokens: &'a [Token]) -> Read<'a, Statement>
     ensures value { ReadsAs statement_tree result (one_statement tokens.now) }
     ensures shorter { IfOk result (λ p. length p.1.now < length tokens.now) }

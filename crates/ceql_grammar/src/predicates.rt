@@ -1,9 +1,9 @@
 //! Predicates: comparisons joined by AND and OR.
 
 ghost use Rattle.ceql_grammar.specs.ReadResults.{ReadsAs};
-ghost use Rattle.ceql_grammar.specs.Joined.{all_preds_of, any_pred_of};
+ghost use Rattle.ceql_grammar.specs.MemberLists.{all_preds_of, any_pred_of};
 ghost use Rattle.ceql_grammar.specs.PartlyRead.{with_front};
-ghost use Rattle.ceql_grammar.specs.Reading.{atom, comparison, conjunction, more_conjunctions, more_units, pred, unit};
+ghost use Rattle.ceql_grammar.specs.RuleReaders.{atom, comparison, conjunction, more_conjunctions, more_units, pred, unit};
 ghost use Rattle.ceql_grammar.specs.Trees.{pred_tree};
 ghost use Rattle.std.specs.Prelude.{◌≡◌, ◌<◌, ◌≤◌, IfOk, length, map};
 
@@ -44,7 +44,7 @@ fn any_pred_of(members: Vec<Pred>) -> Pred
 }
 
 /// A comparison.
-#[tactic(auto, unfolding(crate::specs::Reading::comparison))]
+#[tactic(auto, unfolding(crate::specs::RuleReaders::comparison))]
 fn comparison<'a>(alloc: Global, tokens: &'a [Token]) -> Read<'a, Pred>
     ensures value { ReadsAs pred_tree result (comparison tokens.now) }
     ensures shorter { IfOk result (λ p. length p.1.now < length tokens.now) }
@@ -57,7 +57,7 @@ fn comparison<'a>(alloc: Global, tokens: &'a [Token]) -> Read<'a, Pred>
 
 /// A comparison or a parenthesis.
 #[cycle(predicate)]
-#[tactic(auto, unfolding(crate::specs::Reading::atom))]
+#[tactic(auto, unfolding(crate::specs::RuleReaders::atom))]
 fn atom<'a>(alloc: Global, tokens: &'a [Token]) -> Read<'a, Pred>
     ensures value { ReadsAs pred_tree result (atom pred tokens.now) }
     ensures shorter { IfOk result (λ p. length p.1.now < length tokens.now) }
@@ -73,7 +73,7 @@ fn atom<'a>(alloc: Global, tokens: &'a [Token]) -> Read<'a, Pred>
 
 /// A comparison or a parenthesis, with at most one NOT before it.
 #[cycle(predicate)]
-#[tactic(auto, unfolding(crate::specs::Reading::unit))]
+#[tactic(auto, unfolding(crate::specs::RuleReaders::unit))]
 fn unit<'a>(alloc: Global, tokens: &'a [Token]) -> Read<'a, Pred>
     ensures value { ReadsAs pred_tree result (unit pred tokens.now) }
     ensures shorter { IfOk result (λ p. length p.1.now < length tokens.now) }
@@ -107,7 +107,7 @@ fn more_units<'a>(alloc: Global, members: Vec<Pred>, tokens: &'a [Token]) -> Rea
 
 /// Units joined by AND.
 #[cycle(predicate)]
-#[tactic(auto, unfolding(crate::specs::Reading::conjunction))]
+#[tactic(auto, unfolding(crate::specs::RuleReaders::conjunction))]
 fn conjunction<'a>(alloc: Global, tokens: &'a [Token]) -> Read<'a, Pred>
     ensures value { ReadsAs pred_tree result (conjunction pred tokens.now) }
     ensures shorter { IfOk result (λ p. length p.1.now < length tokens.now) }

@@ -1,7 +1,7 @@
 //! SELECT statements.
 
 ghost use Rattle.ceql_grammar.specs.ReadResults.{ReadsAs, Skips};
-ghost use Rattle.ceql_grammar.specs.Reading.{any_number, clock, condition, mode, no_value, partition, scope, select_statement, select_rest, select_list, streams, parts_tree, unit_or_none, window, within};
+ghost use Rattle.ceql_grammar.specs.RuleReaders.{any_number, clock, condition, mode, no_value, partition, scope, select_statement, select_rest, select_list, streams, parts_tree, unit_or_none, window, within};
 ghost use Rattle.ceql_grammar.specs.RuleForms.{map_read, first_token};
 ghost use Rattle.ceql_grammar.specs.Statements.{is_events, statement_tree};
 ghost use Rattle.ceql_grammar.specs.Trees.{formula_tree};
@@ -15,7 +15,7 @@ use crate::tokens::{Read, closed, expect, is, name, skip};
 use crate::values::{count, unit, whole_number};
 use cel_terms::{Formula, Names, Query, Window};
 use ceql_lexer::Token;
-use cer_base::{Listed, OrMemory, Place};
+use cer_base::{Listed, Location, OrMemory};
 use std::alloc::Global;
 
 /// Whether STRICT stands here.
@@ -30,7 +30,7 @@ fn mode<'a>(tokens: &'a [Token]) -> (bool, &'a [Token])
 }
 
 /// The number after ANY, where that stands here.
-#[tactic(auto, unfolding(crate::specs::Reading::any_number))]
+#[tactic(auto, unfolding(crate::specs::RuleReaders::any_number))]
 fn any_number<'a>(tokens: &'a [Token]) -> Read<'a, Option<NumberAt>>
     ensures value { ReadsAs (λ n. n) result (any_number tokens.now) }
     ensures no_longer { IfOk result (λ p. length p.1.now ≤ length tokens.now) }
@@ -45,7 +45,7 @@ fn any_number<'a>(tokens: &'a [Token]) -> Read<'a, Option<NumberAt>>
 }
 
 /// The names of the SELECT list, or None for `*`.
-#[tactic(auto, unfolding(crate::specs::Reading::select_list))]
+#[tactic(auto, unfolding(crate::specs::RuleReaders::select_list))]
 fn select_list<'a>(alloc: Global, tokens: &'a [Token]) -> Read<'a, Option<Names>>
     ensures value { ReadsAs (λ s. s) result (select_list tokens.now) }
     ensures shorter { IfOk result (λ p. length p.1.now < length tokens.now) }
@@ -60,7 +60,7 @@ fn select_list<'a>(alloc: Global, tokens: &'a [Token]) -> Read<'a, Option<Names>
 }
 
 /// FROM and the names of streams.
-#[tactic(auto, unfolding(crate::specs::Reading::streams))]
+#[tactic(auto, unfolding(crate::specs::RuleReaders::streams))]
 fn streams<'a>(alloc: Global, tokens: &'a [Token]) -> Read<'a, Names>
     ensures value { ReadsAs (λ ns. ns) result (streams tokens.now) }
     ensures shorter { IfOk result (λ p. length p.1.now < length tokens.now) }
@@ -70,7 +70,7 @@ fn streams<'a>(alloc: Global, tokens: &'a [Token]) -> Read<'a, Names>
 }
 
 /// WHERE and a formula.
-#[tactic(auto, unfolding(crate::specs::Reading::condition))]
+#[tactic(auto, unfolding(crate::specs::RuleReaders::condition))]
 fn condition<'a>(alloc: Global, tokens: &'a [Token]) -> Read<'a, Formula>
     ensures value { ReadsAs formula_tree result (map_read parts_tree condition tokens.now) }
     ensures shorter { IfOk result (λ p. length p.1.now < length tokens.now) }
@@ -80,7 +80,7 @@ fn condition<'a>(alloc: Global, tokens: &'a [Token]) -> Read<'a, Formula>
 }
 
 /// The names after PARTITION BY, none where that does not stand here.
-#[tactic(auto, unfolding(crate::specs::Reading::partition))]
+#[tactic(auto, unfolding(crate::specs::RuleReaders::partition))]
 fn partition<'a>(alloc: Global, tokens: &'a [Token]) -> Read<'a, Names>
     ensures value { ReadsAs (λ ns. ns) result (partition tokens.now) }
     ensures no_longer { IfOk result (λ p. length p.1.now ≤ length tokens.now) }
@@ -95,7 +95,7 @@ fn partition<'a>(alloc: Global, tokens: &'a [Token]) -> Read<'a, Names>
 }
 
 /// The seconds of the unit that stands here, 1 where none does.
-#[tactic(auto, unfolding(crate::specs::Reading::unit_or_none))]
+#[tactic(auto, unfolding(crate::specs::RuleReaders::unit_or_none))]
 fn unit_or_none<'a>(tokens: &'a [Token]) -> (u64, &'a [Token])
     ensures value { unit_or_none tokens.now ≡ Ok (result.0, result.1.now) }
     ensures no_longer { length result.1.now ≤ length tokens.now }
@@ -108,7 +108,7 @@ fn unit_or_none<'a>(tokens: &'a [Token]) -> (u64, &'a [Token])
 }
 
 /// The attribute of a window, with so many units of its number.
-#[tactic(auto, unfolding(crate::specs::Reading::clock))]
+#[tactic(auto, unfolding(crate::specs::RuleReaders::clock))]
 fn clock<'a>(alloc: Global, number: u64, tokens: &'a [Token]) -> Read<'a, Window>
     requires { number < 2 ^ 63 }
     ensures value { ReadsAs (λ w. w) result (clock number tokens.now) }
@@ -133,7 +133,7 @@ fn events<'a>(tokens: &'a [Token]) -> Option<&'a [Token]>
 }
 
 /// A window.
-#[tactic(auto, unfolding(crate::specs::Reading::window))]
+#[tactic(auto, unfolding(crate::specs::RuleReaders::window))]
 fn window<'a>(alloc: Global, tokens: &'a [Token]) -> Read<'a, Window>
     ensures value { ReadsAs (λ w. w) result (window tokens.now) }
     ensures shorter { IfOk result (λ p. length p.1.now < length tokens.now) }
@@ -146,7 +146,7 @@ fn window<'a>(alloc: Global, tokens: &'a [Token]) -> Read<'a, Window>
 }
 
 /// The window after WITHIN, the free one where that does not stand here.
-#[tactic(auto, unfolding(crate::specs::Reading::within))]
+#[tactic(auto, unfolding(crate::specs::RuleReaders::within))]
 fn within<'a>(alloc: Global, tokens: &'a [Token]) -> Read<'a, Window>
     ensures value { ReadsAs (λ w. w) result (within tokens.now) }
     ensures no_longer { IfOk result (λ p. length p.1.now ≤ length tokens.now) }
@@ -158,10 +158,10 @@ fn within<'a>(alloc: Global, tokens: &'a [Token]) -> Read<'a, Window>
 }
 
 /// What stands after the streams, and the whole statement with it.
-#[tactic(auto, unfolding(crate::specs::Reading::scope))]
+#[tactic(auto, unfolding(crate::specs::RuleReaders::scope))]
 fn scope<'a>(
     alloc: Global,
-    place: Place,
+    place: Location,
     strict: bool,
     number: Option<NumberAt>,
     select: Option<Names>,
@@ -189,8 +189,8 @@ fn scope<'a>(
 }
 
 /// What stands after the SELECT at the place.
-#[tactic(auto, unfolding(crate::specs::Reading::select_rest))]
-fn select_rest<'a>(alloc: Global, place: Place, tokens: &'a [Token]) -> Read<'a, Statement>
+#[tactic(auto, unfolding(crate::specs::RuleReaders::select_rest))]
+fn select_rest<'a>(alloc: Global, place: Location, tokens: &'a [Token]) -> Read<'a, Statement>
     ensures value { ReadsAs statement_tree result (select_rest place tokens.now) }
     ensures shorter { IfOk result (λ p. length p.1.now < length tokens.now) }
 {
@@ -202,7 +202,7 @@ fn select_rest<'a>(alloc: Global, place: Place, tokens: &'a [Token]) -> Read<'a,
 }
 
 /// A SELECT statement.
-#[tactic(auto, unfolding(crate::specs::Reading::select_statement))]
+#[tactic(auto, unfolding(crate::specs::RuleReaders::select_statement))]
 pub fn select_statement<'a>(alloc: Global, tokens: &'a [Token]) -> Read<'a, Statement>
     ensures value { ReadsAs statement_tree result (select_statement tokens.now) }
     ensures shorter { IfOk result (λ p. length p.1.now < length tokens.now) }

@@ -1,13 +1,13 @@
 //! Statements as they stand in a text, before they are checked against one another.
 
 use cel_terms::{Name, Names, Query};
-use cer_base::{Listed, Place};
+use cer_base::{Listed, Location};
 
 /// A whole number of signed 64 bits, and the place of its first byte.
 #[derive(Debug, Clone, Copy, PartialEq, Eq)]
 pub struct NumberAt {
     pub value: i64,
-    pub place: Place,
+    pub place: Location,
 }
 
 /// What an attribute is declared to hold.
@@ -51,5 +51,5 @@ pub type Statements = Listed<Statement>;
 #[derive(Drop, Debug)]
 pub struct Script {
     pub statements: Statements,
-    pub end: Place,
+    pub end: Location,
 }

@@ -2,7 +2,7 @@
 
 ghost use Rattle.ceql_grammar.specs.ReadResults.{ReadsAs, ReadsPast, Skips, StopsAs};
 ghost use Rattle.ceql_grammar.specs.WordsAndSigns.{among, is, is_name_token, token_name, spelled};
-ghost use Rattle.ceql_grammar.specs.Reading.{name, no_value, mark_token};
+ghost use Rattle.ceql_grammar.specs.RuleReaders.{name, no_value, mark_token};
 ghost use Rattle.ceql_grammar.specs.RuleForms.{first_token};
 ghost use Rattle.std.specs.Prelude.{◌≡◌, ◌<◌, IfOk, IfSome, Ok, IfErr, bytes_eq, length};
 

@@ -2,7 +2,7 @@
 
 ghost use Rattle.ceql_grammar.specs.ReadResults.{ReadsAs, SkipsTo};
 ghost use Rattle.ceql_grammar.specs.WordsAndSigns.{among};
-ghost use Rattle.ceql_grammar.specs.Reading.{count, literal, whole_number, op};
+ghost use Rattle.ceql_grammar.specs.RuleReaders.{count, literal, whole_number, op};
 ghost use Rattle.ceql_grammar.specs.RuleForms.{first_token};
 ghost use Rattle.ceql_grammar.specs.Statements.{placed_number};
 ghost use Rattle.ceql_grammar.specs.Values.{has_minus, is_count, is_in_range, is_literal, is_number, is_op, is_unit, literal_of, unsigned_number, op_of, places, seconds_in, signed_number, unquoted};

@@ -2,7 +2,7 @@
 use Rattle.std.proofs.Common.{◌≡◌, ℕ, zero, suc, ◌+◌, ◌-◌, ◌<◌, ◌≤◌, ◌^◌, List, [], ◌∷◌, ◌++◌, length, get_or, take, drop, subst, Result, Ok, Err, refl, ap, sym, ◌∙◌, append_assoc, arith, length-take, length-drop}
 use Rattle.std.proofs.lemmas.List.{append-nil}
 use Rattle.std.proofs.lemmas.Grind.{common_steps}
-use Rattle.cer_base.specs.declared.Place.{Place}
+use Rattle.cer_base.specs.declared.Location.{Location}
 use Rattle.ceql_lexer.specs.declared.front.Piece.{Piece}
 use Rattle.ceql_lexer.specs.declared.LexFault.{LexFault}
 use Rattle.ceql_lexer.specs.declared.LexError.{LexError}
@@ -17,7 +17,7 @@ in_front tokens (Ok parts) = Ok (tokens ++ tokens_in parts)
 in_front tokens (Err error) = Err error
 
 -- The tokens so far and those of the rest are those of the text; the rest begins at the place.
-pub record Cuts (text : List ℕ) (tokens : List Token) (place : Place) (rest : List ℕ) : Type 0 where
+pub record Cuts (text : List ℕ) (tokens : List Token) (place : Location) (rest : List ℕ) : Type 0 where
   pub line : place.line + length rest < 2 ^ 64
   pub col : place.col + length rest < 2 ^ 64
   pub last : place_after place rest ≡ place_after first_place text
@@ -26,7 +26,7 @@ pub record Cuts (text : List ℕ) (tokens : List Token) (place : Place) (rest : 
 pub cuts_none : (text : List ℕ) → length text + 1 < 2 ^ 64 → Cuts text [] first_place text
 cuts_none text lt = record { line = omega arith; col = omega arith; last = refl; read = refl }
 
-pub passes : (k : ℕ) (place : Place) (bytes : List ℕ) → parts_from k place bytes ≡ parts_from 0 (place_after place (take k bytes)) (drop k bytes)
+pub passes : (k : ℕ) (place : Location) (bytes : List ℕ) → parts_from k place bytes ≡ parts_from 0 (place_after place (take k bytes)) (drop k bytes)
 passes zero place bytes = refl
 passes (suc k) place [] = refl
 passes (suc k) place (byte ∷ bytes) = passes k (next_place place byte) bytes
@@ -36,10 +36,10 @@ pushed tokens part (Ok parts) = ap (λ (ts : List Token). Ok ts) (simp append_as
 pushed tokens part (Err error) = refl
 
 -- the part of a piece at the front
-abbrev pub part_at : Piece → List ℕ → Place → TextPart
+abbrev pub part_at : Piece → List ℕ → Location → TextPart
 part_at piece bytes place = record { kind = piece.kind; text = bytes; place = place }
 
-parts_step : (k : ℕ) (place : Place) (byte : ℕ) (bytes : List ℕ) (piece : Piece) → piece_at byte bytes ≡ Ok piece → piece.size ≡ suc k
+parts_step : (k : ℕ) (place : Location) (byte : ℕ) (bytes : List ℕ) (piece : Piece) → piece_at byte bytes ≡ Ok piece → piece.size ≡ suc k
     → parts_from 0 place (byte ∷ bytes) ≡ with_part (part_at piece (take piece.size (byte ∷ bytes)) place) (parts_from 0 (place_after place (take piece.size (byte ∷ bytes))) (drop piece.size (byte ∷ bytes)))
 parts_step k place byte bytes piece is size =
     let e : suc k - 1 ≡ k = omega arith in
@@ -56,7 +56,7 @@ tail_is rest = grind (arith, common_steps)
 pub read_is : (rest : List ℕ) (read : Result Piece LexFault) (piece : Piece) → read ≡ piece_at (get_or rest 0 0) (take (length rest - 1) (drop 1 rest)) → read ≡ Ok piece → piece_at (get_or rest 0 0) (drop 1 rest) ≡ Ok piece
 read_is rest read piece e is = ap (piece_at (get_or rest 0 0)) (sym (tail_is rest)) ∙ sym e ∙ is
 
-pub cuts_more : (text : List ℕ) (tokens : List Token) (place : Place) (rest : List ℕ) (piece : Piece) (front back : List ℕ) (now : Place) (more : List Token)
+pub cuts_more : (text : List ℕ) (tokens : List Token) (place : Location) (rest : List ℕ) (piece : Piece) (front back : List ℕ) (now : Location) (more : List Token)
     → Cuts text tokens place rest → 1 ≤ length rest → piece_at (get_or rest 0 0) (drop 1 rest) ≡ Ok piece → HasSize piece rest
     → front ≡ take piece.size rest → back ≡ drop piece.size rest → now ≡ place_after place front → now.line ≤ place.line + length front → now.col ≤ place.col + length front
     → more ≡ tokens ++ token_of (part_at piece front place) piece.kind → Cuts text more now back
@@ -78,7 +78,7 @@ failed : (text : List ℕ) (read : Result (List TextPart) LexError) (error : Lex
 failed text (Ok parts) error e = absurd (cc)
 failed text (Err other) error e = cc
 
-pub cuts_fault : (text : List ℕ) (tokens : List Token) (place : Place) (rest : List ℕ) (byte : ℕ) (bytes : List ℕ) (fault : LexFault) → Cuts text tokens place rest → rest ≡ byte ∷ bytes
+pub cuts_fault : (text : List ℕ) (tokens : List Token) (place : Location) (rest : List ℕ) (byte : ℕ) (bytes : List ℕ) (fault : LexFault) → Cuts text tokens place rest → rest ≡ byte ∷ bytes
     → piece_at byte bytes ≡ Err fault → with_end text (parts_from 0 first_place text) ≡ Err (record { fault = fault; place = place })
 cuts_fault text tokens place rest byte bytes fault cuts e is =
     let stops : parts_from 0 place rest ≡ Err (record { fault = fault; place = place }) = rw (e, is) refl in
@@ -88,9 +88,9 @@ ended : (text : List ℕ) (read : Result (List TextPart) LexError) (tokens : Lis
 ended text (Ok parts) tokens e = let same : tokens_in parts ≡ tokens = cc in rw same refl
 ended text (Err other) tokens e = absurd (cc)
 
-pub cuts_end : (text : List ℕ) (tokens : List Token) (place : Place) (rest : List ℕ) → Cuts text tokens place rest → rest ≡ []
+pub cuts_end : (text : List ℕ) (tokens : List Token) (place : Location) (rest : List ℕ) → Cuts text tokens place rest → rest ≡ []
     → with_end text (parts_from 0 first_place text) ≡ Ok (tokens ++ end_token place ∷ [])
 cuts_end text tokens place rest cuts e =
     let none : in_front tokens (parts_from 0 place rest) ≡ Ok tokens = rw e (ap (λ (ts : List Token). Ok ts) (append-nil tokens)) in
     let here : place ≡ place_after first_place text = ap (place_after place) (sym e) ∙ cuts.last in
-    ended text (parts_from 0 first_place text) tokens (sym cuts.read ∙ none) ∙ ap (λ (p : Place). Ok (tokens ++ end_token p ∷ [])) (sym here)
+    ended text (parts_from 0 first_place text) tokens (sym cuts.read ∙ none) ∙ ap (λ (p : Location). Ok (tokens ++ end_token p ∷ [])) (sym here)

@@ -1,7 +1,7 @@
 -- The parts of a text are the whole text, each at its place and as long as it may be.
 use Rattle.std.proofs.Common.{◌≡◌, ℕ, zero, suc, ◌-◌, List, [], ◌∷◌, ◌++◌, take, drop, Result, Ok, Err, refl, sym, ap, subst, ◌∙◌, arith, length, length-take}
 use Rattle.std.proofs.lemmas.Grind.{common_steps}
-use Rattle.cer_base.specs.declared.Place.{Place}
+use Rattle.cer_base.specs.declared.Location.{Location}
 use Rattle.ceql_lexer.specs.declared.front.Piece.{Piece}
 use Rattle.cer_base.specs.declared.OrMemory.{OrMemory}
 use Rattle.ceql_lexer.specs.declared.Token.{Token}
@@ -14,7 +14,7 @@ use Rattle.ceql_lexer.specs.Tokens.{TextPart, with_end, with_part, after_mark, f
 use Rattle.ceql_lexer.specs.Whole.{AreAtPlaces, AreLongest, AreWhole, IsCut, EndsBefore, text_of_parts}
 use Rattle.ceql_lexer.proofs.Longest.{ends_of, piece_ends}
 
-parts_after_takes : (place : Place) (read : Result Piece LexFault) (later : Piece → Result (List TextPart) LexError) (parts : List TextPart) → parts_after place read later ≡ Ok parts → (piece : Piece) × (read ≡ Ok piece) × (later piece ≡ Ok parts)
+parts_after_takes : (place : Location) (read : Result Piece LexFault) (later : Piece → Result (List TextPart) LexError) (parts : List TextPart) → parts_after place read later ≡ Ok parts → (piece : Piece) × (read ≡ Ok piece) × (later piece ≡ Ok parts)
 parts_after_takes place (Ok piece) later parts e = (piece, refl, e)
 parts_after_takes place (Err fault) later parts e = absurd (cc)
 
@@ -23,7 +23,7 @@ with_part_takes part (Ok more) parts e = (more, refl, cc)
 with_part_takes part (Err error) parts e = absurd (cc)
 
 -- what is kept of the parts of a text, so many of its bytes being passed over
-record Kept (passed : ℕ) (place : Place) (bytes : List ℕ) (parts : List TextPart) : Type 0 where
+record Kept (passed : ℕ) (place : Location) (bytes : List ℕ) (parts : List TextPart) : Type 0 where
   nothing_lost : text_of_parts parts ≡ drop passed bytes
   placed : AreAtPlaces (place_after place (take passed bytes)) parts
   longest : AreLongest parts
@@ -31,7 +31,7 @@ record Kept (passed : ℕ) (place : Place) (bytes : List ℕ) (parts : List Text
 take_drop : (n : ℕ) (bytes : List ℕ) → take n bytes ++ drop n bytes ≡ bytes
 take_drop n bytes = grind (arith, common_steps)
 
-kept_more : (place : Place) (byte : ℕ) (bytes : List ℕ) (piece : Piece) (more : List TextPart) → piece_at byte bytes ≡ Ok piece → Kept (piece.size - 1) (next_place place byte) bytes more
+kept_more : (place : Location) (byte : ℕ) (bytes : List ℕ) (piece : Piece) (more : List TextPart) → piece_at byte bytes ≡ Ok piece → Kept (piece.size - 1) (next_place place byte) bytes more
     → Kept 0 place (byte ∷ bytes) (record { kind = piece.kind; text = byte ∷ take (piece.size - 1) bytes; place = place } ∷ more)
 kept_more place byte bytes piece more is kept = record {
   nothing_lost = ap (λ (bs : List ℕ). byte ∷ bs) (ap (λ (bs : List ℕ). take (piece.size - 1) bytes ++ bs) kept.nothing_lost ∙ take_drop (piece.size - 1) bytes);
@@ -39,7 +39,7 @@ kept_more place byte bytes piece more is kept = record {
   longest = (subst (EndsBefore piece.kind (length (byte ∷ take (piece.size - 1) bytes))) (sym kept.nothing_lost) (ends_of piece.kind piece.size _ _ (λ more. omega (arith, length-take {A = ℕ})) (piece_ends byte bytes piece is)), kept.longest);
 }
 
-kept : (passed : ℕ) (place : Place) (bytes : List ℕ) (parts : List TextPart) → parts_from passed place bytes ≡ Ok parts → Kept passed place bytes parts
+kept : (passed : ℕ) (place : Location) (bytes : List ℕ) (parts : List TextPart) → parts_from passed place bytes ≡ Ok parts → Kept passed place bytes parts
 kept zero place [] parts e = let none : [] ≡ parts = cc in subst (Kept 0 place []) none (record { nothing_lost = refl; placed = tt; longest = tt })
 kept (suc passed) place [] parts e = let none : [] ≡ parts = cc in subst (Kept (suc passed) place []) none (record { nothing_lost = refl; placed = tt; longest = tt })
 kept (suc passed) place (byte ∷ bytes) parts e =

@@ -1,6 +1,6 @@
 -- The tokens of a text, with their places, or the first fault.
 use Rattle.std.specs.Prelude.{◌≡◌, ℕ, zero, suc, ◌+◌, ◌-◌, ◌==◌, List, [], ◌∷◌, ◌++◌, take, drop, if◌then◌else◌, bytes_eq, Option, Some, None, Result, Ok, Err}
-use Rattle.cer_base.specs.declared.Place.{Place}
+use Rattle.cer_base.specs.declared.Location.{Location}
 use Rattle.ceql_lexer.specs.declared.front.Piece.{Piece}
 use Rattle.ceql_lexer.specs.declared.LexFault.{LexFault}
 use Rattle.ceql_lexer.specs.declared.LexError.{LexError}
@@ -10,16 +10,16 @@ use Rattle.ceql_lexer.specs.declared.TokenKind.TheVariants as kind
 use Rattle.ceql_lexer.specs.Fronts.{piece_at}
 
 -- the first place of a text
-abbrev pub first_place : Place
+abbrev pub first_place : Location
 first_place = record { line = 1; col = 1 }
 
 -- the place after a byte: a line feed ends a line
-abbrev pub next_place : Place → ℕ → Place
+abbrev pub next_place : Location → ℕ → Location
 next_place place byte =
     if byte == 10 then record { line = place.line + 1; col = 1 } else record { line = place.line; col = place.col + 1 }
 
 -- the place after these bytes
-abbrev pub place_after : Place → List ℕ → Place
+abbrev pub place_after : Location → List ℕ → Location
 place_after place [] = place
 place_after place (byte ∷ bytes) = place_after (next_place place byte) bytes
 
@@ -27,10 +27,10 @@ place_after place (byte ∷ bytes) = place_after (next_place place byte) bytes
 pub record TextPart : Type 0 where
   pub kind : Option TokenKind
   pub text : List ℕ
-  pub place : Place
+  pub place : Location
 
 -- the parts that go on from a piece at this place, or its fault there
-abbrev pub parts_after : Place → Result Piece LexFault → (Piece → Result (List TextPart) LexError) → Result (List TextPart) LexError
+abbrev pub parts_after : Location → Result Piece LexFault → (Piece → Result (List TextPart) LexError) → Result (List TextPart) LexError
 parts_after place (Ok piece) later = later piece
 parts_after place (Err fault) later = Err (record { fault = fault; place = place })
 
@@ -41,7 +41,7 @@ with_part part (Err error) = Err error
 
 -- the parts of the bytes, the first byte being at the place, from left to right up to the first
 -- fault; so many bytes at the front are passed over, since they are of a part before
-abbrev pub parts_from : ℕ → Place → List ℕ → Result (List TextPart) LexError
+abbrev pub parts_from : ℕ → Location → List ℕ → Result (List TextPart) LexError
 parts_from passed place [] = Ok []
 parts_from (suc passed) place (byte ∷ bytes) = parts_from passed (next_place place byte) bytes
 parts_from zero place (byte ∷ bytes) =
@@ -64,7 +64,7 @@ tokens_in [] = []
 tokens_in (part ∷ parts) = token_of part part.kind ++ tokens_in parts
 
 -- the token after all others, at the place after the last byte
-abbrev pub end_token : Place → Token
+abbrev pub end_token : Location → Token
 end_token place = record { kind = kind.End; text = []; place = place }
 
 -- the tokens of these parts, and the end

@@ -2,7 +2,7 @@
 -- and no name or number among them could go on.
 use Rattle.std.specs.Prelude.{◌≡◌, ◌<◌, ℕ, Bool, false, List, [], ◌∷◌, ◌++◌, length, Option, Some, None}
 use Rattle.std.specs.Char.{is_ascii_digit}
-use Rattle.cer_base.specs.declared.Place.{Place}
+use Rattle.cer_base.specs.declared.Location.{Location}
 use Rattle.ceql_lexer.specs.declared.Token.{Token}
 use Rattle.ceql_lexer.specs.declared.TokenKind.{TokenKind}
 use Rattle.ceql_lexer.specs.declared.TokenKind.TheVariants.{Name, Keyword, Number, Decimal, Quoted, Sign, End}
@@ -16,7 +16,7 @@ text_of_parts [] = []
 text_of_parts (part ∷ parts) = part.text ++ text_of_parts parts
 
 -- each part stands where the bytes of the parts before it end
-abbrev pub AreAtPlaces : Place → List TextPart → Type 0
+abbrev pub AreAtPlaces : Location → List TextPart → Type 0
 AreAtPlaces place [] = Unit {0}
 AreAtPlaces place (part ∷ parts) = (part.place ≡ place) × AreAtPlaces (place_after place part.text) parts
 

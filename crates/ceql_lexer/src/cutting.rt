@@ -9,11 +9,11 @@ ghost use Rattle.std.specs.Prelude.{◌≡◌, ◌+◌, ◌++◌, ◌<◌, ◌�
 
 use crate::front::piece_at;
 use crate::{LexError, Token, TokenKind, Tokens};
-use cer_base::{Listed, Memory, OrMemory, Place, Text};
+use cer_base::{Listed, Location, Memory, OrMemory, Text};
 use std::alloc::Global;
 
 /// The place of a text's first byte.
-const FIRST: Place = Place { line: 1, col: 1 };
+const FIRST: Location = Location { line: 1, col: 1 };
 
 /// What stands after a byte order mark at the very beginning, else the whole text.
 fn after_mark(text: &[u8]) -> &[u8]
@@ -27,7 +27,7 @@ fn after_mark(text: &[u8]) -> &[u8]
 }
 
 /// The place after these bytes.
-fn place_after(place: Place, bytes: &[u8]) -> Place
+fn place_after(place: Location, bytes: &[u8]) -> Location
     requires line { place.line + length bytes.now < 2 ^ 64 }
     requires col { place.col + length bytes.now < 2 ^ 64 }
     ensures value { result ≡ place_after place bytes.now }
@@ -47,7 +47,7 @@ fn place_after(place: Place, bytes: &[u8]) -> Place
 }
 
 /// The token of the kind that these bytes are, at the place.
-fn token_of(alloc: Global, kind: TokenKind, bytes: &[u8], place: Place) -> Result<Token, Memory>
+fn token_of(alloc: Global, kind: TokenKind, bytes: &[u8], place: Location) -> Result<Token, Memory>
     requires { IsUtf8 bytes.now }
     ensures { IfOk result (λ token. token
         ≡ record { kind = kind; text = bytes.now; place = place }) }
@@ -67,7 +67,7 @@ fn push_piece(
     tokens: &mut Vec<Token>,
     kind: Option<TokenKind>,
     bytes: &[u8],
-    place: Place,
+    place: Location,
 ) -> Result<(), Memory>
     requires { IsTokenText kind bytes.now }
     ensures { OnOk result (tokens.new.items

@@ -8,7 +8,7 @@
 //! It stands on `cer_base` alone.
 #![tactic(auto)]
 
-use cer_base::{Listed, Place, Text};
+use cer_base::{Listed, Location, Text};
 pub use cutting::lex;
 pub use words::in_capitals_is;
 
@@ -41,7 +41,7 @@ pub enum LexFault {
 #[derive(Debug, Clone, Copy, PartialEq, Eq)]
 pub struct LexError {
     pub fault: LexFault,
-    pub place: Place,
+    pub place: Location,
 }
 
 #[derive(Debug, Clone, Copy, PartialEq, Eq)]
@@ -68,7 +68,7 @@ pub enum TokenKind {
 pub struct Token {
     pub kind: TokenKind,
     pub text: Text,
-    pub place: Place,
+    pub place: Location,
 }
 
 /// Tokens in the order of the text. `lex` gives at least one: the last, and only the last, is

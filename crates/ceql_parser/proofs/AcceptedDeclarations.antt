@@ -4,7 +4,7 @@ use Rattle.std.specs.Prelude.{bytes_eq, is_none, is_some, option_and_then, if◌
 use Rattle.std.specs.List.{list_any}
 use Rattle.std.specs.Option.{option_or}
 use Rattle.std.proofs.lemmas.Slice.Eq.{bytes_eq-Decides}
-use Rattle.cer_base.specs.declared.Place.{Place}
+use Rattle.cer_base.specs.declared.Location.{Location}
 use Rattle.cel_terms.specs.declared.Name.{Name}
 use Rattle.cel_terms.specs.Meaning.{lists_name}
 use Rattle.stream_schema.specs.Types.{Declared, DeclaredType}
@@ -31,7 +31,7 @@ pub rest_none : {Y : Type 0} (o p : Option Y) → option_or o p ≡ None → p �
 rest_none None p e = e
 rest_none (Some y) p e = absurd cc
 
-pub passed : (b : Bool) (fault : QueryFault) (place : Place) → unless b fault place ≡ None → b ≡ true
+pub passed : (b : Bool) (fault : QueryFault) (place : Location) → unless b fault place ≡ None → b ≡ true
 passed true fault place e = refl
 passed false fault place e = absurd cc
 

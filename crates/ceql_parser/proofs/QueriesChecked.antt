@@ -6,7 +6,7 @@ use Rattle.std.specs.Option.{option_map_or}
 use Rattle.std.proofs.lemmas.List.Folds.{Any-from_list_any}
 use Rattle.std.proofs.lemmas.Bool.Decides.{leb_tells}
 use Rattle.std.proofs.lemmas.Slice.Eq.{bytes_eq-Decides}
-use Rattle.cer_base.specs.declared.Place.{Place}
+use Rattle.cer_base.specs.declared.Location.{Location}
 use Rattle.stream_schema.specs.Types.{Declared, DeclaredType, DeclaredStream}
 use Rattle.stream_schema.specs.Names.{type_number}
 use Rattle.stream_schema.specs.Declaring.{numbers_from, added}
@@ -223,5 +223,5 @@ all_checked schema before (said.Select s ∷ ss) st l e =
 none_stands : Stands no_declarations
 none_stands = record { within = tt; few = all_nil HasFew }
 
-pub queries_checked : (statements : List Statement) (end : Place) → All IsLawfulStatement (map statement_tree statements) → script_fault statements end ≡ None → All (IsChecked (declared_schema statements)) (queries_of statements)
+pub queries_checked : (statements : List Statement) (end : Location) → All IsLawfulStatement (map statement_tree statements) → script_fault statements end ≡ None → All (IsChecked (declared_schema statements)) (queries_of statements)
 queries_checked statements end l e = all_checked no_declarations 0 statements none_stands l (head_none _ _ e)

@@ -3,7 +3,7 @@ use Rattle.std.proofs.Common.{◌≡◌, refl, sym, ap, ap₂, ◌∙◌, ℕ, s
 use Rattle.std.specs.Prelude.{fold, nat_le, nat_lt, option_and_then, slice_get}
 use Rattle.std.specs.List.{filter_map}
 use Rattle.std.specs.Option.{option_or}
-use Rattle.cer_base.specs.declared.Place.{Place}
+use Rattle.cer_base.specs.declared.Location.{Location}
 use Rattle.stream_schema.specs.Types.{Declared, DeclaredType}
 use Rattle.stream_schema.specs.Declaring.{with_type, with_stream}
 use Rattle.cel_terms.specs.declared.Name.{Name}
@@ -120,16 +120,16 @@ statements_as schema before (said.Stream name types ∷ ss) =
 statements_as schema before (said.Select s ∷ ss) =
     ap₂ (λ a b. option_or a b) (statement_as schema before (said.Select s)) (statements_as schema (before + 1) ss)
 
-abbrev script_told : List StatementTree → Place → Option QueryError
+abbrev script_told : List StatementTree → Location → Option QueryError
 script_told ts end = option_or (statements_told no_declarations 0 ts) (unless (nat_lt 0 (length (queries_told ts))) NoQuery end)
 
-script_as : (ss : List Statement) (end : Place) → script_fault ss end ≡ script_told (map statement_tree ss) end
+script_as : (ss : List Statement) (end : Location) → script_fault ss end ≡ script_told (map statement_tree ss) end
 script_as ss end = ap₂ (λ a b. option_or a b) (statements_as no_declarations 0 ss) (ap (λ n. unless (nat_lt 0 n) NoQuery end) (counted_as ss))
 
 -- SAME TREES
 
 -- statements with the same trees have the same first fault
-pub same_fault : (ss ts : List Statement) (end : Place) → map statement_tree ss ≡ map statement_tree ts → script_fault ss end ≡ script_fault ts end
+pub same_fault : (ss ts : List Statement) (end : Location) → map statement_tree ss ≡ map statement_tree ts → script_fault ss end ≡ script_fault ts end
 same_fault ss ts end e = script_as ss end ∙ ap (λ (us : List StatementTree). script_told us end) e ∙ sym (script_as ts end)
 
 -- they declare the same

@@ -1,7 +1,7 @@
 -- The answer of a query text: that it is one, and that there is no other.
 use Rattle.std.proofs.Common.{◌≡◌, refl, sym, ◌∙◌, ap, ap₂, subst, ℕ, ◌≤◌, arith, List, length, map, Option, Some, None, Result, Ok, Err}
 use Rattle.std.specs.Prelude.{IfOk}
-use Rattle.cer_base.specs.declared.Place.{Place}
+use Rattle.cer_base.specs.declared.Location.{Location}
 use Rattle.cer_base.specs.declared.OrMemory.{OrMemory}
 use Rattle.cer_base.specs.declared.OrMemory.TheVariants as wanted
 use Rattle.ceql_lexer.specs.declared.Token.{Token}
@@ -21,12 +21,12 @@ use Rattle.ceql_parser.specs.QueryTexts.{TextAnswer, unless_faulty, checked, IsA
 use Rattle.ceql_parser.proofs.SameTrees.{same_fault, same_schema, same_queries}
 use Rattle.ceql_grammar.proofs.AnswerRules.{one_answer}
 
-same_checked : (ss ts : List Statement) (end : Place) → map statement_tree ss ≡ map statement_tree ts → checked ss end ≡ checked ts end
+same_checked : (ss ts : List Statement) (end : Location) → map statement_tree ss ≡ map statement_tree ts → checked ss end ≡ checked ts end
 same_checked ss ts end e =
     ap₂ (λ fault answer. unless_faulty fault answer) (same_fault ss ts end e)
     (ap₂ (λ schema queries. Ok (schema, queries)) (same_schema ss ts e) (same_queries ss ts e))
 
-one_checked : (trees : List StatementTree) (end : Place) (a b : TextAnswer) → IsAnswerOfStatements trees end a → IsAnswerOfStatements trees end b → a ≡ b
+one_checked : (trees : List StatementTree) (end : Location) (a b : TextAnswer) → IsAnswerOfStatements trees end a → IsAnswerOfStatements trees end b → a ≡ b
 one_checked trees end a b h k = h.is ∙ same_checked h.statements k.statements end (h.say ∙ sym k.say) ∙ sym k.is
 
 one_after : (parsed : ParseAnswer) (a b : TextAnswer) → IsAnswerAfter parsed a → IsAnswerAfter parsed b → a ≡ b
@@ -59,7 +59,7 @@ pub found_lexed : (text : List ℕ) (tokens : List Token) (answer : TextAnswer) 
 found_lexed text tokens answer l e h = short l (subst (λ lexed. IsAnswerOfLexed lexed answer) (sym e) h)
 
 -- what is told of statements is their answer
-found_checked : (statements : List Statement) (end : Place) (fault : Option QueryError) (told : TextAnswer) → script_fault statements end ≡ fault → told ≡ unless_faulty fault (Ok (declared_schema statements, map query_tree (queries_of statements))) → IsAnswerOfStatements (map statement_tree statements) end told
+found_checked : (statements : List Statement) (end : Location) (fault : Option QueryError) (told : TextAnswer) → script_fault statements end ≡ fault → told ≡ unless_faulty fault (Ok (declared_schema statements, map query_tree (queries_of statements))) → IsAnswerOfStatements (map statement_tree statements) end told
 found_checked statements end fault told e f =
     record { statements = statements; say = refl; is = f ∙ ap (λ o. unless_faulty o (Ok (declared_schema statements, map query_tree (queries_of statements)))) (sym e) }
 

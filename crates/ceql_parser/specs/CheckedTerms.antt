@@ -1,6 +1,6 @@
 -- What holds of terms in which no fault is found.
 use Rattle.std.specs.Prelude.{◌≡◌, List, All, None, map}
-use Rattle.cer_base.specs.declared.Place.{Place}
+use Rattle.cer_base.specs.declared.Location.{Location}
 use Rattle.stream_schema.specs.Types.{DeclaredType}
 use Rattle.cel_terms.specs.declared.Formula.{Formula}
 use Rattle.cel_terms.specs.Checked.{IsCheckedFormula, IsChecked}
@@ -17,4 +17,4 @@ LawfulFormulasAreChecked = (types : List DeclaredType) (formula : Formula) → I
 
 -- the queries of lawful statements without a fault are checked for what all the statements declare
 abbrev pub LawfulQueriesAreChecked : Type 0
-LawfulQueriesAreChecked = (statements : List Statement) (end : Place) → All IsLawfulStatement (map statement_tree statements) → script_fault statements end ≡ None → All (IsChecked (declared_schema statements)) (queries_of statements)
+LawfulQueriesAreChecked = (statements : List Statement) (end : Location) → All IsLawfulStatement (map statement_tree statements) → script_fault statements end ≡ None → All (IsChecked (declared_schema statements)) (queries_of statements)

@@ -3,7 +3,7 @@ use Rattle.std.specs.Prelude.{◌≡◌, ℕ, Bool, true, false, List, [], ◌�
 use Rattle.std.specs.Option.{option_or}
 use Rattle.cer_base.specs.declared.OrMemory.{OrMemory}
 use Rattle.cer_base.specs.declared.OrMemory.TheVariants as wanted
-use Rattle.cer_base.specs.declared.Place.{Place}
+use Rattle.cer_base.specs.declared.Location.{Location}
 use Rattle.cel_terms.specs.declared.Name.{Name}
 use Rattle.ceql_grammar.specs.declared.faults.QueryFault.{QueryFault}
 use Rattle.ceql_grammar.specs.declared.faults.QueryError.{QueryError}
@@ -19,7 +19,7 @@ first_fault [] = None
 first_fault (o ∷ os) = option_or o (first_fault os)
 
 -- the fault, where the test fails
-abbrev pub unless : Bool → QueryFault → Place → Option QueryError
+abbrev pub unless : Bool → QueryFault → Location → Option QueryError
 unless true fault place = None
 unless false fault place = Some (record { fault = fault; place = place })
 

@@ -2,10 +2,10 @@
 use Rattle.std.specs.Prelude.{ℕ, List}
 use Rattle.ceql_grammar.specs.declared.faults.QueryFault.{QueryFault}
 use Rattle.ceql_grammar.specs.declared.faults.QueryFault.TheVariants as fault
-use Rattle.ceql_parser.specs.declared.refusals.Wrong.{Wrong}
-use Rattle.ceql_parser.specs.declared.refusals.Wrong.TheVariants as wrong
+use Rattle.ceql_parser.specs.declared.refusals.NameFault.{NameFault}
+use Rattle.ceql_parser.specs.declared.refusals.NameFault.TheVariants as wrong
 
-abbrev pub fault_of : Wrong → List ℕ → QueryFault
+abbrev pub fault_of : NameFault → List ℕ → QueryFault
 fault_of wrong.NameTaken name = fault.NameTaken name
 fault_of wrong.UnknownType name = fault.UnknownType name
 fault_of wrong.UnknownStream name = fault.UnknownStream name

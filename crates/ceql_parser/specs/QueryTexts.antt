@@ -1,7 +1,7 @@
 -- What a query text declares and asks, or the first of its faults: that it is too long, else of its
 -- tokens, else of its nesting and grammar, else of its statements.
 use Rattle.std.specs.Prelude.{◌≡◌, ℕ, ◌≤◌, ◌<◌, List, length, map, Option, Some, None, Result, Ok, Err}
-use Rattle.cer_base.specs.declared.Place.{Place}
+use Rattle.cer_base.specs.declared.Location.{Location}
 use Rattle.cer_base.specs.declared.limits.TheConstants.{LONGEST_TEXT}
 use Rattle.stream_schema.specs.Types.{Declared}
 use Rattle.ceql_lexer.specs.declared.Token.{Token}
@@ -26,12 +26,12 @@ unless_faulty None answer = answer
 unless_faulty (Some error) answer = Err error
 
 -- what the statements declare and ask, or their first fault
-abbrev pub checked : List Statement → Place → TextAnswer
+abbrev pub checked : List Statement → Location → TextAnswer
 checked statements end =
     unless_faulty (script_fault statements end) (Ok (declared_schema statements, map query_tree (queries_of statements)))
 
 -- The answer is that of statements which say this.
-pub record IsAnswerOfStatements (trees : List StatementTree) (end : Place) (answer : TextAnswer) : Type 0 where
+pub record IsAnswerOfStatements (trees : List StatementTree) (end : Location) (answer : TextAnswer) : Type 0 where
   pub statements : List Statement
   pub say : map statement_tree statements ≡ trees
   pub is : answer ≡ checked statements end

@@ -1,6 +1,6 @@
 -- What queries say, as plain data.
 use Rattle.std.specs.Prelude.{ℕ, Bool, List, Option}
-use Rattle.cer_base.specs.declared.Place.{Place}
+use Rattle.cer_base.specs.declared.Location.{Location}
 use Rattle.cel_terms.specs.declared.Name.{Name}
 use Rattle.cel_terms.specs.declared.Query.{Query}
 use Rattle.cel_terms.specs.declared.Window.{Window}
@@ -15,7 +15,7 @@ pub record QueryTree : Type 0 where
   pub formula : FormulaTree
   pub partition : List Name
   pub window : Window
-  pub place : Place
+  pub place : Location
 
 -- what a query says
 abbrev pub query_tree : Query → QueryTree

@@ -1,7 +1,7 @@
 -- When the statements of a text are refused, and else its schema and its queries.
 use Rattle.std.specs.Prelude.{ℕ, ◌+◌, List, [], ◌∷◌, map, fold, length, Option, None, option_and_then, nat_lt}
 use Rattle.std.specs.Option.{option_or, option_map_or}
-use Rattle.cer_base.specs.declared.Place.{Place}
+use Rattle.cer_base.specs.declared.Location.{Location}
 use Rattle.stream_schema.specs.Types.{Declared}
 use Rattle.stream_schema.specs.Declaring.{with_type, with_stream, numbers_from}
 use Rattle.stream_schema.specs.declared.Attr.{Attr}
@@ -60,7 +60,7 @@ abbrev pub no_declarations : Declared
 no_declarations = record { types = []; streams = [] }
 
 -- the first fault of a text: of its statements, or at its end where there is no query
-abbrev pub script_fault : List Statement → Place → Option QueryError
+abbrev pub script_fault : List Statement → Location → Option QueryError
 script_fault statements end =
     option_or (statements_fault no_declarations 0 statements) (unless (nat_lt 0 (length (queries_of statements))) NoQuery end)
 

@@ -13,7 +13,7 @@ use crate::refusals::{Checked, unless};
 use crate::select_checks::{check_select, count_of};
 use cel_terms::Query;
 use ceql_grammar::{NumberAt, QueryError, QueryFault, Script, Select, Statement};
-use cer_base::{Listed, Memory, OrMemory, Place};
+use cer_base::{Listed, Location, Memory, OrMemory};
 use std::alloc::Global;
 use stream_schema::Schema;
 
@@ -53,7 +53,7 @@ fn queries_in(statement: &Statement) -> u64
 pub fn check_statements(
     alloc: Global,
     statements: &[Statement],
-    end: Place,
+    end: Location,
 ) -> Result<Schema, OrMemory<QueryError>>
     ensures told { FindsFault result (script_fault statements.now end) }
     ensures schema { IfOk result (λ schema. schema ≡ declared_schema statements.now) }

@@ -12,7 +12,7 @@ ghost use Rattle.ceql_parser.specs.StatementFaults.{scale_of, repeats_fault, sca
 ghost use Rattle.ceql_parser.specs.ScriptFaults.{kind_declared, attr_declared, declaring};
 
 use crate::name_sets::NameSet;
-use crate::refusals::{Checked, Wrong, unless, unless_named};
+use crate::refusals::{Checked, NameFault, unless, unless_named};
 use crate::schema_lookups::{is_taken, is_type};
 use cel_terms::{Name, Names};
 use ceql_grammar::{AttrDecl, AttrDecls, KindDecl, QueryFault};
@@ -38,7 +38,7 @@ fn check_new(alloc: Global, schema: &Schema, name: &Name) -> Checked
         (not (is_taken schema.now name.now.text)) NameTaken name.now) }
 {
     let taken = is_taken(schema, name.text.as_str());
-    unless_named(alloc, !taken, Wrong::NameTaken, name)
+    unless_named(alloc, !taken, NameFault::NameTaken, name)
 }
 
 /// Adds the attribute's name to those of the earlier ones, or answers its fault where it is one of them.
@@ -48,7 +48,7 @@ fn add_earlier(alloc: Global, earlier: &mut NameSet, name: &Name) -> Checked
     ensures names { OnOk result (HaveSameNames earlier.new (earlier.old ++ name.now.text ∷ [])) }
 {
     let taken = earlier.has(name.text.as_str());
-    match unless_named(alloc, !taken, Wrong::NameTaken, name) {
+    match unless_named(alloc, !taken, NameFault::NameTaken, name) {
         Ok(()) => {}
         Err(stop) => return Err(stop),
     }
@@ -119,7 +119,7 @@ fn check_type(alloc: Global, schema: &Schema, name: &Name) -> Checked
         (is_type_name schema.now.types name.now.text) UnknownType name.now) }
 {
     let known = is_type(schema, name.text.as_str());
-    unless_named(alloc, known, Wrong::UnknownType, name)
+    unless_named(alloc, known, NameFault::UnknownType, name)
 }
 
 fn check_types(alloc: Global, schema: &Schema, types: &[Name]) -> Checked

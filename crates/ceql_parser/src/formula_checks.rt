@@ -15,7 +15,7 @@ use crate::filter_checks::check_filters;
 use crate::name_checks::names_known;
 use crate::name_sets::NameSet;
 use crate::query_types::QueryTypes;
-use crate::refusals::{Checked, Wrong, unless_named};
+use crate::refusals::{Checked, NameFault, unless_named};
 use cel_terms::{Filter, Formula, Link, Name, Postfix};
 use ceql_grammar::QueryError;
 use cer_base::{Memory, OrMemory};
@@ -30,7 +30,7 @@ fn check_new(alloc: Global, types: &QueryTypes, name: &Name) -> Checked
         (not (is_type_name types.now name.now.text)) NameTaken name.now) }
 {
     let taken = types.is_type_name(name.text.as_str());
-    unless_named(alloc, !taken, Wrong::NameTaken, name)
+    unless_named(alloc, !taken, NameFault::NameTaken, name)
 }
 
 /// Answers the fault of a type's name.
@@ -39,7 +39,7 @@ fn check_type(alloc: Global, types: &QueryTypes, name: &Name) -> Checked
         (is_type_name types.now name.now.text) UnknownType name.now) }
 {
     let known = types.is_type_name(name.text.as_str());
-    unless_named(alloc, known, Wrong::UnknownType, name)
+    unless_named(alloc, known, NameFault::UnknownType, name)
 }
 
 #[inline(never)]

@@ -4,7 +4,7 @@ ghost use Rattle.ceql_parser.specs.FirstFaults.{first_in, FindsFault};
 ghost use Rattle.ceql_parser.specs.FormulaFaults.{name_fault};
 
 use crate::name_sets::NameSet;
-use crate::refusals::{Checked, Wrong, unless_named};
+use crate::refusals::{Checked, NameFault, unless_named};
 use cel_terms::Name;
 use std::alloc::Global;
 
@@ -13,7 +13,7 @@ pub fn name_known(alloc: Global, names: &NameSet, name: &Name) -> Checked
     ensures { FindsFault result (name_fault names.now name.now) }
 {
     let known = names.has(name.text.as_str());
-    unless_named(alloc, known, Wrong::UnknownName, name)
+    unless_named(alloc, known, NameFault::UnknownName, name)
 }
 
 /// Answers the fault at the first of the listed names that is not among the names.

@@ -8,8 +8,8 @@ ghost use Rattle.stream_schema.specs.Comparing.{are_alike, kind_of};
 ghost use Rattle.ceql_parser.specs.FormulaFaults.{comparison_fault, pred_fault};
 
 use crate::query_types::QueryTypes;
-use crate::refusals::{Checked, Wrong, unless, unless_named};
-use crate::schema_lookups::Wanted;
+use crate::refusals::{Checked, NameFault, unless, unless_named};
+use crate::schema_lookups::KindTest;
 use cel_terms::{Name, Op, Pred};
 use ceql_grammar::QueryFault;
 use std::alloc::Global;
@@ -39,8 +39,8 @@ pub fn check_known(alloc: Global, types: &QueryTypes, name: &Name) -> Checked
     ensures { FindsFault result (unless_named
         (some_has_attr types.now name.now.text any_kind) UnknownAttribute name.now) }
 {
-    let known = types.some_has_attr(name.text.as_str(), Wanted::Any);
-    unless_named(alloc, known, Wrong::UnknownAttribute, name)
+    let known = types.some_has_attr(name.text.as_str(), KindTest::Any);
+    unless_named(alloc, known, NameFault::UnknownAttribute, name)
 }
 
 /// Answers the fault of an attribute that compares with the literal in none of the types.
@@ -50,8 +50,8 @@ fn check_alike(alloc: Global, types: &QueryTypes, name: &Name, literal: &Value) 
         (λ text. NeverKind text (kind_of literal.now)) name.now) }
 {
     let kind = kind_of(literal);
-    let alike = types.some_has_attr(name.text.as_str(), Wanted::Like(kind));
-    unless_named(alloc, alike, Wrong::NeverKind(kind), name)
+    let alike = types.some_has_attr(name.text.as_str(), KindTest::Like(kind));
+    unless_named(alloc, alike, NameFault::NeverKind(kind), name)
 }
 
 /// Answers the fault of an order between truth values.

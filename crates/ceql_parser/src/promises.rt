@@ -1,6 +1,6 @@
 //! What holds of statements and their faults. Each function does nothing; its contract is the law.
 
-ghost use Rattle.cer_base.specs.declared.Place.{Place};
+ghost use Rattle.cer_base.specs.declared.Location.{Location};
 ghost use Rattle.ceql_parser.specs.CheckedTerms.{LawfulFormulasAreChecked, LawfulQueriesAreChecked};
 ghost use Rattle.ceql_parser.specs.QueryTrees.{query_tree};
 ghost use Rattle.ceql_parser.specs.ScriptFaults.{queries_of, script_fault, declared_schema};
@@ -22,7 +22,7 @@ pub fn lawful_queries_are_checked()
 /// What is told of statements depends on what they say alone, not on where they lie in memory: their
 /// first fault, what they declare, and what their queries say.
 pub fn trees_tell_all()
-    ensures fault { (ss ts : List Statement) (end : Place)
+    ensures fault { (ss ts : List Statement) (end : Location)
         → map statement_tree ss ≡ map statement_tree ts
         → script_fault ss end ≡ script_fault ts end }
     ensures schema { (ss ts : List Statement) → map statement_tree ss ≡ map statement_tree ts

@@ -9,11 +9,11 @@ use crate::checking::{Accepted, check};
 use ceql_grammar::{QueryError, QueryFault, parse};
 use ceql_lexer::lex;
 use cer_base::limits::LONGEST_TEXT;
-use cer_base::{OrMemory, Place};
+use cer_base::{Location, OrMemory};
 use std::alloc::Global;
 
 /// The place of a text's first byte.
-const FIRST: Place = Place { line: 1, col: 1 };
+const FIRST: Location = Location { line: 1, col: 1 };
 
 /// What the text declares, and its queries in order. Each is checked for the schema.
 ///

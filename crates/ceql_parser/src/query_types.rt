@@ -8,7 +8,7 @@ ghost use Rattle.ceql_parser.specs.TypesAsked.{types_at, is_type_name, some_has_
 ghost use Rattle.ceql_parser.specs.WantedKinds.{serves};
 
 use crate::name_sets::NameSet;
-use crate::schema_lookups::{Wanted, each_has_attr, some_has_attr, types_in};
+use crate::schema_lookups::{KindTest, each_has_attr, some_has_attr, types_in};
 use cel_terms::Name;
 use cer_base::Memory;
 use indexmap::IndexSet;
@@ -54,14 +54,14 @@ impl<'s> QueryTypes<'s> {
     }
 
     /// Whether one of the types has the attribute, with a kind that serves.
-    pub fn some_has_attr(&self, name: &str, wanted: Wanted) -> bool
+    pub fn some_has_attr(&self, name: &str, wanted: KindTest) -> bool
         ensures { result ≡ some_has_attr self.now name.now (serves wanted) }
     {
         some_has_attr(self.schema, self.numbers.as_slice(), name, wanted)
     }
 
     /// Whether each of the types has the attribute, with a kind that serves.
-    pub fn each_has_attr(&self, name: &str, wanted: Wanted) -> bool
+    pub fn each_has_attr(&self, name: &str, wanted: KindTest) -> bool
         ensures { result ≡ each_has_attr self.now name.now (serves wanted) }
     {
         each_has_attr(self.schema, self.numbers.as_slice(), name, wanted)

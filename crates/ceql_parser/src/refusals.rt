@@ -6,7 +6,7 @@ ghost use Rattle.ceql_parser.specs.NameFaults.{fault_of};
 
 use cel_terms::Name;
 use ceql_grammar::{QueryError, QueryFault};
-use cer_base::{Memory, OrMemory, Place, Text};
+use cer_base::{Location, Memory, OrMemory, Text};
 use std::alloc::Global;
 use stream_schema::Kind;
 
@@ -15,7 +15,7 @@ pub type Checked = Result<(), OrMemory<QueryError>>;
 
 /// What is wrong with a name.
 #[derive(Debug, Clone, Copy, PartialEq, Eq)]
-pub enum Wrong {
+pub enum NameFault {
     NameTaken,
     UnknownType,
     UnknownStream,
@@ -27,23 +27,23 @@ pub enum Wrong {
 }
 
 /// The fault with the name.
-fn fault_of(alloc: Global, wrong: Wrong, name: &str) -> Result<QueryFault, Memory>
+fn fault_of(alloc: Global, wrong: NameFault, name: &str) -> Result<QueryFault, Memory>
     ensures { IfOk result (λ fault. fault ≡ fault_of wrong name.now) }
 {
     let name = Text::copy_of(alloc, name)?;
     Ok(match wrong {
-        Wrong::NameTaken => QueryFault::NameTaken { name },
-        Wrong::UnknownType => QueryFault::UnknownType { name },
-        Wrong::UnknownStream => QueryFault::UnknownStream { name },
-        Wrong::UnknownName => QueryFault::UnknownName { name },
-        Wrong::UnknownAttribute => QueryFault::UnknownAttribute { name },
-        Wrong::NeverKind(kind) => QueryFault::NeverKind { name, kind },
-        Wrong::WindowKind => QueryFault::WindowKind { name },
+        NameFault::NameTaken => QueryFault::NameTaken { name },
+        NameFault::UnknownType => QueryFault::UnknownType { name },
+        NameFault::UnknownStream => QueryFault::UnknownStream { name },
+        NameFault::UnknownName => QueryFault::UnknownName { name },
+        NameFault::UnknownAttribute => QueryFault::UnknownAttribute { name },
+        NameFault::NeverKind(kind) => QueryFault::NeverKind { name, kind },
+        NameFault::WindowKind => QueryFault::WindowKind { name },
     })
 }
 
 /// Answers the fault at the place, unless the test passes.
-pub fn unless(passes: bool, fault: QueryFault, place: Place) -> Checked
+pub fn unless(passes: bool, fault: QueryFault, place: Location) -> Checked
     ensures { FindsFault result (unless passes fault place) }
 {
     if passes {
@@ -54,7 +54,7 @@ pub fn unless(passes: bool, fault: QueryFault, place: Place) -> Checked
 }
 
 /// Answers the fault with the name, at its place, unless the test passes.
-pub fn unless_named(alloc: Global, passes: bool, wrong: Wrong, name: &Name) -> Checked
+pub fn unless_named(alloc: Global, passes: bool, wrong: NameFault, name: &Name) -> Checked
     ensures { FindsFault result (unless_named passes (fault_of wrong) name.now) }
 {
     if passes {

@@ -12,40 +12,40 @@ use stream_schema::{Attr, Kind, Schema, TypeId, are_alike};
 
 /// Which kinds of an attribute serve.
 #[derive(Debug, Clone, Copy, PartialEq, Eq)]
-pub enum Wanted {
+pub enum KindTest {
     Any,
     /// Those that compare with this one.
     Like(Kind),
     Whole,
 }
 
-fn serves(wanted: Wanted, kind: Kind) -> bool
+fn serves(wanted: KindTest, kind: Kind) -> bool
     ensures { result ≡ serves wanted kind }
 {
     match wanted {
-        Wanted::Any => true,
-        Wanted::Like(other) => are_alike(other, kind),
-        Wanted::Whole => match kind {
+        KindTest::Any => true,
+        KindTest::Like(other) => are_alike(other, kind),
+        KindTest::Whole => match kind {
             Kind::Int => true,
             _ => false,
         },
     }
 }
 
-fn is_attr(attr: &Attr, name: &str, wanted: Wanted) -> bool
+fn is_attr(attr: &Attr, name: &str, wanted: KindTest) -> bool
     ensures { result ≡ (bytes_eq attr.now.name name.now && serves wanted attr.now.kind) }
 {
     attr.name.as_str() == name && serves(wanted, attr.kind)
 }
 
-fn attrs_have(attrs: &[Attr], name: &str, wanted: Wanted) -> bool
+fn attrs_have(attrs: &[Attr], name: &str, wanted: KindTest) -> bool
     ensures { result ≡ list_any (λ a. bytes_eq a.name name.now && serves wanted a.kind) attrs.now }
 {
     attrs.iter().any(|a| is_attr(a, name, wanted))
 }
 
 /// Whether the type has the attribute; `otherwise` where there is no such type.
-fn type_has(schema: &Schema, number: TypeId, name: &str, wanted: Wanted, otherwise: bool) -> bool
+fn type_has(schema: &Schema, number: TypeId, name: &str, wanted: KindTest, otherwise: bool) -> bool
     ensures { result ≡ option_map_or (has_attr name.now (serves wanted))
         (slice_get schema.now.types number) otherwise }
 {
@@ -55,7 +55,7 @@ fn type_has(schema: &Schema, number: TypeId, name: &str, wanted: Wanted, otherwi
     }
 }
 
-fn some_have(schema: &Schema, numbers: &[TypeId], name: &str, wanted: Wanted) -> bool
+fn some_have(schema: &Schema, numbers: &[TypeId], name: &str, wanted: KindTest) -> bool
     ensures { result ≡ list_any (λ n. option_map_or (has_attr name.now (serves wanted))
         (slice_get schema.now.types n) false) numbers.now }
 {
@@ -67,7 +67,7 @@ fn some_have(schema: &Schema, numbers: &[TypeId], name: &str, wanted: Wanted) ->
     false
 }
 
-fn all_have(schema: &Schema, numbers: &[TypeId], name: &str, wanted: Wanted) -> bool
+fn all_have(schema: &Schema, numbers: &[TypeId], name: &str, wanted: KindTest) -> bool
     ensures { result ≡ list_all (λ n. option_map_or (has_attr name.now (serves wanted))
         (slice_get schema.now.types n) true) numbers.now }
 {
@@ -80,14 +80,14 @@ fn all_have(schema: &Schema, numbers: &[TypeId], name: &str, wanted: Wanted) -> 
 }
 
 /// Whether one of the types has the attribute, with a kind that serves.
-pub fn some_has_attr(schema: &Schema, numbers: &[TypeId], name: &str, wanted: Wanted) -> bool
+pub fn some_has_attr(schema: &Schema, numbers: &[TypeId], name: &str, wanted: KindTest) -> bool
     ensures { result ≡ some_has_attr (types_at schema.now numbers.now) name.now (serves wanted) }
 {
     some_have(schema, numbers, name, wanted)
 }
 
 /// Whether each of the types has the attribute, with a kind that serves.
-pub fn each_has_attr(schema: &Schema, numbers: &[TypeId], name: &str, wanted: Wanted) -> bool
+pub fn each_has_attr(schema: &Schema, numbers: &[TypeId], name: &str, wanted: KindTest) -> bool
     ensures { result ≡ each_has_attr (types_at schema.now numbers.now) name.now (serves wanted) }
 {
     all_have(schema, numbers, name, wanted)

@@ -15,8 +15,8 @@ use crate::name_checks::names_known;
 use crate::name_sets::NameSet;
 use crate::pred_checks::check_known;
 use crate::query_types::QueryTypes;
-use crate::refusals::{Checked, Wrong, unless, unless_named};
-use crate::schema_lookups::{Wanted, is_stream};
+use crate::refusals::{Checked, NameFault, unless, unless_named};
+use crate::schema_lookups::{KindTest, is_stream};
 use cel_terms::{Name, Names, Query, Window};
 use ceql_grammar::{NumberAt, QueryFault, Select};
 use cer_base::limits::{MOST_LEAVES, MOST_QUERIES};
@@ -53,7 +53,7 @@ fn check_from(alloc: Global, schema: &Schema, name: &Name) -> Checked
         (is_stream schema.now name.now.text) UnknownStream name.now) }
 {
     let known = is_stream(schema, name.text.as_str());
-    unless_named(alloc, known, Wrong::UnknownStream, name)
+    unless_named(alloc, known, NameFault::UnknownStream, name)
 }
 
 fn check_streams(alloc: Global, schema: &Schema, streams: &[Name]) -> Checked
@@ -98,8 +98,8 @@ fn check_window(alloc: Global, types: &QueryTypes, window: &Window) -> Checked
         Window::Free => Ok(()),
         Window::Events(_) => Ok(()),
         Window::Clock(name, _) => {
-            let whole = types.each_has_attr(name.text.as_str(), Wanted::Whole);
-            unless_named(alloc, whole, Wrong::WindowKind, name)
+            let whole = types.each_has_attr(name.text.as_str(), KindTest::Whole);
+            unless_named(alloc, whole, NameFault::WindowKind, name)
         }
     }
 }

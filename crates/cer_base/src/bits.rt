@@ -167,7 +167,8 @@ impl Eq for Bits {
 impl Hash for Bits {
     ghost hash_input = { λ b. flat_map fed.u64 (words_of b) };
 
-    ghost respects_eq = { (same_Alike (λ b. flat_map fed.u64 (words_of b)) (pointwise_decides booleans_Decides)).fed };
+    ghost respects_eq = { (same_Alike (λ b. flat_map fed.u64 (words_of b))
+        (pointwise_decides booleans_Decides)).fed };
 
     fn hash<H: Hasher>(&self, state: &mut H) {
         words::hash(self.words.as_slice(), state);

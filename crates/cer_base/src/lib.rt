@@ -31,7 +31,7 @@ pub type Pos = u64;
 
 /// Where something stands in a text: line and column from 1, columns counted in bytes.
 #[derive(Debug, Clone, Copy, PartialEq, Eq)]
-pub struct Place {
+pub struct Location {
     pub line: u64,
     pub col: u64,
 }

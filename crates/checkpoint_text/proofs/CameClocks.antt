@@ -8,14 +8,14 @@ use Rattle.stream_schema.specs.declared.Event.{Event}
 use Rattle.cel_terms.specs.declared.Query.{Query}
 use Rattle.cel_terms.specs.Checked.{IsChecked}
 use Rattle.cel_terms.specs.Answers.{HasClock}
-use Rattle.cel_terms.specs.Reading.{query_reads}
+use Rattle.cel_terms.specs.EventsRead.{query_reads}
 use Rattle.window_clock.specs.Clocks.{clock_of}
 use Rattle.query_standing.proofs.Reading.{is_read}
-use Rattle.query_part.proofs.Clocks.{each_has_clock}
+use Rattle.query_state.proofs.Clocks.{each_has_clock}
 use Rattle.query_engine.specs.Clocks.{Reads, IsLastClock, FallsBack, NoneFallsBack, IsFirstToFall}
 use Rattle.checkpoint_text.specs.declared.clocks.Fall.{Fall}
 use Rattle.checkpoint_text.specs.declared.history.EventAt.{EventAt}
-use Rattle.checkpoint_text.specs.Clocks.{clock_at, later_clock, last_clock, falls_with}
+use Rattle.checkpoint_text.specs.QueryClocks.{clock_at, later_clock, last_clock, falls_with}
 use Rattle.checkpoint_text.specs.LastClocks.{last_clocks, any_back, fall_of, fall_or, first_back}
 use Rattle.checkpoint_text.specs.KeepLaws.{placed_lines_from, placed_lines, events_of}
 use Rattle.checkpoint_text.specs.Streams.{AreEventsFrom, stream_of}

@@ -18,7 +18,7 @@ use Rattle.query_engine.specs.Clocks.{NoneFallsBack, IsFirstToFall}
 use Rattle.checkpoint_text.specs.declared.clocks.Fall.{Fall}
 use Rattle.checkpoint_text.specs.declared.history.EventAt.{EventAt}
 use Rattle.checkpoint_text.specs.declared.keeping.KeptLine.{KeptLine}
-use Rattle.checkpoint_text.specs.Clocks.{some_falls, NoneFallsAfter, NoneFalls}
+use Rattle.checkpoint_text.specs.QueryClocks.{some_falls, NoneFallsAfter, NoneFalls}
 use Rattle.checkpoint_text.specs.LastClocks.{last_clocks, any_back, first_back}
 use Rattle.checkpoint_text.specs.Keeping.{Keeper, next_event, with_event}
 use Rattle.checkpoint_text.specs.KeepLaws.{empty_keeper, keeping, placed_lines_from, placed_lines, events_of, IsLineOf}
@@ -26,7 +26,7 @@ use Rattle.checkpoint_text.specs.Streams.{stream_of}
 use Rattle.checkpoint_text.proofs.Falling.{folded, any_back_is}
 use Rattle.checkpoint_text.proofs.Keepers.{kept_of, keep_on}
 use Rattle.checkpoint_text.proofs.KeptTexts.{gives_again}
-use Rattle.checkpoint_text.proofs.Told.{event_is}
+use Rattle.checkpoint_text.proofs.ParseState.{event_is}
 use Rattle.checkpoint_text.proofs.Restarting.{from_zero}
 use Rattle.checkpoint_text.proofs.CameClocks.{came_level, came_falls}
 

@@ -4,7 +4,7 @@ use Rattle.std.specs.Prelude.{fold}
 use Rattle.stream_schema.specs.Types.{Declared}
 use Rattle.cel_terms.specs.declared.Query.{Query}
 use Rattle.checkpoint_text.specs.declared.history.EventAt.{EventAt}
-use Rattle.checkpoint_text.specs.Clocks.{clock_at, later_clock, last_clock, is_back, falls_with, some_falls}
+use Rattle.checkpoint_text.specs.QueryClocks.{clock_at, later_clock, last_clock, is_back, falls_with, some_falls}
 use Rattle.checkpoint_text.specs.LastClocks.{last_clocks, any_back, fall_of, fall_or, first_back, next_clocks}
 
 pub lasts_long : (schema : Declared) (queries : List Query) (events : List EventAt) → length (last_clocks schema queries events) ≡ length queries

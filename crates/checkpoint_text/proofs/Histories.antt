@@ -13,19 +13,19 @@ use Rattle.event_reader.specs.declared.LineFault.TheVariants as line
 use Rattle.event_reader.specs.Events.{event_of_line, and_then}
 use Rattle.event_reader.specs.Lines.{FileLines}
 use Rattle.checkpoint_text.specs.declared.CheckpointFault.TheVariants as fault
-use Rattle.checkpoint_text.specs.declared.stand.Awaited.TheVariants.{Counts, Position, EventOf}
-use Rattle.checkpoint_text.specs.declared.stand.Stand.{Stand}
+use Rattle.checkpoint_text.specs.declared.stand.NextLine.TheVariants.{Counts, Position, EventOf}
+use Rattle.checkpoint_text.specs.declared.stand.LineState.{LineState}
 use Rattle.checkpoint_text.specs.declared.history.EventAt.{EventAt}
 use Rattle.checkpoint_text.specs.declared.history.History.{History}
-use Rattle.checkpoint_text.specs.Clocks.{some_falls, NoneFallsAfter}
+use Rattle.checkpoint_text.specs.QueryClocks.{some_falls, NoneFallsAfter}
 use Rattle.checkpoint_text.specs.Histories.{AreAscendingFrom}
 use Rattle.checkpoint_text.specs.Numbers.{position_of, counts_of}
-use Rattle.checkpoint_text.specs.Checkpoints.{Told, nothing, start, counted, placed, with_stand, with_event, Refusal, at_line, told_on, told_by, is_all_told, history_of, at_stop, history_in}
+use Rattle.checkpoint_text.specs.Checkpoints.{ParseState, nothing, start, counted, placed, with_stand, with_event, Refusal, at_line, told_on, told_by, is_all_told, history_of, at_stop, history_in}
 use Rattle.checkpoint_text.specs.Spelling.{counts_text, position_text, AreEventLines, Spells}
 use Rattle.checkpoint_text.proofs.WordLines.{position_told, told_position, counts_told, told_counts}
 
 -- where the lines of events stand
-abbrev between : ℕ → ℕ → ℕ → List EventAt → Told
+abbrev between : ℕ → ℕ → ℕ → List EventAt → ParseState
 between positions count least events = record { stand = record { awaited = Position; positions = positions; count = count; least = least }; events = events }
 
 -- what the lines after tell: these events
@@ -43,13 +43,13 @@ one_ok : {T F : Type 0} (x y : T) → (let r : Result T F = Ok x in r) ≡ Ok y 
 one_ok x y e = cc
 
 -- the events that lines tell, and what is told in all
-record Found (schema : Declared) (queries : List Query) (positions count least : ℕ) (before : List EventAt) (texts : List (List ℕ)) (end : Told) : Type 0 where
+record Found (schema : Declared) (queries : List Query) (positions count least : ℕ) (before : List EventAt) (texts : List (List ℕ)) (end : ParseState) : Type 0 where
   events : List EventAt
   tells : Tells schema queries positions count least before texts events
   history : history_of end ≡ record { positions = positions; events = before ++ events }
 
 -- no line more
-none_found : (schema : Declared) (queries : List Query) (n positions count least : ℕ) (before : List EventAt) (end : Told) → told_on schema queries n (between positions count least before) [] ≡ Ok end → is_all_told end end.stand.awaited ≡ true →
+none_found : (schema : Declared) (queries : List Query) (n positions count least : ℕ) (before : List EventAt) (end : ParseState) → told_on schema queries n (between positions count least before) [] ≡ Ok end → is_all_told end end.stand.awaited ≡ true →
     Found schema queries positions count least before [] end
 none_found schema queries n positions count least before end e whole =
     let same : between positions count least before ≡ end = one_ok (between positions count least before) end e in
@@ -62,7 +62,7 @@ none_found schema queries n positions count least before end e whole =
     }
 
 -- the line of the event at a position, and the lines after
-event_found : (schema : Declared) (queries : List Query) (n positions count least p : ℕ) (before : List EventAt) (first second : List ℕ) (rest : List (List ℕ)) (end : Told) → first ≡ position_text p → least ≤ p → p < positions →
+event_found : (schema : Declared) (queries : List Query) (n positions count least p : ℕ) (before : List EventAt) (first second : List ℕ) (rest : List (List ℕ)) (end : ParseState) → first ≡ position_text p → least ≤ p → p < positions →
     (r : Result (Option Event) EventFault) → event_of_line schema second ≡ r →
     and_then (at_line n (with_event schema queries (record { stand = record { awaited = EventOf p; positions = positions; count = count; least = p + 1 }; events = before }) p r)) (λ next. told_on schema queries (n + 1) next rest) ≡ Ok end →
     ((later : List EventAt) → told_on schema queries (n + 1) (between positions count (p + 1) later) rest ≡ Ok end → Found schema queries positions count (p + 1) later rest end) →
@@ -96,14 +96,14 @@ event_found schema queries n positions count least p before first second rest en
     by_fall false level f = with_rest level (onward (before ++ here ∷ []) f)
 
 -- the line of a position alone, after which a line is missing
-one_found : (schema : Declared) (queries : List Query) (n positions count least : ℕ) (before : List EventAt) (first : List ℕ) (end : Told) (t : Bool) (o : Option ℕ) →
+one_found : (schema : Declared) (queries : List Query) (n positions count least : ℕ) (before : List EventAt) (first : List ℕ) (end : ParseState) (t : Bool) (o : Option ℕ) →
     and_then (at_line n (with_stand (between positions count least before) (cond t (Err fault.Extra) (placed (between positions count least before).stand o)))) (λ next. told_on schema queries (n + 1) next []) ≡ Ok end → is_all_told end end.stand.awaited ≡ true →
     Found schema queries positions count least before (first ∷ []) end
 one_found schema queries n positions count least before first end true o e whole = absurd cc
 one_found schema queries n positions count least before first end false None e whole = absurd cc
 one_found schema queries n positions count least before first end false (Some p) e whole = by_place (nat_le least p && nat_lt p positions) e
   where
-    placed_at : Told
+    placed_at : ParseState
     placed_at = record { stand = record { awaited = EventOf p; positions = positions; count = count; least = p + 1 }; events = before }
 
     by_place : (u : Bool) → and_then (at_line n (with_stand (between positions count least before) (cond u (Ok placed_at.stand) (Err fault.BadPosition)))) (λ next. told_on schema queries (n + 1) next []) ≡ Ok end →
@@ -115,7 +115,7 @@ one_found schema queries n positions count least before first end false (Some p)
         absurd cc
 
 -- the two lines of an event, and the lines after
-two_found : (schema : Declared) (queries : List Query) (n positions count least : ℕ) (before : List EventAt) (first second : List ℕ) (rest : List (List ℕ)) (end : Told) (t : Bool) (o : Option ℕ) → position_of first ≡ o →
+two_found : (schema : Declared) (queries : List Query) (n positions count least : ℕ) (before : List EventAt) (first second : List ℕ) (rest : List (List ℕ)) (end : ParseState) (t : Bool) (o : Option ℕ) → position_of first ≡ o →
     and_then (at_line n (with_stand (between positions count least before) (cond t (Err fault.Extra) (placed (between positions count least before).stand o)))) (λ next. told_on schema queries (n + 1) next (second ∷ rest)) ≡ Ok end →
     ((p : ℕ) (later : List EventAt) → told_on schema queries (n + 1 + 1) (between positions count (p + 1) later) rest ≡ Ok end → Found schema queries positions count (p + 1) later rest end) →
     Found schema queries positions count least before (first ∷ second ∷ rest) end
@@ -123,7 +123,7 @@ two_found schema queries n positions count least before first second rest end tr
 two_found schema queries n positions count least before first second rest end false None is e onward = absurd cc
 two_found schema queries n positions count least before first second rest end false (Some p) is e onward = by_place (nat_le least p && nat_lt p positions) refl e
   where
-    placed_at : Stand
+    placed_at : LineState
     placed_at = record { awaited = EventOf p; positions = positions; count = count; least = p + 1 }
 
     by_place : (u : Bool) → (nat_le least p && nat_lt p positions) ≡ u →
@@ -134,7 +134,7 @@ two_found schema queries n positions count least before first second rest end fa
         let tests = and_parts (nat_le least p) (nat_lt p positions) u in
         event_found schema queries (n + 1) positions count least p before first second rest end (position_told first p is).0 (leb-true least p tests.0) (ltb-true p positions tests.1) (event_of_line schema second) refl f (onward p)
 
-lines_found : (schema : Declared) (queries : List Query) (n positions count least : ℕ) (before : List EventAt) (texts : List (List ℕ)) (end : Told) → told_on schema queries n (between positions count least before) texts ≡ Ok end → is_all_told end end.stand.awaited ≡ true →
+lines_found : (schema : Declared) (queries : List Query) (n positions count least : ℕ) (before : List EventAt) (texts : List (List ℕ)) (end : ParseState) → told_on schema queries n (between positions count least before) texts ≡ Ok end → is_all_told end end.stand.awaited ≡ true →
     Found schema queries positions count least before texts end
 lines_found schema queries n positions count least before [] end e whole = none_found schema queries n positions count least before end e whole
 lines_found schema queries n positions count least before (first ∷ []) end e whole = one_found schema queries n positions count least before first end (length before == count) (position_of first) e whole
@@ -143,7 +143,7 @@ lines_found schema queries n positions count least before (first ∷ second ∷ 
     (λ p later f. lines_found schema queries (n + 1 + 1) positions count (p + 1) later rest end f whole)
 
 -- the first two lines, and the lines after
-head_spelled : (schema : Declared) (queries : List Query) (first second : List ℕ) (rest : List (List ℕ)) (end : Told) (t : Bool) (o : Option (ℕ × ℕ)) → bytes_eq first (codes "core checkpoint 1") ≡ t → counts_of second ≡ o →
+head_spelled : (schema : Declared) (queries : List Query) (first second : List ℕ) (rest : List (List ℕ)) (end : ParseState) (t : Bool) (o : Option (ℕ × ℕ)) → bytes_eq first (codes "core checkpoint 1") ≡ t → counts_of second ≡ o →
     and_then (at_line 1 (with_stand nothing (cond t (Ok (record start { awaited = Counts })) (Err fault.BadHeader))))
     (λ next. and_then (at_line 2 (with_stand next (counted next.stand o))) (λ next. told_on schema queries 3 next rest)) ≡ Ok end → is_all_told end end.stand.awaited ≡ true →
     Spells schema queries (first ∷ second ∷ rest) (history_of end)
@@ -166,19 +166,19 @@ head_spelled schema queries first second rest end true (Some (positions, count))
       events = found.tells.lines;
     })
 
-begun_whole : (n : ℕ) (end : Told) → (let r : Result Told Refusal = Ok nothing in r) ≡ Ok end → is_all_told end end.stand.awaited ≡ true → ⊥
+begun_whole : (n : ℕ) (end : ParseState) → (let r : Result ParseState Refusal = Ok nothing in r) ≡ Ok end → is_all_told end end.stand.awaited ≡ true → ⊥
 begun_whole n end e whole =
     let clash : false ≡ true = ap (λ t. is_all_told t t.stand.awaited) (one_ok nothing end e) ∙ whole in
     absurd cc
 
-header_whole : (schema : Declared) (queries : List Query) (end : Told) (t : Bool) → and_then (at_line 1 (with_stand nothing (cond t (Ok (record start { awaited = Counts })) (Err fault.BadHeader)))) (λ next. told_on schema queries 2 next []) ≡ Ok end →
+header_whole : (schema : Declared) (queries : List Query) (end : ParseState) (t : Bool) → and_then (at_line 1 (with_stand nothing (cond t (Ok (record start { awaited = Counts })) (Err fault.BadHeader)))) (λ next. told_on schema queries 2 next []) ≡ Ok end →
     is_all_told end end.stand.awaited ≡ true → ⊥
 header_whole schema queries end false e whole = absurd cc
 header_whole schema queries end true e whole =
     let clash : false ≡ true = ap (λ t. is_all_told t t.stand.awaited) (one_ok (record nothing { stand = record start { awaited = Counts } }) end e) ∙ whole in
     absurd cc
 
-whole_spelled : (schema : Declared) (queries : List Query) (texts : List (List ℕ)) (end : Told) → told_by schema queries texts ≡ Ok end → is_all_told end end.stand.awaited ≡ true → Spells schema queries texts (history_of end)
+whole_spelled : (schema : Declared) (queries : List Query) (texts : List (List ℕ)) (end : ParseState) → told_by schema queries texts ≡ Ok end → is_all_told end end.stand.awaited ≡ true → Spells schema queries texts (history_of end)
 whole_spelled schema queries [] end e whole = absurd (begun_whole 1 end e whole)
 whole_spelled schema queries (first ∷ []) end e whole = absurd (header_whole schema queries end (bytes_eq first (codes "core checkpoint 1")) e whole)
 whole_spelled schema queries (first ∷ second ∷ rest) end e whole =
@@ -194,7 +194,7 @@ whole_spelled schema queries (first ∷ second ∷ rest) end e whole =
 pub spelled : (schema : Declared) (queries : List Query) (file : FileLines) (history : History) → history_in schema queries file ≡ Ok history → (file.fault ≡ None) × Spells schema queries file.texts history
 spelled schema queries file history e = by_told (told_by schema queries file.texts) refl e
   where
-    by_fault : (told : Told) (f : Option LineFault) → file.fault ≡ f → told_by schema queries file.texts ≡ Ok told → at_stop (length file.texts) told f ≡ Ok history → (file.fault ≡ None) × Spells schema queries file.texts history
+    by_fault : (told : ParseState) (f : Option LineFault) → file.fault ≡ f → told_by schema queries file.texts ≡ Ok told → at_stop (length file.texts) told f ≡ Ok history → (file.fault ≡ None) × Spells schema queries file.texts history
     by_fault told (Some (line.LineTooLong number)) is t e = absurd cc
     by_fault told (Some (line.InputTooLong taken)) is t e = absurd cc
     by_fault told (Some line.ReadFault) is t e = absurd cc
@@ -204,7 +204,7 @@ spelled schema queries file history e = by_told (told_by schema queries file.tex
         by_test false w e = absurd cc
         by_test true w e = (is, subst (Spells schema queries file.texts) (one_ok (history_of told) history e) (whole_spelled schema queries file.texts told t w))
 
-    by_told : (r : Result Told Refusal) → told_by schema queries file.texts ≡ r → and_then r (λ told. at_stop (length file.texts) told file.fault) ≡ Ok history → (file.fault ≡ None) × Spells schema queries file.texts history
+    by_told : (r : Result ParseState Refusal) → told_by schema queries file.texts ≡ r → and_then r (λ told. at_stop (length file.texts) told file.fault) ≡ Ok history → (file.fault ≡ None) × Spells schema queries file.texts history
     by_told (Err refusal) is e = absurd cc
     by_told (Ok told) is e = by_fault told file.fault refl is e
 

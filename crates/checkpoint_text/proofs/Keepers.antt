@@ -8,7 +8,7 @@ use Rattle.stream_schema.specs.declared.Event.{Event}
 use Rattle.cel_terms.specs.declared.Query.{Query}
 use Rattle.checkpoint_text.specs.declared.history.EventAt.{EventAt}
 use Rattle.checkpoint_text.specs.declared.keeping.KeptLine.{KeptLine}
-use Rattle.checkpoint_text.specs.Clocks.{some_falls, NoneFallsAfter, NoneFalls}
+use Rattle.checkpoint_text.specs.QueryClocks.{some_falls, NoneFallsAfter, NoneFalls}
 use Rattle.checkpoint_text.specs.LastClocks.{last_clocks, next_clocks}
 use Rattle.checkpoint_text.specs.Keeping.{Keeper, needed, with_event}
 use Rattle.checkpoint_text.specs.KeepLaws.{keeping, placed_lines_from, placed_lines, events_of, kept_lines}

@@ -8,7 +8,7 @@ use Rattle.stream_schema.specs.declared.Event.{Event}
 use Rattle.cel_terms.specs.declared.Query.{Query}
 use Rattle.checkpoint_text.specs.declared.history.EventAt.{EventAt}
 use Rattle.checkpoint_text.specs.declared.keeping.KeptLine.{KeptLine}
-use Rattle.checkpoint_text.specs.Clocks.{clock_at, later_clock, last_clock, is_back, some_falls, NoneFallsAfter, NoneFalls}
+use Rattle.checkpoint_text.specs.QueryClocks.{clock_at, later_clock, last_clock, is_back, some_falls, NoneFallsAfter, NoneFalls}
 use Rattle.checkpoint_text.specs.Histories.{AreAscendingFrom}
 use Rattle.checkpoint_text.specs.Spelling.{IsHistory}
 use Rattle.checkpoint_text.specs.Checkpoints.{checkpoint_of}

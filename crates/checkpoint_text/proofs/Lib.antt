@@ -22,7 +22,7 @@ mod KeptStreams
 -- the texts that are kept give the events
 mod KeptTexts
 -- events of the schema, of lines that spell a history; for callers
-pub mod Told
+pub mod ParseState
 -- the answers that follow need no more than the windows
 mod Restarting
 -- a run in two parts

@@ -9,7 +9,7 @@ use Rattle.cel_terms.specs.declared.Query.{Query}
 use Rattle.cel_terms.specs.declared.Window.{Window}
 use Rattle.cel_terms.specs.declared.Window.TheVariants.{Free, Events, Clock}
 use Rattle.checkpoint_text.specs.declared.history.EventAt.{EventAt}
-use Rattle.checkpoint_text.specs.Clocks.{clock_at, later_clock, is_back}
+use Rattle.checkpoint_text.specs.QueryClocks.{clock_at, later_clock, is_back}
 use Rattle.checkpoint_text.specs.LastClocks.{last_clocks, any_back, next_clocks}
 use Rattle.checkpoint_text.specs.declared.keeping.KeptLine.{KeptLine}
 use Rattle.checkpoint_text.specs.Keeping.{are_within, needs, is_needed, any_needs, Keeper, needed, next_event, with_event}

@@ -10,13 +10,13 @@ use Rattle.stream_schema.specs.declared.Event.{Event}
 use Rattle.cel_terms.specs.declared.Query.{Query}
 use Rattle.cel_terms.specs.Answers.{HasClock}
 use Rattle.cel_terms.specs.Checked.{IsChecked}
-use Rattle.cel_terms.specs.Reading.{query_reads}
+use Rattle.cel_terms.specs.EventsRead.{query_reads}
 use Rattle.window_clock.specs.Clocks.{clock_of}
 use Rattle.query_standing.proofs.Growing.{get_cases, get_last}
-use Rattle.query_standing.proofs.Parts.{clock_cases, clock_front}
+use Rattle.query_standing.proofs.QueryStates.{clock_cases, clock_front}
 use Rattle.query_standing.proofs.Reading.{reads_is, is_read}
 use Rattle.query_standing.proofs.Windows.{clock_is_one}
-use Rattle.query_part.proofs.Clocks.{each_has_clock}
+use Rattle.query_state.proofs.Clocks.{each_has_clock}
 use Rattle.query_engine.specs.Clocks.{Reads, HasClockAt, NeverFalls, IsLastClock, FallsBack}
 use Rattle.checkpoint_text.proofs.Restarting.{clock_is}
 

@@ -11,12 +11,12 @@ use Rattle.stream_schema.specs.Types.{Declared, IsWellDeclared}
 use Rattle.stream_schema.specs.declared.Event.{Event}
 use Rattle.cel_terms.specs.declared.Query.{Query}
 use Rattle.cel_terms.specs.Answers.{HasClock}
-use Rattle.cel_terms.specs.Reading.{query_reads}
+use Rattle.cel_terms.specs.EventsRead.{query_reads}
 use Rattle.window_clock.specs.Clocks.{clock_of}
 use Rattle.query_standing.proofs.Reading.{reads_is, is_read}
 use Rattle.query_engine.specs.Clocks.{Reads, FallsBack, NoneFallsBack, IsFirstToFall}
 use Rattle.query_engine.specs.Counts.{MeetMost, event_bound}
-use Rattle.query_engine.specs.Engine.{State, StandsFor, SameQueries, count_of, peak_of, update_bounds}
+use Rattle.query_engine.specs.Engine.{EngineState, StandsFor, SameQueries, count_of, peak_of, update_bounds}
 use Rattle.query_engine.specs.Bounds.{update_bound, for_each_query}
 use Rattle.query_engine.specs.Peaks.{PeaksFollow}
 use Rattle.query_engine.specs.Skipping.{IsBlank, AreBlanks, KeepsAll}
@@ -26,7 +26,7 @@ use Rattle.query_engine.proofs.DenseNodes.{peaks_skip}
 use Rattle.query_engine.proofs.Skipped.{blank_unread, blanks_between, some_blanks}
 use Rattle.checkpoint_text.specs.declared.history.EventAt.{EventAt}
 use Rattle.checkpoint_text.specs.declared.history.History.{History}
-use Rattle.checkpoint_text.specs.Clocks.{clock_at, later_clock, last_clock, falls_with, some_falls, NoneFallsAfter}
+use Rattle.checkpoint_text.specs.QueryClocks.{clock_at, later_clock, last_clock, falls_with, some_falls, NoneFallsAfter}
 use Rattle.checkpoint_text.specs.Histories.{AreAscendingFrom}
 use Rattle.checkpoint_text.specs.Spelling.{IsHistory}
 use Rattle.checkpoint_text.specs.Streams.{AreEventsFrom}
@@ -191,7 +191,7 @@ no_fall schema queries es k e stream well level at are j q before now query f =
 -- THE ENGINE
 
 -- an event with which no clock falls is not refused for time
-pub no_time_back : (old new : State) (stream : List Event) (event : Event) (query : ℕ) (before now : ℤ) → SameQueries old new → NoneFallsBack old.schema old.queries stream event → IsFirstToFall new.schema new.queries stream event query before now → ⊥
+pub no_time_back : (old new : EngineState) (stream : List Event) (event : Event) (query : ℕ) (before now : ℤ) → SameQueries old new → NoneFallsBack old.schema old.queries stream event → IsFirstToFall new.schema new.queries stream event query before now → ⊥
 no_time_back old new stream event query before now same none f =
     none (query - 1) f.falling before now (subst (λ qs. slice_get qs (query - 1) ≡ Some f.falling) same.1 f.at) (subst (λ s. FallsBack s f.falling stream event before now) same.0 f.falls)
 
@@ -200,18 +200,18 @@ pub blanks_to : (schema : Declared) (from now old position : ℕ) (blanks : List
 blanks_to schema from now old position blanks is ahead are = subst (λ n. AreBlanks schema from n blanks) (let same : position ≡ now = omega (arith, is, ahead) in same) are
 
 -- the queries meet the same states by another name
-met_too : (old new : State) (events : List Event) (most : ℕ → ℕ) → SameQueries old new → MeetMost old.schema old.queries events most → MeetMost new.schema new.queries events most
+met_too : (old new : EngineState) (events : List Event) (most : ℕ → ℕ) → SameQueries old new → MeetMost old.schema old.queries events most → MeetMost new.schema new.queries events most
 met_too old new events most same meet = subst (λ s. MeetMost s new.queries events most) (sym same.0) (subst (λ qs. MeetMost old.schema qs events most) (sym same.1) meet)
 
 -- the steps of an event that is taken after blank ones
-pub event_pays : (old mid new : State) (events : List Event) (most : ℕ → ℕ) (before after : ℕ) → SameQueries old mid → SameQueries mid new → StandsFor new events → MeetMost old.schema old.queries events most → after ≤ before + update_bounds new → after ≤ before + event_bound (length old.queries) most
+pub event_pays : (old mid new : EngineState) (events : List Event) (most : ℕ → ℕ) (before after : ℕ) → SameQueries old mid → SameQueries mid new → StandsFor new events → MeetMost old.schema old.queries events most → after ≤ before + update_bounds new → after ≤ before + event_bound (length old.queries) most
 event_pays old mid new events most before after first second stands meet paid =
     let bounded = event_is_bounded new events most stands (met_too mid new events most second (met_too old mid events most first meet)) in
     let same : event_bound (length new.queries) most ≡ event_bound (length old.queries) most = ap (λ (qs : List Query). event_bound (length qs) most) (second.1 ∙ first.1) in
     omega (arith, bounded, same, paid)
 
 -- and of one for which memory ran out
-pub want_pays : (old mid : State) (events : List Event) (most : ℕ → ℕ) (before after : ℕ) → SameQueries old mid → MeetMost old.schema old.queries events most →
+pub want_pays : (old mid : EngineState) (events : List Event) (most : ℕ → ℕ) (before after : ℕ) → SameQueries old mid → MeetMost old.schema old.queries events most →
     (MeetMost mid.schema mid.queries events most → after ≤ before + for_each_query (length mid.queries) (λ k. update_bound (most k))) → after ≤ before + event_bound (length old.queries) most
 want_pays old mid events most before after first meet paid =
     let cost = paid (met_too old mid events most first meet) in
@@ -220,7 +220,7 @@ want_pays old mid events most before after first meet paid =
     omega (arith, cost, within, same)
 
 -- so many events are taken
-pub record Reached (schema : Declared) (queries : List Query) (es : List EventAt) (k : ℕ) (engine : State) : Type 0 where
+pub record Reached (schema : Declared) (queries : List Query) (es : List EventAt) (k : ℕ) (engine : EngineState) : Type 0 where
   pub schema_is : engine.schema ≡ schema
   pub queries_are : engine.queries ≡ queries
   pub count : count_of engine ≡ reached 0 (take k es)
@@ -228,7 +228,7 @@ pub record Reached (schema : Declared) (queries : List Query) (es : List EventAt
   pub dense : (stream : List Event) → AreEventsFrom schema 0 (reached 0 (take k es)) (take k es) stream → IsDense engine stream
 
 -- so many events are taken, with these peaks before them, and so many steps since then
-pub record Measured (schema : Declared) (queries : List Query) (es : List EventAt) (k : ℕ) (engine : State) (before : ℕ → ℕ) (begun now : ℕ) : Type 0 where
+pub record Measured (schema : Declared) (queries : List Query) (es : List EventAt) (k : ℕ) (engine : EngineState) (before : ℕ → ℕ) (begun now : ℕ) : Type 0 where
   pub peaks : (stream : List Event) → AreEventsFrom schema 0 (reached 0 (take k es)) (take k es) stream → PeaksFollow before engine stream
   pub steps : (stream : List Event) (most : ℕ → ℕ) → AreEventsFrom schema 0 (reached 0 (take k es)) (take k es) stream → MeetMost schema queries stream most → now ≤ begun + length stream * event_bound (length queries) most
 
@@ -256,7 +256,7 @@ one_more_step begun old now short long bound less paid step =
 
 module _ (schema : Declared) (queries : List Query) (history : History) (well : IsWellDeclared schema) (is : IsHistory schema queries history) where
   -- none yet
-  pub none_reached : (engine : State) → engine.schema ≡ schema → engine.queries ≡ queries → count_of engine ≡ 0 → StandsFor engine [] → IsDense engine [] → Reached schema queries history.events 0 engine
+  pub none_reached : (engine : EngineState) → engine.schema ≡ schema → engine.queries ≡ queries → count_of engine ≡ 0 → StandsFor engine [] → IsDense engine [] → Reached schema queries history.events 0 engine
   none_reached engine schema_is queries_are count stands dense = record {
     schema_is = schema_is;
     queries_are = queries_are;
@@ -270,10 +270,10 @@ module _ (schema : Declared) (queries : List Query) (history : History) (well : 
       empty (x ∷ xs) are = absurd (let c = are.count in omega arith)
 
   -- none yet, and no step
-  pub none_measured : (engine : State) (now : ℕ) → Measured schema queries history.events 0 engine (peak_of engine) now now
+  pub none_measured : (engine : EngineState) (now : ℕ) → Measured schema queries history.events 0 engine (peak_of engine) now now
   none_measured engine now = record { peaks = λ stream are k q at. inl (omega arith); steps = λ stream most are meet. omega arith }
 
-  module _ (k : ℕ) (e : EventAt) (at : slice_get history.events k ≡ Some e) (engine : State) (r : Reached schema queries history.events k engine) where
+  module _ (k : ℕ) (e : EventAt) (at : slice_get history.events k ≡ Some e) (engine : EngineState) (r : Reached schema queries history.events k engine) where
     -- the next event comes after, and in time
     pub next_ahead : count_of engine ≤ e.position
     next_ahead = let before = reached_before 0 history.events k e is.placed.ascending at in let c = r.count in omega (arith, before, c)
@@ -316,7 +316,7 @@ module _ (schema : Declared) (queries : List Query) (history : History) (well : 
             by_place (x ∷ es) zero at = let same : x ≡ e = cc in ap (λ y. y ∷ []) same
             by_place (x ∷ es) (suc k) at = ap (λ ys. x ∷ ys) (by_place es k at)
 
-    pub next_reached : (after : State) → SameQueries engine after → count_of after ≡ e.position + 1 →
+    pub next_reached : (after : EngineState) → SameQueries engine after → count_of after ≡ e.position + 1 →
         ((events blanks : List Event) → StandsFor engine events → AreBlanks engine.schema (length events) e.position blanks → StandsFor after (events ++ blanks ++ e.event ∷ [])) →
         ((events blanks : List Event) → StandsFor engine events → IsDense engine events → AreBlanks engine.schema (length events) e.position blanks → IsDense after (events ++ blanks ++ e.event ∷ [])) →
         Reached schema queries history.events (k + 1) after
@@ -353,7 +353,7 @@ module _ (schema : Declared) (queries : List Query) (history : History) (well : 
         let long : length made.0 + 1 ≤ length stream = (let w = ap length made.2 in let l = length-append (made.0 ++ made.1) (e.event ∷ []) in let n = length-append made.0 made.1 in omega (arith, w, l, n)) in
         one_more_step begun now later (length made.0) (length stream) (event_bound (length queries) most) long (m.steps made.0 most made.3 first) cost
 
-    pub next_measured : (after : State) (before : ℕ → ℕ) (begun now later : ℕ) → Measured schema queries history.events k engine before begun now →
+    pub next_measured : (after : EngineState) (before : ℕ → ℕ) (begun now later : ℕ) → Measured schema queries history.events k engine before begun now →
         ((events blanks : List Event) → StandsFor engine events → IsDense engine events → PeaksFollow before engine events → AreBlanks engine.schema (length events) e.position blanks → PeaksFollow before after (events ++ blanks ++ e.event ∷ [])) →
         ((events blanks : List Event) (most : ℕ → ℕ) → StandsFor engine events → AreBlanks engine.schema (length events) e.position blanks → MeetMost engine.schema engine.queries (events ++ blanks ++ e.event ∷ []) most → later ≤ now + event_bound (length engine.queries) most) →
         Measured schema queries history.events (k + 1) after before begun later
@@ -374,7 +374,7 @@ module _ (schema : Declared) (queries : List Query) (history : History) (well : 
         more_steps begun later (length front.0) (length stream) (event_bound (length queries) most) short (pays_next before begun now later m step front.0 most front.3 met)
 
     -- where memory ran out it stands for the first events
-    pub part_reached : (after : State) → count_of after ≡ e.position → ((events blanks : List Event) → StandsFor engine events → AreBlanks engine.schema (length events) e.position blanks → StandsFor after (events ++ blanks)) → StandsForFirst schema history.events after
+    pub part_reached : (after : EngineState) → count_of after ≡ e.position → ((events blanks : List Event) → StandsFor engine events → AreBlanks engine.schema (length events) e.position blanks → StandsFor after (events ++ blanks)) → StandsForFirst schema history.events after
     part_reached after count stands = record {
       count = k;
       next = e;
@@ -385,7 +385,7 @@ module _ (schema : Declared) (queries : List Query) (history : History) (well : 
     }
 
   -- at the end
-  pub all_reached : (k : ℕ) (engine after : State) → length history.events ≤ k → Reached schema queries history.events k engine → SameQueries engine after → count_of after ≡ max (count_of engine) history.positions →
+  pub all_reached : (k : ℕ) (engine after : EngineState) → length history.events ≤ k → Reached schema queries history.events k engine → SameQueries engine after → count_of after ≡ max (count_of engine) history.positions →
       ((events blanks : List Event) → StandsFor engine events → AreBlanks engine.schema (length events) (count_of after) blanks → StandsFor after (events ++ blanks)) →
       ((events blanks : List Event) → IsDense engine events → IsDense after (events ++ blanks)) →
       Replayed schema history.events history.positions after
@@ -411,14 +411,14 @@ module _ (schema : Declared) (queries : List Query) (history : History) (well : 
       there stream are = subst (λ es. AreEventsFrom schema 0 (reached 0 es) es stream) (sym whole) are
 
   -- at the end: the peaks, and the steps
-  pub all_peaks : (k : ℕ) (engine after : State) (before : ℕ → ℕ) (begun now : ℕ) → length history.events ≤ k → Measured schema queries history.events k engine before begun now → SameQueries engine after → KeepsAll engine after →
+  pub all_peaks : (k : ℕ) (engine after : EngineState) (before : ℕ → ℕ) (begun now : ℕ) → length history.events ≤ k → Measured schema queries history.events k engine before begun now → SameQueries engine after → KeepsAll engine after →
       (stream : List Event) → AreEventsFrom schema 0 history.positions history.events stream → PeaksFollow before after stream
   all_peaks k engine after before begun now end m same kept stream are =
       let made = blanks_of schema history.positions history.events stream are in
       let there = subst (λ es. AreEventsFrom schema 0 (reached 0 es) es made.0) (sym (take_all k history.events end)) made.3 in
       subst (PeaksFollow before after) (sym made.2) (peaks_skip before engine after made.0 made.1 same kept (m.peaks made.0 there))
 
-  pub all_steps : (k : ℕ) (engine : State) (before : ℕ → ℕ) (begun now : ℕ) → length history.events ≤ k → Measured schema queries history.events k engine before begun now →
+  pub all_steps : (k : ℕ) (engine : EngineState) (before : ℕ → ℕ) (begun now : ℕ) → length history.events ≤ k → Measured schema queries history.events k engine before begun now →
       (stream : List Event) (most : ℕ → ℕ) → AreEventsFrom schema 0 history.positions history.events stream → MeetMost schema queries stream most → now ≤ begun + length stream * event_bound (length queries) most
   all_steps k engine before begun now end m stream most are meet =
       let made = blanks_of schema history.positions history.events stream are in

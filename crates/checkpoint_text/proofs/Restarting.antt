@@ -16,18 +16,18 @@ use Rattle.cel_terms.specs.declared.Window.TheVariants.{Free, Events, Clock}
 use Rattle.cel_terms.specs.Checked.{IsChecked}
 use Rattle.cel_terms.specs.Predicate.{attr_value}
 use Rattle.cel_terms.specs.Answers.{Answer, IsAnswer, HasClock, WithinWidth}
-use Rattle.cel_terms.specs.Reading.{query_reads}
+use Rattle.cel_terms.specs.EventsRead.{query_reads}
 use Rattle.window_clock.specs.Clocks.{int_of, clock_of}
-use Rattle.output_laws.specs.Laws.{IsSameFor, AreSameWithin}
+use Rattle.output_laws.specs.AnswerLaws.{IsSameFor, AreSameWithin}
 use Rattle.output_laws.proofs.EarlierAnswers.{spans, look_within, within_turned}
 use Rattle.query_standing.proofs.Reading.{reads_is, is_read}
-use Rattle.query_part.proofs.Clocks.{each_has_clock}
+use Rattle.query_state.proofs.Clocks.{each_has_clock}
 use Rattle.query_engine.specs.Clocks.{Reads, HasClockAt, NeverFalls}
 use Rattle.query_engine.specs.Skipping.{IsBlank}
 use Rattle.query_engine.proofs.Skipped.{blank_unread}
 use Rattle.checkpoint_text.specs.declared.history.EventAt.{EventAt}
 use Rattle.checkpoint_text.specs.declared.keeping.KeptLine.{KeptLine}
-use Rattle.checkpoint_text.specs.Clocks.{clock_at, later_clock, last_clock}
+use Rattle.checkpoint_text.specs.QueryClocks.{clock_at, later_clock, last_clock}
 use Rattle.checkpoint_text.specs.Keeping.{is_within, are_within, needs, is_needed}
 use Rattle.checkpoint_text.specs.KeepLaws.{placed_lines_from, placed_lines, events_of, kept_lines, told_stream}
 use Rattle.checkpoint_text.specs.Streams.{AreEventsFrom, IsStreamOf, stream_of}

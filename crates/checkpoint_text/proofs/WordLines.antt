@@ -4,7 +4,7 @@ use Rattle.std.specs.Prelude.{bytes_eq, codes, decimal, option_and_then, option_
 use Rattle.std.specs.List.{list_any}
 use Rattle.checkpoint_text.specs.Numbers.{number, after_word, after_word_in, two_numbers, counts_of, position_of}
 use Rattle.checkpoint_text.specs.Spelling.{counts_text, position_text}
-use Rattle.event_reader.specs.Words.{is_blank, cut}
+use Rattle.event_reader.specs.LineWords.{is_blank, cut}
 use Rattle.event_reader.proofs.FirstBlank.{cut_is, parts_join, parts_of, mapped_some}
 use Rattle.checkpoint_text.proofs.Decimals.{number_text, text_number, decimal_without}
 

@@ -10,51 +10,51 @@ use Rattle.event_reader.specs.Events.{event_of_line, and_then}
 use Rattle.event_reader.specs.Lines.{FileLines, file_lines}
 use Rattle.checkpoint_text.specs.declared.CheckpointFault.{CheckpointFault}
 use Rattle.checkpoint_text.specs.declared.CheckpointFault.TheVariants as fault
-use Rattle.checkpoint_text.specs.declared.stand.Awaited.{Awaited}
-use Rattle.checkpoint_text.specs.declared.stand.Awaited.TheVariants.{Header, Counts, Position, EventOf}
-use Rattle.checkpoint_text.specs.declared.stand.Stand.{Stand}
+use Rattle.checkpoint_text.specs.declared.stand.NextLine.{NextLine}
+use Rattle.checkpoint_text.specs.declared.stand.NextLine.TheVariants.{Header, Counts, Position, EventOf}
+use Rattle.checkpoint_text.specs.declared.stand.LineState.{LineState}
 use Rattle.checkpoint_text.specs.declared.reading.TheConstants.{MOST_BYTES}
 use Rattle.checkpoint_text.specs.declared.history.EventAt.{EventAt}
 use Rattle.checkpoint_text.specs.declared.history.History.{History}
-use Rattle.checkpoint_text.specs.Clocks.{some_falls}
+use Rattle.checkpoint_text.specs.QueryClocks.{some_falls}
 use Rattle.checkpoint_text.specs.Numbers.{counts_of, position_of}
 
 -- What the lines so far have told: where they stand, and the events.
-pub record Told : Type 0 where
-  pub stand : Stand
+pub record ParseState : Type 0 where
+  pub stand : LineState
   pub events : List EventAt
 
-abbrev pub start : Stand
+abbrev pub start : LineState
 start = record { awaited = Header; positions = 0; count = 0; least = 0 }
 
-abbrev pub nothing : Told
+abbrev pub nothing : ParseState
 nothing = record { stand = start; events = [] }
 
 -- with the counts
-abbrev pub counted : Stand → Option (ℕ × ℕ) → Result Stand CheckpointFault
+abbrev pub counted : LineState → Option (ℕ × ℕ) → Result LineState CheckpointFault
 counted stand None = Err fault.BadCount
 counted stand (Some counts) = Ok (record stand { awaited = Position; positions = counts.0; count = counts.1 })
 
 -- with the position, which is above each before and below their number
-abbrev pub placed : Stand → Option ℕ → Result Stand CheckpointFault
+abbrev pub placed : LineState → Option ℕ → Result LineState CheckpointFault
 placed stand None = Err fault.BadPosition
 placed stand (Some n) =
     if nat_le stand.least n && nat_lt n stand.positions then Ok (record stand { awaited = EventOf n; least = n + 1 }) else Err fault.BadPosition
 
 -- with the next line, which is no event's, after so many events
-abbrev pub words_after : Stand → Awaited → ℕ → List ℕ → Result Stand CheckpointFault
+abbrev pub words_after : LineState → NextLine → ℕ → List ℕ → Result LineState CheckpointFault
 words_after stand Header count text =
     if bytes_eq text (codes "core checkpoint 1") then Ok (record stand { awaited = Counts }) else Err fault.BadHeader
 words_after stand Counts count text = counted stand (counts_of text)
 words_after stand Position count text = if count == stand.count then Err fault.Extra else placed stand (position_of text)
 words_after stand (EventOf n) count text = Err fault.BadEvent
 
-abbrev pub with_stand : Told → Result Stand CheckpointFault → Result Told CheckpointFault
+abbrev pub with_stand : ParseState → Result LineState CheckpointFault → Result ParseState CheckpointFault
 with_stand told (Ok stand) = Ok (record told { stand = stand })
 with_stand told (Err fault) = Err fault
 
 -- with the event at the position, with which no clock falls
-abbrev pub with_event : Declared → List Query → Told → ℕ → Result (Option Event) EventFault → Result Told CheckpointFault
+abbrev pub with_event : Declared → List Query → ParseState → ℕ → Result (Option Event) EventFault → Result ParseState CheckpointFault
 with_event schema queries told n (Ok (Some event)) =
     if some_falls schema queries told.events (record { position = n; event = event }) then Err fault.BadEvent
     else Ok (record { stand = record told.stand { awaited = Position }; events = told.events ++ record { position = n; event = event } ∷ [] })
@@ -62,13 +62,13 @@ with_event schema queries told n (Ok None) = Err fault.BadEvent
 with_event schema queries told n (Err refusal) = Err fault.BadEvent
 
 -- what is told with the next line, or why it is refused
-abbrev pub after_text : Declared → List Query → Told → Awaited → List ℕ → Result Told CheckpointFault
+abbrev pub after_text : Declared → List Query → ParseState → NextLine → List ℕ → Result ParseState CheckpointFault
 after_text schema queries told Header text = with_stand told (words_after told.stand Header (length told.events) text)
 after_text schema queries told Counts text = with_stand told (words_after told.stand Counts (length told.events) text)
 after_text schema queries told Position text = with_stand told (words_after told.stand Position (length told.events) text)
 after_text schema queries told (EventOf n) text = with_event schema queries told n (event_of_line schema text)
 
-abbrev pub after_line : Declared → List Query → Told → List ℕ → Result Told CheckpointFault
+abbrev pub after_line : Declared → List Query → ParseState → List ℕ → Result ParseState CheckpointFault
 after_line schema queries told text = after_text schema queries told told.stand.awaited text
 
 -- The line of this number, from 1, is refused, and why.
@@ -81,25 +81,25 @@ at_line number (Ok told) = Ok told
 at_line number (Err fault) = Err (record { line = number; fault = fault })
 
 -- what is told with these lines, the first of which has this number
-abbrev pub told_on : Declared → List Query → ℕ → Told → List (List ℕ) → Result Told Refusal
+abbrev pub told_on : Declared → List Query → ℕ → ParseState → List (List ℕ) → Result ParseState Refusal
 told_on schema queries number told [] = Ok told
 told_on schema queries number told (text ∷ texts) =
     and_then (at_line number (after_line schema queries told text)) (λ more. told_on schema queries (number + 1) more texts)
 
 -- what these lines tell, the first ones of a text
-abbrev pub told_by : Declared → List Query → List (List ℕ) → Result Told Refusal
+abbrev pub told_by : Declared → List Query → List (List ℕ) → Result ParseState Refusal
 told_by schema queries texts = told_on schema queries 1 nothing texts
 
 -- all is told that was announced
-abbrev pub is_all_told : Told → Awaited → Bool
+abbrev pub is_all_told : ParseState → NextLine → Bool
 is_all_told told Position = length told.events == told.stand.count
 is_all_told told _ = false
 
-abbrev pub history_of : Told → History
+abbrev pub history_of : ParseState → History
 history_of told = record { positions = told.stand.positions; events = told.events }
 
 -- the text has so many lines, which told this, and no further one: at its end or by this fault of the lines
-abbrev pub at_stop : ℕ → Told → Option LineFault → Result History Refusal
+abbrev pub at_stop : ℕ → ParseState → Option LineFault → Result History Refusal
 at_stop lines told None =
     if is_all_told told told.stand.awaited then Ok (history_of told) else Err (record { line = lines + 1; fault = fault.Short })
 at_stop lines told (Some (line.LineTooLong number)) = Err (record { line = number; fault = fault.LongLine })

@@ -12,7 +12,7 @@ use Rattle.checkpoint_text.specs.declared.reading.TheConstants.{MOST_BYTES}
 use Rattle.checkpoint_text.specs.declared.history.EventAt.{EventAt}
 use Rattle.checkpoint_text.specs.declared.history.History.{History}
 use Rattle.checkpoint_text.specs.declared.keeping.KeptLine.{KeptLine}
-use Rattle.checkpoint_text.specs.Clocks.{NoneFalls}
+use Rattle.checkpoint_text.specs.QueryClocks.{NoneFalls}
 use Rattle.checkpoint_text.specs.LastClocks.{last_clocks}
 use Rattle.checkpoint_text.specs.Checkpoints.{checkpoint_of}
 use Rattle.checkpoint_text.specs.Spelling.{IsHistory}

@@ -9,7 +9,7 @@ use Rattle.cel_terms.specs.declared.Window.{Window}
 use Rattle.cel_terms.specs.declared.Window.TheVariants.{Free, Events, Clock}
 use Rattle.checkpoint_text.specs.declared.history.EventAt.{EventAt}
 use Rattle.checkpoint_text.specs.declared.keeping.KeptLine.{KeptLine}
-use Rattle.checkpoint_text.specs.Clocks.{clock_at, last_clock}
+use Rattle.checkpoint_text.specs.QueryClocks.{clock_at, last_clock}
 use Rattle.checkpoint_text.specs.LastClocks.{next_clocks}
 use Rattle.checkpoint_text.specs.Spelling.{counts_text, position_text}
 

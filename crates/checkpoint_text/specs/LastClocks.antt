@@ -4,7 +4,7 @@ use Rattle.stream_schema.specs.Types.{Declared}
 use Rattle.cel_terms.specs.declared.Query.{Query}
 use Rattle.checkpoint_text.specs.declared.clocks.Fall.{Fall}
 use Rattle.checkpoint_text.specs.declared.history.EventAt.{EventAt}
-use Rattle.checkpoint_text.specs.Clocks.{clock_at, later_clock, last_clock, is_back}
+use Rattle.checkpoint_text.specs.QueryClocks.{clock_at, later_clock, last_clock, is_back}
 
 -- those of the queries, each after the same events
 abbrev pub last_clocks : Declared → List Query → List EventAt → List (Option ℤ)

@@ -1,10 +1,10 @@
 pub mod Histories
-pub mod Clocks
+pub mod QueryClocks
 pub mod LastClocks
 pub mod Numbers
 pub mod Checkpoints
 pub mod Spelling
-pub mod Reading
+pub mod ReaderAnswers
 pub mod Keeping
 pub mod KeepLaws
 pub mod Streams

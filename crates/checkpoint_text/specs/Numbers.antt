@@ -3,7 +3,7 @@ use Rattle.std.specs.Prelude.{ℕ, ◌==◌, Bool, false, not, ◌&&◌, ◌||�
 use Rattle.std.specs.Char.{is_ascii_digit}
 use Rattle.std.specs.List.{list_all}
 use Rattle.cer_base.specs.Digits.{read_on}
-use Rattle.event_reader.specs.Words.{cut}
+use Rattle.event_reader.specs.LineWords.{cut}
 use Rattle.checkpoint_text.specs.declared.numbers.TheConstants.{ZERO, MOST_POSITIONS}
 
 -- some digits, the first of several not being 0

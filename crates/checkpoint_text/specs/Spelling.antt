@@ -8,7 +8,7 @@ use Rattle.event_reader.specs.declared.words.TheConstants.{BLANK}
 use Rattle.checkpoint_text.specs.declared.numbers.TheConstants.{MOST_POSITIONS}
 use Rattle.checkpoint_text.specs.declared.history.EventAt.{EventAt}
 use Rattle.checkpoint_text.specs.declared.history.History.{History}
-use Rattle.checkpoint_text.specs.Clocks.{NoneFalls}
+use Rattle.checkpoint_text.specs.QueryClocks.{NoneFalls}
 use Rattle.checkpoint_text.specs.Histories.{ArePlaced}
 use Rattle.checkpoint_text.specs.Checkpoints.{history_in}
 

@@ -12,7 +12,7 @@ use Rattle.query_engine.specs.Skipping.{AreBlanks}
 use Rattle.checkpoint_text.specs.declared.history.EventAt.{EventAt}
 use Rattle.checkpoint_text.specs.declared.history.History.{History}
 use Rattle.checkpoint_text.specs.declared.clocks.Fall.{Fall}
-use Rattle.checkpoint_text.specs.Clocks.{NoneFalls}
+use Rattle.checkpoint_text.specs.QueryClocks.{NoneFalls}
 use Rattle.checkpoint_text.specs.LastClocks.{any_back, first_back}
 use Rattle.checkpoint_text.specs.Keeping.{next_event}
 use Rattle.checkpoint_text.specs.KeepLaws.{keeping, placed_lines, events_of, kept_lines, IsLineOf, told_stream}

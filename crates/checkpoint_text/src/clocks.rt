@@ -1,7 +1,7 @@
 //! The clocks of the queries along events.
 
 ghost use Rattle.std.specs.Prelude.{◌≡◌, ◌+ℤ◌, int_lt, length, map, false, Some, None, IfOk, IfNone};
-ghost use Rattle.checkpoint_text.specs.Clocks.{clock_at, later_clock, is_back};
+ghost use Rattle.checkpoint_text.specs.QueryClocks.{clock_at, later_clock, is_back};
 ghost use Rattle.checkpoint_text.specs.LastClocks.{any_back, fall_of, first_back, next_clocks};
 ghost use Rattle.checkpoint_text.specs.Keeping.{is_within, are_within, any_needs};
 

@@ -5,14 +5,14 @@ ghost use Rattle.std.specs.List.{AllByRecursion};
 ghost use Rattle.stream_schema.specs.Events.{IsOfSchema};
 ghost use Rattle.checkpoint_text.specs.declared.history.EventAt.{EventAt};
 ghost use Rattle.checkpoint_text.specs.declared.reading.TheConstants as bytes;
-ghost use Rattle.event_reader.specs.Reading.{HasGiven};
+ghost use Rattle.event_reader.specs.LineReaders.{HasGiven};
 ghost use Rattle.checkpoint_text.specs.LastClocks.{last_clocks};
 ghost use Rattle.checkpoint_text.specs.Checkpoints.{at_stop};
-ghost use Rattle.checkpoint_text.specs.Reading.{IsOfText, IsEnd, EndsAs, HasReadCause, IsSpelled, fault_of};
+ghost use Rattle.checkpoint_text.specs.ReaderAnswers.{IsOfText, IsEnd, EndsAs, HasReadCause, IsSpelled, fault_of};
 ghost use Rattle.checkpoint_text.specs.Spelling.{IsHistory};
 
 use crate::clocks::no_clocks;
-use crate::stand::{Awaited, Stand, take_line};
+use crate::stand::{LineState, NextLine, take_line};
 use crate::{CheckpointFault, EventAt, History, HistoryFault};
 use cel_terms::Query;
 use cer_base::{Listed, Memory, OrMemory};
@@ -32,7 +32,7 @@ pub const MOST_BYTES: u64 = 1099511627776;
 ///
 /// The history is one that a checkpoint may tell: no query's clock falls along its events, and
 /// these are of the schema.
-#[tactic(auto, using(crate::proofs::Told::spelled_is_history))]
+#[tactic(auto, using(crate::proofs::ParseState::spelled_is_history))]
 pub fn read_checkpoint<Q: Source>(
     alloc: Global,
     schema: &Schema,
@@ -94,7 +94,7 @@ fn read_on<Q: Source>(
         (record { positions = positions; events = events.new.items })) }
     ensures cause { HasReadCause (Q.faults source.old) (Q.faults source.new) result }
 {
-    let mut stand = Stand::start();
+    let mut stand = LineState::start();
     loop {
         match lines.next(source) {
             Ok(Next::Line) => {}
@@ -121,7 +121,7 @@ fn read_on<Q: Source>(
 }
 
 /// How many positions there are, where all was told that was announced in so many lines.
-fn at_end(lines: u64, stand: &Stand, count: u64) -> Result<u64, OrMemory<HistoryFault>>
+fn at_end(lines: u64, stand: &LineState, count: u64) -> Result<u64, OrMemory<HistoryFault>>
     requires { lines ≤ bytes.MOST_BYTES }
     ensures { (events : List EventAt) → length events ≡ count
         → EndsAs (at_stop lines (record { stand = stand.now; events = events }) None)
@@ -133,16 +133,16 @@ fn at_end(lines: u64, stand: &Stand, count: u64) -> Result<u64, OrMemory<History
         fault: CheckpointFault::Short,
     };
     match stand.awaited {
-        Awaited::Position => {
+        NextLine::Position => {
             if count == stand.count {
                 Ok(stand.positions)
             } else {
                 Err(OrMemory::Fault(missing))
             }
         }
-        Awaited::Header => Err(OrMemory::Fault(missing)),
-        Awaited::Counts => Err(OrMemory::Fault(missing)),
-        Awaited::EventOf(_) => Err(OrMemory::Fault(missing)),
+        NextLine::Header => Err(OrMemory::Fault(missing)),
+        NextLine::Counts => Err(OrMemory::Fault(missing)),
+        NextLine::EventOf(_) => Err(OrMemory::Fault(missing)),
     }
 }
 

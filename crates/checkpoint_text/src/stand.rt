@@ -5,7 +5,7 @@ ghost use Rattle.cer_base.specs.Answers.{OnFault};
 ghost use Rattle.event_reader.specs.Lines.{has_line_feed};
 ghost use Rattle.event_reader.specs.Events.{event_of_line};
 ghost use Rattle.checkpoint_text.specs.declared.CheckpointFault.TheVariants as wanted;
-ghost use Rattle.checkpoint_text.specs.Clocks.{some_falls};
+ghost use Rattle.checkpoint_text.specs.QueryClocks.{some_falls};
 ghost use Rattle.checkpoint_text.specs.LastClocks.{last_clocks};
 ghost use Rattle.checkpoint_text.specs.Checkpoints.{start, counted, placed, words_after, with_event, after_line};
 
@@ -20,7 +20,7 @@ use stream_schema::{Event, Schema};
 
 /// The line that must come next.
 #[derive(Drop, Clone, Copy, PartialEq, Eq)]
-pub enum Awaited {
+pub enum NextLine {
     Header,
     Counts,
     /// The line of a position, or none where all events were told.
@@ -32,32 +32,32 @@ pub enum Awaited {
 /// Where the lines stand: what must come next, how many positions and events there are, and the
 /// least position that may come.
 #[derive(Drop, Clone, Copy, PartialEq, Eq)]
-pub struct Stand {
-    pub awaited: Awaited,
+pub struct LineState {
+    pub awaited: NextLine,
     pub positions: u64,
     pub count: u64,
     pub least: u64,
 }
 
-impl Stand {
+impl LineState {
     /// Before any line.
-    pub fn start() -> Stand
+    pub fn start() -> LineState
         ensures { result ≡ start }
     {
-        Stand {
-            awaited: Awaited::Header,
+        LineState {
+            awaited: NextLine::Header,
             positions: 0,
             count: 0,
             least: 0,
         }
     }
 
-    fn counted(&self, counts: Option<(u64, u64)>) -> Result<Stand, CheckpointFault>
+    fn counted(&self, counts: Option<(u64, u64)>) -> Result<LineState, CheckpointFault>
         ensures { result ≡ counted self.now counts }
     {
         match counts {
-            Some((positions, count)) => Ok(Stand {
-                awaited: Awaited::Position,
+            Some((positions, count)) => Ok(LineState {
+                awaited: NextLine::Position,
                 positions,
                 count,
                 least: self.least,
@@ -66,14 +66,14 @@ impl Stand {
         }
     }
 
-    fn placed(&self, position: Option<u64>) -> Result<Stand, CheckpointFault>
+    fn placed(&self, position: Option<u64>) -> Result<LineState, CheckpointFault>
         ensures { result ≡ placed self.now position }
     {
         match position {
             Some(n) => {
                 if self.least <= n && n < self.positions {
-                    Ok(Stand {
-                        awaited: Awaited::EventOf(n),
+                    Ok(LineState {
+                        awaited: NextLine::EventOf(n),
                         positions: self.positions,
                         count: self.count,
                         least: n + 1,
@@ -88,29 +88,29 @@ impl Stand {
 }
 
 /// Where the lines stand with the next one, which is no event's, after so many events.
-fn after_words(stand: &Stand, count: u64, text: &[u8]) -> Result<Stand, CheckpointFault>
+fn after_words(stand: &LineState, count: u64, text: &[u8]) -> Result<LineState, CheckpointFault>
     ensures { result ≡ words_after stand.now stand.now.awaited count text.now }
 {
     match stand.awaited {
-        Awaited::Header => {
+        NextLine::Header => {
             if text == b"core checkpoint 1".as_slice() {
-                Ok(Stand {
-                    awaited: Awaited::Counts,
+                Ok(LineState {
+                    awaited: NextLine::Counts,
                     ..*stand
                 })
             } else {
                 Err(CheckpointFault::BadHeader)
             }
         }
-        Awaited::Counts => stand.counted(counts_of(text)),
-        Awaited::Position => {
+        NextLine::Counts => stand.counted(counts_of(text)),
+        NextLine::Position => {
             if count == stand.count {
                 Err(CheckpointFault::Extra)
             } else {
                 stand.placed(position_of(text))
             }
         }
-        Awaited::EventOf(_) => Err(CheckpointFault::BadEvent),
+        NextLine::EventOf(_) => Err(CheckpointFault::BadEvent),
     }
 }
 
@@ -121,7 +121,7 @@ pub fn take_line(
     schema: &Schema,
     queries: &[Query],
     text: &[u8],
-    stand: &mut Stand,
+    stand: &mut LineState,
     events: &mut Vec<EventAt>,
     lasts: &mut Vec<Option<i128>>,
 ) -> Result<(), OrMemory<CheckpointFault>>
@@ -136,17 +136,21 @@ pub fn take_line(
         (record { stand = stand.old; events = events.old.items }) text.now ≡ Err fault) }
 {
     match stand.awaited {
-        Awaited::Header => take_words(stand, events.len() as u64, text),
-        Awaited::Counts => take_words(stand, events.len() as u64, text),
-        Awaited::Position => take_words(stand, events.len() as u64, text),
-        Awaited::EventOf(position) => {
+        NextLine::Header => take_words(stand, events.len() as u64, text),
+        NextLine::Counts => take_words(stand, events.len() as u64, text),
+        NextLine::Position => take_words(stand, events.len() as u64, text),
+        NextLine::EventOf(position) => {
             take_event(alloc, schema, queries, text, position, stand, events, lasts)
         }
     }
 }
 
 /// Takes a line that is no event's, after so many events.
-fn take_words(stand: &mut Stand, count: u64, text: &[u8]) -> Result<(), OrMemory<CheckpointFault>>
+fn take_words(
+    stand: &mut LineState,
+    count: u64,
+    text: &[u8],
+) -> Result<(), OrMemory<CheckpointFault>>
     ensures told { OnOk result (words_after stand.old stand.old.awaited count text.now
         ≡ Ok stand.new) }
     ensures refused { OnFault result (λ fault.
@@ -168,7 +172,7 @@ fn take_event(
     queries: &[Query],
     text: &[u8],
     position: Pos,
-    stand: &mut Stand,
+    stand: &mut LineState,
     events: &mut Vec<EventAt>,
     lasts: &mut Vec<Option<i128>>,
 ) -> Result<(), OrMemory<CheckpointFault>>
@@ -187,7 +191,7 @@ fn take_event(
     match read_event(alloc, schema, text) {
         Ok(Some(event)) => {
             add_event(alloc, schema, queries, event, position, events, lasts)?;
-            stand.awaited = Awaited::Position;
+            stand.awaited = NextLine::Position;
             Ok(())
         }
         Ok(None) | Err(OrMemory::Fault(_)) => Err(OrMemory::Fault(CheckpointFault::BadEvent)),

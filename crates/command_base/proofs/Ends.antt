@@ -1,13 +1,13 @@
 -- How each exit of a command meets what is said of its end. For commands.
 use Rattle.std.proofs.Common.{◌≡◌, ℕ, inl, inr, List, [], ◌∷◌, Option, Some, None, refl, sym, ◌∙◌, subst, IsSomeAnd}
 use Rattle.ceql_grammar.specs.declared.faults.QueryFault.{QueryFault}
-use Rattle.cer_base.specs.declared.Place.{Place}
+use Rattle.cer_base.specs.declared.Location.{Location}
 use Rattle.cer_outside.specs.Causes.{Rose, AllStay, RoseAt}
 use Rattle.cer_outside.specs.Content.{Content, Holds, HasOpened, OfOpened}
-use Rattle.event_run.specs.Runs.{Stop}
+use Rattle.event_run.specs.Runs.{RunStop}
 use Rattle.event_run.specs.Runs as stop
-use Rattle.query_engine.specs.Engine.{State}
-use Rattle.stream_answers.specs.Ends.{Said}
+use Rattle.query_engine.specs.Engine.{EngineState}
+use Rattle.stream_answers.specs.RunEnds.{EndClaims}
 use Rattle.fault_notes.specs.declared.File.{File}
 use Rattle.fault_notes.specs.declared.File.TheVariants as file
 use Rattle.command_base.specs.declared.Cause.{Cause}
@@ -95,7 +95,7 @@ rose_later name old middle new stay rose = record {
 -- What is said of a task that ended before its last file was opened holds by these causes: nothing was written then, which the task's end where memory ran out allows.
 module _ {S H : Type 0} (sources : Sources S) (call : H → List ℕ → H → Type 0) (o : Outside) (t : Task) (first last : H) (nothing : o.after ≡ o.before) (wants : (t.said o.content o.before o.after).wants) where
   -- there were no queries
-  pub queries_ended : (given : Cause) (failed : Option S) (left : Option State) → o.out_new ≡ o.out_old → call first t.queries last →
+  pub queries_ended : (given : Cause) (failed : Option S) (left : Option EngineState) → o.out_new ≡ o.out_old → call first t.queries last →
       NotRead (QueriesStop sources (o.content t.queries) (o.old t.queries) (o.new t.queries)) t.queries o.old o.new given failed left → TaskEnded sources call o t first last given failed
   queries_ended (cause.OpenFault opened before after) failed left writes step stop =
       let P : File → Type 0 = λ f. TaskEnded sources call o t first last (cause.OpenFault f before after) failed in
@@ -171,10 +171,10 @@ module _ {S H : Type 0} (sources : Sources S) (call : H → List ℕ → H → T
   unopened_in_turn held (cause.Checkpoint line fault) failed stay turn writes all stops counts opening = absurd opening
 
 -- What is said over a source is what a task makes of its files.
-pub record Meets (o : Outside) (t : Task) (said : Said) : Type 1 where
+pub record Meets (o : Outside) (t : Task) (said : EndClaims) : Type 1 where
   pub files : HasFiles o.content t
-  pub stops : (halt : Stop) → said.stops halt → (text kept lines : List ℕ) → o.content t.queries ≡ Holds text → CheckpointHolds o.content t kept → o.content t.events ≡ Holds lines → TaskStops t text kept lines halt
-  pub wrote : (halt : Stop) → said.stops halt → (t.said o.content o.before o.after).stops halt
+  pub stops : (halt : RunStop) → said.stops halt → (text kept lines : List ℕ) → o.content t.queries ≡ Holds text → CheckpointHolds o.content t kept → o.content t.events ≡ Holds lines → TaskStops t text kept lines halt
+  pub wrote : (halt : RunStop) → said.stops halt → (t.said o.content o.before o.after).stops halt
   pub rest : (left : Option (List ℕ)) → said.unread left → IsRestOf (o.content t.events) left
   pub read : (left : Option (List ℕ)) → said.unread left → (t.said o.content o.before o.after).unread left
   pub part : said.unwritten → (t.said o.content o.before o.after).unwritten
@@ -190,7 +190,7 @@ failed_with sources whole Unread to (Some s) rest told read = record { told = to
 module _ {S H : Type 0} (sources : Sources S) (call : H → List ℕ → H → Type 0) (o : Outside) (t : Task) (first last : H) (held : List ℕ → ℕ)
     (stay : AllStay o.old held) (taken : OfOpened (o.content t.queries) (TakesText t)) (resumed : IsTakenUp o.content t) (all : (k : Cause) → AreOpened t k (files_to t file.Events) → OpensInTurn call o.content t k first last) where
   -- over a source of it
-  source_ended : (said : Said) (given : Cause) (failed : Option S) → Meets o t said → CountsWrites given o.out_old o.out_new → SourceStop sources said o.out_old o.out_new given failed → StopCounts given t.events held o.new →
+  source_ended : (said : EndClaims) (given : Cause) (failed : Option S) → Meets o t said → CountsWrites given o.out_old o.out_new → SourceStop sources said o.out_old o.out_new given failed → StopCounts given t.events held o.new →
       TaskEnded sources call o t first last given failed
   source_ended said cause.Fine failed meets writes ends counts = record {
     holds = record { none = ends.0; taken = taken; resumed = resumed; files = meets.files; stops = meets.stops stop.End ends.1 };
@@ -243,7 +243,7 @@ module _ {S H : Type 0} (sources : Sources S) (call : H → List ℕ → H → T
   source_ended said (cause.Checkpoint line fault) failed meets writes ends counts = absurd ends
 
   -- which was opened or not
-  pub file_ended : (said : Option (List ℕ) → Said) (whole : List ℕ → Content) (given : Cause) (failed : Option S) → ((name : List ℕ) → whole name ≡ o.content name) → ((source : Option (List ℕ)) → HasOpened (o.content t.events) source → Meets o t (said source)) →
+  pub file_ended : (said : Option (List ℕ) → EndClaims) (whole : List ℕ → Content) (given : Cause) (failed : Option S) → ((name : List ℕ) → whole name ≡ o.content name) → ((source : Option (List ℕ)) → HasOpened (o.content t.events) source → Meets o t (said source)) →
       (o.after ≡ o.before → (t.said o.content o.before o.after).wants) →
       FileStop sources said t.events (record o { content = whole; old = held }) given failed → TaskEnded sources call o t first last given failed
   file_ended said whole given failed same meets wants ends =
@@ -255,7 +255,7 @@ module _ {S H : Type 0} (sources : Sources S) (call : H → List ℕ → H → T
       ]
 
 -- of a task without a checkpoint
-pub two_files_ended : {S H : Type 0} (sources : Sources S) (call : H → List ℕ → H → Type 0) (o : Outside) (t : Task) (first middle last : H) (said : Option (List ℕ) → Said) (whole : List ℕ → Content) (held : List ℕ → ℕ) (given : Cause) (failed : Option S) → (HasCheckpoint t → ⊥) →
+pub two_files_ended : {S H : Type 0} (sources : Sources S) (call : H → List ℕ → H → Type 0) (o : Outside) (t : Task) (first middle last : H) (said : Option (List ℕ) → EndClaims) (whole : List ℕ → Content) (held : List ℕ → ℕ) (given : Cause) (failed : Option S) → (HasCheckpoint t → ⊥) →
     ((source : Option (List ℕ)) → HasOpened (o.content t.events) source → Meets o t (said source)) → (o.after ≡ o.before → (t.said o.content o.before o.after).wants) → ((name : List ℕ) → whole name ≡ o.content name) → AllStay o.old held → OfOpened (o.content t.queries) (TakesText t) →
     call first t.queries middle → call middle t.events last → FileStop sources said t.events (record o { content = whole; old = held }) given failed →
     TaskEnded sources call o t first last given failed
@@ -277,7 +277,7 @@ opening_writes (cause.ReadFault read to) old new same opening = same
 opening_writes (cause.WriteFault from to) old new same opening = absurd opening
 
 -- how a command ends over a file that was not opened
-pub file_unopened : {S : Type 0} (sources : Sources S) (said : Option (List ℕ) → Said) (name : List ℕ) (o : Outside) (given : Cause) (failed : Option S) (left : Option State) → o.after ≡ o.before → o.out_new ≡ o.out_old →
+pub file_unopened : {S : Type 0} (sources : Sources S) (said : Option (List ℕ) → EndClaims) (name : List ℕ) (o : Outside) (given : Cause) (failed : Option S) (left : Option EngineState) → o.after ≡ o.before → o.out_new ≡ o.out_old →
     NotRead (ReadingStops sources file.Events (o.content name) (o.old name) (o.new name)) name o.old o.new given failed left → IsOpening given → FileStop sources said name o given failed
 file_unopened sources said name o given failed left nothing same stop opening = record {
   way = inl (stop.stops, nothing, opening);
@@ -286,7 +286,7 @@ file_unopened sources said name o given failed left nothing same stop opening = 
 }
 
 -- the host's counts stay where the file was opened
-opened_counts : {S : Type 0} (sources : Sources S) (said : Said) (out_old out_new : ℕ) (name : List ℕ) (old new : List ℕ → ℕ) (given : Cause) (failed : Option S) → AllStay old new → SourceStop sources said out_old out_new given failed → StopCounts given name old new
+opened_counts : {S : Type 0} (sources : Sources S) (said : EndClaims) (out_old out_new : ℕ) (name : List ℕ) (old new : List ℕ → ℕ) (given : Cause) (failed : Option S) → AllStay old new → SourceStop sources said out_old out_new given failed → StopCounts given name old new
 opened_counts sources said out_old out_new name old new cause.Fine failed stay stops = stay
 opened_counts sources said out_old out_new name old new (cause.Event line fault) failed stay stops = stay
 opened_counts sources said out_old out_new name old new (cause.InputTooLong taken) failed stay stops = stay
@@ -300,7 +300,7 @@ opened_counts sources said out_old out_new name old new (cause.OpenFault opened 
 opened_counts sources said out_old out_new name old new (cause.Checkpoint line fault) failed stay stops = absurd stops
 
 -- and over one that was opened
-pub file_opened : {S : Type 0} (sources : Sources S) (said : Option (List ℕ) → Said) (source : Option (List ℕ)) (name : List ℕ) (o : Outside) (given : Cause) (failed : Option S) → HasOpened (o.content name) source → AllStay o.old o.new →
+pub file_opened : {S : Type 0} (sources : Sources S) (said : Option (List ℕ) → EndClaims) (source : Option (List ℕ)) (name : List ℕ) (o : Outside) (given : Cause) (failed : Option S) → HasOpened (o.content name) source → AllStay o.old o.new →
     SourceStop sources (said source) o.out_old o.out_new given failed → CountsWrites given o.out_old o.out_new → FileStop sources said name o given failed
 file_opened sources said source name o given failed opened stay stops writes = record {
   way = inr (source, opened, stops);
@@ -309,7 +309,7 @@ file_opened sources said source name o given failed opened stay stops writes = r
 }
 
 -- the engine that is left, by whether all was well
-pub left_by_end : (Leaves : Option State → Type 0) (given : Cause) (left : Option State) → (given ≡ cause.Fine → Leaves left) → ((given ≡ cause.Fine → ⊥) → left ≡ None) → IsLeftBy given Leaves left
+pub left_by_end : (Leaves : Option EngineState → Type 0) (given : Cause) (left : Option EngineState) → (given ≡ cause.Fine → Leaves left) → ((given ≡ cause.Fine → ⊥) → left ≡ None) → IsLeftBy given Leaves left
 left_by_end Leaves cause.Fine left fine other = fine refl
 left_by_end Leaves cause.Usage left fine other = other (λ e. cc)
 left_by_end Leaves (cause.Queries fault place) left fine other = other (λ e. cc)
@@ -323,7 +323,7 @@ left_by_end Leaves (cause.WriteFault from to) left fine other = other (λ e. cc)
 left_by_end Leaves cause.Memory left fine other = other (λ e. cc)
 
 -- a refused text stops a command
-pub queries_fault : {S : Type 0} (sources : Sources S) (whole : Content) (name : List ℕ) (old new : List ℕ → ℕ) (given : Cause) (failed : Option S) (left : Option State) (fault : QueryFault) (place : Place) → given ≡ cause.Queries fault place → failed ≡ None → left ≡ None → AllStay old new →
+pub queries_fault : {S : Type 0} (sources : Sources S) (whole : Content) (name : List ℕ) (old new : List ℕ → ℕ) (given : Cause) (failed : Option S) (left : Option EngineState) (fault : QueryFault) (place : Location) → given ≡ cause.Queries fault place → failed ≡ None → left ≡ None → AllStay old new →
     OfOpened whole (λ text. IsRefusedText text fault place) → NotRead (QueriesStop sources whole (old name) (new name)) name old new given failed left
 queries_fault sources whole name old new given failed left fault place same no_source no_engine stay refused =
     let P : Cause → Type 0 = λ k. NotRead (QueriesStop sources whole (old name) (new name)) name old new k failed left in

@@ -1,6 +1,6 @@
 -- What holds of each task, which its command proves, and what follows for every task. For commands and `core_top`.
 use Rattle.std.proofs.Common.{◌≡◌, ℕ, true, false, true≢false, List, map, Option, Some, sym, ◌∙◌, ap, subst}
-use Rattle.cer_base.specs.declared.Place.{Place}
+use Rattle.cer_base.specs.declared.Location.{Location}
 use Rattle.stream_schema.specs.Types.{Declared}
 use Rattle.cel_terms.specs.declared.Query.{Query}
 use Rattle.ceql_grammar.specs.declared.faults.QueryFault.{QueryFault}
@@ -8,7 +8,7 @@ use Rattle.ceql_grammar.specs.declared.faults.QueryError.{QueryError}
 use Rattle.ceql_parser.specs.QueryTrees.{QueryTree, query_tree}
 use Rattle.ceql_parser.proofs.TextAnswers.{one_text_answer}
 use Rattle.cer_outside.specs.Content.{Content, OfOpened}
-use Rattle.event_run.specs.Runs.{Stop, Event, InputTooLong}
+use Rattle.event_run.specs.Runs.{RunStop, Event, InputTooLong}
 use Rattle.event_reader.specs.declared.EventFault.{EventFault}
 use Rattle.checkpoint_text.specs.declared.CheckpointFault.{CheckpointFault}
 use Rattle.checkpoint_text.specs.Checkpoints.{Refusal, checkpoint_of}
@@ -23,18 +23,18 @@ use Rattle.command_base.specs.Notes.{NeedsMemory}
 
 -- Events stop in one way, for queries that say the same; where the events of a task ended, by a refused line or too many bytes, or nothing was written, that is also what may be where memory ran out.
 pub record IsLawful (t : Task) : Type 1 where
-  pub one : (schema : Declared) (p q : List Query) (kept lines : List ℕ) (halt other : Stop) → map query_tree p ≡ map query_tree q → t.stops schema p kept lines halt → t.stops schema q kept lines other → halt ≡ other
+  pub one : (schema : Declared) (p q : List Query) (kept lines : List ℕ) (halt other : RunStop) → map query_tree p ≡ map query_tree q → t.stops schema p kept lines halt → t.stops schema q kept lines other → halt ≡ other
   pub refused : (content : List ℕ → Content) (before after : Option (List ℕ)) (line : ℕ) (fault : EventFault) → (t.said content before after).stops (Event line fault) → (t.said content before after).wants
   pub too_long : (content : List ℕ → Content) (before after : Option (List ℕ)) (taken : ℕ) → (t.said content before after).stops (InputTooLong taken) → (t.said content before after).wants
   pub nothing : (content : List ℕ → Content) (before after : Option (List ℕ)) → after ≡ before → (t.said content before after).wants
 
 -- a text is not both accepted and refused
-pub not_both : (text : List ℕ) (fault : QueryFault) (place : Place) (schema : Declared) (queries : List Query) → Accepts text schema queries → IsRefusedText text fault place → ⊥
+pub not_both : (text : List ℕ) (fault : QueryFault) (place : Location) (schema : Declared) (queries : List Query) → Accepts text schema queries → IsRefusedText text fault place → ⊥
 not_both text fault place schema queries accepted refused =
     let same = one_text_answer text _ _ accepted refused in cc
 
 -- a text has one fault, at one place
-pub one_refusal : (text : List ℕ) (fault other : QueryFault) (place there : Place) → IsRefusedText text fault place → IsRefusedText text other there → cause.Queries fault place ≡ cause.Queries other there
+pub one_refusal : (text : List ℕ) (fault other : QueryFault) (place there : Location) → IsRefusedText text fault place → IsRefusedText text other there → cause.Queries fault place ≡ cause.Queries other there
 one_refusal text fault other place there refused again =
     let same = one_text_answer text _ _ refused again in
     let error : ◌≡◌ {A = QueryError} (record { fault = fault; place = place }) (record { fault = other; place = there }) = cc in
@@ -72,10 +72,10 @@ takes_or_lacks t text name taken lacks =
     true≢false (sym taken.says ∙ ap t.fits same ∙ lacks.1.says)
 
 -- nor one that is refused.
-pub takes_or_refuses : (t : Task) (text : List ℕ) (fault : QueryFault) (place : Place) → TakesText t text → IsRefusedText text fault place → ⊥
+pub takes_or_refuses : (t : Task) (text : List ℕ) (fault : QueryFault) (place : Location) → TakesText t text → IsRefusedText text fault place → ⊥
 takes_or_refuses t text fault place taken refused = not_both text fault place taken.schema taken.queries taken.accepted refused
 
-pub lacks_or_refuses : (t : Task) (text name : List ℕ) (fault : QueryFault) (place : Place) → LacksItsClock t text name → IsRefusedText text fault place → ⊥
+pub lacks_or_refuses : (t : Task) (text name : List ℕ) (fault : QueryFault) (place : Location) → LacksItsClock t text name → IsRefusedText text fault place → ⊥
 lacks_or_refuses t text name fault place lacks refused = not_both text fault place lacks.1.schema lacks.1.queries lacks.1.accepted refused
 
 -- The clock is one.
@@ -83,18 +83,18 @@ pub one_clock : (t : Task) (text name other : List ℕ) → LacksItsClock t text
 one_clock t text name other lacks again = (let one : Some name ≡ Some other = sym lacks.0 ∙ again.0 in cc)
 
 -- The events stop in one way,
-pub one_end : (t : Task) (law : IsLawful t) (text kept lines : List ℕ) (halt other : Stop) → TaskStops t text kept lines halt → TaskStops t text kept lines other → halt ≡ other
+pub one_end : (t : Task) (law : IsLawful t) (text kept lines : List ℕ) (halt other : RunStop) → TaskStops t text kept lines halt → TaskStops t text kept lines other → halt ≡ other
 one_end t law text kept lines halt other one two =
     let P : Declared → Type 0 = λ d. t.stops d two.queries kept lines other in
     let again = subst P (sym (accepted_schema text one.schema two.schema one.queries two.queries one.accepted two.accepted)) two.stops in
     law.one one.schema one.queries two.queries kept lines halt other (accepted_trees text one.schema two.schema one.queries two.queries one.accepted two.accepted) one.stops again
 
 -- only after a text that is taken
-pub taken_where_stopped : (t : Task) (text kept lines : List ℕ) (halt : Stop) → TaskStops t text kept lines halt → TakesText t text
+pub taken_where_stopped : (t : Task) (text kept lines : List ℕ) (halt : RunStop) → TaskStops t text kept lines halt → TakesText t text
 taken_where_stopped t text kept lines halt stops = record { schema = stops.schema; queries = stops.queries; accepted = stops.accepted; says = stops.fits }
 
 -- and a checkpoint that is taken.
-pub kept_where_stopped : (t : Task) (text kept lines : List ℕ) (halt : Stop) → TaskStops t text kept lines halt → TakesCheckpoint t text kept
+pub kept_where_stopped : (t : Task) (text kept lines : List ℕ) (halt : RunStop) → TaskStops t text kept lines halt → TakesCheckpoint t text kept
 kept_where_stopped t text kept lines halt stops = λ has. record { schema = stops.schema; queries = stops.queries; accepted = stops.accepted; says = stops.history has }
 
 -- A checkpoint is not both taken and refused,

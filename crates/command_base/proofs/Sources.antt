@@ -6,16 +6,16 @@ use Rattle.cer_base.specs.declared.OrMemory.TheVariants.{Fault, Memory}
 use Rattle.cer_outside.specs.Causes.{Rose}
 use Rattle.stream_answers.specs.declared.StreamFault.{StreamFault}
 use Rattle.stream_answers.specs.declared.StreamFault.TheVariants as fault
-use Rattle.stream_answers.specs.Ends.{Said, ByEnd, HasReadCause, HasWriteCause}
+use Rattle.stream_answers.specs.RunEnds.{EndClaims, ByEnd, HasReadCause, HasWriteCause}
 use Rattle.stream_answers.specs.Steps.{counts_said}
 use Rattle.command_base.specs.declared.Cause.TheVariants as cause
 use Rattle.command_base.specs.Causes.{CountsWrites}
 use Rattle.command_base.specs.Sources.{Sources}
 use Rattle.command_base.specs.Ending.{cause_of, failed_by, SourceStop}
-use Rattle.command_base.specs.Steps.{Counts, StepsBy, counts_where}
+use Rattle.command_base.specs.StepCounts.{Counts, StepsBy, counts_where}
 
 -- what was written, with the source that failed
-pub source_stops : {S T : Type 0} (sources : Sources S) (said : Said) (source : S) (first out_old out_new : ℕ) (end : Result T (OrMemory StreamFault)) → first ≡ 0 → ByEnd said (sources.left source) end →
+pub source_stops : {S T : Type 0} (sources : Sources S) (said : EndClaims) (source : S) (first out_old out_new : ℕ) (end : Result T (OrMemory StreamFault)) → first ≡ 0 → ByEnd said (sources.left source) end →
     HasReadCause first (sources.faults source) end → HasWriteCause out_old out_new end → SourceStop sources said out_old out_new (cause_of end out_old out_new (sources.faults source)) (failed_by end source)
 source_stops sources said source first out_old out_new (Ok done) none is read wrote = (refl, is)
 source_stops sources said source first out_old out_new (Err (Fault (fault.Event line refusal))) none is read wrote = (refl, is)

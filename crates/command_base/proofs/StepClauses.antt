@@ -3,19 +3,19 @@ use Rattle.std.proofs.Common.{◌≡◌, ℕ, inl, inr, List, Option, Some, refl
 use Rattle.stream_schema.specs.Types.{Declared}
 use Rattle.cel_terms.specs.declared.Query.{Query}
 use Rattle.cer_outside.specs.Content.{Content, Holds, HasOpened, OfOpened}
-use Rattle.event_run.specs.Runs.{Stop}
+use Rattle.event_run.specs.Runs.{RunStop}
 use Rattle.fault_notes.specs.declared.File.TheVariants as file
 use Rattle.command_base.specs.declared.Cause.{Cause}
 use Rattle.command_base.specs.declared.Cause.TheVariants as cause
 use Rattle.command_base.specs.Accepted.{Accepts}
 use Rattle.command_base.specs.Notes.{NeedsMemory}
-use Rattle.command_base.specs.Steps.{Counts, StepsBy, counts_where, counts_of_files}
+use Rattle.command_base.specs.StepCounts.{Counts, StepsBy, counts_where, counts_of_files}
 use Rattle.command_base.specs.Sources.{Sources}
 use Rattle.command_base.specs.Ending.{QueriesStop, IsOpening}
 use Rattle.command_base.proofs.Told.{source_told, text_told}
 
 -- what is counted one way is counted the other way
-pub steps_map : (one other : Counts) → ((Stops : Stop → Type 0) (Took : List ℕ → Type 0) (old now : ℕ) → one.all Stops Took old now → other.all Stops Took old now) →
+pub steps_map : (one other : Counts) → ((Stops : RunStop → Type 0) (Took : List ℕ → Type 0) (old now : ℕ) → one.all Stops Took old now → other.all Stops Took old now) →
     ((before after : Option (List ℕ)) (old now : ℕ) → one.at_fault before after old now → other.at_fault before after old now) → (given : Cause) (before after : Option (List ℕ)) (old now : ℕ) → StepsBy given one before after old now → StepsBy given other before after old now
 steps_map one other all at cause.Fine before after old now h = all _ _ old now h
 steps_map one other all at (cause.Event line fault) before after old now h = all _ _ old now h
@@ -122,7 +122,7 @@ steps_of_files counts content lines_of queries events schema qs given before aft
 
 -- Steps that are counted are counted whatever stop and output they are told with.
 pub record Forgets (counts : Counts) : Type 1 where
-  pub all : (Stops : Stop → Type 0) (Took : List ℕ → Type 0) (old now : ℕ) → counts.all Stops Took old now → counts.all (λ halt. Unit {0}) (λ bytes. Unit {0}) old now
+  pub all : (Stops : RunStop → Type 0) (Took : List ℕ → Type 0) (old now : ℕ) → counts.all Stops Took old now → counts.all (λ halt. Unit {0}) (λ bytes. Unit {0}) old now
 
 -- a note for which there was no memory: memory is the cause then
 pub steps_for_memory : (counts : Counts) → Forgets counts → (before after : Option (List ℕ)) (old now : ℕ) (told : Cause) → NeedsMemory told →

@@ -4,7 +4,7 @@ use Rattle.cer_outside.specs.Content.{Content, HasOpened, OfOpened}
 use Rattle.stream_schema.specs.Types.{Declared}
 use Rattle.stream_schema.specs.declared.Event.{Event}
 use Rattle.cel_terms.specs.declared.Query.{Query}
-use Rattle.event_run.specs.Runs.{Stop}
+use Rattle.event_run.specs.Runs.{RunStop}
 use Rattle.event_run.specs.Runs as stop
 use Rattle.event_run.specs.Taking.{AreEventsRead}
 use Rattle.stream_answers.specs.AtEnd.{StopsOver, TextOrStop}
@@ -13,14 +13,14 @@ use Rattle.command_base.specs.ReadLines.{AreReadLines, TookAtEnd}
 use Rattle.command_base.proofs.Told.{not_missing, text_not_missing, source_told, text_told, read_so_far}
 
 -- the text goes with a stop at the end
-pub whole_or_stop : (schema : Declared) (queries : List Query) (most_bytes : ℕ) (source before after : Option (List ℕ)) (Tells : List ℕ → Type 0) (halt : Stop) → ((text : List ℕ) → Tells text → StopsOver schema queries most_bytes source stop.End) →
+pub whole_or_stop : (schema : Declared) (queries : List Query) (most_bytes : ℕ) (source before after : Option (List ℕ)) (Tells : List ℕ → Type 0) (halt : RunStop) → ((text : List ℕ) → Tells text → StopsOver schema queries most_bytes source stop.End) →
     TextOrStop Tells (StopsOver schema queries most_bytes source) before after halt → StopsOver schema queries most_bytes source halt
 whole_or_stop schema queries most_bytes source before after Tells stop.End ends wrote = ends wrote.0 wrote.1
 whole_or_stop schema queries most_bytes source before after Tells (stop.Event line fault) ends wrote = wrote.1
 whole_or_stop schema queries most_bytes source before after Tells (stop.InputTooLong taken) ends wrote = wrote.1
 
 -- where the text that is told is of the files, that is what was taken
-pub took_at_end : (Tells Are : List ℕ → Type 0) (Stops : Stop → Type 0) (before after : Option (List ℕ)) (halt : Stop) → ((text : List ℕ) → Tells text → Are text) → TextOrStop Tells Stops before after halt → TookAtEnd Are before after halt
+pub took_at_end : (Tells Are : List ℕ → Type 0) (Stops : RunStop → Type 0) (before after : Option (List ℕ)) (halt : RunStop) → ((text : List ℕ) → Tells text → Are text) → TextOrStop Tells Stops before after halt → TookAtEnd Are before after halt
 took_at_end Tells Are Stops before after stop.End too wrote = (wrote.0, too wrote.0 wrote.1, wrote.2)
 took_at_end Tells Are Stops before after (stop.Event line fault) too wrote = wrote.0
 took_at_end Tells Are Stops before after (stop.InputTooLong taken) too wrote = wrote.0

@@ -1,6 +1,6 @@
 -- What a query text declares and asks, or why it is refused.
 use Rattle.std.specs.Prelude.{List, map, Ok, Err, ℕ}
-use Rattle.cer_base.specs.declared.Place.{Place}
+use Rattle.cer_base.specs.declared.Location.{Location}
 use Rattle.stream_schema.specs.Types.{Declared}
 use Rattle.cel_terms.specs.declared.Query.{Query}
 use Rattle.ceql_grammar.specs.declared.faults.QueryFault.{QueryFault}
@@ -12,7 +12,7 @@ abbrev pub Accepts : List ℕ → Declared → List Query → Type 0
 Accepts text schema queries = IsAnswerOfText text (Ok (schema, map query_tree queries))
 
 -- this is the text's first fault, at this place
-abbrev pub IsRefusedText : List ℕ → QueryFault → Place → Type 0
+abbrev pub IsRefusedText : List ℕ → QueryFault → Location → Type 0
 IsRefusedText text fault place = IsAnswerOfText text (Err (record { fault = fault; place = place }))
 
 -- The text is accepted, and this is said of its schema and its queries.

@@ -4,12 +4,12 @@ use Rattle.cer_base.specs.declared.OrMemory.{OrMemory}
 use Rattle.cer_base.specs.declared.OrMemory.TheVariants.{Fault, Memory}
 use Rattle.cer_outside.specs.Causes.{Rose, AllStay, RoseAt}
 use Rattle.cer_outside.specs.Content.{Content, Missing, Holds, HasOpened, OfOpened}
-use Rattle.query_engine.specs.Engine.{State}
-use Rattle.event_run.specs.Runs.{Stop}
+use Rattle.query_engine.specs.Engine.{EngineState}
+use Rattle.event_run.specs.Runs.{RunStop}
 use Rattle.event_run.specs.Runs as stop
 use Rattle.stream_answers.specs.declared.StreamFault.{StreamFault}
 use Rattle.stream_answers.specs.declared.StreamFault.TheVariants as fault
-use Rattle.stream_answers.specs.Ends.{Said}
+use Rattle.stream_answers.specs.RunEnds.{EndClaims}
 use Rattle.checkpoint_text.specs.declared.CheckpointFault.{CheckpointFault}
 use Rattle.fault_notes.specs.declared.File.{File}
 use Rattle.fault_notes.specs.declared.File.TheVariants as file
@@ -64,7 +64,7 @@ StopCounts (cause.OpenFault opened before after) name old new = RoseAt name old 
 StopCounts _ name old new = AllStay old new
 
 -- Why something was not read of the file of this name: no engine is left.
-pub record NotRead {S : Type 0} (Stops : Cause → Option S → Type 0) (name : List ℕ) (old new : List ℕ → ℕ) (given : Cause) (failed : Option S) (left : Option State) : Type 0 where
+pub record NotRead {S : Type 0} (Stops : Cause → Option S → Type 0) (name : List ℕ) (old new : List ℕ → ℕ) (given : Cause) (failed : Option S) (left : Option EngineState) : Type 0 where
   pub stops : Stops given failed
   pub counts : StopCounts given name old new
   pub none : left ≡ None
@@ -97,7 +97,7 @@ failed_by (Err (Fault fault.ReadFault)) source = Some source
 failed_by _ source = None
 
 -- What is said holds by the cause; the source that failed is handed back, and the counts rose where the cause tells it.
-abbrev pub SourceStop : {S : Type 0} → Sources S → Said → ℕ → ℕ → Cause → Option S → Type 0
+abbrev pub SourceStop : {S : Type 0} → Sources S → EndClaims → ℕ → ℕ → Cause → Option S → Type 0
 SourceStop sources said out_old out_new cause.Fine failed = (failed ≡ None) × said.stops stop.End
 SourceStop sources said out_old out_new (cause.Event line fault) failed = (failed ≡ None) × said.stops (stop.Event line fault)
 SourceStop sources said out_old out_new (cause.InputTooLong taken) failed = (failed ≡ None) × said.stops (stop.InputTooLong taken)
@@ -107,14 +107,14 @@ SourceStop sources said out_old out_new cause.Memory failed = (failed ≡ None) 
 SourceStop sources said out_old out_new _ failed = ⊥
 
 -- How a command ended over its last file: that was not opened, and nothing was written, or it ended so over what was left in it.
-pub record FileStop {S : Type 0} (sources : Sources S) (said : Option (List ℕ) → Said) (name : List ℕ) (o : Outside) (given : Cause) (failed : Option S) : Type 0 where
+pub record FileStop {S : Type 0} (sources : Sources S) (said : Option (List ℕ) → EndClaims) (name : List ℕ) (o : Outside) (given : Cause) (failed : Option S) : Type 0 where
   pub way : (ReadingStops sources file.Events (o.content name) (o.old name) (o.new name) given failed × (o.after ≡ o.before) × IsOpening given)
       ⊎ ((source : Option (List ℕ)) × HasOpened (o.content name) source × SourceStop sources (said source) o.out_old o.out_new given failed)
   pub counts : StopCounts given name o.old o.new
   pub writes : CountsWrites given o.out_old o.out_new
 
 -- The task went on to its events, and where the host tells its files they stop so.
-pub record HasStopped {S : Type 0} (o : Outside) (t : Task) (stop : Stop) (failed : Option S) : Type 0 where
+pub record HasStopped {S : Type 0} (o : Outside) (t : Task) (stop : RunStop) (failed : Option S) : Type 0 where
   pub none : failed ≡ None
   pub taken : OfOpened (o.content t.queries) (TakesText t)
   pub resumed : IsTakenUp o.content t

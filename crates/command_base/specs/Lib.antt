@@ -6,7 +6,7 @@ pub mod Tasks
 pub mod Causes
 pub mod Opening
 pub mod Output
-pub mod Steps
+pub mod StepCounts
 pub mod Leaving
 pub mod Notes
 pub mod Ending

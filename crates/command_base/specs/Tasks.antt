@@ -3,12 +3,12 @@ use Rattle.std.specs.Prelude.{◌≡◌, ◌≢◌, ℕ, Bool, true, false, List
 use Rattle.cer_outside.specs.Content.{Content, Missing, Holds, OfOpened}
 use Rattle.stream_schema.specs.Types.{Declared}
 use Rattle.cel_terms.specs.declared.Query.{Query}
-use Rattle.event_run.specs.Runs.{Stop}
-use Rattle.stream_answers.specs.Ends.{Said}
+use Rattle.event_run.specs.Runs.{RunStop}
+use Rattle.stream_answers.specs.RunEnds.{EndClaims}
 use Rattle.checkpoint_text.specs.declared.CheckpointFault.{CheckpointFault}
 use Rattle.checkpoint_text.specs.declared.history.History.{History}
 use Rattle.checkpoint_text.specs.Checkpoints.{checkpoint_of}
-use Rattle.checkpoint_text.specs.Reading.{AreGoodRead}
+use Rattle.checkpoint_text.specs.ReaderAnswers.{AreGoodRead}
 use Rattle.fault_notes.specs.declared.File.{File}
 use Rattle.fault_notes.specs.declared.File.TheVariants as file
 use Rattle.command_base.specs.Accepted.{Accepts, SaysOf}
@@ -20,8 +20,8 @@ pub record Task : Type 1 where
   pub events : List ℕ
   pub clock : Option (List ℕ)
   pub fits : Declared → Bool
-  pub stops : Declared → List Query → List ℕ → List ℕ → Stop → Type 0
-  pub said : (List ℕ → Content) → Option (List ℕ) → Option (List ℕ) → Said
+  pub stops : Declared → List Query → List ℕ → List ℕ → RunStop → Type 0
+  pub said : (List ℕ → Content) → Option (List ℕ) → Option (List ℕ) → EndClaims
 
 -- a name is given
 abbrev pub IsGiven : Option (List ℕ) → Type 0
@@ -74,7 +74,7 @@ abbrev pub RefusesCheckpoint : Task → List ℕ → List ℕ → ℕ → Checkp
 RefusesCheckpoint t text kept line fault = HasCheckpoint t × SaysOf text (λ schema queries. (t.fits schema ≡ true) × (checkpoint_of schema queries kept ≡ Err (record { line = line; fault = fault })))
 
 -- The task takes the text and the checkpoint, and the events that it reads, or the commands of its script, stop so.
-pub record TaskStops (t : Task) (text kept lines : List ℕ) (stop : Stop) : Type 0 where
+pub record TaskStops (t : Task) (text kept lines : List ℕ) (stop : RunStop) : Type 0 where
   pub schema : Declared
   pub queries : List Query
   pub accepted : Accepts text schema queries

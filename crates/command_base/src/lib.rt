@@ -10,7 +10,7 @@
 #![tactic(auto)]
 
 use ceql_parser::QueryFault;
-use cer_base::{Place, Text};
+use cer_base::{Location, Text};
 use checkpoint_text::CheckpointFault;
 use event_reader::EventFault;
 pub use fault_notes::File;
@@ -30,7 +30,7 @@ pub enum Cause {
     /// The words ask for nothing that the program does: status 2.
     Usage,
     /// The query text was refused, at this place: status 3.
-    Queries { fault: QueryFault, place: Place },
+    Queries { fault: QueryFault, place: Location },
     /// The clock of a run over late events is not a whole number in each declared type of the query
     /// text, which was accepted: status 3.
     ClockKind { name: Text },

@@ -3,11 +3,11 @@ use Rattle.std.proofs.Common.{◌≡◌, ℕ, inl, inr, List, Option, Some, None
 use Rattle.cer_outside.specs.Causes.{AllStay}
 use Rattle.cer_outside.specs.Content.{Content, Untold, Missing, Holds, HasOpened, OfOpened}
 use Rattle.cer_outside.specs.Bytes.{TookPart}
-use Rattle.answer_blocks.specs.Taken.{TookPrefix}
+use Rattle.answer_blocks.specs.SinkBytes.{TookPrefix}
 use Rattle.stream_schema.specs.Types.{Declared}
 use Rattle.stream_schema.specs.declared.Event.{Event}
 use Rattle.cel_terms.specs.declared.Query.{Query}
-use Rattle.event_run.specs.Runs.{Stop}
+use Rattle.event_run.specs.Runs.{RunStop}
 use Rattle.event_run.specs.Taking.{AreEventsReadAfter}
 use Rattle.checkpoint_text.specs.declared.history.History.{History}
 use Rattle.checkpoint_text.specs.Checkpoints.{checkpoint_of}
@@ -84,7 +84,7 @@ over_history content r schema queries history source Says accepted told opened s
 }
 
 -- all answers, those over what was read, and a part of them
-abbrev All : ResumeWords → Stop → Option (List ℕ) → Option (List ℕ) → Declared → List Query → List Event → Option (List ℕ) → Type 0
+abbrev All : ResumeWords → RunStop → Option (List ℕ) → Option (List ℕ) → Declared → List Query → List Event → Option (List ℕ) → Type 0
 All r was before after schema queries earlier source = WroteAllAfter earlier (resume_asked_of r schema queries) source was before after
 
 abbrev Read : ResumeWords → Option (List ℕ) → Option (List ℕ) → Option (List ℕ) → Declared → List Query → List Event → Option (List ℕ) → Type 0

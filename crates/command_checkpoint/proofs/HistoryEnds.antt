@@ -4,8 +4,8 @@ use Rattle.cer_outside.specs.Causes.{Rose, AllStay}
 use Rattle.cer_outside.specs.Content.{Content, Untold, Missing, Holds, HasOpened, OfOpened}
 use Rattle.stream_schema.specs.Types.{Declared}
 use Rattle.cel_terms.specs.declared.Query.{Query}
-use Rattle.query_engine.specs.Engine.{State}
-use Rattle.checkpoint_text.specs.Reading.{AreGoodRead}
+use Rattle.query_engine.specs.Engine.{EngineState}
+use Rattle.checkpoint_text.specs.ReaderAnswers.{AreGoodRead}
 use Rattle.fault_notes.specs.declared.File.{File}
 use Rattle.fault_notes.specs.declared.File.TheVariants as file
 use Rattle.command_words.specs.declared.ResumeWords.{ResumeWords}
@@ -135,7 +135,7 @@ module _ {S H : Type 0} (sources : Sources S) (call : H → List ℕ → H → T
   no_history held source (cause.WriteFault from to) failed stay opened stops counts = absurd stops
 
   -- either
-  pub history_ended : (held : List ℕ → ℕ) (whole : Content) (given : Cause) (failed : Option S) (left : Option State) → whole ≡ o.content r.checkpoint → AllStay o.old held →
+  pub history_ended : (held : List ℕ → ℕ) (whole : Content) (given : Cause) (failed : Option S) (left : Option EngineState) → whole ≡ o.content r.checkpoint → AllStay o.old held →
       NotRead (HistoryStop sources schema queries whole (held r.checkpoint) (o.new r.checkpoint)) r.checkpoint held o.new given failed left → TaskEnded sources call o (resume_task r) first last given failed
   history_ended held whole given failed left kept stay stop =
       elim stop.stops.way [

@@ -15,7 +15,7 @@ use Rattle.event_reader.specs.declared.LineFault.{LineFault}
 use Rattle.event_reader.specs.declared.LineFault.TheVariants as line
 use Rattle.event_reader.specs.Events.{event_of_line}
 use Rattle.event_reader.specs.Lines.{FileLines, file_lines}
-use Rattle.event_reader.specs.Reading.{LineReader, HasRead, HasGiven, Follows}
+use Rattle.event_reader.specs.LineReaders.{LineReader, HasRead, HasGiven, Follows}
 use Rattle.event_run.specs.declared.RunFault.{RunFault}
 use Rattle.event_run.specs.declared.RunFault.TheVariants as run
 use Rattle.event_run.specs.Runs.{RunsTo, StopsInTime, AreEventsOf}
@@ -30,8 +30,8 @@ use Rattle.checkpoint_text.specs.KeepLaws.{empty_keeper, KeepersKeep}
 use Rattle.checkpoint_text.specs.Streams.{stream_of}
 use Rattle.checkpoint_text.proofs.CameKeepers.{Keeps, none_kept, one_kept, one_level, one_falls, stream_more, all_of_schema}
 use Rattle.stream_answers.specs.Gathering.{stream_fault}
-use Rattle.stream_answers.specs.Streams.{EventsAsked}
-use Rattle.command_checkpoint.specs.Saved.{came_of, came_in, IsCheckpointOf, Wrote}
+use Rattle.stream_answers.specs.Streams.{EventsRequest}
+use Rattle.command_checkpoint.specs.Saved.{came_of, came_in, IsCheckpointOf, WroteCheckpoint}
 use Rattle.command_checkpoint.specs.Lines.{AddsLine, StopsLine, HasKept, HasKeptAll}
 
 -- the events with one line more
@@ -183,8 +183,8 @@ stays schema text old new (inr some) =
     record { schema = ap (λ (k : Keeper). k.schema) is; queries = ap (λ (k : Keeper). k.queries) is; one_more = omega (arith, count) }
 
 -- the events were not read to their end, so nothing was written
-pub wrote_none : (T U : Type 0) (a : EventsAsked) (source left taken : Option (List ℕ)) (stop : OrMemory RunFault) →
-    OnFault {T = T} (Err stop) (λ fault. (bytes : List ℕ) → source ≡ Some bytes → StopsBy a.schema a.queries a.most_bytes bytes left fault) → Wrote a source left taken taken {T = U} (Err (stream_fault stop))
+pub wrote_none : (T U : Type 0) (a : EventsRequest) (source left taken : Option (List ℕ)) (stop : OrMemory RunFault) →
+    OnFault {T = T} (Err stop) (λ fault. (bytes : List ℕ) → source ≡ Some bytes → StopsBy a.schema a.queries a.most_bytes bytes left fault) → WroteCheckpoint a source left taken taken {T = U} (Err (stream_fault stop))
 wrote_none T U a source left taken Memory stops = refl
 wrote_none T U a source left taken (Fault run.ReadFault) stops = (refl, stops)
 wrote_none T U a source left taken (Fault (run.Event line refusal)) stops = (refl, stops)
@@ -209,7 +209,7 @@ module _ (schema : Declared) (queries : List Query) (most_bytes : ℕ) (reader :
 
   -- the events stopped
   pub stopped : (T U : Type 0) (left taken : Option (List ℕ)) (stop : OrMemory RunFault) → OnFault {T = T} (Err stop) (λ fault. (bytes : List ℕ) → HasKept schema keeper.queries reader bytes source keeper → StopsBy schema keeper.queries reader.budget bytes left fault) →
-      Wrote (record { schema = schema; queries = queries; most_bytes = most_bytes }) source left taken taken {T = U} (Err (stream_fault stop))
+      WroteCheckpoint (record { schema = schema; queries = queries; most_bytes = most_bytes }) source left taken taken {T = U} (Err (stream_fault stop))
   stopped T U left taken Memory stops = refl
   stopped T U left taken (Fault fault) stops =
       wrote_none T U (record { schema = schema; queries = queries; most_bytes = most_bytes }) source left taken (Fault fault) (

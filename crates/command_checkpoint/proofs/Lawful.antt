@@ -1,12 +1,12 @@
 -- What holds of a command that saves, and of a run that goes on from a checkpoint, as tasks. For `core_top`.
 use Rattle.std.proofs.Common.{◌≡◌, ℕ, inl, inr, List, map, Option, Ok, sym, ◌∙◌, subst}
 use Rattle.cer_outside.specs.Content.{Content}
-use Rattle.answer_blocks.specs.Taken.{TookPrefix}
+use Rattle.answer_blocks.specs.SinkBytes.{TookPrefix}
 use Rattle.stream_schema.specs.Types.{Declared}
 use Rattle.stream_schema.specs.declared.Event.{Event as StreamEvent}
 use Rattle.cel_terms.specs.declared.Query.{Query}
 use Rattle.ceql_parser.specs.QueryTrees.{query_tree}
-use Rattle.event_run.specs.Runs.{Stop, Event, InputTooLong, RunsAfter}
+use Rattle.event_run.specs.Runs.{RunStop, Event, InputTooLong, RunsAfter}
 use Rattle.event_run.proofs.ForCallers.{one_run_of_trees}
 use Rattle.checkpoint_text.specs.declared.history.History.{History}
 use Rattle.stream_answers.proofs.Portions.{prefix_of_all}
@@ -19,7 +19,7 @@ use Rattle.command_checkpoint.specs.declared.saving.TheConstants.{MOST_BYTES}
 use Rattle.command_checkpoint.specs.Resumed.{AfterEach}
 use Rattle.command_checkpoint.specs.Saving.{save_task}
 use Rattle.command_checkpoint.specs.GoingOn.{WroteAllResumed, WrotePartResumed, resume_task}
-use Rattle.command_checkpoint.specs.Counted.{resume_steps}
+use Rattle.command_checkpoint.specs.StepCounts.{resume_steps}
 use Rattle.command_checkpoint.proofs.OneStream.{one_stop_after}
 
 pub save_is_lawful : (s : SaveWords) → IsLawful (save_task s)
@@ -31,7 +31,7 @@ save_is_lawful s = record {
 }
 
 -- all answers are a first part of them
-some_part : (content : List ℕ → Content) (r : ResumeWords) (halt : Stop) (before after : Option (List ℕ)) → WroteAllResumed content r halt before after → WrotePartResumed content r (TookPrefix before after)
+some_part : (content : List ℕ → Content) (r : ResumeWords) (halt : RunStop) (before after : Option (List ℕ)) → WroteAllResumed content r halt before after → WrotePartResumed content r (TookPrefix before after)
 some_part content r halt before after wrote = record {
   has_queries = wrote.has_queries;
   has_checkpoint = wrote.has_checkpoint;
@@ -53,7 +53,7 @@ some_part content r halt before after wrote = record {
 }
 
 -- what a checkpoint tells is one history, and the events after it stop in one way
-one_stop : (r : ResumeWords) (schema : Declared) (p q : List Query) (kept lines : List ℕ) (halt other : Stop) → map query_tree p ≡ map query_tree q → (resume_task r).stops schema p kept lines halt → (resume_task r).stops schema q kept lines other → halt ≡ other
+one_stop : (r : ResumeWords) (schema : Declared) (p q : List Query) (kept lines : List ℕ) (halt other : RunStop) → map query_tree p ≡ map query_tree q → (resume_task r).stops schema p kept lines halt → (resume_task r).stops schema q kept lines other → halt ≡ other
 one_stop r schema p q kept lines halt other same one two =
     let answers : Ok one.0 ≡ Ok two.0 = sym one.1 ∙ checkpoint_alike schema p q same kept ∙ two.1 in
     let histories : one.0 ≡ two.0 = cc in

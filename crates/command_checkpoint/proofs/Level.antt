@@ -13,7 +13,7 @@ use Rattle.event_reader.specs.Events.{event_of_line}
 use Rattle.event_reader.specs.Lines.{file_lines}
 use Rattle.event_reader.proofs.OfSchema.{read_is}
 use Rattle.query_engine.specs.Clocks.{NeverFalls, NoneFallsBack}
-use Rattle.event_run.specs.Runs.{Stop, AfterLine, RunsOn, RunsTo}
+use Rattle.event_run.specs.Runs.{RunStop, AfterLine, RunsOn, RunsTo}
 use Rattle.checkpoint_text.proofs.NeverFalling.{IsLevel, none_level, grown_level}
 
 at_place : {A : Type 0} (P : A → Type 0) (xs : List A) (k : ℕ) (x : A) → All P xs → slice_get xs k ≡ Some x → P x
@@ -37,7 +37,7 @@ one_more schema queries events next well checked are of none = record {
   level = λ k q at. grown_level schema q events next (are.level k q at) well (at_place (IsChecked schema) queries k q checked at) of (λ before now falls. none k q before now at falls);
 }
 
-lines_level : (schema : Declared) (queries : List Query) → IsWellDeclared schema → All (IsChecked schema) queries → (number : ℕ) (before : List Event) (texts : List (List ℕ)) (fault : Option LineFault) (events : List Event) (stop : Stop) →
+lines_level : (schema : Declared) (queries : List Query) → IsWellDeclared schema → All (IsChecked schema) queries → (number : ℕ) (before : List Event) (texts : List (List ℕ)) (fault : Option LineFault) (events : List Event) (stop : RunStop) →
     AreLevel schema queries before → RunsOn schema queries number before texts fault events stop → AreLevel schema queries events
 lines_level schema queries well checked number before [] fault events stop are run = subst (AreLevel schema queries) (sym run.0) are
 lines_level schema queries well checked number before (text ∷ texts) fault events stop are run =
@@ -54,7 +54,7 @@ lines_level schema queries well checked number before (text ∷ texts) fault eve
     over (Ok (Some next)) is (inr stops) skip take = subst (AreLevel schema queries) (sym stops.0) are
     over (Err refusal) is after skip take = subst (AreLevel schema queries) (sym after.0) are
 
-pub runs_never_fall : (schema : Declared) (queries : List Query) (most_bytes : ℕ) (bytes : List ℕ) (events : List Event) (stop : Stop) → IsWellDeclared schema → All (IsChecked schema) queries → RunsTo schema queries most_bytes bytes events stop →
+pub runs_never_fall : (schema : Declared) (queries : List Query) (most_bytes : ℕ) (bytes : List ℕ) (events : List Event) (stop : RunStop) → IsWellDeclared schema → All (IsChecked schema) queries → RunsTo schema queries most_bytes bytes events stop →
     All (IsOfSchema schema) events × All (λ q. NeverFalls schema q events) queries
 runs_never_fall schema queries most_bytes bytes events stop well checked run =
     let are = lines_level schema queries well checked 1 [] (file_lines most_bytes bytes).texts (file_lines most_bytes bytes).fault events stop (none_are schema queries) run in

@@ -7,7 +7,7 @@ use Rattle.cel_terms.specs.declared.Query.{Query}
 use Rattle.ceql_parser.specs.QueryTrees.{query_tree}
 use Rattle.query_engine.proofs.Skipped.{blanks_between, some_blanks}
 use Rattle.event_reader.specs.Lines.{file_lines}
-use Rattle.event_run.specs.Runs.{Stop, RunsAfter}
+use Rattle.event_run.specs.Runs.{RunStop, RunsAfter}
 use Rattle.event_run.proofs.ForCallers.{one_run_after_of_trees}
 use Rattle.checkpoint_text.specs.declared.history.EventAt.{EventAt}
 use Rattle.checkpoint_text.specs.declared.history.History.{History}
@@ -46,7 +46,7 @@ is_stream schema queries history is = is_filled schema 0 history.positions histo
 told_history : (schema : Declared) (queries : List Query) (kept : List ℕ) (history : History) → checkpoint_of schema queries kept ≡ Ok history → IsHistory schema queries history
 told_history schema queries kept history told = (spelled schema queries (file_lines MOST_BYTES kept) history told).1.is
 
-pub one_stop_after : (schema : Declared) (ps qs : List Query) (history : History) (most : ℕ) (kept lines : List ℕ) (s t : Stop) → map query_tree ps ≡ map query_tree qs → checkpoint_of schema ps kept ≡ Ok history →
+pub one_stop_after : (schema : Declared) (ps qs : List Query) (history : History) (most : ℕ) (kept lines : List ℕ) (s t : RunStop) → map query_tree ps ≡ map query_tree qs → checkpoint_of schema ps kept ≡ Ok history →
     AfterEach schema history (λ earlier. (events : List Event) × RunsAfter earlier schema ps most lines events s) → AfterEach schema history (λ earlier. (events : List Event) × RunsAfter earlier schema qs most lines events t) → s ≡ t
 one_stop_after schema ps qs history most kept lines s t same told one other =
     let stream = stream_for schema history in

@@ -6,7 +6,7 @@ use Rattle.cer_base.specs.declared.OrMemory.TheVariants.{Fault, Memory}
 use Rattle.stream_schema.specs.Types.{Declared}
 use Rattle.stream_schema.specs.declared.Event.{Event}
 use Rattle.cel_terms.specs.declared.Query.{Query}
-use Rattle.query_engine.specs.Engine.{State, SameQueries}
+use Rattle.query_engine.specs.Engine.{EngineState, SameQueries}
 use Rattle.query_engine.specs.Peaks.{PeaksFollow}
 use Rattle.checkpoint_text.specs.declared.history.History.{History}
 use Rattle.checkpoint_text.specs.Replaying.{Replayed}
@@ -14,16 +14,16 @@ use Rattle.checkpoint_text.specs.Streams.{IsStreamOf}
 use Rattle.stream_answers.specs.declared.RunOptions.{RunOptions}
 use Rattle.stream_answers.specs.declared.StreamFault.{StreamFault}
 use Rattle.stream_answers.specs.declared.StreamFault.TheVariants as fault
-use Rattle.stream_answers.specs.Ends.{Said, ByEnd}
+use Rattle.stream_answers.specs.RunEnds.{EndClaims, ByEnd}
 use Rattle.stream_answers.specs.Schedules.{Timing}
 use Rattle.stream_answers.specs.Steps.{AreBoundedBy, AreOfEvents, StepsOverAfter}
-use Rattle.stream_answers.specs.Streams.{Asked, asked_by, WroteStreamAfter, StandsForAllAfter}
+use Rattle.stream_answers.specs.Streams.{RunRequest, asked_by, WroteStreamAfter, StandsForAllAfter}
 use Rattle.stream_answers.specs.Windows.{FollowsEvents}
 use Rattle.stream_answers.proofs.Growing.{pace_least}
 use Rattle.command_checkpoint.specs.Resumed.{timing_after, each_said}
 
 -- the engine follows each stream that the history tells
-pub follows : (peaks : ℕ → ℕ) (schema : Declared) (history : History) (engine : State) → Replayed schema history.events history.positions engine → ((stream : List Event) → IsStreamOf schema history stream → PeaksFollow peaks engine stream) →
+pub follows : (peaks : ℕ → ℕ) (schema : Declared) (history : History) (engine : EngineState) → Replayed schema history.events history.positions engine → ((stream : List Event) → IsStreamOf schema history stream → PeaksFollow peaks engine stream) →
     (earlier : List Event) → IsStreamOf schema history earlier → FollowsEvents peaks engine earlier
 follows peaks schema history engine replayed peaks_are earlier is = record { stands = replayed.stands earlier is; dense = replayed.dense earlier is; peaks_are = peaks_are earlier is }
 
@@ -36,10 +36,10 @@ paid every schema queries earlier begun now steps = λ most meet. (
     )
 
 -- what is asked, by the schema and the queries of an engine
-abbrev asked_of : RunOptions → Declared → List Query → Asked
+abbrev asked_of : RunOptions → Declared → List Query → RunRequest
 asked_of options schema queries = record { order = options.order; schema = schema; queries = queries; most_bytes = options.most_bytes }
 
-module _ (options : RunOptions) (old new : State) (same : SameQueries old new) (earlier : List Event) where
+module _ (options : RunOptions) (old new : EngineState) (same : SameQueries old new) (earlier : List Event) where
   -- the same is asked where the engine's schema and queries have another name
   asked_same : asked_by options new ≡ asked_by options old
   asked_same =
@@ -52,18 +52,18 @@ module _ (options : RunOptions) (old new : State) (same : SameQueries old new) (
 
   pub wrote_as : {T : Type 0} (source left before after : Option (List ℕ)) (result : Result T (OrMemory StreamFault)) →
       WroteStreamAfter earlier (asked_by options new) source left before after result → WroteStreamAfter earlier (asked_by options old) source left before after result
-  wrote_as source left before after result wrote = subst (λ (a : Asked). WroteStreamAfter earlier a source left before after result) asked_same wrote
+  wrote_as source left before after result wrote = subst (λ (a : RunRequest). WroteStreamAfter earlier a source left before after result) asked_same wrote
 
   pub steps_as : {T : Type 0} (timing : Timing) (bytes : List ℕ) (before after : Option (List ℕ)) (begun now : ℕ) (result : Result T (OrMemory StreamFault)) →
       StepsOverAfter timing earlier (asked_by options new) bytes before after begun now result → StepsOverAfter timing earlier (asked_by options old) bytes before after begun now result
-  steps_as timing bytes before after begun now result steps = subst (λ (a : Asked). StepsOverAfter timing earlier a bytes before after begun now result) asked_same steps
+  steps_as timing bytes before after begun now result steps = subst (λ (a : RunRequest). StepsOverAfter timing earlier a bytes before after begun now result) asked_same steps
 
-  pub stands_as : (timing : Timing) (peaks : ℕ → ℕ) (bytes : List ℕ) (engine : State) →
+  pub stands_as : (timing : Timing) (peaks : ℕ → ℕ) (bytes : List ℕ) (engine : EngineState) →
       StandsForAllAfter timing peaks earlier (asked_by options new) bytes engine → StandsForAllAfter timing peaks earlier (asked_by options old) bytes engine
-  stands_as timing peaks bytes engine stands = subst (λ (a : Asked). StandsForAllAfter timing peaks earlier a bytes engine) asked_same stands
+  stands_as timing peaks bytes engine stands = subst (λ (a : RunRequest). StandsForAllAfter timing peaks earlier a bytes engine) asked_same stands
 
 -- what is said after each stream of the history, by how it ended
-pub each_ended : {T : Type 0} (schema : Declared) (history : History) (said : List Event → Said) (left : Option (List ℕ)) (result : Result T (OrMemory StreamFault)) →
+pub each_ended : {T : Type 0} (schema : Declared) (history : History) (said : List Event → EndClaims) (left : Option (List ℕ)) (result : Result T (OrMemory StreamFault)) →
     ((earlier : List Event) → IsStreamOf schema history earlier → ByEnd (said earlier) left result) → ByEnd (each_said schema history said) left result
 each_ended schema history said left (Ok done) each = each
 each_ended schema history said left (Err (Fault (fault.Event line refusal))) each = each

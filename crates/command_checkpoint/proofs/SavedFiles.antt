@@ -7,7 +7,7 @@ use Rattle.cel_terms.specs.declared.Query.{Query}
 use Rattle.event_run.specs.Runs as stop
 use Rattle.checkpoint_text.specs.Streams.{stream_of}
 use Rattle.stream_answers.specs.AtEnd.{StopsOver}
-use Rattle.stream_answers.specs.Streams.{EventsAsked}
+use Rattle.stream_answers.specs.Streams.{EventsRequest}
 use Rattle.command_words.specs.declared.SaveWords.{SaveWords}
 use Rattle.command_base.specs.declared.Cause.{Cause}
 use Rattle.command_base.specs.Accepted.{Accepts}
@@ -22,7 +22,7 @@ use Rattle.command_checkpoint.specs.Saved.{IsCheckpointOver, saved_said}
 use Rattle.command_checkpoint.specs.Saving.{save_asked, IsFileCheckpoint, save_task}
 
 -- a checkpoint goes with a stop at the end
-whole_stops : (a : EventsAsked) (source : Option (List ℕ)) (bytes : List ℕ) → IsCheckpointOver a source bytes → StopsOver a.schema a.queries a.most_bytes source stop.End
+whole_stops : (a : EventsRequest) (source : Option (List ℕ)) (bytes : List ℕ) → IsCheckpointOver a source bytes → StopsOver a.schema a.queries a.most_bytes source stop.End
 whole_stops a source bytes over lines same = let it = over lines same in (stream_of it.came, it.runs)
 
 -- the bytes are the checkpoint of the two files

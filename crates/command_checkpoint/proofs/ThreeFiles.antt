@@ -4,23 +4,23 @@ use Rattle.std.proofs.Math.Path.{fun_ext}
 use Rattle.stream_schema.specs.Types.{Declared}
 use Rattle.cel_terms.specs.declared.Query.{Query}
 use Rattle.cer_outside.specs.Content.{Content, Holds, HasOpened, OfOpened}
-use Rattle.query_engine.specs.Engine.{State, SameQueries, peak_of}
+use Rattle.query_engine.specs.Engine.{EngineState, SameQueries, peak_of}
 use Rattle.checkpoint_text.specs.declared.history.History.{History}
 use Rattle.checkpoint_text.specs.Checkpoints.{checkpoint_of}
-use Rattle.stream_answers.specs.Streams.{Asked}
+use Rattle.stream_answers.specs.Streams.{RunRequest}
 use Rattle.command_words.specs.declared.ResumeWords.{ResumeWords}
 use Rattle.command_base.specs.declared.Cause.{Cause}
 use Rattle.command_base.specs.declared.Cause.TheVariants as cause
 use Rattle.command_base.specs.Accepted.{Accepts}
 use Rattle.command_base.specs.Leaving.{IsLeftBy}
-use Rattle.command_base.specs.Steps.{StepsBy, counts_where}
+use Rattle.command_base.specs.StepCounts.{StepsBy, counts_where}
 use Rattle.command_base.proofs.Told.{source_told, text_told}
 use Rattle.command_base.proofs.Ends.{left_by_end}
 use Rattle.command_base.proofs.StepClauses.{steps_map}
 use Rattle.command_checkpoint.specs.Resumed.{StandsForResumed}
 use Rattle.command_checkpoint.specs.GoingOn.{resume_asked_of}
-use Rattle.command_checkpoint.specs.Counted.{resume_steps}
-use Rattle.command_checkpoint.specs.Left.{StandsForThreeFiles, resume_leaves}
+use Rattle.command_checkpoint.specs.StepCounts.{resume_steps}
+use Rattle.command_checkpoint.specs.LeftEngine.{StandsForThreeFiles, resume_leaves}
 use Rattle.command_checkpoint.specs.Histories.{resumed_counts}
 use Rattle.command_checkpoint.proofs.AfterHistory.{Tells}
 
@@ -48,12 +48,12 @@ steps_of_three content lines_of r schema queries history given before after old 
     }) given before after old now h
 
 -- the engine over a source that was opened, and so over the file
-pub resumed_left_of_source : (every : Option ℕ) (peaks : ℕ → ℕ) (content : Content) (source : Option (List ℕ)) (history : History) (a : Asked) (engine : State) → HasOpened content source →
+pub resumed_left_of_source : (every : Option ℕ) (peaks : ℕ → ℕ) (content : Content) (source : Option (List ℕ)) (history : History) (a : RunRequest) (engine : EngineState) → HasOpened content source →
     ((bytes : List ℕ) → source ≡ Some bytes → StandsForResumed every peaks history a bytes engine) → (bytes : List ℕ) → content ≡ Holds bytes → StandsForResumed every peaks history a bytes engine
 resumed_left_of_source every peaks content source history a engine opened stands bytes told = stands bytes (source_told content source bytes opened told)
 
 -- over all three files; an engine that is new had no peak
-stands_for_three : (content : List ℕ → Content) (lines_of : Content) (r : ResumeWords) (history : History) (old engine : State) → lines_of ≡ content r.events → OfOpened (content r.queries) (λ text. Accepts text old.schema old.queries) →
+stands_for_three : (content : List ℕ → Content) (lines_of : Content) (r : ResumeWords) (history : History) (old engine : EngineState) → lines_of ≡ content r.events → OfOpened (content r.queries) (λ text. Accepts text old.schema old.queries) →
     OfOpened (content r.checkpoint) (Tells old.schema old.queries history) → SameQueries old engine → ((query : ℕ) → peak_of old query ≡ 0) →
     ((bytes : List ℕ) → lines_of ≡ Holds bytes → StandsForResumed r.compact_every (peak_of old) history (resume_asked_of r old.schema old.queries) bytes engine) → StandsForThreeFiles content r engine
 stands_for_three content lines_of r history old engine same accepted read kept new stands = record {
@@ -71,12 +71,12 @@ stands_for_three content lines_of r history old engine same accepted read kept n
 }
 
 -- the engine by how the answers over the file ended
-pub leaves : (content : List ℕ → Content) (lines_of : Content) (r : ResumeWords) (history : History) (old engine : State) (given told : Cause) (left before : Option State) → given ≡ told → lines_of ≡ content r.events → OfOpened (content r.queries) (λ text. Accepts text old.schema old.queries) →
+pub leaves : (content : List ℕ → Content) (lines_of : Content) (r : ResumeWords) (history : History) (old engine : EngineState) (given told : Cause) (left before : Option EngineState) → given ≡ told → lines_of ≡ content r.events → OfOpened (content r.queries) (λ text. Accepts text old.schema old.queries) →
     OfOpened (content r.checkpoint) (Tells old.schema old.queries history) → SameQueries old engine → ((query : ℕ) → peak_of old query ≡ 0) →
     (told ≡ cause.Fine → (bytes : List ℕ) → lines_of ≡ Holds bytes → StandsForResumed r.compact_every (peak_of old) history (resume_asked_of r old.schema old.queries) bytes engine) → before ≡ None →
     (given ≡ cause.Fine → left ≡ Some engine) → ((given ≡ cause.Fine → ⊥) → before ≡ None → left ≡ None) → IsLeftBy given (resume_leaves r content) left
 leaves content lines_of r history old engine given told left before is same accepted read kept new stands none fine other =
     left_by_end (resume_leaves r content) given left
-    (λ well. let P : Option State → Type 0 = λ o. IsSomeAnd o (StandsForThreeFiles content r) in
+    (λ well. let P : Option EngineState → Type 0 = λ o. IsSomeAnd o (StandsForThreeFiles content r) in
     subst P (sym (fine well)) (stands_for_three content lines_of r history old engine same accepted read kept new (stands (sym is ∙ well))))
     (λ ill. other ill none)

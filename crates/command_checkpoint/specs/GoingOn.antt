@@ -3,16 +3,16 @@
 use Rattle.std.specs.Prelude.{◌≡◌, ◌≢◌, ℕ, ◌⊎◌, true, List, Option, Some, None, Ok}
 use Rattle.cer_outside.specs.Content.{Content, Missing, Holds}
 use Rattle.cer_outside.specs.Bytes.{TookPart}
-use Rattle.answer_blocks.specs.Taken.{TookPrefix}
+use Rattle.answer_blocks.specs.SinkBytes.{TookPrefix}
 use Rattle.stream_schema.specs.Types.{Declared}
 use Rattle.stream_schema.specs.declared.Event.{Event}
 use Rattle.cel_terms.specs.declared.Query.{Query}
-use Rattle.event_run.specs.Runs.{Stop, RunsAfter}
+use Rattle.event_run.specs.Runs.{RunStop, RunsAfter}
 use Rattle.event_run.specs.Taking.{AreEventsReadAfter}
 use Rattle.checkpoint_text.specs.declared.history.History.{History}
 use Rattle.checkpoint_text.specs.Checkpoints.{checkpoint_of}
-use Rattle.stream_answers.specs.Ends.{Said}
-use Rattle.stream_answers.specs.Streams.{Asked, WroteOverAfter, WroteAllAfter, WrotePartOfAfter}
+use Rattle.stream_answers.specs.RunEnds.{EndClaims}
+use Rattle.stream_answers.specs.Streams.{RunRequest, WroteOverAfter, WroteAllAfter, WrotePartOfAfter}
 use Rattle.command_words.specs.declared.ResumeWords.{ResumeWords}
 use Rattle.command_base.specs.Accepted.{Accepts}
 use Rattle.command_base.specs.SourceBytes.{told_of}
@@ -20,7 +20,7 @@ use Rattle.command_base.specs.Tasks.{Task}
 use Rattle.command_checkpoint.specs.Resumed.{AfterEach}
 
 -- what is asked of the events of the event file
-abbrev pub resume_asked_of : ResumeWords → Declared → List Query → Asked
+abbrev pub resume_asked_of : ResumeWords → Declared → List Query → RunRequest
 resume_asked_of r schema queries = record { order = r.order; schema = schema; queries = queries; most_bytes = r.most_bytes }
 
 -- The text is accepted, the checkpoint tells a history for its queries, and this is said of every stream of that.
@@ -40,7 +40,7 @@ pub record OverHistory (content : List ℕ → Content) (r : ResumeWords) (Says 
   pub over : (text kept : List ℕ) → content r.queries ≡ Holds text → content r.checkpoint ≡ Holds kept → SaysAfter text kept Says
 
 -- All answers at the positions after the history were written, over the events of the event file, which stop so.
-abbrev pub WroteAllResumed : (List ℕ → Content) → ResumeWords → Stop → Option (List ℕ) → Option (List ℕ) → Type 0
+abbrev pub WroteAllResumed : (List ℕ → Content) → ResumeWords → RunStop → Option (List ℕ) → Option (List ℕ) → Type 0
 WroteAllResumed content r halt before after =
     OverHistory content r (λ schema queries earlier. WroteAllAfter earlier (resume_asked_of r schema queries) (told_of (content r.events)) halt before after)
 
@@ -54,7 +54,7 @@ abbrev pub WrotePartResumed : (List ℕ → Content) → ResumeWords → (List �
 WrotePartResumed content r Took = OverHistory content r (λ schema queries earlier. WrotePartOfAfter earlier (resume_asked_of r schema queries) (told_of (content r.events)) Took)
 
 -- What the output has taken, from before to after: as after a run, cut to the positions after the history.
-abbrev pub resume_said : ResumeWords → (List ℕ → Content) → Option (List ℕ) → Option (List ℕ) → Said
+abbrev pub resume_said : ResumeWords → (List ℕ → Content) → Option (List ℕ) → Option (List ℕ) → EndClaims
 resume_said r content before after = record {
   stops = λ halt. WroteAllResumed content r halt before after;
   unread = λ left. WroteReadResumed content r left before after;

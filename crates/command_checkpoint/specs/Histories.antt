@@ -6,16 +6,16 @@ use Rattle.stream_schema.specs.Types.{Declared}
 use Rattle.cel_terms.specs.declared.Query.{Query}
 use Rattle.checkpoint_text.specs.declared.history.History.{History}
 use Rattle.checkpoint_text.specs.Checkpoints.{checkpoint_of}
-use Rattle.checkpoint_text.specs.Reading.{AreGoodRead}
-use Rattle.stream_answers.specs.Streams.{Asked}
+use Rattle.checkpoint_text.specs.ReaderAnswers.{AreGoodRead}
+use Rattle.stream_answers.specs.Streams.{RunRequest}
 use Rattle.fault_notes.specs.declared.File.TheVariants as file
 use Rattle.command_base.specs.declared.Cause.{Cause}
 use Rattle.command_base.specs.declared.Cause.TheVariants as cause
-use Rattle.command_base.specs.Steps.{Counts}
+use Rattle.command_base.specs.StepCounts.{Counts}
 use Rattle.command_base.specs.Sources.{Sources, left_by}
 use Rattle.command_base.specs.Ending.{ReadingStops, IsOpening}
 use Rattle.command_checkpoint.specs.Resumed.{AfterEach}
-use Rattle.command_checkpoint.specs.Counted.{counts_after}
+use Rattle.command_checkpoint.specs.StepCounts.{counts_after}
 
 -- why a source has no history, of which these bytes were left, where they are told
 abbrev pub NoHistory : {S : Type 0} → Sources S → Declared → List Query → Option (List ℕ) → Cause → Option S → Type 0
@@ -32,7 +32,7 @@ pub record HistoryStop {S : Type 0} (sources : Sources S) (schema : Declared) (q
       ⊎ ((source : Option (List ℕ)) × HasOpened whole source × NoHistory sources schema queries source given failed)
 
 -- the steps after every stream of the history
-abbrev pub resumed_counts : Option ℕ → History → Asked → List ℕ → Counts
+abbrev pub resumed_counts : Option ℕ → History → RunRequest → List ℕ → Counts
 resumed_counts every history a lines = record {
   all = λ Stops Took old now. AfterEach a.schema history (λ earlier. (counts_after every earlier a lines).all Stops Took old now);
   at_fault = λ before after old now. AfterEach a.schema history (λ earlier. (counts_after every earlier a lines).at_fault before after old now);

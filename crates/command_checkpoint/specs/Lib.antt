@@ -4,7 +4,7 @@ pub mod Rereading
 pub mod Saving
 pub mod Resumed
 pub mod GoingOn
-pub mod Counted
-pub mod Left
+pub mod StepCounts
+pub mod LeftEngine
 pub mod Histories
 pub mod TwoParts

@@ -10,11 +10,11 @@ use Rattle.event_reader.specs.declared.EventFault.TheVariants.{TimeBack}
 use Rattle.event_reader.specs.Events.{event_of_line}
 use Rattle.event_reader.specs.LineBuffers.{IsShort}
 use Rattle.event_reader.specs.Lines.{file_lines}
-use Rattle.event_reader.specs.Reading.{LineReader, HasGiven}
+use Rattle.event_reader.specs.LineReaders.{LineReader, HasGiven}
 use Rattle.event_run.specs.Runs.{RunsTo, AreEventsOf}
 use Rattle.event_run.specs.Runs as stop
 use Rattle.checkpoint_text.specs.declared.clocks.Fall.{Fall}
-use Rattle.checkpoint_text.specs.Clocks.{NoneFalls}
+use Rattle.checkpoint_text.specs.QueryClocks.{NoneFalls}
 use Rattle.checkpoint_text.specs.LastClocks.{any_back, first_back}
 use Rattle.checkpoint_text.specs.Keeping.{Keeper, next_event, with_event}
 use Rattle.checkpoint_text.specs.KeepLaws.{keeping, placed_lines, events_of, IsLineOf}

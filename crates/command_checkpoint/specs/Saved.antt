@@ -12,8 +12,8 @@ use Rattle.event_run.specs.Runs.{RunsTo}
 use Rattle.event_run.specs.Runs as stop
 use Rattle.stream_answers.specs.declared.StreamFault.{StreamFault}
 use Rattle.stream_answers.specs.AtEnd.{text_said}
-use Rattle.stream_answers.specs.Ends.{Said, ByEnd}
-use Rattle.stream_answers.specs.Streams.{EventsAsked}
+use Rattle.stream_answers.specs.RunEnds.{EndClaims, ByEnd}
+use Rattle.stream_answers.specs.Streams.{EventsRequest}
 use Rattle.checkpoint_text.specs.Keeping.{checkpoint_text}
 use Rattle.checkpoint_text.specs.KeepLaws.{placed_lines, kept_lines}
 use Rattle.checkpoint_text.specs.Streams.{stream_of}
@@ -36,12 +36,12 @@ pub record IsCheckpointOf (schema : Declared) (queries : List Query) (most_bytes
   pub spells : text ≡ checkpoint_text (length came) (kept_lines schema queries (placed_lines came))
 
 -- The text is the checkpoint of all events of a source that is read to its end.
-abbrev pub IsCheckpointOver : EventsAsked → Option (List ℕ) → List ℕ → Type 0
+abbrev pub IsCheckpointOver : EventsRequest → Option (List ℕ) → List ℕ → Type 0
 IsCheckpointOver a source text = (lines : List ℕ) → source ≡ Some lines → IsCheckpointOf a.schema a.queries a.most_bytes lines text
 
 -- all of the checkpoint, or a proper part of it after a fault of the sink; else nothing
-abbrev pub saved_said : EventsAsked → Option (List ℕ) → Option (List ℕ) → Option (List ℕ) → Said
+abbrev pub saved_said : EventsRequest → Option (List ℕ) → Option (List ℕ) → Option (List ℕ) → EndClaims
 saved_said a source before after = text_said a.schema a.queries a.most_bytes (IsCheckpointOver a source) source before after
 
-abbrev pub Wrote : EventsAsked → Option (List ℕ) → Option (List ℕ) → Option (List ℕ) → Option (List ℕ) → {T : Type 0} → Result T (OrMemory StreamFault) → Type 0
-Wrote a source left before after result = ByEnd (saved_said a source before after) left result
+abbrev pub WroteCheckpoint : EventsRequest → Option (List ℕ) → Option (List ℕ) → Option (List ℕ) → Option (List ℕ) → {T : Type 0} → Result T (OrMemory StreamFault) → Type 0
+WroteCheckpoint a source left before after result = ByEnd (saved_said a source before after) left result

@@ -5,7 +5,7 @@ use Rattle.stream_schema.specs.Types.{Declared}
 use Rattle.stream_schema.specs.declared.Event.{Event}
 use Rattle.cel_terms.specs.declared.Query.{Query}
 use Rattle.event_run.specs.Runs.{RunsTo}
-use Rattle.stream_answers.specs.Streams.{EventsAsked}
+use Rattle.stream_answers.specs.Streams.{EventsRequest}
 use Rattle.command_words.specs.declared.SaveWords.{SaveWords}
 use Rattle.command_base.specs.Accepted.{SaysOf}
 use Rattle.command_base.specs.ReadLines.{whole_said}
@@ -14,7 +14,7 @@ use Rattle.command_checkpoint.specs.declared.saving.TheConstants.{MOST_BYTES}
 use Rattle.command_checkpoint.specs.Saved.{IsCheckpointOf}
 
 -- what is asked where a checkpoint is to be written
-abbrev pub save_asked : Declared → List Query → EventsAsked
+abbrev pub save_asked : Declared → List Query → EventsRequest
 save_asked schema queries = record { schema = schema; queries = queries; most_bytes = MOST_BYTES }
 
 -- the bytes are the checkpoint of all events that the text's queries take of the file

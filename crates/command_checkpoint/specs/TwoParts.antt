@@ -11,14 +11,14 @@ use Rattle.answer_text.specs.declared.Order.TheVariants.{Sorted}
 use Rattle.answer_text.specs.Output.{IsOutput}
 use Rattle.output_laws.specs.After.{IsOutputAfter}
 use Rattle.query_engine.specs.Clocks.{NeverFalls}
-use Rattle.event_run.specs.Runs.{Stop, RunsTo, RunsAfter}
+use Rattle.event_run.specs.Runs.{RunStop, RunsTo, RunsAfter}
 use Rattle.event_run.specs.Runs as stop
 use Rattle.checkpoint_text.specs.KeepLaws.{placed_lines, kept_lines, told_stream}
 use Rattle.checkpoint_text.specs.Streams.{IsStreamOf, stream_of}
 
 -- The events that the queries take of a file are of the schema, and along them no clock falls.
 abbrev pub RunsNeverFall : Type 0
-RunsNeverFall = (schema : Declared) (queries : List Query) (most_bytes : ℕ) (bytes : List ℕ) (events : List Event) (stop : Stop) →
+RunsNeverFall = (schema : Declared) (queries : List Query) (most_bytes : ℕ) (bytes : List ℕ) (events : List Event) (stop : RunStop) →
     IsWellDeclared schema → All (IsChecked schema) queries → RunsTo schema queries most_bytes bytes events stop →
     All (IsOfSchema schema) events × All (λ q. NeverFalls schema q events) queries
 

@@ -11,12 +11,12 @@ ghost use Rattle.stream_answers.specs.Streams.{asked_by};
 ghost use Rattle.checkpoint_text.specs.Checkpoints.{checkpoint_of};
 ghost use Rattle.checkpoint_text.specs.Spelling.{IsHistory};
 ghost use Rattle.command_base.specs.Ending.{TaskEnded, FileStop, NotRead, IsAskedFor};
-ghost use Rattle.command_base.specs.Steps.{StepsBy, counts_where};
+ghost use Rattle.command_base.specs.StepCounts.{StepsBy, counts_where};
 ghost use Rattle.command_base.specs.Leaving.{IsLeftBy};
 ghost use Rattle.command_checkpoint.specs.Resumed.{resumed_said, StandsForResumed};
 ghost use Rattle.command_checkpoint.specs.GoingOn.{resume_task};
-ghost use Rattle.command_checkpoint.specs.Counted.{resume_steps};
-ghost use Rattle.command_checkpoint.specs.Left.{resume_leaves};
+ghost use Rattle.command_checkpoint.specs.StepCounts.{resume_steps};
+ghost use Rattle.command_checkpoint.specs.LeftEngine.{resume_leaves};
 ghost use Rattle.command_checkpoint.specs.Histories.{HistoryStop, NoHistory, resumed_counts};
 
 use crate::resumed::resume_answers;

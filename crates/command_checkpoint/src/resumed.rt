@@ -5,7 +5,7 @@ ghost use Rattle.std.specs.List.{AllByRecursion};
 ghost use Rattle.stream_schema.specs.Events.{IsOfSchema};
 ghost use Rattle.query_engine.specs.Engine.{StandsFor, SameQueries, count_of, peak_of};
 ghost use Rattle.checkpoint_text.specs.Spelling.{IsHistory};
-ghost use Rattle.stream_answers.specs.Ends.{HasReadCause, HasWriteCause};
+ghost use Rattle.stream_answers.specs.RunEnds.{HasReadCause, HasWriteCause};
 ghost use Rattle.stream_answers.specs.Streams.{asked_by};
 ghost use Rattle.command_checkpoint.specs.Resumed.{WroteResumed, StandsForResumed, StepsResumed};
 

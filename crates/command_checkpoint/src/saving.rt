@@ -7,8 +7,8 @@ ghost use Rattle.event_reader.specs.Events.{event_of_line};
 ghost use Rattle.checkpoint_text.specs.declared.numbers.TheConstants as most;
 ghost use Rattle.event_run.specs.Taking.{HasSourceCause};
 ghost use Rattle.event_run.specs.Listing.{StopsBy};
-ghost use Rattle.stream_answers.specs.Ends.{HasReadCause, HasWriteCause};
-ghost use Rattle.command_checkpoint.specs.Saved.{Wrote};
+ghost use Rattle.stream_answers.specs.RunEnds.{HasReadCause, HasWriteCause};
+ghost use Rattle.command_checkpoint.specs.Saved.{WroteCheckpoint};
 ghost use Rattle.command_checkpoint.specs.Lines.{AddsEvent, FallsWith, AddsLine, StopsLine, HasKept, HasKeptAll};
 
 use cel_terms::Query;
@@ -42,7 +42,7 @@ pub fn save_events<Q: Source, K: Sink>(
 ) -> Result<(), OrMemory<StreamFault>>
     requires checked { All (IsChecked schema.now) queries.now }
     requires few { most_bytes ≤ most.MOST_POSITIONS }
-    ensures wrote { Wrote (record {
+    ensures wrote { WroteCheckpoint (record {
       schema = schema.now;
       queries = queries.now;
       most_bytes = most_bytes;
@@ -83,7 +83,8 @@ fn keep_events<Q: Source>(
     requires same { keep.old.schema ≡ schema.now }
     requires checked { All (IsChecked schema.now) keep.old.queries }
     requires room { keep.old.positions + lines.old.room ≤ most.MOST_POSITIONS }
-    ensures all { OnOk result ((bytes : List ℕ) → HasKept schema.now keep.old.queries lines.old bytes
+    ensures all { OnOk result ((bytes : List ℕ)
+        → HasKept schema.now keep.old.queries lines.old bytes
         (Q.left source.old) keep.old
         → HasKeptAll schema.now keep.old.queries lines.old.budget bytes keep.new) }
     ensures stops { OnFault result (λ fault. (bytes : List ℕ) → HasKept schema.now keep.old.queries

@@ -4,8 +4,8 @@ use Rattle.cer_outside.specs.Causes.{AllStay}
 use Rattle.cer_outside.specs.Content.{Content, HasOpened, OfOpened}
 use Rattle.stream_schema.specs.Types.{Declared}
 use Rattle.cel_terms.specs.declared.Query.{Query}
-use Rattle.query_engine.specs.Engine.{State}
-use Rattle.event_run.specs.Runs.{Stop}
+use Rattle.query_engine.specs.Engine.{EngineState}
+use Rattle.event_run.specs.Runs.{RunStop}
 use Rattle.event_run.specs.Runs as stop
 use Rattle.stream_answers.specs.AtEnd.{StopsOver, TextOrStop}
 use Rattle.command_words.specs.declared.ExplainWords.{ExplainWords}
@@ -18,15 +18,15 @@ use Rattle.command_base.proofs.Lawful.{takes_accepted}
 use Rattle.command_base.proofs.Ends.{Meets, queries_ended, two_files_ended}
 use Rattle.command_base.proofs.TextEnds.{whole_or_stop, took_at_end, read_lines}
 use Rattle.command_explain.specs.declared.written.TheConstants.{MOST_BYTES}
-use Rattle.command_explain.specs.Written.{Asked, IsExplanationOver, explained_said}
+use Rattle.command_explain.specs.ExplanationOutput.{ExplainRequest, IsExplanationOver, explained_said}
 use Rattle.command_explain.specs.Explained.{AreFileExplanation, explain_task}
 
 -- what is asked in an explanation
-abbrev pub asked_of : ExplainWords → Declared → List Query → Asked
+abbrev pub asked_of : ExplainWords → Declared → List Query → ExplainRequest
 asked_of x schema queries = record { schema = schema; queries = queries; question = x.question }
 
 -- the whole explanation goes with a stop at the end
-whole_stops : (a : Asked) (source : Option (List ℕ)) (bytes : List ℕ) → IsExplanationOver a source bytes → StopsOver a.schema a.queries MOST_BYTES source stop.End
+whole_stops : (a : ExplainRequest) (source : Option (List ℕ)) (bytes : List ℕ) → IsExplanationOver a source bytes → StopsOver a.schema a.queries MOST_BYTES source stop.End
 whole_stops a source bytes over lines same = let it = over lines same in (it.0, it.1)
 
 -- an explanation over a source of the event file is one over both files
@@ -65,12 +65,12 @@ meets o x schema queries source accepted opened = record {
   part = λ part. (part.0, of_files o.content x schema queries source part.0 accepted opened part.1, part.2);
   some = λ some. some;
 } where
-  ended : (halt : Stop) → TextOrStop (IsExplanationOver (asked_of x schema queries) source) (StopsOver schema queries MOST_BYTES source) o.before o.after halt → StopsOver schema queries MOST_BYTES source halt
+  ended : (halt : RunStop) → TextOrStop (IsExplanationOver (asked_of x schema queries) source) (StopsOver schema queries MOST_BYTES source) o.before o.after halt → StopsOver schema queries MOST_BYTES source halt
   ended halt wrote =
       whole_or_stop schema queries MOST_BYTES source o.before o.after (IsExplanationOver (asked_of x schema queries) source) halt (λ bytes over. whole_stops (asked_of x schema queries) source bytes over) wrote
 
 -- its end where there are no queries, with the name by which the query file was asked for
-pub ended_early : {S H : Type 0} (sources : Sources S) (call : H → List ℕ → H → Type 0) (o : Outside) (x : ExplainWords) (first last : H) (name : List ℕ) (given : Cause) (failed : Option S) (left : Option State) → name ≡ x.queries → o.after ≡ o.before → o.out_new ≡ o.out_old →
+pub ended_early : {S H : Type 0} (sources : Sources S) (call : H → List ℕ → H → Type 0) (o : Outside) (x : ExplainWords) (first last : H) (name : List ℕ) (given : Cause) (failed : Option S) (left : Option EngineState) → name ≡ x.queries → o.after ≡ o.before → o.out_new ≡ o.out_old →
     call first name last → NotRead (QueriesStop sources (o.content name) (o.old name) (o.new name)) name o.old o.new given failed left → TaskEnded sources call o (explain_task x) first last given failed
 ended_early sources call o x first last name given failed left same nothing writes step stop =
     let P : List ℕ → Type 0 = λ n. call first n last × NotRead (QueriesStop sources (o.content n) (o.old n) (o.new n)) n o.old o.new given failed left in

@@ -8,10 +8,10 @@ use Rattle.event_run.specs.declared.RunFault.TheVariants as run
 use Rattle.event_run.specs.Listing.{StopsBy}
 use Rattle.command_explain.specs.declared.written.TheConstants.{MOST_BYTES}
 use Rattle.stream_answers.specs.Gathering.{stream_fault}
-use Rattle.command_explain.specs.Written.{Asked, Wrote}
+use Rattle.command_explain.specs.ExplanationOutput.{ExplainRequest, WroteExplanation}
 
-pub wrote_none : (T U : Type 0) (a : Asked) (source left taken : Option (List ℕ)) (stop : OrMemory RunFault) →
-    OnFault {T = T} (Err stop) (λ fault. (bytes : List ℕ) → source ≡ Some bytes → StopsBy a.schema a.queries MOST_BYTES bytes left fault) → Wrote a source left taken taken {T = U} (Err (stream_fault stop))
+pub wrote_none : (T U : Type 0) (a : ExplainRequest) (source left taken : Option (List ℕ)) (stop : OrMemory RunFault) →
+    OnFault {T = T} (Err stop) (λ fault. (bytes : List ℕ) → source ≡ Some bytes → StopsBy a.schema a.queries MOST_BYTES bytes left fault) → WroteExplanation a source left taken taken {T = U} (Err (stream_fault stop))
 wrote_none T U a source left taken Memory stops = refl
 wrote_none T U a source left taken (Fault run.ReadFault) stops = (refl, stops)
 wrote_none T U a source left taken (Fault (run.Event line refusal)) stops = (refl, stops)

@@ -1,3 +1,3 @@
 pub mod Explanations
-pub mod Written
+pub mod ExplanationOutput
 pub mod Explained

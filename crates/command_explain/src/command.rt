@@ -2,7 +2,7 @@
 
 ghost use Rattle.std.specs.Prelude.{◌≡◌, ℕ, List, None};
 ghost use Rattle.command_base.specs.Ending.{TaskEnded, FileStop, IsAskedFor};
-ghost use Rattle.command_explain.specs.Written.{explained_said};
+ghost use Rattle.command_explain.specs.ExplanationOutput.{explained_said};
 ghost use Rattle.command_explain.specs.Explained.{explain_task};
 
 use crate::written::write_explanation;

@@ -1,7 +1,7 @@
 //! The explanation over a source, written to a sink.
 
-ghost use Rattle.stream_answers.specs.Ends.{HasReadCause, HasWriteCause};
-ghost use Rattle.command_explain.specs.Written.{Wrote};
+ghost use Rattle.stream_answers.specs.RunEnds.{HasReadCause, HasWriteCause};
+ghost use Rattle.command_explain.specs.ExplanationOutput.{WroteExplanation};
 
 use crate::explanation::explanation;
 use cel_terms::Query;
@@ -32,7 +32,7 @@ pub fn write_explanation<Q: Source, K: Sink>(
     source: &mut Q,
     out: &mut K,
 ) -> Result<(), OrMemory<StreamFault>>
-    ensures wrote { Wrote (record {
+    ensures wrote { WroteExplanation (record {
       schema = schema.now;
       queries = queries.now;
       question = question.now;

@@ -2,29 +2,29 @@
 use Rattle.std.proofs.Common.{◌≡◌, ℕ, inr, true, List, Option, Some, None, refl, subst}
 use Rattle.cer_outside.specs.Content.{Content, Untold, Missing, Holds, HasOpened, OfOpened}
 use Rattle.cer_outside.specs.Bytes.{TookAll, TookPart}
-use Rattle.answer_blocks.specs.Taken.{TookPrefix}
+use Rattle.answer_blocks.specs.SinkBytes.{TookPrefix}
 use Rattle.stream_schema.specs.Types.{Declared}
 use Rattle.stream_schema.specs.declared.Event.{Event}
 use Rattle.cel_terms.specs.declared.Query.{Query}
-use Rattle.event_run.specs.Runs.{Stop}
+use Rattle.event_run.specs.Runs.{RunStop}
 use Rattle.stream_answers.specs.Streams.{WroteOver}
-use Rattle.reorder_gate.specs.Clocks.{clock_fits}
+use Rattle.reorder_gate.specs.AttributeClock.{clock_fits}
 use Rattle.command_words.specs.declared.ReorderWords.{ReorderWords}
 use Rattle.command_base.specs.Accepted.{Accepts}
 use Rattle.command_base.specs.SourceBytes.{IsRestOf}
 use Rattle.command_base.specs.Ending.{Outside}
 use Rattle.command_base.proofs.Told.{not_missing, text_not_missing, source_told, text_told}
 use Rattle.command_base.proofs.Ends.{Meets}
-use Rattle.command_reorder.specs.Late.{Feed}
-use Rattle.command_reorder.specs.Written.{asked, AreReleasedRead, WroteLateAll, WroteLatePart, late_said}
+use Rattle.command_reorder.specs.Late.{LateRequest}
+use Rattle.command_reorder.specs.LateOutput.{asked, AreReleasedRead, WroteLateAll, WroteLatePart, late_said}
 use Rattle.command_reorder.specs.Reordered.{feed_of, AreReorderedFileAnswers, AreReorderedReadAnswers, reorder_task}
 
 -- what the lines that were read release, by what is left
-released_so_far : (a : Feed) (lines rest : List ℕ) (left : Option (List ℕ)) (events : List Event) → AreReleasedRead a left lines events → left ≡ Some rest → AreReleasedRead a (Some rest) lines events
+released_so_far : (a : LateRequest) (lines rest : List ℕ) (left : Option (List ℕ)) (events : List Event) → AreReleasedRead a left lines events → left ≡ Some rest → AreReleasedRead a (Some rest) lines events
 released_so_far a lines rest left events read same = let P : Option (List ℕ) → Type 0 = λ l. AreReleasedRead a l lines events in subst P same read
 
 -- what a source that failed has left is the last part of the file
-rest_of : (a : Feed) (content : Content) (source left : Option (List ℕ)) (events : List Event) → HasOpened content source → ((lines : List ℕ) → source ≡ Some lines → AreReleasedRead a left lines events) → IsRestOf content left
+rest_of : (a : LateRequest) (content : Content) (source left : Option (List ℕ)) (events : List Event) → HasOpened content source → ((lines : List ℕ) → source ≡ Some lines → AreReleasedRead a left lines events) → IsRestOf content left
 rest_of a Untold source left events opened read = tt
 rest_of a Missing source left events opened read = opened
 rest_of a (Holds lines) source None events opened read = read lines opened
@@ -33,7 +33,7 @@ rest_of a (Holds lines) source (Some rest) events opened read = let r = read lin
 module _ (content : List ℕ → Content) (w : ReorderWords) (schema : Declared) (queries : List Query) (source before after : Option (List ℕ)) (fits : clock_fits schema w.clock ≡ true)
     (accepted : OfOpened (content w.queries) (λ text. Accepts text schema queries)) (opened : HasOpened (content w.events) source) where
   -- all answers
-  wrote_all : (halt : Stop) → WroteLateAll (feed_of w schema queries) source halt before after → (bytes : List ℕ) × AreReorderedFileAnswers content w (λ s. s ≡ halt) bytes × TookAll before after bytes
+  wrote_all : (halt : RunStop) → WroteLateAll (feed_of w schema queries) source halt before after → (bytes : List ℕ) × AreReorderedFileAnswers content w (λ s. s ≡ halt) bytes × TookAll before after bytes
   wrote_all halt wrote = (
     wrote.bytes,
     record {

@@ -4,27 +4,27 @@ use Rattle.cer_outside.specs.Causes.{AllStay}
 use Rattle.cer_outside.specs.Content.{Content, Holds, OfOpened}
 use Rattle.stream_schema.specs.Types.{Declared}
 use Rattle.cel_terms.specs.declared.Query.{Query}
-use Rattle.reorder_gate.specs.Clocks.{clock_fits}
+use Rattle.reorder_gate.specs.AttributeClock.{clock_fits}
 use Rattle.command_words.specs.declared.ReorderWords.{ReorderWords}
 use Rattle.command_base.specs.declared.Cause.{Cause}
 use Rattle.command_base.specs.Accepted.{Accepts}
-use Rattle.command_base.specs.Steps.{StepsBy, counts_where}
+use Rattle.command_base.specs.StepCounts.{StepsBy, counts_where}
 use Rattle.command_base.specs.Sources.{Sources}
 use Rattle.command_base.specs.Ending.{Outside, FileStop, TaskEnded}
 use Rattle.command_base.proofs.Lawful.{takes_accepted}
 use Rattle.command_base.proofs.Ends.{two_files_ended}
 use Rattle.command_base.proofs.StepClauses.{steps_of_files}
-use Rattle.command_reorder.specs.Written.{late_said}
+use Rattle.command_reorder.specs.LateOutput.{late_said}
 use Rattle.command_reorder.specs.Reordered.{feed_of, reorder_task}
-use Rattle.command_reorder.specs.Counted.{reorder_counts, reorder_steps}
+use Rattle.command_reorder.specs.StepCounts.{reorder_counts, reorder_steps}
 use Rattle.command_reorder.proofs.Answered.{meets}
 
 -- its end
-pub late_ended : {S H : Type 0} (sources : Sources S) (call : H → List ℕ → H → Type 0) (o : Outside) (w : ReorderWords) (first middle last : H) (schema : Declared) (queries : List Query) (whole : List ℕ → Content) (held : List ℕ → ℕ) (given : Cause) (failed : Option S) →
-    clock_fits schema w.clock ≡ true → ((any : List ℕ) → whole any ≡ o.content any) → AllStay o.old held → OfOpened (o.content w.queries) (λ text. Accepts text schema queries) → call first w.queries middle → call middle w.events last →
-    FileStop sources (λ source. late_said (feed_of w schema queries) source o.before o.after) w.events (record o { content = whole; old = held }) given failed → TaskEnded sources call o (reorder_task w) first last given failed
-late_ended sources call o w first middle last schema queries whole held given failed fits same stay accepted one other ends =
-    two_files_ended sources call o (reorder_task w) first middle last (λ source. late_said (feed_of w schema queries) source o.before o.after) whole held given failed (λ has. absurd has) (λ source opened. meets o w schema queries source fits accepted opened) (λ was. inl was) same stay
+pub late_ended : {S H : Type 0} (sources : Sources S) (call : H → List ℕ → H → Type 0) (o : Outside) (w : ReorderWords) (first middle last : H) (schema : Declared) (queries : List Query) (whole : List ℕ → Content) (buffer : List ℕ → ℕ) (given : Cause) (failed : Option S) →
+    clock_fits schema w.clock ≡ true → ((any : List ℕ) → whole any ≡ o.content any) → AllStay o.old buffer → OfOpened (o.content w.queries) (λ text. Accepts text schema queries) → call first w.queries middle → call middle w.events last →
+    FileStop sources (λ source. late_said (feed_of w schema queries) source o.before o.after) w.events (record o { content = whole; old = buffer }) given failed → TaskEnded sources call o (reorder_task w) first last given failed
+late_ended sources call o w first middle last schema queries whole buffer given failed fits same stay accepted one other ends =
+    two_files_ended sources call o (reorder_task w) first middle last (λ source. late_said (feed_of w schema queries) source o.before o.after) whole buffer given failed (λ has. absurd has) (λ source opened. meets o w schema queries source fits accepted opened) (λ was. inl was) same stay
     (takes_accepted (o.content w.queries) (reorder_task w) schema queries fits accepted) one other ends
 
 -- its steps over the event file are those over both files

@@ -4,35 +4,35 @@ use Rattle.stream_schema.specs.declared.Event.{Event as StreamEvent}
 use Rattle.cer_outside.specs.Bytes.{TookAll}
 use Rattle.answer_text.specs.declared.Order.{Order}
 use Rattle.answer_text.specs.declared.Order.TheVariants.{Walk, Sorted}
-use Rattle.answer_text.specs.Rows.{Row, lines_of, AreRowsAt, AreOutputRows}
+use Rattle.answer_text.specs.OutputRows.{Row, lines_of, AreRowsAt, AreOutputRows}
 use Rattle.answer_text.proofs.RowLists.{lines_both}
-use Rattle.answer_blocks.specs.Counted.{StopsAmong}
+use Rattle.answer_blocks.specs.RowSteps.{StopsAmong}
 use Rattle.answer_blocks.proofs.Blocks.{some_blocks_are}
 use Rattle.output_laws.proofs.RowsGrow.{rows_grow, rows_grow_at_last}
-use Rattle.query_engine.specs.Engine.{State, StandsFor, update_bounds}
+use Rattle.query_engine.specs.Engine.{EngineState, StandsFor, update_bounds}
 use Rattle.query_engine.specs.Counts.{MeetMost, event_bound, cursor_bounds}
-use Rattle.event_run.specs.Runs.{Stop}
+use Rattle.event_run.specs.Runs.{RunStop}
 use Rattle.stream_answers.specs.Schedules.{pace}
 use Rattle.stream_answers.specs.Steps.{AreBounded}
 use Rattle.stream_answers.specs.Counting.{StepsAtFault}
 use Rattle.stream_answers.proofs.Portions.{took_both}
 use Rattle.stream_answers.proofs.Totals.{bounded_all, bounded_more, one_ends}
-use Rattle.command_reorder.specs.Late.{Feed, RunsLate}
-use Rattle.command_reorder.specs.Written.{asked}
-use Rattle.command_reorder.specs.Steps.{LateCountsAll, LateCounts, LateCountsUpTo, LateCountsAtFault}
-use Rattle.command_reorder.specs.Flowing.{from_first, Counting, BeginsLate}
+use Rattle.command_reorder.specs.Late.{LateRequest, RunsLate}
+use Rattle.command_reorder.specs.LateOutput.{asked}
+use Rattle.command_reorder.specs.LateSteps.{LateCountsAll, LateCounts, LateCountsUpTo, LateCountsAtFault}
+use Rattle.command_reorder.specs.LateProgress.{from_first, Counting, BeginsLate}
 
 module _ (every : Option ℕ) where
   -- the steps without those that are put by
-  pub counted_so : (a : Feed) (events : List StreamEvent) (bytes : List ℕ) (engine : State) (first now saved : ℕ) → Counting every a events bytes engine first (now + saved) → Counting every a events bytes engine first now
+  pub counted_so : (a : LateRequest) (events : List StreamEvent) (bytes : List ℕ) (engine : EngineState) (first now saved : ℕ) → Counting every a events bytes engine first (now + saved) → Counting every a events bytes engine first now
   counted_so a events bytes engine first now saved c = record { rows = c.rows; are_rows = c.are_rows; lines = c.lines; bounded = λ most meet. (let b = c.bounded most meet in omega (arith, b)); few = c.few }
 
   -- an event takes its bound, and what is put by grows by the rest of what it may take
-  abbrev pub Pays : Feed → List StreamEvent → ℕ → ℕ → Type 0
+  abbrev pub Pays : LateRequest → List StreamEvent → ℕ → ℕ → Type 0
   Pays a events had mid = (most : ℕ → ℕ) → MeetMost a.schema a.queries events most → event_bound (length a.queries) most + mid ≤ had + pace every (length a.queries) most
 
   -- What bounds the steps by the first events bounds them by all.
-  pub counts_whole : (a : Feed) (lines : List ℕ) (events : List StreamEvent) (rows : List Row) (before now : ℕ) → BeginsLate a lines events → AreOutputRows a.order a.schema a.queries events rows →
+  pub counts_whole : (a : LateRequest) (lines : List ℕ) (events : List StreamEvent) (rows : List Row) (before now : ℕ) → BeginsLate a lines events → AreOutputRows a.order a.schema a.queries events rows →
       AreBounded every a.schema a.queries events rows before now → LateCounts every a lines before now
   counts_whole a lines events rows before now begun are_rows bounded =
       let all = events ++ begun.more in
@@ -48,7 +48,7 @@ module _ (every : Option ℕ) where
       }
 
   -- the feed ended by itself, and all was written
-  pub counts_stopped : (a : Feed) (lines : List ℕ) (before after : Option (List ℕ)) (bytes : List ℕ) (events : List StreamEvent) (halt : Stop) (rows : List Row) (first now : ℕ) → RunsLate a lines events halt → AreOutputRows a.order a.schema a.queries events rows →
+  pub counts_stopped : (a : LateRequest) (lines : List ℕ) (before after : Option (List ℕ)) (bytes : List ℕ) (events : List StreamEvent) (halt : RunStop) (rows : List Row) (first now : ℕ) → RunsLate a lines events halt → AreOutputRows a.order a.schema a.queries events rows →
       bytes ≡ lines_of rows → AreBounded every a.schema a.queries events rows first now → TookAll before after bytes → LateCountsAll every a lines (λ h. h ≡ halt) (TookAll before after) first now
   counts_stopped a lines before after bytes events halt rows first now runs are_rows same bounded took = record {
     events = events;
@@ -62,11 +62,11 @@ module _ (every : Option ℕ) where
   }
 
   -- a write failed while the answers of an event were put
-  counts_up_to : (a : Feed) (lines : List ℕ) (before middle after : Option (List ℕ)) (written held : List ℕ) (engine : State) (events : List StreamEvent) (next : StreamEvent) (rows more : List Row) (first old had mid seen now : ℕ) → BeginsLate a lines (events ++ next ∷ []) →
-      engine.schema ≡ a.schema → engine.queries ≡ a.queries → StandsFor engine (events ++ next ∷ []) → TookAll before middle written → held ≡ [] → AreRowsAt a.order a.schema 1 a.queries (events ++ next ∷ []) (length (events ++ next ∷ []) - 1) more →
-      AreOutputRows a.order a.schema a.queries events rows → written ++ held ≡ lines_of rows → AreBounded every a.schema a.queries events rows first (old + had) → Pays a (events ++ next ∷ []) had mid → seen ≤ old + update_bounds engine → StopsAmong middle after more (seen + cursor_bounds engine) now →
+  counts_up_to : (a : LateRequest) (lines : List ℕ) (before middle after : Option (List ℕ)) (written buffer : List ℕ) (engine : EngineState) (events : List StreamEvent) (next : StreamEvent) (rows more : List Row) (first old had mid seen now : ℕ) → BeginsLate a lines (events ++ next ∷ []) →
+      engine.schema ≡ a.schema → engine.queries ≡ a.queries → StandsFor engine (events ++ next ∷ []) → TookAll before middle written → buffer ≡ [] → AreRowsAt a.order a.schema 1 a.queries (events ++ next ∷ []) (length (events ++ next ∷ []) - 1) more →
+      AreOutputRows a.order a.schema a.queries events rows → written ++ buffer ≡ lines_of rows → AreBounded every a.schema a.queries events rows first (old + had) → Pays a (events ++ next ∷ []) had mid → seen ≤ old + update_bounds engine → StopsAmong middle after more (seen + cursor_bounds engine) now →
       LateCountsUpTo every a lines before after first now
-  counts_up_to a lines before middle after written held engine events next rows more first old had mid seen now begun same alike stands took none are_more are_rows so_far bounded pays cost s =
+  counts_up_to a lines before middle after written buffer engine events next rows more first old had mid seen now begun same alike stands took none are_more are_rows so_far bounded pays cost s =
       let all = events ++ next ∷ [] in
       let P : List Row → Type 0 = AreOutputRows a.order a.schema a.queries all in
       let split : rows ++ more ≡ (rows ++ s.whole) ++ s.one ∷ s.later = ap (λ (l : List Row). rows ++ l) s.rows_are ∙ sym (append_assoc rows s.whole (s.one ∷ s.later)) in
@@ -88,18 +88,18 @@ module _ (every : Option ℕ) where
         bounded = subst B (sym (append_assoc rows s.whole (s.one ∷ []))) (bounded_more (from_first every) (asked a) engine events next rows (s.whole ++ s.one ∷ []) first old had mid seen now same alike stands bounded cost s.steps pays);
       }
 
-  pub counts_at_fault : (a : Feed) (lines : List ℕ) (before middle after : Option (List ℕ)) (written held : List ℕ) (engine : State) (events : List StreamEvent) (next : StreamEvent) (rows more : List Row) (first old had mid seen now : ℕ) → BeginsLate a lines (events ++ next ∷ []) →
-      engine.schema ≡ a.schema → engine.queries ≡ a.queries → StandsFor engine (events ++ next ∷ []) → TookAll before middle written → (a.order ≡ Walk → held ≡ []) → AreRowsAt a.order a.schema 1 a.queries (events ++ next ∷ []) (length (events ++ next ∷ []) - 1) more →
-      AreOutputRows a.order a.schema a.queries events rows → written ++ held ≡ lines_of rows → AreBounded every a.schema a.queries events rows first (old + had) → Pays a (events ++ next ∷ []) had mid → seen ≤ old + update_bounds engine → StepsAtFault a.order middle after more (seen + cursor_bounds engine) now →
+  pub counts_at_fault : (a : LateRequest) (lines : List ℕ) (before middle after : Option (List ℕ)) (written buffer : List ℕ) (engine : EngineState) (events : List StreamEvent) (next : StreamEvent) (rows more : List Row) (first old had mid seen now : ℕ) → BeginsLate a lines (events ++ next ∷ []) →
+      engine.schema ≡ a.schema → engine.queries ≡ a.queries → StandsFor engine (events ++ next ∷ []) → TookAll before middle written → (a.order ≡ Walk → buffer ≡ []) → AreRowsAt a.order a.schema 1 a.queries (events ++ next ∷ []) (length (events ++ next ∷ []) - 1) more →
+      AreOutputRows a.order a.schema a.queries events rows → written ++ buffer ≡ lines_of rows → AreBounded every a.schema a.queries events rows first (old + had) → Pays a (events ++ next ∷ []) had mid → seen ≤ old + update_bounds engine → StepsAtFault a.order middle after more (seen + cursor_bounds engine) now →
       LateCountsAtFault every a.order a lines before after first now
-  counts_at_fault a lines before middle after written held engine events next rows more first old had mid seen now begun same alike stands took none are_more are_rows so_far bounded pays cost put = over a.order refl put
+  counts_at_fault a lines before middle after written buffer engine events next rows more first old had mid seen now begun same alike stands took none are_more are_rows so_far bounded pays cost put = over a.order refl put
     where
       over : (x : Order) → a.order ≡ x → StepsAtFault x middle after more (seen + cursor_bounds engine) now → LateCountsAtFault every x a lines before after first now
-      over Walk walk steps = counts_up_to a lines before middle after written held engine events next rows more first old had mid seen now begun same alike stands took (none walk) are_more are_rows so_far bounded pays cost steps
+      over Walk walk steps = counts_up_to a lines before middle after written buffer engine events next rows more first old had mid seen now begun same alike stands took (none walk) are_more are_rows so_far bounded pays cost steps
       over Sorted sorted steps =
           counts_whole a lines (events ++ next ∷ []) (rows ++ more) first now begun (rows_grow_at_last a.order a.schema a.queries events next rows more are_rows are_more)
           (bounded_more (from_first every) (asked a) engine events next rows more first old had mid seen now same alike stands bounded cost steps pays)
 
   -- a write failed while what was held was written
-  pub counts_held : (a : Feed) (lines : List ℕ) (before after : Option (List ℕ)) (first now : ℕ) → a.order ≡ Sorted → LateCounts every a lines first now → LateCountsAtFault every a.order a lines before after first now
+  pub counts_held : (a : LateRequest) (lines : List ℕ) (before after : Option (List ℕ)) (first now : ℕ) → a.order ≡ Sorted → LateCounts every a lines first now → LateCountsAtFault every a.order a lines before after first now
   counts_held a lines before after first now sorted counts = subst (λ (x : Order). LateCountsAtFault every x a lines before after first now) (sym sorted) counts

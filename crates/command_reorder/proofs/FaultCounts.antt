@@ -9,8 +9,8 @@ use Rattle.event_run.specs.Taking.{run_fault}
 use Rattle.stream_answers.specs.declared.StreamFault.{StreamFault}
 use Rattle.stream_answers.specs.declared.StreamFault.TheVariants as fault
 use Rattle.stream_answers.specs.Gathering.{Finished, stream_fault}
-use Rattle.stream_answers.specs.Ends.{HasReadCause, HasWriteCause}
-use Rattle.command_reorder.specs.Flowing.{is_write_fault}
+use Rattle.stream_answers.specs.RunEnds.{HasReadCause, HasWriteCause}
+use Rattle.command_reorder.specs.LateProgress.{is_write_fault}
 
 -- the source's count stands or rose
 either : {T : Type 0} (before now : ℕ) (end : Result T (OrMemory StreamFault)) → HasReadCause before now end → (now ≡ before) ⊎ Rose before now
@@ -22,8 +22,8 @@ either before now (Err (Fault fault.WriteFault)) c = c
 either before now (Err Memory) c = inl c
 
 -- it is told as before by what is answered once all that is held was written, or a write failed
-pub closes_read_cause : {T : Type 0} (before now : ℕ) (middle after : Option (List ℕ)) (held : List ℕ) (old new : ℕ) (end result : Result T (OrMemory StreamFault)) → HasReadCause before now end → Finished middle after old new held end result → HasReadCause before now result
-closes_read_cause {T} before now middle after held old new end result cause finished =
+pub closes_read_cause : {T : Type 0} (before now : ℕ) (middle after : Option (List ℕ)) (buffer : List ℕ) (old new : ℕ) (end result : Result T (OrMemory StreamFault)) → HasReadCause before now end → Finished middle after old new buffer end result → HasReadCause before now result
+closes_read_cause {T} before now middle after buffer old new end result cause finished =
     let P : Result T (OrMemory StreamFault) → Type 0 = λ r. HasReadCause before now r in
     elim finished.way [ inl fine ↦ subst P (sym fine.0) cause | inr failed ↦ subst P (sym failed.0) (either before now end cause) ]
 
@@ -37,9 +37,9 @@ stayed before old (Err (Fault fault.WriteFault)) no_fault c = absurd cc
 stayed before old (Err Memory) no_fault c = c
 
 -- and so is the output's count
-pub closes_write_cause : {T : Type 0} (before : ℕ) (middle after : Option (List ℕ)) (held : List ℕ) (old new : ℕ) (end result : Result T (OrMemory StreamFault)) → is_write_fault end ≡ false → HasWriteCause before old end →
-    Finished middle after old new held end result → HasWriteCause before new result
-closes_write_cause {T} before middle after held old new end result no_fault cause finished =
+pub closes_write_cause : {T : Type 0} (before : ℕ) (middle after : Option (List ℕ)) (buffer : List ℕ) (old new : ℕ) (end result : Result T (OrMemory StreamFault)) → is_write_fault end ≡ false → HasWriteCause before old end →
+    Finished middle after old new buffer end result → HasWriteCause before new result
+closes_write_cause {T} before middle after buffer old new end result no_fault cause finished =
     let P : Result T (OrMemory StreamFault) → Type 0 = λ r. HasWriteCause before new r in
     let N : ℕ → Type 0 = λ n. HasWriteCause before n end in
     let R : ℕ → Type 0 = λ n. Rose n new in

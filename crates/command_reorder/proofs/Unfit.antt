@@ -4,7 +4,7 @@ use Rattle.cer_outside.specs.Causes.{AllStay}
 use Rattle.cer_outside.specs.Content.{Content, OfOpened}
 use Rattle.stream_schema.specs.Types.{Declared}
 use Rattle.cel_terms.specs.declared.Query.{Query}
-use Rattle.reorder_gate.specs.Clocks.{clock_fits}
+use Rattle.reorder_gate.specs.AttributeClock.{clock_fits}
 use Rattle.command_words.specs.declared.ReorderWords.{ReorderWords}
 use Rattle.fault_notes.specs.declared.File.TheVariants as file
 use Rattle.command_base.specs.declared.Cause.{Cause}

@@ -10,20 +10,20 @@ use Rattle.event_reader.specs.declared.LineFault.{LineFault}
 use Rattle.event_reader.specs.Events.{event_of_line}
 use Rattle.event_reader.specs.Lines.{file_lines}
 use Rattle.query_engine.specs.Clocks.{NoneFallsBack}
-use Rattle.event_run.specs.Runs.{Stop, stop_of, StopsInTime}
+use Rattle.event_run.specs.Runs.{RunStop, stop_of, StopsInTime}
 use Rattle.event_run.specs.Runs as stop
 use Rattle.reorder_gate.specs.declared.gate.TooLate.{TooLate}
-use Rattle.reorder_gate.specs.Clocks.{attribute_clock}
+use Rattle.reorder_gate.specs.AttributeClock.{attribute_clock}
 use Rattle.reorder_gate.specs.Sorting.{sorted}
 use Rattle.reorder_gate.specs.Releasing.{greatest, released}
 use Rattle.reorder_gate.specs.Gates.{lateness}
 
 -- an event with the number of its line
-abbrev pub Numbered : Type 0
-Numbered = ℕ × StreamEvent
+abbrev pub NumberedEvent : Type 0
+NumberedEvent = ℕ × StreamEvent
 
 -- What is asked of a late feed: the answers of these queries in this order, where this attribute is the clock, an event may come late by so much, and so many bytes are too many.
-pub record Feed : Type 0 where
+pub record LateRequest : Type 0 where
   pub order : Order
   pub schema : Declared
   pub queries : List Query
@@ -32,53 +32,53 @@ pub record Feed : Type 0 where
   pub most_bytes : ℕ
 
 -- the clock of an event
-abbrev pub when : Feed → Numbered → ℤ
+abbrev pub when : LateRequest → NumberedEvent → ℤ
 when a e = attribute_clock a.schema a.clock e.1
 
 -- The events that come in time, in the order of their lines, and why there are no more.
-pub record Fed : Type 0 where
-  pub put : List Numbered
-  pub stop : Stop
+pub record LateEvents : Type 0 where
+  pub put : List NumberedEvent
+  pub stop : RunStop
 
 -- the event is one more, unless it comes too late
-abbrev pub unless_late : ℕ → List Numbered → Fed → Option TooLate → Fed
+abbrev pub unless_late : ℕ → List NumberedEvent → LateEvents → Option TooLate → LateEvents
 unless_late number before more None = more
 unless_late number before more (Some f) = record { put = before; stop = stop.Event number (event.TooLate f.high f.now) }
 
 -- what follows from a line of this number with this event, none, or a refusal
-abbrev pub fed_after_line : Feed → ℕ → List Numbered → Fed → (Numbered → Fed) → Result (Option StreamEvent) EventFault → Fed
+abbrev pub fed_after_line : LateRequest → ℕ → List NumberedEvent → LateEvents → (NumberedEvent → LateEvents) → Result (Option StreamEvent) EventFault → LateEvents
 fed_after_line a number before skip more (Ok None) = skip
 fed_after_line a number before skip more (Ok (Some next)) =
     unless_late number before (more (number, next)) (lateness (greatest (when a) before) a.late (when a (number, next)))
 fed_after_line a number before skip more (Err refusal) = record { put = before; stop = stop.Event number refusal }
 
 -- after these events come these lines, the first of which has this number, and then this fault
-abbrev pub fed_from : Feed → ℕ → List Numbered → List (List ℕ) → Option LineFault → Fed
+abbrev pub fed_from : LateRequest → ℕ → List NumberedEvent → List (List ℕ) → Option LineFault → LateEvents
 fed_from a number before [] fault = record { put = before; stop = stop_of fault }
 fed_from a number before (text ∷ texts) fault =
     fed_after_line a number before (fed_from a (number + 1) before texts fault) (λ e. fed_from a (number + 1) (before ++ e ∷ []) texts fault) (event_of_line a.schema text)
 
 -- what a file of these bytes feeds
-abbrev pub fed : Feed → List ℕ → Fed
+abbrev pub fed : LateRequest → List ℕ → LateEvents
 fed a bytes = fed_from a 1 [] (file_lines a.most_bytes bytes).texts (file_lines a.most_bytes bytes).fault
 
 -- the events that may go, in the order in which they go: at the end of the file all by their clocks, else those before which no event can come that is not too late
-abbrev pub let_go : Feed → List Numbered → Stop → List Numbered
+abbrev pub let_go : LateRequest → List NumberedEvent → RunStop → List NumberedEvent
 let_go a put stop.End = sorted (when a) put
 let_go a put (stop.Event line refusal) = released (when a) a.late put
 let_go a put (stop.InputTooLong taken) = released (when a) a.late put
 
 -- After the events before, the queries take these in turn, up to the first with which the clock of a query falls, which stops the run at its own line; where none does, the run ends so.
-abbrev pub TakesOn : Declared → List Query → List StreamEvent → List Numbered → Stop → List StreamEvent → Stop → Type 0
+abbrev pub TakesOn : Declared → List Query → List StreamEvent → List NumberedEvent → RunStop → List StreamEvent → RunStop → Type 0
 TakesOn schema queries before [] end events halt = (events ≡ before) × (halt ≡ end)
 TakesOn schema queries before (e ∷ later) end events halt =
     (NoneFallsBack schema queries before e.1 × TakesOn schema queries (before ++ e.1 ∷ []) later end events halt)
     ⊎ ((events ≡ before) × StopsInTime schema queries before e.1 e.0 halt)
 
 -- The queries take these events of a file of these bytes, and stop so.
-abbrev pub RunsLate : Feed → List ℕ → List StreamEvent → Stop → Type 0
+abbrev pub RunsLate : LateRequest → List ℕ → List StreamEvent → RunStop → Type 0
 RunsLate a bytes events halt = TakesOn a.schema a.queries [] (let_go a (fed a bytes).put (fed a bytes).stop) (fed a bytes).stop events halt
 
 -- the lines are good, and these are their events: none is refused, and none comes too late
-abbrev pub AreFed : Feed → List (List ℕ) → List Numbered → Type 0
+abbrev pub AreFed : LateRequest → List (List ℕ) → List NumberedEvent → Type 0
 AreFed a texts put = fed_from a 1 [] texts None ≡ record { put = put; stop = stop.End }

@@ -1,14 +1,14 @@
 -- For every feed and file the run is one thing.
 use Rattle.std.specs.Prelude.{◌≡◌, ℕ, List}
 use Rattle.stream_schema.specs.declared.Event.{Event as StreamEvent}
-use Rattle.event_run.specs.Runs.{Stop}
-use Rattle.command_reorder.specs.Late.{Feed, RunsLate}
+use Rattle.event_run.specs.Runs.{RunStop}
+use Rattle.command_reorder.specs.Late.{LateRequest, RunsLate}
 
 -- The queries take one list of events of a file, and stop in one way.
 abbrev pub LateRunsAreOne : Type 0
-LateRunsAreOne = (a : Feed) (bytes : List ℕ) (events again : List StreamEvent) (halt other : Stop) →
+LateRunsAreOne = (a : LateRequest) (bytes : List ℕ) (events again : List StreamEvent) (halt other : RunStop) →
     RunsLate a bytes events halt → RunsLate a bytes again other → (events ≡ again) × (halt ≡ other)
 
 -- Every file has a run.
 abbrev pub SomeLateRunIs : Type 0
-SomeLateRunIs = (a : Feed) (bytes : List ℕ) → (events : List StreamEvent) × (halt : Stop) × RunsLate a bytes events halt
+SomeLateRunIs = (a : LateRequest) (bytes : List ℕ) → (events : List StreamEvent) × (halt : RunStop) × RunsLate a bytes events halt

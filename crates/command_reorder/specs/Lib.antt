@@ -1,8 +1,8 @@
 pub mod Late
-pub mod Written
-pub mod Steps
+pub mod LateOutput
+pub mod LateSteps
 pub mod Laws
-pub mod Flowing
+pub mod LateProgress
 pub mod Reordered
-pub mod Counted
-pub mod Left
+pub mod StepCounts
+pub mod LeftEngine

@@ -2,26 +2,26 @@
 use Rattle.std.specs.Prelude.{◌≡◌, ◌≢◌, ℕ, ◌⊎◌, true, List, Option, Some, None}
 use Rattle.cer_outside.specs.Content.{Content, Missing, Holds}
 use Rattle.cer_outside.specs.Bytes.{TookAll, TookPart}
-use Rattle.answer_blocks.specs.Taken.{TookPrefix}
+use Rattle.answer_blocks.specs.SinkBytes.{TookPrefix}
 use Rattle.answer_text.specs.Output.{IsOutput}
 use Rattle.stream_schema.specs.Types.{Declared}
 use Rattle.stream_schema.specs.declared.Event.{Event}
 use Rattle.cel_terms.specs.declared.Query.{Query}
-use Rattle.event_run.specs.Runs.{Stop}
-use Rattle.reorder_gate.specs.Clocks.{clock_fits}
-use Rattle.stream_answers.specs.Ends.{Said}
+use Rattle.event_run.specs.Runs.{RunStop}
+use Rattle.reorder_gate.specs.AttributeClock.{clock_fits}
+use Rattle.stream_answers.specs.RunEnds.{EndClaims}
 use Rattle.command_words.specs.declared.ReorderWords.{ReorderWords}
 use Rattle.command_base.specs.Accepted.{Accepts}
 use Rattle.command_base.specs.Tasks.{Task}
-use Rattle.command_reorder.specs.Late.{Feed, RunsLate}
-use Rattle.command_reorder.specs.Written.{AreReleasedBefore}
+use Rattle.command_reorder.specs.Late.{LateRequest, RunsLate}
+use Rattle.command_reorder.specs.LateOutput.{AreReleasedBefore}
 
 -- what is asked of the events
-abbrev pub feed_of : ReorderWords → Declared → List Query → Feed
+abbrev pub feed_of : ReorderWords → Declared → List Query → LateRequest
 feed_of w schema queries = record { order = w.order; schema = schema; queries = queries; clock = w.clock; late = w.late; most_bytes = w.most_bytes }
 
 -- The bytes are the answers of the text's queries over the events that they take of the file by their clocks, where they stop so.
-pub record AreReorderedAnswers (w : ReorderWords) (text lines : List ℕ) (stop : Stop) (bytes : List ℕ) : Type 0 where
+pub record AreReorderedAnswers (w : ReorderWords) (text lines : List ℕ) (stop : RunStop) (bytes : List ℕ) : Type 0 where
   pub schema : Declared
   pub queries : List Query
   pub events : List Event
@@ -41,11 +41,11 @@ pub record AreReorderedAnswersSoFar (w : ReorderWords) (text lines rest : List �
   pub output : IsOutput w.order schema queries events bytes
 
 -- The host lacks neither file, and where it tells their bytes, these are the answers to their late events, with a stop that passes.
-pub record AreReorderedFileAnswers (content : List ℕ → Content) (w : ReorderWords) (Passes : Stop → Type 0) (bytes : List ℕ) : Type 0 where
+pub record AreReorderedFileAnswers (content : List ℕ → Content) (w : ReorderWords) (Passes : RunStop → Type 0) (bytes : List ℕ) : Type 0 where
   pub has_queries : content w.queries ≢ Missing
   pub has_events : content w.events ≢ Missing
   pub answers : (text lines : List ℕ) → content w.queries ≡ Holds text → content w.events ≡ Holds lines
-      → (stop : Stop) × Passes stop × AreReorderedAnswers w text lines stop bytes
+      → (stop : RunStop) × Passes stop × AreReorderedAnswers w text lines stop bytes
 
 -- The host lacks neither file, and where it tells their bytes, these are the answers over what is released of the lines that end among the bytes that a source, which failed, no longer has left.
 pub record AreReorderedReadAnswers (content : List ℕ → Content) (w : ReorderWords) (left : Option (List ℕ)) (bytes : List ℕ) : Type 0 where
@@ -56,7 +56,7 @@ pub record AreReorderedReadAnswers (content : List ℕ → Content) (w : Reorder
 
 -- What the output has taken, from before to after: all answers up to the stop, or those over what the lines that were read release; a proper first part where a write failed; and a first part or nothing where memory ran out.
 -- What waits when a line is refused or the file is too long is not answered.
-abbrev pub reorder_said : ReorderWords → (List ℕ → Content) → Option (List ℕ) → Option (List ℕ) → Said
+abbrev pub reorder_said : ReorderWords → (List ℕ → Content) → Option (List ℕ) → Option (List ℕ) → EndClaims
 reorder_said w content before after = record {
   stops = λ halt. (bytes : List ℕ) × AreReorderedFileAnswers content w (λ s. s ≡ halt) bytes × TookAll before after bytes;
   unread = λ left. (bytes : List ℕ) × AreReorderedReadAnswers content w left bytes × TookAll before after bytes;

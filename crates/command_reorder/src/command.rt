@@ -4,14 +4,14 @@
 ghost use Rattle.std.specs.Prelude.{◌≡◌, ℕ, ◌⊎◌, true, List, [], None};
 ghost use Rattle.cer_outside.specs.Content.{Holds};
 ghost use Rattle.query_engine.specs.Engine.{StandsFor, SameQueries, count_of, peak_of};
-ghost use Rattle.reorder_gate.specs.Clocks.{clock_fits};
+ghost use Rattle.reorder_gate.specs.AttributeClock.{clock_fits};
 ghost use Rattle.command_base.specs.Ending.{TaskEnded, FileStop, IsAskedFor};
 ghost use Rattle.command_base.specs.Leaving.{IsLeftBy};
-ghost use Rattle.command_base.specs.Steps.{StepsBy, counts_where};
-ghost use Rattle.command_reorder.specs.Written.{late_said, StandsForLate};
+ghost use Rattle.command_base.specs.StepCounts.{StepsBy, counts_where};
+ghost use Rattle.command_reorder.specs.LateOutput.{late_said, StandsForLate};
 ghost use Rattle.command_reorder.specs.Reordered.{feed_of, reorder_task};
-ghost use Rattle.command_reorder.specs.Counted.{reorder_counts, reorder_steps};
-ghost use Rattle.command_reorder.specs.Left.{reorder_leaves};
+ghost use Rattle.command_reorder.specs.StepCounts.{reorder_counts, reorder_steps};
+ghost use Rattle.command_reorder.specs.LeftEngine.{reorder_leaves};
 
 use crate::late::write_late;
 use cer_base::steps::Steps;

@@ -5,9 +5,9 @@ ghost use Rattle.stream_schema.specs.Events.{IsOfSchema};
 ghost use Rattle.stream_schema.specs.declared.Event.{Event};
 ghost use Rattle.event_reader.specs.Events.{event_of_line};
 ghost use Rattle.reorder_gate.specs.Gates.{StandsFor};
-ghost use Rattle.stream_answers.specs.Ends.{HasReadCause, HasWriteCause};
-ghost use Rattle.command_reorder.specs.Late.{Feed};
-ghost use Rattle.command_reorder.specs.Flowing.{AfterPut, AfterText, AreOfSchema, HasFedOf, Sits, TakesRoom};
+ghost use Rattle.stream_answers.specs.RunEnds.{HasReadCause, HasWriteCause};
+ghost use Rattle.command_reorder.specs.Late.{LateRequest};
+ghost use Rattle.command_reorder.specs.LateProgress.{AfterPut, AfterText, AreOfSchema, HasFedOf, IsGateOf, TakesRoom};
 
 use cer_base::OrMemory;
 use cer_outside::Source;
@@ -31,11 +31,11 @@ pub fn put_line<Q: Source>(
     requires open { lines.old.closed ≡ false }
     requires going { gate.old.is_finished ≡ false }
     requires of_schema { AreOfSchema schema.now gate.old }
-    ensures put { (a : Feed) (told : Option (List ℕ)) (put gone : List (ℕ × Event))
-        → Sits a gate.old → a.schema ≡ schema.now → a.most_bytes ≡ lines.old.budget
+    ensures put { (a : LateRequest) (told : Option (List ℕ)) (put gone : List (ℕ × Event))
+        → IsGateOf a gate.old → a.schema ≡ schema.now → a.most_bytes ≡ lines.old.budget
         → StandsFor gate.old put gone → HasFedOf a told lines.old (Q.left source.old) put
         → AfterPut a told lines.new (Q.left source.new) gate.new put gone result }
-    ensures sits { (a : Feed) → Sits a gate.old → Sits a gate.new }
+    ensures sits { (a : LateRequest) → IsGateOf a gate.old → IsGateOf a gate.new }
     ensures going { gate.new.is_finished ≡ false }
     ensures of_schema { AreOfSchema schema.now gate.new }
     ensures budget { lines.new.budget ≡ lines.old.budget }
@@ -67,13 +67,13 @@ fn put_text(
 ) -> Result<(), OrMemory<EventFault>>
     requires going { gate.old.is_finished ≡ false }
     requires of_schema { AreOfSchema schema.now gate.old }
-    ensures put { (a : Feed) (put gone : List (ℕ × Event)) → Sits a gate.old
+    ensures put { (a : LateRequest) (put gone : List (ℕ × Event)) → IsGateOf a gate.old
         → a.schema ≡ schema.now → StandsFor gate.old put gone
         → AfterText a lines.now.number lines.now.text gate.new put gone result }
-    ensures sits { (a : Feed) → Sits a gate.old → Sits a gate.new }
+    ensures sits { (a : LateRequest) → IsGateOf a gate.old → IsGateOf a gate.new }
     ensures going { gate.new.is_finished ≡ false }
     ensures of_schema { AreOfSchema schema.now gate.new }
-    ensures held { length gate.new.events ≤ length gate.old.events + 1 }
+    ensures buffer { length gate.new.events ≤ length gate.old.events + 1 }
 {
     match read_event(alloc, schema, lines.text()) {
         Ok(Some(event)) => put_event(lines.number(), event, gate, schema),
@@ -92,13 +92,14 @@ fn put_event(
     requires going { gate.old.is_finished ≡ false }
     requires of_schema { AreOfSchema schema.now gate.old }
     requires one_of_schema { IsOfSchema schema.now event }
-    ensures put { (a : Feed) (text : List ℕ) (put gone : List (ℕ × Event)) → Sits a gate.old
+    ensures put { (a : LateRequest) (text : List ℕ) (put gone : List (ℕ × Event))
+        → IsGateOf a gate.old
         → event_of_line a.schema text ≡ Ok (Some event) → StandsFor gate.old put gone
         → AfterText a line text gate.new put gone result }
-    ensures sits { (a : Feed) → Sits a gate.old → Sits a gate.new }
+    ensures sits { (a : LateRequest) → IsGateOf a gate.old → IsGateOf a gate.new }
     ensures going { gate.new.is_finished ≡ false }
     ensures of_schema { AreOfSchema schema.now gate.new }
-    ensures held { length gate.new.events ≤ length gate.old.events + 1 }
+    ensures buffer { length gate.new.events ≤ length gate.old.events + 1 }
 {
     match gate.put(line, event) {
         Ok(()) => Ok(()),

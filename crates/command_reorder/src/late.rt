@@ -2,14 +2,14 @@
 
 ghost use Rattle.std.specs.Prelude.{◌≡◌, ◌+◌, ◌≤◌, ℕ, List, Option, Some, [], false, true, length, OnOk};
 ghost use Rattle.stream_schema.specs.declared.Event.{Event};
-ghost use Rattle.query_engine.specs.Engine.{State, StandsFor, SameQueries, count_of, peak_of};
+ghost use Rattle.query_engine.specs.Engine.{EngineState, StandsFor, SameQueries, count_of, peak_of};
 ghost use Rattle.event_run.specs.Runs.{End};
-ghost use Rattle.reorder_gate.specs.Clocks.{clock_fits};
-ghost use Rattle.stream_answers.specs.Ends.{HasReadCause, HasWriteCause};
-ghost use Rattle.command_reorder.specs.Late.{Feed};
-ghost use Rattle.command_reorder.specs.Written.{feed_by, StandsForLate, WroteLate};
-ghost use Rattle.command_reorder.specs.Steps.{LateStepsOver};
-ghost use Rattle.command_reorder.specs.Flowing.{AreOfSchema, Closed, Ended, Feeds, Flowing, HasBases, IsFresh, is_write_fault};
+ghost use Rattle.reorder_gate.specs.AttributeClock.{clock_fits};
+ghost use Rattle.stream_answers.specs.RunEnds.{HasReadCause, HasWriteCause};
+ghost use Rattle.command_reorder.specs.Late.{LateRequest};
+ghost use Rattle.command_reorder.specs.LateOutput.{feed_by, StandsForLate, WroteLate};
+ghost use Rattle.command_reorder.specs.LateSteps.{LateStepsOver};
+ghost use Rattle.command_reorder.specs.LateProgress.{AreOfSchema, Closed, Ended, Feeds, LateProgress, HasBases, IsFresh, is_write_fault};
 
 use crate::feeding::put_line;
 use crate::releasing::release;
@@ -109,10 +109,10 @@ fn answer_lines<Q: Source, K: Sink, L: Ledger>(
 ) -> Result<(), OrMemory<StreamFault>>
     requires open { lines.old.closed ≡ false }
     requires going { gate.old.is_finished ≡ false }
-    requires held { gate.old.events ≡ [] }
+    requires buffer { gate.old.events ≡ [] }
     requires none { count_of engine.old ≡ 0 }
     requires bases { HasBases schedule.old engine.old }
-    ensures closed { (every : Option ℕ) (peaks : ℕ → ℕ) (a : Feed) (first : ℕ)
+    ensures closed { (every : Option ℕ) (peaks : ℕ → ℕ) (a : LateRequest) (first : ℕ)
         → IsFresh every schedule.old peaks a lines.old gate.old output.old engine.old first
         steps.old
         → Closed every peaks a (Q.left source.old) (Q.left source.new)
@@ -153,9 +153,9 @@ fn answer_rest<K: Sink, L: Ledger>(
     requires counted { count_of engine.old + length gate.old.events ≤ read }
     requires of_schema { AreOfSchema engine.old.schema gate.old }
     requires bases { HasBases schedule.old engine.old }
-    ensures closed { (every : Option ℕ) (peaks : ℕ → ℕ) (a : Feed)
+    ensures closed { (every : Option ℕ) (peaks : ℕ → ℕ) (a : LateRequest)
         (told left before : Option (List ℕ)) (put : List (ℕ × Event)) (first : ℕ)
-        → Flowing every schedule.old peaks a told put gate.old output.old engine.old before
+        → LateProgress every schedule.old peaks a told put gate.old output.old engine.old before
         (K.taken out.old) first steps.old → Feeds a told put End
         → Closed every peaks a told left before (K.taken out.new) engine.new first steps.new
         result }
@@ -174,9 +174,9 @@ fn close<K: Sink>(
     out: &mut K,
     end: Result<(), OrMemory<StreamFault>>,
 ) -> Result<(), OrMemory<StreamFault>>
-    ensures closed { (every : Option ℕ) (peaks : ℕ → ℕ) (a : Feed)
-        (source left before : Option (List ℕ)) (engine : State) (first now : ℕ)
-        → Ended every peaks a source left before (K.taken out.old) output.old.held engine first
+    ensures closed { (every : Option ℕ) (peaks : ℕ → ℕ) (a : LateRequest)
+        (source left before : Option (List ℕ)) (engine : EngineState) (first now : ℕ)
+        → Ended every peaks a source left before (K.taken out.old) output.old.buffer engine first
         now end
         → Closed every peaks a source left before (K.taken out.new) engine first now result }
     ensures read_cause { (before now : ℕ) → HasReadCause before now end

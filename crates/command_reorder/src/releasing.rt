@@ -4,10 +4,10 @@ ghost use Rattle.std.specs.Prelude.{◌≡◌, ◌+◌, ◌^◌, ◌<◌, ◌≤
 ghost use Rattle.stream_schema.specs.Events.{IsOfSchema};
 ghost use Rattle.stream_schema.specs.declared.Event.{Event};
 ghost use Rattle.query_engine.specs.Engine.{SameQueries, count_of};
-ghost use Rattle.reorder_gate.specs.Gates.{Held};
-ghost use Rattle.stream_answers.specs.Ends.{HasReadCause, HasWriteCause};
-ghost use Rattle.command_reorder.specs.Late.{Feed};
-ghost use Rattle.command_reorder.specs.Flowing.{AfterAnswer, AfterRelease, AreOfSchema, Flowing, HasBases, Owing};
+ghost use Rattle.reorder_gate.specs.Gates.{GateState};
+ghost use Rattle.stream_answers.specs.RunEnds.{HasReadCause, HasWriteCause};
+ghost use Rattle.command_reorder.specs.Late.{LateRequest};
+ghost use Rattle.command_reorder.specs.LateProgress.{AfterAnswer, AfterRelease, AreOfSchema, LateProgress, HasBases, Owing};
 
 use cer_base::steps::Steps;
 use cer_base::{Memory, OrMemory};
@@ -36,9 +36,10 @@ pub fn release<K: Sink, L: Ledger>(
     requires counted { count_of engine.old + length gate.old.events ≤ read }
     requires of_schema { AreOfSchema engine.old.schema gate.old }
     requires bases { HasBases schedule.old engine.old }
-    ensures released { (every : Option ℕ) (peaks : ℕ → ℕ) (a : Feed) (source : Option (List ℕ))
+    ensures released { (every : Option ℕ) (peaks : ℕ
+        → ℕ) (a : LateRequest) (source : Option (List ℕ))
         (put : List (ℕ × Event)) (before : Option (List ℕ)) (first : ℕ)
-        → Flowing every schedule.old peaks a source put gate.old output.old engine.old before
+        → LateProgress every schedule.old peaks a source put gate.old output.old engine.old before
         (K.taken out.old) first steps.old
         → AfterRelease every schedule.new peaks a source put gate.new output.new engine.new before
         (K.taken out.new) first steps.new result }
@@ -77,8 +78,9 @@ fn answer_event<K: Sink, L: Ledger>(
     requires of_schema { IsOfSchema engine.old.schema event.now }
     requires room { count_of engine.old + 1 < 2 ^ 64 }
     requires bases { HasBases schedule.old engine.old }
-    ensures answered { (every : Option ℕ) (peaks : ℕ → ℕ) (a : Feed) (source : Option (List ℕ))
-        (put : List (ℕ × Event)) (g : Held) (before : Option (List ℕ)) (first : ℕ)
+    ensures answered { (every : Option ℕ) (peaks : ℕ
+        → ℕ) (a : LateRequest) (source : Option (List ℕ))
+        (put : List (ℕ × Event)) (g : GateState) (before : Option (List ℕ)) (first : ℕ)
         → Owing every schedule.old peaks a source put g (line, event.now) output.old engine.old
         before (K.taken out.old) first steps.old
         → AfterAnswer every schedule.new peaks a source put g output.new engine.new before

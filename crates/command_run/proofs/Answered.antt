@@ -2,10 +2,10 @@
 use Rattle.std.proofs.Common.{◌≡◌, ℕ, inr, List, [], Option, refl}
 use Rattle.cer_outside.specs.Content.{Content, HasOpened, OfOpened}
 use Rattle.cer_outside.specs.Bytes.{TookAll, TookPart}
-use Rattle.answer_blocks.specs.Taken.{TookPrefix}
+use Rattle.answer_blocks.specs.SinkBytes.{TookPrefix}
 use Rattle.stream_schema.specs.Types.{Declared}
 use Rattle.cel_terms.specs.declared.Query.{Query}
-use Rattle.event_run.specs.Runs.{Stop}
+use Rattle.event_run.specs.Runs.{RunStop}
 use Rattle.event_run.specs.Taking.{AreEventsRead}
 use Rattle.stream_answers.specs.Streams.{WroteOver, WroteAll, WrotePartOf, answers_said}
 use Rattle.command_words.specs.declared.RunWords.{RunWords}
@@ -14,12 +14,12 @@ use Rattle.command_base.specs.Ending.{Outside}
 use Rattle.command_base.proofs.Told.{not_missing, text_not_missing, source_told, text_told, read_so_far, rest_of}
 use Rattle.command_base.proofs.Ends.{Meets}
 use Rattle.command_run.specs.Runs.{AreFileAnswers, AreReadAnswers, run_task}
-use Rattle.command_run.specs.Steps.{asked_of}
+use Rattle.command_run.specs.StepCounts.{asked_of}
 
 module _ (content : List ℕ → Content) (r : RunWords) (schema : Declared) (queries : List Query) (source before after : Option (List ℕ))
     (accepted : OfOpened (content r.queries) (λ text. Accepts text schema queries)) (opened : HasOpened (content r.events) source) where
   -- all answers
-  wrote_all : (halt : Stop) → WroteAll (asked_of r schema queries) source halt before after → (bytes : List ℕ) × AreFileAnswers content r (λ s. s ≡ halt) bytes × TookAll before after bytes
+  wrote_all : (halt : RunStop) → WroteAll (asked_of r schema queries) source halt before after → (bytes : List ℕ) × AreFileAnswers content r (λ s. s ≡ halt) bytes × TookAll before after bytes
   wrote_all halt wrote = (
     wrote.bytes,
     record {

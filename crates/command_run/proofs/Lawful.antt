@@ -2,18 +2,18 @@
 use Rattle.std.proofs.Common.{◌≡◌, ℕ, inl, inr, List, Option}
 use Rattle.cer_outside.specs.Content.{Content}
 use Rattle.cer_outside.specs.Bytes.{TookAll}
-use Rattle.answer_blocks.specs.Taken.{TookPrefix}
-use Rattle.event_run.specs.Runs.{Stop, Event, InputTooLong}
+use Rattle.answer_blocks.specs.SinkBytes.{TookPrefix}
+use Rattle.event_run.specs.Runs.{RunStop, Event, InputTooLong}
 use Rattle.event_run.proofs.ForCallers.{one_run_of_trees}
 use Rattle.stream_answers.proofs.Portions.{prefix_of_all}
 use Rattle.command_words.specs.declared.RunWords.{RunWords}
 use Rattle.command_base.proofs.Lawful.{IsLawful}
 use Rattle.command_base.proofs.StepClauses.{Forgets}
 use Rattle.command_run.specs.Runs.{AreFileAnswers, run_task}
-use Rattle.command_run.specs.Steps.{run_steps}
+use Rattle.command_run.specs.StepCounts.{run_steps}
 
 -- all answers are a first part of them
-some_part : (content : List ℕ → Content) (r : RunWords) (halt : Stop) (before after : Option (List ℕ)) → ((bytes : List ℕ) × AreFileAnswers content r (λ s. s ≡ halt) bytes × TookAll before after bytes) →
+some_part : (content : List ℕ → Content) (r : RunWords) (halt : RunStop) (before after : Option (List ℕ)) → ((bytes : List ℕ) × AreFileAnswers content r (λ s. s ≡ halt) bytes × TookAll before after bytes) →
     (bytes : List ℕ) × AreFileAnswers content r (λ s. Unit {0}) bytes × TookPrefix before after bytes
 some_part content r halt before after wrote = (
   wrote.0,

@@ -4,21 +4,21 @@ use Rattle.cer_outside.specs.Causes.{AllStay}
 use Rattle.cer_outside.specs.Content.{Content, Holds, OfOpened}
 use Rattle.stream_schema.specs.Types.{Declared}
 use Rattle.cel_terms.specs.declared.Query.{Query}
-use Rattle.query_engine.specs.Engine.{State}
+use Rattle.query_engine.specs.Engine.{EngineState}
 use Rattle.stream_answers.specs.Streams.{answers_said}
 use Rattle.command_words.specs.declared.RunWords.{RunWords}
 use Rattle.command_base.specs.declared.Cause.{Cause}
 use Rattle.command_base.specs.Accepted.{Accepts}
 use Rattle.command_base.specs.Leaving.{IsLeftBy}
-use Rattle.command_base.specs.Steps.{StepsBy, counts_where}
+use Rattle.command_base.specs.StepCounts.{StepsBy, counts_where}
 use Rattle.command_base.specs.Sources.{Sources}
 use Rattle.command_base.specs.Ending.{Outside, FileStop, TaskEnded}
 use Rattle.command_base.proofs.Lawful.{takes_accepted}
 use Rattle.command_base.proofs.Ends.{two_files_ended}
 use Rattle.command_base.proofs.StepClauses.{steps_of_files}
 use Rattle.command_run.specs.Runs.{run_task}
-use Rattle.command_run.specs.Steps.{asked_of, run_counts, run_steps}
-use Rattle.command_run.specs.Left.{run_leaves}
+use Rattle.command_run.specs.StepCounts.{asked_of, run_counts, run_steps}
+use Rattle.command_run.specs.LeftEngine.{run_leaves}
 use Rattle.command_run.proofs.Answered.{meets}
 
 -- over its event file
@@ -51,6 +51,6 @@ pub steps_named : (content : List ℕ → Content) (r : RunWords) (x y : List �
     StepsBy given (run_steps (record r { queries = x; events = y }) content) before after old now → StepsBy given (run_steps r content) before after old now
 steps_named content r x y given before after old now one two h = as_named (λ w. StepsBy given (run_steps w content) before after old now) r x y one two h
 
-pub left_named : (content : List ℕ → Content) (r : RunWords) (x y : List ℕ) (given : Cause) (left : Option State) → x ≡ r.queries → y ≡ r.events →
+pub left_named : (content : List ℕ → Content) (r : RunWords) (x y : List ℕ) (given : Cause) (left : Option EngineState) → x ≡ r.queries → y ≡ r.events →
     IsLeftBy given (run_leaves (record r { queries = x; events = y }) content) left → IsLeftBy given (run_leaves r content) left
 left_named content r x y given left one two h = as_named (λ w. IsLeftBy given (run_leaves w content) left) r x y one two h

@@ -1,3 +1,3 @@
 pub mod Runs
-pub mod Steps
-pub mod Left
+pub mod StepCounts
+pub mod LeftEngine

@@ -2,20 +2,20 @@
 use Rattle.std.specs.Prelude.{◌≡◌, ◌≢◌, ℕ, ◌⊎◌, true, List, Option, Some, None}
 use Rattle.cer_outside.specs.Content.{Content, Missing, Holds}
 use Rattle.cer_outside.specs.Bytes.{TookAll, TookPart}
-use Rattle.answer_blocks.specs.Taken.{TookPrefix}
+use Rattle.answer_blocks.specs.SinkBytes.{TookPrefix}
 use Rattle.answer_text.specs.Output.{IsOutput}
 use Rattle.stream_schema.specs.Types.{Declared}
 use Rattle.stream_schema.specs.declared.Event.{Event}
 use Rattle.cel_terms.specs.declared.Query.{Query}
-use Rattle.event_run.specs.Runs.{Stop, RunsTo}
+use Rattle.event_run.specs.Runs.{RunStop, RunsTo}
 use Rattle.event_run.specs.Taking.{AreEventsBefore}
-use Rattle.stream_answers.specs.Ends.{Said}
+use Rattle.stream_answers.specs.RunEnds.{EndClaims}
 use Rattle.command_words.specs.declared.RunWords.{RunWords}
 use Rattle.command_base.specs.Accepted.{Accepts}
 use Rattle.command_base.specs.Tasks.{Task}
 
 -- The bytes are the answers of the text's queries over the events that they take of the file, where they stop so.
-pub record AreAnswers (r : RunWords) (text lines : List ℕ) (stop : Stop) (bytes : List ℕ) : Type 0 where
+pub record AreAnswers (r : RunWords) (text lines : List ℕ) (stop : RunStop) (bytes : List ℕ) : Type 0 where
   pub schema : Declared
   pub queries : List Query
   pub events : List Event
@@ -33,11 +33,11 @@ pub record AreAnswersSoFar (r : RunWords) (text lines rest : List ℕ) (bytes : 
   pub output : IsOutput r.order schema queries events bytes
 
 -- The host lacks neither file, and where it tells their bytes, these are the answers to them, with a stop that passes.
-pub record AreFileAnswers (content : List ℕ → Content) (r : RunWords) (Passes : Stop → Type 0) (bytes : List ℕ) : Type 0 where
+pub record AreFileAnswers (content : List ℕ → Content) (r : RunWords) (Passes : RunStop → Type 0) (bytes : List ℕ) : Type 0 where
   pub has_queries : content r.queries ≢ Missing
   pub has_events : content r.events ≢ Missing
   pub answers : (text lines : List ℕ) → content r.queries ≡ Holds text → content r.events ≡ Holds lines
-      → (stop : Stop) × Passes stop × AreAnswers r text lines stop bytes
+      → (stop : RunStop) × Passes stop × AreAnswers r text lines stop bytes
 
 -- The host lacks neither file, and where it tells their bytes, these are the answers over the lines that end among the bytes that a source, which failed, no longer has left.
 pub record AreReadAnswers (content : List ℕ → Content) (r : RunWords) (left : Option (List ℕ)) (bytes : List ℕ) : Type 0 where
@@ -47,7 +47,7 @@ pub record AreReadAnswers (content : List ℕ → Content) (r : RunWords) (left 
       → AreAnswersSoFar r text lines rest bytes
 
 -- What the output has taken, from before to after: all answers up to the stop, or those over the lines that were read; a proper first part where a write failed; and a first part or nothing where memory ran out.
-abbrev pub run_said : RunWords → (List ℕ → Content) → Option (List ℕ) → Option (List ℕ) → Said
+abbrev pub run_said : RunWords → (List ℕ → Content) → Option (List ℕ) → Option (List ℕ) → EndClaims
 run_said r content before after = record {
   stops = λ halt. (bytes : List ℕ) × AreFileAnswers content r (λ s. s ≡ halt) bytes × TookAll before after bytes;
   unread = λ left. (bytes : List ℕ) × AreReadAnswers content r left bytes × TookAll before after bytes;

@@ -5,11 +5,11 @@ ghost use Rattle.cer_outside.specs.Content.{Holds};
 ghost use Rattle.query_engine.specs.Engine.{StandsFor, SameQueries, count_of, peak_of};
 ghost use Rattle.stream_answers.specs.Streams.{asked_by, answers_said, StandsForAll};
 ghost use Rattle.command_base.specs.Ending.{TaskEnded, FileStop, IsAskedFor};
-ghost use Rattle.command_base.specs.Steps.{StepsBy, counts_where};
+ghost use Rattle.command_base.specs.StepCounts.{StepsBy, counts_where};
 ghost use Rattle.command_base.specs.Leaving.{IsLeftBy};
 ghost use Rattle.command_run.specs.Runs.{run_task};
-ghost use Rattle.command_run.specs.Steps.{run_counts, run_steps};
-ghost use Rattle.command_run.specs.Left.{run_leaves};
+ghost use Rattle.command_run.specs.StepCounts.{run_counts, run_steps};
+ghost use Rattle.command_run.specs.LeftEngine.{run_leaves};
 
 use cer_base::steps::Steps;
 use cer_outside::{Host, Sink, Source};

@@ -7,7 +7,7 @@ use Rattle.stream_schema.specs.declared.Event.{Event}
 use Rattle.stream_schema.specs.declared.Value.TheVariants.{Int}
 use Rattle.stream_schema.specs.Events.{IsOfSchema}
 use Rattle.cel_terms.specs.declared.Query.{Query}
-use Rattle.query_engine.specs.Engine.{State, StandsFor, count_of}
+use Rattle.query_engine.specs.Engine.{EngineState, StandsFor, count_of}
 use Rattle.command_sample.specs.Generator.{generated_event, next_value, value_after, generated}
 use Rattle.command_sample.specs.Queries.{sample_schema, AreQueries}
 use Rattle.command_sample.specs.Tallies.{IsTallyAt}
@@ -45,7 +45,7 @@ no_told : (seed : ℕ) (q : Query) (a t : ℕ) → a ≡ 0 → t ≡ 0 → IsTol
 no_told seed q a t ha ht = record { answers = 0; weight = 0; tally = (refl, refl); number_is = ha; total_is = ht }
 
 -- No event was taken.
-pub at_start : (seed : ℕ) (engine : State) (a t b u : ℕ) → engine.schema ≡ sample_schema → AreQueries engine.queries → StandsFor engine [] → count_of engine ≡ 0 →
+pub at_start : (seed : ℕ) (engine : EngineState) (a t b u : ℕ) → engine.schema ≡ sample_schema → AreQueries engine.queries → StandsFor engine [] → count_of engine ≡ 0 →
     a ≡ 0 → t ≡ 0 → b ≡ 0 → u ≡ 0 → IsAt seed 0 engine seed a t b u
 at_start seed engine a t b u schema queries stands count ha ht hb hu = record {
   first = queries.0;
@@ -62,11 +62,11 @@ at_start seed engine a t b u schema queries stands count ha ht hb hu = record {
 }
 
 -- What an engine with these events tells of a query.
-pub record Tells (engine : State) (number b u : ℕ) : Type 0 where
+pub record Tells (engine : EngineState) (number b u : ℕ) : Type 0 where
   pub tells : (events : List Event) (q : Query) → StandsFor engine events → slice_get engine.queries (number - 1) ≡ Some q → (k : ℕ) × (m : ℕ)
       × IsTallyAt engine.schema q events (length events - 1) k m × (b ≡ k % 2 ^ 64) × (u ≡ m % 2 ^ 64)
 
-told_here : (seed n number : ℕ) (engine : State) (q : Query) (b u : ℕ) → engine.schema ≡ sample_schema → StandsFor engine (generated seed (suc n)) → slice_get engine.queries (number - 1) ≡ Some q →
+told_here : (seed n number : ℕ) (engine : EngineState) (q : Query) (b u : ℕ) → engine.schema ≡ sample_schema → StandsFor engine (generated seed (suc n)) → slice_get engine.queries (number - 1) ≡ Some q →
     Tells engine number b u → IsToldAt q (generated seed (suc n)) n b u
 told_here seed n number engine q b u schema stands at h =
     let it = h.tells (generated seed (suc n)) q stands at in
@@ -80,7 +80,7 @@ told_here seed n number engine q b u schema stands at h =
     )
 
 -- An event more was taken.
-pub round : (seed n : ℕ) (old new : State) (event : Event) (x next a t b u a' t' b' u' fa ft sa st : ℕ) → IsAt seed n old x a t b u →
+pub round : (seed n : ℕ) (old new : EngineState) (event : Event) (x next a t b u a' t' b' u' fa ft sa st : ℕ) → IsAt seed n old x a t b u →
     next ≡ next_value x → event ≡ generated_event (next_value x) → ((events : List Event) → StandsFor old events → StandsFor new (events ++ event ∷ [])) → count_of new ≡ count_of old + 1 →
     new.schema ≡ old.schema → new.queries ≡ old.queries → Tells new 1 a' t' → Tells new 2 b' u' →
     fa ≡ (a + a') % 2 ^ 64 → ft ≡ (t + t') % 2 ^ 64 → sa ≡ (b + b') % 2 ^ 64 → st ≡ (u + u') % 2 ^ 64 → IsAt seed (n + 1) new next fa ft sa st
@@ -105,7 +105,7 @@ round seed n old new event x next a t b u a' t' b' u' fa ft sa st h value made s
     })
 
 -- All events were taken.
-pub all_told : (seed n count : ℕ) (engine : State) (x a t b u : ℕ) → n ≡ count → IsAt seed n engine x a t b u → AreToldOf seed count a t b u
+pub all_told : (seed n count : ℕ) (engine : EngineState) (x a t b u : ℕ) → n ≡ count → IsAt seed n engine x a t b u → AreToldOf seed count a t b u
 all_told seed n count engine x a t b u all h = subst (λ (m : ℕ). AreToldOf seed m a t b u) all (record {
   first = h.first;
   second = h.second;

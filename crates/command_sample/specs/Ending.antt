@@ -2,7 +2,7 @@
 use Rattle.std.specs.Prelude.{◌≡◌, ℕ, ◌⊎◌, List, Option, None}
 use Rattle.cer_outside.specs.Causes.{Rose}
 use Rattle.cer_outside.specs.Bytes.{TookAll, TookPart}
-use Rattle.answer_blocks.specs.Taken.{TookPrefix}
+use Rattle.answer_blocks.specs.SinkBytes.{TookPrefix}
 use Rattle.command_words.specs.declared.SampleWords.{SampleWords}
 use Rattle.command_base.specs.declared.Cause.{Cause}
 use Rattle.command_base.specs.declared.Cause.TheVariants as cause

@@ -1,13 +1,13 @@
 -- How far a count has come.
 use Rattle.std.specs.Prelude.{◌≡◌, ℕ, [], ◌∷◌}
 use Rattle.cel_terms.specs.declared.Query.{Query}
-use Rattle.query_engine.specs.Engine.{State, StandsFor, count_of}
+use Rattle.query_engine.specs.Engine.{EngineState, StandsFor, count_of}
 use Rattle.command_sample.specs.Generator.{value_after, generated}
 use Rattle.command_sample.specs.Queries.{sample_schema, IsFirstQuery, IsSecondQuery}
 use Rattle.command_sample.specs.Summary.{IsToldOf}
 
 -- So many events were taken, the last one made after this value, and all answers up to there are added.
-pub record IsAt (seed taken : ℕ) (engine : State) (made first_number first_total second_number second_total : ℕ) : Type 0 where
+pub record IsAt (seed taken : ℕ) (engine : EngineState) (made first_number first_total second_number second_total : ℕ) : Type 0 where
   pub first : Query
   pub second : Query
   pub first_is : IsFirstQuery first

@@ -6,7 +6,7 @@ use Rattle.cer_base.specs.declared.bytes.TheConstants.{LINE_FEED}
 use Rattle.cer_outside.specs.declared.WriteFault.{WriteFault}
 use Rattle.cer_outside.specs.Bytes.{TookAll, TookPart}
 use Rattle.cel_terms.specs.declared.Query.{Query}
-use Rattle.answer_blocks.specs.Taken.{TookPrefix}
+use Rattle.answer_blocks.specs.SinkBytes.{TookPrefix}
 use Rattle.command_sample.specs.Queries.{IsFirstQuery, IsSecondQuery}
 use Rattle.command_sample.specs.Tallies.{IsTally}
 

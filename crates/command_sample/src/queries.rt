@@ -11,7 +11,7 @@ ghost use Rattle.std.specs.Prelude.{pos, codes, ◌+◌, ◌<◌, ◌^◌};
 ghost use Rattle.command_sample.specs.Queries.{sample_schema, sample_attrs, name_at, IsPostOf, IsChainOf, AreAllOf, first_parts, first_filters, IsFirstFormula, IsSecondFormula, AreQueries, IsOfStream};
 
 use cel_terms::{Filter, Formula, Name, Postfix, Pred, Query, Window};
-use cer_base::{Listed, Memory, OrMemory, Place, Text};
+use cer_base::{Listed, Location, Memory, OrMemory, Text};
 use query_engine::Queries;
 use std::alloc::Global;
 use stream_schema::{Attr, Attrs, Kind, Op, Schema, SchemaFault, Value};
@@ -73,7 +73,7 @@ fn name_at(alloc: Global, text: &str, line: u64, col: u64) -> Result<Name, Memor
 {
     Ok(Name {
         text: Text::copy_of(alloc, text)?,
-        place: Place { line, col },
+        place: Location { line, col },
     })
 }
 
@@ -151,7 +151,7 @@ fn of_stream(alloc: Global, line: u64, width: u64, formula: Formula) -> Result<Q
         formula,
         partition: Listed::of(Vec::new(alloc)),
         window: Window::Events(width),
-        place: Place { line, col: 1 },
+        place: Location { line, col: 1 },
     })
 }
 

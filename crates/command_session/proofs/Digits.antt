@@ -8,7 +8,7 @@ use Rattle.std.specs.Str.{all_ascii_digits}
 use Rattle.std.specs.Str.Parse.{digits_value}
 use Rattle.std.proofs.lemmas.Bool.{and_parts, and_from, leb-true, le-leb, eqb-true, lt-ltb}
 use Rattle.std.proofs.lemmas.Str.Parse.{digits_value_short, numerals_by_value, tells_all_ascii_digits}
-use Rattle.event_reader.specs.Words.{is_blank}
+use Rattle.event_reader.specs.LineWords.{is_blank}
 use Rattle.command_session.specs.Numbers.{is_command_number, command_number, one_of}
 use Rattle.command_session.specs.Spelling.{Writes, WritesOneOf}
 

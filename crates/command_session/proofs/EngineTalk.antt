@@ -1,4 +1,4 @@
--- A step of a session as steps of the engine's machine.
+-- A step of a session as steps of the engine's model.
 use Rattle.std.proofs.Common.{◌≡◌, ℕ, zero, suc, ◌<◌, List, [], ◌∷◌, ◌++◌, length, map, take, drop, remove, refl, sym, subst, ap, ◌∙◌, Bool, Some, arith}
 use Rattle.std.specs.Prelude.{slice_get, slice_set, position}
 use Rattle.std.proofs.lemmas.List.{map-append, take-append-drop}
@@ -7,10 +7,10 @@ use Rattle.std.specs.List.Sorted.{IsPermutation}
 use Rattle.stream_schema.specs.Types.{Declared}
 use Rattle.cel_terms.specs.declared.Query.{Query}
 use Rattle.cel_terms.specs.Answers.{Answer}
-use Rattle.query_engine.specs.Machine as engine
-use Rattle.command_session.specs.declared.command.Command.{Command}
-use Rattle.command_session.specs.declared.command.Command.TheVariants as command
-use Rattle.command_session.specs.Machine.{Machine, IsStep, has_number}
+use Rattle.query_engine.specs.EngineModel as engine
+use Rattle.command_session.specs.declared.command.ScriptCommand.{ScriptCommand}
+use Rattle.command_session.specs.declared.command.ScriptCommand.TheVariants as command
+use Rattle.command_session.specs.SessionModel.{SessionModel, IsStep, has_number}
 use Rattle.command_session.specs.EngineSteps.{unnumbered, without_numbers, Talk, IsTalk, AreSteps, NoStep, OneMore}
 
 module _ {A : Type 0} where
@@ -58,25 +58,25 @@ module _ {A B : Type 0} (f : A → B) where
 
 module _ (schema : Declared) (queries : List Query) where
   -- so many answers are pulled, one after the other
-  pulls : (given others : List Answer) (m : engine.Machine) (k : ℕ) (cursor : engine.OpenCursor) → slice_get m.cursors k ≡ Some cursor → cursor.left ≡ given ++ others →
+  pulls : (given others : List Answer) (m : engine.EngineModel) (k : ℕ) (cursor : engine.OpenCursor) → slice_get m.cursors k ≡ Some cursor → cursor.left ≡ given ++ others →
       AreSteps schema queries m (map (λ answer. (engine.Pull k, engine.Gives answer)) given) (engine.with_left m k cursor others)
   pulls [] others m k cursor here left =
       let same : record cursor { left = others } ≡ cursor = ap (λ answers. record cursor { left = answers }) (sym left) in
       subst (AreSteps schema queries m []) (ap (λ cursors. record m { cursors = cursors }) (sym (same_set m.cursors k cursor (record cursor { left = others }) here same))) (NoStep m)
   pulls (a ∷ given) others m k cursor here left =
       let rest : engine.OpenCursor = record cursor { left = given ++ others } in
-      let next : engine.Machine = engine.with_left m k cursor (given ++ others) in
+      let next : engine.EngineModel = engine.with_left m k cursor (given ++ others) in
       let step : engine.IsStep schema queries m (engine.Pull k) (engine.Gives a) next =
       engine.Given m k cursor a (given ++ others) here (subst (λ (answers : List Answer). IsPermutation cursor.left answers) left (IsPermutation-refl cursor.left)) in
       let more = pulls given others next k rest (get_set m.cursors k cursor rest here) refl in
       let twice : engine.with_left next k rest others ≡ engine.with_left m k cursor others = ap (λ cursors. record m { cursors = cursors }) (set_set m.cursors k rest (record cursor { left = others })) in
       OneMore m next (engine.with_left m k cursor others) (engine.Pull k) (engine.Gives a) _ step (subst (AreSteps schema queries next (map (λ answer. (engine.Pull k, engine.Gives answer)) given)) twice more)
 
-  only : (a b c : engine.Machine) (command : engine.Command) (reply : engine.Reply) → b ≡ c → engine.IsStep schema queries a command reply b → AreSteps schema queries a ((command, reply) ∷ []) c
+  only : (a b c : engine.EngineModel) (command : engine.Command) (reply : engine.Reply) → b ≡ c → engine.IsStep schema queries a command reply b → AreSteps schema queries a ((command, reply) ∷ []) c
   only a b c command reply e step = OneMore a b c command reply [] step (subst (AreSteps schema queries b []) e (NoStep b))
 
   -- Each command of a session.
-  pub talked : (c : Command) (old new : Machine) (bytes : List ℕ) → IsStep schema queries c old new bytes →
+  pub talked : (c : ScriptCommand) (old new : SessionModel) (bytes : List ℕ) → IsStep schema queries c old new bytes →
       (talk : Talk) × IsTalk c old talk × AreSteps schema queries (without_numbers old) talk (without_numbers new)
   talked (command.Event event) old new bytes s =
       (_, refl, only (without_numbers old) (engine.with_event (without_numbers old) event) (without_numbers new) (engine.Take event) engine.Done (sym (ap without_numbers s.after)) (engine.Taken (without_numbers old) event s.in_time))

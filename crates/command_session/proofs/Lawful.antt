@@ -2,20 +2,20 @@
 use Rattle.std.proofs.Common.{ℕ, inl, inr, List, Option}
 use Rattle.cer_outside.specs.Content.{Content}
 use Rattle.cer_outside.specs.Bytes.{TookAll}
-use Rattle.answer_blocks.specs.Taken.{TookPrefix}
-use Rattle.event_run.specs.Runs.{Stop, Event, InputTooLong}
+use Rattle.answer_blocks.specs.SinkBytes.{TookPrefix}
+use Rattle.event_run.specs.Runs.{RunStop, Event, InputTooLong}
 use Rattle.stream_answers.proofs.Portions.{prefix_of_all}
 use Rattle.command_words.specs.declared.SessionWords.{SessionWords}
 use Rattle.command_base.proofs.Lawful.{IsLawful}
 use Rattle.command_base.proofs.StepClauses.{Forgets}
 use Rattle.command_session.specs.declared.script.TheConstants.{MOST_BYTES}
 use Rattle.command_session.specs.Played.{ScriptWrites, ScriptBegins, WroteSteps, session_task}
-use Rattle.command_session.specs.Counted.{script_asked, session_steps}
+use Rattle.command_session.specs.StepCounts.{script_asked, session_steps}
 use Rattle.command_session.proofs.StopsOnce.{stops_once, whole_begins}
 use Rattle.command_session.proofs.TurnsCounted.{forget_took}
 
 -- all steps are a first part of them
-some_steps : (content : List ℕ → Content) (s : SessionWords) (halt : Stop) (before after : Option (List ℕ)) → WroteSteps content s (ScriptWrites halt) (TookAll before after) → WroteSteps content s ScriptBegins (TookPrefix before after)
+some_steps : (content : List ℕ → Content) (s : SessionWords) (halt : RunStop) (before after : Option (List ℕ)) → WroteSteps content s (ScriptWrites halt) (TookAll before after) → WroteSteps content s ScriptBegins (TookPrefix before after)
 some_steps content s halt before after wrote = record {
   has_queries = wrote.has_queries;
   has_script = wrote.has_script;

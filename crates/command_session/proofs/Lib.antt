@@ -13,11 +13,11 @@ mod Paid
 mod Stepping
 -- and what it costs
 mod Costs
--- and as steps of the engine's machine
+-- and as steps of the engine's model
 mod EngineTalk
--- machines that differ in the order of answers alone, after the same command
+-- models that differ in the order of answers alone, after the same command
 mod SameCursors
--- such machines refuse a command alike
+-- such models refuse a command alike
 mod SameRefusals
 -- a script stops in one way; for callers
 pub mod StopsOnce

@@ -3,10 +3,10 @@ use Rattle.std.proofs.Common.{◌≡◌, ℕ, inl, inr, List, Option, Some, None
 use Rattle.cer_outside.specs.Causes.{AllStay}
 use Rattle.cer_outside.specs.Content.{Content, Untold, Missing, Holds, HasOpened, OfOpened}
 use Rattle.cer_outside.specs.Bytes.{TookAll, TookPart}
-use Rattle.answer_blocks.specs.Taken.{TookPrefix}
+use Rattle.answer_blocks.specs.SinkBytes.{TookPrefix}
 use Rattle.stream_schema.specs.Types.{Declared}
 use Rattle.cel_terms.specs.declared.Query.{Query}
-use Rattle.event_run.specs.Runs.{Stop}
+use Rattle.event_run.specs.Runs.{RunStop}
 use Rattle.command_words.specs.declared.SessionWords.{SessionWords}
 use Rattle.command_base.specs.declared.Cause.{Cause}
 use Rattle.command_base.specs.Accepted.{Accepts, SaysOf}
@@ -19,10 +19,10 @@ use Rattle.command_base.proofs.Ends.{Meets, two_files_ended}
 use Rattle.command_session.specs.declared.script.TheConstants.{MOST_BYTES}
 use Rattle.command_session.specs.Scripts.{PlaysTo, BeginsPlay, WritesRead, WroteOver, play_said}
 use Rattle.command_session.specs.Played.{WroteSteps, session_task}
-use Rattle.command_session.specs.Counted.{script_asked}
+use Rattle.command_session.specs.StepCounts.{script_asked}
 
 -- what a script writes that stops so, of any schema and queries
-abbrev Plays : Stop → Declared → List Query → List ℕ → List ℕ → Type 0
+abbrev Plays : RunStop → Declared → List Query → List ℕ → List ℕ → Type 0
 Plays halt schema queries script bytes = PlaysTo schema queries MOST_BYTES script bytes halt
 
 abbrev Begins : Declared → List Query → List ℕ → List ℕ → Type 0

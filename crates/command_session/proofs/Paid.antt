@@ -3,7 +3,7 @@ use Rattle.std.proofs.Common.{◌≡◌, ℕ, ◌+◌, ◌-◌, ◌*◌, ◌<◌
 use Rattle.stream_schema.specs.declared.Event.{Event}
 use Rattle.query_engine.specs.Bounds.{update_bound, for_each_query}
 use Rattle.query_engine.specs.declared.sizes.Size.{Size}
-use Rattle.query_engine.specs.Engine.{State, SameQueries, found_of, update_bounds}
+use Rattle.query_engine.specs.Engine.{EngineState, SameQueries, found_of, update_bounds}
 use Rattle.query_engine.specs.Keys.{HasAddedKeys}
 use Rattle.query_engine.specs.Sizes.{size_of, base_of, put_by}
 use Rattle.query_engine.specs.Windows.{HasAdded}
@@ -14,11 +14,11 @@ use Rattle.query_engine.proofs.SmallSizes.{bound_least}
 pay : (bound most old new base : ℕ) → bound ≤ most → 64 ≤ most → new ≤ old + bound + 8 → bound + 24 * (new - base) ≤ 24 * (old - base) + 28 * most
 pay bound most old new base less least grown = omega arith
 
-size_grows : (old new : State) (event : Event) → HasAdded old new event → HasAddedKeys old new event → (query : ℕ) → size_of new query ≤ size_of old query + update_bound (found_of new query) + 8
+size_grows : (old new : EngineState) (event : Event) → HasAdded old new event → HasAddedKeys old new event → (query : ℕ) → size_of new query ≤ size_of old query + update_bound (found_of new query) + 8
 size_grows old new event added keys query = let nodes = added.growth query in let few = keys.few query in omega arith
 
 -- of all, where no more is found of each query than so much
-pub event_is_paid : (old new : State) (event : Event) (bases : List Size) (most : ℕ → ℕ) → SameQueries old new → HasAdded old new event → HasAddedKeys old new event →
+pub event_is_paid : (old new : EngineState) (event : Event) (bases : List Size) (most : ℕ → ℕ) → SameQueries old new → HasAdded old new event → HasAddedKeys old new event →
     ((j : ℕ) → j < length new.queries → update_bound (found_of new (j + 1)) ≤ update_bound (most (j + 1))) →
     update_bounds new + put_by new bases ≤ put_by old bases + for_each_query (length new.queries) (λ k. 28 * update_bound (most k))
 event_is_paid old new event bases most same added keys within =

@@ -14,10 +14,10 @@ use Rattle.cel_terms.specs.Answers.{Answer}
 use Rattle.answer_text.specs.Output.{line}
 use Rattle.query_engine.specs.Bounds.{delay}
 use Rattle.query_engine.specs.Holding.{answer_of}
-use Rattle.answer_blocks.specs.Counted.{delay_of, delays}
-use Rattle.answer_blocks.specs.Taken.{TookBy}
+use Rattle.answer_blocks.specs.RowSteps.{delay_of, delays}
+use Rattle.answer_blocks.specs.SinkBytes.{TookBy}
 use Rattle.answer_blocks.proofs.Writing.{took_none, all_after, error_after}
-use Rattle.command_session.specs.Machine.{end_line, more_line, pull_end, pull_text}
+use Rattle.command_session.specs.SessionModel.{end_line, more_line, pull_end, pull_text}
 
 -- So many answers were given of all, their lines were taken, and each took its delay at most.
 pub record Gave (query end : ℕ) (first now : Option (List ℕ)) (all left : List Answer) (n before after : ℕ) : Type 0 where

@@ -1,13 +1,13 @@
--- Two machines that took the same events and have cursors of the same numbers, whatever answers these have left, are such machines after the same command.
+-- Two models that took the same events and have cursors of the same numbers, whatever answers these have left, are such models after the same command.
 use Rattle.std.proofs.Common.{◌≡◌, ℕ, zero, suc, ◌+◌, ◌-◌, ◌==◌, ◌<◌, cond, not, nat_lt, List, [], ◌∷◌, ◌++◌, length, map, position, remove, slice_get, slice_set, Some, None, refl, sym, ◌∙◌, ap, ap₂, subst, arith}
 use Rattle.std.specs.List.{position_or_len}
 use Rattle.std.proofs.lemmas.List.Quantifiers.{position-Some}
 use Rattle.stream_schema.specs.Types.{Declared}
 use Rattle.stream_schema.specs.declared.Event.{Event}
 use Rattle.cel_terms.specs.declared.Query.{Query}
-use Rattle.command_session.specs.declared.command.Command.{Command}
-use Rattle.command_session.specs.declared.command.Command.TheVariants as command
-use Rattle.command_session.specs.Machine.{Machine, OpenCursor, IsStep, cursor_place, has_number}
+use Rattle.command_session.specs.declared.command.ScriptCommand.{ScriptCommand}
+use Rattle.command_session.specs.declared.command.ScriptCommand.TheVariants as command
+use Rattle.command_session.specs.SessionModel.{SessionModel, OpenCursor, IsStep, cursor_place, has_number}
 
 abbrev pub number_of : OpenCursor → ℕ
 number_of cursor = cursor.number
@@ -16,11 +16,11 @@ abbrev pub numbers_of : List OpenCursor → List ℕ
 numbers_of cursors = map number_of cursors
 
 -- They took the same events, and their cursors have the same numbers in the same order.
-pub record AreAlike (a b : Machine) : Type 0 where
+pub record AreAlike (a b : SessionModel) : Type 0 where
   pub events : a.events ≡ b.events
   pub numbers : numbers_of a.cursors ≡ numbers_of b.cursors
 
-pub turned : (a b : Machine) → AreAlike a b → AreAlike b a
+pub turned : (a b : SessionModel) → AreAlike a b → AreAlike b a
 turned a b alike = record { events = sym alike.events; numbers = sym alike.numbers }
 
 -- WHERE A NUMBER STANDS
@@ -36,7 +36,7 @@ first_place number (c ∷ cursors) = ap (λ (n : ℕ). cond (not (c.number == nu
 place_among : (number : ℕ) (cursors : List OpenCursor) → position (has_number number) cursors ≡ position (λ (n : ℕ). n == number) (numbers_of cursors)
 place_among number cursors = ap₂ (λ (i n : ℕ). cond (nat_lt i n) (Some i) None) (first_place number cursors) (sym (numbers_long cursors))
 
-pub same_place : (number : ℕ) (a b : Machine) → AreAlike a b → cursor_place number a ≡ cursor_place number b
+pub same_place : (number : ℕ) (a b : SessionModel) → AreAlike a b → cursor_place number a ≡ cursor_place number b
 same_place number a b alike =
     place_among number a.cursors ∙ ap (position (λ (n : ℕ). n == number)) alike.numbers ∙ sym (place_among number b.cursors)
 
@@ -58,25 +58,25 @@ numbers_fewer [] k inside = absurd (omega (arith, inside))
 numbers_fewer (x ∷ cursors) zero inside = refl
 numbers_fewer (x ∷ cursors) (suc k) inside = ap (λ (t : List ℕ). x.number ∷ t) (numbers_fewer cursors k (omega (arith, inside)))
 
-place_within : (number k : ℕ) (m : Machine) → cursor_place number m ≡ Some k → k < length m.cursors
+place_within : (number k : ℕ) (m : SessionModel) → cursor_place number m ≡ Some k → k < length m.cursors
 place_within number k m found = (position-Some (has_number number) m.cursors k (record { number = 0; query = 0; position = 0; left = [] }) found).0
 
 -- AFTER A COMMAND
 
-alike_as : (a b c d : Machine) → c ≡ a → d ≡ b → AreAlike a b → AreAlike c d
+alike_as : (a b c d : SessionModel) → c ≡ a → d ≡ b → AreAlike a b → AreAlike c d
 alike_as a b c d one other alike =
-    let P : Machine → Type 0 = λ m. AreAlike m d in
-    let Q : Machine → Type 0 = λ m. AreAlike a m in
+    let P : SessionModel → Type 0 = λ m. AreAlike m d in
+    let Q : SessionModel → Type 0 = λ m. AreAlike a m in
     subst P (sym one) (subst Q (sym other) alike)
 
-same_dropped : (a b : Machine) (number p q : ℕ) → AreAlike a b → cursor_place number a ≡ Some p → cursor_place number b ≡ Some q → numbers_of (remove a.cursors p) ≡ numbers_of (remove b.cursors q)
+same_dropped : (a b : SessionModel) (number p q : ℕ) → AreAlike a b → cursor_place number a ≡ Some p → cursor_place number b ≡ Some q → numbers_of (remove a.cursors p) ≡ numbers_of (remove b.cursors q)
 same_dropped a b number p q alike here there =
     let place = same_place number a b alike in
     let same : p ≡ q = cc in
     numbers_fewer a.cursors p (place_within number p a here) ∙ ap₂ (λ (ns : List ℕ) (k : ℕ). remove ns k) alike.numbers same ∙ sym (numbers_fewer b.cursors q (place_within number q b there))
 
--- The same command makes such machines of such machines.
-pub step_alike : (schema : Declared) (ps qs : List Query) (asked : Command) (a b c d : Machine) (x y : List ℕ) → AreAlike a b → IsStep schema ps asked a c x → IsStep schema qs asked b d y → AreAlike c d
+-- The same command makes such models of such models.
+pub step_alike : (schema : Declared) (ps qs : List Query) (asked : ScriptCommand) (a b c d : SessionModel) (x y : List ℕ) → AreAlike a b → IsStep schema ps asked a c x → IsStep schema qs asked b d y → AreAlike c d
 step_alike schema ps qs (command.Event event) a b c d x y alike one other =
     alike_as _ _ c d one.after other.after (record { events = ap (λ (es : List Event). es ++ event ∷ []) alike.events; numbers = alike.numbers })
 step_alike schema ps qs (command.OpenAt query cursor) a b c d x y alike one other =

@@ -6,20 +6,20 @@ use Rattle.cer_base.specs.declared.OrMemory.TheVariants.{Fault, Memory}
 use Rattle.cer_outside.specs.Bytes.{TookAll, TookPart}
 use Rattle.stream_schema.specs.Types.{Declared}
 use Rattle.cel_terms.specs.declared.Query.{Query}
-use Rattle.answer_blocks.specs.Taken.{TookPrefix}
+use Rattle.answer_blocks.specs.SinkBytes.{TookPrefix}
 use Rattle.answer_blocks.proofs.Writing.{prefix_none, prefix_after}
 use Rattle.stream_answers.proofs.Portions.{took_none, took_both, took_then_part, prefix_of_all}
 use Rattle.stream_answers.specs.declared.StreamFault.{StreamFault}
 use Rattle.stream_answers.specs.declared.StreamFault.TheVariants as fault
-use Rattle.stream_answers.specs.Ends.{HasReadCause, HasWriteCause}
+use Rattle.stream_answers.specs.RunEnds.{HasReadCause, HasWriteCause}
 use Rattle.event_reader.specs.declared.LineFault.{LineFault}
 use Rattle.event_reader.specs.declared.LineFault.TheVariants as line
-use Rattle.event_reader.specs.Reading as reading
-use Rattle.event_reader.specs.Reading.{LineReader, HasGiven, HasTold}
+use Rattle.event_reader.specs.LineReaders as reading
+use Rattle.event_reader.specs.LineReaders.{LineReader, HasGiven, HasTold}
 use Rattle.event_run.specs.Runs as stop
-use Rattle.command_session.specs.Machine.{Machine, at_first}
+use Rattle.command_session.specs.SessionModel.{SessionModel, at_first}
 use Rattle.command_session.specs.Sessions.{Session, Stands}
-use Rattle.stream_answers.specs.Streams.{EventsAsked}
+use Rattle.stream_answers.specs.Streams.{EventsRequest}
 use Rattle.command_session.specs.Scripts.{WrotePart, WrotePlay, PlaysTo, BeginsPlay, WritesRead}
 use Rattle.command_session.specs.Playing.{IsGood, IsBad, WentOn, BrokeOff, LineEnded, HasLineCause, HasPlayed, Goes, line_stop}
 use Rattle.command_session.proofs.GoodLines.{one_more, at_end, at_read_fault, at_line, begins, nothing_played, begins_empty}
@@ -42,13 +42,13 @@ begun schema queries reader source taken session stands given = record {
 }
 
 -- nothing was written, and memory ran out
-pub wrote_none : (a : EventsAsked) (source taken : Option (List ℕ)) → WrotePart a source (TookPrefix taken taken)
+pub wrote_none : (a : EventsRequest) (source taken : Option (List ℕ)) → WrotePart a source (TookPrefix taken taken)
 wrote_none a source taken = record { bytes = []; took = prefix_none taken []; are = λ script same. begins_empty a.schema a.queries a.most_bytes script }
 
 -- ONE LINE MORE
 
 -- the lines with the one that was given last
-pub line_played : (schema : Declared) (queries : List Query) (old new : LineReader) (script : List ℕ) (had left : Option (List ℕ)) (machine next : Machine) (bytes own : List ℕ) →
+pub line_played : (schema : Declared) (queries : List Query) (old new : LineReader) (script : List ℕ) (had left : Option (List ℕ)) (machine next : SessionModel) (bytes own : List ℕ) →
     ((texts : List (List ℕ)) → HasGiven old script had texts → HasGiven new script left (texts ++ new.text ∷ [])) → IsGood schema queries new.text machine next own →
     HasPlayed schema queries old script had machine bytes → HasPlayed schema queries new script left next (bytes ++ own)
 line_played schema queries old new script had left machine next bytes own gives good played = record {
@@ -71,14 +71,14 @@ goes_further schema queries source old new had left before middle after session 
 }
 
 -- the same over the session's own schema and queries
-pub went_as : (schema now : Declared) (queries has : List Query) (text : List ℕ) (machine : Machine) (new : Session) (before after : Option (List ℕ)) → now ≡ schema → has ≡ queries →
+pub went_as : (schema now : Declared) (queries has : List Query) (text : List ℕ) (machine : SessionModel) (new : Session) (before after : Option (List ℕ)) → now ≡ schema → has ≡ queries →
     WentOn now has text machine new before after → WentOn schema queries text machine new before after
 went_as schema now queries has text machine new before after one other went =
     let D : Declared → Type 0 = λ d. WentOn d has text machine new before after in
     let Q : List Query → Type 0 = λ qs. WentOn schema qs text machine new before after in
     subst Q other (subst D one went)
 
-pub line_as : (schema now : Declared) (queries has : List Query) (number : ℕ) (text : List ℕ) (machine : Machine) (new : Session) (before after : Option (List ℕ)) (why : OrMemory StreamFault) → now ≡ schema → has ≡ queries →
+pub line_as : (schema now : Declared) (queries has : List Query) (number : ℕ) (text : List ℕ) (machine : SessionModel) (new : Session) (before after : Option (List ℕ)) (why : OrMemory StreamFault) → now ≡ schema → has ≡ queries →
     LineEnded now has number text machine new before after (Err why) → LineEnded schema queries number text machine new before after (Err why)
 line_as schema now queries has number text machine new before after why one other ended =
     let D : Declared → Type 0 = λ d. LineEnded d has number text machine new before after (Err why) in
@@ -87,7 +87,7 @@ line_as schema now queries has number text machine new before after why one othe
 
 -- THE SCRIPT ENDS
 
-pub ends_at_end : {T : Type 0} (a : EventsAsked) (source : Option (List ℕ)) (old new : LineReader) (had left before after : Option (List ℕ)) (session : Session) (done : T) → new.budget ≡ a.most_bytes →
+pub ends_at_end : {T : Type 0} (a : EventsRequest) (source : Option (List ℕ)) (old new : LineReader) (had left before after : Option (List ℕ)) (session : Session) (done : T) → new.budget ≡ a.most_bytes →
     ((script : List ℕ) (texts : List (List ℕ)) → HasGiven old script had texts → HasTold new.budget script left texts None) →
     Goes a.schema a.queries source old had before after session → WrotePlay a source left before after {T = T} (Ok done)
 ends_at_end a source old new had left before after session done budget told g = record {
@@ -98,7 +98,7 @@ ends_at_end a source old new had left before after session done budget told g = 
       subst (λ n. PlaysTo a.schema a.queries n script g.bytes stop.End) budget (at_end a.schema a.queries new.budget script p.texts None g.machine g.bytes (told script p.texts p.given) p.played);
 }
 
-pub ends_for_line : (a : EventsAsked) (source : Option (List ℕ)) (old new : LineReader) (had left before after : Option (List ℕ)) (session : Session) (why : LineFault) → new.budget ≡ a.most_bytes →
+pub ends_for_line : (a : EventsRequest) (source : Option (List ℕ)) (old new : LineReader) (had left before after : Option (List ℕ)) (session : Session) (why : LineFault) → new.budget ≡ a.most_bytes →
     ((script : List ℕ) (texts : List (List ℕ)) → HasGiven old script had texts → HasTold new.budget script left texts (Some why)) →
     Goes a.schema a.queries source old had before after session → WrotePlay a source left before after {T = Unit {0}} (Err (Fault (line_stop why)))
 ends_for_line a source old new had left before after session line.ReadFault budget told g = record {
@@ -127,7 +127,7 @@ ends_for_line a source old new had left before after session (line.InputTooLong 
 }
 
 -- the bytes of the line that was given last were cut off
-cut_off : (a : EventsAsked) (source : Option (List ℕ)) (old new : LineReader) (had left before middle : Option (List ℕ)) (session : Session) (Took Whole : List ℕ → Type 0) → new.budget ≡ a.most_bytes →
+cut_off : (a : EventsRequest) (source : Option (List ℕ)) (old new : LineReader) (had left before middle : Option (List ℕ)) (session : Session) (Took Whole : List ℕ → Type 0) → new.budget ≡ a.most_bytes →
     ((script : List ℕ) (texts : List (List ℕ)) → HasGiven old script had texts → HasGiven new script left (texts ++ new.text ∷ [])) → (g : Goes a.schema a.queries source old had before middle session) →
     ((own : List ℕ) → Took own → Whole (g.bytes ++ own)) → BrokeOff a.schema a.queries new.text g.machine Took → WrotePart a source Whole
 cut_off a source old new had left before middle session Took Whole budget gives g more broke = record {
@@ -139,7 +139,7 @@ cut_off a source old new had left before middle session Took Whole budget gives 
 }
 
 -- the line that was given last ended the script
-pub ends_in_line : (a : EventsAsked) (source : Option (List ℕ)) (old new : LineReader) (had left before middle after : Option (List ℕ)) (session now : Session) (why : OrMemory StreamFault) (number : ℕ) (text : List ℕ) →
+pub ends_in_line : (a : EventsRequest) (source : Option (List ℕ)) (old new : LineReader) (had left before middle after : Option (List ℕ)) (session now : Session) (why : OrMemory StreamFault) (number : ℕ) (text : List ℕ) →
     new.budget ≡ a.most_bytes → old.budget ≡ a.most_bytes → number ≡ new.number → text ≡ new.text →
     ((script : List ℕ) (texts : List (List ℕ)) → HasGiven old script had texts → HasGiven new script left (texts ++ new.text ∷ [])) → (g : Goes a.schema a.queries source old had before middle session) →
     LineEnded a.schema a.queries number text g.machine now middle after (Err why) → WrotePlay a source left before after {T = Unit {0}} (Err why)

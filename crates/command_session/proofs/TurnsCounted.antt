@@ -7,14 +7,14 @@ use Rattle.stream_schema.specs.Types.{Declared}
 use Rattle.cel_terms.specs.declared.Query.{Query}
 use Rattle.stream_answers.specs.declared.StreamFault.{StreamFault}
 use Rattle.stream_answers.specs.declared.StreamFault.TheVariants as fault
-use Rattle.stream_answers.specs.Ends.{ByEnd}
+use Rattle.stream_answers.specs.RunEnds.{ByEnd}
 use Rattle.stream_answers.specs.Steps.{counts_said}
-use Rattle.stream_answers.specs.Streams.{EventsAsked}
+use Rattle.stream_answers.specs.Streams.{EventsRequest}
 use Rattle.command_session.specs.Turns.{CountsTurns, CountsBegun, TookFirst, turns_said}
-use Rattle.command_session.specs.Counted.{script_asked, script_counts}
+use Rattle.command_session.specs.StepCounts.{script_asked, script_counts}
 
 -- what was taken is forgotten
-pub forget_took : (a : EventsAsked) (script : List ℕ) (Took Other : List ℕ → Type 0) (old now : ℕ) → CountsTurns a script Took old now ⊎ CountsBegun a script Other old now →
+pub forget_took : (a : EventsRequest) (script : List ℕ) (Took Other : List ℕ → Type 0) (old now : ℕ) → CountsTurns a script Took old now ⊎ CountsBegun a script Other old now →
     CountsTurns a script (λ bytes. Unit {0}) old now ⊎ CountsBegun a script (λ bytes. Unit {0}) old now
 forget_took a script Took Other old now (inl c) = inl (record { texts = c.texts; later = c.later; first = c.first; turns = c.turns; machine = c.machine; bytes = c.bytes; are = c.are; took = tt; bounded = c.bounded })
 forget_took a script Took Other old now (inr c) = inr (record { texts = c.texts; text = c.text; later = c.later; first = c.first; turns = c.turns; machine = c.machine; bytes = c.bytes; are = c.are; took = tt; bounded = c.bounded })

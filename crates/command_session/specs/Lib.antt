@@ -1,13 +1,13 @@
 pub mod Numbers
 pub mod Commands
 pub mod Spelling
-pub mod Machine
+pub mod SessionModel
 pub mod Sessions
-pub mod Steps
+pub mod CommandSteps
 pub mod EngineSteps
 pub mod Scripts
 pub mod Turns
-pub mod Laws
+pub mod ScriptLaws
 pub mod Playing
 pub mod Played
-pub mod Counted
+pub mod StepCounts

@@ -2,9 +2,9 @@
 use Rattle.std.specs.Prelude.{◌≡◌, ◌≢◌, ℕ, ◌⊎◌, true, List, Option, None}
 use Rattle.cer_outside.specs.Content.{Content, Missing, Holds}
 use Rattle.cer_outside.specs.Bytes.{TookAll, TookPart}
-use Rattle.answer_blocks.specs.Taken.{TookPrefix}
-use Rattle.event_run.specs.Runs.{Stop}
-use Rattle.stream_answers.specs.Ends.{Said}
+use Rattle.answer_blocks.specs.SinkBytes.{TookPrefix}
+use Rattle.event_run.specs.Runs.{RunStop}
+use Rattle.stream_answers.specs.RunEnds.{EndClaims}
 use Rattle.command_words.specs.declared.SessionWords.{SessionWords}
 use Rattle.command_base.specs.Accepted.{SaysOf}
 use Rattle.command_base.specs.Tasks.{Task}
@@ -12,7 +12,7 @@ use Rattle.command_session.specs.declared.script.TheConstants.{MOST_BYTES}
 use Rattle.command_session.specs.Scripts.{PlaysTo, BeginsPlay, WritesRead}
 
 -- the bytes are those of the steps that a session makes by the script over the text's queries, which stops so
-abbrev pub ScriptWrites : Stop → List ℕ → List ℕ → List ℕ → Type 0
+abbrev pub ScriptWrites : RunStop → List ℕ → List ℕ → List ℕ → Type 0
 ScriptWrites halt text script bytes = SaysOf text (λ schema queries. PlaysTo schema queries MOST_BYTES script bytes halt)
 
 -- the bytes are those of the first lines of the script, all of them good
@@ -32,7 +32,7 @@ pub record WroteSteps (content : List ℕ → Content) (s : SessionWords) (Are :
   pub are : (text script : List ℕ) → content s.queries ≡ Holds text → content s.script ≡ Holds script → Are text script bytes
 
 -- What the output has taken, from before to after: all steps of the session up to the stop, or those of the lines that were read; a proper first part of those of the first lines where a write failed; and a first part or nothing where memory ran out.
-abbrev pub session_said : SessionWords → (List ℕ → Content) → Option (List ℕ) → Option (List ℕ) → Said
+abbrev pub session_said : SessionWords → (List ℕ → Content) → Option (List ℕ) → Option (List ℕ) → EndClaims
 session_said s content before after = record {
   stops = λ halt. WroteSteps content s (ScriptWrites halt) (TookAll before after);
   unread = λ left. WroteSteps content s (ScriptWroteRead left) (TookAll before after);

@@ -6,40 +6,40 @@ use Rattle.cer_outside.specs.Bytes.{TookAll, TookPart}
 use Rattle.cer_outside.specs.Causes.{Rose}
 use Rattle.stream_schema.specs.Types.{Declared}
 use Rattle.cel_terms.specs.declared.Query.{Query}
-use Rattle.answer_blocks.specs.Taken.{TookPrefix}
+use Rattle.answer_blocks.specs.SinkBytes.{TookPrefix}
 use Rattle.query_engine.specs.Counts.{MeetMost, HasFewNodes}
-use Rattle.query_engine.specs.Engine.{State}
+use Rattle.query_engine.specs.Engine.{EngineState}
 use Rattle.event_reader.specs.declared.EventFault.{EventFault}
 use Rattle.event_reader.specs.declared.EventFault.TheVariants as event
 use Rattle.event_reader.specs.declared.LineFault.{LineFault}
 use Rattle.event_reader.specs.declared.LineFault.TheVariants as line
-use Rattle.event_reader.specs.Reading.{LineReader, HasGiven}
+use Rattle.event_reader.specs.LineReaders.{LineReader, HasGiven}
 use Rattle.stream_answers.specs.declared.StreamFault.{StreamFault}
 use Rattle.stream_answers.specs.declared.StreamFault.TheVariants as fault
-use Rattle.command_session.specs.declared.command.Command.{Command}
+use Rattle.command_session.specs.declared.command.ScriptCommand.{ScriptCommand}
 use Rattle.command_session.specs.declared.session.Refusal.{Refusal}
 use Rattle.command_session.specs.declared.session.RunFault.{RunFault}
 use Rattle.command_session.specs.declared.session.RunFault.TheVariants as run
-use Rattle.command_session.specs.Machine.{Machine, at_first, IsStep, IsRefused}
+use Rattle.command_session.specs.SessionModel.{SessionModel, at_first, IsStep, IsRefused}
 use Rattle.command_session.specs.Sessions.{Session, Stands, EngineEnded, put_by_in}
 use Rattle.command_session.specs.Scripts.{asked_by, refusal_fault, ArePlayed}
 use Rattle.command_session.specs.Turns.{Turn, turns_cost, line_events, line_cost, AreTurns}
 
 -- the line has no command, or its command makes this step
-abbrev pub IsGood : Declared → List Query → List ℕ → Machine → Machine → List ℕ → Type 0
+abbrev pub IsGood : Declared → List Query → List ℕ → SessionModel → SessionModel → List ℕ → Type 0
 IsGood schema queries text old next own =
     ((asked_by schema text ≡ Ok None) × (next ≡ old) × (own ≡ []))
-    ⊎ ((asked : Command) × (asked_by schema text ≡ Ok (Some asked)) × IsStep schema queries asked old next own)
+    ⊎ ((asked : ScriptCommand) × (asked_by schema text ≡ Ok (Some asked)) × IsStep schema queries asked old next own)
 
 -- the line is no command, or its command is refused
-abbrev pub IsBad : Declared → List Query → List ℕ → Machine → EventFault → Type 0
+abbrev pub IsBad : Declared → List Query → List ℕ → SessionModel → EventFault → Type 0
 IsBad schema queries text old refused =
     (asked_by schema text ≡ Err refused)
-    ⊎ ((asked : Command) × (why : Refusal) × (asked_by schema text ≡ Ok (Some asked)) × IsRefused schema queries asked old why × (refused ≡ refusal_fault why))
+    ⊎ ((asked : ScriptCommand) × (why : Refusal) × (asked_by schema text ≡ Ok (Some asked)) × IsRefused schema queries asked old why × (refused ≡ refusal_fault why))
 
--- The line was carried out, and the session is the machine after it.
-pub record WentOn (schema : Declared) (queries : List Query) (text : List ℕ) (old : Machine) (new : Session) (before after : Option (List ℕ)) : Type 0 where
-  pub next : Machine
+-- The line was carried out, and the session is the model after it.
+pub record WentOn (schema : Declared) (queries : List Query) (text : List ℕ) (old : SessionModel) (new : Session) (before after : Option (List ℕ)) : Type 0 where
+  pub next : SessionModel
   pub own : List ℕ
   pub good : IsGood schema queries text old next own
   pub stands : Stands new next
@@ -47,14 +47,14 @@ pub record WentOn (schema : Declared) (queries : List Query) (text : List ℕ) (
   pub took : TookAll before after own
 
 -- The bytes of the line were cut off.
-pub record BrokeOff (schema : Declared) (queries : List Query) (text : List ℕ) (old : Machine) (Took : List ℕ → Type 0) : Type 0 where
-  pub next : Machine
+pub record BrokeOff (schema : Declared) (queries : List Query) (text : List ℕ) (old : SessionModel) (Took : List ℕ → Type 0) : Type 0 where
+  pub next : SessionModel
   pub own : List ℕ
   pub good : IsGood schema queries text old next own
   pub took : Took own
 
 -- how the line of this number ended
-abbrev pub LineEnded : Declared → List Query → ℕ → List ℕ → Machine → Session → Option (List ℕ) → Option (List ℕ) → Result (Unit {0}) (OrMemory StreamFault) → Type 0
+abbrev pub LineEnded : Declared → List Query → ℕ → List ℕ → SessionModel → Session → Option (List ℕ) → Option (List ℕ) → Result (Unit {0}) (OrMemory StreamFault) → Type 0
 LineEnded schema queries number text old new before after (Ok done) = WentOn schema queries text old new before after
 LineEnded schema queries number text old new before after (Err (Fault (fault.Event at refused))) = (at ≡ number) × (after ≡ before) × IsBad schema queries text old refused
 LineEnded schema queries number text old new before after (Err (Fault fault.WriteFault)) = BrokeOff schema queries text old (TookPart before after)
@@ -63,7 +63,7 @@ LineEnded schema queries number text old new before after (Err (Fault fault.Read
 LineEnded schema queries number text old new before after (Err Memory) = (after ≡ before) ⊎ BrokeOff schema queries text old (TookPrefix before after)
 
 -- what a line that was carried out made of the engine: what its command makes of it, and nothing where it has none
-abbrev pub LineMade : State → Session → Result (Option Command) EventFault → Type 0
+abbrev pub LineMade : EngineState → Session → Result (Option ScriptCommand) EventFault → Type 0
 LineMade old new (Ok None) = new.engine ≡ old
 LineMade old new (Ok (Some asked)) = EngineEnded asked old new (Ok tt)
 LineMade old new (Err refused) = ⊥
@@ -89,15 +89,15 @@ HasLineCause before now (Err (Fault (fault.InputTooLong taken))) = ⊥
 HasLineCause before now (Err (Fault fault.ReadFault)) = ⊥
 HasLineCause before now (Err Memory) = now ≡ before
 
--- The reader has given lines of a script of these bytes, all of them good, which wrote these bytes and made this machine; its source has the bytes left.
-pub record HasPlayed (schema : Declared) (queries : List Query) (reader : LineReader) (script : List ℕ) (left : Option (List ℕ)) (machine : Machine) (bytes : List ℕ) : Type 0 where
+-- The reader has given lines of a script of these bytes, all of them good, which wrote these bytes and made this model; its source has the bytes left.
+pub record HasPlayed (schema : Declared) (queries : List Query) (reader : LineReader) (script : List ℕ) (left : Option (List ℕ)) (machine : SessionModel) (bytes : List ℕ) : Type 0 where
   pub texts : List (List ℕ)
   pub given : HasGiven reader script left texts
   pub played : ArePlayed schema queries at_first [] texts machine bytes
 
--- The session is a machine, and the sink took what the lines so far write.
+-- The session is a model, and the sink took what the lines so far write.
 pub record Goes (schema : Declared) (queries : List Query) (source : Option (List ℕ)) (reader : LineReader) (left before after : Option (List ℕ)) (session : Session) : Type 0 where
-  pub machine : Machine
+  pub machine : SessionModel
   pub stands : Stands session machine
   pub bytes : List ℕ
   pub took : TookAll before after bytes
@@ -106,13 +106,13 @@ pub record Goes (schema : Declared) (queries : List Query) (source : Option (Lis
 -- THE STEPS
 
 -- the turns with that of a line, where it has a command
-abbrev pub turns_with : List Turn → Machine → Result (Option Command) EventFault → List Turn
+abbrev pub turns_with : List Turn → SessionModel → Result (Option ScriptCommand) EventFault → List Turn
 turns_with turns machine (Ok (Some asked)) = turns ++ record { asked = asked; found = machine } ∷ []
 turns_with turns machine (Ok None) = turns
 turns_with turns machine (Err refused) = turns
 
--- how many steps a line takes at most on the machine, with what is put by, where the engine has few nodes
-abbrev pub LineCosts : Declared → List Query → State → Machine → ℕ → ℕ → Result (Option Command) EventFault → Type 0
+-- how many steps a line takes at most on the model, with what is put by, where the engine has few nodes
+abbrev pub LineCosts : Declared → List Query → EngineState → SessionModel → ℕ → ℕ → Result (Option ScriptCommand) EventFault → Type 0
 LineCosts schema queries engine machine before after line = (most : ℕ → ℕ) → MeetMost schema queries (line_events machine line) most → HasFewNodes engine (length machine.events) most →
     after ≤ before + line_cost (length queries) most machine line
 
@@ -126,7 +126,7 @@ NoStepIfRefused before after (Err (Fault fault.ReadFault)) = Unit {0}
 NoStepIfRefused before after (Err Memory) = Unit {0}
 
 -- The lines that the reader has given of a script are good, and these are the turns of their commands.
-pub record HasTurns (schema : Declared) (queries : List Query) (reader : LineReader) (script : List ℕ) (left : Option (List ℕ)) (turns : List Turn) (machine : Machine) (bytes : List ℕ) : Type 0 where
+pub record HasTurns (schema : Declared) (queries : List Query) (reader : LineReader) (script : List ℕ) (left : Option (List ℕ)) (turns : List Turn) (machine : SessionModel) (bytes : List ℕ) : Type 0 where
   pub texts : List (List ℕ)
   pub given : HasGiven reader script left texts
   pub are : AreTurns schema queries at_first [] texts turns machine bytes

@@ -1,4 +1,4 @@
--- What contracts see of a session, which machine it is, and how a command may end.
+-- What contracts see of a session, which model it is, and how a command may end.
 use Rattle.std.specs.Prelude.{◌≡◌, ℕ, ◌+◌, ◌*◌, ◌^◌, ◌<◌, ◌≤◌, ◌⊎◌, Bool, true, false, List, [], ◌∷◌, length, map, take, All, Option, Some, slice_get, Result, Ok, Err}
 use Rattle.stream_schema.specs.Types.{Declared}
 use Rattle.stream_schema.specs.declared.Event.{Event as StreamEvent}
@@ -11,25 +11,25 @@ use Rattle.cer_outside.specs.Causes.{Rose}
 use Rattle.cer_outside.specs.declared.WriteFault.{WriteFault as Failure}
 use Rattle.query_engine.specs.Bounds.{update_bound, for_each_query}
 use Rattle.query_engine.specs.declared.sizes.Size.{Size}
-use Rattle.query_engine.specs.Engine.{State, Open, StandsFor, SameQueries, Fits, rest, count_of, found_of, len_of, peak_of, update_bounds}
+use Rattle.query_engine.specs.Engine.{EngineState, Open, StandsFor, SameQueries, Fits, rest, count_of, found_of, len_of, peak_of, update_bounds}
 use Rattle.query_engine.specs.Sizes.{put_by}
 use Rattle.query_engine.specs.Compacting.{IsLeft, compact_bounds}
 use Rattle.query_engine.specs.Windows.{IsDense, FollowsWindow, HasAdded}
 use Rattle.query_engine.specs.Keys.{HasAddedKeys, KeysFollowWindow}
 use Rattle.query_engine.specs.Holding.{answer_of}
-use Rattle.answer_blocks.specs.Counted.{delays}
-use Rattle.answer_blocks.specs.Taken.{TookPrefix}
-use Rattle.command_session.specs.declared.command.Command.{Command}
-use Rattle.command_session.specs.declared.command.Command.TheVariants as command
+use Rattle.answer_blocks.specs.RowSteps.{delays}
+use Rattle.answer_blocks.specs.SinkBytes.{TookPrefix}
+use Rattle.command_session.specs.declared.command.ScriptCommand.{ScriptCommand}
+use Rattle.command_session.specs.declared.command.ScriptCommand.TheVariants as command
 use Rattle.command_session.specs.declared.session.RunFault.{RunFault}
 use Rattle.command_session.specs.declared.session.RunFault.TheVariants.{Refused, WriteFault, Memory}
-use Rattle.command_session.specs.declared.opened.Opened.{Opened}
-use Rattle.command_session.specs.Machine.{Machine, OpenCursor, at_first, IsStep, IsRefused, cursor_place}
+use Rattle.command_session.specs.declared.opened.CursorNumber.{CursorNumber}
+use Rattle.command_session.specs.SessionModel.{SessionModel, OpenCursor, at_first, IsStep, IsRefused, cursor_place}
 
 -- What contracts see of a session: its engine, the numbers of its open cursors with the positions at which they were opened, the cursors in the same order, whether it is closed, and what was kept of each query once it was compacted last.
 pub record Session : Type 0 where
-  pub engine : State
-  pub opened : List Opened
+  pub engine : EngineState
+  pub opened : List CursorNumber
   pub cursors : List Open
   pub closed : Bool
   pub bases : List Size
@@ -39,20 +39,20 @@ abbrev pub put_by_in : Session → ℕ
 put_by_in session = put_by session.engine session.bases
 
 -- the answers that a cursor of the engine has not given
-abbrev pub left_of : State → Open → List Answer
+abbrev pub left_of : EngineState → Open → List Answer
 left_of engine cursor = map answer_of (rest engine cursor)
 
-abbrev pub cursor_seen : State → Opened → Open → OpenCursor
+abbrev pub cursor_seen : EngineState → CursorNumber → Open → OpenCursor
 cursor_seen engine opened cursor = record { number = opened.number; query = cursor.query; position = opened.position; left = left_of engine cursor }
 
 -- the open cursors, in order
-abbrev pub cursors_seen : State → List Opened → List Open → List OpenCursor
+abbrev pub cursors_seen : EngineState → List CursorNumber → List Open → List OpenCursor
 cursors_seen engine [] cursors = []
 cursors_seen engine (o ∷ opened) [] = []
 cursors_seen engine (o ∷ opened) (c ∷ cursors) = cursor_seen engine o c ∷ cursors_seen engine opened cursors
 
--- The session is the machine: its engine stands for the events, and the cursors have those answers left.
-pub record Stands (session : Session) (machine : Machine) : Type 0 where
+-- The session is the model: its engine stands for the events, and the cursors have those answers left.
+pub record Stands (session : Session) (machine : SessionModel) : Type 0 where
   pub events : StandsFor session.engine machine.events
   pub cursors : machine.cursors ≡ cursors_seen session.engine session.opened session.cursors
 
@@ -65,12 +65,12 @@ pub record IsNew (schema : Declared) (queries : List Query) (session : Session) 
   pub nothing_put_by : put_by_in session ≡ 0
 
 -- What a session keeps: each cursor has a number, and can be pulled from the engine.
-pub record IsKept (engine : State) (opened : List Opened) (cursors : List Open) : Type 0 where
+pub record IsKept (engine : EngineState) (opened : List CursorNumber) (cursors : List Open) : Type 0 where
   pub count : length opened ≡ length cursors
   pub fit : All (Fits engine) cursors
 
 -- for an event there is a position after it
-abbrev pub HasRoom : State → Command → Type 0
+abbrev pub HasRoom : EngineState → ScriptCommand → Type 0
 HasRoom engine (command.Event event) = count_of engine + 1 < 2 ^ 64
 HasRoom engine _ = Unit {0}
 
@@ -79,9 +79,9 @@ pub record IsUnchanged (old new : Session) (before after : Option (List ℕ)) : 
   pub session : new ≡ old
   pub written : after ≡ before
 
--- One step was made and written whole, and the session is the machine after it.
-pub record Went (schema : Declared) (queries : List Query) (command : Command) (machine : Machine) (new : Session) (before after : Option (List ℕ)) : Type 0 where
-  pub next : Machine
+-- One step was made and written whole, and the session is the model after it.
+pub record Went (schema : Declared) (queries : List Query) (command : ScriptCommand) (machine : SessionModel) (new : Session) (before after : Option (List ℕ)) : Type 0 where
+  pub next : SessionModel
   pub bytes : List ℕ
   pub step : IsStep schema queries command machine next bytes
   pub stands : Stands new next
@@ -89,27 +89,27 @@ pub record Went (schema : Declared) (queries : List Query) (command : Command) (
   pub took : TookAll before after bytes
 
 -- The session closed while the bytes of one step were written, of which the sink took as many as said.
-pub record Broke (schema : Declared) (queries : List Query) (command : Command) (machine : Machine) (new : Session) (Took : List ℕ → Type 0) : Type 0 where
-  pub next : Machine
+pub record Broke (schema : Declared) (queries : List Query) (command : ScriptCommand) (machine : SessionModel) (new : Session) (Took : List ℕ → Type 0) : Type 0 where
+  pub next : SessionModel
   pub bytes : List ℕ
   pub step : IsStep schema queries command machine next bytes
   pub closed : new.closed ≡ true
   pub took : Took bytes
 
 -- a command whose bytes may be cut off: that of an event, and a pull
-abbrev pub Writes : Command → Type 0
+abbrev pub Writes : ScriptCommand → Type 0
 Writes (command.Event event) = Unit {0}
 Writes (command.Pull cursor n) = Unit {0}
 Writes _ = ⊥
 
 -- Where memory ran out in a pull its bytes are cut off, and for an event nothing has changed or its bytes are cut off; else nothing has changed.
-abbrev pub Wanted : Command → Type 0 → Type 0 → Type 0
+abbrev pub Wanted : ScriptCommand → Type 0 → Type 0 → Type 0
 Wanted (command.Event event) unchanged broke = unchanged ⊎ broke
 Wanted (command.Pull cursor n) unchanged broke = broke
 Wanted _ unchanged broke = unchanged
 
--- How a command ends, from a session that is the machine.
-abbrev pub Ended : Command → Session → Machine → Session → Option (List ℕ) → Option (List ℕ) → Result (Unit {0}) RunFault → Type 0
+-- How a command ends, from a session that is the model.
+abbrev pub Ended : ScriptCommand → Session → SessionModel → Session → Option (List ℕ) → Option (List ℕ) → Result (Unit {0}) RunFault → Type 0
 Ended command old machine new before after (Ok done) = Went old.engine.schema old.engine.queries command machine new before after
 Ended command old machine new before after (Err (Refused f)) = IsRefused old.engine.schema old.engine.queries command machine f × IsUnchanged old new before after
 Ended command old machine new before after (Err WriteFault) =
@@ -123,7 +123,7 @@ HasRunCause before now (Err WriteFault) = Rose before now
 HasRunCause before now _ = now ≡ before
 
 -- What a compaction of the engine leaves, these cursors being held: the nodes and keys that they and the windows need, so that these follow the windows, and the states that were found.
-pub record HasCompacted (old new : State) (held : List Open) : Type 0 where
+pub record HasCompacted (old new : EngineState) (held : List Open) : Type 0 where
   pub left : IsLeft new held
   pub dense : (events : List StreamEvent) → IsDense old events → IsDense new events
   pub window : (events : List StreamEvent) → StandsFor old events → IsDense old events → FollowsWindow new events held
@@ -133,43 +133,43 @@ pub record HasCompacted (old new : State) (held : List Open) : Type 0 where
   pub peak : (query : ℕ) → peak_of new query ≡ peak_of old query
 
 -- What an event that was taken adds to the engine: states, nodes and keys.
-pub record HasTaken (event : StreamEvent) (old new : State) : Type 0 where
+pub record HasTaken (event : StreamEvent) (old new : EngineState) : Type 0 where
   pub added : HasAdded old new event
   pub keys : HasAddedKeys old new event
 
 -- What is left of the engine where queries that have grown are compacted: the states that were found, and no more nodes.
-pub record IsTended (old new : State) : Type 0 where
+pub record IsTended (old new : EngineState) : Type 0 where
   pub dense : (events : List StreamEvent) → IsDense old events → IsDense new events
   pub found : (query : ℕ) → found_of new query ≡ found_of old query
   pub fewer : (query : ℕ) → len_of new query ≤ len_of old query
   pub peak : (query : ℕ) → peak_of new query ≡ peak_of old query
 
 -- The event was taken, and then queries that have grown may have been compacted.
-pub record HasGoneOn (event : StreamEvent) (old new : State) : Type 0 where
-  pub between : State
+pub record HasGoneOn (event : StreamEvent) (old new : EngineState) : Type 0 where
+  pub between : EngineState
   pub same : SameQueries old between
   pub taken : HasTaken event old between
   pub tended : IsTended between new
 
 -- an event that was taken is added to the engine, also where its position was not written whole; else the engine stays
-abbrev pub IsAddedTo : StreamEvent → State → State → Result (Unit {0}) RunFault → Type 0
+abbrev pub IsAddedTo : StreamEvent → EngineState → EngineState → Result (Unit {0}) RunFault → Type 0
 IsAddedTo event old new (Ok done) = HasTaken event old new
 IsAddedTo event old new (Err (Refused why)) = new ≡ old
 IsAddedTo event old new (Err WriteFault) = HasTaken event old new
 IsAddedTo event old new (Err Memory) = (new ≡ old) ⊎ HasTaken event old new
 
 -- and once its position was written, the session goes on
-abbrev pub EventAdds : StreamEvent → State → State → Result (Unit {0}) RunFault → Type 0
+abbrev pub EventAdds : StreamEvent → EngineState → EngineState → Result (Unit {0}) RunFault → Type 0
 EventAdds event old new (Ok done) = HasGoneOn event old new
 EventAdds event old new (Err why) = IsAddedTo event old new (Err why)
 
 -- the engine is compacted, or it stays
-abbrev pub CompactionLeaves : State → State → List Open → Result (Unit {0}) RunFault → Type 0
+abbrev pub CompactionLeaves : EngineState → EngineState → List Open → Result (Unit {0}) RunFault → Type 0
 CompactionLeaves old new held (Ok done) = HasCompacted old new held
 CompactionLeaves old new held (Err why) = new ≡ old
 
 -- What a command makes of the engine: an event adds, after which queries that have grown are compacted, a compaction leaves what is needed, and all else changes nothing.
-abbrev pub EngineEnded : Command → State → Session → Result (Unit {0}) RunFault → Type 0
+abbrev pub EngineEnded : ScriptCommand → EngineState → Session → Result (Unit {0}) RunFault → Type 0
 EngineEnded (command.Event event) old new result = EventAdds event old new.engine result
 EngineEnded (command.OpenAt query cursor) old new result = new.engine ≡ old
 EngineEnded (command.Pull cursor n) old new result = new.engine ≡ old
@@ -188,7 +188,7 @@ UnlessRefused before after Bounded (Err WriteFault) = Bounded
 UnlessRefused before after Bounded (Err Memory) = Bounded
 
 -- so many steps for each query with so many states found, which pays for the query's compactions too
-abbrev pub paid_bounds : State → ℕ
+abbrev pub paid_bounds : EngineState → ℕ
 paid_bounds engine = for_each_query (length engine.queries) (λ k. 28 * update_bound (found_of engine k))
 
 -- so many for an event that is taken, none where it is refused, unless memory ran out
@@ -203,18 +203,18 @@ abbrev pub EventIsWithin : Session → Session → ℕ → ℕ → Result (Unit 
 EventIsWithin old new before after (Ok done) = after + put_by_in new ≤ before + put_by_in old + paid_bounds new.engine
 EventIsWithin old new before after (Err why) = TakingIsWithin new before after (Err why)
 
--- so many for a pull from the cursor of the machine that has the number
-abbrev pub PullIsWithin : ℕ → ℕ → Machine → ℕ → ℕ → Type 0
+-- so many for a pull from the cursor of the model that has the number
+abbrev pub PullIsWithin : ℕ → ℕ → SessionModel → ℕ → ℕ → Type 0
 PullIsWithin number n machine before after =
     (place : ℕ) (one : OpenCursor) → cursor_place number machine ≡ Some place → slice_get machine.cursors place ≡ Some one → after ≤ before + pull_bound n one
 
 -- How many steps a command takes at most, none where it is refused. An event for which memory ran out is left open here.
-abbrev pub IsWithin : Command → Session → Machine → Session → ℕ → ℕ → Result (Unit {0}) RunFault → Type 0
-IsWithin (command.Event event) old machine new before after result = EventIsWithin old new before after result
-IsWithin (command.OpenAt query cursor) old machine new before after result = UnlessRefused before after (after ≤ before + update_bound (found_of old.engine query)) result
-IsWithin (command.Pull cursor n) old machine new before after result = UnlessRefused before after (PullIsWithin cursor n machine before after) result
-IsWithin (command.Drop cursor) old machine new before after result = after ≡ before
-IsWithin command.Compact old machine new before after result = after ≤ before + compact_bounds old.engine
+abbrev pub StepsAreWithin : ScriptCommand → Session → SessionModel → Session → ℕ → ℕ → Result (Unit {0}) RunFault → Type 0
+StepsAreWithin (command.Event event) old machine new before after result = EventIsWithin old new before after result
+StepsAreWithin (command.OpenAt query cursor) old machine new before after result = UnlessRefused before after (after ≤ before + update_bound (found_of old.engine query)) result
+StepsAreWithin (command.Pull cursor n) old machine new before after result = UnlessRefused before after (PullIsWithin cursor n machine before after) result
+StepsAreWithin (command.Drop cursor) old machine new before after result = after ≡ before
+StepsAreWithin command.Compact old machine new before after result = after ≤ before + compact_bounds old.engine
 
 -- what a write that stopped is to a session
 abbrev pub as_run_fault : OrMemory Failure → RunFault

@@ -6,8 +6,8 @@ use Rattle.event_reader.specs.declared.EventFault.{EventFault}
 use Rattle.event_reader.specs.Events.{event_of_line}
 use Rattle.event_reader.specs.declared.words.TheConstants.{BLANK}
 use Rattle.command_session.specs.declared.numbers.TheConstants.{MOST_CURSORS, MOST_PULLED}
-use Rattle.command_session.specs.declared.command.Command.{Command}
-use Rattle.command_session.specs.declared.command.Command.TheVariants as command
+use Rattle.command_session.specs.declared.command.ScriptCommand.{ScriptCommand}
+use Rattle.command_session.specs.declared.command.ScriptCommand.TheVariants as command
 use Rattle.command_session.specs.declared.command.CommandFault.TheVariants as fault
 use Rattle.command_session.specs.Numbers.{is_command_number}
 use Rattle.command_session.specs.Commands.{command_of}
@@ -21,7 +21,7 @@ abbrev pub WritesOneOf : ℕ → List ℕ → ℕ → Type 0
 WritesOneOf most digits n = Writes digits n × (1 ≤ n) × (n ≤ most)
 
 -- The text is the command's form.
-abbrev pub Spells : Declared → List ℕ → Command → Type 0
+abbrev pub Spells : Declared → List ℕ → ScriptCommand → Type 0
 Spells schema text (command.Event event) = (line : List ℕ) × (text ≡ codes "event " ++ line) × (event_of_line schema line ≡ Ok (Some event))
 Spells schema text (command.OpenAt query cursor) =
     (q : List ℕ) × (c : List ℕ) × (text ≡ codes "open " ++ q ++ BLANK ∷ c) × Writes q query × WritesOneOf MOST_CURSORS c cursor
@@ -32,7 +32,7 @@ Spells schema text command.Compact = text ≡ codes "compact"
 
 -- A text that is read as a command spells it, and a text that spells one is read so.
 abbrev pub CommandsAreSpelled : Type 0
-CommandsAreSpelled = (schema : Declared) (text : List ℕ) (command : Command) → (command_of schema text ≡ Ok command) ↔ Spells schema text command
+CommandsAreSpelled = (schema : Declared) (text : List ℕ) (command : ScriptCommand) → (command_of schema text ≡ Ok command) ↔ Spells schema text command
 
 -- An event's refusal is that of the line after `event`.
 abbrev pub RefusalsAreOfLines : Type 0

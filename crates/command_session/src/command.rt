@@ -17,7 +17,7 @@ use stream_schema::{Event, Schema};
 
 /// What a line of a script asks for.
 #[derive(Drop)]
-pub enum Command {
+pub enum ScriptCommand {
     /// The event comes.
     Event(Event),
     /// The cursor is opened for the query at the last event. Queries are numbered from 1, cursors
@@ -66,7 +66,7 @@ pub fn read_command(
     alloc: Global,
     schema: &Schema,
     text: &[u8],
-) -> Result<Command, OrMemory<CommandFault>>
+) -> Result<ScriptCommand, OrMemory<CommandFault>>
     requires { has_line_feed text.now ≡ false }
     ensures command { Gives (λ command. command) result (command_of schema.now text.now) }
     ensures of_schema { IfOk result (HasEventOf schema.now) }
@@ -83,7 +83,7 @@ pub fn read_command(
         }
         None => {
             if text == b"compact".as_slice() {
-                return Ok(Command::Compact);
+                return Ok(ScriptCommand::Compact);
             }
             Err(OrMemory::Fault(CommandFault::UnknownCommand))
         }
@@ -95,14 +95,14 @@ fn event_command(
     alloc: Global,
     schema: &Schema,
     line: &[u8],
-) -> Result<Command, OrMemory<CommandFault>>
+) -> Result<ScriptCommand, OrMemory<CommandFault>>
     requires { has_line_feed line.now ≡ false }
     ensures command { Gives (λ command. command) result
         (event_command (event_of_line schema.now line.now)) }
     ensures of_schema { IfOk result (HasEventOf schema.now) }
 {
     match read_event(alloc, schema, line) {
-        Ok(Some(event)) => Ok(Command::Event(event)),
+        Ok(Some(event)) => Ok(ScriptCommand::Event(event)),
         Ok(None) => Err(OrMemory::Fault(CommandFault::UnknownCommand)),
         Err(OrMemory::Fault(fault)) => Err(OrMemory::Fault(CommandFault::Event(fault))),
         Err(OrMemory::Memory) => Err(OrMemory::Memory),
@@ -110,7 +110,7 @@ fn event_command(
 }
 
 /// The command of this word, which is no event's, and of what stands after it.
-fn other_command(word: &[u8], rest: &[u8]) -> Option<Command>
+fn other_command(word: &[u8], rest: &[u8]) -> Option<ScriptCommand>
     ensures { result ≡ other_command word.now rest.now }
 {
     if word == b"open".as_slice() {
@@ -126,25 +126,25 @@ fn other_command(word: &[u8], rest: &[u8]) -> Option<Command>
     }
 }
 
-fn open_command(query: &[u8], cursor: &[u8]) -> Option<Command>
+fn open_command(query: &[u8], cursor: &[u8]) -> Option<ScriptCommand>
     ensures { result ≡ open_command (query.now, cursor.now) }
 {
     let query = command_number(query)?;
     let cursor = one_of(MOST_CURSORS, cursor)?;
-    Some(Command::OpenAt { query, cursor })
+    Some(ScriptCommand::OpenAt { query, cursor })
 }
 
-fn pull_command(cursor: &[u8], n: &[u8]) -> Option<Command>
+fn pull_command(cursor: &[u8], n: &[u8]) -> Option<ScriptCommand>
     ensures { result ≡ pull_command (cursor.now, n.now) }
 {
     let cursor = one_of(MOST_CURSORS, cursor)?;
     let n = one_of(MOST_PULLED, n)?;
-    Some(Command::Pull { cursor, n })
+    Some(ScriptCommand::Pull { cursor, n })
 }
 
-fn drop_command(cursor: &[u8]) -> Option<Command>
+fn drop_command(cursor: &[u8]) -> Option<ScriptCommand>
     ensures { result ≡ drop_command cursor.now }
 {
     let cursor = one_of(MOST_CURSORS, cursor)?;
-    Some(Command::Drop { cursor })
+    Some(ScriptCommand::Drop { cursor })
 }

@@ -5,12 +5,12 @@ ghost use Rattle.cer_base.specs.Answers.{Gives};
 ghost use Rattle.event_reader.specs.Lines.{has_line_feed};
 ghost use Rattle.query_engine.specs.Engine.{SameQueries, count_of};
 ghost use Rattle.command_session.specs.Commands.{HasEventOf};
-ghost use Rattle.command_session.specs.Machine.{Machine};
+ghost use Rattle.command_session.specs.SessionModel.{SessionModel};
 ghost use Rattle.command_session.specs.Sessions.{Stands, put_by_in};
 ghost use Rattle.command_session.specs.Scripts.{asked_by, command_fault, refusal_fault};
 ghost use Rattle.command_session.specs.Playing.{LineEnded, LineMade, LineCosts, NoStepIfRefused, HasLineCause, line_end, line_fault};
 
-use crate::{Command, CommandFault, Refusal, RunFault, Session, command_text, read_command};
+use crate::{CommandFault, Refusal, RunFault, ScriptCommand, Session, command_text, read_command};
 use cer_base::OrMemory;
 use cer_base::steps::Steps;
 use cer_outside::Sink;
@@ -48,7 +48,7 @@ fn asked_by(
     alloc: Global,
     schema: &Schema,
     line: &[u8],
-) -> Result<Option<Command>, OrMemory<EventFault>>
+) -> Result<Option<ScriptCommand>, OrMemory<EventFault>>
     requires { has_line_feed line.now ≡ false }
     ensures asked { Gives (λ found. found) result (asked_by schema.now line.now) }
     ensures of_schema { IfOk result (λ found. IfSome found (HasEventOf schema.now)) }
@@ -106,17 +106,18 @@ pub fn play_line<K: Sink, L: Ledger>(
     requires going { session.old.closed ≡ false }
     requires room { count_of session.old.engine + 1 < 2 ^ 64 }
     requires counted { count_of session.old.engine + 1 ≤ number }
-    ensures ended { (machine : Machine) → Stands session.old machine
+    ensures ended { (machine : SessionModel) → Stands session.old machine
         → LineEnded session.old.engine.schema session.old.engine.queries number line.now machine
         session.new (K.taken out.old) (K.taken out.new) result }
     ensures same { SameQueries session.old.engine session.new.engine }
     ensures counted { count_of session.new.engine ≤ number }
     ensures cause { HasLineCause (K.faults out.old) (K.faults out.new) result }
-    ensures costs { (machine : Machine) → Stands session.old machine
+    ensures costs { (machine : SessionModel) → Stands session.old machine
         → LineCosts session.old.engine.schema session.old.engine.queries session.old.engine machine
         (steps.old + put_by_in session.old) (steps.new + put_by_in session.new)
         (asked_by session.old.engine.schema line.now) }
-    ensures refused { (machine : Machine) → Stands session.old machine → NoStepIfRefused steps.old
+    ensures refused { (machine : SessionModel) → Stands session.old machine
+        → NoStepIfRefused steps.old
         steps.new result }
     ensures made { OnOk result (LineMade session.old.engine session.new
         (asked_by session.old.engine.schema line.now)) }

@@ -4,9 +4,9 @@ ghost use Rattle.std.specs.Prelude.{◌≡◌, ◌+◌, ◌≤◌, ◌++◌, tru
 ghost use Rattle.cer_outside.specs.Causes.{HasCauseOrMemory};
 ghost use Rattle.query_engine.specs.Engine.{Fits};
 ghost use Rattle.answer_text.specs.Output.{line};
-ghost use Rattle.answer_blocks.specs.Counted.{delays};
-ghost use Rattle.answer_blocks.specs.Taken.{TookBy};
-ghost use Rattle.command_session.specs.Machine.{position_line, end_line, more_line, pull_text};
+ghost use Rattle.answer_blocks.specs.RowSteps.{delays};
+ghost use Rattle.answer_blocks.specs.SinkBytes.{TookBy};
+ghost use Rattle.command_session.specs.SessionModel.{position_line, end_line, more_line, pull_text};
 ghost use Rattle.command_session.specs.Sessions.{left_of};
 
 use answer_blocks::walk::write_line;

@@ -2,10 +2,10 @@
 
 ghost use Rattle.std.specs.Prelude.{◌≡◌, ◌≤◌, ℕ, List, [], false, Some, All};
 ghost use Rattle.cel_terms.specs.Checked.{IsChecked};
-ghost use Rattle.event_reader.specs.Reading.{HasGiven};
+ghost use Rattle.event_reader.specs.LineReaders.{HasGiven};
 ghost use Rattle.query_engine.specs.Engine.{count_of};
-ghost use Rattle.stream_answers.specs.Ends.{HasReadCause, HasWriteCause};
-ghost use Rattle.command_session.specs.Machine.{at_first};
+ghost use Rattle.stream_answers.specs.RunEnds.{HasReadCause, HasWriteCause};
+ghost use Rattle.command_session.specs.SessionModel.{at_first};
 ghost use Rattle.command_session.specs.Sessions.{Stands, put_by_in};
 ghost use Rattle.command_session.specs.Scripts.{WrotePlay};
 ghost use Rattle.command_session.specs.Turns.{StepsOverPlay};
@@ -28,13 +28,14 @@ use stream_schema::Schema;
 pub const MOST_BYTES: u64 = 1_099_511_627_776;
 
 /// Carries out the lines of the source in order, on a session that begins with no event and no open
-/// cursor, and whose engine's tables hash by the seed. The queries are checked for the schema. A line
-/// that is empty but for a carriage return is passed over.
+/// cursor, and whose engine's tables hash by the seed. The queries are checked for the schema. A
+/// line that is empty but for a carriage return is passed over.
 ///
-/// The steps are bounded by the commands that were carried out, each on the machine that it found:
-/// an event takes 28 times the bound of an update for each query, which pays for the compactions that
-/// the session makes by itself, an opening that of its query, a pull the delay of each of its answers
-/// and one, a compaction nine times the bound of an update for each query and event. Where a write failed or memory ran out, the command that was begun counts too.
+/// The steps are bounded by the commands that were carried out, each on the model that it found: an
+/// event takes 28 times the bound of an update for each query, which pays for the compactions that
+/// the session makes by itself, an opening that of its query, a pull the delay of each of its
+/// answers and one, a compaction nine times the bound of an update for each query and event. Where
+/// a write failed or memory ran out, the command that was begun counts too.
 ///
 /// The first fault ends it, after the commands before it were carried out:
 ///

@@ -7,13 +7,13 @@ ghost use Rattle.query_engine.specs.Bounds.{update_bound};
 ghost use Rattle.query_engine.specs.Engine.{SameQueries, count_of, found_of};
 ghost use Rattle.query_engine.specs.Compacting.{compact_bounds};
 ghost use Rattle.command_session.specs.Commands.{HasEventOf};
-ghost use Rattle.command_session.specs.Machine.{Machine, at_first};
-ghost use Rattle.command_session.specs.Sessions.{Stands, IsNew, IsTended, Ended, HasRoom, HasRunCause, EngineEnded, IsAddedTo, IsWithin, EventIsWithin, TakingIsWithin, UnlessRefused, as_run_fault, put_by_in};
-ghost use Rattle.command_session.specs.Steps.{CostsAtMost};
-ghost use Rattle.command_session.specs.declared.command.Command.TheVariants as commands;
+ghost use Rattle.command_session.specs.SessionModel.{SessionModel, at_first};
+ghost use Rattle.command_session.specs.Sessions.{Stands, IsNew, IsTended, Ended, HasRoom, HasRunCause, EngineEnded, IsAddedTo, StepsAreWithin, EventIsWithin, TakingIsWithin, UnlessRefused, as_run_fault, put_by_in};
+ghost use Rattle.command_session.specs.CommandSteps.{CostsAtMost};
+ghost use Rattle.command_session.specs.declared.command.ScriptCommand.TheVariants as commands;
 
-use crate::command::Command;
-use crate::opened::{Opened, place_among};
+use crate::command::ScriptCommand;
+use crate::opened::{CursorNumber, place_among};
 use crate::pulling::{write_at, write_pull};
 use cer_base::seed::Seed;
 use cer_base::steps::Steps;
@@ -58,7 +58,7 @@ pub enum RunFault {
 pub struct Session {
     engine: Engine,
     /// The numbers of the open cursors, and
-    opened: Vec<Opened>,
+    opened: Vec<CursorNumber>,
     /// the cursors, in the same order.
     cursors: Vec<Cursor>,
     /// When the engine is compacted by itself.
@@ -166,16 +166,16 @@ impl Session {
         requires going { self.old.closed ≡ false }
         requires of_schema { IsOfSchema self.old.engine.schema event.now }
         requires room { count_of self.old.engine + 1 < 2 ^ 64 }
-        ensures ended { (machine : Machine) → Stands self.old machine
+        ensures ended { (machine : SessionModel) → Stands self.old machine
             → Ended (commands.Event event.now) self.old machine self.new (K.taken out.old)
             (K.taken out.new) result }
         ensures same { SameQueries self.old.engine self.new.engine }
         ensures count { count_of self.new.engine ≤ count_of self.old.engine + 1 }
         ensures cause { HasRunCause (K.faults out.old) (K.faults out.new) result }
         ensures engine { EngineEnded (commands.Event event.now) self.old.engine self.new result }
-        ensures steps { (machine : Machine) → Stands self.old machine
+        ensures steps { (machine : SessionModel) → Stands self.old machine
             → EventIsWithin self.old self.new steps.old steps.new result }
-        ensures costs { (machine : Machine) → Stands self.old machine
+        ensures costs { (machine : SessionModel) → Stands self.old machine
             → CostsAtMost (commands.Event event.now) self.old machine self.new steps.old steps.new }
     {
         match self.take_event(event, out, steps) {
@@ -187,15 +187,16 @@ impl Session {
         }
     }
 
-    /// Queries that have grown may be compacted, with all open cursors held. The session is the same
-    /// machine.
+    /// Queries that have grown may be compacted, with all open cursors held. The session is the
+    /// same model.
     fn keep_small<L: Ledger>(&mut self, steps: &mut Steps<L>)
-        ensures stands { (machine : Machine) → Stands self.old machine → Stands self.new machine }
+        ensures stands { (machine : SessionModel) → Stands self.old machine
+            → Stands self.new machine }
         ensures closed { self.new.closed ≡ self.old.closed }
         ensures same { SameQueries self.old.engine self.new.engine }
         ensures count { count_of self.new.engine ≡ count_of self.old.engine }
         ensures tended { IsTended self.old.engine self.new.engine }
-        ensures paid { (machine : Machine) → Stands self.old machine → steps.new
+        ensures paid { (machine : SessionModel) → Stands self.old machine → steps.new
             + put_by_in self.new ≤ steps.old + put_by_in self.old }
     {
         let held = self.cursors.as_mut_slice();
@@ -212,7 +213,7 @@ impl Session {
         requires going { self.old.closed ≡ false }
         requires of_schema { IsOfSchema self.old.engine.schema event.now }
         requires room { count_of self.old.engine + 1 < 2 ^ 64 }
-        ensures ended { (machine : Machine) → Stands self.old machine
+        ensures ended { (machine : SessionModel) → Stands self.old machine
             → Ended (commands.Event event.now) self.old machine self.new (K.taken out.old)
             (K.taken out.new) result }
         ensures same { SameQueries self.old.engine self.new.engine }
@@ -221,7 +222,7 @@ impl Session {
         ensures engine { IsAddedTo event.now self.old.engine self.new.engine result }
         ensures steps { TakingIsWithin self.new steps.old steps.new result }
         ensures noted { self.new.bases ≡ self.old.bases }
-        ensures costs { (machine : Machine) → Stands self.old machine
+        ensures costs { (machine : SessionModel) → Stands self.old machine
             → CostsAtMost (commands.Event event.now) self.old machine self.new steps.old steps.new }
     {
         match self.engine.see(event, steps) {
@@ -247,7 +248,7 @@ impl Session {
         steps: &mut Steps<L>,
     ) -> Result<(), RunFault>
         requires going { self.old.closed ≡ false }
-        ensures ended { (machine : Machine) (taken : Option (List ℕ)) → Stands self.old machine
+        ensures ended { (machine : SessionModel) (taken : Option (List ℕ)) → Stands self.old machine
             → Ended (commands.OpenAt query number) self.old machine self.new taken taken result }
         ensures same { SameQueries self.old.engine self.new.engine }
         ensures count { count_of self.new.engine ≤ count_of self.old.engine + 1 }
@@ -255,7 +256,7 @@ impl Session {
         ensures engine { self.new.engine ≡ self.old.engine }
         ensures steps { UnlessRefused steps.old steps.new (steps.new
             ≤ steps.old + update_bound (found_of self.old.engine query)) result }
-        ensures costs { (machine : Machine) → Stands self.old machine
+        ensures costs { (machine : SessionModel) → Stands self.old machine
             → CostsAtMost (commands.OpenAt query number) self.old machine self.new steps.old
             steps.new }
     {
@@ -274,7 +275,7 @@ impl Session {
                 match add(
                     &mut self.opened,
                     &mut self.cursors,
-                    Opened { number, position },
+                    CursorNumber { number, position },
                     cursor,
                 ) {
                     Ok(()) => Ok(()),
@@ -294,17 +295,17 @@ impl Session {
         steps: &mut Steps<L>,
     ) -> Result<(), RunFault>
         requires going { self.old.closed ≡ false }
-        ensures ended { (machine : Machine) → Stands self.old machine
+        ensures ended { (machine : SessionModel) → Stands self.old machine
             → Ended (commands.Pull number n) self.old machine self.new (K.taken out.old)
             (K.taken out.new) result }
         ensures same { SameQueries self.old.engine self.new.engine }
         ensures count { count_of self.new.engine ≤ count_of self.old.engine + 1 }
         ensures cause { HasRunCause (K.faults out.old) (K.faults out.new) result }
         ensures engine { self.new.engine ≡ self.old.engine }
-        ensures steps { (machine : Machine) → Stands self.old machine
-            → IsWithin (commands.Pull number n) self.old machine self.new steps.old steps.new
+        ensures steps { (machine : SessionModel) → Stands self.old machine
+            → StepsAreWithin (commands.Pull number n) self.old machine self.new steps.old steps.new
             result }
-        ensures costs { (machine : Machine) → Stands self.old machine
+        ensures costs { (machine : SessionModel) → Stands self.old machine
             → CostsAtMost (commands.Pull number n) self.old machine self.new steps.old steps.new }
     {
         match place_among(self.opened.as_slice(), number) {
@@ -326,7 +327,7 @@ impl Session {
     /// The cursor is given up.
     fn drop_cursor(&mut self, number: u64) -> Result<(), RunFault>
         requires going { self.old.closed ≡ false }
-        ensures ended { (machine : Machine) (taken : Option (List ℕ)) → Stands self.old machine
+        ensures ended { (machine : SessionModel) (taken : Option (List ℕ)) → Stands self.old machine
             → Ended (commands.Drop number) self.old machine self.new taken taken result }
         ensures same { SameQueries self.old.engine self.new.engine }
         ensures count { count_of self.new.engine ≤ count_of self.old.engine + 1 }
@@ -347,14 +348,14 @@ impl Session {
     /// What no window and no open cursor needs is given up.
     fn compact<L: Ledger>(&mut self, steps: &mut Steps<L>) -> Result<(), RunFault>
         requires going { self.old.closed ≡ false }
-        ensures ended { (machine : Machine) (taken : Option (List ℕ)) → Stands self.old machine
+        ensures ended { (machine : SessionModel) (taken : Option (List ℕ)) → Stands self.old machine
             → Ended commands.Compact self.old machine self.new taken taken result }
         ensures same { SameQueries self.old.engine self.new.engine }
         ensures count { count_of self.new.engine ≤ count_of self.old.engine + 1 }
         ensures cause { (count : ℕ) → HasRunCause count count result }
         ensures engine { EngineEnded commands.Compact self.old.engine self.new result }
         ensures steps { steps.new ≤ steps.old + compact_bounds self.old.engine }
-        ensures costs { (machine : Machine) → Stands self.old machine
+        ensures costs { (machine : SessionModel) → Stands self.old machine
             → CostsAtMost commands.Compact self.old machine self.new steps.old steps.new }
     {
         match self.engine.compact(self.cursors.as_mut_slice(), steps) {
@@ -366,13 +367,14 @@ impl Session {
         }
     }
 
-    /// Carries out the command. The session is not closed; an event is of its schema, and there is a
-    /// position after it.
+    /// Carries out the command. The session is not closed; an event is of its schema, and there is
+    /// a position after it.
     ///
     /// An event adds to the engine what `Engine::see` says, a compaction leaves of it what
-    /// `Engine::compact` says, and no other command changes it. Once an event was taken and its position
-    /// written, queries that have grown may be compacted, with all open cursors held, where there is
-    /// memory for it; that is no step of the machine. What is put by at each event pays for it.
+    /// `Engine::compact` says, and no other command changes it. Once an event was taken and its
+    /// position written, queries that have grown may be compacted, with all open cursors held,
+    /// where there is memory for it; that is no step of the model. What is put by at each event
+    /// pays for it.
     ///
     /// After a refusal nothing has changed, nothing was written, and no step was taken:
     ///
@@ -388,39 +390,40 @@ impl Session {
     /// closed; after any other `Memory` nothing has changed, and nothing was written.
     pub fn run<K: Sink, L: Ledger>(
         &mut self,
-        command: Command,
+        command: ScriptCommand,
         out: &mut K,
         steps: &mut Steps<L>,
     ) -> Result<(), RunFault>
         requires going { self.old.closed ≡ false }
         requires of_schema { HasEventOf self.old.engine.schema command }
         requires room { HasRoom self.old.engine command }
-        ensures ended { (machine : Machine) → Stands self.old machine → Ended command self.old
+        ensures ended { (machine : SessionModel) → Stands self.old machine → Ended command self.old
             machine self.new (K.taken out.old) (K.taken out.new) result }
         ensures same { SameQueries self.old.engine self.new.engine }
         ensures count { count_of self.new.engine ≤ count_of self.old.engine + 1 }
         ensures cause { HasRunCause (K.faults out.old) (K.faults out.new) result }
         ensures engine { EngineEnded command self.old.engine self.new result }
-        ensures steps { (machine : Machine) → Stands self.old machine → IsWithin command self.old
+        ensures steps { (machine : SessionModel) → Stands self.old machine
+            → StepsAreWithin command self.old
             machine self.new steps.old steps.new result }
-        ensures costs { (machine : Machine) → Stands self.old machine → CostsAtMost command
+        ensures costs { (machine : SessionModel) → Stands self.old machine → CostsAtMost command
             self.old machine self.new steps.old steps.new }
     {
         match command {
-            Command::Event(event) => self.event(&event, out, steps),
-            Command::OpenAt { query, cursor } => self.open(query, cursor, steps),
-            Command::Pull { cursor, n } => self.pull(cursor, n, out, steps),
-            Command::Drop { cursor } => self.drop_cursor(cursor),
-            Command::Compact => self.compact(steps),
+            ScriptCommand::Event(event) => self.event(&event, out, steps),
+            ScriptCommand::OpenAt { query, cursor } => self.open(query, cursor, steps),
+            ScriptCommand::Pull { cursor, n } => self.pull(cursor, n, out, steps),
+            ScriptCommand::Drop { cursor } => self.drop_cursor(cursor),
+            ScriptCommand::Compact => self.compact(steps),
         }
     }
 }
 
 /// Puts the cursor last, with its number. Where memory runs out both lists are as they were.
 fn add(
-    opened: &mut Vec<Opened>,
+    opened: &mut Vec<CursorNumber>,
     cursors: &mut Vec<Cursor>,
-    one: Opened,
+    one: CursorNumber,
     cursor: Cursor,
 ) -> Result<(), Memory>
     ensures opened { OnOk result (opened.new.items ≡ opened.old.items ++ one ∷ []) }

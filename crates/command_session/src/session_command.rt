@@ -4,10 +4,10 @@ ghost use Rattle.std.specs.Prelude.{◌≡◌, ℕ, List, All, None};
 ghost use Rattle.cer_outside.specs.Content.{Holds};
 ghost use Rattle.cel_terms.specs.Checked.{IsChecked};
 ghost use Rattle.command_base.specs.Ending.{TaskEnded, FileStop, IsAskedFor};
-ghost use Rattle.command_base.specs.Steps.{StepsBy, counts_where};
+ghost use Rattle.command_base.specs.StepCounts.{StepsBy, counts_where};
 ghost use Rattle.command_session.specs.Scripts.{play_said};
 ghost use Rattle.command_session.specs.Played.{session_task};
-ghost use Rattle.command_session.specs.Counted.{script_asked, script_counts, session_steps};
+ghost use Rattle.command_session.specs.StepCounts.{script_asked, script_counts, session_steps};
 
 use crate::script::play_script;
 use ceql_parser::Accepted;

@@ -1,10 +1,10 @@
 -- What the end of a task says of each answer of the program.
 use Rattle.std.proofs.Common.{◌≡◌, ℕ, ◌⊎◌, List, Option, Some, None, refl, subst, inl, inr, IsSome, IsSomeAnd, ◌↔◌, ap}
-use Rattle.cer_base.specs.declared.Place.{Place}
+use Rattle.cer_base.specs.declared.Location.{Location}
 use Rattle.ceql_grammar.specs.declared.faults.QueryFault.{QueryFault}
 use Rattle.cer_outside.specs.Content.{Content, Missing, Holds, OfOpened}
 use Rattle.checkpoint_text.specs.declared.CheckpointFault.{CheckpointFault}
-use Rattle.event_run.specs.Runs.{Stop, End, Event, InputTooLong}
+use Rattle.event_run.specs.Runs.{RunStop, End, Event, InputTooLong}
 use Rattle.fault_notes.specs.declared.File.{File}
 use Rattle.fault_notes.specs.declared.File.TheVariants as file
 use Rattle.command_base.specs.declared.Cause.{Cause}
@@ -23,12 +23,12 @@ pub at_cause : (P : Cause → Type 0) (given want : Cause) → given ≡ want �
 at_cause P given want same fact = subst P same fact
 
 -- the task took its text, so it does not refuse it
-not_refused : {S : Type 0} (o : Outside) (t : Task) (stop : Stop) (failed : Option S) (text : List ℕ) (fault : QueryFault) (place : Place) →
+not_refused : {S : Type 0} (o : Outside) (t : Task) (stop : RunStop) (failed : Option S) (text : List ℕ) (fault : QueryFault) (place : Location) →
     o.content t.queries ≡ Holds text → HasStopped o t stop failed → IsRefusedText text fault place → ⊥
 not_refused o t stop failed text fault place same stopped refused = takes_or_refuses t text fault place (text_told _ text (TakesText t) same stopped.taken) refused
 
 -- a refused query text has its cause
-pub queries_whenever : {S : Type 0} (sources : Sources S) (o : Outside) (t : Task) (given : Cause) (failed : Option S) (text : List ℕ) (fault : QueryFault) (place : Place) →
+pub queries_whenever : {S : Type 0} (sources : Sources S) (o : Outside) (t : Task) (given : Cause) (failed : Option S) (text : List ℕ) (fault : QueryFault) (place : Location) →
     o.content t.queries ≡ Holds text → CauseHolds sources o t given failed → IsRefusedText text fault place → (given ≡ cause.Queries fault place) ⊎ IsFromOutside given
 queries_whenever sources o t cause.Fine failed text fault place same holds refused = absurd (not_refused o t End failed text fault place same holds refused)
 queries_whenever sources o t cause.Usage failed text fault place same holds refused = absurd holds
@@ -45,7 +45,7 @@ queries_whenever sources o t (cause.WriteFault before after) failed text fault p
 queries_whenever sources o t cause.Memory failed text fault place same holds refused = inr tt
 
 -- the task took its text, so it does not lack its clock
-not_lacked : {S : Type 0} (o : Outside) (t : Task) (stop : Stop) (failed : Option S) (text name : List ℕ) → o.content t.queries ≡ Holds text → HasStopped o t stop failed → LacksItsClock t text name → ⊥
+not_lacked : {S : Type 0} (o : Outside) (t : Task) (stop : RunStop) (failed : Option S) (text name : List ℕ) → o.content t.queries ≡ Holds text → HasStopped o t stop failed → LacksItsClock t text name → ⊥
 not_lacked o t stop failed text name same stopped lacks = takes_or_lacks t text name (text_told _ text (TakesText t) same stopped.taken) lacks
 
 -- a clock that is lacked has its cause
@@ -65,7 +65,7 @@ clock_whenever sources o t (cause.WriteFault before after) failed text name same
 clock_whenever sources o t cause.Memory failed text name same holds lacks = inr tt
 
 -- the task went on, so it does not refuse its checkpoint
-not_bad : {S : Type 0} (o : Outside) (t : Task) (stop : Stop) (failed : Option S) (text kept : List ℕ) (line : ℕ) (fault : CheckpointFault) →
+not_bad : {S : Type 0} (o : Outside) (t : Task) (stop : RunStop) (failed : Option S) (text kept : List ℕ) (line : ℕ) (fault : CheckpointFault) →
     o.content t.queries ≡ Holds text → CheckpointHolds o.content t kept → HasStopped o t stop failed → RefusesCheckpoint t text kept line fault → ⊥
 not_bad o t stop failed text kept line fault first second stopped refused = kept_or_refused t text kept line fault (stopped.resumed.taken text kept first second) refused
 
@@ -88,19 +88,19 @@ checkpoint_whenever sources o t (cause.WriteFault before after) failed text kept
 checkpoint_whenever sources o t cause.Memory failed text kept line fault first second holds refused = inr tt
 
 -- the cause of each stop
-abbrev pub cause_of : Stop → Cause
+abbrev pub cause_of : RunStop → Cause
 cause_of End = cause.Fine
 cause_of (Event line fault) = cause.Event line fault
 cause_of (InputTooLong taken) = cause.InputTooLong taken
 
 -- the task stopped so, so that is its cause
-stopped_so : {S : Type 0} (o : Outside) (t : Task) (law : IsLawful t) (was : Stop) (failed : Option S) (text kept lines : List ℕ) (stop : Stop) →
+stopped_so : {S : Type 0} (o : Outside) (t : Task) (law : IsLawful t) (was : RunStop) (failed : Option S) (text kept lines : List ℕ) (stop : RunStop) →
     o.content t.queries ≡ Holds text → CheckpointHolds o.content t kept → o.content t.events ≡ Holds lines → HasStopped o t was failed → TaskStops t text kept lines stop → cause_of was ≡ cause_of stop
 stopped_so o t law was failed text kept lines stop first middle second stopped stops =
     ap cause_of (one_end t law text kept lines was stop (stopped.stops text kept lines first middle second) stops)
 
 -- a stop of the events has its cause
-pub stop_whenever : {S : Type 0} (sources : Sources S) (o : Outside) (t : Task) (law : IsLawful t) (given : Cause) (failed : Option S) (text kept lines : List ℕ) (stop : Stop) →
+pub stop_whenever : {S : Type 0} (sources : Sources S) (o : Outside) (t : Task) (law : IsLawful t) (given : Cause) (failed : Option S) (text kept lines : List ℕ) (stop : RunStop) →
     o.content t.queries ≡ Holds text → CheckpointHolds o.content t kept → o.content t.events ≡ Holds lines → CauseHolds sources o t given failed →
     TaskStops t text kept lines stop → (given ≡ cause_of stop) ⊎ IsFromOutside given
 stop_whenever sources o t law cause.Fine failed text kept lines stop first middle second holds stops = inl (stopped_so o t law End failed text kept lines stop first middle second holds stops)
@@ -119,7 +119,7 @@ stop_whenever sources o t law (cause.WriteFault before after) failed text kept l
 stop_whenever sources o t law cause.Memory failed text kept lines stop first middle second holds stops = inr tt
 
 -- and the other way round
-pub stops_of_cause : {S : Type 0} (sources : Sources S) (o : Outside) (t : Task) (failed : Option S) (text kept lines : List ℕ) (stop : Stop) →
+pub stops_of_cause : {S : Type 0} (sources : Sources S) (o : Outside) (t : Task) (failed : Option S) (text kept lines : List ℕ) (stop : RunStop) →
     o.content t.queries ≡ Holds text → CheckpointHolds o.content t kept → o.content t.events ≡ Holds lines → CauseHolds sources o t (cause_of stop) failed → TaskStops t text kept lines stop
 stops_of_cause sources o t failed text kept lines End first middle second holds = holds.stops text kept lines first middle second
 stops_of_cause sources o t failed text kept lines (Event line fault) first middle second holds = holds.stops text kept lines first middle second

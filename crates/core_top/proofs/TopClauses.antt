@@ -1,13 +1,13 @@
 -- Each clause of the top call, from how the call ended.
 use Rattle.std.proofs.Common.{◌≡◌, ℕ, ◌⊎◌, List, [], Option, Some, None, refl, sym, ◌∙◌, subst, inl, inr, IsSome, IsSomeAnd, ◌↔◌}
-use Rattle.cer_base.specs.declared.Place.{Place}
+use Rattle.cer_base.specs.declared.Location.{Location}
 use Rattle.ceql_grammar.specs.declared.faults.QueryFault.{QueryFault}
 use Rattle.event_reader.specs.declared.EventFault.{EventFault}
 use Rattle.cer_outside.specs.Causes.{AllStay}
 use Rattle.cer_outside.specs.Content.{Content, Missing, Holds}
 use Rattle.checkpoint_text.specs.declared.CheckpointFault.{CheckpointFault}
-use Rattle.event_run.specs.Runs.{Stop, End, Event, InputTooLong}
-use Rattle.query_engine.specs.Engine.{State}
+use Rattle.event_run.specs.Runs.{RunStop, End, Event, InputTooLong}
+use Rattle.query_engine.specs.Engine.{EngineState}
 use Rattle.fault_notes.specs.declared.File.{File}
 use Rattle.fault_notes.specs.declared.File.TheVariants as file
 use Rattle.command_words.specs.CommandLine.{AskNothing}
@@ -20,7 +20,7 @@ use Rattle.command_base.specs.Causes.{Exactly, IsFromOutside, IsFineOrOutside, I
 use Rattle.command_base.specs.Opening.{OpensInTurn}
 use Rattle.command_base.specs.Output.{WroteBy}
 use Rattle.command_base.specs.Leaving.{IsLeftBy}
-use Rattle.command_base.specs.Steps.{StepsBy, none_counted}
+use Rattle.command_base.specs.StepCounts.{StepsBy, none_counted}
 use Rattle.command_base.specs.Notes.{IsToldAs}
 use Rattle.command_base.specs.Sources.{Sources, left_by}
 use Rattle.command_base.specs.Ending.{Outside, CauseHolds, TaskEnded}
@@ -29,8 +29,8 @@ use Rattle.command_base.proofs.Ends.{left_by_end}
 use Rattle.command_base.proofs.StepClauses.{steps_for_memory}
 use Rattle.command_sample.specs.Ending.{WroteSample}
 use Rattle.core_top.specs.Jobs.{Job, task_of, AsksJob, AsksSample}
-use Rattle.core_top.specs.Steps.{steps_of}
-use Rattle.core_top.specs.Left.{leaves_of}
+use Rattle.core_top.specs.StepCounts.{steps_of}
+use Rattle.core_top.specs.LeftEngine.{leaves_of}
 use Rattle.core_top.specs.Faults.{HasOpenFault, HasReadFault, HasWriteFault}
 use Rattle.core_top.specs.Calls.{UnaskedEnded, CallEnded, ran, sampled, refused, unread}
 use Rattle.core_top.proofs.Noted.{noted_finished}
@@ -106,7 +106,7 @@ module _ {S H : Type 0} {sources : Sources S} {call : H → List ℕ → H → T
     whenever = λ ask. inr (at_cause IsFromOutside cause.Memory given (sym memory) tt);
   }
 
-  pub queries_clause : CallEnded sources call words o first last given failed → (job : Job) (text : List ℕ) (fault : QueryFault) (place : Place) → AsksJob words job → o.content (task_of job).queries ≡ Holds text → Exactly given (cause.Queries fault place) (IsRefusedText text fault place)
+  pub queries_clause : CallEnded sources call words o first last given failed → (job : Job) (text : List ℕ) (fault : QueryFault) (place : Location) → AsksJob words job → o.content (task_of job).queries ≡ Holds text → Exactly given (cause.Queries fault place) (IsRefusedText text fault place)
   queries_clause finished job text fault place is first_told =
       elim (ended_well finished job is).way [
         | inl ended ↦ record {
@@ -147,7 +147,7 @@ module _ {S H : Type 0} {sources : Sources S} {call : H → List ℕ → H → T
       ]
 
   -- a stop of the events, by its cause
-  stop_clause : CallEnded sources call words o first last given failed → (job : Job) (text kept lines : List ℕ) (stop : Stop) → (cause.Memory ≡ cause_of stop → ⊥) →
+  stop_clause : CallEnded sources call words o first last given failed → (job : Job) (text kept lines : List ℕ) (stop : RunStop) → (cause.Memory ≡ cause_of stop → ⊥) →
       AsksJob words job → o.content (task_of job).queries ≡ Holds text → CheckpointHolds o.content (task_of job) kept → o.content (task_of job).events ≡ Holds lines → Exactly given (cause_of stop) (TaskStops (task_of job) text kept lines stop)
   stop_clause finished job text kept lines stop other is first_told kept_told second_told =
       elim (ended_well finished job is).way [
@@ -303,34 +303,34 @@ never_counted cause.Memory before after now = inl refl
 -- THE ENGINE THAT IS LEFT
 
 -- none was left where memory ran out
-memory_left : (Leaves : Option State → Type 0) (given : Cause) (left : Option State) → given ≡ cause.Memory → left ≡ None → IsLeftBy given Leaves left
+memory_left : (Leaves : Option EngineState → Type 0) (given : Cause) (left : Option EngineState) → given ≡ cause.Memory → left ≡ None → IsLeftBy given Leaves left
 memory_left Leaves given left same none = let P : Cause → Type 0 = λ k. IsLeftBy k Leaves left in subst P (sym same) none
 
 -- nor where nothing was asked
-pub early_left : (content : List ℕ → Content) (job : Job) (given : Cause) (left : Option State) → (given ≡ cause.Memory) ⊎ (given ≡ cause.Usage) → left ≡ None → IsLeftBy given (leaves_of job content) left
+pub early_left : (content : List ℕ → Content) (job : Job) (given : Cause) (left : Option EngineState) → (given ≡ cause.Memory) ⊎ (given ≡ cause.Usage) → left ≡ None → IsLeftBy given (leaves_of job content) left
 early_left content job given left way none =
     let P : Cause → Type 0 = λ k. IsLeftBy k (leaves_of job content) left in
     elim way [ inl memory ↦ subst P (sym memory) none | inr usage ↦ subst P (sym usage) none ]
 
 -- nor by a job that leaves none
-pub never_left : (given : Cause) (left : Option State) → left ≡ None → IsLeftBy given (λ engine. engine ≡ None) left
+pub never_left : (given : Cause) (left : Option EngineState) → left ≡ None → IsLeftBy given (λ engine. engine ≡ None) left
 never_left given left none = left_by_end (λ engine. engine ≡ None) given left (λ fine. none) (λ ill. none)
 
 -- the job that the words ask for
-pub left_asked : (words : List (List ℕ)) (content : List ℕ → Content) (job other : Job) (given : Cause) (left : Option State) → AsksJob words job → AsksJob words other → IsLeftBy given (leaves_of job content) left → IsLeftBy given (leaves_of other content) left
+pub left_asked : (words : List (List ℕ)) (content : List ℕ → Content) (job other : Job) (given : Cause) (left : Option EngineState) → AsksJob words job → AsksJob words other → IsLeftBy given (leaves_of job content) left → IsLeftBy given (leaves_of other content) left
 left_asked words content job other given left one two h =
     let P : Job → Type 0 = λ w. IsLeftBy given (leaves_of w content) left in subst P (one_job words job other one two) h
 
 -- with the note, and by another name
-pub left_noted : (content : List ℕ → Content) (job : Job) (told given last : Cause) (left noted held : Option State) → last ≡ given → held ≡ noted →
+pub left_noted : (content : List ℕ → Content) (job : Job) (told given last : Cause) (left noted held : Option EngineState) → last ≡ given → held ≡ noted →
     ((given ≡ told) × (noted ≡ left)) ⊎ ((given ≡ cause.Memory) × (noted ≡ None)) → IsLeftBy told (leaves_of job content) left → IsLeftBy last (leaves_of job content) held
 left_noted content job told given last left noted held same is way h =
     let P : Cause → Type 0 = λ k. IsLeftBy k (leaves_of job content) held in
-    let O : Option State → Type 0 = λ o. IsLeftBy told (leaves_of job content) o in
+    let O : Option EngineState → Type 0 = λ o. IsLeftBy told (leaves_of job content) o in
     elim way [
       | inl kept ↦ subst P (sym (same ∙ kept.0)) (subst O (sym (is ∙ kept.1)) h)
       | inr forgot ↦ memory_left (leaves_of job content) last held (same ∙ forgot.0) (is ∙ forgot.1)
     ]
 
-pub none_noted : (left noted held : Option State) (given told : Cause) → held ≡ noted → ((given ≡ told) × (noted ≡ left)) ⊎ ((given ≡ cause.Memory) × (noted ≡ None)) → left ≡ None → held ≡ None
+pub none_noted : (left noted held : Option EngineState) (given told : Cause) → held ≡ noted → ((given ≡ told) × (noted ≡ left)) ⊎ ((given ≡ cause.Memory) × (noted ≡ None)) → left ≡ None → held ≡ None
 none_noted left noted held given told is way none = elim way [ inl kept ↦ is ∙ (kept.1 ∙ none) | inr forgot ↦ is ∙ forgot.1 ]

@@ -13,7 +13,7 @@ use Rattle.command_reorder.proofs.Lawful.{reorder_is_lawful, reorder_forgets}
 use Rattle.command_explain.proofs.Lawful.{explain_is_lawful}
 use Rattle.command_session.proofs.Lawful.{session_is_lawful, session_forgets}
 use Rattle.command_checkpoint.proofs.Lawful.{save_is_lawful, resume_is_lawful, resume_forgets}
-use Rattle.core_top.specs.Steps.{steps_of}
+use Rattle.core_top.specs.StepCounts.{steps_of}
 use Rattle.core_top.specs.Jobs.{Job, running, reordering, explaining, playing, resuming, saving, command_of, task_of, AsksJob, AsksSample}
 
 -- the job that a command is, or any other

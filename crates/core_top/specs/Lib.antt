@@ -1,5 +1,5 @@
 pub mod Jobs
-pub mod Steps
-pub mod Left
+pub mod StepCounts
+pub mod LeftEngine
 pub mod Faults
 pub mod Calls

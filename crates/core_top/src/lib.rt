@@ -21,7 +21,7 @@ mod top;
 
 /// How a call of the program ended.
 #[derive(Drop)]
-pub struct Done<S> {
+pub struct ProgramEnd<S> {
     /// The exit status, from 0 to 9.
     pub status: u8,
     pub cause: Cause,

@@ -9,7 +9,7 @@ ghost use Rattle.command_base.specs.Tasks.{CheckpointHolds, TaskStops};
 ghost use Rattle.command_base.specs.Causes.{IsFineOrMemory};
 ghost use Rattle.core_top.specs.Jobs.{Job, task_of, AsksJob};
 
-use super::Done;
+use super::ProgramEnd;
 use super::top::core_main;
 use cer_base::steps::Steps;
 use cer_outside::Sink;
@@ -28,7 +28,7 @@ pub fn run_over_sure<K: Sink, N: Sink, L: Ledger>(
     out: &mut K,
     notes: &mut N,
     steps: &mut Steps<L>,
-) -> Done<SureSource>
+) -> ProgramEnd<SureSource>
     ensures { (job : Job) (text kept lines : List ℕ) → AsksJob (map string_bytes words.items) job
         → content_under host.old.files (task_of job).queries ≡ Holds text
         → CheckpointHolds (content_under host.old.files) (task_of job) kept

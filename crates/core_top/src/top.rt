@@ -1,7 +1,7 @@
 //! The top call: what the program does with its words.
 
 ghost use Rattle.std.specs.Prelude.{◌≡◌, ◌↔◌, ℕ, List, map, string_bytes, IsSome, IsSomeAnd};
-ghost use Rattle.cer_base.specs.declared.Place.{Place};
+ghost use Rattle.cer_base.specs.declared.Location.{Location};
 ghost use Rattle.ceql_grammar.specs.declared.faults.QueryFault.{QueryFault};
 ghost use Rattle.event_reader.specs.declared.EventFault.{EventFault};
 ghost use Rattle.checkpoint_text.specs.declared.CheckpointFault.{CheckpointFault};
@@ -16,17 +16,17 @@ ghost use Rattle.command_base.specs.Causes.{status_of, Exactly, IsFineOrOutside,
 ghost use Rattle.command_base.specs.Opening.{OpensInTurn};
 ghost use Rattle.command_base.specs.Output.{WroteBy};
 ghost use Rattle.command_base.specs.Leaving.{IsLeftBy};
-ghost use Rattle.command_base.specs.Steps.{StepsBy};
+ghost use Rattle.command_base.specs.StepCounts.{StepsBy};
 ghost use Rattle.command_base.specs.Notes.{note_of, TookNote};
 ghost use Rattle.command_base.specs.Sources.{left_by};
 ghost use Rattle.command_sample.specs.Ending.{WroteSample};
 ghost use Rattle.core_top.specs.Jobs.{Job, task_of, AsksJob, AsksSample};
-ghost use Rattle.core_top.specs.Steps.{steps_of};
-ghost use Rattle.core_top.specs.Left.{leaves_of};
+ghost use Rattle.core_top.specs.StepCounts.{steps_of};
+ghost use Rattle.core_top.specs.LeftEngine.{leaves_of};
 ghost use Rattle.core_top.specs.Faults.{HasOpenFault, HasReadFault, HasWriteFault};
 ghost use Rattle.core_top.specs.Calls.{CallEnded};
 
-use super::Done;
+use super::ProgramEnd;
 use super::notes::noted;
 use cer_base::OrMemory;
 use cer_base::steps::Steps;
@@ -61,7 +61,7 @@ pub fn core_main<H: Host, K: Sink, N: Sink, L: Ledger>(
     out: &mut K,
     notes: &mut N,
     steps: &mut Steps<L>,
-) -> Done<H::Src>
+) -> ProgramEnd<H::Src>
     // The headline: what the output has taken after each cause. With status 0 a run has written
     // exactly the answers of the query text over the event file, position by position and query by
     // query, each once, one over late events those over the file's events in the order of their
@@ -83,7 +83,7 @@ pub fn core_main<H: Host, K: Sink, N: Sink, L: Ledger>(
 
     // Each answer has its cause.
     ensures usage { Exactly result.cause Cause.Usage (AskNothing (map string_bytes words.items)) }
-    ensures queries { (job : Job) (text : List ℕ) (fault : QueryFault) (place : Place)
+    ensures queries { (job : Job) (text : List ℕ) (fault : QueryFault) (place : Location)
         → AsksJob (map string_bytes words.items) job
         → H.content host.old (task_of job).queries ≡ Holds text
         → Exactly result.cause (Cause.Queries fault place) (IsRefusedText text fault place) }
@@ -170,13 +170,13 @@ pub fn core_main<H: Host, K: Sink, N: Sink, L: Ledger>(
 }
 
 /// With the status of its cause.
-fn done<S>(stop: Stop<S>) -> Done<S>
+fn done<S>(stop: Stop<S>) -> ProgramEnd<S>
     ensures status { result.status ≡ status_of result.cause }
     ensures cause { result.cause ≡ stop.cause }
     ensures failed { result.failed ≡ stop.failed }
     ensures left { result.left ≡ stop.left }
 {
-    Done {
+    ProgramEnd {
         status: status(&stop.cause),
         cause: stop.cause,
         failed: stop.failed,

@@ -2,7 +2,7 @@
 ghost use Rattle.std.specs.Prelude.{◌≡◌, ◌<◌, IfOk, OnOk};
 ghost use Rattle.query_engine.specs.Engine.{Fits, KeepsCursors};
 
-use crate::rows::{RowFault, event_of, write_answer};
+use crate::rows::{CaseFault, event_of, write_answer};
 use cer_base::steps::{Opening, Steps};
 use query_engine::{Cursor, Engine};
 use std::alloc::Global;
@@ -14,16 +14,16 @@ fn take_line<L: Ledger>(
     engine: &mut Engine,
     line: &[u8],
     steps: &mut Steps<L>,
-) -> Result<(), RowFault>
+) -> Result<(), CaseFault>
     ensures cursors { OnOk result (KeepsCursors engine.old engine.new) }
 {
     if engine.events() == u64::MAX {
-        return Err(RowFault::Count);
+        return Err(CaseFault::Count);
     }
     let event = event_of(alloc, engine, line)?;
     match engine.see(&event, steps) {
         Ok(_) => Ok(()),
-        Err(_) => Err(RowFault::Line),
+        Err(_) => Err(CaseFault::Line),
     }
 }
 
@@ -33,7 +33,7 @@ fn take_lines<L: Ledger>(
     engine: &mut Engine,
     lines: &[u8],
     steps: &mut Steps<L>,
-) -> Result<(), RowFault> {
+) -> Result<(), CaseFault> {
     for line in lines.split(|b| *b == b';') {
         take_line(alloc, engine, line, steps)?;
     }
@@ -41,11 +41,11 @@ fn take_lines<L: Ledger>(
 }
 
 /// A cursor of the first query.
-fn open<L: Ledger>(engine: &Engine, steps: &mut Steps<L>) -> Result<Cursor, RowFault>
+fn open<L: Ledger>(engine: &Engine, steps: &mut Steps<L>) -> Result<Cursor, CaseFault>
     ensures fits { IfOk result (Fits engine.now) }
 {
     if engine.events() == 0 || engine.queries() == 0 {
-        return Err(RowFault::Line);
+        return Err(CaseFault::Line);
     }
     Ok(engine.cursor(1, steps)?)
 }
@@ -56,7 +56,7 @@ fn write_next<L: Ledger>(
     cursor: &mut Cursor,
     text: &mut String,
     steps: &mut Steps<L>,
-) -> Result<(), RowFault>
+) -> Result<(), CaseFault>
     requires fits { Fits engine.now cursor.old }
     ensures fits { Fits engine.now cursor.new }
 {
@@ -74,7 +74,7 @@ fn compacted<L: Ledger>(
     engine: &mut Engine,
     cursor: Cursor,
     steps: &mut Steps<L>,
-) -> Result<Cursor, RowFault>
+) -> Result<Cursor, CaseFault>
     requires fits { Fits engine.old cursor }
     ensures fits { IfOk result (Fits engine.new) }
 {
@@ -92,7 +92,7 @@ pub fn held_over_a_compaction<L: Ledger>(
     lines: &[u8],
     line: &[u8],
     opening: Opening,
-) -> Result<String, RowFault>
+) -> Result<String, CaseFault>
     requires name { opening.name ≡ L.name }
     requires parts { opening.parts ≡ L.parts }
 {
@@ -124,7 +124,7 @@ fn take_ten<L: Ledger>(
     engine: &mut Engine,
     line: &[u8],
     steps: &mut Steps<L>,
-) -> Result<(), RowFault> {
+) -> Result<(), CaseFault> {
     for _ in 0..10 {
         take_line(alloc, engine, line, steps)?;
     }
@@ -139,7 +139,7 @@ pub fn most_after_compactions<L: Ledger>(
     engine: &mut Engine,
     line: &[u8],
     opening: Opening,
-) -> Result<u64, RowFault>
+) -> Result<u64, CaseFault>
     requires name { opening.name ≡ L.name }
     requires parts { opening.parts ≡ L.parts }
 {

@@ -15,7 +15,7 @@ use stream_schema::Event;
 
 /// Why a row could not be run.
 #[derive(Drop, Debug, Clone, Copy)]
-pub enum RowFault {
+pub enum CaseFault {
     /// The query text is refused.
     Query,
     /// The line is no event.
@@ -26,47 +26,47 @@ pub enum RowFault {
     Memory,
 }
 
-impl From<Memory> for RowFault {
-    fn from(_refused: Memory) -> RowFault {
-        RowFault::Memory
+impl From<Memory> for CaseFault {
+    fn from(_refused: Memory) -> CaseFault {
+        CaseFault::Memory
     }
 }
 
-impl From<AllocError> for RowFault {
-    fn from(_refused: AllocError) -> RowFault {
-        RowFault::Memory
+impl From<AllocError> for CaseFault {
+    fn from(_refused: AllocError) -> CaseFault {
+        CaseFault::Memory
     }
 }
 
-impl<T: Drop> From<AllocFailed<T>> for RowFault {
-    fn from(_refused: AllocFailed<T>) -> RowFault {
-        RowFault::Memory
+impl<T: Drop> From<AllocFailed<T>> for CaseFault {
+    fn from(_refused: AllocFailed<T>) -> CaseFault {
+        CaseFault::Memory
     }
 }
 
 /// The engine of the queries of a text.
-pub fn engine_of(alloc: Global, text: &str) -> Result<Engine, RowFault> {
+pub fn engine_of(alloc: Global, text: &str) -> Result<Engine, CaseFault> {
     seeded_engine_of(alloc, Seed::default(), text)
 }
 
 /// An engine for the text, with tables that hash by the seed.
-pub fn seeded_engine_of(alloc: Global, seed: Seed, text: &str) -> Result<Engine, RowFault> {
+pub fn seeded_engine_of(alloc: Global, seed: Seed, text: &str) -> Result<Engine, CaseFault> {
     match read_queries(alloc, text.as_bytes()) {
         Ok(Accepted { schema, queries }) => Ok(Engine::seeded(alloc, seed, schema, queries)?),
-        Err(_) => Err(RowFault::Query),
+        Err(_) => Err(CaseFault::Query),
     }
 }
 
 /// The event of the line, of the engine's schema.
-pub fn event_of(alloc: Global, engine: &Engine, line: &[u8]) -> Result<Event, RowFault>
+pub fn event_of(alloc: Global, engine: &Engine, line: &[u8]) -> Result<Event, CaseFault>
     ensures { IfOk result (IsOfSchema engine.now.schema) }
 {
     if line.contains(&b'\n') {
-        return Err(RowFault::Line);
+        return Err(CaseFault::Line);
     }
     match read_event(alloc, engine.schema(), line) {
         Ok(Some(event)) => Ok(event),
-        _ => Err(RowFault::Line),
+        _ => Err(CaseFault::Line),
     }
 }
 
@@ -76,7 +76,7 @@ fn write_answers<L: Ledger>(
     query: u64,
     text: &mut String,
     steps: &mut Steps<L>,
-) -> Result<(), RowFault>
+) -> Result<(), CaseFault>
     requires seen { 0 < count_of engine.now }
     requires numbered { IsNumber engine.now query }
 {
@@ -88,7 +88,7 @@ fn write_answers<L: Ledger>(
 }
 
 /// Writes an answer: where it starts, and in braces its positions, greatest first.
-pub fn write_answer(start: u64, positions: &[u64], text: &mut String) -> Result<(), RowFault> {
+pub fn write_answer(start: u64, positions: &[u64], text: &mut String) -> Result<(), CaseFault> {
     write!(text, "{start}{{")?;
     for (k, position) in positions.iter().enumerate() {
         if k > 0 {
@@ -105,7 +105,7 @@ fn write_all<L: Ledger>(
     engine: &Engine,
     text: &mut String,
     steps: &mut Steps<L>,
-) -> Result<(), RowFault>
+) -> Result<(), CaseFault>
     requires seen { 0 < count_of engine.now }
 {
     for k in 0..engine.queries() {
@@ -120,11 +120,11 @@ fn take<L: Ledger>(
     event: &Event,
     text: &mut String,
     steps: &mut Steps<L>,
-) -> Result<(), RowFault>
+) -> Result<(), CaseFault>
     requires of_schema { IsOfSchema engine.old.schema event.now }
 {
     if engine.events() == u64::MAX {
-        return Err(RowFault::Count);
+        return Err(CaseFault::Count);
     }
     match engine.see(event, steps) {
         Ok(_) => write_all(engine, text, steps),
@@ -132,12 +132,12 @@ fn take<L: Ledger>(
             write!(text, "query {query}: {now} after {before} ")?;
             Ok(())
         }
-        Err(SeeFault::Memory) => Err(RowFault::Memory),
+        Err(SeeFault::Memory) => Err(CaseFault::Memory),
     }
 }
 
 /// How many states were found for each query.
-pub fn states_found(alloc: Global, engine: &Engine) -> Result<String, RowFault> {
+pub fn states_found(alloc: Global, engine: &Engine) -> Result<String, CaseFault> {
     let mut text = String::new(alloc);
     for k in 0..engine.queries() {
         write!(text, "{} ", engine.found(k + 1))?;
@@ -150,7 +150,7 @@ fn compact_here<L: Ledger>(
     engine: &mut Engine,
     text: &mut String,
     steps: &mut Steps<L>,
-) -> Result<(), RowFault> {
+) -> Result<(), CaseFault> {
     engine.compact(&mut [], steps)?;
     if engine.events() > 0 {
         write_all(engine, text, steps)?;
@@ -166,7 +166,7 @@ pub fn answers_after_each<L: Ledger>(
     engine: &mut Engine,
     lines: &[u8],
     opening: Opening,
-) -> Result<String, RowFault>
+) -> Result<String, CaseFault>
     requires name { opening.name ≡ L.name }
     requires parts { opening.parts ≡ L.parts }
 {

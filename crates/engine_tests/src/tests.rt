@@ -2,7 +2,7 @@ mod beside;
 mod compactions;
 mod generator;
 
-use super::rows::{RowFault, answers_after_each, engine_of, seeded_engine_of, states_found};
+use super::rows::{CaseFault, answers_after_each, engine_of, seeded_engine_of, states_found};
 use cer_base::seed::Seed;
 use cer_base::steps::Opening;
 use query_engine::Engine;
@@ -102,14 +102,14 @@ fn found(
     engine: &mut Engine,
     lines: &[u8],
     runtime: &HostRuntime,
-) -> Result<String, RowFault> {
+) -> Result<String, CaseFault> {
     let mut text = answers_after_each::<Brand>(alloc, engine, lines, Opening::new(runtime))?;
     text.push_str(states_found(alloc, engine)?.as_str())?;
     Ok(text)
 }
 
 /// The engine of the query after these declarations.
-pub fn engine_after(alloc: Global, declarations: &str, query: &str) -> Result<Engine, RowFault> {
+pub fn engine_after(alloc: Global, declarations: &str, query: &str) -> Result<Engine, CaseFault> {
     let text = format!(in alloc; "{declarations}{query}")?;
     engine_of(alloc, text.as_str())
 }
@@ -121,7 +121,7 @@ fn answer(
     query: &str,
     lines: &[u8],
     runtime: &HostRuntime,
-) -> Result<String, RowFault> {
+) -> Result<String, CaseFault> {
     let text = format!(in alloc; "{BASE}{query}")?;
     let mut engine = seeded_engine_of(alloc, seed, text.as_str())?;
     found(alloc, &mut engine, lines, runtime)

@@ -3,7 +3,7 @@ use Rattle.std.proofs.Common.{◌≡◌, ℕ, suc, ◌+◌, ◌||◌, Bool, true
 use Rattle.std.specs.Prelude.{nat_lt, option_map}
 use Rattle.std.specs.List.{list_any, position_or_len}
 use Rattle.std.proofs.lemmas.Bool.{eqb-true, lt-ltb}
-use Rattle.event_reader.specs.Words.{is_blank, cut}
+use Rattle.event_reader.specs.LineWords.{is_blank, cut}
 
 -- the same by recursion
 abbrev pub parts : List ℕ → Option (List ℕ × List ℕ)

@@ -8,7 +8,7 @@ use Rattle.event_reader.specs.declared.LineFault.TheVariants.{LineTooLong, Input
 use Rattle.cer_base.specs.declared.limits.TheConstants.{LONGEST_LINE}
 use Rattle.event_reader.specs.Lines.{FileLines, stops, lines_from, file_lines, without_mark, line_text, unmarked}
 use Rattle.event_reader.specs.Lines.{has_line_feed}
-use Rattle.event_reader.specs.Reading.{LineReader, ended_from, followed_by, to_come, HasRead, HasTaken, IsCutOff}
+use Rattle.event_reader.specs.LineReaders.{LineReader, ended_from, followed_by, to_come, HasRead, HasTaken, IsCutOff}
 use Rattle.event_reader.proofs.LineWalks.{first_line, first_long, first_full, first_last, first_none, ended_line, ended_none}
 
 -- before the last line the rest is what the definition reads on

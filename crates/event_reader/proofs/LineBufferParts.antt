@@ -12,7 +12,7 @@ use Rattle.std.proofs.lemmas.Grind.{get_or_default_zero}
 use Rattle.memchr.specs.Find.{IsFirstByte, NoneBefore, Nowhere, Passes, is_byte}
 use Rattle.cer_outside.specs.Bytes.{ReadsOn}
 use Rattle.event_reader.specs.Lines.{has_line_feed}
-use Rattle.event_reader.specs.LineBuffers.{Held, bytes_between, IsLineBuffer, IsFirstLineFeed, IsShort}
+use Rattle.event_reader.specs.LineBuffers.{BufferState, bytes_between, IsLineBuffer, IsFirstLineFeed, IsShort}
 use Rattle.event_reader.proofs.LineBytes.{neither, any_take}
 use Rattle.event_reader.proofs.Texts.{by_cases}
 use Rattle.event_reader.proofs.LineMarks.{none_in_front}
@@ -73,7 +73,7 @@ given_buffer bytes from searched to text_from text_to start len end pending w e 
       plain = ap has_line_feed (none_between bytes (from + end));
     }
 
-pub given_held : (bytes : List ℕ) (from searched to text_from text_to start len end : ℕ) (now : Held) → IsLineBuffer bytes from searched to text_from text_to → bytes_between bytes from to ≡ now.pending → start ≤ len → len ≤ end → end ≤ length now.pending → let h : Held = record { pending = bytes_between bytes (from + end) to; text = bytes_between bytes (from + start) (from + len) } in h ≡ record { pending = drop end now.pending; text = drop start (take len now.pending) }
+pub given_held : (bytes : List ℕ) (from searched to text_from text_to start len end : ℕ) (now : BufferState) → IsLineBuffer bytes from searched to text_from text_to → bytes_between bytes from to ≡ now.pending → start ≤ len → len ≤ end → end ≤ length now.pending → let h : BufferState = record { pending = bytes_between bytes (from + end) to; text = bytes_between bytes (from + start) (from + len) } in h ≡ record { pending = drop end now.pending; text = drop start (take len now.pending) }
 given_held bytes from searched to text_from text_to start len end now w e a b h =
     let l : length now.pending ≡ to - from = ap length (sym e) ∙ length_between bytes from to (omega (arith, w.capacity, w.to_within)) in
     let p : bytes_between bytes (from + end) to ≡ drop end now.pending = between_drop bytes from to end (omega arith) ∙ ap (drop end) e in

@@ -8,7 +8,7 @@ use Rattle.event_reader.specs.declared.LineFault.TheVariants.{LineTooLong, Input
 use Rattle.cer_base.specs.declared.limits.TheConstants.{LONGEST_LINE}
 use Rattle.event_reader.specs.Lines.{stops, with_line, lines_from}
 use Rattle.event_reader.specs.Lines.{has_line_feed}
-use Rattle.event_reader.specs.Reading.{ended_from}
+use Rattle.event_reader.specs.LineReaders.{ended_from}
 use Rattle.event_reader.proofs.LineBytes.{neither, differs}
 
 -- bytes that end no line join the line at hand

@@ -9,26 +9,26 @@ use Rattle.event_reader.specs.declared.reader.Next.TheVariants.{Line, End}
 use Rattle.cer_outside.specs.Bytes.{ReadsOn, IsAtEnd}
 use Rattle.event_reader.specs.Lines.{file_lines, line_text}
 use Rattle.event_reader.specs.Lines.{has_line_feed}
-use Rattle.event_reader.specs.LineBuffers.{Held, IsFirstLineFeed, IsShort}
-use Rattle.event_reader.specs.Reading.{LineReader, HasGiven, HasTakenFor, Follows}
+use Rattle.event_reader.specs.LineBuffers.{BufferState, IsFirstLineFeed, IsShort}
+use Rattle.event_reader.specs.LineReaders.{LineReader, HasGiven, HasTakenFor, Follows}
 use Rattle.event_reader.proofs.GivenLines.{given_line, given_last, all_ended, all_at_end, all_long, all_full, cut_off, given_first, taken_so_far, taken_in_full}
 
 -- the reader after a line, by its window
-pub given_reader : (now : LineReader) (held given : Held) (budget room number : ℕ) (ended closed : Bool) (start len end : ℕ) →
-    (let r : LineReader = record { budget = budget; number = number; text = held.text; pending = held.pending; room = room; ended = ended; closed = closed } in r ≡ now) →
-    given ≡ record { pending = drop end held.pending; text = drop start (take len held.pending) } →
+pub given_reader : (now : LineReader) (scratch given : BufferState) (budget room number : ℕ) (ended closed : Bool) (start len end : ℕ) →
+    (let r : LineReader = record { budget = budget; number = number; text = scratch.text; pending = scratch.pending; room = room; ended = ended; closed = closed } in r ≡ now) →
+    given ≡ record { pending = drop end scratch.pending; text = drop start (take len scratch.pending) } →
     drop start (take len now.pending) ≡ line_text now.number (take len now.pending) →
     let r : LineReader = record { budget = budget; number = number + 1; text = given.text; pending = given.pending; room = room - end; ended = ended; closed = closed } in
     r ≡ record now { number = now.number + 1; text = line_text now.number (take len now.pending); pending = drop end now.pending; room = now.room - end }
-given_reader now held given budget room number ended closed start len end e h t =
-    let p : held.pending ≡ now.pending = ap (λ (r : LineReader). r.pending) e in
+given_reader now scratch given budget room number ended closed start len end e h t =
+    let p : scratch.pending ≡ now.pending = ap (λ (r : LineReader). r.pending) e in
     let b : budget ≡ now.budget = ap (λ (r : LineReader). r.budget) e in
     let n : number ≡ now.number = ap (λ (r : LineReader). r.number) e in
     let m : room ≡ now.room = ap (λ (r : LineReader). r.room) e in
     let d : ended ≡ now.ended = ap (λ (r : LineReader). r.ended) e in
     let s : closed ≡ now.closed = ap (λ (r : LineReader). r.closed) e in
-    let gp : given.pending ≡ drop end now.pending = ap (λ (k : Held). k.pending) h ∙ ap (drop end) p in
-    let gt : given.text ≡ line_text now.number (take len now.pending) = ap (λ (k : Held). k.text) h ∙ ap (λ l. drop start (take len l)) p ∙ t in
+    let gp : given.pending ≡ drop end now.pending = ap (λ (k : BufferState). k.pending) h ∙ ap (drop end) p in
+    let gt : given.text ≡ line_text now.number (take len now.pending) = ap (λ (k : BufferState). k.text) h ∙ ap (λ l. drop start (take len l)) p ∙ t in
     rw (gp, gt, b, n, m, d, s) refl
 
 pub whole_reader : (now : LineReader) (len : ℕ) → len ≡ length now.pending →

@@ -24,7 +24,7 @@ use Rattle.event_reader.specs.declared.EventFault.TheVariants.{BadLine, OpenQuot
 use Rattle.event_reader.specs.Fields.{fields, ends_open}
 use Rattle.event_reader.specs.Values.{value_of, scaled, flag}
 use Rattle.cer_base.specs.Answers.{Gives}
-use Rattle.event_reader.specs.Rows.{TellsEvent}
+use Rattle.event_reader.specs.LineAnswers.{TellsEvent}
 use Rattle.event_reader.specs.Events.{is_bad, and_then, value_or_fault, values_from, event_of_type, attrs_of, event_of_place, event_of, event_of_record, event_of_text, event_of_line}
 
 -- a value that was read is of the kind
@@ -153,10 +153,10 @@ read_is schema line (Ok None) gives = tt
 read_is schema line (Ok (Some event)) gives = text_gives schema (strip_carriage_return line) event gives
 
 -- the same of a call that reads into a row
-pub row_is : (schema : Declared) (line : List ℕ) (held : Event) (result : Result Bool (OrMemory EventFault)) → TellsEvent held result (event_of_line schema line) → result ≡ Ok true → IsOfSchema schema held
-row_is schema line held (Ok true) tells e = text_gives schema (strip_carriage_return line) held tells
-row_is schema line held (Ok false) tells e = absurd (cc)
-row_is schema line held (Err stop) tells e = absurd (let wrong : Err stop ≡ Ok true = e in cc)
+pub row_is : (schema : Declared) (line : List ℕ) (scratch : Event) (result : Result Bool (OrMemory EventFault)) → TellsEvent scratch result (event_of_line schema line) → result ≡ Ok true → IsOfSchema schema scratch
+row_is schema line scratch (Ok true) tells e = text_gives schema (strip_carriage_return line) scratch tells
+row_is schema line scratch (Ok false) tells e = absurd (cc)
+row_is schema line scratch (Err stop) tells e = absurd (let wrong : Err stop ≡ Ok true = e in cc)
 
 -- a type that has the name is the one that is found
 pub known_name : (schema : Declared) → IsWellDeclared schema → (name known : List ℕ) (ty : ℕ) → known ≡ name → Some known ≡ name_of_type schema.types ty → type_number schema.types name ≡ Some ty

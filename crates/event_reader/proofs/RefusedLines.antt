@@ -21,7 +21,7 @@ use Rattle.event_reader.specs.Fields.{fields, ends_open}
 use Rattle.event_reader.specs.Lines.{has_line_feed}
 use Rattle.event_reader.specs.Events.{is_bad, and_then, values_from, event_of_type, event_of_place, attrs_of, event_of_record, event_of_text}
 use Rattle.event_reader.specs.Values.{value_of}
-use Rattle.event_reader.specs.Rows.{TellsType, IsRefusal}
+use Rattle.event_reader.specs.LineAnswers.{TellsType, IsRefusal}
 use Rattle.event_reader.specs.QuotedLines.{past, ends_cell, with_byte, with_end, cells_from, is_inside, ends_inside, cells_after, IsCutAt, HasValueFields}
 use Rattle.event_reader.proofs.CommonFields.{kinds_of, not_empty, slice_is}
 use Rattle.event_reader.proofs.LineBytes.{no_return}

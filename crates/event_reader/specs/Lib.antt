@@ -4,8 +4,8 @@ pub mod Events
 pub mod Cells
 pub mod Lines
 pub mod LineBuffers
-pub mod Reading
+pub mod LineReaders
 pub mod CommonLines
 pub mod QuotedLines
-pub mod Rows
-pub mod Words
+pub mod LineAnswers
+pub mod LineWords

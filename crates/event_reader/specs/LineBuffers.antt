@@ -5,11 +5,11 @@ use Rattle.cer_base.specs.declared.bytes.TheConstants.{LINE_FEED}
 use Rattle.cer_base.specs.declared.limits.TheConstants.{LONGEST_LINE}
 use Rattle.cer_outside.specs.Bytes.{IsAtEnd}
 use Rattle.event_reader.specs.Lines.{has_line_feed}
-use Rattle.event_reader.specs.declared.line_buffer.Stop.{Stop}
-use Rattle.event_reader.specs.declared.line_buffer.Stop.TheVariants.{LineFeed, Long, Full, End}
+use Rattle.event_reader.specs.declared.line_buffer.SeekEnd.{SeekEnd}
+use Rattle.event_reader.specs.declared.line_buffer.SeekEnd.TheVariants.{LineFeed, Long, Full, End}
 
 -- What a buffer holds: the bytes that are in no line yet, and the text that it gave last.
-pub record Held : Type 0 where
+pub record BufferState : Type 0 where
   pub pending : List ℕ
   pub text : List ℕ
 
@@ -41,9 +41,9 @@ pub record IsShort (bytes : List ℕ) : Type 0 where
   pub short : length bytes ≤ LONGEST_LINE
 
 -- why reading stopped, of which these bytes are at hand and so many may be
-abbrev pub IsStop : {E : Type 0} → ℕ → List ℕ → Option (List ℕ) → Result Stop E → Type 0
-IsStop room pending left (Ok (LineFeed place)) = IsFirstLineFeed place pending × (place ≤ LONGEST_LINE)
-IsStop room pending left (Ok Long) = (has_line_feed (take (LONGEST_LINE + 1) pending) ≡ false) × (LONGEST_LINE < length pending)
-IsStop room pending left (Ok Full) = IsShort pending × (length pending ≡ room)
-IsStop room pending left (Ok End) = IsShort pending × (length pending < room) × IsAtEnd left
-IsStop room pending left (Err e) = IsShort pending × (length pending < room)
+abbrev pub IsSeekEnd : {E : Type 0} → ℕ → List ℕ → Option (List ℕ) → Result SeekEnd E → Type 0
+IsSeekEnd room pending left (Ok (LineFeed place)) = IsFirstLineFeed place pending × (place ≤ LONGEST_LINE)
+IsSeekEnd room pending left (Ok Long) = (has_line_feed (take (LONGEST_LINE + 1) pending) ≡ false) × (LONGEST_LINE < length pending)
+IsSeekEnd room pending left (Ok Full) = IsShort pending × (length pending ≡ room)
+IsSeekEnd room pending left (Ok End) = IsShort pending × (length pending < room) × IsAtEnd left
+IsSeekEnd room pending left (Err e) = IsShort pending × (length pending < room)

@@ -6,12 +6,12 @@ ghost use Rattle.std.specs.Str.Lines.{strip_carriage_return};
 ghost use Rattle.cer_base.specs.Answers.{Gives};
 ghost use Rattle.event_reader.specs.Lines.{has_line_feed};
 ghost use Rattle.event_reader.specs.Events.{event_of_line, event_of_text, is_bad};
-ghost use Rattle.event_reader.specs.Rows.{TellsType};
+ghost use Rattle.event_reader.specs.LineAnswers.{TellsType};
 
 use crate::EventFault;
+use crate::event_buffer::EventBuffer;
 use crate::quoted::read_quoted;
 use crate::refusals::refusal;
-use crate::row::Row;
 use crate::types::Guesses;
 use cer_base::OrMemory;
 use cer_base::bytes::CARRIAGE_RETURN;
@@ -19,7 +19,7 @@ use std::alloc::Global;
 use stream_schema::{Event, Schema, TypeId, Value};
 
 /// The event of the line, or `None` where it is empty but for a carriage return, in memory of its
-/// own. The refusals are those of `Row::read`; an event that it gives is of the schema. Where there is
+/// own. The refusals are those of `EventBuffer::read`; an event that it gives is of the schema. Where there is
 /// none, no memory is wanted.
 #[tactic(auto, using(crate::proofs::OfSchema::read_is))]
 pub fn read_event(
@@ -32,7 +32,7 @@ pub fn read_event(
     ensures of_schema { IfOk result (λ found. IfSome found (λ event. IsOfSchema schema.now event)) }
     ensures none { event_of_line schema.now text.now ≡ Ok None → result ≡ Ok None }
 {
-    let mut row = Row::new(alloc);
+    let mut row = EventBuffer::new(alloc);
     match row.read(alloc, schema, text) {
         Ok(true) => Ok(Some(row.into_event())),
         Ok(false) => Ok(None),
@@ -46,7 +46,7 @@ pub fn read_any(
     alloc: Global,
     schema: &Schema,
     guesses: &mut Guesses,
-    held: &mut Vec<u8>,
+    scratch: &mut Vec<u8>,
     line: &[u8],
     values: &mut Vec<Value>,
 ) -> Result<Option<TypeId>, OrMemory<EventFault>>
@@ -59,9 +59,9 @@ pub fn read_any(
     if is_bad(line) {
         return Err(OrMemory::Fault(EventFault::BadLine));
     }
-    match read_quoted(alloc, schema, guesses, held, line, values) {
+    match read_quoted(alloc, schema, guesses, scratch, line, values) {
         Some(ty) => Ok(Some(ty)),
-        None => Err(refusal(alloc, schema, held, line)),
+        None => Err(refusal(alloc, schema, scratch, line)),
     }
 }
 

@@ -26,16 +26,16 @@ enum FieldState {
 /// Makes the list the bytes of the field at the beginning, and answers how many bytes the field
 /// takes, unless the text ends inside its quotes or memory runs out.
 #[inline(never)]
-pub fn unescape(text: &[u8], held: &mut Vec<u8>) -> Option<usize>
-    ensures { IfSome result (λ end. IsCutAt text.now held.new.items end) }
+pub fn unescape(text: &[u8], scratch: &mut Vec<u8>) -> Option<usize>
+    ensures { IfSome result (λ end. IsCutAt text.now scratch.new.items end) }
 {
-    held.clear();
-    let Some(from) = keep_quoted(text, held) else {
+    scratch.clear();
+    let Some(from) = keep_quoted(text, scratch) else {
         return None;
     };
     let rest = &text[from..];
     let size = byte_at(rest, COMMA);
-    if keep(&rest[..size], held) {
+    if keep(&rest[..size], scratch) {
         Some(from + size)
     } else {
         None
@@ -45,15 +45,15 @@ pub fn unescape(text: &[u8], held: &mut Vec<u8>) -> Option<usize>
 /// Puts the bytes that the field has inside quotes into the list, which is empty, and answers how many
 /// bytes of the text these take with the quotes: 0 where the field begins with no quote. `None` where
 /// the text ends inside its quotes or memory runs out.
-fn keep_quoted(text: &[u8], held: &mut Vec<u8>) -> Option<usize>
-    requires { held.old.items ≡ [] }
-    ensures { IfSome result (λ from. IsPlainFrom text.now held.new.items from) }
+fn keep_quoted(text: &[u8], scratch: &mut Vec<u8>) -> Option<usize>
+    requires { scratch.old.items ≡ [] }
+    ensures { IfSome result (λ from. IsPlainFrom text.now scratch.new.items from) }
 {
     let mut at = 0;
     while at < text.len() && text[at] == QUOTE {
         let end = at + 1 + quote_at(&text[at + 1..]);
         // The quote that begins the field stands for no byte, one behind a closing quote for itself.
-        if end >= text.len() || !keep(&text[at.max(1)..end], held) {
+        if end >= text.len() || !keep(&text[at.max(1)..end], scratch) {
             return None;
         }
         at = end + 1;
@@ -63,10 +63,10 @@ fn keep_quoted(text: &[u8], held: &mut Vec<u8>) -> Option<usize>
 
 /// Puts the bytes behind those of the list. `false` where memory runs out.
 #[inline(always)]
-fn keep(bytes: &[u8], held: &mut Vec<u8>) -> bool
-    ensures { result ≡ true → held.new.items ≡ held.old.items ++ bytes.now }
+fn keep(bytes: &[u8], scratch: &mut Vec<u8>) -> bool
+    ensures { result ≡ true → scratch.new.items ≡ scratch.old.items ++ bytes.now }
 {
-    held.extend_from_slice(bytes).is_ok()
+    scratch.extend_from_slice(bytes).is_ok()
 }
 
 /// The place of the first quote, or the text's length. Most runs are short, so the first bytes are

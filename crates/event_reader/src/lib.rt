@@ -1,7 +1,7 @@
 //! The event file: which lines its bytes are, and which event a line is, or why it is none.
 //!
 //! Promised: `Lines` gives exactly the lines of the definition `file_lines`, however its source cuts
-//! the bytes, and says exactly why there is no further one. `Row::read` answers exactly the event
+//! the bytes, and says exactly why there is no further one. `EventBuffer::read` answers exactly the event
 //! of the line, or the first of its refusals, where the fields are those of `csv`'s own definition;
 //! `read_event` is the same in memory of its own. No line is handed to `csv`: a walk over the line's
 //! bytes is proved to give the fields of that definition.
@@ -13,6 +13,7 @@ use stream_schema::Kind;
 use thiserror::Error;
 
 mod common;
+mod event_buffer;
 mod events;
 mod fields;
 mod line_buffer;
@@ -20,14 +21,13 @@ mod numbers;
 mod quoted;
 mod reader;
 mod refusals;
-mod row;
 mod types;
 mod values;
 pub mod words;
 
+pub use event_buffer::EventBuffer;
 pub use events::read_event;
 pub use reader::{Lines, Next};
-pub use row::Row;
 
 /// Why a line of an event file, or of a script of commands, was refused. Where several of an event's
 /// refusals hold of a line, the first of these is the answer.

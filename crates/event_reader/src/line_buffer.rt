@@ -6,7 +6,7 @@ ghost use Rattle.cer_outside.specs.Causes.{HasCause};
 ghost use Rattle.memchr.specs.Find.{IsFirstByte, Nowhere, Passes, is_byte};
 ghost use Rattle.std.specs.Simd.Lanes.{mask_l};
 ghost use Rattle.event_reader.specs.Lines.{has_line_feed, begins_with_end};
-ghost use Rattle.event_reader.specs.LineBuffers.{bytes_between, IsFirstLineFeed, IsShort, IsStop};
+ghost use Rattle.event_reader.specs.LineBuffers.{bytes_between, IsFirstLineFeed, IsShort, IsSeekEnd};
 
 use cer_base::Memory;
 use cer_base::bytes::{CARRIAGE_RETURN, LINE_FEED};
@@ -25,7 +25,7 @@ const NEAR: usize = 16;
 
 /// Why reading stopped.
 #[derive(Debug, Clone, Copy, PartialEq, Eq)]
-pub enum Stop {
+pub enum SeekEnd {
     /// The first line feed stands at this place.
     LineFeed(usize),
     /// There is no line feed among the first bytes, and these are more than a line has.
@@ -49,9 +49,9 @@ pub struct LineBuffer {
 }
 
 impl Model for LineBuffer {
-    ghost use Rattle.event_reader.specs.LineBuffers.{Held, bytes_between, IsLineBuffer};
+    ghost use Rattle.event_reader.specs.LineBuffers.{BufferState, bytes_between, IsLineBuffer};
 
-    ghost Value = { Held };
+    ghost Value = { BufferState };
 
     ghost view = { λ w. record {
       pending = bytes_between w.buffer.items w.from w.to;
@@ -191,51 +191,51 @@ impl LineBuffer {
     /// Reads on until it is decided how the first line ends. At most `room` bytes are then in no
     /// line yet. Mostly the line is at hand, and nothing is read.
     #[inline(always)]
-    pub fn seek<Q: Source>(&mut self, source: &mut Q, room: u64) -> Result<Stop, Failed>
+    pub fn seek<Q: Source>(&mut self, source: &mut Q, room: u64) -> Result<SeekEnd, Failed>
         requires { length self.old.pending ≤ room }
         ensures bytes { ReadsOn (Q.left source.old)
             (Q.left source.new) self.old.pending self.new.pending }
         ensures room { length self.new.pending ≤ room }
-        ensures stop { IsStop room self.new.pending (Q.left source.new) result }
+        ensures stop { IsSeekEnd room self.new.pending (Q.left source.new) result }
         ensures cause { HasCause (Q.faults source.old) (Q.faults source.new) result }
         ensures quiet { has_line_feed self.old.pending ≡ true → source.new ≡ source.old }
     {
         if let Some(place) = self.find() {
             if place > LONGEST_LINE {
-                return Ok(Stop::Long);
+                return Ok(SeekEnd::Long);
             }
-            return Ok(Stop::LineFeed(place));
+            return Ok(SeekEnd::LineFeed(place));
         }
         self.seek_on(source, room)
     }
 
     /// Seeks the end of the line, in as many reads as it takes.
     #[inline(never)]
-    fn seek_on<Q: Source>(&mut self, source: &mut Q, room: u64) -> Result<Stop, Failed>
+    fn seek_on<Q: Source>(&mut self, source: &mut Q, room: u64) -> Result<SeekEnd, Failed>
         requires { length self.old.pending ≤ room }
         ensures bytes { ReadsOn (Q.left source.old)
             (Q.left source.new) self.old.pending self.new.pending }
         ensures room { length self.new.pending ≤ room }
-        ensures stop { IsStop room self.new.pending (Q.left source.new) result }
+        ensures stop { IsSeekEnd room self.new.pending (Q.left source.new) result }
         ensures cause { HasCause (Q.faults source.old) (Q.faults source.new) result }
         ensures quiet { has_line_feed self.old.pending ≡ true → source.new ≡ source.old }
     {
         loop {
             if let Some(place) = self.find() {
                 if place > LONGEST_LINE {
-                    return Ok(Stop::Long);
+                    return Ok(SeekEnd::Long);
                 }
-                return Ok(Stop::LineFeed(place));
+                return Ok(SeekEnd::LineFeed(place));
             }
             let len = self.len();
             if len > LONGEST_LINE {
-                return Ok(Stop::Long);
+                return Ok(SeekEnd::Long);
             }
             if len as u64 == room {
-                return Ok(Stop::Full);
+                return Ok(SeekEnd::Full);
             }
             match self.fill(source, room) {
-                Ok(0) => return Ok(Stop::End),
+                Ok(0) => return Ok(SeekEnd::End),
                 Ok(_) => {}
                 Err(failed) => return Err(failed),
             }

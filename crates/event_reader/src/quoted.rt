@@ -32,7 +32,7 @@ pub fn read_quoted(
     alloc: Global,
     schema: &Schema,
     guesses: &mut Guesses,
-    held: &mut Vec<u8>,
+    scratch: &mut Vec<u8>,
     line: &[u8],
     values: &mut Vec<Value>,
 ) -> Option<TypeId>
@@ -42,14 +42,14 @@ pub fn read_quoted(
     ensures { IfSome result (λ ty. event_of_text schema.now line.now
         ≡ Ok (Some (record { ty = ty; values = values.new.items }))) }
 {
-    let Some((ty, end)) = read_name(schema, guesses, held, line) else {
+    let Some((ty, end)) = read_name(schema, guesses, scratch, line) else {
         return None;
     };
     let kinds = schema.kinds(ty).as_slice();
     if !fit(values, kinds.len()) {
         return None;
     }
-    if read_cells(alloc, kinds, held, &line[end..], values) {
+    if read_cells(alloc, kinds, scratch, &line[end..], values) {
         Some(ty)
     } else {
         None
@@ -60,13 +60,13 @@ pub fn read_quoted(
 fn read_name(
     schema: &Schema,
     guesses: &mut Guesses,
-    held: &mut Vec<u8>,
+    scratch: &mut Vec<u8>,
     line: &[u8],
 ) -> Option<(TypeId, usize)>
     ensures { IfSome result (λ found. IsNamed schema.now.types line.now found.0 found.1) }
 {
     let Some(part) = part_at(line) else {
-        return read_escaped_name(schema, guesses, held, line);
+        return read_escaped_name(schema, guesses, scratch, line);
     };
     let Some(ty) = guesses.type_of(schema, &line[part.start..part.stop]) else {
         return None;
@@ -79,15 +79,15 @@ fn read_name(
 fn read_escaped_name(
     schema: &Schema,
     guesses: &mut Guesses,
-    held: &mut Vec<u8>,
+    scratch: &mut Vec<u8>,
     line: &[u8],
 ) -> Option<(TypeId, usize)>
     ensures { IfSome result (λ found. IsNamed schema.now.types line.now found.0 found.1) }
 {
-    let Some(end) = unescape(line, held) else {
+    let Some(end) = unescape(line, scratch) else {
         return None;
     };
-    let Some(ty) = guesses.type_of(schema, held.as_slice()) else {
+    let Some(ty) = guesses.type_of(schema, scratch.as_slice()) else {
         return None;
     };
     Some((ty, end))
@@ -98,7 +98,7 @@ fn read_escaped_name(
 fn read_cells(
     alloc: Global,
     kinds: &[Kind],
-    held: &mut Vec<u8>,
+    scratch: &mut Vec<u8>,
     fields: &[u8],
     values: &mut Vec<Value>,
 ) -> bool
@@ -113,7 +113,7 @@ fn read_cells(
         if *first != COMMA {
             return false;
         }
-        let Some(end) = read_cell(alloc, *kind, held, text, &mut values[i]) else {
+        let Some(end) = read_cell(alloc, *kind, scratch, text, &mut values[i]) else {
             return false;
         };
         rest = &text[end..];
@@ -125,14 +125,14 @@ fn read_cells(
 fn read_cell(
     alloc: Global,
     kind: Kind,
-    held: &mut Vec<u8>,
+    scratch: &mut Vec<u8>,
     text: &[u8],
     value: &mut Value,
 ) -> Option<usize>
     ensures { IfSome result (λ end. IsCellUpTo kind text.now value.new end) }
 {
     let Some(part) = part_at(text) else {
-        return read_escaped(alloc, kind, held, text, value);
+        return read_escaped(alloc, kind, scratch, text, value);
     };
     if put_value(alloc, kind, &text[part.start..part.stop], value) {
         Some(part.end)
@@ -146,16 +146,16 @@ fn read_cell(
 fn read_escaped(
     alloc: Global,
     kind: Kind,
-    held: &mut Vec<u8>,
+    scratch: &mut Vec<u8>,
     text: &[u8],
     value: &mut Value,
 ) -> Option<usize>
     ensures { IfSome result (λ end. IsCellUpTo kind text.now value.new end) }
 {
-    let Some(end) = unescape(text, held) else {
+    let Some(end) = unescape(text, scratch) else {
         return None;
     };
-    if put_value(alloc, kind, held.as_slice(), value) {
+    if put_value(alloc, kind, scratch.as_slice(), value) {
         Some(end)
     } else {
         None

@@ -4,10 +4,10 @@ ghost use Rattle.std.specs.Prelude.{◌≡◌, ◌+◌, ◌-◌, ◌<◌, ◌≤
 ghost use Rattle.event_reader.specs.declared.reader.Next.TheVariants as next;
 ghost use Rattle.event_reader.specs.Lines.{has_line_feed, begins_with_end, without_mark, line_text};
 ghost use Rattle.event_reader.specs.LineBuffers.{IsShort};
-ghost use Rattle.event_reader.specs.Reading.{HasGiven, Follows, HasTakenFor, HasReadCause, OnReadFault, MovesOn};
+ghost use Rattle.event_reader.specs.LineReaders.{HasGiven, Follows, HasTakenFor, HasReadCause, OnReadFault, MovesOn};
 
 use crate::LineFault;
-use crate::line_buffer::{LineBuffer, Stop};
+use crate::line_buffer::{LineBuffer, SeekEnd};
 use cer_base::Memory;
 use cer_base::limits::LONGEST_LINE;
 use cer_outside::{Failed, Source};
@@ -36,7 +36,7 @@ pub struct Lines {
 
 impl Model for Lines {
     ghost use Rattle.std.specs.Prelude.{◌+◌, ◌≤◌, length};
-    ghost use Rattle.event_reader.specs.Reading.{LineReader};
+    ghost use Rattle.event_reader.specs.LineReaders.{LineReader};
 
     ghost Value = { LineReader };
 
@@ -141,15 +141,15 @@ impl Lines {
             return Ok(Next::End);
         }
         match self.buffer.seek(source, self.room) {
-            Ok(Stop::LineFeed(len)) => {
+            Ok(SeekEnd::LineFeed(len)) => {
                 self.give(len, len + 1);
                 Ok(Next::Line)
             }
-            Ok(Stop::Long) => self.fault(LineFault::LineTooLong {
+            Ok(SeekEnd::Long) => self.fault(LineFault::LineTooLong {
                 line: self.number + 1,
             }),
-            Ok(Stop::Full) => self.fault(LineFault::InputTooLong { taken: self.budget }),
-            Ok(Stop::End) => Ok(self.last()),
+            Ok(SeekEnd::Full) => self.fault(LineFault::InputTooLong { taken: self.budget }),
+            Ok(SeekEnd::End) => Ok(self.last()),
             Err(Failed) => self.fault(LineFault::ReadFault),
         }
     }

@@ -5,7 +5,7 @@ ghost use Rattle.event_reader.specs.Fields.{fields, ends_open};
 ghost use Rattle.event_reader.specs.Lines.{has_line_feed};
 ghost use Rattle.event_reader.specs.Events.{is_bad, event_of_record, values_from};
 ghost use Rattle.event_reader.specs.QuotedLines.{cells_after};
-ghost use Rattle.event_reader.specs.Rows.{IsRefusal};
+ghost use Rattle.event_reader.specs.LineAnswers.{IsRefusal};
 
 use crate::EventFault;
 use crate::fields::{count_values, unescape};
@@ -22,7 +22,7 @@ use stream_schema::{Kind, Schema};
 pub fn refusal(
     alloc: Global,
     schema: &Schema,
-    held: &mut Vec<u8>,
+    scratch: &mut Vec<u8>,
     line: &[u8],
 ) -> OrMemory<EventFault>
     requires some { 0 < length line.now }
@@ -33,10 +33,10 @@ pub fn refusal(
     let Some(count) = count_values(line) else {
         return OrMemory::Fault(EventFault::OpenQuote);
     };
-    let Some(end) = unescape(line, held) else {
+    let Some(end) = unescape(line, scratch) else {
         return OrMemory::Memory;
     };
-    let Some(ty) = schema.type_of_bytes(held.as_slice()) else {
+    let Some(ty) = schema.type_of_bytes(scratch.as_slice()) else {
         return OrMemory::Fault(EventFault::UnknownType);
     };
     let kinds = schema.kinds(ty).as_slice();
@@ -46,7 +46,7 @@ pub fn refusal(
             got: count as u64,
         });
     }
-    bad_value(alloc, kinds, held, &line[end..])
+    bad_value(alloc, kinds, scratch, &line[end..])
 }
 
 /// The first of the fields that is not of its kind, or that memory ran out, as is answered where
@@ -54,7 +54,7 @@ pub fn refusal(
 fn bad_value(
     alloc: Global,
     kinds: &[Kind],
-    held: &mut Vec<u8>,
+    scratch: &mut Vec<u8>,
     fields: &[u8],
 ) -> OrMemory<EventFault>
     ensures { IsRefusal result (values_from 1 [] kinds.now (cells_after fields.now)) }
@@ -64,10 +64,10 @@ fn bad_value(
         let Some((_, text)) = rest.split_first() else {
             return OrMemory::Memory;
         };
-        let Some(end) = unescape(text, held) else {
+        let Some(end) = unescape(text, scratch) else {
             return OrMemory::Memory;
         };
-        match read_value(alloc, *kind, held.as_slice()) {
+        match read_value(alloc, *kind, scratch.as_slice()) {
             Ok(Some(_)) => {}
             Ok(None) => {
                 return OrMemory::Fault(EventFault::BadValue {

@@ -41,11 +41,11 @@ pub fn read_value(alloc: Global, kind: Kind, field: &[u8]) -> Result<Option<Valu
 /// Makes it the value of a field that is a text, in the memory of the text that it was, if it was one.
 /// `false` where the bytes are no text, or memory runs out.
 #[tactic(auto, using(crate::proofs::Texts::utf8_is))]
-pub fn put_text(alloc: Global, field: &[u8], held: &mut Value) -> bool
-    ensures { result ≡ true → value_of kind.Text field.now ≡ Some held.new }
+pub fn put_text(alloc: Global, field: &[u8], scratch: &mut Value) -> bool
+    ensures { result ≡ true → value_of kind.Text field.now ≡ Some scratch.new }
 {
     match str::from_utf8(field) {
-        Ok(text) => put_copy(alloc, text, held),
+        Ok(text) => put_copy(alloc, text, scratch),
         Err(_) => false,
     }
 }
@@ -53,24 +53,24 @@ pub fn put_text(alloc: Global, field: &[u8], held: &mut Value) -> bool
 /// The value of a field whose bytes are all below 128, which makes them a text.
 #[inline]
 #[tactic(auto, using(crate::proofs::Texts::ascii_is))]
-pub fn put_ascii(alloc: Global, field: &[u8], held: &mut Value) -> bool
+pub fn put_ascii(alloc: Global, field: &[u8], scratch: &mut Value) -> bool
     requires { IsAscii field.now }
-    ensures { result ≡ true → value_of kind.Text field.now ≡ Some held.new }
+    ensures { result ≡ true → value_of kind.Text field.now ≡ Some scratch.new }
 {
-    put_copy(alloc, ascii_str(field), held)
+    put_copy(alloc, ascii_str(field), scratch)
 }
 
 /// Makes it a copy of the text, in the same way.
 #[inline]
-fn put_copy(alloc: Global, text: &str, held: &mut Value) -> bool
-    ensures { result ≡ true → held.new ≡ value.Text text.now }
+fn put_copy(alloc: Global, text: &str, scratch: &mut Value) -> bool
+    ensures { result ≡ true → scratch.new ≡ value.Text text.now }
 {
-    if let Value::Text(before) = held {
+    if let Value::Text(before) = scratch {
         return before.copy_from(text).is_ok();
     }
     match Text::copy_of(alloc, text) {
         Ok(copy) => {
-            *held = Value::Text(copy);
+            *scratch = Value::Text(copy);
             true
         }
         Err(_) => false,
@@ -79,13 +79,13 @@ fn put_copy(alloc: Global, text: &str, held: &mut Value) -> bool
 
 /// Makes it this number. Mostly it was a number before, and then nothing else is written.
 #[inline(always)]
-pub fn put_number(held: &mut Value, number: i64)
-    ensures { held.new ≡ value.Int number }
+pub fn put_number(scratch: &mut Value, number: i64)
+    ensures { scratch.new ≡ value.Int number }
 {
-    if let Value::Int(before) = held {
+    if let Value::Int(before) = scratch {
         *before = number;
     } else {
-        *held = Value::Int(number);
+        *scratch = Value::Int(number);
     }
 }
 

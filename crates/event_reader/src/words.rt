@@ -3,7 +3,7 @@
 
 ghost use Rattle.std.specs.Prelude.{◌≡◌, ◌≤◌, length, option_map};
 ghost use Rattle.std.specs.List.{position_or_len};
-ghost use Rattle.event_reader.specs.Words.{is_blank, cut};
+ghost use Rattle.event_reader.specs.LineWords.{is_blank, cut};
 
 /// Stands between two words.
 pub const BLANK: u8 = b' ';

@@ -11,13 +11,13 @@ use Rattle.event_reader.specs.declared.LineFault.{LineFault}
 use Rattle.event_reader.specs.Events.{event_of_line}
 use Rattle.event_reader.specs.Lines.{file_lines}
 use Rattle.query_engine.specs.Clocks.{NoneFallsBack}
-use Rattle.event_run.specs.Runs.{Stop, stop_of, StopsInTime, AfterLine, RunsOn, RunsAfter, RunsTo, AfterGood, AreEventsAfter}
+use Rattle.event_run.specs.Runs.{RunStop, stop_of, StopsInTime, AfterLine, RunsOn, RunsAfter, RunsTo, AfterGood, AreEventsAfter}
 use Rattle.event_run.specs.Runs as runs
 use Rattle.event_run.proofs.Alike.{none_as, first_as}
 use Rattle.event_run.proofs.FirstFalls.{falls_or_none, not_both, one_first}
 
 -- a run over a line that is this event, none or refused, and those after it
-abbrev RunsOver : Declared → List Query → ℕ → List Event → List (List ℕ) → Option LineFault → List Event → Stop → Result (Option Event) EventFault → Type 0
+abbrev RunsOver : Declared → List Query → ℕ → List Event → List (List ℕ) → Option LineFault → List Event → RunStop → Result (Option Event) EventFault → Type 0
 RunsOver schema queries number before texts fault events stop line =
     AfterLine schema queries number before events stop (RunsOn schema queries (number + 1) before texts fault events stop) (λ next. RunsOn schema queries (number + 1) (before ++ next ∷ []) texts fault events stop) line
 
@@ -26,7 +26,7 @@ AreEventsOver schema queries before texts events line =
     AfterGood schema queries before (AreEventsAfter schema queries before texts events) (λ next. AreEventsAfter schema queries (before ++ next ∷ []) texts events) line
 
 -- the same stop in time
-pub one_time : (schema : Declared) (queries : List Query) (before : List Event) (next : Event) (number : ℕ) (stop halt : Stop) → StopsInTime schema queries before next number stop → StopsInTime schema queries before next number halt → stop ≡ halt
+pub one_time : (schema : Declared) (queries : List Query) (before : List Event) (next : Event) (number : ℕ) (stop halt : RunStop) → StopsInTime schema queries before next number stop → StopsInTime schema queries before next number halt → stop ≡ halt
 one_time schema queries before next number stop halt one other =
     let same = one_first schema queries before next one.query other.query one.from other.from one.now other.now one.falls other.falls in
     let q = ap (λ k. runs.Event number (event.TimeBack k one.from one.now)) same.query_is in
@@ -35,11 +35,11 @@ one_time schema queries before next number stop halt one other =
     one.stops ∙ q ∙ b ∙ n ∙ sym other.stops
 
 -- none falls, or one does
-pub not_in_time : (schema : Declared) (queries : List Query) (before : List Event) (next : Event) (number : ℕ) (stop : Stop) → NoneFallsBack schema queries before next → StopsInTime schema queries before next number stop → ⊥
+pub not_in_time : (schema : Declared) (queries : List Query) (before : List Event) (next : Event) (number : ℕ) (stop : RunStop) → NoneFallsBack schema queries before next → StopsInTime schema queries before next number stop → ⊥
 not_in_time schema queries before next number stop none stops = not_both schema queries before next stops.query stops.from stops.now none stops.falls
 
 -- a run is one
-pub one_run : (schema : Declared) (queries : List Query) (number : ℕ) (before : List Event) (texts : List (List ℕ)) (fault : Option LineFault) (events again : List Event) (stop halt : Stop) →
+pub one_run : (schema : Declared) (queries : List Query) (number : ℕ) (before : List Event) (texts : List (List ℕ)) (fault : Option LineFault) (events again : List Event) (stop halt : RunStop) →
     RunsOn schema queries number before texts fault events stop → RunsOn schema queries number before texts fault again halt → (events ≡ again) × (stop ≡ halt)
 one_run schema queries number before [] fault events again stop halt one other = (one.0 ∙ sym other.0, one.1 ∙ sym other.1)
 one_run schema queries number before (text ∷ texts) fault events again stop halt one other =
@@ -57,7 +57,7 @@ one_run schema queries number before (text ∷ texts) fault events again stop ha
     over (Err refusal) one other skip go = (one.0 ∙ sym other.0, one.1 ∙ sym other.1)
 
 -- a run of queries is one of others that say the same
-same_run : (schema : Declared) (ps qs : List Query) → map query_tree ps ≡ map query_tree qs → (number : ℕ) (before : List Event) (texts : List (List ℕ)) (fault : Option LineFault) (events : List Event) (stop : Stop) →
+same_run : (schema : Declared) (ps qs : List Query) → map query_tree ps ≡ map query_tree qs → (number : ℕ) (before : List Event) (texts : List (List ℕ)) (fault : Option LineFault) (events : List Event) (stop : RunStop) →
     RunsOn schema ps number before texts fault events stop → RunsOn schema qs number before texts fault events stop
 same_run schema ps qs same number before [] fault events stop run = run
 same_run schema ps qs same number before (text ∷ texts) fault events stop run =
@@ -73,14 +73,14 @@ same_run schema ps qs same number before (text ∷ texts) fault events stop run 
         inr (a.0, record { query = a.1.query; from = a.1.from; now = a.1.now; falls = first_as schema ps qs before next a.1.query a.1.from a.1.now same a.1.falls; stops = a.1.stops })
     over (Err refusal) run skip go = run
 
-pub one_run_of_trees : (schema : Declared) (ps qs : List Query) (most_bytes : ℕ) (bytes : List ℕ) (events again : List Event) (stop halt : Stop) →
+pub one_run_of_trees : (schema : Declared) (ps qs : List Query) (most_bytes : ℕ) (bytes : List ℕ) (events again : List Event) (stop halt : RunStop) →
     map query_tree ps ≡ map query_tree qs → RunsTo schema ps most_bytes bytes events stop → RunsTo schema qs most_bytes bytes again halt → (events ≡ again) × (stop ≡ halt)
 one_run_of_trees schema ps qs most_bytes bytes events again stop halt same one other =
     one_run schema qs 1 [] (file_lines most_bytes bytes).texts (file_lines most_bytes bytes).fault events again stop halt
     (same_run schema ps qs same 1 [] (file_lines most_bytes bytes).texts (file_lines most_bytes bytes).fault events stop one) other
 
 -- and so after other events
-pub one_run_after_of_trees : (before : List Event) (schema : Declared) (ps qs : List Query) (most_bytes : ℕ) (bytes : List ℕ) (events again : List Event) (stop halt : Stop) →
+pub one_run_after_of_trees : (before : List Event) (schema : Declared) (ps qs : List Query) (most_bytes : ℕ) (bytes : List ℕ) (events again : List Event) (stop halt : RunStop) →
     map query_tree ps ≡ map query_tree qs → RunsAfter before schema ps most_bytes bytes events stop → RunsAfter before schema qs most_bytes bytes again halt → (events ≡ again) × (stop ≡ halt)
 one_run_after_of_trees before schema ps qs most_bytes bytes events again stop halt same one other =
     one_run schema qs 1 before (file_lines most_bytes bytes).texts (file_lines most_bytes bytes).fault events again stop halt
@@ -89,7 +89,7 @@ one_run_after_of_trees before schema ps qs most_bytes bytes events again stop ha
 -- Some events and a stop are those of a run, which goes on after the events before.
 pub record HasRun (schema : Declared) (queries : List Query) (number : ℕ) (before : List Event) (texts : List (List ℕ)) (fault : Option LineFault) : Type 0 where
   pub more : List Event
-  pub stop : Stop
+  pub stop : RunStop
   pub runs : RunsOn schema queries number before texts fault (before ++ more) stop
 
 -- every file has a run
@@ -98,7 +98,7 @@ some_run schema queries number before [] fault = record { more = []; stop = stop
 some_run schema queries number before (text ∷ texts) fault =
     over (event_of_line schema text) refl (some_run schema queries (number + 1) before texts fault) (λ e. some_run schema queries (number + 1) (before ++ e ∷ []) texts fault)
   where
-    along : (line : Result (Option Event) EventFault) → event_of_line schema text ≡ line → (events : List Event) (stop : Stop) → RunsOver schema queries number before texts fault events stop line → RunsOver schema queries number before texts fault events stop (event_of_line schema text)
+    along : (line : Result (Option Event) EventFault) → event_of_line schema text ≡ line → (events : List Event) (stop : RunStop) → RunsOver schema queries number before texts fault events stop line → RunsOver schema queries number before texts fault events stop (event_of_line schema text)
     along line is events stop run = let P : Result (Option Event) EventFault → Type 0 = λ l. RunsOver schema queries number before texts fault events stop l in subst P (sym is) run
 
     over : (line : Result (Option Event) EventFault) → event_of_line schema text ≡ line → HasRun schema queries (number + 1) before texts fault → ((e : Event) → HasRun schema queries (number + 1) (before ++ e ∷ []) texts fault) →
@@ -125,7 +125,7 @@ some_run schema queries number before (text ∷ texts) fault =
         ]
 
 -- good lines, and then the run over those after them
-pub goes_on : (schema : Declared) (queries : List Query) (number : ℕ) (before : List Event) (done texts : List (List ℕ)) (fault : Option LineFault) (events all : List Event) (stop : Stop) →
+pub goes_on : (schema : Declared) (queries : List Query) (number : ℕ) (before : List Event) (done texts : List (List ℕ)) (fault : Option LineFault) (events all : List Event) (stop : RunStop) →
     AreEventsAfter schema queries before done events → RunsOn schema queries (number + length done) events texts fault all stop →
     RunsOn schema queries number before (done ++ texts) fault all stop
 goes_on schema queries number before [] texts fault events all stop good run =

@@ -8,8 +8,8 @@ use Rattle.event_reader.specs.declared.EventFault.{EventFault}
 use Rattle.event_reader.specs.declared.LineFault.{LineFault}
 use Rattle.event_reader.specs.Events.{event_of_line}
 use Rattle.event_reader.specs.Lines.{FileLines, file_lines, unmarked}
-use Rattle.event_reader.specs.Reading.{LineReader, HasRead, HasGiven, IsCutAt, to_come}
-use Rattle.event_run.specs.Runs.{Stop, stop_of, StopsInTime, AfterLine, RunsOn, RunsAfter, AreEventsAfter}
+use Rattle.event_reader.specs.LineReaders.{LineReader, HasRead, HasGiven, IsCutAt, to_come}
+use Rattle.event_run.specs.Runs.{RunStop, stop_of, StopsInTime, AfterLine, RunsOn, RunsAfter, AreEventsAfter}
 use Rattle.event_run.specs.Runs as stop
 use Rattle.event_run.specs.Taking.{HasTakenAfter, BeginsRunAfter, AreEventsReadAfter, StopsHere}
 use Rattle.event_run.proofs.ForCallers.{some_run, goes_on}
@@ -51,7 +51,7 @@ room_within reader given = let m = (given []).measured in omega (arith, m)
 -- These are the events that came before all of the file.
 module _ (earlier : List Event) where
   -- the run over the file, from one over the lines after these
-  run_from : (schema : Declared) (queries : List Query) (most_bytes : ℕ) (bytes : List ℕ) (texts later : List (List ℕ)) (events all : List Event) (halt : Stop) →
+  run_from : (schema : Declared) (queries : List Query) (most_bytes : ℕ) (bytes : List ℕ) (texts later : List (List ℕ)) (events all : List Event) (halt : RunStop) →
       (file_lines most_bytes bytes).texts ≡ texts ++ later → AreEventsAfter schema queries earlier texts events → RunsOn schema queries (1 + length texts) events later (file_lines most_bytes bytes).fault all halt →
       RunsAfter earlier schema queries most_bytes bytes all halt
   run_from schema queries most_bytes bytes texts later events all halt whole good run =

@@ -8,9 +8,9 @@ use Rattle.event_reader.specs.declared.EventFault.{EventFault}
 use Rattle.event_reader.specs.declared.LineFault.{LineFault}
 use Rattle.event_reader.specs.declared.LineFault.TheVariants as line
 use Rattle.event_reader.specs.Events.{event_of_line}
-use Rattle.event_reader.specs.Reading.{LineReader, HasGiven, Follows}
+use Rattle.event_reader.specs.LineReaders.{LineReader, HasGiven, Follows}
 use Rattle.query_engine.specs.Clocks.{NoneFallsBack}
-use Rattle.query_engine.specs.Engine.{State, StandsFor}
+use Rattle.query_engine.specs.Engine.{EngineState, StandsFor}
 use Rattle.event_run.specs.Runs.{RunsAfter}
 use Rattle.event_run.specs.Runs as stop
 use Rattle.event_run.specs.Taking.{HasTakenAfter, AfterCall, BeginsRunAfter, StopsHere, run_fault}
@@ -47,7 +47,7 @@ module _ (earlier : List Event) where
       subst P (sym same) (begins earlier schema queries old bytes before events had)
 
   -- there is no further line
-  pub no_line : (schema : Declared) (queries : List Query) (old new : LineReader) (first engine : State) (before left : Option (List ℕ)) (Had : List ℕ → Type 0) (events : List Event) (fault : LineFault) →
+  pub no_line : (schema : Declared) (queries : List Query) (old new : LineReader) (first engine : EngineState) (before left : Option (List ℕ)) (Had : List ℕ → Type 0) (events : List Event) (fault : LineFault) →
       ((bytes : List ℕ) (texts : List (List ℕ)) → HasGiven old bytes before texts → Follows new bytes left texts (Err fault)) →
       ((bytes : List ℕ) → Had bytes → HasTakenAfter earlier schema queries old bytes before events) →
       StandsFor engine events → AfterCall earlier schema queries new first engine Had left events (Err (Fault (run_fault fault)))

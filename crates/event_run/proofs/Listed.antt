@@ -11,7 +11,7 @@ use Rattle.event_reader.specs.declared.EventFault.TheVariants as event
 use Rattle.event_reader.specs.declared.LineFault.{LineFault}
 use Rattle.event_reader.specs.declared.LineFault.TheVariants as line
 use Rattle.event_reader.specs.Events.{event_of_line}
-use Rattle.event_reader.specs.Reading.{LineReader, HasGiven, Follows}
+use Rattle.event_reader.specs.LineReaders.{LineReader, HasGiven, Follows}
 use Rattle.query_engine.specs.Clocks.{NoneFallsBack}
 use Rattle.query_engine.specs.Falls.{Fall, first_fall, fall_of}
 use Rattle.query_engine.proofs.Fallen.{first_to_fall, none_to_fall, pass_one, hit_one}

@@ -13,7 +13,7 @@ use Rattle.event_reader.specs.declared.LineFault.{LineFault}
 use Rattle.event_reader.specs.declared.LineFault.TheVariants as line
 use Rattle.event_reader.specs.Events.{event_of_line}
 use Rattle.event_reader.specs.Lines.{FileLines, stops, with_line, at_budget, at_end, lines_from, file_lines, unmarked, without_mark}
-use Rattle.event_run.specs.Runs.{Stop, stop_of, StopsInTime, AfterLine, RunsOn, RunsTo, RunsAfter}
+use Rattle.event_run.specs.Runs.{RunStop, stop_of, StopsInTime, AfterLine, RunsOn, RunsTo, RunsAfter}
 use Rattle.event_run.specs.Runs as stop
 
 -- LINES

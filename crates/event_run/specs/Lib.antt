@@ -1,5 +1,5 @@
 pub mod Runs
-pub mod Laws
+pub mod RunLaws
 pub mod Taking
 pub mod Wanting
 pub mod Listing

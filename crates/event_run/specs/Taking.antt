@@ -11,16 +11,16 @@ use Rattle.event_reader.specs.declared.EventFault.TheVariants as event
 use Rattle.event_reader.specs.declared.LineFault.{LineFault}
 use Rattle.event_reader.specs.declared.LineFault.TheVariants as line
 use Rattle.event_reader.specs.Events.{event_of_line}
-use Rattle.event_reader.specs.Reading.{LineReader, HasGiven, IsCutOff}
+use Rattle.event_reader.specs.LineReaders.{LineReader, HasGiven, IsCutOff}
 use Rattle.query_engine.specs.Clocks.{NoneFallsBack}
-use Rattle.query_engine.specs.Engine.{State, StandsFor}
+use Rattle.query_engine.specs.Engine.{EngineState, StandsFor}
 use Rattle.query_engine.specs.Keys.{HasAddedKeys}
 use Rattle.query_engine.specs.Windows.{HasAdded}
-use Rattle.event_run.specs.declared.Taken.{Taken}
-use Rattle.event_run.specs.declared.Taken.TheVariants as taken
+use Rattle.event_run.specs.declared.NextEvent.{NextEvent}
+use Rattle.event_run.specs.declared.NextEvent.TheVariants as taken
 use Rattle.event_run.specs.declared.RunFault.{RunFault}
 use Rattle.event_run.specs.declared.RunFault.TheVariants as fault
-use Rattle.event_run.specs.Runs.{Stop, StopsInTime, RunsAfter, AreEventsAfter}
+use Rattle.event_run.specs.Runs.{RunStop, StopsInTime, RunsAfter, AreEventsAfter}
 use Rattle.event_run.specs.Runs as stop
 
 -- The reader has given lines of a file of these bytes, all of them good, and with their events after those before these are all; its source has the bytes left.
@@ -36,7 +36,7 @@ HasTaken schema queries reader bytes left events = HasTakenAfter [] schema queri
 -- The run over a file of these bytes, after the events before, begins with these events, those before among them.
 pub record BeginsRunAfter (before : List Event) (schema : Declared) (queries : List Query) (most_bytes : ℕ) (bytes : List ℕ) (events : List Event) : Type 0 where
   pub more : List Event
-  pub stop : Stop
+  pub stop : RunStop
   pub runs : RunsAfter before schema queries most_bytes bytes (events ++ more) stop
 
 -- The run over a file of these bytes begins with these events.
@@ -65,7 +65,7 @@ AreEventsRead schema queries most_bytes bytes (Some rest) events = AreEventsBefo
 
 -- What one call has made of an engine that stood for these events: it stands for one more, which added what an event adds, or for the same.
 -- Given `Had`, what the reader had taken before of a file of these bytes, this is what is known of the file, where these events came before all of its own.
-abbrev pub AfterCall : List Event → Declared → List Query → LineReader → State → State → (List ℕ → Type 0) → Option (List ℕ) → List Event → Result Taken (OrMemory RunFault) → Type 0
+abbrev pub AfterCall : List Event → Declared → List Query → LineReader → EngineState → EngineState → (List ℕ → Type 0) → Option (List ℕ) → List Event → Result NextEvent (OrMemory RunFault) → Type 0
 AfterCall before schema queries reader old engine Had left events (Ok taken.Event) =
     (next : Event) × StandsFor engine (events ++ next ∷ []) × ((bytes : List ℕ) → Had bytes → HasTakenAfter before schema queries reader bytes left (events ++ next ∷ [])) × HasAdded old engine next × HasAddedKeys old engine next
 AfterCall before schema queries reader old engine Had left events (Ok taken.End) =
@@ -85,14 +85,14 @@ HasSourceCause before now (Err (Fault fault.ReadFault)) = Rose before now
 HasSourceCause before now _ = now ≡ before
 
 -- an event took at most so many steps; the end and a fault took none, and nothing is said where memory ran out
-abbrev pub TakesSteps : ℕ → ℕ → ℕ → Result Taken (OrMemory RunFault) → Type 0
+abbrev pub TakesSteps : ℕ → ℕ → ℕ → Result NextEvent (OrMemory RunFault) → Type 0
 TakesSteps most before now (Ok taken.Event) = now ≤ before + most
 TakesSteps most before now (Ok taken.End) = now ≡ before
 TakesSteps most before now (Err (Fault stop)) = now ≡ before
 TakesSteps most before now (Err Memory) = Unit {0}
 
 -- an event took room of the reader, which is still open
-abbrev pub TakesRoom : LineReader → LineReader → Result Taken (OrMemory RunFault) → Type 0
+abbrev pub TakesRoom : LineReader → LineReader → Result NextEvent (OrMemory RunFault) → Type 0
 TakesRoom old new (Ok taken.Event) = (new.room < old.room) × (new.closed ≡ false)
 TakesRoom old new _ = Unit {0}
 
@@ -103,14 +103,14 @@ StopsHere schema queries text number events refusal =
     ⊎ ((next : Event) × (event_of_line schema text ≡ Ok (Some next)) × StopsInTime schema queries events next number (stop.Event number refusal))
 
 -- What became of one event, of the line of this number, that was given to an engine that stood for these events.
-abbrev pub AfterEvent : Declared → List Query → ℕ → State → Event → List Event → {T : Type 0} → Result T (OrMemory EventFault) → Type 0
+abbrev pub AfterEvent : Declared → List Query → ℕ → EngineState → Event → List Event → {T : Type 0} → Result T (OrMemory EventFault) → Type 0
 AfterEvent schema queries number engine next events (Ok done) = StandsFor engine (events ++ next ∷ []) × NoneFallsBack schema queries events next
 AfterEvent schema queries number engine next events (Err (Fault refusal)) =
     StandsFor engine events × StopsInTime schema queries events next number (stop.Event number refusal)
 AfterEvent schema queries number engine next events (Err Memory) = StandsFor engine events
 
 -- What became of one line: an event that was taken, none, or a stop. Private clauses alone cite it.
-abbrev pub AfterText : Declared → List Query → ℕ → State → State → List ℕ → List Event → Result Bool (OrMemory EventFault) → Type 0
+abbrev pub AfterText : Declared → List Query → ℕ → EngineState → EngineState → List ℕ → List Event → Result Bool (OrMemory EventFault) → Type 0
 AfterText schema queries number old engine text events (Ok true) =
     (next : Event) × (event_of_line schema text ≡ Ok (Some next)) × StandsFor engine (events ++ next ∷ []) × NoneFallsBack schema queries events next × HasAdded old engine next × HasAddedKeys old engine next
 AfterText schema queries number old engine text events (Ok false) = (event_of_line schema text ≡ Ok None) × StandsFor engine events

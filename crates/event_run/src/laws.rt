@@ -1,6 +1,6 @@
 //! Laws of runs. Each is the contract of a function that does nothing.
 
-ghost use Rattle.event_run.specs.Laws.{FilesFollow, RunsAreOne, SomeRunIs};
+ghost use Rattle.event_run.specs.RunLaws.{FilesFollow, RunsAreOne, SomeRunIs};
 
 /// Queries that say the same take the same events of a file and stop in the same way.
 pub fn runs_are_one()

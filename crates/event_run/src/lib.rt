@@ -19,7 +19,7 @@ pub use taking::{fault_of, give_event, take_event};
 
 /// What a call has found.
 #[derive(Debug, Clone, Copy, PartialEq, Eq)]
-pub enum Taken {
+pub enum NextEvent {
     /// An event, which the engine took.
     Event,
     /// The end of the file.

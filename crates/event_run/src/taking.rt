@@ -13,11 +13,11 @@ ghost use Rattle.query_engine.specs.Clocks.{NoneFallsBack};
 ghost use Rattle.event_run.specs.Wanting.{OnMemory, AreWantingSteps, WantsSteps};
 ghost use Rattle.event_run.specs.Taking.{BeginsRunAfter, HasTakenAfter, AfterCall, AfterText, AfterEvent, HasSourceCause, TakesRoom, TakesSteps, run_fault};
 
-use crate::{RunFault, Taken};
+use crate::{NextEvent, RunFault};
 use cer_base::OrMemory;
 use cer_base::steps::Steps;
 use cer_outside::Source;
-use event_reader::{EventFault, LineFault, Lines, Next, Row};
+use event_reader::{EventBuffer, EventFault, LineFault, Lines, Next};
 use query_engine::{Engine, SeeFault};
 use std::alloc::Global;
 use std::sync::ledger::Ledger;
@@ -25,7 +25,7 @@ use stream_schema::Event;
 
 /// Gives the engine the next event of the file.
 ///
-/// Empty lines are passed over. Where it ends otherwise than by `Taken::Event`, the engine stands
+/// Empty lines are passed over. Where it ends otherwise than by `NextEvent::Event`, the engine stands
 /// for the events that it stood for; after a fault or the end the reader is not asked again. Events
 /// that the engine took before the first of the file may be any. It has taken fewer than leave room
 /// for an event at each byte that may still be read. The event is read into `row`, whatever that
@@ -33,11 +33,11 @@ use stream_schema::Event;
 pub fn take_event<Q: Source, L: Ledger>(
     alloc: Global,
     lines: &mut Lines,
-    row: &mut Row,
+    row: &mut EventBuffer,
     source: &mut Q,
     engine: &mut Engine,
     steps: &mut Steps<L>,
-) -> Result<Taken, OrMemory<RunFault>>
+) -> Result<NextEvent, OrMemory<RunFault>>
     requires open { lines.old.closed ≡ false }
     requires counted { count_of engine.old + lines.old.room < 2 ^ 64 }
     ensures took { (before events : List Event) → StandsFor engine.old events
@@ -45,14 +45,14 @@ pub fn take_event<Q: Source, L: Ledger>(
         (λ bytes. HasTakenAfter before engine.old.schema engine.old.queries lines.old bytes
         (Q.left source.old) events) (Q.left source.new) events result }
     ensures counted { count_of engine.new + lines.new.room < 2 ^ 64 }
-    ensures some { result ≡ Ok Taken.Event → 0 < count_of engine.new }
-    ensures ended { result ≡ Ok Taken.End → engine.new ≡ engine.old }
+    ensures some { result ≡ Ok NextEvent.Event → 0 < count_of engine.new }
+    ensures ended { result ≡ Ok NextEvent.End → engine.new ≡ engine.old }
     ensures same { SameQueries engine.old engine.new }
     ensures budget { lines.new.budget ≡ lines.old.budget }
     ensures cause { HasSourceCause (Q.faults source.old) (Q.faults source.new) result }
     ensures room { TakesRoom lines.old lines.new result }
     ensures steps { TakesSteps (update_bounds engine.new) steps.old steps.new result }
-    ensures growth { result ≡ Ok Taken.Event → (query : ℕ) → len_of engine.new query
+    ensures growth { result ≡ Ok NextEvent.Event → (query : ℕ) → len_of engine.new query
         ≤ len_of engine.old query + update_bound (found_of engine.new query) }
     ensures wanting_steps { (before events : List Event) → StandsFor engine.old events
         → OnMemory result (WantsSteps engine.old.schema engine.old.queries events
@@ -63,11 +63,11 @@ pub fn take_event<Q: Source, L: Ledger>(
     loop {
         match lines.next(source) {
             Ok(Next::Line) => {}
-            Ok(Next::End) => return Ok(Taken::End),
+            Ok(Next::End) => return Ok(NextEvent::End),
             Err(fault) => return Err(OrMemory::Fault(fault_of(fault))),
         }
         match give_line(alloc, lines, row, engine, steps) {
-            Ok(true) => return Ok(Taken::Event),
+            Ok(true) => return Ok(NextEvent::Event),
             Ok(false) => {}
             Err(OrMemory::Memory) => return Err(OrMemory::Memory),
             Err(OrMemory::Fault(fault)) => {
@@ -96,7 +96,7 @@ pub fn fault_of(fault: LineFault) -> RunFault
 fn give_line<L: Ledger>(
     alloc: Global,
     lines: &Lines,
-    row: &mut Row,
+    row: &mut EventBuffer,
     engine: &mut Engine,
     steps: &mut Steps<L>,
 ) -> Result<bool, OrMemory<EventFault>>

@@ -8,7 +8,7 @@ use Rattle.cer_base.specs.declared.node.Root.{Root}
 use Rattle.cea_determinise.specs.declared.table.Successors.{Successors}
 use Rattle.event_update.specs.Update.{IsOther, GoesOn, moved_to}
 use Rattle.cea_determinise.specs.Rows.{GoTo}
-use Rattle.event_update.proofs.Known.{take_more, take_all, map_push}
+use Rattle.event_update.proofs.Cached.{take_more, take_all, map_push}
 
 -- the numbers stay apart with one more that is none of them
 pub distinct_other : (n : ℕ) (ns : List ℕ) → IsDistinct nat_eq ns → IsOther n ns → IsDistinct nat_eq (ns ++ n ∷ [])

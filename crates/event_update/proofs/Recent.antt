@@ -16,7 +16,7 @@ use Rattle.cer_base.specs.Members.{SetTree, Member, members, recent}
 use Rattle.cer_base.specs.Nodes.{tree, IsRoot, WellFormed}
 use Rattle.cer_base.proofs.Walks.{test_passes, test_tells, newest_is_rooted, is_rooted, too_old}
 use Rattle.cea_determinise.specs.declared.table.Successors.{Successors}
-use Rattle.cea_determinise.specs.Det.{Table}
+use Rattle.cea_determinise.specs.LazyDfa.{Table}
 use Rattle.union_lists.specs.Lists.{top, trees, members_of, IsUnionList}
 use Rattle.event_update.specs.declared.Staged.{Staged}
 use Rattle.event_update.specs.declared.Staged.TheVariants.{Unchanged, Moved, Changed}
@@ -24,7 +24,7 @@ use Rattle.event_update.specs.Narrow.{Tops, IsOrdered, FitsIn, IsNarrow}
 use Rattle.event_update.specs.Reach.{Seen, Has, all_of}
 use Rattle.event_update.specs.Recent.{is_recent, recent_rows, going_on}
 use Rattle.event_update.specs.Stands.{IsBefore, member_rows, tops_of, tops_rows, IsState, Stands, CanAdvance}
-use Rattle.event_update.specs.Update.{AreKnown, CanBuild}
+use Rattle.event_update.specs.Update.{AreCached, CanBuild}
 use Rattle.event_update.proofs.Distinct.{without}
 use Rattle.event_update.proofs.Placed.{all_front, all_back}
 use Rattle.event_update.proofs.RowSplits.{SplitsAt, front_is, one_more}
@@ -121,11 +121,11 @@ length_recent low (r ∷ rows) =
     let rest = length_recent low rows in
     elim (cases_Bool (is_recent low r.1)) [ inl is ↦ rw is (omega arith) | inr not ↦ rw not (omega arith) ]
 
-pub known_recent : (t : Table) (class : ℕ) (low : ℤ) (rows : List (ℕ × List Root)) (ss : List Successors) → AreKnown t class (map (λ (r : ℕ × List Root). r.0) rows) ss → (some : List Successors) × AreKnown t class (map (λ (r : ℕ × List Root). r.0) (recent_rows low rows)) some
-known_recent t class low [] ss h = (ss, h)
-known_recent t class low (r ∷ rows) [] h = absurd h
-known_recent t class low (r ∷ rows) (s ∷ ss) h =
-    let rest = known_recent t class low rows ss h.1 in
+pub cached_recent : (t : Table) (event_class : ℕ) (low : ℤ) (rows : List (ℕ × List Root)) (ss : List Successors) → AreCached t event_class (map (λ (r : ℕ × List Root). r.0) rows) ss → (some : List Successors) × AreCached t event_class (map (λ (r : ℕ × List Root). r.0) (recent_rows low rows)) some
+cached_recent t event_class low [] ss h = (ss, h)
+cached_recent t event_class low (r ∷ rows) [] h = absurd h
+cached_recent t event_class low (r ∷ rows) (s ∷ ss) h =
+    let rest = cached_recent t event_class low rows ss h.1 in
     elim (cases_Bool (is_recent low r.1)) [ inl is ↦ rw is (s ∷ rest.0, (h.0, rest.1)) | inr not ↦ rw not rest ]
 
 pub build_recent : (stamp : Stamp) (nodes : List Node) (low : ℤ) (rows : List (ℕ × List Root)) → CanBuild stamp nodes rows → CanBuild stamp nodes (recent_rows low rows)

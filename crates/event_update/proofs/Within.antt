@@ -5,13 +5,13 @@ use Rattle.cer_base.specs.declared.node.Stamp.{Stamp}
 use Rattle.cer_base.specs.declared.node.Root.{Root}
 use Rattle.cer_base.specs.declared.node.Node.{Node}
 use Rattle.cer_base.specs.Nodes.{WellFormed}
-use Rattle.cea_determinise.specs.Det.{Table}
+use Rattle.cea_determinise.specs.LazyDfa.{Table}
 use Rattle.event_update.specs.Narrow.{IsNarrow}
 use Rattle.event_update.specs.Prepared.{FindsWithin}
 use Rattle.event_update.specs.Stands.{tops_rows}
 use Rattle.event_update.specs.Update.{Discovers, GrowsBy, GrowsWithin, work_bound}
 use Rattle.event_update.proofs.Bounds.{paid_within}
-use Rattle.event_update.proofs.Known.{number_later}
+use Rattle.event_update.proofs.Cached.{number_later}
 use Rattle.event_update.proofs.RowPlaced.{grows_by_none}
 use Rattle.event_update.proofs.Stays.{little, much, nodes_made}
 
@@ -42,7 +42,7 @@ module _ (old new : Table) (bits : List Bool) (stamp : Stamp) (rows : List (ℕ 
   pub found_within : (nodes : List Node) → WellFormed nodes → (n before after : ℕ) → n ≤ length new.states → after ≤ before + 5 + 3 * n → FindsWithin old new bits stamp rows nodes nodes before after
   found_within nodes w n before after few s =
       let b = little n (length new.states) few in
-      record { grows = grows_by_none stamp nodes w; det = d; pushes = omega arith; steps = omega arith }
+      record { grows = grows_by_none stamp nodes w; lazy_dfa = d; pushes = omega arith; steps = omega arith }
 
   -- the rows were built
   pub built_within : (nodes nodes_new : List Node) (before middle after last : ℕ) → GrowsWithin stamp rows nodes nodes_new middle after → IsNarrow (length old.states + 1) (tops_rows rows) → length rows ≤ length old.states → middle + last ≤ before + 5 + 3 * length rows + after → FindsWithin old new bits stamp rows nodes nodes_new before last
@@ -53,10 +53,10 @@ module _ (old new : Table) (bits : List Bool) (stamp : Stamp) (rows : List (ℕ 
       let s = g.steps (length old.states + 1) (found + 1) narrow (omega arith) (omega arith) in
       let a = nodes_made (length rows) found (omega arith) in
       let b = much (length rows) found (omega arith) in
-      record { grows = g.grows; det = d; pushes = omega arith; steps = omega arith }
+      record { grows = g.grows; lazy_dfa = d; pushes = omega arith; steps = omega arith }
 
 -- steps that were counted before
 pub since_within : (old new : Table) (bits : List Bool) (stamp : Stamp) (rows : List (ℕ × List Root)) (nodes nodes_new : List Node) (before middle last after : ℕ) → FindsWithin old new bits stamp rows nodes nodes_new middle last → middle + after ≤ before + last → FindsWithin old new bits stamp rows nodes nodes_new before after
 since_within old new bits stamp rows nodes nodes_new before middle last after f spent =
     let s = f.steps in
-    record { grows = f.grows; det = f.det; pushes = f.pushes; steps = omega arith }
+    record { grows = f.grows; lazy_dfa = f.lazy_dfa; pushes = f.pushes; steps = omega arith }

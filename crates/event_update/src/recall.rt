@@ -3,13 +3,13 @@
 ghost use Rattle.std.specs.Prelude.{◌≡◌, ℕ, ◌+◌, true, ◌∷◌, length, IfOk, IfSome};
 ghost use Rattle.cea_determinise.specs.Rows.{IsEffect};
 ghost use Rattle.event_update.specs.ActiveLists.{keys};
-ghost use Rattle.event_update.specs.Update.{AreKnown, AreMoves, IsRowOf};
+ghost use Rattle.event_update.specs.Update.{AreCached, AreMoves, IsRowOf};
 
-use crate::Active;
+use crate::ActiveStates;
 use crate::moves::stay;
 use crate::relabel::find_targets;
-use cea_determinise::det::Det;
-use cea_determinise::rows::{Effect, KnownRow, ROW_NUMBERS};
+use cea_determinise::lazy_dfa::LazyDfa;
+use cea_determinise::rows::{CachedTransition, Effect, ROW_NUMBERS};
 use cea_determinise::table::{EventClass, State, Successors};
 use cer_base::Memory;
 use cer_base::steps::Steps;
@@ -18,8 +18,8 @@ use std::rc::Rc;
 use std::sync::ledger::Ledger;
 
 /// A number below `ROW_NUMBERS` for the states and the class, the same for the same ones.
-pub fn row_number(active: &Active, class: EventClass) -> u64 {
-    let mut number = class % ROW_NUMBERS * 83 % ROW_NUMBERS;
+pub fn row_number(active: &ActiveStates, event_class: EventClass) -> u64 {
+    let mut number = event_class % ROW_NUMBERS * 83 % ROW_NUMBERS;
     for k in 0..active.len() {
         number = (number * 5 + active.state(k) % ROW_NUMBERS) % ROW_NUMBERS;
     }
@@ -27,7 +27,7 @@ pub fn row_number(active: &Active, class: EventClass) -> u64 {
 }
 
 /// Whether the states with open matches are these, in order.
-fn are_states(active: &Active, states: &[State]) -> bool
+fn are_states(active: &ActiveStates, states: &[State]) -> bool
     ensures { result ≡ true → keys active.now ≡ states.now }
 {
     let len = active.len();
@@ -45,21 +45,21 @@ fn are_states(active: &Active, states: &[State]) -> bool
 /// What is kept of these states on events of the class, where the row under the number is theirs.
 /// One step.
 pub fn recall<'a, L: Ledger>(
-    active: &Active,
-    det: &'a Det,
-    class: EventClass,
+    active: &ActiveStates,
+    lazy_dfa: &'a LazyDfa,
+    event_class: EventClass,
     number: u64,
     steps: &mut Steps<L>,
-) -> Option<&'a KnownRow>
+) -> Option<&'a CachedTransition>
     ensures row { IfSome result (λ r. IsRowOf (keys active.now) r.now) }
-    ensures known { IfSome result (λ r. AreKnown det.now class (0 ∷ keys active.now)
+    ensures cached { IfSome result (λ r. AreCached lazy_dfa.now event_class (0 ∷ keys active.now)
         r.now.successors.items) }
     ensures steps { steps.new ≡ steps.old + 1 }
 {
-    match det.known_row(number, steps) {
+    match lazy_dfa.cached_transition(number, steps) {
         None => None,
         Some(row) => {
-            if row.class == class && are_states(active, row.states.as_slice()) {
+            if row.event_class == event_class && are_states(active, row.states.as_slice()) {
                 Some(row)
             } else {
                 None
@@ -69,7 +69,7 @@ pub fn recall<'a, L: Ledger>(
 }
 
 /// The states in order.
-fn states_of(active: &Active) -> Result<SmallVec<State, 3>, Memory>
+fn states_of(active: &ActiveStates) -> Result<SmallVec<State, 3>, Memory>
     ensures { IfOk result (λ states. states.items ≡ keys active.now) }
 {
     let len = active.len();
@@ -81,7 +81,7 @@ fn states_of(active: &Active) -> Result<SmallVec<State, 3>, Memory>
 }
 
 /// What the event does to the states, whose successors these are, the start's first.
-fn effect_of(active: &Active, moves: &[Successors]) -> Result<Effect, Memory>
+fn effect_of(active: &ActiveStates, moves: &[Successors]) -> Result<Effect, Memory>
     requires { length moves.now ≡ 1 + length active.now.entries }
     ensures { IfOk result (λ effect. IsEffect effect (keys active.now) moves.now) }
 {
@@ -99,17 +99,21 @@ fn effect_of(active: &Active, moves: &[Successors]) -> Result<Effect, Memory>
 }
 
 /// The row of the states, whose successors on events of the class are these, the start's first.
-pub fn row_of(active: &Active, class: EventClass, moves: &[Successors]) -> Result<KnownRow, Memory>
+pub fn row_of(
+    active: &ActiveStates,
+    event_class: EventClass,
+    moves: &[Successors],
+) -> Result<CachedTransition, Memory>
     requires moves { AreMoves active.now.entries moves.now }
     ensures row { IfOk result (IsRowOf (keys active.now)) }
-    ensures class { IfOk result (λ r. r.class ≡ class) }
+    ensures event_class { IfOk result (λ r. r.event_class ≡ event_class) }
     ensures successors { IfOk result (λ r. r.successors.items ≡ moves.now) }
 {
     let states = states_of(active)?;
     let successors = SmallVec::from_slice(*active.allocator(), moves)?;
     let effect = effect_of(active, moves)?;
-    Ok(KnownRow {
-        class,
+    Ok(CachedTransition {
+        event_class,
         effect,
         states,
         successors,

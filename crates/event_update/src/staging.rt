@@ -8,7 +8,7 @@ ghost use Rattle.union_lists.specs.Lists.{CanInsert};
 ghost use Rattle.event_update.specs.Stands.{tops_rows};
 ghost use Rattle.event_update.specs.Update.{IsFirst, IsAbsent, IsAdded, AreUpto, entries_in};
 
-use crate::Active;
+use crate::ActiveStates;
 use cea_determinise::table::State;
 use cer_base::Memory;
 use cer_base::node::Id;
@@ -81,17 +81,17 @@ impl Stage {
     }
 
     /// The rows that are staged, handed over. Nothing is staged then. It takes no memory.
-    pub fn hand_over(&mut self) -> Active
+    pub fn hand_over(&mut self) -> ActiveStates
         ensures rows { result.entries ≡ self.old.entries }
     {
         self.rows.truncate(self.used);
         self.used = 0;
         let none = Vec::new(*self.rows.allocator());
-        Active::of(replace(&mut self.rows, none))
+        ActiveStates::of(replace(&mut self.rows, none))
     }
 
     /// Keeps the memory of these rows for later ones. Nothing is staged then. It takes no memory.
-    pub fn reuse(&mut self, rows: Active) {
+    pub fn reuse(&mut self, rows: ActiveStates) {
         self.used = 0;
         self.rows = rows.into_rows();
     }

@@ -1,7 +1,7 @@
 -- The notes that the program leaves on standard error, each a line.
 use Rattle.std.specs.Prelude.{ℕ, ◌+◌, ◌/◌, ◌%◌, if◌then◌else◌, nat_lt, true, false, List, [], ◌∷◌, ◌++◌, decimal, codes}
 use Rattle.std.specs.Fmt.{signed_decimal}
-use Rattle.cer_base.specs.declared.Place.{Place}
+use Rattle.cer_base.specs.declared.Location.{Location}
 use Rattle.cer_base.specs.declared.bytes.TheConstants.{LINE_FEED}
 use Rattle.cer_base.specs.declared.limits.TheConstants.{LONGEST_TEXT, LONGEST_LINE, MOST_LEAVES, MOST_QUERIES, MOST_PLACES}
 use Rattle.stream_schema.specs.declared.Kind.{Kind}
@@ -82,7 +82,7 @@ event_words (event.CursorNotOpen cursor) = codes "cursor " ++ decimal cursor ++ 
 event_words event.NoEventYet = codes "no event yet"
 
 -- core: queries 4:25: unexpected token
-abbrev pub query_note : QueryFault → Place → List ℕ
+abbrev pub query_note : QueryFault → Location → List ℕ
 query_note fault place =
     note (codes "queries " ++ decimal place.line ++ codes ":" ++ decimal place.col ++ codes ": " ++ query_words fault)
 

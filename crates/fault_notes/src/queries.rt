@@ -7,7 +7,7 @@ use crate::words::{push, push_counted, push_hex, push_named, push_number};
 use ceql_grammar::QueryFault;
 use cer_base::bytes::LINE_FEED;
 use cer_base::limits::{LONGEST_TEXT, MOST_LEAVES, MOST_PLACES, MOST_QUERIES};
-use cer_base::{Memory, Place};
+use cer_base::{Location, Memory};
 use std::alloc::Global;
 use stream_schema::Kind;
 
@@ -87,7 +87,7 @@ pub fn clock_note(alloc: Global, name: &str) -> Result<Vec<u8>, Memory>
 }
 
 /// `core: queries L:C: ` and the words of the fault.
-pub fn query_note(alloc: Global, fault: &QueryFault, place: Place) -> Result<Vec<u8>, Memory>
+pub fn query_note(alloc: Global, fault: &QueryFault, place: Location) -> Result<Vec<u8>, Memory>
     ensures { IfOk result (λ v. v.items ≡ query_note fault.now place) }
 {
     let mut text = Vec::new(alloc);

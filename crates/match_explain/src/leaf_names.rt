@@ -7,7 +7,7 @@ ghost use Rattle.cel_terms.specs.Meaning.{with_name, only_names};
 ghost use Rattle.cel_lists.specs.Lists.{change};
 ghost use Rattle.match_explain.specs.LeafNames.{changed_leaves, copies, leaf_names, leaf_names_listed, leaf_names_linked};
 
-use cel_plain::found::copy_names;
+use cel_plain::copies::copy_names;
 use cel_plain::postfix::lists;
 use cel_terms::{Filter, Formula, Link, Name, Postfix};
 use cer_base::{Listed, Memory, Text};

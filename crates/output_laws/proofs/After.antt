@@ -7,9 +7,9 @@ use Rattle.stream_schema.specs.declared.Event.{Event}
 use Rattle.cel_terms.specs.declared.Query.{Query}
 use Rattle.answer_text.specs.declared.Order.{Order}
 use Rattle.answer_text.specs.Output.{AreBlocks, IsOutputOf, IsOutput}
-use Rattle.answer_text.specs.Rows.{Row, AreRowsAt, AreFirstRows, AreOutputRows}
+use Rattle.answer_text.specs.OutputRows.{Row, AreRowsAt, AreFirstRows, AreOutputRows}
 use Rattle.answer_text.proofs.RowLists.{rows_of_blocks}
-use Rattle.output_laws.specs.Laws.{HasBlocks}
+use Rattle.output_laws.specs.AnswerLaws.{HasBlocks}
 use Rattle.output_laws.specs.After.{IsOutputFrom, AreRowsFrom, IsOutputAfter, AreRowsAfter}
 use Rattle.output_laws.proofs.EarlierAnswers.{same_up_to}
 use Rattle.output_laws.proofs.Growth.{blocks_stand, output_unchanged, output_grows_at_last, output_grows}

@@ -5,9 +5,9 @@ use Rattle.stream_schema.specs.Types.{Declared}
 use Rattle.stream_schema.specs.declared.Event.{Event}
 use Rattle.cel_terms.specs.declared.Query.{Query}
 use Rattle.cel_terms.specs.Answers.{Answer, IsAnswer, IsOfSubstream, IsInWindow, AreContiguous, WhereStrict, query_types, substream}
-use Rattle.cel_terms.specs.Laws.{IsSpan}
+use Rattle.cel_terms.specs.MeaningLaws.{IsSpan}
 use Rattle.cel_terms.proofs.Marked.{lies_selected, marks_within}
-use Rattle.output_laws.specs.Laws.{AreSameUpTo, IsSameFor, AreSameWithin}
+use Rattle.output_laws.specs.AnswerLaws.{AreSameUpTo, IsSameFor, AreSameWithin}
 use Rattle.output_laws.proofs.Agreeing.{Agree, selected_carries}
 
 pub turned : (end : ℕ) (events others : List Event) → AreSameUpTo end events others → AreSameUpTo end others events

@@ -8,7 +8,7 @@ use Rattle.cel_terms.specs.declared.Query.{Query}
 use Rattle.cel_terms.specs.Answers.{Answer, IsAnswer}
 use Rattle.answer_text.specs.declared.Order.{Order}
 use Rattle.answer_text.specs.Output.{AreEnough, IsBlock, AreBlocks, IsOutputOf, IsOutput}
-use Rattle.output_laws.specs.Laws.{AreSameUpTo, HasBlocks}
+use Rattle.output_laws.specs.AnswerLaws.{AreSameUpTo, HasBlocks}
 use Rattle.output_laws.proofs.EarlierAnswers.{turned, look_back, same_up_to}
 
 -- what is enough of one kind is enough of the other, where both have the same answers

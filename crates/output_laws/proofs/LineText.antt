@@ -13,7 +13,7 @@ use Rattle.stream_schema.specs.declared.Event.{Event}
 use Rattle.cel_terms.specs.declared.Query.{Query}
 use Rattle.cel_terms.specs.Answers.{Answer}
 use Rattle.cel_terms.proofs.Marked.{marks_within}
-use Rattle.output_laws.specs.Rows.{Row, IsRow, row_line}
+use Rattle.output_laws.specs.RowLaws.{Row, IsRow, row_line}
 use Rattle.output_laws.proofs.EarlierAnswers.{starts_before}
 use Rattle.answer_text.specs.Output.{line, positions_text}
 

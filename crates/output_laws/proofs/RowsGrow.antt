@@ -6,10 +6,10 @@ use Rattle.stream_schema.specs.declared.Event.{Event}
 use Rattle.cel_terms.specs.declared.Query.{Query}
 use Rattle.cel_terms.specs.Answers.{IsAnswer}
 use Rattle.answer_text.specs.declared.Order.{Order}
-use Rattle.answer_text.specs.Rows.{Row, AreRowsOf, AreRowsAt, AreFirstRows, AreOutputRows}
+use Rattle.answer_text.specs.OutputRows.{Row, AreRowsOf, AreRowsAt, AreFirstRows, AreOutputRows}
 use Rattle.answer_text.proofs.RowLists.{output_of_rows, rows_of_output, rows_of_blocks}
-use Rattle.output_laws.specs.Laws.{AreSameUpTo, HasBlocks}
-use Rattle.output_laws.specs.Rows.{RowsAreTheOutput}
+use Rattle.output_laws.specs.AnswerLaws.{AreSameUpTo, HasBlocks}
+use Rattle.output_laws.specs.RowLaws.{RowsAreTheOutput}
 use Rattle.output_laws.proofs.EarlierAnswers.{turned, look_back, same_up_to}
 use Rattle.output_laws.proofs.Growth.{enough_too}
 

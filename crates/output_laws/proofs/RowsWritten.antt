@@ -13,7 +13,7 @@ use Rattle.cel_terms.specs.Answers.{Answer, IsAnswer}
 use Rattle.answer_text.specs.declared.Order.{Order}
 use Rattle.answer_text.specs.Output.{IsBlock, AreBlocks, IsOutputOf, IsOutput}
 use Rattle.output_laws.proofs.Unique.{all_there}
-use Rattle.output_laws.specs.Rows.{Row, IsRow, AreLinesOf, HaveSameRows, row_line}
+use Rattle.output_laws.specs.RowLaws.{Row, IsRow, AreLinesOf, HaveSameRows, row_line}
 
 -- LISTS WITHOUT REPEATS
 

@@ -7,7 +7,7 @@ use Rattle.cel_terms.specs.Answers.{Answer, IsAnswer}
 use Rattle.answer_text.specs.declared.Order.{Order}
 use Rattle.answer_text.specs.Output.{IsBlock, AreBlocks, IsOutputOf, IsOutput}
 use Rattle.ceql_parser.specs.QueryTrees.{QueryTree, query_tree}
-use Rattle.output_laws.specs.Words.{words_in, words_of}
+use Rattle.output_laws.specs.QueryWords.{words_in, words_of}
 use Rattle.output_laws.proofs.SameWords as words
 
 one_wording : (q r : Query) → query_tree q ≡ query_tree r → words_of q ≡ words_of r

@@ -14,7 +14,7 @@ use Rattle.cel_terms.specs.Answers.{Answer, IsAnswer, HasClock, WithinWidth, typ
 use Rattle.answer_text.specs.declared.Order.{Order}
 use Rattle.answer_text.specs.Output.{IsBlock, AreBlocks, IsOutputOf, IsOutput}
 use Rattle.ceql_parser.specs.QueryTrees.{QueryTree}
-use Rattle.output_laws.specs.Words.{words, window_words, words_of}
+use Rattle.output_laws.specs.QueryWords.{words, window_words, words_of}
 use Rattle.output_laws.proofs.WordsMean.{kept_as, same_meaning}
 use Rattle.output_laws.proofs.Alike.{AreAlike, answers_alike, block_alike}
 

@@ -14,7 +14,7 @@ use Rattle.cel_terms.specs.declared.Formula.{Formula, Of, Chain', Linked', Eithe
 use Rattle.cel_terms.specs.Predicate.{attr_value, some_meets, holds, all_hold, any_holds}
 use Rattle.cel_terms.specs.Meaning.{Repeated, Renamed, As, Kept, lists_name, with_postfix, Stream, Meaning, Valuation, Single, Sequence, OneOf, Nothing, AllHold, Meets, MeetsAll, MeetsAny, Filtered, under, with_postfixes, meaning, first_of_chain, chained, linked, one_of}
 use Rattle.ceql_grammar.specs.Trees as tree
-use Rattle.output_laws.specs.Words.{words, pred_words, preds_words, filter_words, filters_words, postfix_words, formula_words, formulas_words, links_words}
+use Rattle.output_laws.specs.QueryWords.{words, pred_words, preds_words, filter_words, filters_words, postfix_words, formula_words, formulas_words, links_words}
 use Rattle.ceql_grammar.specs.Trees.{PredTree, PredTrees, FilterTree, FilterTrees, FormulaTree, FormulaTrees, LinkTrees, filters, pred_tree, pred_trees, filter_tree, filter_trees, formula_tree, formula_trees, link_trees}
 
 -- PREDICATES

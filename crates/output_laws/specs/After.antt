@@ -5,7 +5,7 @@ use Rattle.stream_schema.specs.declared.Event.{Event}
 use Rattle.cel_terms.specs.declared.Query.{Query}
 use Rattle.answer_text.specs.declared.Order.{Order}
 use Rattle.answer_text.specs.Output.{AreBlocks, IsOutput}
-use Rattle.answer_text.specs.Rows.{Row, AreRowsAt, AreOutputRows}
+use Rattle.answer_text.specs.OutputRows.{Row, AreRowsAt, AreOutputRows}
 
 -- the output at so many positions, of which this is the first
 abbrev pub IsOutputFrom : ℕ → ℕ → Order → Declared → List Query → List Event → List ℕ → Type 0

@@ -1,4 +1,4 @@
-pub mod Laws
-pub mod Rows
-pub mod Words
+pub mod AnswerLaws
+pub mod RowLaws
+pub mod QueryWords
 pub mod After

@@ -4,10 +4,10 @@
 //! `answer_text`. The lemmas after them, in `proofs`, are for callers too.
 #![tactic(auto)]
 
-ghost use Rattle.output_laws.specs.Laws.{AnswersLookBack, AnswersLookWithin, LaterEventsChangeNoAnswer, LaterEventsChangeNoBlock, LaterEventsChangeNoBlocks, LaterEventsChangeNoOutput, OneMoreEventAddsItsBlocks, OutputBeginsWithThatOfTheFirst, OutputGrowsAtItsEnd, OutputStartsEmpty, SortedOutputIsUnique, TreesTellTheAnswers, TreesTellTheOutput};
-ghost use Rattle.output_laws.specs.Rows.{LinesTellTheirRows, OrdersWriteTheSameLines, OutputIsRows, RowsAreTheOutput, RowsGrowAtTheirEnd};
+ghost use Rattle.output_laws.specs.AnswerLaws.{AnswersLookBack, AnswersLookWithin, LaterEventsChangeNoAnswer, LaterEventsChangeNoBlock, LaterEventsChangeNoBlocks, LaterEventsChangeNoOutput, OneMoreEventAddsItsBlocks, OutputBeginsWithThatOfTheFirst, OutputGrowsAtItsEnd, OutputStartsEmpty, SortedOutputIsUnique, TreesTellTheAnswers, TreesTellTheOutput};
+ghost use Rattle.output_laws.specs.RowLaws.{LinesTellTheirRows, OrdersWriteTheSameLines, OutputIsRows, RowsAreTheOutput, RowsGrowAtTheirEnd};
 ghost use Rattle.output_laws.specs.After.{OutputAfterIsFromThere, OutputIsInTwoParts};
-ghost use Rattle.output_laws.specs.Words.{WordsTellTheAnswers, WordsTellTheOutput};
+ghost use Rattle.output_laws.specs.QueryWords.{WordsTellTheAnswers, WordsTellTheOutput};
 
 /// An answer depends on the events up to its end alone.
 pub fn answers_look_back()

@@ -4,11 +4,11 @@ use Rattle.std.specs.Option.{option_map_or}
 use Rattle.std.specs.List.{AllZip}
 use Rattle.stream_schema.specs.Types.{Declared}
 use Rattle.stream_schema.specs.declared.Event.{Event}
-use Rattle.tecs_enumerate.specs.Rest.{CursorState}
+use Rattle.tecs_enumerate.specs.Remaining.{CursorState}
 use Rattle.arena_compact.specs.Moves.{later}
-use Rattle.query_standing.specs.Kept.{Part}
+use Rattle.query_standing.specs.Kept.{QueryState}
 use Rattle.all_or_none.specs.Phases.{Phase, HasGrown}
-use Rattle.query_engine.specs.Engine.{State, found_of, len_of}
+use Rattle.query_engine.specs.Engine.{EngineState, found_of, len_of}
 use Rattle.query_engine.specs.Running.{IsRunning, raised}
 use Rattle.query_engine.specs.Compacting.{IsCompacted}
 use Rattle.query_engine.specs.Windows.{later_of, IsDense, HasAdded}
@@ -18,9 +18,9 @@ use Rattle.query_engine.proofs.Taking.{Took, took_growth, took_unread, took_peak
 use Rattle.query_engine.proofs.Settled.{settled_same, settled_found}
 use Rattle.query_engine.proofs.Windows.{later_added, compaction_keeps_dense}
 
--- how many nodes of the part at a place start at the position or later
+-- how many nodes of the query state at a place start at the position or later
 abbrev later_there : List Phase → ℕ → ℕ → ℕ
-later_there parts k p = option_map_or (λ (x : Part). later p x.nodes) (slice_get (map (λ (x : Phase). x.kept) parts) k) 0
+later_there query_states k p = option_map_or (λ (x : QueryState). later p x.nodes) (slice_get (map (λ (x : Phase). x.kept) query_states) k) 0
 
 -- AN EVENT
 
@@ -48,15 +48,15 @@ later_grows event (o ∷ old) (n ∷ new) zero p z =
     omega (arith, many, long, is, few)
 later_grows event (o ∷ old) (n ∷ new) (suc k) p z = later_grows event old new k p z.1
 
-module _ (schema : Declared) (count : ℕ) (old : List Phase) (ps : List ℕ) (event : Event) (new : List Phase) (t : Took schema count old ps event new) (s : State) (is : state schema count old ps ≡ s) where
+module _ (schema : Declared) (count : ℕ) (old : List Phase) (ps : List ℕ) (event : Event) (new : List Phase) (t : Took schema count old ps event new) (s : EngineState) (is : state schema count old ps ≡ s) where
   found_on : (query : ℕ) → found_of s query ≤ found_of (state schema (count + 1) new ps) query
   unfolding found_of
-  found_on query = subst (λ (z : State). found_of z query ≤ found_of (state schema (count + 1) new ps) query) is (states_grow event old new (query - 1) t.grown)
+  found_on query = subst (λ (z : EngineState). found_of z query ≤ found_of (state schema (count + 1) new ps) query) is (states_grow event old new (query - 1) t.grown)
 
   later_on : (query position : ℕ) → later_of (state schema (count + 1) new ps) query position + len_of s query ≤ later_of s query position + len_of (state schema (count + 1) new ps) query
   unfolding later_of len_of
   later_on query position =
-      subst (λ (z : State). later_of (state schema (count + 1) new ps) query position + len_of z query ≤ later_of z query position + len_of (state schema (count + 1) new ps) query) is (later_grows event old new (query - 1) position t.grown)
+      subst (λ (z : EngineState). later_of (state schema (count + 1) new ps) query position + len_of z query ≤ later_of z query position + len_of (state schema (count + 1) new ps) query) is (later_grows event old new (query - 1) position t.grown)
 
   pub took_added : HasAdded s (state schema (count + 1) new ps) event
   took_added = record {
@@ -76,10 +76,10 @@ zip_later (o ∷ old) [] k p z = absurd z
 zip_later (o ∷ old) (n ∷ new) zero p z = z.0.fewer_later p
 zip_later (o ∷ old) (n ∷ new) (suc k) p z = zip_later old new k p z.1
 
-module _ (schema : Declared) (count : ℕ) (old new : List Phase) (ps qs : List ℕ) (ws vs : List CursorState) (running : IsRunning schema count old ps) (z : AllZip IsCompacted old new) (peaks : qs ≡ raised ps old) (s : State) (is : state schema count old ps ≡ s) where
+module _ (schema : Declared) (count : ℕ) (old new : List Phase) (ps qs : List ℕ) (ws vs : List CursorState) (running : IsRunning schema count old ps) (z : AllZip IsCompacted old new) (peaks : qs ≡ raised ps old) (s : EngineState) (is : state schema count old ps ≡ s) where
   settled_later : (query position : ℕ) → later_of (state schema count new qs) query position ≤ later_of s query position
   unfolding later_of
-  settled_later query position = subst (λ (t : State). later_of (state schema count new qs) query position ≤ later_of t query position) is (zip_later old new (query - 1) position z)
+  settled_later query position = subst (λ (t : EngineState). later_of (state schema count new qs) query position ≤ later_of t query position) is (zip_later old new (query - 1) position z)
 
   pub settled_dense : (events : List Event) → IsDense s events → IsDense (state schema count new qs) events
   settled_dense events dense =

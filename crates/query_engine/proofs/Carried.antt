@@ -1,31 +1,31 @@
--- Cursors that are carried over the compaction of the parts, one after the other.
+-- Cursors that are carried over the compaction of the query states, one after the other.
 use Rattle.std.proofs.Common.{◌≡◌, ℕ, zero, suc, ◌+◌, ◌-◌, ◌<◌, List, [], ◌∷◌, map, drop, length, get_or, refl, sym, ap, subst, ◌∙◌, All, inl, inr, slice_get, slice_index_or, slice_set, arith}
 use Rattle.std.specs.Option.{option_map_or}
 use Rattle.std.proofs.lemmas.Bool.{cases_eq}
 use Rattle.std.proofs.lemmas.List.{map-id}
 use Rattle.cer_base.specs.declared.node.Node.{Node}
-use Rattle.tecs_enumerate.specs.Rest.{CursorState, Fits, rest}
-use Rattle.query_standing.specs.Kept.{Part}
+use Rattle.tecs_enumerate.specs.Remaining.{CursorState, Fits, rest}
+use Rattle.query_standing.specs.Kept.{QueryState}
 use Rattle.all_or_none.specs.Phases.{Phase}
 use Rattle.arena_compact.specs.Compacted.{CursorCompacted}
-use Rattle.query_part.specs.Compacting.{CursorsCompacted}
-use Rattle.query_engine.specs.Compacting.{nodes_of, FitsPart, IsCarried, AreCarried}
+use Rattle.query_state.specs.Compacting.{CursorsCompacted}
+use Rattle.query_engine.specs.Compacting.{nodes_of, FitsQueryState, IsCarried, AreCarried}
 
--- the nodes of the part at a place
+-- the nodes of the query state at a place
 abbrev nodes_here : List Phase → ℕ → List Node
-nodes_here parts k = option_map_or (λ (p : Part). p.nodes) (slice_get (map (λ (p : Phase). p.kept) parts) k) []
+nodes_here query_states k = option_map_or (λ (p : QueryState). p.nodes) (slice_get (map (λ (p : Phase). p.kept) query_states) k) []
 
-here_set : (parts : List Phase) (k : ℕ) (v : Phase) → k < length parts → nodes_here (slice_set parts k v) k ≡ v.kept.nodes
+here_set : (query_states : List Phase) (k : ℕ) (v : Phase) → k < length query_states → nodes_here (slice_set query_states k v) k ≡ v.kept.nodes
 here_set [] k v lt = absurd (omega arith)
-here_set (p ∷ parts) zero v lt = refl
-here_set (p ∷ parts) (suc k) v lt = here_set parts k v (omega arith)
+here_set (p ∷ query_states) zero v lt = refl
+here_set (p ∷ query_states) (suc k) v lt = here_set query_states k v (omega arith)
 
-here_other : (parts : List Phase) (k j : ℕ) (v : Phase) → (j ≡ k → ⊥) → nodes_here (slice_set parts k v) j ≡ nodes_here parts j
+here_other : (query_states : List Phase) (k j : ℕ) (v : Phase) → (j ≡ k → ⊥) → nodes_here (slice_set query_states k v) j ≡ nodes_here query_states j
 here_other [] k j v other = refl
-here_other (p ∷ parts) zero zero v other = absurd (other refl)
-here_other (p ∷ parts) zero (suc j) v other = refl
-here_other (p ∷ parts) (suc k) zero v other = refl
-here_other (p ∷ parts) (suc k) (suc j) v other = here_other parts k j v (λ e. other (ap suc e))
+here_other (p ∷ query_states) zero zero v other = absurd (other refl)
+here_other (p ∷ query_states) zero (suc j) v other = refl
+here_other (p ∷ query_states) (suc k) zero v other = refl
+here_other (p ∷ query_states) (suc k) (suc j) v other = here_other query_states k j v (λ e. other (ap suc e))
 
 here_is : (cur old : List Phase) (k : ℕ) (d : Phase) → k < length cur → length cur ≡ length old → drop k cur ≡ drop k old → nodes_here old k ≡ (slice_index_or cur k d).kept.nodes
 here_is [] old k d lt long left = absurd (omega arith)
@@ -34,15 +34,15 @@ here_is (p ∷ cur) (q ∷ old) zero d lt long left = let same : p ≡ q = cc in
 here_is (p ∷ cur) (q ∷ old) (suc k) d lt long left = here_is cur old k d (omega arith) (omega arith) left
 
 module _ (k : ℕ) (old cur : List Phase) (q : Phase) (lt : k < length cur) (here : nodes_of old (k + 1) ≡ q.kept.nodes) where
-  -- a cursor of the part at hand is as it was, and fits it
-  pub fits_here : (w v : CursorState) → FitsPart old w → IsCarried k old cur w v → v.query ≡ k + 1 → Fits v q.kept.nodes
+  -- a cursor of the query state at hand is as it was, and fits it
+  pub fits_here : (w v : CursorState) → FitsQueryState old w → IsCarried k old cur w v → v.query ≡ k + 1 → Fits v q.kept.nodes
   fits_here w v f h mine =
       let was : v.query ≡ w.query = ap (λ (x : CursorState). x.query) h.same in
       let is : w.query ≡ k + 1 = sym was ∙ mine in
       let nodes : nodes_of old w.query ≡ q.kept.nodes = ap (nodes_of old) is ∙ here in
       subst (λ (x : CursorState). Fits x q.kept.nodes) (sym (h.ahead (omega arith))) (subst (Fits w) nodes f.2)
 
-  carried_next : (p : Phase) (w v u : CursorState) → FitsPart old w → IsCarried k old cur w v → CursorCompacted (k + 1) q.kept.nodes p.kept.nodes v u → IsCarried (k + 1) old (slice_set cur k p) w u
+  carried_next : (p : Phase) (w v u : CursorState) → FitsQueryState old w → IsCarried k old cur w v → CursorCompacted (k + 1) q.kept.nodes p.kept.nodes v u → IsCarried (k + 1) old (slice_set cur k p) w u
   carried_next p w v u f h c =
       let was : v.query ≡ w.query = ap (λ (x : CursorState). x.query) h.same in
       let low = f.0 in
@@ -70,12 +70,12 @@ module _ (k : ℕ) (old cur : List Phase) (q : Phase) (lt : k < length cur) (her
         ahead = λ above. c.other (λ e. (let clash = sym was ∙ e in omega arith)) ∙ h.ahead (omega arith);
       }
 
-  pub all_fit : (ws vs : List CursorState) → All (FitsPart old) ws → AreCarried k old cur ws vs → All (λ v. v.query ≡ k + 1 → Fits v q.kept.nodes) (map (λ v. v) vs)
+  pub all_fit : (ws vs : List CursorState) → All (FitsQueryState old) ws → AreCarried k old cur ws vs → All (λ v. v.query ≡ k + 1 → Fits v q.kept.nodes) (map (λ v. v) vs)
   all_fit ws vs fits h = subst (All (λ (v : CursorState). v.query ≡ k + 1 → Fits v q.kept.nodes)) (sym (map-id vs)) (λ j d less mine.
       let count = h.count in
       fits_here (get_or ws j d) (get_or vs j d) (fits j d (omega arith)) (h.each j d (omega arith)) mine)
 
-  pub all_carried : (p : Phase) (ws vs us : List CursorState) → All (FitsPart old) ws → AreCarried k old cur ws vs → CursorsCompacted (k + 1) q.kept.nodes p.kept.nodes (map (λ v. v) vs) (map (λ v. v) us) → AreCarried (k + 1) old (slice_set cur k p) ws us
+  pub all_carried : (p : Phase) (ws vs us : List CursorState) → All (FitsQueryState old) ws → AreCarried k old cur ws vs → CursorsCompacted (k + 1) q.kept.nodes p.kept.nodes (map (λ v. v) vs) (map (λ v. v) us) → AreCarried (k + 1) old (slice_set cur k p) ws us
   all_carried p ws vs us fits h c =
       let of : CursorsCompacted (k + 1) q.kept.nodes p.kept.nodes vs us = subst (λ (xs : List CursorState). CursorsCompacted (k + 1) q.kept.nodes p.kept.nodes xs us) (map-id vs) (subst (CursorsCompacted (k + 1) q.kept.nodes p.kept.nodes (map (λ v. v) vs)) (map-id us) c) in
       let count = h.count in
@@ -84,12 +84,12 @@ module _ (k : ℕ) (old cur : List Phase) (q : Phase) (lt : k < length cur) (her
         each = λ j d less. carried_next p (get_or ws j d) (get_or vs j d) (get_or us j d) (fits j d less) (h.each j d less) (of.each j d (omega arith));
       }
 
--- the nodes of the part at hand are those that it had
-pub part_here : (cur old : List Phase) (k : ℕ) (d : Phase) → k < length cur → length cur ≡ length old → drop k cur ≡ drop k old → nodes_of old (k + 1) ≡ (slice_index_or cur k d).kept.nodes
-part_here cur old k d lt long left = let at : k + 1 - 1 ≡ k = omega arith in ap (nodes_here old) at ∙ here_is cur old k d lt long left
+-- the nodes of the query state at hand are those that it had
+pub query_state_here : (cur old : List Phase) (k : ℕ) (d : Phase) → k < length cur → length cur ≡ length old → drop k cur ≡ drop k old → nodes_of old (k + 1) ≡ (slice_index_or cur k d).kept.nodes
+query_state_here cur old k d lt long left = let at : k + 1 - 1 ≡ k = omega arith in ap (nodes_here old) at ∙ here_is cur old k d lt long left
 
-pub none_carried : (parts : List Phase) (ws : List CursorState) → All (FitsPart parts) ws → AreCarried 0 parts parts ws ws
-none_carried parts ws fits = record {
+pub none_carried : (query_states : List Phase) (ws : List CursorState) → All (FitsQueryState query_states) ws → AreCarried 0 query_states query_states ws ws
+none_carried query_states ws fits = record {
   count = refl;
   each = λ j d less. record {
     same = refl;

@@ -1,32 +1,32 @@
--- One part more is compacted, with its clock, or is left as it is.
+-- One query state more is compacted, with its clock, or is left as it is.
 use Rattle.std.proofs.Common.{◌≡◌, ℕ, zero, suc, ◌+◌, ◌*◌, ◌<◌, ◌≤◌, ℤ, Bool, true, false, cond, List, [], ◌∷◌, map, take, drop, add-one, length, refl, sym, ap, subst, ◌∙◌, All, Option, Some, None, inl, inr, slice_get, slice_index_or, slice_set, arith}
 use Rattle.std.proofs.lemmas.Bool.{cases_eq, false≢true}
 use Rattle.std.proofs.lemmas.Option.{get_or_from_slice_get}
 use Rattle.std.specs.List.{AllZip}
-use Rattle.tecs_enumerate.specs.Rest.{CursorState, Fits}
+use Rattle.tecs_enumerate.specs.Remaining.{CursorState, Fits}
 use Rattle.stream_schema.specs.declared.Event.{Event}
 use Rattle.query_standing.specs.Kept.{low_at}
 use Rattle.arena_compact.specs.Roots.{places}
 use Rattle.all_or_none.specs.Phases.{Phase, IsIdle}
 use Rattle.all_or_none.proofs.LoopTurn.{zip_next, left_next}
-use Rattle.query_part.specs.Parts.{StandsWith}
-use Rattle.query_part.specs.Compacting.{PartCompacted}
-use Rattle.query_part.specs.Matches.{HasStatesOnce}
+use Rattle.query_state.specs.QueryStates.{StandsWith}
+use Rattle.query_state.specs.Compacting.{QueryStateCompacted}
+use Rattle.query_state.specs.Matches.{HasStatesOnce}
 use Rattle.query_engine.specs.Times.{with_clock, with_clocks}
-use Rattle.query_engine.specs.Compacting.{is_chosen, cost_of, IsCompacted, FitsPart, AreTrimmed, AreOnce, OthersStay, AreCarried, cost, nodes_of}
-use Rattle.query_part.specs.Compacting.{CursorsCompacted}
-use Rattle.query_engine.proofs.Carried.{part_here, all_fit, all_carried}
+use Rattle.query_engine.specs.Compacting.{is_chosen, cost_of, IsCompacted, FitsQueryState, AreTrimmed, AreOnce, OthersStay, AreCarried, cost, nodes_of}
+use Rattle.query_state.specs.Compacting.{CursorsCompacted}
+use Rattle.query_engine.proofs.Carried.{query_state_here, all_fit, all_carried}
 use Rattle.query_engine.proofs.Clocked.{clocked_length, clocked_or, clocked_set, clocked_drop}
 use Rattle.query_engine.proofs.Trimmed.{all_trimmed}
 
--- What a compaction of one part gives, with the last clock of its query.
+-- What a compaction of one query state gives, with the last clock of its query.
 pub record IsOneCompacted (number : ℕ) (clock : Option ℤ) (old new : Phase) (vs us : List CursorState) : Type 0 where
   pub schema : new.schema ≡ old.schema
   pub query : new.query ≡ old.query
   pub idle : IsIdle new
   pub upto : new.upto ≡ old.upto
   pub stands : (events : List Event) → StandsWith clock events old → StandsWith clock events new
-  pub compacted : PartCompacted number (low_at old.query clock) old.kept new.kept (map (λ w. w) vs) (map (λ w. w) us)
+  pub compacted : QueryStateCompacted number (low_at old.query clock) old.kept new.kept (map (λ w. w) vs) (map (λ w. w) us)
   pub fewer : length new.kept.nodes ≤ length old.kept.nodes
   pub once : All HasStatesOnce old.kept.rows
 
@@ -43,8 +43,8 @@ with_its_clock number clock old new vs us h = record {
   fewer_later = h.compacted.nodes.fewer_later;
 }
 
-part_with_clock : (number : ℕ) (clock : Option ℤ) (old new : Phase) (vs us : List CursorState) → IsOneCompacted number clock old new vs us → PartCompacted number (low_at old.query clock) (with_clock clock old).kept (with_clock clock new).kept (map (λ w. w) vs) (map (λ w. w) us)
-part_with_clock number clock old new vs us h =
+query_state_with_clock : (number : ℕ) (clock : Option ℤ) (old new : Phase) (vs us : List CursorState) → IsOneCompacted number clock old new vs us → QueryStateCompacted number (low_at old.query clock) (with_clock clock old).kept (with_clock clock new).kept (map (λ w. w) vs) (map (λ w. w) us)
+query_state_with_clock number clock old new vs us h =
     let c = h.compacted in
     record {
       table = c.table;
@@ -77,7 +77,7 @@ get_at (x ∷ xs) [] k inside long same = absurd (omega arith)
 get_at (x ∷ xs) (y ∷ ys) zero inside long same = ap (λ (zs : List Phase). slice_get zs 0) same
 get_at (x ∷ xs) (y ∷ ys) (suc k) inside long same = get_at xs ys k (omega arith) (omega arith) same
 
--- the steps of one part more, where it is chosen
+-- the steps of one query state more, where it is chosen
 cost_suc : (chosen : List Bool) (cur old : List Phase) (k : ℕ) (d : Phase) → k < length cur → length cur ≡ length old → drop k cur ≡ drop k old → cost_of chosen (take (suc k) old) ≡ cost_of chosen (take k old) + cond (is_chosen chosen k) (cost (slice_index_or cur k d)) 0
 cost_suc chosen [] old k d less long left = absurd (omega arith)
 cost_suc chosen (p ∷ cur) [] k d less long left = absurd (omega arith)
@@ -89,9 +89,9 @@ cost_suc (flag ∷ chosen) (p ∷ cur) (q ∷ old) (suc k) d less long left = le
 cost_more : (chosen : List Bool) (cur old : List Phase) (k : ℕ) (d : Phase) → k < length cur → length cur ≡ length old → drop k cur ≡ drop k old → cost_of chosen (take (k + 1) old) ≡ cost_of chosen (take k old) + cond (is_chosen chosen k) (cost (slice_index_or cur k d)) 0
 cost_more chosen cur old k d less long left = rw add-one (cost_suc chosen cur old k d less long left)
 
--- a part that is left as it is
-same_part : (p : Phase) → IsIdle p → IsCompacted p p
-same_part p idle = record {
+-- a query state that is left as it is
+same_query_state : (p : Phase) → IsIdle p → IsCompacted p p
+same_query_state p idle = record {
   schema = refl;
   query = refl;
   idle = idle;
@@ -106,7 +106,7 @@ module _ (clocks : List (Option ℤ)) (old cur : List Phase) (k : ℕ) (d : Phas
   abbrev clock : Option ℤ
   clock = slice_index_or clocks k None
 
-  -- the part at hand
+  -- the query state at hand
   abbrev here : Phase
   here = slice_index_or cur k d
 
@@ -123,9 +123,9 @@ module _ (clocks : List (Option ℤ)) (old cur : List Phase) (k : ℕ) (d : Phas
   still = clocked_drop cur clocks k ∙ (ap (λ ps. with_clocks ps (drop k clocks)) left ∙ sym (clocked_drop old clocks k))
 
   nodes_here : nodes_of (with_clocks old clocks) (k + 1) ≡ (slice_index_or cur k d).kept.nodes
-  nodes_here = part_here (with_clocks cur clocks) (with_clocks old clocks) k (with_clock (slice_index_or clocks k None) d) within as_many still ∙ ap (λ (p : Phase). p.kept.nodes) is_here
+  nodes_here = query_state_here (with_clocks cur clocks) (with_clocks old clocks) k (with_clock (slice_index_or clocks k None) d) within as_many still ∙ ap (λ (p : Phase). p.kept.nodes) is_here
 
-  pub one_fits : (ws vs : List CursorState) → All (FitsPart (with_clocks old clocks)) ws → AreCarried k (with_clocks old clocks) (with_clocks cur clocks) ws vs → All (λ v. v.query ≡ k + 1 → Fits v (slice_index_or cur k d).kept.nodes) (map (λ v. v) vs)
+  pub one_fits : (ws vs : List CursorState) → All (FitsQueryState (with_clocks old clocks)) ws → AreCarried k (with_clocks old clocks) (with_clocks cur clocks) ws vs → All (λ v. v.query ≡ k + 1 → Fits v (slice_index_or cur k d).kept.nodes) (map (λ v. v) vs)
   one_fits ws vs fits held = all_fit k (with_clocks old clocks) (with_clocks cur clocks) (with_clock (slice_index_or clocks k None) (slice_index_or cur k d)) within nodes_here ws vs fits held
 
   module _ (v : Phase) (ws vs us : List CursorState) (h : IsOneCompacted (k + 1) (slice_index_or clocks k None) (slice_index_or cur k d) v vs us) where
@@ -138,7 +138,7 @@ module _ (clocks : List (Option ℤ)) (old cur : List Phase) (k : ℕ) (d : Phas
         (zip_next IsCompacted (λ p. p) (λ p. p) (with_clocks cur clocks) (with_clocks old clocks) k (with_clock (slice_index_or clocks k None) v) (with_clock (slice_index_or clocks k None) d) within as_many still done
         (subst (λ (p : Phase). IsCompacted p (with_clock (slice_index_or clocks k None) v)) (sym is_here) (with_its_clock (k + 1) (slice_index_or clocks k None) (slice_index_or cur k d) v vs us h)))
 
-    pub one_carried : All (FitsPart (with_clocks old clocks)) ws → AreCarried k (with_clocks old clocks) (with_clocks cur clocks) ws vs → AreCarried (k + 1) (with_clocks old clocks) (with_clocks (slice_set cur k v) clocks) ws us
+    pub one_carried : All (FitsQueryState (with_clocks old clocks)) ws → AreCarried k (with_clocks old clocks) (with_clocks cur clocks) ws vs → AreCarried (k + 1) (with_clocks old clocks) (with_clocks (slice_set cur k v) clocks) ws us
     one_carried fits held =
         subst (λ (ps : List Phase). AreCarried (k + 1) (with_clocks old clocks) ps ws us) set_is
         (all_carried k (with_clocks old clocks) (with_clocks cur clocks) (with_clock (slice_index_or clocks k None) (slice_index_or cur k d)) within nodes_here (with_clock (slice_index_or clocks k None) v) ws vs us fits held h.compacted.cursors)
@@ -146,7 +146,7 @@ module _ (clocks : List (Option ℤ)) (old cur : List Phase) (k : ℕ) (d : Phas
     pub one_trimmed : (chosen : List Bool) → AreTrimmed chosen k vs (with_clocks cur clocks) → AreTrimmed chosen (k + 1) us (with_clocks (slice_set cur k v) clocks)
     one_trimmed chosen trimmed =
         subst (λ (ps : List Phase). AreTrimmed chosen (k + 1) us ps) set_is
-        (all_trimmed chosen k (with_clocks cur clocks) (with_clock (slice_index_or clocks k None) (slice_index_or cur k d)) (with_clock (slice_index_or clocks k None) v) vs us within h.query (part_with_clock (k + 1) (slice_index_or clocks k None) (slice_index_or cur k d) v vs us h) trimmed)
+        (all_trimmed chosen k (with_clocks cur clocks) (with_clock (slice_index_or clocks k None) (slice_index_or cur k d)) (with_clock (slice_index_or clocks k None) v) vs us within h.query (query_state_with_clock (k + 1) (slice_index_or clocks k None) (slice_index_or cur k d) v vs us h) trimmed)
 
     pub one_others : (chosen : List Bool) → is_chosen chosen k ≡ true → OthersStay chosen k (with_clocks old clocks) (with_clocks cur clocks) → OthersStay chosen (k + 1) (with_clocks old clocks) (with_clocks (slice_set cur k v) clocks)
     one_others chosen flag others j p less at other = elim (cases_eq j k) [
@@ -184,9 +184,9 @@ module _ (clocks : List (Option ℤ)) (old cur : List Phase) (k : ℕ) (d : Phas
     left_done idle done =
         subst (λ (ps : List Phase). AllZip IsCompacted (map (λ p. p) (take (k + 1) (with_clocks old clocks))) (map (λ p. p) (take (k + 1) ps))) same_set
         (zip_next IsCompacted (λ p. p) (λ p. p) (with_clocks cur clocks) (with_clocks old clocks) k (with_clock (slice_index_or clocks k None) (slice_index_or cur k d)) (with_clock (slice_index_or clocks k None) d) within as_many still done
-        (subst (λ (p : Phase). IsCompacted p (with_clock (slice_index_or clocks k None) (slice_index_or cur k d))) (sym is_here) (same_part (with_clock (slice_index_or clocks k None) (slice_index_or cur k d)) idle)))
+        (subst (λ (p : Phase). IsCompacted p (with_clock (slice_index_or clocks k None) (slice_index_or cur k d))) (sym is_here) (same_query_state (with_clock (slice_index_or clocks k None) (slice_index_or cur k d)) idle)))
 
-    pub left_carried : (ws vs : List CursorState) → All (FitsPart (with_clocks old clocks)) ws → AreCarried k (with_clocks old clocks) (with_clocks cur clocks) ws vs → AreCarried (k + 1) (with_clocks old clocks) (with_clocks cur clocks) ws vs
+    pub left_carried : (ws vs : List CursorState) → All (FitsQueryState (with_clocks old clocks)) ws → AreCarried k (with_clocks old clocks) (with_clocks cur clocks) ws vs → AreCarried (k + 1) (with_clocks old clocks) (with_clocks cur clocks) ws vs
     left_carried ws vs fits held =
         let here = slice_index_or cur k d in
         let fit = one_fits ws vs fits held in
@@ -197,14 +197,14 @@ module _ (clocks : List (Option ℤ)) (old cur : List Phase) (k : ℕ) (d : Phas
         subst (λ (ps : List Phase). AreCarried (k + 1) (with_clocks old clocks) ps ws vs) same_set
         (all_carried k (with_clocks old clocks) (with_clocks cur clocks) (with_clock (slice_index_or clocks k None) here) within nodes_here (with_clock (slice_index_or clocks k None) here) ws vs vs fits held none)
 
-    pub left_trimmed : (vs : List CursorState) (parts : List Phase) → AreTrimmed chosen k vs parts → AreTrimmed chosen (k + 1) vs parts
-    left_trimmed vs parts trimmed j p less at flag = elim (cases_eq j k) [
+    pub left_trimmed : (vs : List CursorState) (query_states : List Phase) → AreTrimmed chosen k vs query_states → AreTrimmed chosen (k + 1) vs query_states
+    left_trimmed vs query_states trimmed j p less at flag = elim (cases_eq j k) [
       | inl is ↦ absurd (false≢true (sym other ∙ (sym (ap (is_chosen chosen) is) ∙ flag)))
       | inr before ↦ trimmed j p (omega arith) at flag
     ]
 
-    pub left_once : (parts : List Phase) → AreOnce chosen k parts → AreOnce chosen (k + 1) parts
-    left_once parts once j p less at flag = elim (cases_eq j k) [
+    pub left_once : (query_states : List Phase) → AreOnce chosen k query_states → AreOnce chosen (k + 1) query_states
+    left_once query_states once j p less at flag = elim (cases_eq j k) [
       | inl is ↦ absurd (false≢true (sym other ∙ (sym (ap (is_chosen chosen) is) ∙ flag)))
       | inr before ↦ once j p (omega arith) at flag
     ]

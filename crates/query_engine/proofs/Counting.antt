@@ -11,11 +11,11 @@ use Rattle.stream_schema.specs.declared.Event.{Event}
 use Rattle.cel_terms.specs.declared.Query.{Query}
 use Rattle.cea_determinise.specs.Strict.{Standing}
 use Rattle.query_standing.specs.Bounds.{update_bound, for_each_query, IsMet, MeetAtMost}
-use Rattle.query_standing.specs.Kept.{Part, KeptState, KeptStands}
+use Rattle.query_standing.specs.Kept.{QueryState, KeptState, KeptStands}
 use Rattle.query_standing.proofs.FoundStates.{states_are_met}
 use Rattle.query_engine.specs.declared.fault.SeeFault.{SeeFault}
 use Rattle.query_engine.specs.declared.fault.SeeFault.TheVariants.{TimeBack, Memory}
-use Rattle.query_engine.specs.Engine.{State, StandsFor, found_of, kept_of, update_bounds, OnWant}
+use Rattle.query_engine.specs.Engine.{EngineState, StandsFor, found_of, kept_of, update_bounds, OnWant}
 use Rattle.query_engine.specs.Counts.{MeetMost, event_bound, cursor_bound, cursor_bounds}
 
 -- SUMS OVER THE QUERIES
@@ -85,17 +85,17 @@ bound_grows m n less =
 
 -- WHAT WAS FOUND
 
-found_kept : (e : KeptState) (events : List Event) (k : ℕ) (q : Query) (n : ℕ) → KeptStands e events → slice_get e.queries k ≡ Some q → MeetAtMost e.schema q events n → (o : Option Part) → slice_get e.parts k ≡ o →
-    option_map_or (λ (p : Part). length p.table.states) o 0 ≤ n
+found_kept : (e : KeptState) (events : List Event) (k : ℕ) (q : Query) (n : ℕ) → KeptStands e events → slice_get e.queries k ≡ Some q → MeetAtMost e.schema q events n → (o : Option QueryState) → slice_get e.query_states k ≡ o →
+    option_map_or (λ (p : QueryState). length p.table.states) o 0 ≤ n
 found_kept e events k q n stands at most None is = omega arith
 found_kept e events k q n stands at most (Some p) is = states_are_met e.schema q events p n (stands.each k q p at is) most
 
-pub found_are_met : (engine : State) (events : List Event) (k : ℕ) (q : Query) (n : ℕ) → StandsFor engine events → slice_get engine.queries k ≡ Some q → MeetAtMost engine.schema q events n → found_of engine (k + 1) ≤ n
+pub found_are_met : (engine : EngineState) (events : List Event) (k : ℕ) (q : Query) (n : ℕ) → StandsFor engine events → slice_get engine.queries k ≡ Some q → MeetAtMost engine.schema q events n → found_of engine (k + 1) ≤ n
 unfolding StandsFor found_of
 found_are_met engine events k q n stands at most =
     let here : k ≡ k + 1 - 1 = omega arith in
-    subst (λ (i : ℕ). option_map_or (λ (p : Part). length p.table.states) (slice_get engine.parts i) 0 ≤ n) here
-    (found_kept (kept_of engine) events k q n stands at most (slice_get engine.parts k) refl)
+    subst (λ (i : ℕ). option_map_or (λ (p : QueryState). length p.table.states) (slice_get engine.query_states i) 0 ≤ n) here
+    (found_kept (kept_of engine) events k q n stands at most (slice_get engine.query_states k) refl)
 
 -- what a run over the first events meets, one over all does
 still_met : (schema : Declared) (q : Query) (events more : List Event) (state : Standing) → IsMet schema q events state → IsMet schema q (events ++ more) state
@@ -125,12 +125,12 @@ query_at [] k within = absurd (omega arith)
 query_at (x ∷ xs) zero within = (x, refl)
 query_at (x ∷ xs) (suc k) within = query_at xs k (omega arith)
 
-found_bound : (engine : State) (events : List Event) (most : ℕ → ℕ) → StandsFor engine events → MeetMost engine.schema engine.queries events most → (j : ℕ) → j < length engine.queries → update_bound (found_of engine (j + 1)) ≤ update_bound (most (j + 1))
+found_bound : (engine : EngineState) (events : List Event) (most : ℕ → ℕ) → StandsFor engine events → MeetMost engine.schema engine.queries events most → (j : ℕ) → j < length engine.queries → update_bound (found_of engine (j + 1)) ≤ update_bound (most (j + 1))
 found_bound engine events most stands meet j less =
     let asked = query_at engine.queries j less in
     bound_grows (found_of engine (j + 1)) (most (j + 1)) (found_are_met engine events j asked.0 (most (j + 1)) stands asked.1 (meet j asked.0 asked.1))
 
-pub event_is_bounded : (engine : State) (events : List Event) (most : ℕ → ℕ) → StandsFor engine events → MeetMost engine.schema engine.queries events most → update_bounds engine + cursor_bounds engine ≤ event_bound (length engine.queries) most
+pub event_is_bounded : (engine : EngineState) (events : List Event) (most : ℕ → ℕ) → StandsFor engine events → MeetMost engine.schema engine.queries events most → update_bounds engine + cursor_bounds engine ≤ event_bound (length engine.queries) most
 event_is_bounded engine events most stands meet =
     let n = length engine.queries in
     let bound = found_bound engine events most stands meet in

@@ -11,9 +11,9 @@ use Rattle.cel_terms.specs.declared.Query.{Query}
 use Rattle.arena_compact.specs.Moves.{later}
 use Rattle.query_standing.specs.Bounds.{update_bound}
 use Rattle.query_standing.specs.Clocks.{HasClockAt}
-use Rattle.query_standing.specs.Kept.{Part}
+use Rattle.query_standing.specs.Kept.{QueryState}
 use Rattle.query_engine.specs.Counts.{MeetMost, HasFewNodes}
-use Rattle.query_engine.specs.Engine.{State, StandsFor, SameQueries, found_of, len_of, peak_of}
+use Rattle.query_engine.specs.Engine.{EngineState, StandsFor, SameQueries, found_of, len_of, peak_of}
 use Rattle.query_engine.specs.Peaks.{PeaksFollow}
 use Rattle.query_engine.specs.Skipping.{KeepsAll}
 use Rattle.query_engine.specs.Windows.{later_of, IsBoundedBy, IsReadFrom, IsDense, IsRecentAt, FollowsWindowSince, HasAdded}
@@ -22,19 +22,19 @@ use Rattle.query_engine.proofs.Finite.{few}
 use Rattle.query_engine.proofs.Windows.{later_whole, still_clock, bounded_on, clock_inside}
 
 -- every node has its greatest start at position 0 or later
-all_later : (o : Option Part) → option_map_or (λ (x : Part). later 0 x.nodes) o 0 ≡ option_map_or (λ (x : Part). length x.nodes) o 0
+all_later : (o : Option QueryState) → option_map_or (λ (x : QueryState). later 0 x.nodes) o 0 ≡ option_map_or (λ (x : QueryState). length x.nodes) o 0
 all_later None = refl
-all_later (Some part) = later_whole 0 part.nodes (λ j n at. omega arith)
+all_later (Some query_state) = later_whole 0 query_state.nodes (λ j n at. omega arith)
 
-pub later_all : (engine : State) (query : ℕ) → later_of engine query 0 ≡ len_of engine query
+pub later_all : (engine : EngineState) (query : ℕ) → later_of engine query 0 ≡ len_of engine query
 unfolding later_of len_of
-later_all engine query = all_later (slice_get engine.parts (query - 1))
+later_all engine query = all_later (slice_get engine.query_states (query - 1))
 
-pub dense_nodes : (engine : State) (events : List Event) → IsDense engine events → (k : ℕ) (q : Query) → slice_get engine.queries k ≡ Some q → IsBoundedBy (IsReadFrom engine.schema q events 0) engine (k + 1) (len_of engine (k + 1))
+pub dense_nodes : (engine : EngineState) (events : List Event) → IsDense engine events → (k : ℕ) (q : Query) → slice_get engine.queries k ≡ Some q → IsBoundedBy (IsReadFrom engine.schema q events 0) engine (k + 1) (len_of engine (k + 1))
 dense_nodes engine events dense k q at = subst (IsBoundedBy (IsReadFrom engine.schema q events 0) engine (k + 1)) (later_all engine (k + 1)) (dense k q 0 at)
 
 -- so they follow the windows where no compaction was made
-pub dense_follows : (engine : State) (events : List Event) → IsDense engine events → FollowsWindowSince 0 engine events
+pub dense_follows : (engine : EngineState) (events : List Event) → IsDense engine events → FollowsWindowSince 0 engine events
 dense_follows engine events dense k q at =
     let h = dense_nodes engine events dense k q at in
     record {
@@ -62,7 +62,7 @@ below_long : (n : ℕ) → length (below n) ≡ n
 below_long zero = refl
 below_long (suc n) = let l = below_long n in omega arith
 
-pub dense_has_few : (engine : State) (events : List Event) (most : ℕ → ℕ) → StandsFor engine events → IsDense engine events → MeetMost engine.schema engine.queries events most → HasFewNodes engine (length events) most
+pub dense_has_few : (engine : EngineState) (events : List Event) (most : ℕ → ℕ) → StandsFor engine events → IsDense engine events → MeetMost engine.schema engine.queries events most → HasFewNodes engine (length events) most
 dense_has_few engine events most stands dense meet k q at =
     let h = dense_nodes engine events dense k q at in
     let inside : (x : ℕ) → Contains h.positions x → Contains (below (length events)) x =
@@ -79,7 +79,7 @@ dense_has_few engine events most stands dense meet k q at =
 -- PEAKS
 
 -- at first they are those that there were
-pub peaks_at_first : (before : ℕ → ℕ) (engine : State) (events : List Event) → ((query : ℕ) → peak_of engine query ≤ before query) → PeaksFollow before engine events
+pub peaks_at_first : (before : ℕ → ℕ) (engine : EngineState) (events : List Event) → ((query : ℕ) → peak_of engine query ≤ before query) → PeaksFollow before engine events
 peaks_at_first before engine events same k q at = inl (same (k + 1))
 
 most_is : (n m : ℕ) → n < m → max n m ≡ m
@@ -88,7 +88,7 @@ most_is n m less = omega arith
 most_stays : (n m : ℕ) → m ≤ n → max n m ≡ n
 most_stays n m le = omega arith
 
-module _ (before : ℕ → ℕ) (old new : State) (events more : List Event) (same : SameQueries old new) where
+module _ (before : ℕ → ℕ) (old new : EngineState) (events more : List Event) (same : SameQueries old new) where
   was_asked : (k : ℕ) (q : Query) → slice_get new.queries k ≡ Some q → slice_get old.queries k ≡ Some q
   was_asked k q at = subst (λ (qs : List Query). slice_get qs k ≡ Some q) same.1 at
 

@@ -22,7 +22,7 @@ use Rattle.event_update.specs.Stands.{member_rows}
 use Rattle.event_update.specs.Update.{entries_in}
 use Rattle.arena_compact.specs.Roots.{ids_of, places}
 use Rattle.query_standing.specs.Keys.{positions, HasKeyAt}
-use Rattle.query_standing.specs.Kept.{Rows, Part, KeyIsKept, PartStands}
+use Rattle.query_standing.specs.Kept.{Rows, QueryState, KeyIsKept, QueryStateStands}
 use Rattle.query_standing.proofs.Lists.{here, there, cons_cases, append_cases, none_in_nil, no_repeats_front}
 use Rattle.query_standing.proofs.Link.{positions_append}
 use Rattle.query_engine.proofs.Finite.{few}
@@ -148,7 +148,7 @@ all_count (r ∷ rows) =
 
 -- ALL KEYS
 
-module _ (schema : Declared) (q : Query) (events : List Event) (p : Part) where
+module _ (schema : Declared) (q : Query) (events : List Event) (p : QueryState) where
   -- where the node's first member starts
   start_of : ℕ → ℕ
   start_of id = (first_member (tree p.nodes id)).0.start.pos
@@ -169,7 +169,7 @@ module _ (schema : Declared) (q : Query) (events : List Event) (p : Part) where
       let m = (first_member t).0 in
       let at = of_rows p.nodes rows id m has (has_first t) in
       let found = starts_there (automaton_of_cea p.table.cea) p.table.cea.strict k.taken _ m (k.stands.sound at.0 m at.1) in
-      let among = subst (λ ns. Contains ns m.start.pos) (sym (positions_append k.taken k.passed)) (Contains-append_left (positions k.taken) (positions k.passed) m.start.pos found) in
+      let among = subst (λ ns. Contains ns m.start.pos) (sym (positions_append k.taken k.no_op)) (Contains-append_left (positions k.taken) (positions k.no_op) m.start.pos found) in
       (k.are_seen.exact m.start.pos).0 among
 
   record Apart (keys : List (List Value)) (rows : List Rows) : Type 0 where
@@ -199,7 +199,7 @@ module _ (schema : Declared) (q : Query) (events : List Event) (p : Part) where
       }
 
   -- The lists have no more entries than there are nodes.
-  pub entries_few : PartStands schema q events p → places p.rows ≤ length p.nodes
+  pub entries_few : QueryStateStands schema q events p → places p.rows ≤ length p.nodes
   entries_few s =
       let all = all_apart p.keys p.rows s.keys.distinct s.keys.lists s.each in
       let count = all_count p.rows in

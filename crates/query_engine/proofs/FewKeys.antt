@@ -21,12 +21,12 @@ use Rattle.union_lists.specs.Lists.{IsUnionList}
 use Rattle.event_update.specs.Reach.{Seen, Reaches}
 use Rattle.arena_compact.specs.Roots.{ids_of}
 use Rattle.query_standing.specs.Keys.{positions, IsSeen, HasKeyAt}
-use Rattle.query_standing.specs.Kept.{Rows, Part, KeyIsKept, PartStands}
+use Rattle.query_standing.specs.Kept.{Rows, QueryState, KeyIsKept, QueryStateStands}
 use Rattle.query_standing.proofs.Lists.{here, there, cons_cases, none_in_nil, all_from}
 use Rattle.query_standing.proofs.Link.{positions_append}
 use Rattle.query_standing.proofs.Passing.{all_front}
-use Rattle.query_part.specs.Compacting.{AreRecent}
-use Rattle.query_part.specs.Dropping.{HaveListsButOne}
+use Rattle.query_state.specs.Compacting.{AreRecent}
+use Rattle.query_state.specs.Dropping.{HaveListsButOne}
 use Rattle.query_engine.specs.Keys.{IsReadSince, IsWithin}
 use Rattle.query_engine.proofs.FewPlaces.{one_key}
 use Rattle.query_engine.proofs.FewEntries.{row_ids, of_rows}
@@ -58,7 +58,7 @@ one_empty ((r ∷ rs) ∷ rows) told k one = one_empty rows told (k + 1) (λ n i
 
 -- A KEY WITH A LIST
 
-module _ (schema : Declared) (q : Query) (events : List Event) (p : Part) (low : ℤ) where
+module _ (schema : Declared) (q : Query) (events : List Event) (p : QueryState) (low : ℤ) where
   -- a list has a node, which is recent where all entries are
   a_node : (nodes : List Node) (es : List Root) → IsUnionList nodes es → All (λ (e : Root). low ≤ℤ e.max.clock) es → (id : ℕ) × Contains (ids_of es) id × (low ≤ℤ (newest (tree nodes id)).clock)
   a_node nodes [] u late = absurd u.list
@@ -84,9 +84,9 @@ module _ (schema : Declared) (q : Query) (events : List Event) (p : Part) (low :
       let t = tree p.nodes node.0 in
       let m = newest_is_start t in
       let at = of_rows p.nodes (r ∷ rs) node.0 m.0 (Contains-append_left (ids_of r.1) (row_ids rs) node.0 node.1) m.1 in
-      let found = starts_at (automaton_of_cea p.table.cea) p.table.cea.strict k.taken _ m.0 (all_front (IsSeen schema q events) k.taken k.passed k.are_seen.seen) (k.stands.sound at.0 m.0 at.1) in
+      let found = starts_at (automaton_of_cea p.table.cea) p.table.cea.strict k.taken _ m.0 (all_front (IsSeen schema q events) k.taken k.no_op k.are_seen.seen) (k.stands.sound at.0 m.0 at.1) in
       let x = found.0 in
-      let among = subst (λ ns. Contains ns x.stamp.pos) (sym (positions_append k.taken k.passed)) (Contains-append_left (positions k.taken) (positions k.passed) x.stamp.pos found.2) in
+      let among = subst (λ ns. Contains ns x.stamp.pos) (sym (positions_append k.taken k.no_op)) (Contains-append_left (positions k.taken) (positions k.no_op) x.stamp.pos found.2) in
       let own = (k.are_seen.exact x.stamp.pos).0 among in
       let same : found.1.event ≡ own.event = (let both = sym found.1.at ∙ own.at in cc) in
       let stamp : x.stamp ≡ newest t = sym found.3 ∙ m.2 in (
@@ -141,7 +141,7 @@ module _ (schema : Declared) (q : Query) (events : List Event) (p : Part) (low :
       }
 
   -- No more keys than events from the low clock on, and one.
-  pub keys_few : PartStands schema q events p → AreRecent low p.rows → HaveListsButOne p.rows → IsWithin (IsReadSince schema q events low) (length p.keys)
+  pub keys_few : QueryStateStands schema q events p → AreRecent low p.rows → HaveListsButOne p.rows → IsWithin (IsReadSince schema q events low) (length p.keys)
   keys_few s late have =
       let all = many p.keys p.rows s.keys.distinct s.keys.lists late s.each in
       let one = one_empty p.rows have.number 0 (λ n is. have.others n (omega arith) is ∙ ap (λ x. Some x) (omega arith)) in

@@ -23,11 +23,11 @@ use Rattle.event_update.specs.Update.{AreUpto, entries_in}
 use Rattle.event_update.proofs.Bounds.{entries_upto}
 use Rattle.event_update.proofs.Before.{within_bound}
 use Rattle.event_update.proofs.Stays.{few_states}
-use Rattle.event_update.proofs.Resting.{list_member}
+use Rattle.event_update.proofs.Dormant.{list_member}
 use Rattle.arena_compact.specs.Roots.{places}
 use Rattle.query_standing.specs.Keys.{AreSeen, HasKeyAt}
-use Rattle.query_standing.specs.Kept.{Rows, Part, KeyIsKept, PartStands}
-use Rattle.query_part.specs.Matches.{HasStatesOnce}
+use Rattle.query_standing.specs.Kept.{Rows, QueryState, KeyIsKept, QueryStateStands}
+use Rattle.query_state.specs.Matches.{HasStatesOnce}
 use Rattle.query_engine.proofs.Standing.{all_at}
 use Rattle.query_engine.proofs.Finite.{few}
 
@@ -42,7 +42,7 @@ entries_few x (r ∷ rows) short =
     let product : x * length (r ∷ rows) ≡ x + x * length rows = omega arith in
     omega (arith, here, rest, product)
 
-key_entries : (schema : Declared) (q : Query) (events : List Event) (p : Part) (key : List Value) (rows : Rows) → KeyIsKept schema q events p key rows → HasStatesOnce rows →
+key_entries : (schema : Declared) (q : Query) (events : List Event) (p : QueryState) (key : List Value) (rows : Rows) → KeyIsKept schema q events p key rows → HasStatesOnce rows →
     entries_in rows ≤ length p.table.states * (length p.table.states + 2)
 key_entries schema q events p key rows s once =
     let n = length p.table.states in
@@ -52,13 +52,13 @@ key_entries schema q events p key rows s once =
     omega (arith, entries_few (n + 2) rows short, product)
 
 -- a key that has lists has an event
-key_cases : (schema : Declared) (q : Query) (events : List Event) (p : Part) (key : List Value) (rows : Rows) → KeyIsKept schema q events p key rows → (rows ≡ []) ⊎ ((at : ℕ) × HasKeyAt schema q events key at)
+key_cases : (schema : Declared) (q : Query) (events : List Event) (p : QueryState) (key : List Value) (rows : Rows) → KeyIsKept schema q events p key rows → (rows ≡ []) ⊎ ((at : ℕ) × HasKeyAt schema q events key at)
 key_cases schema q events p key [] s = inl refl
 key_cases schema q events p key (r ∷ rows) s =
     let list = All-head (λ (o : ℕ × List Root). IsUnionList p.nodes o.1) r rows s.stands.lists in
     let m = list_member p.nodes r.1 list.list in
     let has : Contains (members_of p.nodes r.1) m.0 = subst (λ (ms : List Member). Contains ms m.0) (sym m.2) (0, omega arith, refl) in
-    inr (go s.taken s.passed _ _ s.are_seen (s.stands.sound r.0 m.0 (inl (refl, has))))
+    inr (go s.taken s.no_op _ _ s.are_seen (s.stands.sound r.0 m.0 (inl (refl, has))))
   where
     go : (xs ys : List Seen) (s : Standing) (m : Member) → AreSeen schema q events key (xs ++ ys) → Reaches (automaton_of_cea p.table.cea) p.table.cea.strict xs s m → (at : ℕ) × HasKeyAt schema q events key at
     go [] ys s m are some = absurd some
@@ -137,7 +137,7 @@ is_below (suc n) k less = elim (cases_eq k n) [
 ]
 
 -- the entries of a query's lists, after so many events
-pub places_few : (schema : Declared) (q : Query) (events : List Event) (p : Part) → PartStands schema q events p → All HasStatesOnce p.rows → places p.rows ≤ length events * (length p.table.states * (length p.table.states + 2))
+pub places_few : (schema : Declared) (q : Query) (events : List Event) (p : QueryState) → QueryStateStands schema q events p → All HasStatesOnce p.rows → places p.rows ≤ length events * (length p.table.states * (length p.table.states + 2))
 places_few schema q events p s once =
     let b = length p.table.states * (length p.table.states + 2) in
     let all = spread schema q events b p.keys p.rows s.keys.distinct s.keys.lists

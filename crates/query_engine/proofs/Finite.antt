@@ -13,7 +13,7 @@ use Rattle.query_leaves.specs.Expand.{Occurrence, tree_of}
 use Rattle.query_leaves.specs.Leaves.{occurrences}
 use Rattle.cea_determinise.specs.declared.cea.Phase.{Phase}
 use Rattle.cea_determinise.specs.declared.cea.Phase.TheVariants.{Before, Within, After}
-use Rattle.cea_determinise.specs.Runs.{LeafSet, Automaton, RunState, start, pair, some_below, candidates, patient, agrees, readers, minds_next, waits_at_once, successor, has_leaf, next, has_mark}
+use Rattle.cea_determinise.specs.Runs.{LeafSet, Automaton, RunState, start, pair, some_below, candidates, skip_insensitive, agrees, readers, minds_next, waits_at_once, successor, has_leaf, next, has_mark}
 use Rattle.cea_determinise.specs.Strict.{Standing, begin, phase_after, next_standing, run_standing}
 use Rattle.cea_compile.specs.Compiled.{automaton_of}
 use Rattle.cea_compile.specs.DeterminisedRuns.{from_to, reads_at, entry_at}
@@ -166,15 +166,15 @@ either true y z e = inl refl
 either false true z e = inr refl
 either false false z e = inl e
 
-patient_below : (a : Automaton) (m : ℕ) (s : RunState) (k : ℕ) → IsBelow m s → patient a s k ≡ true → k < m
-patient_below a m start k below is = absurd (let no : false ≡ true = is in cc)
-patient_below a m (pair f w) k below is = elim (either (f k) (w k) (some_below a.size (a.far k)) is) [ inl e ↦ below.0 k e | inr e ↦ below.1 k e ]
+skip_insensitive_below : (a : Automaton) (m : ℕ) (s : RunState) (k : ℕ) → IsBelow m s → skip_insensitive a s k ≡ true → k < m
+skip_insensitive_below a m start k below is = absurd (let no : false ≡ true = is in cc)
+skip_insensitive_below a m (pair f w) k below is = elim (either (f k) (w k) (some_below a.size (a.far k)) is) [ inl e ↦ below.0 k e | inr e ↦ below.1 k e ]
 
 successor_below : (a : Automaton) (m : ℕ) (s : RunState) (bits : LeafSet) (mark : Bool) → IsBelow m s → AllBelow m bits → IsBelow m (successor a s bits mark)
 successor_below a m s bits mark below read = (
   λ k is. reader k (and_front (readers a s bits mark k) (minds_next a k) is),
-  λ k is. elim (one_of (not mark && patient a s k) (readers a s bits mark k && waits_at_once a k) is) [
-    | inl past ↦ patient_below a m s k below (and_last (not mark) (patient a s k) past)
+  λ k is. elim (one_of (not mark && skip_insensitive a s k) (readers a s bits mark k && waits_at_once a k) is) [
+    | inl past ↦ skip_insensitive_below a m s k below (and_last (not mark) (skip_insensitive a s k) past)
     | inr now ↦ reader k (and_front (readers a s bits mark k) (waits_at_once a k) now)
   ],
 )

@@ -21,8 +21,8 @@ use Rattle.query_standing.proofs.Lists as lists
 use Rattle.query_standing.proofs.Reading.{any_contains, contains_any}
 use Rattle.all_or_none.specs.Phases.{is_among}
 use Rattle.all_or_none.specs.Dormancy.{HasTimes}
-use Rattle.query_part.specs.Parts.{reads_type}
-use Rattle.query_part.proofs.Clocks.{each_has_clock}
+use Rattle.query_state.specs.QueryStates.{reads_type}
+use Rattle.query_state.proofs.Clocks.{each_has_clock}
 use Rattle.query_engine.specs.declared.falls.FallOf.{FallOf}
 use Rattle.query_engine.specs.declared.times.Group.{Group}
 use Rattle.query_engine.specs.Times.{last_of, clocks_of, AreClocksOf, group_reads, IsGroupOf, IsMember, AreThose, AreGroups, AreTimes, IsBlankGroup, AreMoved, StaysInTime, row_of, HaveClocksIn, IsFirstGroup, StayInTime}

@@ -11,7 +11,7 @@ use Rattle.window_clock.specs.Places.{clock_in}
 use Rattle.query_standing.specs.Dormancy.{ShareClock}
 use Rattle.all_or_none.specs.Phases.{Phase, is_among, AreRising}
 use Rattle.all_or_none.proofs.Numbers.{among_next, among_at, found_at, read_other, read_there, as_long}
-use Rattle.query_part.specs.Parts.{reads_type}
+use Rattle.query_state.specs.QueryStates.{reads_type}
 use Rattle.query_engine.specs.declared.falls.FallOf.{FallOf}
 use Rattle.query_engine.specs.declared.times.Group.{Group}
 use Rattle.query_engine.specs.Times.{group_reads, AreThose, AreByType, AreHeadsIn, AreGroups, SharesWith, moved, AreMoved, StaysInTime, HaveClocksIn, IsFirstGroup, StayInTime}
@@ -21,8 +21,8 @@ use Rattle.query_engine.proofs.GroupClocks.{reads_as_first}
 
 -- A GROUP'S LEAST QUERY AMONG THE PARTS
 
-pub heads_in : (schema : Declared) (parts : List Phase) (count : ℕ) (groups : List Group) (numbers : List ℕ) → count ≤ length parts → AreGroups schema (map (λ (p : Phase). p.query) parts) count groups numbers → AreHeadsIn (length parts) groups
-heads_in schema parts count groups numbers few h k d inside =
+pub heads_in : (schema : Declared) (query_states : List Phase) (count : ℕ) (groups : List Group) (numbers : List ℕ) → count ≤ length query_states → AreGroups schema (map (λ (p : Phase). p.query) query_states) count groups numbers → AreHeadsIn (length query_states) groups
+heads_in schema query_states count groups numbers few h k d inside =
     let at = slice_get-get_or groups k d inside in
     let own = (h.each (slice_index_or groups k d) k at).numbered in
     let known = (h.known (slice_index_or groups k d) k at).0 in
@@ -31,28 +31,28 @@ heads_in schema parts count groups numbers few h k d inside =
 pub at_here : {A : Type 0} (xs : List A) (k : ℕ) (x : A) → k < length xs → x ≡ slice_index_or xs k x → slice_get xs k ≡ Some x
 at_here xs k x inside here = slice_get-get_or xs k x inside ∙ ap Some (sym here)
 
--- the group at a place shares the part's clock
-pub shares_here : (part : Phase) (groups : List Group) (parts : List Phase) (k : ℕ) (g : Group) (p : Phase) → slice_get groups k ≡ Some g → slice_get parts (g.query - 1) ≡ Some p → ShareClock part.schema part.query p.query → SharesWith part groups parts (k + 1)
-shares_here part groups parts k g p g_at p_at share x y x_at y_at =
+-- the group at a place shares the query state's clock
+pub shares_here : (query_state : Phase) (groups : List Group) (query_states : List Phase) (k : ℕ) (g : Group) (p : Phase) → slice_get groups k ≡ Some g → slice_get query_states (g.query - 1) ≡ Some p → ShareClock query_state.schema query_state.query p.query → SharesWith query_state groups query_states (k + 1)
+shares_here query_state groups query_states k g p g_at p_at share x y x_at y_at =
     let place : k + 1 - 1 ≡ k = omega arith in
     let one : g ≡ x = same_at groups k g x g_at (subst (λ i. slice_get groups i ≡ Some x) place x_at) in
-    let two : p ≡ y = same_at parts (g.query - 1) p y p_at (subst (λ (z : Group). slice_get parts (z.query - 1) ≡ Some y) (sym one) y_at) in
-    subst (λ (z : Phase). ShareClock part.schema part.query z.query) two share
+    let two : p ≡ y = same_at query_states (g.query - 1) p y p_at (subst (λ (z : Group). slice_get query_states (z.query - 1) ≡ Some y) (sym one) y_at) in
+    subst (λ (z : Phase). ShareClock query_state.schema query_state.query z.query) two share
 
 -- in terms of the queries
-pub shares_query : (schema : Declared) (part : Phase) (groups : List Group) (parts : List Phase) (number : ℕ) (q : Query) → part.schema ≡ schema → part.query ≡ q → SharesWith part groups parts number → (g : Group) (first : Query) → slice_get groups (number - 1) ≡ Some g → slice_get (map (λ (p : Phase). p.query) parts) (g.query - 1) ≡ Some first → ShareClock schema q first
-shares_query schema part groups parts number q schema_is query_is shares g first g_at first_at =
-    let m = mapped (λ (p : Phase). p.query) parts (g.query - 1) first first_at in
-    subst (λ (f : Query). ShareClock schema q f) m.2 (subst (λ (z : Query). ShareClock schema z m.0.query) query_is (subst (λ s. ShareClock s part.query m.0.query) schema_is (shares g m.0 g_at m.1)))
+pub shares_query : (schema : Declared) (query_state : Phase) (groups : List Group) (query_states : List Phase) (number : ℕ) (q : Query) → query_state.schema ≡ schema → query_state.query ≡ q → SharesWith query_state groups query_states number → (g : Group) (first : Query) → slice_get groups (number - 1) ≡ Some g → slice_get (map (λ (p : Phase). p.query) query_states) (g.query - 1) ≡ Some first → ShareClock schema q first
+shares_query schema query_state groups query_states number q schema_is query_is shares g first g_at first_at =
+    let m = mapped (λ (p : Phase). p.query) query_states (g.query - 1) first first_at in
+    subst (λ (f : Query). ShareClock schema q f) m.2 (subst (λ (z : Query). ShareClock schema z m.0.query) query_is (subst (λ s. ShareClock s query_state.query m.0.query) schema_is (shares g m.0 g_at m.1)))
 
 -- whether it reads the type
-pub reads_here : (schema : Declared) (parts : List Phase) (ty : ℕ) (g : Group) (p : Phase) (told : Bool) → slice_get parts (g.query - 1) ≡ Some p → p.schema ≡ schema → told ≡ reads_type p.schema p.query ty → group_reads schema (map (λ (x : Phase). x.query) parts) ty g ≡ told
-reads_here schema parts ty g p told at schema_is is =
-    reads_as_first schema (map (λ (x : Phase). x.query) parts) ty g p.query (map_at (λ (x : Phase). x.query) parts (g.query - 1) p at)
+pub reads_here : (schema : Declared) (query_states : List Phase) (ty : ℕ) (g : Group) (p : Phase) (told : Bool) → slice_get query_states (g.query - 1) ≡ Some p → p.schema ≡ schema → told ≡ reads_type p.schema p.query ty → group_reads schema (map (λ (x : Phase). x.query) query_states) ty g ≡ told
+reads_here schema query_states ty g p told at schema_is is =
+    reads_as_first schema (map (λ (x : Phase). x.query) query_states) ty g p.query (map_at (λ (x : Phase). x.query) query_states (g.query - 1) p at)
     ∙ (ap (λ s. reads_type s p.query ty) (sym schema_is) ∙ sym is)
 
-pub schema_here : (schema : Declared) (parts : List Phase) (k : ℕ) (p : Phase) → All (λ (x : Phase). x.schema ≡ schema) parts → k < length parts → p ≡ slice_index_or parts k p → p.schema ≡ schema
-schema_here schema parts k p schemas inside here = subst (λ (x : Phase). x.schema ≡ schema) (sym here) (schemas k p inside)
+pub schema_here : (schema : Declared) (query_states : List Phase) (k : ℕ) (p : Phase) → All (λ (x : Phase). x.schema ≡ schema) query_states → k < length query_states → p ≡ slice_index_or query_states k p → p.schema ≡ schema
+schema_here schema query_states k p schemas inside here = subst (λ (x : Phase). x.schema ≡ schema) (sym here) (schemas k p inside)
 
 -- one type more
 pub one_type : (schema : Declared) (queries : List Query) (groups : List Group) (count : ℕ) (rows more : List (Vec ℕ Global)) (row : Vec ℕ Global) → AreByType schema queries groups count rows → more ≡ rows ++ row ∷ [] → AreThose (group_reads schema queries count) (length groups) groups row.items → AreByType schema queries groups (count + 1) more

@@ -5,7 +5,7 @@ use Rattle.std.proofs.lemmas.Option.{slice_get_within}
 use Rattle.stream_schema.specs.Types.{Declared}
 use Rattle.cel_terms.specs.declared.Query.{Query}
 use Rattle.query_standing.specs.Dormancy.{ShareClock}
-use Rattle.query_standing.proofs.Parts.{length_more}
+use Rattle.query_standing.proofs.QueryStates.{length_more}
 use Rattle.all_or_none.specs.Phases.{is_among}
 use Rattle.all_or_none.proofs.Numbers.{among_push, rising_push}
 use Rattle.query_engine.specs.declared.times.Group.{Group}

@@ -1,4 +1,4 @@
--- What an event adds to the parts, and what cursors keep.
+-- What an event adds to the query states, and what cursors keep.
 use Rattle.std.proofs.Common.{◌≡◌, ℕ, zero, suc, ◌+◌, ◌-◌, ◌<◌, ◌≤◌, ℤ, List, [], ◌∷◌, ◌++◌, map, take, drop, slice_set, add-one, length, refl, sym, ap, ap₂, subst, ◌∙◌, All, Some, slice_get, slice_index_or, arith, length-append}
 use Rattle.std.specs.Prelude.{max}
 use Rattle.std.specs.Option.{option_map_or}
@@ -13,10 +13,10 @@ use Rattle.cer_base.specs.Members.{newest, need}
 use Rattle.cer_base.specs.Nodes.{tree}
 use Rattle.cer_base.proofs.Trees.{tree-append}
 use Rattle.tecs_enumerate.specs.declared.descent.Pending.{Pending}
-use Rattle.tecs_enumerate.specs.Rest.{CursorState, Room, HasRoom, AllHaveRoom, answers, rest_of}
+use Rattle.tecs_enumerate.specs.Remaining.{CursorState, Room, HasRoom, AllHaveRoom, answers, rest_of}
 use Rattle.query_standing.specs.Bounds.{update_bound}
 use Rattle.query_standing.specs.Clocks.{Reads}
-use Rattle.query_standing.specs.Kept.{Part, KeptFits, kept_rest, nodes_at}
+use Rattle.query_standing.specs.Kept.{QueryState, KeptFits, kept_rest, nodes_at}
 use Rattle.all_or_none.specs.Phases.{Phase, HasGrown}
 use Rattle.query_engine.specs.Engine.{kept_of}
 use Rattle.query_engine.specs.Running.{raised}
@@ -36,12 +36,12 @@ walk_grown low old more room path (e ∷ below) h =
     } in
     ((fits, others.0), ap₂ (λ a b. a ++ b) (ap (answers low (take e.prefix path)) same) others.1)
 
--- how many nodes, and how many states, the part at a place has
+-- how many nodes, and how many states, the query state at a place has
 abbrev pub nodes_there : List Phase → ℕ → ℕ
-nodes_there parts k = option_map_or (λ (p : Part). length p.nodes) (slice_get (map (λ (p : Phase). p.kept) parts) k) 0
+nodes_there query_states k = option_map_or (λ (p : QueryState). length p.nodes) (slice_get (map (λ (p : Phase). p.kept) query_states) k) 0
 
 abbrev pub states_there : List Phase → ℕ → ℕ
-states_there parts k = option_map_or (λ (p : Part). length p.table.states) (slice_get (map (λ (p : Phase). p.kept) parts) k) 0
+states_there query_states k = option_map_or (λ (p : QueryState). length p.table.states) (slice_get (map (λ (p : Phase). p.kept) query_states) k) 0
 
 pub grown_there : (event : Event) (old new : List Phase) (k : ℕ) → AllZip (HasGrown event) old new → nodes_there new k ≤ nodes_there old k + update_bound (states_there new k)
 grown_there event [] [] k z = omega arith
@@ -72,7 +72,7 @@ unread_there schema event (o ∷ old) (n ∷ new) zero q z schemas at unread =
 unread_there schema event (o ∷ old) (n ∷ new) (suc k) q z schemas at unread = unread_there schema event old new k q z.1 (All-tail (λ (p : Phase). p.schema ≡ schema) o old schemas) at unread
 
 -- the nodes at a place stay, and more come after
-nodes_at_place : (event : Event) (old new : List Phase) (k : ℕ) → AllZip (HasGrown event) old new → (more : List Node) × (option_map_or (λ (p : Part). p.nodes) (slice_get (map (λ (p : Phase). p.kept) new) k) [] ≡ option_map_or (λ (p : Part). p.nodes) (slice_get (map (λ (p : Phase). p.kept) old) k) [] ++ more)
+nodes_at_place : (event : Event) (old new : List Phase) (k : ℕ) → AllZip (HasGrown event) old new → (more : List Node) × (option_map_or (λ (p : QueryState). p.nodes) (slice_get (map (λ (p : Phase). p.kept) new) k) [] ≡ option_map_or (λ (p : QueryState). p.nodes) (slice_get (map (λ (p : Phase). p.kept) old) k) [] ++ more)
 nodes_at_place event [] [] k z = ([], refl)
 nodes_at_place event [] (n ∷ new) k z = absurd z
 nodes_at_place event (o ∷ old) [] k z = absurd z
@@ -118,31 +118,31 @@ same_count event (o ∷ old) [] z = absurd z
 same_count event (o ∷ old) (n ∷ new) z = let rest = same_count event old new z.1 in omega arith
 
 -- the greater of what it was and how many nodes there are
-pub raised_there : (xs : List ℕ) (parts : List Phase) (k : ℕ) → length xs ≡ length parts → slice_index_or (raised xs parts) k 0 ≡ max (slice_index_or xs k 0) (nodes_there parts k)
+pub raised_there : (xs : List ℕ) (query_states : List Phase) (k : ℕ) → length xs ≡ length query_states → slice_index_or (raised xs query_states) k 0 ≡ max (slice_index_or xs k 0) (nodes_there query_states k)
 raised_there [] [] k e = refl
-raised_there [] (p ∷ parts) k e = absurd (omega arith)
+raised_there [] (p ∷ query_states) k e = absurd (omega arith)
 raised_there (x ∷ xs) [] k e = absurd (omega arith)
-raised_there (x ∷ xs) (p ∷ parts) zero e = refl
-raised_there (x ∷ xs) (p ∷ parts) (suc k) e = raised_there xs parts k (omega arith)
+raised_there (x ∷ xs) (p ∷ query_states) zero e = refl
+raised_there (x ∷ xs) (p ∷ query_states) (suc k) e = raised_there xs query_states k (omega arith)
 
-pub raised_count : (xs : List ℕ) (parts : List Phase) → length (raised xs parts) ≡ length xs
-raised_count [] parts = refl
+pub raised_count : (xs : List ℕ) (query_states : List Phase) → length (raised xs query_states) ≡ length xs
+raised_count [] query_states = refl
 raised_count (x ∷ xs) [] = refl
-raised_count (x ∷ xs) (p ∷ parts) = let rest = raised_count xs parts in omega arith
+raised_count (x ∷ xs) (p ∷ query_states) = let rest = raised_count xs query_states in omega arith
 
-raise_suc : (xs ys : List ℕ) (parts : List Phase) (k v : ℕ) → k < length xs → length xs ≡ length ys → length ys ≡ length parts → drop k xs ≡ drop k ys → take k xs ≡ take k (raised ys parts) → v ≡ max (slice_index_or xs k 0) (nodes_there parts k) → take (suc k) (slice_set xs k v) ≡ take (suc k) (raised ys parts)
-raise_suc [] ys parts k v l e f left done is = absurd (omega arith)
-raise_suc (x ∷ xs) [] parts k v l e f left done is = absurd (omega arith)
+raise_suc : (xs ys : List ℕ) (query_states : List Phase) (k v : ℕ) → k < length xs → length xs ≡ length ys → length ys ≡ length query_states → drop k xs ≡ drop k ys → take k xs ≡ take k (raised ys query_states) → v ≡ max (slice_index_or xs k 0) (nodes_there query_states k) → take (suc k) (slice_set xs k v) ≡ take (suc k) (raised ys query_states)
+raise_suc [] ys query_states k v l e f left done is = absurd (omega arith)
+raise_suc (x ∷ xs) [] query_states k v l e f left done is = absurd (omega arith)
 raise_suc (x ∷ xs) (y ∷ ys) [] k v l e f left done is = absurd (omega arith)
-raise_suc (x ∷ xs) (y ∷ ys) (p ∷ parts) zero v l e f left done is = let same : x ≡ y = cc in ap (λ z. z ∷ []) (is ∙ ap (λ z. max z (length p.kept.nodes)) same)
-raise_suc (x ∷ xs) (y ∷ ys) (p ∷ parts) (suc k) v l e f left done is =
+raise_suc (x ∷ xs) (y ∷ ys) (p ∷ query_states) zero v l e f left done is = let same : x ≡ y = cc in ap (λ z. z ∷ []) (is ∙ ap (λ z. max z (length p.kept.nodes)) same)
+raise_suc (x ∷ xs) (y ∷ ys) (p ∷ query_states) (suc k) v l e f left done is =
     let head : x ≡ max y (length p.kept.nodes) = cc in
-    let rest : take k xs ≡ take k (raised ys parts) = cc in
-    ap₂ (λ a b. a ∷ b) head (raise_suc xs ys parts k v (omega arith) (omega arith) (omega arith) left rest is)
+    let rest : take k xs ≡ take k (raised ys query_states) = cc in
+    ap₂ (λ a b. a ∷ b) head (raise_suc xs ys query_states k v (omega arith) (omega arith) (omega arith) left rest is)
 
 -- one peak more is raised
-pub raise_next : (xs ys : List ℕ) (parts : List Phase) (k v : ℕ) → k < length xs → length xs ≡ length ys → length ys ≡ length parts → drop k xs ≡ drop k ys → take k xs ≡ take k (raised ys parts) → v ≡ max (slice_index_or xs k 0) (nodes_there parts k) → take (k + 1) (slice_set xs k v) ≡ take (k + 1) (raised ys parts)
-raise_next xs ys parts k v l e f left done is = rw add-one (raise_suc xs ys parts k v l e f left done is)
+pub raise_next : (xs ys : List ℕ) (query_states : List Phase) (k v : ℕ) → k < length xs → length xs ≡ length ys → length ys ≡ length query_states → drop k xs ≡ drop k ys → take k xs ≡ take k (raised ys query_states) → v ≡ max (slice_index_or xs k 0) (nodes_there query_states k) → take (k + 1) (slice_set xs k v) ≡ take (k + 1) (raised ys query_states)
+raise_next xs ys query_states k v l e f left done is = rw add-one (raise_suc xs ys query_states k v l e f left done is)
 
 take_whole : {X : Type 0} (xs : List X) (k : ℕ) → length xs ≤ k → take k xs ≡ xs
 take_whole [] zero l = refl
@@ -151,11 +151,11 @@ take_whole (x ∷ xs) zero l = absurd (omega arith)
 take_whole (x ∷ xs) (suc k) l = ap (λ zs. x ∷ zs) (take_whole xs k (omega arith))
 
 -- where the walk ends, all are raised
-pub all_raised : (xs ys : List ℕ) (parts : List Phase) (k : ℕ) → length xs ≤ k → length xs ≡ length ys → take k xs ≡ take k (raised ys parts) → xs ≡ raised ys parts
-all_raised xs ys parts k l e same = sym (take_whole xs k l) ∙ (same ∙ take_whole (raised ys parts) k (let c = raised_count ys parts in omega arith))
+pub all_raised : (xs ys : List ℕ) (query_states : List Phase) (k : ℕ) → length xs ≤ k → length xs ≡ length ys → take k xs ≡ take k (raised ys query_states) → xs ≡ raised ys query_states
+all_raised xs ys query_states k l e same = sym (take_whole xs k l) ∙ (same ∙ take_whole (raised ys query_states) k (let c = raised_count ys query_states in omega arith))
 
--- the part at a place has so many nodes
-pub nodes_are : (parts : List Phase) (k : ℕ) (d : Phase) → k < length parts → nodes_there parts k ≡ length (slice_index_or parts k d).kept.nodes
+-- the query state at a place has so many nodes
+pub nodes_are : (query_states : List Phase) (k : ℕ) (d : Phase) → k < length query_states → nodes_there query_states k ≡ length (slice_index_or query_states k d).kept.nodes
 nodes_are [] k d l = absurd (omega arith)
-nodes_are (p ∷ parts) zero d l = refl
-nodes_are (p ∷ parts) (suc k) d l = nodes_are parts k d (omega arith)
+nodes_are (p ∷ query_states) zero d l = refl
+nodes_are (p ∷ query_states) (suc k) d l = nodes_are query_states k d (omega arith)

@@ -7,10 +7,10 @@ use Rattle.cel_terms.specs.declared.Query.{Query}
 use Rattle.all_or_none.specs.Phases.{Phase, is_among, MayAnswer}
 use Rattle.all_or_none.proofs.Numbers.{among_push, rising_push}
 pub use Rattle.all_or_none.proofs.Numbers.{among_at, found_at}
-use Rattle.query_engine.specs.Engine.{State, IsNumber, count_of}
+use Rattle.query_engine.specs.Engine.{EngineState, IsNumber, count_of}
 use Rattle.query_engine.specs.Running.{AreNamed, IsNoted, AreAnswering}
 use Rattle.query_engine.proofs.Standing.{state, mapped, length_map}
-use Rattle.query_engine.proofs.Asking.{part_no_answer}
+use Rattle.query_engine.proofs.Asking.{query_state_no_answer}
 
 -- no element yet
 pub named_none : {A : Type 0} (Others : A → Type 0) (xs : List A) (numbers : List ℕ) → numbers ≡ [] → AreNamed Others 0 xs numbers
@@ -56,52 +56,52 @@ named_map P Q f xs numbers so h = record {
       );
 }
 
--- of all queries there is one for each part
-pub noted_first : (parts seen_parts : List Phase) (touched all : List ℕ) → AreNamed (λ (p : Phase). ⊥) (length parts) parts all → IsNoted (map (λ (p : Phase). p.query) parts) seen_parts false touched all
-noted_first parts seen_parts touched all every = record {
+-- of all queries there is one for each query state
+pub noted_first : (query_states seen_query_states : List Phase) (touched all : List ℕ) → AreNamed (λ (p : Phase). ⊥) (length query_states) query_states all → IsNoted (map (λ (p : Phase). p.query) query_states) seen_query_states false touched all
+noted_first query_states seen_query_states touched all every = record {
   answering = λ told. absurd (false≢true told);
-  every = named_map (λ (p : Phase). ⊥) (λ (q : Query). ⊥) (λ (p : Phase). p.query) parts all (λ p no. no) every;
+  every = named_map (λ (p : Phase). ⊥) (λ (q : Query). ⊥) (λ (p : Phase). p.query) query_states all (λ p no. no) every;
 }
 
 -- what is noted of the same queries stays
-pub noted_same : (old new : List Query) (parts later : List Phase) (told now : Bool) (touched more all : List ℕ) → new ≡ old → IsNoted old parts told touched all → (now ≡ true → MayAnswer more later) → IsNoted new later now more all
-noted_same old new parts later told now touched more all is h answering = record {
+pub noted_same : (old new : List Query) (query_states later : List Phase) (told now : Bool) (touched more all : List ℕ) → new ≡ old → IsNoted old query_states told touched all → (now ≡ true → MayAnswer more later) → IsNoted new later now more all
+noted_same old new query_states later told now touched more all is h answering = record {
   answering = answering;
   every = subst (λ qs. AreNamed (λ (q : Query). ⊥) (length qs) qs all) (sym is) h.every;
 }
 
 -- The numbers are of queries.
-is_number : (schema : Declared) (count : ℕ) (parts : List Phase) (peaks : List ℕ) (s : State) (n : ℕ) → state schema count parts peaks ≡ s → 1 ≤ n → n ≤ length parts → IsNumber s n
-is_number schema count parts peaks s n is low high =
-    let many = ap (λ (t : State). length t.queries) is in
-    let same = length_map (λ (p : Phase). p.query) parts in
+is_number : (schema : Declared) (count : ℕ) (query_states : List Phase) (peaks : List ℕ) (s : EngineState) (n : ℕ) → state schema count query_states peaks ≡ s → 1 ≤ n → n ≤ length query_states → IsNumber s n
+is_number schema count query_states peaks s n is low high =
+    let many = ap (λ (t : EngineState). length t.queries) is in
+    let same = length_map (λ (p : Phase). p.query) query_states in
     (omega arith, omega arith)
 
-part_here : (parts : List Phase) (k : ℕ) (p : Phase) → slice_get parts k ≡ Some p → p ≡ slice_index_or parts k p
-part_here parts k p at = let both = sym at ∙ slice_get-get_or parts k p (slice_get_within parts k p at) in cc
+query_state_here : (query_states : List Phase) (k : ℕ) (p : Phase) → slice_get query_states k ≡ Some p → p ≡ slice_index_or query_states k p
+query_state_here query_states k p at = let both = sym at ∙ slice_get-get_or query_states k p (slice_get_within query_states k p at) in cc
 
--- those of the parts that the last event did not pass by
-pub told_answering : (schema : Declared) (count : ℕ) (parts : List Phase) (peaks : List ℕ) (s : State) (numbers : List ℕ) → state schema count parts peaks ≡ s → 0 < count_of s → MayAnswer numbers parts → AreAnswering s numbers
-told_answering schema count parts peaks s numbers is some h = record {
+-- those of the query states for which the last event was not a no-op
+pub told_answering : (schema : Declared) (count : ℕ) (query_states : List Phase) (peaks : List ℕ) (s : EngineState) (numbers : List ℕ) → state schema count query_states peaks ≡ s → 0 < count_of s → MayAnswer numbers query_states → AreAnswering s numbers
+told_answering schema count query_states peaks s numbers is some h = record {
   rising = h.rising;
-  within = λ n among. (let w = h.within n among in is_number schema count parts peaks s n is w.0 w.1);
+  within = λ n among. (let w = h.within n among in is_number schema count query_states peaks s n is w.0 w.1);
   others = λ k q events at among stands. (
-      let m = mapped (λ (p : Phase). p.query) parts k q (subst (λ (t : State). slice_get t.queries k ≡ Some q) (sym is) at) in
-      let inside = slice_get_within parts k m.0 m.1 in
+      let m = mapped (λ (p : Phase). p.query) query_states k q (subst (λ (t : EngineState). slice_get t.queries k ≡ Some q) (sym is) at) in
+      let inside = slice_get_within query_states k m.0 m.1 in
       let place : k ≡ k + 1 - 1 = omega arith in
-      part_no_answer schema count parts peaks s (k + 1) m.0 is some (is_number schema count parts peaks s (k + 1) is (omega arith) (omega arith))
-      (subst (λ j. m.0 ≡ slice_index_or parts j m.0) place (part_here parts k m.0 m.1))
+      query_state_no_answer schema count query_states peaks s (k + 1) m.0 is some (is_number schema count query_states peaks s (k + 1) is (omega arith) (omega arith))
+      (subst (λ j. m.0 ≡ slice_index_or query_states j m.0) place (query_state_here query_states k m.0 m.1))
       (h.others k m.0 m.1 among) events q stands (subst (λ j. slice_get s.queries j ≡ Some q) place at)
       );
 }
 
 -- all numbers
-pub all_answering : (schema : Declared) (count : ℕ) (parts : List Phase) (peaks : List ℕ) (s : State) (numbers : List ℕ) → state schema count parts peaks ≡ s → AreNamed (λ (q : Query). ⊥) (length (map (λ (p : Phase). p.query) parts)) (map (λ (p : Phase). p.query) parts) numbers → AreAnswering s numbers
-all_answering schema count parts peaks s numbers is h = record {
+pub all_answering : (schema : Declared) (count : ℕ) (query_states : List Phase) (peaks : List ℕ) (s : EngineState) (numbers : List ℕ) → state schema count query_states peaks ≡ s → AreNamed (λ (q : Query). ⊥) (length (map (λ (p : Phase). p.query) query_states)) (map (λ (p : Phase). p.query) query_states) numbers → AreAnswering s numbers
+all_answering schema count query_states peaks s numbers is h = record {
   rising = h.rising;
-  within = λ n among. (let w = h.within n among in let high = w.1 in let long = length_map (λ (p : Phase). p.query) parts in is_number schema count parts peaks s n is w.0 (omega arith));
+  within = λ n among. (let w = h.within n among in let high = w.1 in let long = length_map (λ (p : Phase). p.query) query_states in is_number schema count query_states peaks s n is w.0 (omega arith));
   others = λ k q events at among stands. (
-      let here = subst (λ (t : State). slice_get t.queries k ≡ Some q) (sym is) at in
-      absurd (h.others k q (slice_get_within (map (λ (p : Phase). p.query) parts) k q here) here among)
+      let here = subst (λ (t : EngineState). slice_get t.queries k ≡ Some q) (sym is) at in
+      absurd (h.others k q (slice_get_within (map (λ (p : Phase). p.query) query_states) k q here) here among)
       );
 }

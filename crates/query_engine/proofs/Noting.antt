@@ -8,23 +8,23 @@ use Rattle.query_standing.specs.Clocks.{NoneFallsBack, IsFirstToFall}
 use Rattle.all_or_none.specs.Phases.{Phase, AreRising}
 use Rattle.query_engine.specs.declared.falls.FallOf.{FallOf}
 use Rattle.query_engine.specs.declared.times.Times.{Times}
-use Rattle.query_engine.specs.Engine.{State, StandsFor}
-use Rattle.query_engine.specs.Times.{clocks_of, clocks_in, AreClocksOf, AreTimes, AreMoved, row_of, HaveClocksIn, IsFirstGroup, StayInTime, parts_at}
+use Rattle.query_engine.specs.Engine.{EngineState, StandsFor}
+use Rattle.query_engine.specs.Times.{clocks_of, clocks_in, AreClocksOf, AreTimes, AreMoved, row_of, HaveClocksIn, IsFirstGroup, StayInTime, query_states_at}
 use Rattle.query_engine.specs.Running.{IsKeeping}
 use Rattle.query_engine.proofs.Standing.{state, length_map}
 use Rattle.query_engine.proofs.Taking.{GoOn, falls_first, none_first}
 use Rattle.query_engine.proofs.GroupClocks.{row_is, have_clocks_in, clocks_go_on, moved_times, none_falls_back, first_falls}
 
--- the queries of the parts
+-- the queries of the query states
 abbrev pub queries_of : List Phase → List Query
-queries_of parts = map (λ (p : Phase). p.query) parts
+queries_of query_states = map (λ (p : Phase). p.query) query_states
 
 -- the groups are those of the queries
 abbrev pub AreTimesOf : Declared → List Query → Times → Type 0
 AreTimesOf schema queries times = AreTimes schema queries times.groups.items times.numbers.items times.by_type.items
 
-pub of_inside : (schema : Declared) (count : ℕ) (parts : List Phase) (ps : List ℕ) (s : State) (event : Event) → state schema count parts ps ≡ s → IsOfSchema s.schema event → IsOfSchema schema event
-of_inside schema count parts ps s event is of = subst (λ (t : State). IsOfSchema t.schema event) (sym is) of
+pub of_inside : (schema : Declared) (count : ℕ) (query_states : List Phase) (ps : List ℕ) (s : EngineState) (event : Event) → state schema count query_states ps ≡ s → IsOfSchema s.schema event → IsOfSchema schema event
+of_inside schema count query_states ps s event is of = subst (λ (t : EngineState). IsOfSchema t.schema event) (sym is) of
 
 module _ (schema : Declared) (queries : List Query) (times : Times) (t : AreTimesOf schema queries times) (event : Event) (of : IsOfSchema schema event) where
   pub can_note : (position : ℕ) → HaveClocksIn event position times.groups.items (row_of times.by_type.items event.ty)
@@ -52,19 +52,19 @@ pub times_same : (schema : Declared) (old new : List Query) (times : Times) → 
 times_same schema old new times is t = subst (λ qs. AreTimesOf schema qs times) (sym is) t
 
 -- where a group is the first to fall, its least query is the first
-pub engine_falls : (schema : Declared) (count : ℕ) (times : Times) (parts : List Phase) (ps : List ℕ) (s : State) (event : Event) (f : FallOf) → state schema count (parts_at count parts (clocks_in times)) ps ≡ s → IsKeeping schema count (clocks_in times) parts ps → AreTimesOf schema (queries_of parts) times → IsOfSchema schema event → IsFirstGroup event count times.groups.items (row_of times.by_type.items event.ty) f → (events : List Event) → StandsFor s events → IsFirstToFall s.schema s.queries events event f.query f.before f.now
-engine_falls schema count times parts ps s event f is keeps t of first =
-    falls_first schema count (clocks_in times) parts ps s event f is keeps (λ events count_is are.
-    first_falls schema (queries_of parts) times.groups.items times.numbers.items times.by_type.items t event of events are f
+pub engine_falls : (schema : Declared) (count : ℕ) (times : Times) (query_states : List Phase) (ps : List ℕ) (s : EngineState) (event : Event) (f : FallOf) → state schema count (query_states_at count query_states (clocks_in times)) ps ≡ s → IsKeeping schema count (clocks_in times) query_states ps → AreTimesOf schema (queries_of query_states) times → IsOfSchema schema event → IsFirstGroup event count times.groups.items (row_of times.by_type.items event.ty) f → (events : List Event) → StandsFor s events → IsFirstToFall s.schema s.queries events event f.query f.before f.now
+engine_falls schema count times query_states ps s event f is keeps t of first =
+    falls_first schema count (clocks_in times) query_states ps s event f is keeps (λ events count_is are.
+    first_falls schema (queries_of query_states) times.groups.items times.numbers.items times.by_type.items t event of events are f
     (subst (λ n. IsFirstGroup event n times.groups.items (row_of times.by_type.items event.ty) f) (sym count_is) first))
 
 -- and where none falls no query does
-pub engine_in_time : (schema : Declared) (count : ℕ) (times : Times) (parts : List Phase) (ps : List ℕ) (s : State) (event : Event) → state schema count (parts_at count parts (clocks_in times)) ps ≡ s → IsKeeping schema count (clocks_in times) parts ps → AreTimesOf schema (queries_of parts) times → IsOfSchema schema event → StayInTime event count times.groups.items (row_of times.by_type.items event.ty) → (events : List Event) → StandsFor s events → NoneFallsBack s.schema s.queries events event
-engine_in_time schema count times parts ps s event is keeps t of stay =
-    none_first schema count (clocks_in times) parts ps s event is keeps (λ events count_is are.
-    none_falls_back schema (queries_of parts) times.groups.items times.numbers.items times.by_type.items t event of events are
+pub engine_in_time : (schema : Declared) (count : ℕ) (times : Times) (query_states : List Phase) (ps : List ℕ) (s : EngineState) (event : Event) → state schema count (query_states_at count query_states (clocks_in times)) ps ≡ s → IsKeeping schema count (clocks_in times) query_states ps → AreTimesOf schema (queries_of query_states) times → IsOfSchema schema event → StayInTime event count times.groups.items (row_of times.by_type.items event.ty) → (events : List Event) → StandsFor s events → NoneFallsBack s.schema s.queries events event
+engine_in_time schema count times query_states ps s event is keeps t of stay =
+    none_first schema count (clocks_in times) query_states ps s event is keeps (λ events count_is are.
+    none_falls_back schema (queries_of query_states) times.groups.items times.numbers.items times.by_type.items t event of events are
     (subst (λ n. StayInTime event n times.groups.items (row_of times.by_type.items event.ty)) (sym count_is) stay))
 
--- as many numbers as there are parts
-pub times_long : (schema : Declared) (parts : List Phase) (times : Times) → AreTimesOf schema (queries_of parts) times → length times.numbers.items ≡ length parts
-times_long schema parts times t = t.groups_are.long ∙ length_map (λ (p : Phase). p.query) parts
+-- as many numbers as there are query states
+pub times_long : (schema : Declared) (query_states : List Phase) (times : Times) → AreTimesOf schema (queries_of query_states) times → length times.numbers.items ≡ length query_states
+times_long schema query_states times t = t.groups_are.long ∙ length_map (λ (p : Phase). p.query) query_states

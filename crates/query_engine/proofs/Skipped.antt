@@ -9,22 +9,22 @@ use Rattle.stream_schema.specs.Types.{Declared, IsWellDeclared}
 use Rattle.stream_schema.specs.declared.Event.{Event}
 use Rattle.cel_terms.specs.declared.Query.{Query}
 use Rattle.cel_terms.proofs.Undeclared.{left_out}
-use Rattle.tecs_enumerate.specs.Rest as walks
+use Rattle.tecs_enumerate.specs.Remaining as walks
 use Rattle.arena_compact.specs.Moves.{later}
 use Rattle.query_standing.specs.Clocks.{Reads, HasClockAt, IsLastClock}
-use Rattle.query_standing.specs.Kept.{Part, PartStands, KeptStands}
-use Rattle.query_standing.proofs.Parts.{part_skips}
-use Rattle.all_or_none.specs.Phases.{Phase, IsIdle, IsQuiet}
-use Rattle.all_or_none.specs.Dormancy.{dormant_at}
-use Rattle.query_engine.specs.Engine.{State, Open, StandsFor, kept_of, count_of, found_of, len_of, peak_of, Fits, rest, SameQueries, KeepsCursors}
-use Rattle.query_engine.specs.Times.{with_clock, parts_at, IsAfter}
+use Rattle.query_standing.specs.Kept.{QueryState, QueryStateStands, KeptStands}
+use Rattle.query_standing.proofs.QueryStates.{query_state_skips}
+use Rattle.all_or_none.specs.Phases.{Phase, IsIdle, HasNoAnswer}
+use Rattle.all_or_none.specs.Dormancy.{phase_at}
+use Rattle.query_engine.specs.Engine.{EngineState, Open, StandsFor, kept_of, count_of, found_of, len_of, peak_of, Fits, rest, SameQueries, KeepsCursors}
+use Rattle.query_engine.specs.Times.{with_clock, query_states_at, IsAfter}
 use Rattle.query_engine.specs.Running.{IsRunning, IsKeeping}
 use Rattle.query_engine.specs.Windows.{later_of, IsReadFrom, IsDense, IsRecentAt, FollowsWindowSince}
-use Rattle.query_engine.specs.Machine.{Machine, with_event, Taken, IsCursor, IsMachine}
+use Rattle.query_engine.specs.EngineModel.{EngineModel, with_event, Taken, IsCursor, IsEngineModel}
 use Rattle.query_engine.specs.Skipping.{IsBlank, AreBlanks, KeepsAll, TakesAll}
-use Rattle.query_engine.proofs.Standing.{state, from_parts, to_parts, length_map}
+use Rattle.query_engine.proofs.Standing.{state, from_query_states, to_query_states, length_map}
 use Rattle.query_engine.proofs.Keeping.{running, keeping}
-use Rattle.query_engine.proofs.Machine.{zip_weaker, cursor_on}
+use Rattle.query_engine.proofs.EngineModel.{zip_weaker, cursor_on}
 use Rattle.query_engine.proofs.Windows.{bounded_on, clock_inside, still_clock}
 
 -- BLANK EVENTS
@@ -58,90 +58,90 @@ some_blanks schema before after upto = record { blank = all_blank schema (after 
 
 -- PARTS
 
-stands_on : (schema : Declared) (q : Query) (events blanks : List Event) (part : Part) → IsWellDeclared schema → All (IsBlank schema) blanks → 0 < length blanks → PartStands schema q events part → PartStands schema q (events ++ blanks) (record part { here = None })
-stands_on schema q events [] part well blank some stands = absurd (omega arith)
-stands_on schema q events (event ∷ later) part well blank some stands =
-    part_skips schema q events event later part stands (blank_unread schema q event well (All-head (IsBlank schema) event later blank))
+stands_on : (schema : Declared) (q : Query) (events blanks : List Event) (query_state : QueryState) → IsWellDeclared schema → All (IsBlank schema) blanks → 0 < length blanks → QueryStateStands schema q events query_state → QueryStateStands schema q (events ++ blanks) (record query_state { here = None })
+stands_on schema q events [] query_state well blank some stands = absurd (omega arith)
+stands_on schema q events (event ∷ later) query_state well blank some stands =
+    query_state_skips schema q events event later query_state stands (blank_unread schema q event well (All-head (IsBlank schema) event later blank))
     (All-weaker (IsBlank schema) (λ e. Reads schema q e → ⊥) (λ e b. blank_unread schema q e well b) later (All-tail (IsBlank schema) event later blank))
 
--- the part with no answer at the last event
+-- the query state with no answer at the last event
 abbrev pub unanswered : Phase → Phase
 unanswered p = record p { kept = record p.kept { here = None } }
 
 -- What an event did not reach is, after later ones, as if none had a key.
-passed_one : (from to : ℕ) (c : Option ℤ) (p : Phase) → p.upto ≤ from → from < to → with_clock c (dormant_at to p) ≡ unanswered (with_clock c (dormant_at from p))
-passed_one from to c p known further = ap (λ b. with_clock c (record p { kept = record p.kept { here = if b then p.kept.here else None } })) (ne_eqb to p.upto (λ same. (omega arith)))
+no_op_one : (from to : ℕ) (c : Option ℤ) (p : Phase) → p.upto ≤ from → from < to → with_clock c (phase_at to p) ≡ unanswered (with_clock c (phase_at from p))
+no_op_one from to c p known further = ap (λ b. with_clock c (record p { kept = record p.kept { here = if b then p.kept.here else None } })) (ne_eqb to p.upto (λ same. (omega arith)))
 
-pub passed_all : (from to : ℕ) (parts : List Phase) (clocks : List (Option ℤ)) → All (λ (p : Phase). p.upto ≤ from) parts → from < to → parts_at to parts clocks ≡ map unanswered (parts_at from parts clocks)
-passed_all from to [] clocks known further = refl
-passed_all from to (p ∷ parts) clocks known further =
-    ap₂ (λ x xs. x ∷ xs) (passed_one from to (slice_index_or clocks 0 None) p (All-head (λ (x : Phase). x.upto ≤ from) p parts known) further) (passed_all from to parts (drop 1 clocks) (All-tail (λ (x : Phase). x.upto ≤ from) p parts known) further)
+pub no_op_all : (from to : ℕ) (query_states : List Phase) (clocks : List (Option ℤ)) → All (λ (p : Phase). p.upto ≤ from) query_states → from < to → query_states_at to query_states clocks ≡ map unanswered (query_states_at from query_states clocks)
+no_op_all from to [] clocks known further = refl
+no_op_all from to (p ∷ query_states) clocks known further =
+    ap₂ (λ x xs. x ∷ xs) (no_op_one from to (slice_index_or clocks 0 None) p (All-head (λ (x : Phase). x.upto ≤ from) p query_states known) further) (no_op_all from to query_states (drop 1 clocks) (All-tail (λ (x : Phase). x.upto ≤ from) p query_states known) further)
 
-part_on : (schema : Declared) (events blanks : List Event) (p : Phase) → p.schema ≡ schema → IsWellDeclared schema → All (IsBlank schema) blanks → 0 < length blanks → IsAfter events p → IsAfter (events ++ blanks) (unanswered p)
-part_on schema events blanks p is well blank some stands =
+query_state_on : (schema : Declared) (events blanks : List Event) (p : Phase) → p.schema ≡ schema → IsWellDeclared schema → All (IsBlank schema) blanks → 0 < length blanks → IsAfter events p → IsAfter (events ++ blanks) (unanswered p)
+query_state_on schema events blanks p is well blank some stands =
     stands_on p.schema p.query events blanks p.kept (subst IsWellDeclared (sym is) well) (subst (λ (s : Declared). All (IsBlank s) blanks) (sym is) blank) some stands
 
-parts_on : (schema : Declared) (events blanks : List Event) (parts : List Phase) → All (λ (p : Phase). p.schema ≡ schema) parts → IsWellDeclared schema → All (IsBlank schema) blanks → 0 < length blanks → All (IsAfter events) parts → All (IsAfter (events ++ blanks)) (map unanswered parts)
-parts_on schema events blanks [] schemas well blank some all = All-nil (IsAfter (events ++ blanks))
-parts_on schema events blanks (p ∷ parts) schemas well blank some all =
-    All-cons (IsAfter (events ++ blanks)) (unanswered p) (map unanswered parts)
-    (part_on schema events blanks p (All-head (λ (x : Phase). x.schema ≡ schema) p parts schemas) well blank some (All-head (IsAfter events) p parts all))
-    (parts_on schema events blanks parts (All-tail (λ (x : Phase). x.schema ≡ schema) p parts schemas) well blank some (All-tail (IsAfter events) p parts all))
+query_states_on : (schema : Declared) (events blanks : List Event) (query_states : List Phase) → All (λ (p : Phase). p.schema ≡ schema) query_states → IsWellDeclared schema → All (IsBlank schema) blanks → 0 < length blanks → All (IsAfter events) query_states → All (IsAfter (events ++ blanks)) (map unanswered query_states)
+query_states_on schema events blanks [] schemas well blank some all = All-nil (IsAfter (events ++ blanks))
+query_states_on schema events blanks (p ∷ query_states) schemas well blank some all =
+    All-cons (IsAfter (events ++ blanks)) (unanswered p) (map unanswered query_states)
+    (query_state_on schema events blanks p (All-head (λ (x : Phase). x.schema ≡ schema) p query_states schemas) well blank some (All-head (IsAfter events) p query_states all))
+    (query_states_on schema events blanks query_states (All-tail (λ (x : Phase). x.schema ≡ schema) p query_states schemas) well blank some (All-tail (IsAfter events) p query_states all))
 
-passed_schemas : (schema : Declared) (parts : List Phase) → All (λ (p : Phase). p.schema ≡ schema) parts → All (λ (p : Phase). p.schema ≡ schema) (map unanswered parts)
-passed_schemas schema [] h = All-nil (λ (p : Phase). p.schema ≡ schema)
-passed_schemas schema (p ∷ parts) h = All-cons (λ (x : Phase). x.schema ≡ schema) (unanswered p) (map unanswered parts) (All-head (λ (x : Phase). x.schema ≡ schema) p parts h) (passed_schemas schema parts (All-tail (λ (x : Phase). x.schema ≡ schema) p parts h))
+no_op_schemas : (schema : Declared) (query_states : List Phase) → All (λ (p : Phase). p.schema ≡ schema) query_states → All (λ (p : Phase). p.schema ≡ schema) (map unanswered query_states)
+no_op_schemas schema [] h = All-nil (λ (p : Phase). p.schema ≡ schema)
+no_op_schemas schema (p ∷ query_states) h = All-cons (λ (x : Phase). x.schema ≡ schema) (unanswered p) (map unanswered query_states) (All-head (λ (x : Phase). x.schema ≡ schema) p query_states h) (no_op_schemas schema query_states (All-tail (λ (x : Phase). x.schema ≡ schema) p query_states h))
 
-passed_idle : (parts : List Phase) → All IsIdle parts → All IsIdle (map unanswered parts)
-passed_idle [] h = All-nil IsIdle
-passed_idle (p ∷ parts) h = All-cons IsIdle (unanswered p) (map unanswered parts) (All-head IsIdle p parts h) (passed_idle parts (All-tail IsIdle p parts h))
+no_op_idle : (query_states : List Phase) → All IsIdle query_states → All IsIdle (map unanswered query_states)
+no_op_idle [] h = All-nil IsIdle
+no_op_idle (p ∷ query_states) h = All-cons IsIdle (unanswered p) (map unanswered query_states) (All-head IsIdle p query_states h) (no_op_idle query_states (All-tail IsIdle p query_states h))
 
-passed_quiet : (count : ℕ) (parts : List Phase) → All (IsQuiet count) (map unanswered parts)
-passed_quiet count [] = All-nil (IsQuiet count)
-passed_quiet count (p ∷ parts) = All-cons (IsQuiet count) (unanswered p) (map unanswered parts) (λ stale. refl) (passed_quiet count parts)
+no_op_quiet : (count : ℕ) (query_states : List Phase) → All (HasNoAnswer count) (map unanswered query_states)
+no_op_quiet count [] = All-nil (HasNoAnswer count)
+no_op_quiet count (p ∷ query_states) = All-cons (HasNoAnswer count) (unanswered p) (map unanswered query_states) (λ stale. refl) (no_op_quiet count query_states)
 
-passed_queries : (parts : List Phase) → map (λ (p : Phase). p.query) (map unanswered parts) ≡ map (λ (p : Phase). p.query) parts
-passed_queries [] = refl
-passed_queries (p ∷ parts) = ap (λ qs. p.query ∷ qs) (passed_queries parts)
+no_op_queries : (query_states : List Phase) → map (λ (p : Phase). p.query) (map unanswered query_states) ≡ map (λ (p : Phase). p.query) query_states
+no_op_queries [] = refl
+no_op_queries (p ∷ query_states) = ap (λ qs. p.query ∷ qs) (no_op_queries query_states)
 
 -- of what is kept the number of the last key alone changes
-passed_kept : {A : Type 0} (f : Part → A) (d : A) → ((p : Part) → f (record p { here = None }) ≡ f p) → (parts : List Phase) (k : ℕ) →
-    option_map_or f (slice_get (map (λ (p : Phase). p.kept) (map unanswered parts)) k) d ≡ option_map_or f (slice_get (map (λ (p : Phase). p.kept) parts) k) d
-passed_kept f d same [] k = refl
-passed_kept f d same (p ∷ parts) zero = same p.kept
-passed_kept f d same (p ∷ parts) (suc k) = passed_kept f d same parts k
+no_op_kept : {A : Type 0} (f : QueryState → A) (d : A) → ((p : QueryState) → f (record p { here = None }) ≡ f p) → (query_states : List Phase) (k : ℕ) →
+    option_map_or f (slice_get (map (λ (p : Phase). p.kept) (map unanswered query_states)) k) d ≡ option_map_or f (slice_get (map (λ (p : Phase). p.kept) query_states) k) d
+no_op_kept f d same [] k = refl
+no_op_kept f d same (p ∷ query_states) zero = same p.kept
+no_op_kept f d same (p ∷ query_states) (suc k) = no_op_kept f d same query_states k
 
--- The parts of an engine that goes on, which stay as they are.
-pub record Went (schema : Declared) (from to : ℕ) (clocks : List (Option ℤ)) (parts : List Phase) (peaks : List ℕ) (s : State) : Type 0 where
+-- The query states of an engine that goes on, which stay as they are.
+pub record Went (schema : Declared) (from to : ℕ) (clocks : List (Option ℤ)) (query_states : List Phase) (peaks : List ℕ) (s : EngineState) : Type 0 where
   pub well : IsWellDeclared schema
   pub further : from < to
-  pub known : All (λ (p : Phase). p.upto ≤ from) parts
-  pub keeps : IsKeeping schema from clocks parts peaks
-  pub is : state schema from (parts_at from parts clocks) peaks ≡ s
+  pub known : All (λ (p : Phase). p.upto ≤ from) query_states
+  pub keeps : IsKeeping schema from clocks query_states peaks
+  pub is : state schema from (query_states_at from query_states clocks) peaks ≡ s
 
-module _ (schema : Declared) (from to : ℕ) (clocks : List (Option ℤ)) (parts : List Phase) (peaks : List ℕ) (s : State) (w : Went schema from to clocks parts peaks s) where
+module _ (schema : Declared) (from to : ℕ) (clocks : List (Option ℤ)) (query_states : List Phase) (peaks : List ℕ) (s : EngineState) (w : Went schema from to clocks query_states peaks s) where
   abbrev old : List Phase
-  old = parts_at from parts clocks
+  old = query_states_at from query_states clocks
 
   abbrev on : List Phase
-  on = map unanswered (parts_at from parts clocks)
+  on = map unanswered (query_states_at from query_states clocks)
 
-  abbrev after : State
-  after = state schema to (parts_at to parts clocks) peaks
+  abbrev after : EngineState
+  after = state schema to (query_states_at to query_states clocks) peaks
 
-  are : parts_at to parts clocks ≡ map unanswered (parts_at from parts clocks)
-  are = passed_all from to parts clocks w.known w.further
+  are : query_states_at to query_states clocks ≡ map unanswered (query_states_at from query_states clocks)
+  are = no_op_all from to query_states clocks w.known w.further
 
-  after_is : state schema to (map unanswered (parts_at from parts clocks)) peaks ≡ state schema to (parts_at to parts clocks) peaks
+  after_is : state schema to (map unanswered (query_states_at from query_states clocks)) peaks ≡ state schema to (query_states_at to query_states clocks) peaks
   after_is = sym (ap (λ ps. state schema to ps peaks) are)
 
-  runs : IsRunning schema from (parts_at from parts clocks) peaks
-  runs = running schema from clocks parts peaks w.keeps
+  runs : IsRunning schema from (query_states_at from query_states clocks) peaks
+  runs = running schema from clocks query_states peaks w.keeps
 
-  on_count : length (map unanswered (parts_at from parts clocks)) ≡ length (parts_at from parts clocks)
-  on_count = length_map unanswered (parts_at from parts clocks)
+  on_count : length (map unanswered (query_states_at from query_states clocks)) ≡ length (query_states_at from query_states clocks)
+  on_count = length_map unanswered (query_states_at from query_states clocks)
 
-  pub went_keeping : IsKeeping schema to clocks parts peaks
+  pub went_keeping : IsKeeping schema to clocks query_states peaks
   went_keeping =
       let run = w.keeps.run in
       let less = w.further in
@@ -151,37 +151,37 @@ module _ (schema : Declared) (from to : ℕ) (clocks : List (Option ℤ)) (parts
       let some = some_blanks schema n to (omega (arith, less, count)) in
       let many = some.count in
       let whole = length-append run.events blanks in
-      keeping schema to clocks parts peaks (subst (λ ps. IsRunning schema to ps peaks) (sym are) record {
-        schemas = passed_schemas schema old runs.schemas;
-        idle = passed_idle old runs.idle;
+      keeping schema to clocks query_states peaks (subst (λ ps. IsRunning schema to ps peaks) (sym are) record {
+        schemas = no_op_schemas schema old runs.schemas;
+        idle = no_op_idle old runs.idle;
         run = record {
           events = run.events ++ blanks;
           length_is = whole ∙ many;
-          stands = parts_on schema run.events blanks old runs.schemas w.well some.blank (omega (arith, many, less, count)) run.stands;
+          stands = query_states_on schema run.events blanks old runs.schemas w.well some.blank (omega (arith, many, less, count)) run.stands;
         };
-        quiet = passed_quiet to old;
+        quiet = no_op_quiet to old;
         peaks_are = runs.peaks_are ∙ sym on_count;
       })
 
   pub went_stands : (events blanks : List Event) → StandsFor s events → AreBlanks s.schema (length events) (count_of after) blanks → StandsFor after (events ++ blanks)
   unfolding StandsFor count_of
-  went_stands = subst (λ (t : State). (events blanks : List Event) → KeptStands (kept_of t) events → AreBlanks t.schema (length events) to blanks → KeptStands (kept_of after) (events ++ blanks)) w.is (λ events blanks stands are.
+  went_stands = subst (λ (t : EngineState). (events blanks : List Event) → KeptStands (kept_of t) events → AreBlanks t.schema (length events) to blanks → KeptStands (kept_of after) (events ++ blanks)) w.is (λ events blanks stands are.
       let less = w.further in
       let count = stands.count in
       let many = are.count in
-      let all = to_parts schema from old peaks events runs.schemas stands in
+      let all = to_query_states schema from old peaks events runs.schemas stands in
       let whole : length (events ++ blanks) ≡ to = length-append events blanks ∙ many in
-      subst (λ (t : State). KeptStands (kept_of t) (events ++ blanks)) after_is
-      (from_parts schema to on peaks (events ++ blanks) (passed_schemas schema old runs.schemas) whole
-      (parts_on schema events blanks old runs.schemas w.well are.blank (omega (arith, less, count, many)) all)))
+      subst (λ (t : EngineState). KeptStands (kept_of t) (events ++ blanks)) after_is
+      (from_query_states schema to on peaks (events ++ blanks) (no_op_schemas schema old runs.schemas) whole
+      (query_states_on schema events blanks old runs.schemas w.well are.blank (omega (arith, less, count, many)) all)))
 
   pub went_same : SameQueries s after
-  went_same = subst (λ (t : State). SameQueries t after) w.is (subst (λ (t : State). SameQueries (state schema from old peaks) t) after_is (refl, passed_queries old))
+  went_same = subst (λ (t : EngineState). SameQueries t after) w.is (subst (λ (t : EngineState). SameQueries (state schema from old peaks) t) after_is (refl, no_op_queries old))
 
   pub went_cursors : KeepsCursors s after
   unfolding Fits rest
-  went_cursors = subst (λ (t : State). KeepsCursors t after) w.is (subst (λ (t : State). KeepsCursors (state schema from old peaks) t) after_is (λ c fits.
-      let nodes = passed_kept (λ (p : Part). p.nodes) [] (λ p. refl) old (c.query - 1) in
+  went_cursors = subst (λ (t : EngineState). KeepsCursors t after) w.is (subst (λ (t : EngineState). KeepsCursors (state schema from old peaks) t) after_is (λ c fits.
+      let nodes = no_op_kept (λ (p : QueryState). p.nodes) [] (λ p. refl) old (c.query - 1) in
       let low = fits.0 in
       let high = fits.1 in
       let many = length_map (λ (p : Phase). p.kept) on in
@@ -191,16 +191,16 @@ module _ (schema : Declared) (from to : ℕ) (clocks : List (Option ℤ)) (parts
 
   pub went_kept : KeepsAll s after
   unfolding found_of len_of peak_of later_of
-  went_kept = subst (λ (t : State). KeepsAll t after) w.is (subst (λ (t : State). KeepsAll (state schema from old peaks) t) after_is record {
-    found = λ query. passed_kept (λ (p : Part). length p.table.states) 0 (λ p. refl) old (query - 1);
-    nodes = λ query. passed_kept (λ (p : Part). length p.nodes) 0 (λ p. refl) old (query - 1);
-    later = λ query position. passed_kept (λ (p : Part). later position p.nodes) 0 (λ p. refl) old (query - 1);
-    peak = λ query. ap (λ n. max (slice_index_or peaks (query - 1) 0) n) (passed_kept (λ (p : Part). length p.nodes) 0 (λ p. refl) old (query - 1));
+  went_kept = subst (λ (t : EngineState). KeepsAll t after) w.is (subst (λ (t : EngineState). KeepsAll (state schema from old peaks) t) after_is record {
+    found = λ query. no_op_kept (λ (p : QueryState). length p.table.states) 0 (λ p. refl) old (query - 1);
+    nodes = λ query. no_op_kept (λ (p : QueryState). length p.nodes) 0 (λ p. refl) old (query - 1);
+    later = λ query position. no_op_kept (λ (p : QueryState). later position p.nodes) 0 (λ p. refl) old (query - 1);
+    peak = λ query. ap (λ n. max (slice_index_or peaks (query - 1) 0) n) (no_op_kept (λ (p : QueryState). length p.nodes) 0 (λ p. refl) old (query - 1));
   })
 
 -- LAWS
 
-module _ (old new : State) (events more : List Event) (same : SameQueries old new) (keeps : KeepsAll old new) where
+module _ (old new : EngineState) (events more : List Event) (same : SameQueries old new) (keeps : KeepsAll old new) where
   query_before : (k : ℕ) (q : Query) → slice_get new.queries k ≡ Some q → slice_get old.queries k ≡ Some q
   query_before k q at = subst (λ (qs : List Query). slice_get qs k ≡ Some q) same.1 at
 
@@ -234,15 +234,15 @@ module _ (old new : State) (events more : List Event) (same : SameQueries old ne
       (window k q (query_before k q at))
 
 -- a blank event for each position that is skipped
-takes_all : (schema : Declared) (queries : List Query) (m : Machine) (blanks : List Event) → IsWellDeclared schema → All (IsBlank schema) blanks → TakesAll schema queries m blanks (record m { events = m.events ++ blanks })
+takes_all : (schema : Declared) (queries : List Query) (m : EngineModel) (blanks : List Event) → IsWellDeclared schema → All (IsBlank schema) blanks → TakesAll schema queries m blanks (record m { events = m.events ++ blanks })
 takes_all schema queries m [] well blank = ap (λ es. record m { events = es }) (append-nil m.events)
 takes_all schema queries m (event ∷ later) well blank = (
   Taken m event (λ k q before now at f. blank_unread schema q event well (All-head (IsBlank schema) event later blank) f.reads),
   subst (λ es. TakesAll schema queries (with_event m event) later (record m { events = es })) (append_assoc m.events (event ∷ []) later) (takes_all schema queries (with_event m event) later well (All-tail (IsBlank schema) event later blank)),
 )
 
-pub skipping_is_steps : (old new : State) (held : List Open) (m : Machine) (blanks : List Event) → IsWellDeclared old.schema → IsMachine old held m → All (IsBlank old.schema) blanks → StandsFor new (m.events ++ blanks) → KeepsCursors old new →
-    TakesAll old.schema old.queries m blanks (record m { events = m.events ++ blanks }) × IsMachine new held (record m { events = m.events ++ blanks })
+pub skipping_is_steps : (old new : EngineState) (held : List Open) (m : EngineModel) (blanks : List Event) → IsWellDeclared old.schema → IsEngineModel old held m → All (IsBlank old.schema) blanks → StandsFor new (m.events ++ blanks) → KeepsCursors old new →
+    TakesAll old.schema old.queries m blanks (record m { events = m.events ++ blanks }) × IsEngineModel new held (record m { events = m.events ++ blanks })
 skipping_is_steps old new held m blanks well is blank stands keeps = (
   takes_all old.schema old.queries m blanks well blank,
   record { stands = stands; cursors = zip_weaker (IsCursor old) (IsCursor new) (cursor_on old new keeps) held m.cursors is.cursors },

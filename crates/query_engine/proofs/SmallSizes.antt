@@ -1,4 +1,4 @@
--- What is put by for compactions, and how large what is kept of a query is. For callers of the crate too.
+-- What is put by for compactions, and how large a query state is. For callers of the crate too.
 use Rattle.std.proofs.Common.{All, ◌≡◌, ℕ, ◌+◌, ◌-◌, ◌*◌, ◌≤◌, inl, inr, List, [], ◌∷◌, ◌++◌, length, take, refl, sym, ap, subst, Contains, Some, slice_get, arith, length-append}
 use Rattle.std.proofs.Math.Nat.{mul-le-mul_left, mul-le-mul_right}
 use Rattle.std.proofs.lemmas.Bool.{cases_lt}
@@ -11,7 +11,7 @@ use Rattle.query_standing.specs.Bounds.{update_bound, for_each_query}
 use Rattle.query_engine.specs.declared.sizes.Size.{Size}
 use Rattle.query_engine.specs.Clocks.{HasClockAt, IsLastClock}
 use Rattle.query_engine.specs.Counts.{MeetMost, event_bound}
-use Rattle.query_engine.specs.Engine.{State, Open, StandsFor, SameQueries, MayStartAt, found_of, len_of}
+use Rattle.query_engine.specs.Engine.{EngineState, Open, StandsFor, SameQueries, MayStartAt, found_of, len_of}
 use Rattle.query_engine.specs.Keys.{keys_of, IsWithin, HasAddedKeys, KeysFollowWindow}
 use Rattle.query_engine.specs.Windows.{IsBoundedBy, HasAdded, IsHeld, IsFollowed, FollowsWindow}
 use Rattle.query_engine.specs.Sizes.{size_of, base_of, AreSizes, put_by, steady_bound, IsSizedBy, IsSized, IsLeftAlone, AreTended, IsInWindowAfter, IsKeptSmall, AreKeptSmall}
@@ -22,7 +22,7 @@ use Rattle.query_engine.proofs.Counting.{each_at_most, each_of_both, bound_grows
 none_for_each : (n : ℕ) → for_each_query n (λ k. 0) ≡ 0
 none_for_each n = let twice = each_of_both n (λ k. 0) (λ k. 0) (λ k. 0) (λ j. refl) in omega arith
 
-pub nothing_is_put_by : (engine : State) (bases : List Size) → AreSizes engine bases → put_by engine bases ≡ 0
+pub nothing_is_put_by : (engine : EngineState) (bases : List Size) → AreSizes engine bases → put_by engine bases ≡ 0
 nothing_is_put_by engine bases are =
     let n = length engine.queries in
     let less = each_at_most n (λ k. 24 * (size_of engine k - base_of bases k)) (λ k. 0) (λ j inside. (
@@ -41,10 +41,10 @@ pay : (bound most old new base : ℕ) → bound ≤ most → 64 ≤ most → new
 pay bound most old new base less least grown = omega arith
 
 -- an event's growth
-size_grows : (old new : State) (event : Event) → HasAdded old new event → HasAddedKeys old new event → (query : ℕ) → size_of new query ≤ size_of old query + update_bound (found_of new query) + 8
+size_grows : (old new : EngineState) (event : Event) → HasAdded old new event → HasAddedKeys old new event → (query : ℕ) → size_of new query ≤ size_of old query + update_bound (found_of new query) + 8
 size_grows old new event added keys query = let nodes = added.growth query in let few = keys.few query in omega arith
 
-pub event_puts_by : (old new : State) (events : List Event) (event : Event) (bases : List Size) (most : ℕ → ℕ) →
+pub event_puts_by : (old new : EngineState) (events : List Event) (event : Event) (bases : List Size) (most : ℕ → ℕ) →
     SameQueries old new → StandsFor new (events ++ event ∷ []) → HasAdded old new event → HasAddedKeys old new event → MeetMost new.schema new.queries (events ++ event ∷ []) most →
     event_bound (length new.queries) most + put_by new bases ≤ put_by old bases + steady_bound (length new.queries) most
 event_puts_by old new events event bases most same stands added keys meet =
@@ -63,7 +63,7 @@ event_puts_by old new events event bases most same stands added keys meet =
 -- THE SIZES
 
 -- what is sized so in one engine is so in one with as many states or more
-pub sized_on : (Are Also : ℕ → Type 0) (old new : State) (query size : ℕ) → ((x : ℕ) → Are x → Also x) → found_of old query ≤ found_of new query → IsSizedBy Are old query size → IsSizedBy Also new query size
+pub sized_on : (Are Also : ℕ → Type 0) (old new : EngineState) (query size : ℕ) → ((x : ℕ) → Are x → Also x) → found_of old query ≤ found_of new query → IsSizedBy Are old query size → IsSizedBy Also new query size
 sized_on Are Also old new query size still found h =
     let b = update_bound (found_of old query) in
     let c = update_bound (found_of new query) in
@@ -83,7 +83,7 @@ weigh_keys few many b nodes keys less n k =
     omega (arith, n, k, less, whole)
 
 -- nodes and keys that are bounded by such positions, by the more of them
-sized_by_both : (Are : ℕ → Type 0) (engine : State) (query nodes : ℕ) → IsBoundedBy Are engine query nodes → IsWithin Are (keys_of engine query) → IsSizedBy Are engine query (nodes + 8 * keys_of engine query)
+sized_by_both : (Are : ℕ → Type 0) (engine : EngineState) (query nodes : ℕ) → IsBoundedBy Are engine query nodes → IsWithin Are (keys_of engine query) → IsSizedBy Are engine query (nodes + 8 * keys_of engine query)
 sized_by_both Are engine query nodes few keys =
     let b = update_bound (found_of engine query) in
     elim (cases_lt (length few.positions) (length keys.positions)) [
@@ -91,7 +91,7 @@ sized_by_both Are engine query nodes few keys =
       | inr least ↦ record { positions = few.positions; distinct = few.distinct; each = few.each; bounded = weigh_keys (length keys.positions) (length few.positions) b nodes (keys_of engine query) (omega arith) few.bounded keys.bounded }
     ]
 
-pub followed_is_sized : (engine : State) (events : List Event) (held : List Open) (k : ℕ) (q : Query) → IsFollowed engine events held k q → IsWithin (MayStartAt engine events q) (keys_of engine (k + 1)) → IsSized engine events held k q
+pub followed_is_sized : (engine : EngineState) (events : List Event) (held : List Open) (k : ℕ) (q : Query) → IsFollowed engine events held k q → IsWithin (MayStartAt engine events q) (keys_of engine (k + 1)) → IsSized engine events held k q
 followed_is_sized engine events held k q f keys = record {
   number = f.number + 8 * keys_of engine (k + 1);
   bounded = sized_by_both (MayStartAt engine events q) engine (k + 1) f.number f.bounded keys;
@@ -102,7 +102,7 @@ followed_is_sized engine events held k q f keys = record {
 }
 
 -- where no cursor is held, an answer may start where the window after all events is
-in_window : (engine : State) (events : List Event) (q : Query) (x : ℕ) → MayStartAt engine events q x → IsInWindowAfter engine events (length events) q x
+in_window : (engine : EngineState) (events : List Event) (q : Query) (x : ℕ) → MayStartAt engine events q x → IsInWindowAfter engine events (length events) q x
 in_window engine events q x m =
     let all : take (length events) events ≡ events = take_all (length events) events (omega arith) in
     record {
@@ -113,12 +113,12 @@ in_window engine events q x m =
       recent = m.recent.2;
     }
 
-none_other : (engine : State) (k : ℕ) (others : List ℕ) → All (IsHeld engine [] k) others → length others ≡ 0
+none_other : (engine : EngineState) (k : ℕ) (others : List ℕ) → All (IsHeld engine [] k) others → length others ≡ 0
 none_other engine k [] each = refl
 none_other engine k (id ∷ others) each = let held = All-head (IsHeld engine [] k) id others each in absurd (let less = held.among.1 in omega arith)
 
 -- a query that was compacted just now
-fresh_is_small : (least : ℕ) (engine : State) (bases : List Size) (events : List Event) (k : ℕ) (q : Query) → base_of bases (k + 1) ≡ size_of engine (k + 1) → IsSized engine events [] k q →
+fresh_is_small : (least : ℕ) (engine : EngineState) (bases : List Size) (events : List Event) (k : ℕ) (q : Query) → base_of bases (k + 1) ≡ size_of engine (k + 1) → IsSized engine events [] k q →
     IsKeptSmall least (length events) engine bases events k q
 fresh_is_small least engine bases events k q noted sized =
     let none = none_other engine k sized.others sized.each in
@@ -132,7 +132,7 @@ fresh_is_small least engine bases events k q noted sized =
       size = omega arith;
     }
 
-pub compacted_are_small : (engine : State) (bases : List Size) (events : List Event) (least : ℕ) → FollowsWindow engine events [] → KeysFollowWindow engine events → AreSizes engine bases → AreKeptSmall least (length events) engine bases events
+pub compacted_are_small : (engine : EngineState) (bases : List Size) (events : List Event) (least : ℕ) → FollowsWindow engine events [] → KeysFollowWindow engine events → AreSizes engine bases → AreKeptSmall least (length events) engine bases events
 compacted_are_small engine bases events least nodes keys are k q at =
     fresh_is_small least engine bases events k q (are.each k q at) (followed_is_sized engine events [] k q (nodes k q at) (keys k q at))
 
@@ -143,7 +143,7 @@ allowed least needed since b c old new less was grown =
     let whole : (since + 1) * (c + 8) ≡ since * (c + 8) + (c + 8) = omega arith in
     omega (arith, was, grown, more, whole)
 
-module _ (old new : State) (bases : List Size) (events : List Event) (event : Event) (least looked : ℕ) (behind : looked ≤ length events) (same : SameQueries old new) (added : HasAdded old new event) (keys : HasAddedKeys old new event) where
+module _ (old new : EngineState) (bases : List Size) (events : List Event) (event : Event) (least looked : ℕ) (behind : looked ≤ length events) (same : SameQueries old new) (added : HasAdded old new event) (keys : HasAddedKeys old new event) where
   still_in : (q : Query) (first x : ℕ) → first ≤ length events → IsInWindowAfter old events first q x → IsInWindowAfter new (events ++ event ∷ []) first q x
   still_in q first x among h =
       let firsts : take first events ≡ take first (events ++ event ∷ []) = sym (take-append-le first events (event ∷ []) among) in
@@ -174,7 +174,7 @@ module _ (old new : State) (bases : List Size) (events : List Event) (event : Ev
 
 -- A LOOK
 
-module _ (old new : State) (before after : List Size) (events : List Event) (least looked : ℕ) (same : SameQueries old new) (found : (query : ℕ) → found_of new query ≡ found_of old query) where
+module _ (old new : EngineState) (before after : List Size) (events : List Event) (least looked : ℕ) (same : SameQueries old new) (found : (query : ℕ) → found_of new query ≡ found_of old query) where
   as_before : (q : Query) (first x : ℕ) → IsInWindowAfter old events first q x → IsInWindowAfter new events first q x
   as_before q first x h = record {
     clock = h.clock;

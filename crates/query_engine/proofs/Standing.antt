@@ -1,4 +1,4 @@
--- What the parts stand for, and what the engine does.
+-- What the query states stand for, and what the engine does.
 use Rattle.std.proofs.Common.{◌≡◌, ℕ, ◌+◌, ◌<◌, List, [], ◌∷◌, map, take, length, refl, sym, ap, subst, ◌∙◌, All, Option, Some, None, slice_get, slice_index_or, arith}
 use Rattle.std.specs.Prelude.{option_map}
 use Rattle.std.proofs.lemmas.List.{take_more}
@@ -8,15 +8,15 @@ use Rattle.stream_schema.specs.Types.{Declared}
 use Rattle.stream_schema.specs.Events.{IsOfSchema}
 use Rattle.stream_schema.specs.declared.Event.{Event}
 use Rattle.query_standing.specs.Clocks.{FallsBack, NoneFallsBack}
-use Rattle.query_standing.specs.Kept.{PartStands, KeptStands}
+use Rattle.query_standing.specs.Kept.{QueryStateStands, KeptStands}
 use Rattle.all_or_none.specs.Phases.{Phase, InTime, CanPrepare}
-use Rattle.query_engine.specs.Engine.{State, kept_of}
+use Rattle.query_engine.specs.Engine.{EngineState, kept_of}
 use Rattle.query_engine.specs.Times.{IsAfter}
 use Rattle.query_engine.specs.Running.{HaveRun}
 
 -- what an engine is, by its fields
-abbrev pub state : Declared → ℕ → List Phase → List ℕ → State
-state schema count parts peaks = record { schema = schema; queries = map (λ (p : Phase). p.query) parts; count = count; parts = map (λ (p : Phase). p.kept) parts; peaks = peaks }
+abbrev pub state : Declared → ℕ → List Phase → List ℕ → EngineState
+state schema count query_states peaks = record { schema = schema; queries = map (λ (p : Phase). p.query) query_states; count = count; query_states = map (λ (p : Phase). p.kept) query_states; peaks = peaks }
 
 -- what stands at a place of a mapped list
 pub mapped : {A B : Type 0} (f : A → B) (xs : List A) (k : ℕ) (y : B) → slice_get (map f xs) k ≡ Some y → (x : A) × (slice_get xs k ≡ Some x) × (f x ≡ y)
@@ -47,55 +47,55 @@ pub length_map : {A B : Type 0} (f : A → B) (xs : List A) → length (map f xs
 length_map f [] = refl
 length_map f (x ∷ xs) = let rest = length_map f xs in omega arith
 
--- the engine stands for the events where its parts do
-pub from_parts : (schema : Declared) (count : ℕ) (parts : List Phase) (peaks : List ℕ) (events : List Event) → All (λ (p : Phase). p.schema ≡ schema) parts → length events ≡ count → All (IsAfter events) parts → KeptStands (kept_of (state schema count parts peaks)) events
-from_parts schema count parts peaks events schemas same all = record {
+-- the engine stands for the events where its query states do
+pub from_query_states : (schema : Declared) (count : ℕ) (query_states : List Phase) (peaks : List ℕ) (events : List Event) → All (λ (p : Phase). p.schema ≡ schema) query_states → length events ≡ count → All (IsAfter events) query_states → KeptStands (kept_of (state schema count query_states peaks)) events
+from_query_states schema count query_states peaks events schemas same all = record {
   count = sym same;
-  parts = length_map (λ (p : Phase). p.kept) parts ∙ sym (length_map (λ (p : Phase). p.query) parts);
-  each = λ k q part q_at part_at. (
-      let one = mapped (λ (p : Phase). p.query) parts k q q_at in
-      let two = mapped (λ (p : Phase). p.kept) parts k part part_at in
+  query_states = length_map (λ (p : Phase). p.kept) query_states ∙ sym (length_map (λ (p : Phase). p.query) query_states);
+  each = λ k q query_state q_at query_state_at. (
+      let one = mapped (λ (p : Phase). p.query) query_states k q q_at in
+      let two = mapped (λ (p : Phase). p.kept) query_states k query_state query_state_at in
       let p : one.0 ≡ two.0 = (let both = sym one.1 ∙ two.1 in cc) in
-      let stands = all_at (IsAfter events) parts k one.0 all one.1 in
-      let schema_is = all_at (λ (p : Phase). p.schema ≡ schema) parts k one.0 schemas one.1 in
-      let kept_is : one.0.kept ≡ part = ap (λ (x : Phase). x.kept) p ∙ two.2 in
-      subst (λ x. PartStands schema q events x) kept_is (subst (λ z. PartStands schema z events one.0.kept) one.2 (subst (λ s. PartStands s one.0.query events one.0.kept) schema_is stands))
+      let stands = all_at (IsAfter events) query_states k one.0 all one.1 in
+      let schema_is = all_at (λ (p : Phase). p.schema ≡ schema) query_states k one.0 schemas one.1 in
+      let kept_is : one.0.kept ≡ query_state = ap (λ (x : Phase). x.kept) p ∙ two.2 in
+      subst (λ x. QueryStateStands schema q events x) kept_is (subst (λ z. QueryStateStands schema z events one.0.kept) one.2 (subst (λ s. QueryStateStands s one.0.query events one.0.kept) schema_is stands))
       );
 }
 
 -- and back
-pub to_parts : (schema : Declared) (count : ℕ) (parts : List Phase) (peaks : List ℕ) (events : List Event) → All (λ (p : Phase). p.schema ≡ schema) parts → KeptStands (kept_of (state schema count parts peaks)) events → All (IsAfter events) parts
-to_parts schema count parts peaks events schemas s = all_by (IsAfter events) parts (λ k p at. (
-    let schema_is = all_at (λ (p : Phase). p.schema ≡ schema) parts k p schemas at in
-    subst (λ z. PartStands z p.query events p.kept) (sym schema_is) (s.each k p.query p.kept (map_at (λ (p : Phase). p.query) parts k p at) (map_at (λ (p : Phase). p.kept) parts k p at))
+pub to_query_states : (schema : Declared) (count : ℕ) (query_states : List Phase) (peaks : List ℕ) (events : List Event) → All (λ (p : Phase). p.schema ≡ schema) query_states → KeptStands (kept_of (state schema count query_states peaks)) events → All (IsAfter events) query_states
+to_query_states schema count query_states peaks events schemas s = all_by (IsAfter events) query_states (λ k p at. (
+    let schema_is = all_at (λ (p : Phase). p.schema ≡ schema) query_states k p schemas at in
+    subst (λ z. QueryStateStands z p.query events p.kept) (sym schema_is) (s.each k p.query p.kept (map_at (λ (p : Phase). p.query) query_states k p at) (map_at (λ (p : Phase). p.kept) query_states k p at))
     ))
 
--- the event is of each part's schema
-pub of_schemas : (schema : Declared) (parts : List Phase) (event : Event) → All (λ (p : Phase). p.schema ≡ schema) parts → IsOfSchema schema event → All (λ (p : Phase). IsOfSchema p.schema event) parts
-of_schemas schema parts event schemas of = all_by (λ (p : Phase). IsOfSchema p.schema event) parts (λ k p at. subst (λ s. IsOfSchema s event) (sym (all_at (λ (p : Phase). p.schema ≡ schema) parts k p schemas at)) of)
+-- the event is of each query state's schema
+pub of_schemas : (schema : Declared) (query_states : List Phase) (event : Event) → All (λ (p : Phase). p.schema ≡ schema) query_states → IsOfSchema schema event → All (λ (p : Phase). IsOfSchema p.schema event) query_states
+of_schemas schema query_states event schemas of = all_by (λ (p : Phase). IsOfSchema p.schema event) query_states (λ k p at. subst (λ s. IsOfSchema s event) (sym (all_at (λ (p : Phase). p.schema ≡ schema) query_states k p schemas at)) of)
 
--- no clock falls of a part where none does of a query
-pub parts_in_time : (schema : Declared) (count : ℕ) (parts : List Phase) (peaks : List ℕ) (events : List Event) (event : Event) → All (λ (p : Phase). p.schema ≡ schema) parts → NoneFallsBack schema (state schema count parts peaks).queries events event → All (InTime events event) parts
-parts_in_time schema count parts peaks events event schemas none = all_by (InTime events event) parts (λ k p at before now f. (
-    let schema_is = all_at (λ (p : Phase). p.schema ≡ schema) parts k p schemas at in
-    none k p.query before now (map_at (λ (p : Phase). p.query) parts k p at) (subst (λ s. FallsBack s p.query events event before now) schema_is f)
+-- no clock falls of a query state where none does of a query
+pub query_states_in_time : (schema : Declared) (count : ℕ) (query_states : List Phase) (peaks : List ℕ) (events : List Event) (event : Event) → All (λ (p : Phase). p.schema ≡ schema) query_states → NoneFallsBack schema (state schema count query_states peaks).queries events event → All (InTime events event) query_states
+query_states_in_time schema count query_states peaks events event schemas none = all_by (InTime events event) query_states (λ k p at before now f. (
+    let schema_is = all_at (λ (p : Phase). p.schema ≡ schema) query_states k p schemas at in
+    none k p.query before now (map_at (λ (p : Phase). p.query) query_states k p at) (subst (λ s. FallsBack s p.query events event before now) schema_is f)
     ))
 
-pub queries_in_time : (schema : Declared) (count : ℕ) (parts : List Phase) (peaks : List ℕ) (events : List Event) (event : Event) → All (λ (p : Phase). p.schema ≡ schema) parts → All (InTime events event) parts → NoneFallsBack schema (state schema count parts peaks).queries events event
-queries_in_time schema count parts peaks events event schemas all k q before now q_at f =
-    let one = mapped (λ (p : Phase). p.query) parts k q q_at in
-    let schema_is = all_at (λ (p : Phase). p.schema ≡ schema) parts k one.0 schemas one.1 in
-    all_at (InTime events event) parts k one.0 all one.1 before now (subst (λ s. FallsBack s one.0.query events event before now) (sym schema_is) (subst (λ z. FallsBack schema z events event before now) (sym one.2) f))
+pub queries_in_time : (schema : Declared) (count : ℕ) (query_states : List Phase) (peaks : List ℕ) (events : List Event) (event : Event) → All (λ (p : Phase). p.schema ≡ schema) query_states → All (InTime events event) query_states → NoneFallsBack schema (state schema count query_states peaks).queries events event
+queries_in_time schema count query_states peaks events event schemas all k q before now q_at f =
+    let one = mapped (λ (p : Phase). p.query) query_states k q q_at in
+    let schema_is = all_at (λ (p : Phase). p.schema ≡ schema) query_states k one.0 schemas one.1 in
+    all_at (InTime events event) query_states k one.0 all one.1 before now (subst (λ s. FallsBack s one.0.query events event before now) (sym schema_is) (subst (λ z. FallsBack schema z events event before now) (sym one.2) f))
 
--- each part can take in the event
-pub can_all : (schema : Declared) (count : ℕ) (parts : List Phase) (peaks : List ℕ) (event : Event) (r : HaveRun count parts) → All (λ (p : Phase). p.schema ≡ schema) parts → IsOfSchema schema event → ((events : List Event) → KeptStands (kept_of (state schema count parts peaks)) events → NoneFallsBack schema (state schema count parts peaks).queries events event) → All (CanPrepare event count) parts
-can_all schema count parts peaks event r schemas of time =
-    let stands = from_parts schema count parts peaks r.events schemas r.length_is r.stands in
-    let inside = parts_in_time schema count parts peaks r.events event schemas (time r.events stands) in
-    all_by (CanPrepare event count) parts (λ k p at. record {
+-- each query state can take in the event
+pub can_all : (schema : Declared) (count : ℕ) (query_states : List Phase) (peaks : List ℕ) (event : Event) (r : HaveRun count query_states) → All (λ (p : Phase). p.schema ≡ schema) query_states → IsOfSchema schema event → ((events : List Event) → KeptStands (kept_of (state schema count query_states peaks)) events → NoneFallsBack schema (state schema count query_states peaks).queries events event) → All (CanPrepare event count) query_states
+can_all schema count query_states peaks event r schemas of time =
+    let stands = from_query_states schema count query_states peaks r.events schemas r.length_is r.stands in
+    let inside = query_states_in_time schema count query_states peaks r.events event schemas (time r.events stands) in
+    all_by (CanPrepare event count) query_states (λ k p at. record {
       events = r.events;
       count = r.length_is;
-      of_schema = all_at (λ (p : Phase). IsOfSchema p.schema event) parts k p (of_schemas schema parts event schemas of) at;
-      in_time = all_at (InTime r.events event) parts k p inside at;
-      stands = (p.kept.clock, all_at (IsAfter r.events) parts k p r.stands at);
+      of_schema = all_at (λ (p : Phase). IsOfSchema p.schema event) query_states k p (of_schemas schema query_states event schemas of) at;
+      in_time = all_at (InTime r.events event) query_states k p inside at;
+      stands = (p.kept.clock, all_at (IsAfter r.events) query_states k p r.stands at);
     })

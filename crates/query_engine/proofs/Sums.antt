@@ -4,7 +4,7 @@ use Rattle.std.specs.Prelude.{sum, sum_by}
 use Rattle.std.specs.Option.{option_map_or}
 use Rattle.std.specs.List.{AllZip, range_with_len}
 use Rattle.std.proofs.lemmas.List.Sums.{sum_by-cons}
-use Rattle.query_standing.specs.Kept.{Part}
+use Rattle.query_standing.specs.Kept.{QueryState}
 use Rattle.query_standing.specs.Bounds.{update_bound, for_each_query}
 use Rattle.all_or_none.specs.Phases.{Phase, kept_bound}
 use Rattle.query_engine.proofs.Standing.{map_at}
@@ -39,14 +39,14 @@ length_map : {A B : Type 0} (f : A → B) (xs : List A) → length (map f xs) �
 length_map f [] = refl
 length_map f (x ∷ xs) = let rest = length_map f xs in omega arith
 
--- by the states found, summed over the parts or over the queries' numbers
-pub bounds_same : (parts : List Phase) → for_each_query (length (map (λ (p : Phase). p.query) parts)) (λ k. update_bound (option_map_or (λ (p : Part). length p.table.states) (slice_get (map (λ (p : Phase). p.kept) parts) (k - 1)) 0)) ≡ sum_by kept_bound parts
-bounds_same parts =
-    ap (λ n. for_each_query n (λ k. update_bound (option_map_or (λ (p : Part). length p.table.states) (slice_get (map (λ (p : Phase). p.kept) parts) (k - 1)) 0))) (length_map (λ (p : Phase). p.query) parts)
-    ∙ sum_from kept_bound (λ k. update_bound (option_map_or (λ (p : Part). length p.table.states) (slice_get (map (λ (p : Phase). p.kept) parts) (k - 1)) 0)) parts 1 each
+-- by the states found, summed over the query states or over the queries' numbers
+pub bounds_same : (query_states : List Phase) → for_each_query (length (map (λ (p : Phase). p.query) query_states)) (λ k. update_bound (option_map_or (λ (p : QueryState). length p.table.states) (slice_get (map (λ (p : Phase). p.kept) query_states) (k - 1)) 0)) ≡ sum_by kept_bound query_states
+bounds_same query_states =
+    ap (λ n. for_each_query n (λ k. update_bound (option_map_or (λ (p : QueryState). length p.table.states) (slice_get (map (λ (p : Phase). p.kept) query_states) (k - 1)) 0))) (length_map (λ (p : Phase). p.query) query_states)
+    ∙ sum_from kept_bound (λ k. update_bound (option_map_or (λ (p : QueryState). length p.table.states) (slice_get (map (λ (p : Phase). p.kept) query_states) (k - 1)) 0)) query_states 1 each
   where
-    each : (j : ℕ) (p : Phase) → slice_get parts j ≡ Some p → update_bound (option_map_or (λ (p : Part). length p.table.states) (slice_get (map (λ (p : Phase). p.kept) parts) (1 + j - 1)) 0) ≡ kept_bound p
+    each : (j : ℕ) (p : Phase) → slice_get query_states j ≡ Some p → update_bound (option_map_or (λ (p : QueryState). length p.table.states) (slice_get (map (λ (p : Phase). p.kept) query_states) (1 + j - 1)) 0) ≡ kept_bound p
     each j p at =
         let here : 1 + j - 1 ≡ j = omega arith in
-        ap (λ i. update_bound (option_map_or (λ (p : Part). length p.table.states) (slice_get (map (λ (p : Phase). p.kept) parts) i) 0)) here
-        ∙ ap (λ o. update_bound (option_map_or (λ (p : Part). length p.table.states) o 0)) (map_at (λ (p : Phase). p.kept) parts j p at)
+        ap (λ i. update_bound (option_map_or (λ (p : QueryState). length p.table.states) (slice_get (map (λ (p : Phase). p.kept) query_states) i) 0)) here
+        ∙ ap (λ o. update_bound (option_map_or (λ (p : QueryState). length p.table.states) o 0)) (map_at (λ (p : Phase). p.kept) query_states j p at)

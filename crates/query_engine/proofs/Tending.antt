@@ -14,99 +14,99 @@ use Rattle.stream_schema.specs.Types.{Declared}
 use Rattle.stream_schema.specs.declared.Event.{Event}
 use Rattle.cel_terms.specs.declared.Query.{Query}
 use Rattle.arena_compact.specs.Roots.{places}
-use Rattle.query_standing.specs.Kept.{Part}
+use Rattle.query_standing.specs.Kept.{QueryState}
 use Rattle.query_standing.specs.Bounds.{for_each_query}
 use Rattle.all_or_none.specs.Phases.{Phase}
-use Rattle.all_or_none.specs.Dormancy.{dormant_at}
+use Rattle.all_or_none.specs.Dormancy.{phase_at}
 use Rattle.query_engine.specs.declared.sizes.Size.{Size}
-use Rattle.query_engine.specs.Times.{parts_at}
-use Rattle.query_engine.specs.Engine.{State, Open, StandsFor, SameQueries, kept_of, len_of, MayStartAt}
+use Rattle.query_engine.specs.Times.{query_states_at}
+use Rattle.query_engine.specs.Engine.{EngineState, Open, StandsFor, SameQueries, kept_of, len_of, MayStartAt}
 use Rattle.query_engine.specs.Compacting.{is_chosen, places_of, compact_bounds, chosen_bounds, IsLeft, IsLeftOf, OthersAreKept}
 use Rattle.query_engine.specs.Keys.{keys_of}
 use Rattle.query_engine.specs.Windows.{IsReadFrom, IsDense, IsHeld, IsFollowed, FollowsWindow}
 use Rattle.query_engine.proofs.DenseNodes.{dense_nodes}
 use Rattle.query_engine.specs.Sizes.{size_of, base_of, has_grown, AreSizes, put_by, AreTended}
-use Rattle.query_engine.specs.Choosing.{part_weight, noted_at, AreGrown, NoneHasGrown, AreNoted, AreNotedAll, OthersAreFree}
+use Rattle.query_engine.specs.Choosing.{query_state_weight, noted_at, AreGrown, NoneHasGrown, AreNoted, AreNotedAll, OthersAreFree}
 use Rattle.query_engine.proofs.Standing.{state, mapped, map_at, length_map}
 use Rattle.query_engine.proofs.Keeping.{seen_length}
 use Rattle.query_engine.proofs.Clocked.{clocked_back}
 use Rattle.query_engine.proofs.Counting.{each_at_most, each_of_both, query_at}
 use Rattle.query_engine.proofs.FewEntries.{entries_few}
-use Rattle.query_engine.proofs.Windows.{part_of_query, query_follows_window}
+use Rattle.query_engine.proofs.Windows.{query_state_of_query, query_follows_window}
 use Rattle.query_engine.proofs.Keys.{query_keys_follow}
 use Rattle.query_engine.proofs.SmallSizes.{followed_is_sized}
 
 -- SIZES OF PARTS
 
-sizes_are : (engine : State) (k : ℕ) (part : Part) → slice_get engine.parts k ≡ Some part → size_of engine (k + 1) ≡ length part.nodes + 8 * length part.keys
+sizes_are : (engine : EngineState) (k : ℕ) (query_state : QueryState) → slice_get engine.query_states k ≡ Some query_state → size_of engine (k + 1) ≡ length query_state.nodes + 8 * length query_state.keys
 unfolding len_of keys_of
-sizes_are engine k part at =
+sizes_are engine k query_state at =
     let number : k + 1 - 1 ≡ k = omega arith in
-    ap (λ (i : ℕ). option_map_or (λ (x : Part). length x.nodes) (slice_get engine.parts i) 0 + 8 * option_map_or (λ (x : Part). length x.keys) (slice_get engine.parts i) 0) number
-    ∙ ap (λ (o : Option Part). option_map_or (λ (x : Part). length x.nodes) o 0 + 8 * option_map_or (λ (x : Part). length x.keys) o 0) at
+    ap (λ (i : ℕ). option_map_or (λ (x : QueryState). length x.nodes) (slice_get engine.query_states i) 0 + 8 * option_map_or (λ (x : QueryState). length x.keys) (slice_get engine.query_states i) 0) number
+    ∙ ap (λ (o : Option QueryState). option_map_or (λ (x : QueryState). length x.nodes) o 0 + 8 * option_map_or (λ (x : QueryState). length x.keys) o 0) at
 
 pub base_at : (bases : List Size) (k : ℕ) → base_of bases (k + 1) ≡ noted_at bases k
 base_at bases k = let number : k + 1 - 1 ≡ k = omega arith in ap (noted_at bases) number
 
-module _ (schema : Declared) (count : ℕ) (clocks : List (Option ℤ)) (parts : List Phase) (ps : List ℕ) (s : State) (is : state schema count (parts_at count parts clocks) ps ≡ s) where
-  pub parts_long : length s.queries ≡ length parts
-  parts_long = ap (λ (t : State). length t.queries) (sym is) ∙ (length_map (λ (p : Phase). p.query) (parts_at count parts clocks) ∙ seen_length count parts clocks)
+module _ (schema : Declared) (count : ℕ) (clocks : List (Option ℤ)) (query_states : List Phase) (ps : List ℕ) (s : EngineState) (is : state schema count (query_states_at count query_states clocks) ps ≡ s) where
+  pub query_states_long : length s.queries ≡ length query_states
+  query_states_long = ap (λ (t : EngineState). length t.queries) (sym is) ∙ (length_map (λ (p : Phase). p.query) (query_states_at count query_states clocks) ∙ seen_length count query_states clocks)
 
-  -- the part of a query, and how much it keeps
-  pub weighed : (k : ℕ) (q : Query) → slice_get s.queries k ≡ Some q → (p : Phase) × (slice_get parts k ≡ Some p) × (size_of s (k + 1) ≡ part_weight p)
-  weighed = subst (λ (t : State). (k : ℕ) (q : Query) → slice_get t.queries k ≡ Some q → (p : Phase) × (slice_get parts k ≡ Some p) × (size_of t (k + 1) ≡ part_weight p)) is (λ k q at. (
-      let one = mapped (λ (p : Phase). p.query) (parts_at count parts clocks) k q at in
-      let two = clocked_back (map (dormant_at count) parts) clocks k one.0 one.1 in
-      let three = mapped (dormant_at count) parts k two.0 two.1 in
-      let kept = map_at (λ (p : Phase). p.kept) (parts_at count parts clocks) k one.0 one.1 in
-      (three.0, three.1, sizes_are (state schema count (parts_at count parts clocks) ps) k one.0.kept kept ∙ (ap part_weight (sym two.2) ∙ ap part_weight (sym three.2)))))
+  -- the query state of a query, and how much it keeps
+  pub weighed : (k : ℕ) (q : Query) → slice_get s.queries k ≡ Some q → (p : Phase) × (slice_get query_states k ≡ Some p) × (size_of s (k + 1) ≡ query_state_weight p)
+  weighed = subst (λ (t : EngineState). (k : ℕ) (q : Query) → slice_get t.queries k ≡ Some q → (p : Phase) × (slice_get query_states k ≡ Some p) × (size_of t (k + 1) ≡ query_state_weight p)) is (λ k q at. (
+      let one = mapped (λ (p : Phase). p.query) (query_states_at count query_states clocks) k q at in
+      let two = clocked_back (map (phase_at count) query_states) clocks k one.0 one.1 in
+      let three = mapped (phase_at count) query_states k two.0 two.1 in
+      let kept = map_at (λ (p : Phase). p.kept) (query_states_at count query_states clocks) k one.0 one.1 in
+      (three.0, three.1, sizes_are (state schema count (query_states_at count query_states clocks) ps) k one.0.kept kept ∙ (ap query_state_weight (sym two.2) ∙ ap query_state_weight (sym three.2)))))
 
-  pub are_sizes : (bases : List Size) → length bases ≡ length s.queries → AreNotedAll (length parts) parts bases → AreSizes s bases
+  pub are_sizes : (bases : List Size) → length bases ≡ length s.queries → AreNotedAll (length query_states) query_states bases → AreSizes s bases
   are_sizes bases long noted = record {
     count = long;
-    each = λ k q at. (let p = weighed k q at in base_at bases k ∙ (noted k p.0 (slice_get_within parts k p.0 p.1) p.1 ∙ sym p.2));
+    each = λ k q at. (let p = weighed k q at in base_at bases k ∙ (noted k p.0 (slice_get_within query_states k p.0 p.1) p.1 ∙ sym p.2));
   }
 
   -- flags by what the queries keep
-  pub flags_are : (least : ℕ) (bases : List Size) (chosen : List Bool) → AreGrown least bases (length parts) parts chosen → (k : ℕ) (q : Query) → slice_get s.queries k ≡ Some q → is_chosen chosen k ≡ has_grown least (base_of bases (k + 1)) (size_of s (k + 1))
+  pub flags_are : (least : ℕ) (bases : List Size) (chosen : List Bool) → AreGrown least bases (length query_states) query_states chosen → (k : ℕ) (q : Query) → slice_get s.queries k ≡ Some q → is_chosen chosen k ≡ has_grown least (base_of bases (k + 1)) (size_of s (k + 1))
   flags_are least bases chosen grown k q at =
       let p = weighed k q at in
-      grown k p.0 (slice_get_within parts k p.0 p.1) p.1 ∙ (ap (λ (b : ℕ). has_grown least b (part_weight p.0)) (sym (base_at bases k)) ∙ ap (has_grown least (base_of bases (k + 1))) (sym p.2))
+      grown k p.0 (slice_get_within query_states k p.0 p.1) p.1 ∙ (ap (λ (b : ℕ). has_grown least b (query_state_weight p.0)) (sym (base_at bases k)) ∙ ap (has_grown least (base_of bases (k + 1))) (sym p.2))
 
-  pub none_grown : (least : ℕ) (bases : List Size) → NoneHasGrown least bases (length parts) parts → (k : ℕ) (q : Query) → slice_get s.queries k ≡ Some q → has_grown least (base_of bases (k + 1)) (size_of s (k + 1)) ≡ false
+  pub none_grown : (least : ℕ) (bases : List Size) → NoneHasGrown least bases (length query_states) query_states → (k : ℕ) (q : Query) → slice_get s.queries k ≡ Some q → has_grown least (base_of bases (k + 1)) (size_of s (k + 1)) ≡ false
   none_grown least bases none k q at =
       let p = weighed k q at in
-      ap (has_grown least (base_of bases (k + 1))) p.2 ∙ (ap (λ (b : ℕ). has_grown least b (part_weight p.0)) (base_at bases k) ∙ none k p.0 (slice_get_within parts k p.0 p.1) p.1)
+      ap (has_grown least (base_of bases (k + 1))) p.2 ∙ (ap (λ (b : ℕ). has_grown least b (query_state_weight p.0)) (base_at bases k) ∙ none k p.0 (slice_get_within query_states k p.0 p.1) p.1)
 
   -- what is not chosen has no window
-  pub others_free : (chosen : List Bool) → OthersAreFree (length parts) parts chosen → (k : ℕ) (q : Query) → slice_get s.queries k ≡ Some q → is_chosen chosen k ≡ false → q.window ≡ Free
-  others_free chosen free = subst (λ (t : State). (k : ℕ) (q : Query) → slice_get t.queries k ≡ Some q → is_chosen chosen k ≡ false → q.window ≡ Free) is (λ k q at other. (
-      let one = mapped (λ (p : Phase). p.query) (parts_at count parts clocks) k q at in
-      let two = clocked_back (map (dormant_at count) parts) clocks k one.0 one.1 in
-      let three = mapped (dormant_at count) parts k two.0 two.1 in
+  pub others_free : (chosen : List Bool) → OthersAreFree (length query_states) query_states chosen → (k : ℕ) (q : Query) → slice_get s.queries k ≡ Some q → is_chosen chosen k ≡ false → q.window ≡ Free
+  others_free chosen free = subst (λ (t : EngineState). (k : ℕ) (q : Query) → slice_get t.queries k ≡ Some q → is_chosen chosen k ≡ false → q.window ≡ Free) is (λ k q at other. (
+      let one = mapped (λ (p : Phase). p.query) (query_states_at count query_states clocks) k q at in
+      let two = clocked_back (map (phase_at count) query_states) clocks k one.0 one.1 in
+      let three = mapped (phase_at count) query_states k two.0 two.1 in
       let query : three.0.query ≡ q = ap (λ (p : Phase). p.query) three.2 ∙ (ap (λ (p : Phase). p.query) two.2 ∙ one.2) in
-      ap (λ (x : Query). x.window) (sym query) ∙ free k three.0 (slice_get_within parts k three.0 three.1) three.1 other))
+      ap (λ (x : Query). x.window) (sym query) ∙ free k three.0 (slice_get_within query_states k three.0 three.1) three.1 other))
 
-  pub noted_sizes : (chosen : List Bool) (old new : List Size) → AreNoted chosen (length parts) parts old new → (k : ℕ) (q : Query) → slice_get s.queries k ≡ Some q → is_chosen chosen k ≡ true → base_of new (k + 1) ≡ size_of s (k + 1)
+  pub noted_sizes : (chosen : List Bool) (old new : List Size) → AreNoted chosen (length query_states) query_states old new → (k : ℕ) (q : Query) → slice_get s.queries k ≡ Some q → is_chosen chosen k ≡ true → base_of new (k + 1) ≡ size_of s (k + 1)
   noted_sizes chosen old new noted k q at flag =
       let p = weighed k q at in
-      base_at new k ∙ (noted.chosen_ones k p.0 (slice_get_within parts k p.0 p.1) p.1 flag ∙ sym p.2)
+      base_at new k ∙ (noted.chosen_ones k p.0 (slice_get_within query_states k p.0 p.1) p.1 flag ∙ sym p.2)
 
-  -- every query is chosen where every part is
-  pub all_chosen : (new : State) → SameQueries s new → (slice : List Phase) → slice ≡ parts → (items flags : List Bool) → flags ≡ items → ((k : ℕ) → k < length slice → is_chosen items k ≡ true) → (k : ℕ) (q : Query) → slice_get new.queries k ≡ Some q → is_chosen flags k ≡ true
+  -- every query is chosen where every query state is
+  pub all_chosen : (new : EngineState) → SameQueries s new → (slice : List Phase) → slice ≡ query_states → (items flags : List Bool) → flags ≡ items → ((k : ℕ) → k < length slice → is_chosen items k ≡ true) → (k : ℕ) (q : Query) → slice_get new.queries k ≡ Some q → is_chosen flags k ≡ true
   all_chosen new same slice slice_is items flags flags_is every k q at =
       let inside = slice_get_within new.queries k q at in
       let as_many = ap length same.1 in
-      let long = parts_long in
+      let long = query_states_long in
       let many = ap length slice_is in
       subst (λ (bs : List Bool). is_chosen bs k ≡ true) (sym flags_is) (every k (omega arith))
 
 -- EVERY QUERY
 
-pub all_left : (chosen : List Bool) (engine : State) (held : List Open) → ((k : ℕ) (q : Query) → slice_get engine.queries k ≡ Some q → is_chosen chosen k ≡ true) → IsLeftOf chosen engine held → IsLeft engine held
+pub all_left : (chosen : List Bool) (engine : EngineState) (held : List Open) → ((k : ℕ) (q : Query) → slice_get engine.queries k ≡ Some q → is_chosen chosen k ≡ true) → IsLeftOf chosen engine held → IsLeft engine held
 all_left chosen engine held all left k q p q_at p_at = left k q p q_at p_at (all k q q_at)
 
-pub chosen_within : (chosen : List Bool) (engine : State) → chosen_bounds chosen engine ≤ compact_bounds engine
+pub chosen_within : (chosen : List Bool) (engine : EngineState) → chosen_bounds chosen engine ≤ compact_bounds engine
 chosen_within chosen engine = each_at_most (length engine.queries) (λ k. cond (is_chosen chosen (k - 1)) (8 * len_of engine k + 4 * places_of engine k) 0) (λ k. 8 * len_of engine k + 4 * places_of engine k)
     (λ j less. at_most (is_chosen chosen (j + 1 - 1)) (8 * len_of engine (j + 1) + 4 * places_of engine (j + 1)))
   where
@@ -137,16 +137,16 @@ free_clock : (schema : Declared) (q : Query) (events : List Event) (x : ℕ) (cl
 free_clock schema q events x clock free h = subst (λ (w : Window). HasClock schema w h.event x clock) free h.clock_is
 
 -- so the nodes follow it, compacted or not
-pub free_follows : (engine : State) (events : List Event) (held : List Open) → StandsFor engine events → IsDense engine events → (k : ℕ) (q : Query) → slice_get engine.queries k ≡ Some q → q.window ≡ Free → IsFollowed engine events held k q
+pub free_follows : (engine : EngineState) (events : List Event) (held : List Open) → StandsFor engine events → IsDense engine events → (k : ℕ) (q : Query) → slice_get engine.queries k ≡ Some q → q.window ≡ Free → IsFollowed engine events held k q
 unfolding StandsFor
 free_follows engine events held stands dense k q at free =
-    let found = part_of_query (kept_of engine) events k q stands at in
-    let part = found.0 in
-    let st = stands.each k q part at found.1 in
+    let found = query_state_of_query (kept_of engine) events k q stands at in
+    let query_state = found.0 in
+    let st = stands.each k q query_state at found.1 in
     let h = dense_nodes engine events dense k q at in
     let may : (x : ℕ) → IsReadFrom engine.schema q events 0 x → MayStartAt engine events q x = λ x r. (
     let clock = free_clock engine.schema q events x r.clock free r.has in
-    let own = last_clock engine.schema q events part.clock x r.clock st.clock st.unread r.has in
+    let own = last_clock engine.schema q events query_state.clock x r.clock st.clock st.unread r.has in
     record { clock = r.clock; has = r.has; recent = (own.0, own.1, none_out q own.0 r.clock x free clock) }) in
     record {
       number = len_of engine (k + 1);
@@ -183,18 +183,18 @@ has_doubled : (least base now : ℕ) → has_grown least base now ≡ true → 2
 has_doubled least base now grown = leb-true (2 * base) now (second (nat_le least now) (nat_le (2 * base) now) grown)
 
 -- What is left alone is as it was.
-pub alone : (least : ℕ) (engine : State) (bases : List Size) → ((k : ℕ) (q : Query) → slice_get engine.queries k ≡ Some q → has_grown least (base_of bases (k + 1)) (size_of engine (k + 1)) ≡ false) → (events : List Event) (held : List Open) → AreTended least engine engine events held bases bases
+pub alone : (least : ℕ) (engine : EngineState) (bases : List Size) → ((k : ℕ) (q : Query) → slice_get engine.queries k ≡ Some q → has_grown least (base_of bases (k + 1)) (size_of engine (k + 1)) ≡ false) → (events : List Event) (held : List Open) → AreTended least engine engine events held bases bases
 alone least engine bases none events held k q at = inr (record { noted = refl; same = refl; small = not_grown least (base_of bases (k + 1)) (size_of engine (k + 1)) (none k q at) })
 
 -- Which queries were chosen, what was noted of them, and that the others are as they were.
-pub record AreChosen (least : ℕ) (chosen : List Bool) (old new : State) (before after : List Size) : Type 0 where
+pub record AreChosen (least : ℕ) (chosen : List Bool) (old new : EngineState) (before after : List Size) : Type 0 where
   pub same : SameQueries old new
   pub flags : (k : ℕ) (q : Query) → slice_get old.queries k ≡ Some q → is_chosen chosen k ≡ has_grown least (base_of before (k + 1)) (size_of old (k + 1))
   pub noted : (k : ℕ) (q : Query) → slice_get new.queries k ≡ Some q → is_chosen chosen k ≡ true → base_of after (k + 1) ≡ size_of new (k + 1)
   pub others : (k : ℕ) → is_chosen chosen k ≡ false → base_of after (k + 1) ≡ base_of before (k + 1)
   pub stay : OthersAreKept chosen old new
 
-module _ (least : ℕ) (chosen : List Bool) (old new : State) (before after : List Size) (are : AreChosen least chosen old new before after) where
+module _ (least : ℕ) (chosen : List Bool) (old new : EngineState) (before after : List Size) (are : AreChosen least chosen old new before after) where
   query_before : (k : ℕ) (q : Query) → slice_get new.queries k ≡ Some q → slice_get old.queries k ≡ Some q
   query_before k q at = subst (λ (qs : List Query). slice_get qs k ≡ Some q) are.same.1 at
 
@@ -202,14 +202,14 @@ module _ (least : ℕ) (chosen : List Bool) (old new : State) (before after : Li
   unfolding len_of keys_of
   same_size k q at other =
       let number : k + 1 - 1 ≡ k = omega arith in
-      let f : Option Part → ℕ = λ o. option_map_or (λ (x : Part). length x.nodes) o 0 + 8 * option_map_or (λ (x : Part). length x.keys) o 0 in
-      ap (λ (i : ℕ). f (slice_get new.parts i)) number ∙ (ap f (are.stay k q at other) ∙ ap (λ (i : ℕ). f (slice_get old.parts i)) (sym number))
+      let f : Option QueryState → ℕ = λ o. option_map_or (λ (x : QueryState). length x.nodes) o 0 + 8 * option_map_or (λ (x : QueryState). length x.keys) o 0 in
+      ap (λ (i : ℕ). f (slice_get new.query_states i)) number ∙ (ap f (are.stay k q at other) ∙ ap (λ (i : ℕ). f (slice_get old.query_states i)) (sym number))
 
   pub tended : (events : List Event) (held : List Open) → StandsFor new events → IsDense new events → IsLeftOf chosen new held → AreTended least old new events held before after
   tended events held stands dense left k q at = elim (cases_Bool (is_chosen chosen k)) [
     | inl flag ↦ inl (record {
       noted = are.noted k q at flag;
-      window = followed_is_sized new events held k q (query_follows_window new events held stands dense k q at (λ part part_at. left k q part at part_at flag)) (query_keys_follow new events held stands k q at (λ part part_at. left k q part at part_at flag));
+      window = followed_is_sized new events held k q (query_follows_window new events held stands dense k q at (λ query_state query_state_at. left k q query_state at query_state_at flag)) (query_keys_follow new events held stands k q at (λ query_state query_state_at. left k q query_state at query_state_at flag));
     })
     | inr other ↦
         let was = query_before k q at in
@@ -224,11 +224,11 @@ module _ (least : ℕ) (chosen : List Bool) (old new : State) (before after : Li
   few_entries : (events : List Event) → StandsFor old events → (k : ℕ) (q : Query) → slice_get old.queries k ≡ Some q → places_of old (k + 1) ≤ len_of old (k + 1)
   unfolding StandsFor len_of places_of
   few_entries events stands k q at =
-      let found = part_of_query (kept_of old) events k q stands at in
+      let found = query_state_of_query (kept_of old) events k q stands at in
       let few = entries_few old.schema q events found.0 (stands.each k q found.0 at found.1) in
       let number : k ≡ k + 1 - 1 = omega arith in
-      let here : option_map_or (λ (x : Part). places x.rows) (slice_get old.parts k) 0 ≤ option_map_or (λ (x : Part). length x.nodes) (slice_get old.parts k) 0 = subst (λ (o : Option Part). option_map_or (λ (x : Part). places x.rows) o 0 ≤ option_map_or (λ (x : Part). length x.nodes) o 0) (sym found.1) few in
-      subst (λ (i : ℕ). option_map_or (λ (x : Part). places x.rows) (slice_get old.parts i) 0 ≤ option_map_or (λ (x : Part). length x.nodes) (slice_get old.parts i) 0) number here
+      let here : option_map_or (λ (x : QueryState). places x.rows) (slice_get old.query_states k) 0 ≤ option_map_or (λ (x : QueryState). length x.nodes) (slice_get old.query_states k) 0 = subst (λ (o : Option QueryState). option_map_or (λ (x : QueryState). places x.rows) o 0 ≤ option_map_or (λ (x : QueryState). length x.nodes) o 0) (sym found.1) few in
+      subst (λ (i : ℕ). option_map_or (λ (x : QueryState). places x.rows) (slice_get old.query_states i) 0 ≤ option_map_or (λ (x : QueryState). length x.nodes) (slice_get old.query_states i) 0) number here
 
   -- what a query's compaction costs, it has put by
   query_pays : (events : List Event) → StandsFor old events → (j : ℕ) (q : Query) → slice_get old.queries j ≡ Some q → (flag : Bool) → is_chosen chosen j ≡ flag →
@@ -258,9 +258,9 @@ module _ (least : ℕ) (chosen : List Bool) (old new : State) (before after : Li
       omega (arith, both, each, queries)
 
 -- A compaction that spares queries without a window leaves nodes that follow the windows.
-pub spared_follows : (chosen : List Bool) (old new : State) (events : List Event) (held : List Open) → SameQueries old new → ((k : ℕ) (q : Query) → slice_get old.queries k ≡ Some q → is_chosen chosen k ≡ false → q.window ≡ Free) → StandsFor new events → IsDense new events → IsLeftOf chosen new held → FollowsWindow new events held
+pub spared_follows : (chosen : List Bool) (old new : EngineState) (events : List Event) (held : List Open) → SameQueries old new → ((k : ℕ) (q : Query) → slice_get old.queries k ≡ Some q → is_chosen chosen k ≡ false → q.window ≡ Free) → StandsFor new events → IsDense new events → IsLeftOf chosen new held → FollowsWindow new events held
 spared_follows chosen old new events held same free stands dense left k q at = elim (cases_Bool (is_chosen chosen k)) [
-  | inl flag ↦ query_follows_window new events held stands dense k q at (λ part part_at. left k q part at part_at flag)
+  | inl flag ↦ query_follows_window new events held stands dense k q at (λ query_state query_state_at. left k q query_state at query_state_at flag)
   | inr other ↦ free_follows new events held stands dense k q at (free k q (subst (λ (qs : List Query). slice_get qs k ≡ Some q) same.1 at) other)
 ]
 

@@ -1,14 +1,14 @@
--- What is left of each part once the parts are compacted one after the other.
+-- What is left of each query state once the query states are compacted one after the other.
 use Rattle.std.proofs.Common.{◌≡◌, ℕ, zero, suc, ◌+◌, ◌<◌, ℤ, Bool, List, [], ◌∷◌, map, length, get_or, sym, ap, ap₂, subst, ◌∙◌, Some, slice_get, slice_set, inl, inr, arith}
 use Rattle.std.proofs.lemmas.List.{map-id}
 use Rattle.std.proofs.lemmas.Bool.{cases_eq}
-use Rattle.tecs_enumerate.specs.Rest.{CursorState}
+use Rattle.tecs_enumerate.specs.Remaining.{CursorState}
 use Rattle.cel_terms.specs.declared.Query.{Query}
 use Rattle.cer_base.specs.declared.node.Node.{Node}
-use Rattle.query_standing.specs.Kept.{Rows, Part, low_at}
+use Rattle.query_standing.specs.Kept.{Rows, QueryState, low_at}
 use Rattle.all_or_none.specs.Phases.{Phase}
 use Rattle.arena_compact.specs.Compacted.{IsLeftFor, Lists, Held}
-use Rattle.query_part.specs.Compacting.{CursorsCompacted, AreRecent, PartCompacted}
+use Rattle.query_state.specs.Compacting.{CursorsCompacted, AreRecent, QueryStateCompacted}
 use Rattle.query_engine.specs.Compacting.{IsTrimmed, AreTrimmed}
 
 -- As many cursors; those of the query are the same.
@@ -31,28 +31,28 @@ still_left query low nodes rows vs us id h (Held w among mine needs late) =
     let same = h.mine among.0 w among.1 (ap (λ (x : CursorState). x.query) among.2 ∙ mine) in
     Held w (among.0, omega arith, same ∙ among.2) mine needs late
 
-still_trimmed : (query : ℕ) (vs us : List CursorState) (q : Query) (p : Part) → AreAlike query vs us → IsTrimmed query vs q p → IsTrimmed query us q p
+still_trimmed : (query : ℕ) (vs us : List CursorState) (q : Query) (p : QueryState) → AreAlike query vs us → IsTrimmed query vs q p → IsTrimmed query us q p
 still_trimmed query vs us q p h t = record {
   left = λ id lt. still_left query (low_at q p.clock) p.nodes p.rows vs us id h (t.left id lt);
   entries = t.entries;
   keys = t.keys;
 }
 
-set_there : (parts : List Phase) (k : ℕ) (v p : Phase) → k < length parts → slice_get (slice_set parts k v) k ≡ Some p → v ≡ p
+set_there : (query_states : List Phase) (k : ℕ) (v p : Phase) → k < length query_states → slice_get (slice_set query_states k v) k ≡ Some p → v ≡ p
 set_there [] k v p lt at = absurd (omega arith)
-set_there (x ∷ parts) zero v p lt at = cc
-set_there (x ∷ parts) (suc k) v p lt at = set_there parts k v p (omega arith) at
+set_there (x ∷ query_states) zero v p lt at = cc
+set_there (x ∷ query_states) (suc k) v p lt at = set_there query_states k v p (omega arith) at
 
-set_other : (parts : List Phase) (k j : ℕ) (v p : Phase) → j < k → slice_get (slice_set parts k v) j ≡ Some p → slice_get parts j ≡ Some p
+set_other : (query_states : List Phase) (k j : ℕ) (v p : Phase) → j < k → slice_get (slice_set query_states k v) j ≡ Some p → slice_get query_states j ≡ Some p
 set_other [] k j v p lt at = at
-set_other (x ∷ parts) zero j v p lt at = absurd (omega arith)
-set_other (x ∷ parts) (suc k) zero v p lt at = at
-set_other (x ∷ parts) (suc k) (suc j) v p lt at = set_other parts k j v p (omega arith) at
+set_other (x ∷ query_states) zero j v p lt at = absurd (omega arith)
+set_other (x ∷ query_states) (suc k) zero v p lt at = at
+set_other (x ∷ query_states) (suc k) (suc j) v p lt at = set_other query_states k j v p (omega arith) at
 
--- one part more is trimmed
-pub all_trimmed : (chosen : List Bool) (k : ℕ) (cur : List Phase) (q v : Phase) (vs us : List CursorState) → k < length cur → v.query ≡ q.query → PartCompacted (k + 1) (low_at q.query q.kept.clock) q.kept v.kept (map (λ w. w) vs) (map (λ w. w) us) → AreTrimmed chosen k vs cur → AreTrimmed chosen (k + 1) us (slice_set cur k v)
+-- one query state more is trimmed
+pub all_trimmed : (chosen : List Bool) (k : ℕ) (cur : List Phase) (q v : Phase) (vs us : List CursorState) → k < length cur → v.query ≡ q.query → QueryStateCompacted (k + 1) (low_at q.query q.kept.clock) q.kept v.kept (map (λ w. w) vs) (map (λ w. w) us) → AreTrimmed chosen k vs cur → AreTrimmed chosen (k + 1) us (slice_set cur k v)
 all_trimmed chosen k cur q v vs us lt same c h j p less at flag =
-    let of = subst (λ (xs : List CursorState). PartCompacted (k + 1) (low_at q.query q.kept.clock) q.kept v.kept xs us) (map-id vs) (subst (PartCompacted (k + 1) (low_at q.query q.kept.clock) q.kept v.kept (map (λ w. w) vs)) (map-id us) c) in
+    let of = subst (λ (xs : List CursorState). QueryStateCompacted (k + 1) (low_at q.query q.kept.clock) q.kept v.kept xs us) (map-id vs) (subst (QueryStateCompacted (k + 1) (low_at q.query q.kept.clock) q.kept v.kept (map (λ w. w) vs)) (map-id us) c) in
     elim (cases_eq j k) [
       | inl is ↦
           let here : v ≡ p = set_there cur k v p lt (subst (λ n. slice_get (slice_set cur k v) n ≡ Some p) is at) in

@@ -4,9 +4,9 @@ use Rattle.stream_schema.specs.Types.{Declared, IsWellDeclared}
 use Rattle.stream_schema.specs.declared.Event.{Event}
 use Rattle.cel_terms.specs.declared.Query.{Query}
 use Rattle.query_engine.specs.Clocks.{Reads}
-use Rattle.query_engine.specs.Engine.{State, Open, StandsFor, KeepsCursors, SameQueries, found_of, len_of, peak_of}
+use Rattle.query_engine.specs.Engine.{EngineState, Open, StandsFor, KeepsCursors, SameQueries, found_of, len_of, peak_of}
 use Rattle.query_engine.specs.Windows.{later_of, IsDense, FollowsWindowSince}
-use Rattle.query_engine.specs.Machine.{Machine, Take, Done, with_event, IsStep, IsMachine}
+use Rattle.query_engine.specs.EngineModel.{EngineModel, Take, Done, with_event, IsStep, IsEngineModel}
 
 -- A blank event: its type is not declared.
 abbrev pub IsBlank : Declared → Event → Type 0
@@ -18,7 +18,7 @@ pub record AreBlanks (schema : Declared) (before after : ℕ) (blanks : List Eve
   pub count : before + length blanks ≡ after
 
 -- What was found and is kept stays: states, nodes with their greatest starts, and the most nodes that there were.
-pub record KeepsAll (old new : State) : Type 0 where
+pub record KeepsAll (old new : EngineState) : Type 0 where
   pub found : (query : ℕ) → found_of new query ≡ found_of old query
   pub nodes : (query : ℕ) → len_of new query ≡ len_of old query
   pub later : (query position : ℕ) → later_of new query position ≡ later_of old query position
@@ -30,20 +30,20 @@ BlanksAreUnread = (schema : Declared) (q : Query) (event : Event) → IsWellDecl
 
 -- Over events that are put after, what bounds the nodes stays, where nothing is kept of them.
 abbrev pub SkippingKeepsDense : Type 0
-SkippingKeepsDense = (old new : State) (events more : List Event) →
+SkippingKeepsDense = (old new : EngineState) (events more : List Event) →
     SameQueries old new → KeepsAll old new → IsDense old events → IsDense new (events ++ more)
 
 abbrev pub SkippingKeepsWindow : Type 0
-SkippingKeepsWindow = (old new : State) (events more : List Event) (first : ℕ) → first ≤ length events →
+SkippingKeepsWindow = (old new : EngineState) (events more : List Event) (first : ℕ) → first ≤ length events →
     SameQueries old new → KeepsAll old new → FollowsWindowSince first old events → FollowsWindowSince first new (events ++ more)
 
--- The machine takes these events, one after the other.
-abbrev pub TakesAll : Declared → List Query → Machine → List Event → Machine → Type 0
+-- The model takes these events, one after the other.
+abbrev pub TakesAll : Declared → List Query → EngineModel → List Event → EngineModel → Type 0
 TakesAll schema queries m [] after = after ≡ m
 TakesAll schema queries m (event ∷ events) after = IsStep schema queries m (Take event) Done (with_event m event) × TakesAll schema queries (with_event m event) events after
 
--- Where positions are skipped, the machine takes a blank event for each, and its cursors stay.
+-- Where positions are skipped, the model takes a blank event for each, and its cursors stay.
 abbrev pub SkippingIsSteps : Type 0
-SkippingIsSteps = (old new : State) (held : List Open) (m : Machine) (blanks : List Event) → IsWellDeclared old.schema → IsMachine old held m →
+SkippingIsSteps = (old new : EngineState) (held : List Open) (m : EngineModel) (blanks : List Event) → IsWellDeclared old.schema → IsEngineModel old held m →
     All (IsBlank old.schema) blanks → StandsFor new (m.events ++ blanks) → KeepsCursors old new →
-    TakesAll old.schema old.queries m blanks (record m { events = m.events ++ blanks }) × IsMachine new held (record m { events = m.events ++ blanks })
+    TakesAll old.schema old.queries m blanks (record m { events = m.events ++ blanks }) × IsEngineModel new held (record m { events = m.events ++ blanks })

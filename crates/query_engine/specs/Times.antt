@@ -6,11 +6,11 @@ use Rattle.stream_schema.specs.Types.{Declared}
 use Rattle.stream_schema.specs.declared.Event.{Event}
 use Rattle.cel_terms.specs.declared.Query.{Query}
 use Rattle.window_clock.specs.Places.{clock_in, IsOf}
-use Rattle.query_standing.specs.Kept.{PartStands}
+use Rattle.query_standing.specs.Kept.{QueryStateStands}
 use Rattle.query_standing.specs.Dormancy.{IsClockOf, ShareClock}
 use Rattle.all_or_none.specs.Phases.{Phase, is_among, AreRising}
-use Rattle.all_or_none.specs.Dormancy.{dormant_at, HasTimes}
-use Rattle.query_part.specs.Parts.{reads_type}
+use Rattle.all_or_none.specs.Dormancy.{phase_at, HasTimes}
+use Rattle.query_state.specs.QueryStates.{reads_type}
 use Rattle.query_engine.specs.declared.falls.FallOf.{FallOf}
 use Rattle.query_engine.specs.declared.times.Group.{Group}
 use Rattle.query_engine.specs.declared.times.Times.{Times}
@@ -32,22 +32,22 @@ clocks_in times = clocks_of times.groups.items times.numbers.items
 abbrev pub AreClocksOf : Declared → List Query → List Event → List (Option ℤ) → Type 0
 AreClocksOf schema queries events clocks = (k : ℕ) (q : Query) → slice_get queries k ≡ Some q → IsClockOf schema q events (slice_index_or clocks k None)
 
--- the part with this clock
+-- the query state with this clock
 abbrev pub with_clock : Option ℤ → Phase → Phase
 with_clock clock p = record p { kept = record p.kept { clock = clock } }
 
--- each part with its query's clock
+-- each query state with its query's clock
 abbrev pub with_clocks : List Phase → List (Option ℤ) → List Phase
 with_clocks [] clocks = []
-with_clocks (p ∷ parts) clocks = with_clock (slice_index_or clocks 0 None) p ∷ with_clocks parts (drop 1 clocks)
+with_clocks (p ∷ query_states) clocks = with_clock (slice_index_or clocks 0 None) p ∷ with_clocks query_states (drop 1 clocks)
 
--- what the parts are after so many events, with these clocks
-abbrev pub parts_at : ℕ → List Phase → List (Option ℤ) → List Phase
-parts_at count parts clocks = with_clocks (map (dormant_at count) parts) clocks
+-- what the query states are after so many events, with these clocks
+abbrev pub query_states_at : ℕ → List Phase → List (Option ℤ) → List Phase
+query_states_at count query_states clocks = with_clocks (map (phase_at count) query_states) clocks
 
--- With its clock the part is as it is after these events.
+-- With its clock the query state is as it is after these events.
 abbrev pub IsAfter : List Event → Phase → Type 0
-IsAfter events p = PartStands p.schema p.query events p.kept
+IsAfter events p = QueryStateStands p.schema p.query events p.kept
 
 -- THE GROUPS
 
@@ -80,9 +80,9 @@ IsBlankGroup g = g.clock.last ≡ None
 abbrev pub AreHeadsIn : ℕ → List Group → Type 0
 AreHeadsIn count groups = All (λ (g : Group). (1 ≤ g.query) × (g.query ≤ count)) groups
 
--- the part's query shares the clock of the least query of the group with this number
+-- the query state's query shares the clock of the least query of the group with this number
 abbrev pub SharesWith : Phase → List Group → List Phase → ℕ → Type 0
-SharesWith part groups parts number = (g : Group) (p : Phase) → slice_get groups (number - 1) ≡ Some g → slice_get parts (g.query - 1) ≡ Some p → ShareClock part.schema part.query p.query
+SharesWith query_state groups query_states number = (g : Group) (p : Phase) → slice_get groups (number - 1) ≡ Some g → slice_get query_states (g.query - 1) ≡ Some p → ShareClock query_state.schema query_state.query p.query
 
 -- The numbers, from 1 and rising, are exactly those of the first so many elements that pass the test.
 pub record AreThose {A : Type 0} (test : A → Bool) (count : ℕ) (xs : List A) (numbers : List ℕ) : Type 0 where

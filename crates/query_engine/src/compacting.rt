@@ -1,11 +1,11 @@
-//! Compaction of the parts of an engine.
+//! Compaction of the query states of an engine.
 
 ghost use Rattle.std.specs.Prelude.{◌≡◌, ◌+◌, ◌≤◌, length, map, All};
 ghost use Rattle.std.specs.List.{AllZip};
 ghost use Rattle.all_or_none.specs.Phases.{IsIdle};
-ghost use Rattle.query_part.specs.Parts.{woken};
+ghost use Rattle.query_state.specs.QueryStates.{woken};
 ghost use Rattle.query_engine.specs.Times.{clocks_in, with_clocks, AreInside};
-ghost use Rattle.query_engine.specs.Compacting.{CanCompact, FitsPart, HaveRoom, IsCompacted, AreOnce, OthersStay, AreTrimmed, AreCarried, cost_of};
+ghost use Rattle.query_engine.specs.Compacting.{CanCompact, FitsQueryState, HaveRoom, IsCompacted, AreOnce, OthersStay, AreTrimmed, AreCarried, cost_of};
 
 use crate::cursor::Cursor;
 use crate::times::Times;
@@ -13,7 +13,7 @@ use arena_compact::{HasCursor, Room};
 use cer_base::Pos;
 use cer_base::node::Id;
 use cer_base::steps::Steps;
-use query_part::Part;
+use query_state::QueryState;
 use std::sync::ledger::Ledger;
 use tecs_enumerate::Cursor as Walk;
 
@@ -29,35 +29,35 @@ impl HasCursor for Cursor {
     }
 }
 
-/// The most nodes that a part has which is chosen.
-pub fn most_nodes(parts: &[Part], chosen: &[bool]) -> u64
-    requires idle { All IsIdle parts.now }
-    requires flags { length chosen.now ≡ length parts.now }
-    ensures { HaveRoom chosen.now result parts.now }
+/// The most nodes that a query state has which is chosen.
+pub fn most_nodes(query_states: &[QueryState], chosen: &[bool]) -> u64
+    requires idle { All IsIdle query_states.now }
+    requires flags { length chosen.now ≡ length query_states.now }
+    ensures { HaveRoom chosen.now result query_states.now }
 {
     let mut most = 0;
-    for k in 0..parts.len() {
+    for k in 0..query_states.len() {
         if chosen[k] {
-            most = parts[k].len().max(most);
+            most = query_states[k].len().max(most);
         }
     }
     most
 }
 
-/// Settles each part after so many events.
-pub fn settle_all(parts: &mut [Part], count: Pos)
-    requires idle { All IsIdle parts.old }
-    ensures { parts.new ≡ map (woken count) parts.old }
+/// Settles each query state after so many events.
+pub fn settle_all(query_states: &mut [QueryState], count: Pos)
+    requires idle { All IsIdle query_states.old }
+    ensures { query_states.new ≡ map (woken count) query_states.old }
 {
-    for k in 0..parts.len() {
-        parts[k].settle(count);
+    for k in 0..query_states.len() {
+        query_states[k].settle(count);
     }
 }
 
-/// Compacts each part that is chosen, with its query's clock and with the cursors of it that are held.
-/// The room is for as many nodes as each of them has. It takes no memory.
+/// Compacts each query state that is chosen, with its query's clock and with the cursors of it that
+/// are held. The room is for as many nodes as each of them has. It takes no memory.
 fn compact_all<L: Ledger>(
-    parts: &mut [Part],
+    query_states: &mut [QueryState],
     times: &Times,
     chosen: &[bool],
     held: &mut [Cursor],
@@ -65,35 +65,37 @@ fn compact_all<L: Ledger>(
     steps: &mut Steps<L>,
 )
     requires times { AreInside times.now.groups.items times.now.numbers.items }
-    requires clocks { length times.now.numbers.items ≡ length parts.old }
-    requires flags { length chosen.now ≡ length parts.old }
-    requires parts { All CanCompact parts.old }
-    requires room { HaveRoom chosen.now room.old parts.old }
-    requires held { All (FitsPart (with_clocks parts.old (clocks_in times.now))) held.old }
-    ensures parts { AllZip IsCompacted (with_clocks parts.old (clocks_in times.now))
-        (with_clocks parts.new (clocks_in times.now)) }
-    ensures left { AreTrimmed chosen.now (length parts.old) held.new
-        (with_clocks parts.new (clocks_in times.now)) }
-    ensures once { AreOnce chosen.now (length parts.old)
-        (with_clocks parts.old (clocks_in times.now)) }
-    ensures others { OthersStay chosen.now (length parts.old)
-        (with_clocks parts.old (clocks_in times.now))
-        (with_clocks parts.new (clocks_in times.now)) }
-    ensures held { AreCarried (length parts.old) (with_clocks parts.old (clocks_in times.now))
-        (with_clocks parts.new (clocks_in times.now)) held.old held.new }
+    requires clocks { length times.now.numbers.items ≡ length query_states.old }
+    requires flags { length chosen.now ≡ length query_states.old }
+    requires query_states { All CanCompact query_states.old }
+    requires room { HaveRoom chosen.now room.old query_states.old }
+    requires held { All (FitsQueryState
+        (with_clocks query_states.old (clocks_in times.now))) held.old }
+    ensures query_states { AllZip IsCompacted (with_clocks query_states.old (clocks_in times.now))
+        (with_clocks query_states.new (clocks_in times.now)) }
+    ensures left { AreTrimmed chosen.now (length query_states.old) held.new
+        (with_clocks query_states.new (clocks_in times.now)) }
+    ensures once { AreOnce chosen.now (length query_states.old)
+        (with_clocks query_states.old (clocks_in times.now)) }
+    ensures others { OthersStay chosen.now (length query_states.old)
+        (with_clocks query_states.old (clocks_in times.now))
+        (with_clocks query_states.new (clocks_in times.now)) }
+    ensures held { AreCarried (length query_states.old)
+        (with_clocks query_states.old (clocks_in times.now))
+        (with_clocks query_states.new (clocks_in times.now)) held.old held.new }
     ensures steps { steps.new ≤ steps.old
-        + cost_of chosen.now (with_clocks parts.old (clocks_in times.now)) }
+        + cost_of chosen.now (with_clocks query_states.old (clocks_in times.now)) }
 {
-    for k in 0..parts.len() {
+    for k in 0..query_states.len() {
         if chosen[k] {
-            parts[k].compact(k as u64 + 1, held, times.clock(k), room, steps);
+            query_states[k].compact(k as u64 + 1, held, times.clock(k), room, steps);
         }
     }
 }
 
-/// Settles each part, as after so many events, and compacts those that are chosen.
-pub fn compact_parts<L: Ledger>(
-    parts: &mut [Part],
+/// Settles each query state, as after so many events, and compacts those that are chosen.
+pub fn compact_query_states<L: Ledger>(
+    query_states: &mut [QueryState],
     times: &Times,
     count: Pos,
     chosen: &[bool],
@@ -101,28 +103,30 @@ pub fn compact_parts<L: Ledger>(
     room: &mut Room,
     steps: &mut Steps<L>,
 )
-    requires idle { All IsIdle parts.old }
+    requires idle { All IsIdle query_states.old }
     requires times { AreInside times.now.groups.items times.now.numbers.items }
-    requires clocks { length times.now.numbers.items ≡ length parts.old }
-    requires flags { length chosen.now ≡ length parts.old }
-    requires parts { All CanCompact (map (woken count) parts.old) }
-    requires room { HaveRoom chosen.now room.old (map (woken count) parts.old) }
-    requires held { All (FitsPart (with_clocks (map (woken count) parts.old)
+    requires clocks { length times.now.numbers.items ≡ length query_states.old }
+    requires flags { length chosen.now ≡ length query_states.old }
+    requires query_states { All CanCompact (map (woken count) query_states.old) }
+    requires room { HaveRoom chosen.now room.old (map (woken count) query_states.old) }
+    requires held { All (FitsQueryState (with_clocks (map (woken count) query_states.old)
         (clocks_in times.now))) held.old }
-    ensures parts { AllZip IsCompacted (with_clocks (map (woken count) parts.old)
-        (clocks_in times.now)) (with_clocks parts.new (clocks_in times.now)) }
-    ensures left { AreTrimmed chosen.now (length parts.old) held.new
-        (with_clocks parts.new (clocks_in times.now)) }
-    ensures once { AreOnce chosen.now (length parts.old)
-        (with_clocks (map (woken count) parts.old) (clocks_in times.now)) }
-    ensures others { OthersStay chosen.now (length parts.old)
-        (with_clocks (map (woken count) parts.old) (clocks_in times.now))
-        (with_clocks parts.new (clocks_in times.now)) }
-    ensures held { AreCarried (length parts.old) (with_clocks (map (woken count) parts.old)
-        (clocks_in times.now)) (with_clocks parts.new (clocks_in times.now)) held.old held.new }
+    ensures query_states { AllZip IsCompacted (with_clocks (map (woken count) query_states.old)
+        (clocks_in times.now)) (with_clocks query_states.new (clocks_in times.now)) }
+    ensures left { AreTrimmed chosen.now (length query_states.old) held.new
+        (with_clocks query_states.new (clocks_in times.now)) }
+    ensures once { AreOnce chosen.now (length query_states.old)
+        (with_clocks (map (woken count) query_states.old) (clocks_in times.now)) }
+    ensures others { OthersStay chosen.now (length query_states.old)
+        (with_clocks (map (woken count) query_states.old) (clocks_in times.now))
+        (with_clocks query_states.new (clocks_in times.now)) }
+    ensures held { AreCarried (length query_states.old)
+        (with_clocks (map (woken count) query_states.old)
+        (clocks_in times.now))
+        (with_clocks query_states.new (clocks_in times.now)) held.old held.new }
     ensures steps { steps.new ≤ steps.old + cost_of chosen.now (with_clocks
-        (map (woken count) parts.old) (clocks_in times.now)) }
+        (map (woken count) query_states.old) (clocks_in times.now)) }
 {
-    settle_all(parts, count);
-    compact_all(parts, times, chosen, held, room, steps);
+    settle_all(query_states, count);
+    compact_all(query_states, times, chosen, held, room, steps);
 }

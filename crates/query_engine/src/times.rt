@@ -12,7 +12,7 @@ ghost use Rattle.all_or_none.specs.Phases.{AreRising};
 
 use crate::falls::FallOf;
 use cer_base::{Memory, Pos};
-use query_part::Part;
+use query_state::QueryState;
 use std::alloc::Global;
 use stream_schema::{Event, Schema, TypeId};
 use window_clock::Clock;
@@ -38,17 +38,22 @@ pub struct Times {
 }
 
 impl Group {
-    /// The group of the part alone, whose query has this number, before any event.
-    fn of(alloc: Global, schema: &Schema, part: &Part, query: u64) -> Result<Group, Memory>
-        requires checked { IsChecked schema.now part.now.query }
+    /// The group of the query state alone, whose query has this number, before any event.
+    fn of(
+        alloc: Global,
+        schema: &Schema,
+        query_state: &QueryState,
+        query: u64,
+    ) -> Result<Group, Memory>
+        requires checked { IsChecked schema.now query_state.now.query }
         ensures query { IfOk result (λ g. g.query ≡ query) }
         ensures group { IfOk result (λ g. (queries : List Query) → 1 ≤ query
-            → slice_get queries (query - 1) ≡ Some part.now.query
+            → slice_get queries (query - 1) ≡ Some query_state.now.query
             → IsGroupOf schema.now queries g) }
         ensures blank { IfOk result (λ g. g.clock.last ≡ None) }
     {
         schema.well_declared();
-        let clock = Clock::of(alloc, schema, part.query())?;
+        let clock = Clock::of(alloc, schema, query_state.query())?;
         Ok(Group {
             query,
             implicit: clock.is_position(),
@@ -85,44 +90,49 @@ impl Group {
     }
 }
 
-/// The number of a group whose clock the part shares, if there is one.
-fn find_group(groups: &[Group], parts: &[Part], part: &Part) -> Option<u64>
-    requires schemas { All (λ p. p.schema ≡ part.now.schema) parts.now }
-    requires heads { AreHeadsIn (length parts.now) groups.now }
+/// The number of a group whose clock the query state shares, if there is one.
+fn find_group(
+    groups: &[Group],
+    query_states: &[QueryState],
+    query_state: &QueryState,
+) -> Option<u64>
+    requires schemas { All (λ p. p.schema ≡ query_state.now.schema) query_states.now }
+    requires heads { AreHeadsIn (length query_states.now) groups.now }
     ensures inside { IfSome result (λ n. (1 ≤ n) × (n ≤ length groups.now)) }
-    ensures shares { IfSome result (SharesWith part.now groups.now parts.now) }
+    ensures shares { IfSome result (SharesWith query_state.now groups.now query_states.now) }
 {
     for g in 0..groups.len() {
-        if part.shares_clock(&parts[groups[g].query as usize - 1]) {
+        if query_state.shares_clock(&query_states[groups[g].query as usize - 1]) {
             return Some(g as u64 + 1);
         }
     }
     None
 }
 
-/// Puts in the query of the next part: into a group whose clock it shares, or into one of its own.
+/// Puts in the query of the next query state: into a group whose clock it shares, or into one of
+/// its own.
 fn add_query(
     groups: &mut Vec<Group>,
     numbers: &mut Vec<u64>,
     alloc: Global,
     schema: &Schema,
-    parts: &[Part],
+    query_states: &[QueryState],
     k: usize,
 ) -> Result<(), Memory>
-    requires there { k < length parts.now }
-    requires schemas { All (λ p. p.schema ≡ schema.now) parts.now }
-    requires checked { All (λ p. IsChecked schema.now p.query) parts.now }
-    requires groups { AreGroups schema.now (map (λ p. p.query) parts.now) k groups.old.items
+    requires there { k < length query_states.now }
+    requires schemas { All (λ p. p.schema ≡ schema.now) query_states.now }
+    requires checked { All (λ p. IsChecked schema.now p.query) query_states.now }
+    requires groups { AreGroups schema.now (map (λ p. p.query) query_states.now) k groups.old.items
         numbers.old.items }
     requires blank { All IsBlankGroup groups.old.items }
-    ensures groups { OnOk result (AreGroups schema.now (map (λ p. p.query) parts.now) (k + 1)
+    ensures groups { OnOk result (AreGroups schema.now (map (λ p. p.query) query_states.now) (k + 1)
         groups.new.items numbers.new.items) }
     ensures blank { OnOk result (All IsBlankGroup groups.new.items) }
 {
-    match find_group(groups.as_slice(), parts, &parts[k]) {
+    match find_group(groups.as_slice(), query_states, &query_states[k]) {
         Some(number) => numbers.push(number)?,
         None => {
-            let group = Group::of(alloc, schema, &parts[k], k as u64 + 1)?;
+            let group = Group::of(alloc, schema, &query_states[k], k as u64 + 1)?;
             groups.push(group)?;
             numbers.push(groups.len() as u64)?;
         }
@@ -135,19 +145,20 @@ fn groups_reading(
     alloc: Global,
     schema: &Schema,
     groups: &[Group],
-    parts: &[Part],
+    query_states: &[QueryState],
     ty: TypeId,
 ) -> Result<Vec<u64>, Memory>
     requires declared { ty < length schema.now.types }
-    requires schemas { All (λ p. p.schema ≡ schema.now) parts.now }
-    requires heads { AreHeadsIn (length parts.now) groups.now }
-    ensures { IfOk result (λ v. AreThose (group_reads schema.now (map (λ p. p.query) parts.now) ty)
+    requires schemas { All (λ p. p.schema ≡ schema.now) query_states.now }
+    requires heads { AreHeadsIn (length query_states.now) groups.now }
+    ensures { IfOk result
+        (λ v. AreThose (group_reads schema.now (map (λ p. p.query) query_states.now) ty)
         (length groups.now) groups.now v.items) }
 {
     let _ = schema;
     let mut numbers = Vec::new(alloc);
     for g in 0..groups.len() {
-        if parts[groups[g].query as usize - 1].reads(ty) {
+        if query_states[groups[g].query as usize - 1].reads(ty) {
             numbers.push(g as u64 + 1)?;
         }
     }
@@ -159,16 +170,17 @@ fn groups_by_type(
     alloc: Global,
     schema: &Schema,
     groups: &[Group],
-    parts: &[Part],
+    query_states: &[QueryState],
 ) -> Result<Vec<Vec<u64>>, Memory>
-    requires schemas { All (λ p. p.schema ≡ schema.now) parts.now }
-    requires heads { AreHeadsIn (length parts.now) groups.now }
-    ensures { IfOk result (λ v. AreByType schema.now (map (λ p. p.query) parts.now) groups.now
+    requires schemas { All (λ p. p.schema ≡ schema.now) query_states.now }
+    requires heads { AreHeadsIn (length query_states.now) groups.now }
+    ensures { IfOk result
+        (λ v. AreByType schema.now (map (λ p. p.query) query_states.now) groups.now
         (length schema.now.types) v.items) }
 {
     let mut rows = Vec::new(alloc);
     for ty in 0..schema.types() {
-        rows.push(groups_reading(alloc, schema, groups, parts, ty)?)?;
+        rows.push(groups_reading(alloc, schema, groups, query_states, ty)?)?;
     }
     Ok(rows)
 }
@@ -194,21 +206,22 @@ fn move_clocks(groups: &mut [Group], numbers: &[u64], event: &Event, position: P
 }
 
 impl Times {
-    /// Those of the parts before any event.
-    pub fn of(alloc: Global, schema: &Schema, parts: &[Part]) -> Result<Times, Memory>
-        requires schemas { All (λ p. p.schema ≡ schema.now) parts.now }
-        requires checked { All (λ p. IsChecked schema.now p.query) parts.now }
-        ensures times { IfOk result (λ t. AreTimes schema.now (map (λ p. p.query) parts.now)
+    /// Those of the query states before any event.
+    pub fn of(alloc: Global, schema: &Schema, query_states: &[QueryState]) -> Result<Times, Memory>
+        requires schemas { All (λ p. p.schema ≡ schema.now) query_states.now }
+        requires checked { All (λ p. IsChecked schema.now p.query) query_states.now }
+        ensures times { IfOk result (λ t. AreTimes schema.now (map (λ p. p.query) query_states.now)
             t.groups.items t.numbers.items t.by_type.items) }
-        ensures clocks { IfOk result (λ t. AreClocksOf schema.now (map (λ p. p.query) parts.now) []
+        ensures clocks { IfOk result
+            (λ t. AreClocksOf schema.now (map (λ p. p.query) query_states.now) []
             (clocks_of t.groups.items t.numbers.items)) }
     {
         let mut groups = Vec::new(alloc);
         let mut numbers = Vec::new(alloc);
-        for k in 0..parts.len() {
-            add_query(&mut groups, &mut numbers, alloc, schema, parts, k)?;
+        for k in 0..query_states.len() {
+            add_query(&mut groups, &mut numbers, alloc, schema, query_states, k)?;
         }
-        let by_type = groups_by_type(alloc, schema, groups.as_slice(), parts)?;
+        let by_type = groups_by_type(alloc, schema, groups.as_slice(), query_states)?;
         Ok(Times {
             groups,
             numbers,

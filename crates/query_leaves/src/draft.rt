@@ -182,7 +182,8 @@ fn copied_parts<'q>(alloc: Global, parts: &[DraftPart<'q>]) -> Result<Vec<DraftP
 /// Trees of their own that equal those given.
 #[cycle(copied)]
 fn copied_each<'q>(alloc: Global, drafts: &[Draft<'q>]) -> Result<Vec<Draft<'q>>, Memory>
-    ensures { IfOk result (λ copies. map tree_of_draft copies.items ≡ map tree_of_draft drafts.now) }
+    ensures { IfOk result
+        (λ copies. map tree_of_draft copies.items ≡ map tree_of_draft drafts.now) }
 {
     let mut copies = Vec::new(alloc);
     for draft in drafts {

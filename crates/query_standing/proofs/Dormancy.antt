@@ -1,4 +1,4 @@
--- What is kept of a query stands for events that are not brought to it, and its clock is one that queries share.
+-- A query state stands for events that are not brought to it, and its clock is one that queries share.
 use Rattle.std.proofs.Common.{◌≡◌, ℕ, suc, ◌-◌, ◌+◌, ◌<◌, ◌≤◌, ◌⊎◌, inl, inr, ℤ, ◌≤ℤ◌, List, [], ◌∷◌, ◌++◌, length, refl, sym, ap, subst, ◌∙◌, All, Contains, Bool, true, false, Option, Some, None, slice_get, append_assoc, arith}
 use Rattle.std.specs.Prelude.{IfSome, IfNone, int_lt, ◌<ℤ◌}
 use Rattle.std.proofs.lemmas.Bool.{cases_lt, false≢true}
@@ -14,25 +14,25 @@ use Rattle.cea_determinise.specs.declared.cea.StateSets.{StateSets}
 use Rattle.cea_determinise.specs.Cea.{standing_of}
 use Rattle.query_standing.specs.Bounds.{IsMet}
 use Rattle.query_standing.specs.Clocks.{Reads, HasClockAt, NeverFalls, IsLastClock, FallsBack, NoneFallsBack, IsFirstToFall}
-use Rattle.query_standing.specs.Kept.{Part, PartStands}
+use Rattle.query_standing.specs.Kept.{QueryState, QueryStateStands}
 use Rattle.query_standing.specs.Steps.{Advances}
-use Rattle.query_standing.specs.Dormancy.{IsLastOfType, AreLasts, IsGreatest, dormant, IsClockOf, StandsWithClock, CanCome, IsMoved, Moves, IsLetPass, IsNoOp, AreNoOps, ShareClock, IsHeadOf, AreHeads}
+use Rattle.query_standing.specs.Dormancy.{IsLastOfType, AreLasts, IsGreatest, after_no_ops, IsClockOf, StandsWithClock, CanCome, IsMoved, Moves, IsLetPass, IsNoOp, AreNoOps, ShareClock, IsHeadOf, AreHeads}
 use Rattle.query_standing.proofs.Passing.{append_none}
-use Rattle.cel_terms.specs.Reading.{query_reads as is_reading}
+use Rattle.cel_terms.specs.EventsRead.{query_reads as is_reading}
 use Rattle.query_standing.proofs.Growing.{get_last, get_cases}
-use Rattle.query_standing.proofs.Parts.{clock_front, part_unread, length_more}
-use Rattle.query_standing.proofs.PartSteps.{part_no_key, part_resting, part_begins_none}
+use Rattle.query_standing.proofs.QueryStates.{clock_front, query_state_unread, length_more}
+use Rattle.query_standing.proofs.QueryStateSteps.{query_state_no_key, query_state_dormant, query_state_begins_none}
 use Rattle.query_standing.proofs.Reading.{is_read, reads_is}
 use Rattle.query_standing.proofs.Windows.{clock_is_one}
 
 -- the clock alone goes on
-clock_alone : (schema : Declared) (q : Query) (events : List Event) (event : Event) (part : Part) (clock : Option ℤ) → PartStands schema q events part → (m : IsMoved schema q (length events) event part.clock clock) → Advances schema q events event m.now part (dormant clock part)
-clock_alone schema q events event part clock s m = record {
+clock_alone : (schema : Declared) (q : Query) (events : List Event) (event : Event) (query_state : QueryState) (clock : Option ℤ) → QueryStateStands schema q events query_state → (m : IsMoved schema q (length events) event query_state.clock clock) → Advances schema q events event m.now query_state (after_no_ops clock query_state)
+clock_alone schema q events event query_state clock s m = record {
   reads = m.reads;
   now_is = m.now_is;
   in_time = m.in_time;
   clock = m.after_is;
-  extends = record { cea = refl; more_states = []; states = sym (append_none part.table.states); more_nodes = []; nodes = sym (append_none part.nodes) };
+  extends = record { cea = refl; more_states = []; states = sym (append_none query_state.table.states); more_nodes = []; nodes = sym (append_none query_state.nodes) };
   met = All-nil (λ (p : StateSets). IsMet schema q (events ++ event ∷ []) (standing_of p));
   sets = s.states.sets;
   distinct = s.states.distinct;
@@ -41,39 +41,39 @@ clock_alone schema q events event part clock s m = record {
 }
 
 -- one event
-pub sleeps_one : (schema : Declared) (q : Query) (events : List Event) (event : Event) (part : Part) (clock : Option ℤ) → PartStands schema q events part → Moves schema q (length events) event part.clock clock → (Reads schema q event → IsNoOp schema q event part) → PartStands schema q (events ++ event ∷ []) (dormant clock part)
-sleeps_one schema q events event part clock s (inl unread) leaves =
-    subst (λ c. PartStands schema q (events ++ event ∷ []) (dormant c part)) (sym unread.1) (part_unread schema q events event part s unread.0)
-sleeps_one schema q events event part clock s (inr moved) leaves =
-    let v = clock_alone schema q events event part clock s moved in
+pub sleeps_one : (schema : Declared) (q : Query) (events : List Event) (event : Event) (query_state : QueryState) (clock : Option ℤ) → QueryStateStands schema q events query_state → Moves schema q (length events) event query_state.clock clock → (Reads schema q event → IsNoOp schema q event query_state) → QueryStateStands schema q (events ++ event ∷ []) (after_no_ops clock query_state)
+sleeps_one schema q events event query_state clock s (inl unread) leaves =
+    subst (λ c. QueryStateStands schema q (events ++ event ∷ []) (after_no_ops c query_state)) (sym unread.1) (query_state_unread schema q events event query_state s unread.0)
+sleeps_one schema q events event query_state clock s (inr moved) leaves =
+    let v = clock_alone schema q events event query_state clock s moved in
     elim (leaves moved.reads) [
-      | inl none ↦ part_no_key schema q events event moved.now part (dormant clock part) s v (record { none = none; keys = refl; rows = refl; here = refl })
+      | inl none ↦ query_state_no_key schema q events event moved.now query_state (after_no_ops clock query_state) s v (record { none = none; keys = refl; rows = refl; here = refl })
       | inr other ↦ elim other [
-        | inl pass ↦ part_resting schema q events event moved.now part (dormant clock part) s v (record { unread = pass.unread; rests = pass.rests; table = refl; keys = refl; rows = refl; here = refl })
-        | inr nothing ↦ part_begins_none schema q events event moved.now part (dormant clock part) s v (record { begins = nothing.begins; empty = nothing.empty; table = refl; keys = refl; rows = refl; here = refl })
+        | inl pass ↦ query_state_dormant schema q events event moved.now query_state (after_no_ops clock query_state) s v (record { unread = pass.unread; is_dormant = pass.is_dormant; table = refl; keys = refl; rows = refl; here = refl })
+        | inr nothing ↦ query_state_begins_none schema q events event moved.now query_state (after_no_ops clock query_state) s v (record { begins = nothing.begins; empty = nothing.empty; table = refl; keys = refl; rows = refl; here = refl })
       ]
     ]
 
--- what leaves a part as it is does so with any clock
-leaves_slept : (schema : Declared) (q : Query) (event : Event) (part : Part) (clock : Option ℤ) → IsNoOp schema q event part → IsNoOp schema q event (dormant clock part)
-leaves_slept schema q event part clock (inl none) = inl none
-leaves_slept schema q event part clock (inr (inl pass)) = inr (inl (record { unread = pass.unread; rests = pass.rests }))
-leaves_slept schema q event part clock (inr (inr nothing)) = inr (inr (record { begins = nothing.begins; empty = nothing.empty; table = refl; keys = refl; rows = refl; here = refl }))
+-- what leaves a query state as it is does so with any clock
+leaves_slept : (schema : Declared) (q : Query) (event : Event) (query_state : QueryState) (clock : Option ℤ) → IsNoOp schema q event query_state → IsNoOp schema q event (after_no_ops clock query_state)
+leaves_slept schema q event query_state clock (inl none) = inl none
+leaves_slept schema q event query_state clock (inr (inl pass)) = inr (inl (record { unread = pass.unread; is_dormant = pass.is_dormant }))
+leaves_slept schema q event query_state clock (inr (inr nothing)) = inr (inr (record { begins = nothing.begins; empty = nothing.empty; table = refl; keys = refl; rows = refl; here = refl }))
 
-all_slept : (schema : Declared) (q : Query) (part : Part) (any : Option ℤ) (position : ℕ) (before : Option ℤ) (later : List Event) (after : Option ℤ) → AreNoOps schema q part position before later after → AreNoOps schema q (dormant any part) position before later after
-all_slept schema q part any position before [] after h = h
-all_slept schema q part any position before (event ∷ later) after h =
-    (h.0, h.1, λ reads. leaves_slept schema q event part any (h.2 reads), all_slept schema q part any (position + 1) h.0 later after h.3)
+all_slept : (schema : Declared) (q : Query) (query_state : QueryState) (any : Option ℤ) (position : ℕ) (before : Option ℤ) (later : List Event) (after : Option ℤ) → AreNoOps schema q query_state position before later after → AreNoOps schema q (after_no_ops any query_state) position before later after
+all_slept schema q query_state any position before [] after h = h
+all_slept schema q query_state any position before (event ∷ later) after h =
+    (h.0, h.1, λ reads. leaves_slept schema q event query_state any (h.2 reads), all_slept schema q query_state any (position + 1) h.0 later after h.3)
 
 -- all of them
-pub dormant_stands : (schema : Declared) (q : Query) (events : List Event) (event : Event) (later : List Event) (part : Part) (clock : Option ℤ) → PartStands schema q events part → AreNoOps schema q part (length events) part.clock (event ∷ later) clock → PartStands schema q (events ++ event ∷ later) (dormant clock part)
-dormant_stands schema q events event [] part clock s h =
-    subst (λ c. PartStands schema q (events ++ event ∷ []) (dormant c part)) (sym h.3) (sleeps_one schema q events event part h.0 s h.1 h.2)
-dormant_stands schema q events event (next ∷ later) part clock s h =
-    let one = sleeps_one schema q events event part h.0 s h.1 h.2 in
-    let others = subst (λ p. AreNoOps schema q (dormant h.0 part) p h.0 (next ∷ later) clock) (sym (length_more events event)) (all_slept schema q part h.0 (length events + 1) h.0 (next ∷ later) clock h.3) in
-    subst (λ es. PartStands schema q es (dormant clock part)) (append_assoc events (event ∷ []) (next ∷ later))
-    (dormant_stands schema q (events ++ event ∷ []) next later (dormant h.0 part) clock one others)
+pub no_ops_stand : (schema : Declared) (q : Query) (events : List Event) (event : Event) (later : List Event) (query_state : QueryState) (clock : Option ℤ) → QueryStateStands schema q events query_state → AreNoOps schema q query_state (length events) query_state.clock (event ∷ later) clock → QueryStateStands schema q (events ++ event ∷ later) (after_no_ops clock query_state)
+no_ops_stand schema q events event [] query_state clock s h =
+    subst (λ c. QueryStateStands schema q (events ++ event ∷ []) (after_no_ops c query_state)) (sym h.3) (sleeps_one schema q events event query_state h.0 s h.1 h.2)
+no_ops_stand schema q events event (next ∷ later) query_state clock s h =
+    let one = sleeps_one schema q events event query_state h.0 s h.1 h.2 in
+    let others = subst (λ p. AreNoOps schema q (after_no_ops h.0 query_state) p h.0 (next ∷ later) clock) (sym (length_more events event)) (all_slept schema q query_state h.0 (length events + 1) h.0 (next ∷ later) clock h.3) in
+    subst (λ es. QueryStateStands schema q es (after_no_ops clock query_state)) (append_assoc events (event ∷ []) (next ∷ later))
+    (no_ops_stand schema q (events ++ event ∷ []) next later (after_no_ops h.0 query_state) clock one others)
 
 -- last clocks of the same events are one
 one_last : (schema : Declared) (q : Query) (events : List Event) (b c : ℤ) → IsLastClock schema q events b → IsLastClock schema q events c → b ≡ c
@@ -85,7 +85,7 @@ one_last schema q events b c x y =
     let event : x.has.event ≡ y.has.event = (let both = sym (subst (λ p. slice_get events p ≡ Some x.has.event) here x.has.at) ∙ y.has.at in cc) in
     clock_is_one schema q.window y.has.event y.position b c (subst (λ e. HasClock schema q.window e y.position b) event (subst (λ p. HasClock schema q.window x.has.event p b) here x.has.clock_is)) y.has.clock_is
 
-pub clock_is_of_events : (schema : Declared) (q : Query) (events : List Event) (one other : Part) → PartStands schema q events one → PartStands schema q events other → one.clock ≡ other.clock
+pub clock_is_of_events : (schema : Declared) (q : Query) (events : List Event) (one other : QueryState) → QueryStateStands schema q events one → QueryStateStands schema q events other → one.clock ≡ other.clock
 clock_is_of_events schema q events one other s t = go one.clock other.clock s.clock s.unread t.clock t.unread
   where
     go : (b c : Option ℤ) → IfSome b (IsLastClock schema q events) → IfNone b ((p : ℕ) (event : Event) → slice_get events p ≡ Some event → Reads schema q event → ⊥) → IfSome c (IsLastClock schema q events) → IfNone c ((p : ℕ) (event : Event) → slice_get events p ≡ Some event → Reads schema q event → ⊥) → b ≡ c
@@ -164,14 +164,14 @@ moves schema q events event clock last can = elim (reads_or_not schema q event) 
       | inr le ↦ le
     ]
 
-pub lets_pass : (schema : Declared) (q : Query) (events : List Event) (event : Event) (part : Part) → StandsWithClock schema q events part → CanCome schema q events event → (Reads schema q event → IsNoOp schema q event part) → StandsWithClock schema q (events ++ event ∷ []) (record part { here = None })
-lets_pass schema q events event part s can leaves =
+pub lets_pass : (schema : Declared) (q : Query) (events : List Event) (event : Event) (query_state : QueryState) → StandsWithClock schema q events query_state → CanCome schema q events event → (Reads schema q event → IsNoOp schema q event query_state) → StandsWithClock schema q (events ++ event ∷ []) (record query_state { here = None })
+lets_pass schema q events event query_state s can leaves =
     let m = moves schema q events event s.0 s.1.clock can in
-    (m.0, sleeps_one schema q events event (record part { clock = s.0 }) m.0 s.1 m.1 (λ reads. with_clock (leaves reads)))
+    (m.0, sleeps_one schema q events event (record query_state { clock = s.0 }) m.0 s.1 m.1 (λ reads. with_clock (leaves reads)))
   where
-    with_clock : IsNoOp schema q event part → IsNoOp schema q event (record part { clock = s.0 })
+    with_clock : IsNoOp schema q event query_state → IsNoOp schema q event (record query_state { clock = s.0 })
     with_clock (inl none) = inl none
-    with_clock (inr (inl pass)) = inr (inl (record { unread = pass.unread; rests = pass.rests }))
+    with_clock (inr (inl pass)) = inr (inl (record { unread = pass.unread; is_dormant = pass.is_dormant }))
     with_clock (inr (inr nothing)) = inr (inr (record { begins = nothing.begins; empty = nothing.empty; table = refl; keys = refl; rows = refl; here = refl }))
 
 -- clocks of the same events are one
@@ -181,9 +181,9 @@ one_clock schema q events None (Some c) x y = absurd (x.none y.some.position y.s
 one_clock schema q events (Some b) None x y = absurd (y.none x.some.position x.some.has.event x.some.has.at x.some.has.read)
 one_clock schema q events (Some b) (Some c) x y = ap (λ z. Some z) (one_last schema q events b c x.some y.some)
 
-pub clock_is_given : (schema : Declared) (q : Query) (events : List Event) (part : Part) (clock : Option ℤ) → StandsWithClock schema q events part → IsClockOf schema q events clock → PartStands schema q events (record part { clock = clock })
-clock_is_given schema q events part clock s is =
-    subst (λ c. PartStands schema q events (record part { clock = c })) (one_clock schema q events s.0 clock (record { some = s.1.clock; none = s.1.unread }) is) s.1
+pub clock_is_given : (schema : Declared) (q : Query) (events : List Event) (query_state : QueryState) (clock : Option ℤ) → StandsWithClock schema q events query_state → IsClockOf schema q events clock → QueryStateStands schema q events (record query_state { clock = clock })
+clock_is_given schema q events query_state clock s is =
+    subst (λ c. QueryStateStands schema q events (record query_state { clock = c })) (one_clock schema q events s.0 clock (record { some = s.1.clock; none = s.1.unread }) is) s.1
 
 pub goes_on : (schema : Declared) (q : Query) (events : List Event) (event : Event) (before after : Option ℤ) → IsClockOf schema q events before → Moves schema q (length events) event before after → IsClockOf schema q (events ++ event ∷ []) after
 goes_on schema q events event before after is (inr m) = subst (IsClockOf schema q (events ++ event ∷ [])) (sym m.after_is) (record {

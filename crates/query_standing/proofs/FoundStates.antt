@@ -15,7 +15,7 @@ use Rattle.cea_determinise.specs.Strict.{Standing}
 use Rattle.cea_determinise.specs.Cea.{standing_of, HasLeavesBelow}
 use Rattle.cea_determinise.specs.Keys.{are_same_sets, Decides-sets}
 use Rattle.query_standing.specs.Bounds.{IsMet, MeetAtMost}
-use Rattle.query_standing.specs.Kept.{Part, PartStands}
+use Rattle.query_standing.specs.Kept.{QueryState, QueryStateStands}
 use Rattle.query_standing.proofs.Lists.{map_distinct}
 
 same_sets : (f g v w : LeafSet) → pair f v ≡ pair g w → (f ≡ g) × (v ≡ w)
@@ -51,5 +51,5 @@ met_at_most schema q events size states n sets distinct met most =
     let same = length_map standing_of states in
     omega arith
 
-pub states_are_met : (schema : Declared) (q : Query) (events : List Event) (part : Part) (n : ℕ) → PartStands schema q events part → MeetAtMost schema q events n → length part.table.states ≤ n
-states_are_met schema q events part n s most = met_at_most schema q events part.table.cea.size part.table.states n s.states.sets s.states.distinct s.states.met most
+pub states_are_met : (schema : Declared) (q : Query) (events : List Event) (query_state : QueryState) (n : ℕ) → QueryStateStands schema q events query_state → MeetAtMost schema q events n → length query_state.table.states ≤ n
+states_are_met schema q events query_state n s most = met_at_most schema q events query_state.table.cea.size query_state.table.states n s.states.sets s.states.distinct s.states.met most

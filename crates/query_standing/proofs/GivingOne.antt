@@ -1,4 +1,4 @@
--- Keys are given up one after the other: the last key takes the number of one that is.
+-- Keys are removed one after the other: the last key takes the number of one that is.
 use Rattle.std.proofs.Common.{◌≡◌, ◌≢◌, ℕ, zero, suc, ◌+◌, ◌-◌, ◌<◌, ◌≤◌, ◌⊎◌, inl, inr, Bool, true, false, List, [], ◌∷◌, length, take, refl, sym, ap, subst, ◌∙◌, Contains, Option, Some, None, slice_get, get_or, arith}
 use Rattle.std.specs.Prelude.{cond, ◌==◌, swap_remove, slice_set, slice_index_or}
 use Rattle.std.proofs.lemmas.Bool.{cases_eq, eqb-true, eqb-false}
@@ -7,16 +7,16 @@ use Rattle.std.proofs.lemmas.List.{get_or-take, get_or-set_same, get_or-set_othe
 use Rattle.stream_schema.specs.declared.Value.{Value}
 use Rattle.cer_base.specs.Repeats.{HasNoRepeats}
 use Rattle.query_standing.specs.Kept.{Rows}
-use Rattle.query_standing.specs.Giving.{IsHereMoved, AreGivenUp, renumbered}
+use Rattle.query_standing.specs.Giving.{IsHereMoved, AreRemoved, renumbered}
 use Rattle.query_standing.proofs.Lists.{got, at, none_in_nil}
 use Rattle.query_standing.proofs.KeyCases.{at_one_place}
 
--- no key is given up
+-- no key is removed
 same_here : (keys : List (List Value)) (o : Option ℕ) → IsHereMoved keys o keys o
 same_here keys None = tt
 same_here keys (Some n) = λ key is. is
 
-pub given_none : (keys : List (List Value)) (rows : List Rows) (here : Option ℕ) → AreGivenUp keys rows here keys rows here
+pub given_none : (keys : List (List Value)) (rows : List Rows) (here : Option ℕ) → AreRemoved keys rows here keys rows here
 given_none keys rows here = record {
   distinct = λ d. d;
   lists = λ l. l;
@@ -25,7 +25,7 @@ given_none keys rows here = record {
   here = same_here keys here;
 }
 
--- some keys are given up, and then more
+-- some keys are removed, and then more
 here_more : (a b c : List (List Value)) (ha hb hc : Option ℕ) → IsHereMoved a ha b hb → IsHereMoved b hb c hc → IsHereMoved a ha c hc
 here_more a b c None None None x y = tt
 here_more a b c None None (Some k) x y = absurd y
@@ -34,7 +34,7 @@ here_more a b c (Some m) None hc x y = absurd x
 here_more a b c (Some m) (Some n) None x y = absurd y
 here_more a b c (Some m) (Some n) (Some k) x y = λ key is. y key (x key is)
 
-pub given_more : (a b c : List (List Value)) (ra rb rc : List Rows) (ha hb hc : Option ℕ) → AreGivenUp a ra ha b rb hb → AreGivenUp b rb hb c rc hc → AreGivenUp a ra ha c rc hc
+pub given_more : (a b c : List (List Value)) (ra rb rc : List Rows) (ha hb hc : Option ℕ) → AreRemoved a ra ha b rb hb → AreRemoved b rb hb c rc hc → AreRemoved a ra ha c rc hc
 given_more a b c ra rb rc ha hb hc x y = record {
   distinct = λ d. y.distinct (x.distinct d);
   lists = λ l. y.lists (x.lists l);
@@ -116,10 +116,10 @@ swapped_apart xs i d inside apart = no_repeats_from (swap_remove xs i d) (λ j k
     one j k x (lj, inr a) (lk, inl b) = let same = at_one_place xs j (length xs - 1) x apart a.1 b.1 in absurd (omega arith)
     one j k x (lj, inr a) (lk, inr b) = at_one_place xs j k x apart a.1 b.1
 
--- ONE KEY IS GIVEN UP
+-- ONE KEY IS REMOVED
 
 pub given_one : (keys : List (List Value)) (rows : List Rows) (here : Option ℕ) (number : ℕ) (key : List Value) (lists : Rows) → length rows ≡ length keys → slice_get rows number ≡ Some [] → (here ≡ Some number → ⊥) →
-    AreGivenUp keys rows here (swap_remove keys number key) (swap_remove rows number lists) (renumbered (length keys - 1) number here)
+    AreRemoved keys rows here (swap_remove keys number key) (swap_remove rows number lists) (renumbered (length keys - 1) number here)
 given_one keys rows here number key lists same none apart = record {
   distinct = swapped_apart keys number key inside;
   lists = λ _. (let a = shorter keys number key inside in let b = shorter rows number lists within in omega arith);

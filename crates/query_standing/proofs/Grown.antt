@@ -13,7 +13,7 @@ use Rattle.cea_determinise.specs.declared.cea.Cea.{Cea}
 use Rattle.cea_determinise.specs.declared.table.TransitionKey.{TransitionKey}
 use Rattle.cea_determinise.specs.declared.table.Successors.{Successors}
 use Rattle.cea_determinise.specs.Cea.{standing, automaton_of_cea}
-use Rattle.cea_determinise.specs.Det.{standing_at}
+use Rattle.cea_determinise.specs.LazyDfa.{standing_at}
 use Rattle.union_lists.specs.Lists.{IsUnionList, IsList, trees, members_of}
 use Rattle.event_update.specs.Reach.{Seen, Reaches, Has, all_of}
 use Rattle.event_update.specs.Stands.{IsState, Stands, member_rows}
@@ -68,13 +68,13 @@ number_known bound nodes [] n m known h = absurd h
 number_known bound nodes (r ∷ rows) n m known (inl h) = subst (λ k. k ≤ bound) h.0 (All-head (λ (r : ℕ × List Root). r.0 ≤ bound) r rows known)
 number_known bound nodes (r ∷ rows) n m known (inr h) = number_known bound nodes rows n m (All-tail (λ (r : ℕ × List Root). r.0 ≤ bound) r rows known) h
 
-pub stands_grown : (cea : Cea) (states more_states : List StateSets) (classes later_classes : List (List Bool)) (transitions later_transitions : List (TransitionKey × Successors)) (low : ℤ) (xs : List Seen) (nodes more_nodes : List Node) (rows : Rows) → Stands (record { cea = cea; states = states; classes = classes; transitions = transitions }) low xs nodes rows → Stands (record { cea = cea; states = states ++ more_states; classes = later_classes; transitions = later_transitions }) low xs (nodes ++ more_nodes) rows
-stands_grown cea states more_states classes later_classes transitions later_transitions low xs nodes more_nodes rows s = record {
+pub stands_grown : (cea : Cea) (states more_states : List StateSets) (event_classes later_event_classes : List (List Bool)) (transitions later_transitions : List (TransitionKey × Successors)) (low : ℤ) (xs : List Seen) (nodes more_nodes : List Node) (rows : Rows) → Stands (record { cea = cea; states = states; event_classes = event_classes; transitions = transitions }) low xs nodes rows → Stands (record { cea = cea; states = states ++ more_states; event_classes = later_event_classes; transitions = later_transitions }) low xs (nodes ++ more_nodes) rows
+stands_grown cea states more_states event_classes later_event_classes transitions later_transitions low xs nodes more_nodes rows s = record {
   sound = λ n m h. (let old = subst (λ rs. Has rs n m) same h in subst (λ t. Reaches (automaton_of_cea cea) cea.strict xs t m) (sym (standing_more states more_states n (number_known (length states) nodes rows n m known old))) (s.sound n m old));
   complete = λ t m r keeps. (let c = s.complete t m r keeps in (c.0, standing_more states more_states c.0 (number_known (length states) nodes rows c.0 m known c.2) ∙ c.1, subst (λ rs. Has rs c.0 m) (sym same) c.2));
   distinct = subst (λ rs. HasNoRepeats (all_of rs)) (sym same) s.distinct;
   lists = All-weaker (λ (r : ℕ × List Root). IsUnionList nodes r.1) (λ (r : ℕ × List Root). IsUnionList (nodes ++ more_nodes) r.1) (λ r. list_more nodes more_nodes r.1) rows s.lists;
-  states = All-weaker (λ (r : ℕ × List Root). IsState (record { cea = cea; states = states; classes = classes; transitions = transitions }) r.0) (λ (r : ℕ × List Root). IsState (record { cea = cea; states = states ++ more_states; classes = later_classes; transitions = later_transitions }) r.0) (λ r h. (h.0, (let le = h.1 in let more = longer in omega arith))) rows s.states;
+  states = All-weaker (λ (r : ℕ × List Root). IsState (record { cea = cea; states = states; event_classes = event_classes; transitions = transitions }) r.0) (λ (r : ℕ × List Root). IsState (record { cea = cea; states = states ++ more_states; event_classes = later_event_classes; transitions = later_transitions }) r.0) (λ r h. (h.0, (let le = h.1 in let more = longer in omega arith))) rows s.states;
   ordered = s.ordered;
   narrow = record { values = s.narrow.values; few = λ m. (let f = s.narrow.few m in let more = longer in omega arith); fits = s.narrow.fits };
 } where
@@ -85,4 +85,4 @@ stands_grown cea states more_states classes later_classes transitions later_tran
   same = rows_same nodes more_nodes rows s.lists
 
   known : All (λ (r : ℕ × List Root). r.0 ≤ length states) rows
-  known = All-weaker (λ (r : ℕ × List Root). IsState (record { cea = cea; states = states; classes = classes; transitions = transitions }) r.0) (λ (r : ℕ × List Root). r.0 ≤ length states) (λ r h. h.1) rows s.states
+  known = All-weaker (λ (r : ℕ × List Root). IsState (record { cea = cea; states = states; event_classes = event_classes; transitions = transitions }) r.0) (λ (r : ℕ × List Root). r.0 ≤ length states) (λ r h. h.1) rows s.states

@@ -11,22 +11,22 @@ pub mod Growing
 -- a cursor on the entries of accepting states' lists gives the answers
 pub mod Roots
 -- what is kept of one query as events come, and what a cursor that is opened on it gives
-pub mod Parts
+pub mod QueryStates
 -- what stands for a key still does in more nodes and with more states
 pub mod Grown
 -- events of a key that its lists have let pass
 pub mod Passing
 -- events that begin nothing where no match is open
 pub mod Nothing
--- what is kept of a query stands for the events with one more, where it advances
-pub mod PartSteps
--- what is kept of a query stands for events that are not brought to it
+-- a query state stands for the events with one more, where it advances
+pub mod QueryStateSteps
+-- a query state stands for events that are not brought to it
 pub mod Dormancy
 -- the kept states are different ones, and runs lead to each
 pub mod FoundStates
 -- whether an event has a key, and whether a key is kept
 pub mod KeyCases
--- keys without lists may be given up
+-- keys without lists may be removed
 pub mod Giving
--- one key after the other is given up
+-- one key after the other is removed
 pub mod GivingOne

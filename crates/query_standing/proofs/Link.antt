@@ -26,9 +26,9 @@ use Rattle.cea_compile.proofs.Answers.{listed_is}
 use Rattle.cea_compile.proofs.Accepted.{answers_are_accepted}
 use Rattle.cer_base.specs.Repeats as plain
 use Rattle.event_update.specs.Reach.{Seen, entry, RunEndsIn, Reaches, Has, all_of}
-use Rattle.event_update.specs.Still.{IsSilent}
+use Rattle.event_update.specs.Dormancy.{IsSilent}
 use Rattle.event_update.proofs.Advance.{reaches_less}
-use Rattle.event_update.proofs.Resting.{not_accepting}
+use Rattle.event_update.proofs.Dormant.{not_accepting}
 use Rattle.query_standing.specs.Clocks.{low_of}
 use Rattle.query_standing.specs.Bounds.{IsMet}
 use Rattle.query_standing.specs.Keys.{HasKeyAt, IsSeen, positions, IsGiven}
@@ -353,11 +353,11 @@ module _ (schema : Declared) (q : Query) (events : List Event) (end : ℕ) (key 
 
     all : (answer : Answer) → IsAnswer schema q events end answer → Contains (answers_in a standing low rows) answer
     all answer is =
-        let parts = (answers_are_accepted schema q events end (positions xs) answer lists).0 is in
-        let t = accepted_to answer parts.0 parts.1 in
+        let query_states = (answers_are_accepted schema q events end (positions xs) answer lists).0 is in
+        let t = accepted_to answer query_states.0 query_states.1 in
         let x = starts_at t.0 t.1 t.2 in
         let start_is : answer.start ≡ t.1.start.pos = ap (λ (z : Answer). z.start) (sym t.4) in
-        let window = subst (λ p. IsInWindow schema q events p end) start_is parts.2 in
+        let window = subst (λ p. IsInWindow schema q events p end) start_is query_states.2 in
         let low_le = low_in_window schema q events t.1.start.pos end x.event given.last t.1.start.clock now x.at given.last_is x.clock given.clock window in
         let recent_ = test_passes low t.1.start.clock (subst (λ z. z ≤ℤ t.1.start.clock) (sym low_is) low_le) in
         let c = holds.complete t.0 t.1 t.2 recent_ in
@@ -382,8 +382,8 @@ module _ (schema : Declared) (q : Query) (events : List Event) (end : ℕ) (key 
 pub no_answer : (schema : Declared) (q : Query) (events : List Event) (end : ℕ) (last : Event) → slice_get events end ≡ Some last → ((key : List Value) → HasKey schema q last key → ⊥) → (answer : Answer) → IsAnswer schema q events end answer → ⊥
 no_answer schema q events end last last_is none answer is =
     let lists : ListsSubstream schema q events end [] = record { ascending = ascending [] tt; exact = λ p. (λ c. absurd (none_in_nil p c), λ h. absurd (out p h)) } in
-    let parts = (answers_are_accepted schema q events end [] answer lists).0 is in
-    absurd (false≢true parts.1)
+    let query_states = (answers_are_accepted schema q events end [] answer lists).0 is in
+    absurd (false≢true query_states.1)
   where
     out : (p : ℕ) → IsOfSubstream schema q events end p → ⊥
     out p h = let same : h.there ≡ last = (let e = sym h.there_is ∙ last_is in cc) in none h.key (subst (λ e. HasKey schema q e h.key) same h.there_has)
@@ -392,8 +392,8 @@ no_answer schema q events end last last_is none answer is =
 pub no_silent_answer : (schema : Declared) (q : Query) (events : List Event) (end : ℕ) (key : List Value) (now : ℤ) (xs : List Seen) (x : Seen) → IsGiven schema q events end key now (xs ++ x ∷ []) → IsSilent x → All (λ (y : Seen). y.stamp.pos < x.stamp.pos) xs → (answer : Answer) → IsAnswer schema q events end answer → ⊥
 no_silent_answer schema q events end key now xs x given silent later answer is =
     let whole : List Seen = xs ++ x ∷ [] in
-    let parts = (answers_are_accepted schema q events end (positions whole) answer (lists schema q events end key now whole given)).0 is in
-    let t = accepted_to schema q events end key now whole given answer parts.0 parts.1 in
+    let query_states = (answers_are_accepted schema q events end (positions whole) answer (lists schema q events end key now whole given)).0 is in
+    let t = accepted_to schema q events end key now whole given answer query_states.0 query_states.1 in
     let o = reaches_less (automaton_of (tree_of q)) q.strict xs x t.0 t.1 later t.2 in
     let none : accepts (automaton_of (tree_of q)) t.0.sets ≡ false = elim o.extends [
       | inl mark ↦ not_accepting (automaton_of (tree_of q)) q.strict o.state t.0 x.bits true silent mark.0

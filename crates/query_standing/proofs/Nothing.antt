@@ -7,10 +7,10 @@ use Rattle.cer_base.specs.declared.node.Stamp.{Stamp}
 use Rattle.cer_base.specs.declared.node.Root.{Root}
 use Rattle.cer_base.specs.declared.node.Node.{Node}
 use Rattle.cea_determinise.specs.declared.cea.Phase.{Phase}
-use Rattle.cea_determinise.specs.Runs.{LeafSet, Automaton, start, patient, agrees, readers, minds_next, waits_at_once, successor, next}
+use Rattle.cea_determinise.specs.Runs.{LeafSet, Automaton, start, skip_insensitive, agrees, readers, minds_next, waits_at_once, successor, next}
 use Rattle.cea_determinise.specs.Strict.{Standing, begin, next_standing, phase_after}
 use Rattle.cea_determinise.specs.Cea.{automaton_of_cea}
-use Rattle.cea_determinise.specs.Det.{Table}
+use Rattle.cea_determinise.specs.LazyDfa.{Table}
 use Rattle.cea_determinise.proofs.SomeLeaf.{none_below}
 use Rattle.event_update.specs.Reach.{Seen}
 use Rattle.event_update.specs.Stands.{IsLater, Stands}
@@ -44,7 +44,7 @@ none_reads true false c e = refl
 none_reads false b c e = refl
 
 none_next : (a : Automaton) (bits : LeafSet) (mark : Bool) → ((k : ℕ) → a.first k && bits k ≡ false) → next a start bits mark ≡ None
-none_next a bits mark none = ap (λ b. cond b (Some (successor a start bits mark)) None) (none_below a.size (λ k. readers a start bits mark k && minds_next a k || (not mark && patient a start k || readers a start bits mark k && waits_at_once a k)) (λ k. rw (none_reads (a.first k) (bits k) (agrees mark (a.marked k)) (none k), and-false (not mark)) refl))
+none_next a bits mark none = ap (λ b. cond b (Some (successor a start bits mark)) None) (none_below a.size (λ k. readers a start bits mark k && minds_next a k || (not mark && skip_insensitive a start k || readers a start bits mark k && waits_at_once a k)) (λ k. rw (none_reads (a.first k) (bits k) (agrees mark (a.marked k)) (none k), and-false (not mark)) refl))
 
 pub none_begins : (a : Automaton) (strict : Bool) (bits : LeafSet) → ((k : ℕ) → a.first k && bits k ≡ false) → (s : Standing) (mark : Bool) → next_standing a strict begin bits mark ≡ Some s → ⊥
 none_begins a strict bits none s mark goes = by (phase_after strict begin.phase mark) goes

@@ -9,14 +9,14 @@ use Rattle.cel_terms.specs.declared.Query.{Query}
 use Rattle.cea_determinise.specs.Runs.{Automaton}
 use Rattle.cea_determinise.specs.Strict.{Standing}
 use Rattle.cea_determinise.specs.Cea as stored
-use Rattle.cea_determinise.specs.Det.{Table}
+use Rattle.cea_determinise.specs.LazyDfa.{Table}
 use Rattle.cer_base.specs.Members.{Member}
 use Rattle.event_update.specs.Reach.{Seen, Reaches}
 use Rattle.event_update.specs.Stands.{Stands}
-use Rattle.event_update.specs.Still.{IsPatient, IsSilent}
-use Rattle.event_update.proofs.Patient.{ComeAfter, patient_stands, patient_reaches}
+use Rattle.event_update.specs.Dormancy.{IsSkipInsensitive, IsSilent}
+use Rattle.event_update.proofs.SkipInsensitive.{ComeAfter, skip_insensitive_stands, skip_insensitive_reaches}
 use Rattle.query_standing.specs.Keys.{positions, AreSeen}
-use Rattle.query_standing.specs.Kept.{Rows, Part, KeyStands, KeyIsKept}
+use Rattle.query_standing.specs.Kept.{Rows, QueryState, KeyStands, KeyIsKept}
 use Rattle.query_standing.proofs.Lists.{Rises, rises_apart}
 use Rattle.query_standing.proofs.Link.{positions_append}
 
@@ -42,29 +42,29 @@ come_after xs (z ∷ zs) r = (
 )
 
 -- lists that stand for all events have let none pass
-pub kept_whole : (schema : Declared) (q : Query) (events : List Event) (part : Part) (key : List Value) (rows : Rows) → KeyStands schema q events part key rows → KeyIsKept schema q events part key rows
-kept_whole schema q events part key rows k = record {
+pub kept_whole : (schema : Declared) (q : Query) (events : List Event) (query_state : QueryState) (key : List Value) (rows : Rows) → KeyStands schema q events query_state key rows → KeyIsKept schema q events query_state key rows
+kept_whole schema q events query_state key rows k = record {
   taken = k.seen;
-  passed = [];
+  no_op = [];
   are_seen = subst (AreSeen schema q events key) (sym (append_none k.seen)) k.are_seen;
   silent = All-nil IsSilent;
-  patient = inl refl;
+  skip_insensitive = inl refl;
   stands = k.stands;
 }
 
 -- where lists have let none pass they stand for all events
-pub seen_taken : (schema : Declared) (q : Query) (events : List Event) (part : Part) (key : List Value) (rows : Rows) (k : KeyIsKept schema q events part key rows) → k.passed ≡ [] → AreSeen schema q events key k.taken
-seen_taken schema q events part key rows k none = subst (AreSeen schema q events key) (ap (λ ps. k.taken ++ ps) none ∙ append_none k.taken) k.are_seen
+pub seen_taken : (schema : Declared) (q : Query) (events : List Event) (query_state : QueryState) (key : List Value) (rows : Rows) (k : KeyIsKept schema q events query_state key rows) → k.no_op ≡ [] → AreSeen schema q events key k.taken
+seen_taken schema q events query_state key rows k none = subst (AreSeen schema q events key) (ap (λ ps. k.taken ++ ps) none ∙ append_none k.taken) k.are_seen
 
 -- what stands without the events that passed, and one more, stands with them
-pub with_passed : (table : Table) (a : Automaton) (strict : Bool) (low : ℤ) (taken passed : List Seen) (last : Seen) (nodes : List Node) (rows : Rows) → stored.automaton_of_cea table.cea ≡ a → table.cea.strict ≡ strict → (passed ≡ []) ⊎ IsPatient a strict → All IsSilent passed → Rises (positions (taken ++ passed)) → All (λ (x : Seen). x.stamp.pos < last.stamp.pos) (taken ++ passed) → Stands table low (taken ++ last ∷ []) nodes rows → Stands table low ((taken ++ passed) ++ last ∷ []) nodes rows
-with_passed table a strict low taken passed last nodes rows automaton is_strict (inl none) silent rise later st = subst (λ xs. Stands table low (xs ++ last ∷ []) nodes rows) (sym (ap (λ ps. taken ++ ps) none ∙ append_none taken)) st
-with_passed table a strict low taken passed last nodes rows automaton is_strict (inr patient) silent rise later st =
-    patient_stands table low taken passed last nodes rows
-    (subst (λ b. IsPatient b table.cea.strict) (sym automaton) (subst (IsPatient a) (sym is_strict) patient))
-    silent (come_after taken passed rise) later st
+pub with_no_op : (table : Table) (a : Automaton) (strict : Bool) (low : ℤ) (taken no_op : List Seen) (last : Seen) (nodes : List Node) (rows : Rows) → stored.automaton_of_cea table.cea ≡ a → table.cea.strict ≡ strict → (no_op ≡ []) ⊎ IsSkipInsensitive a strict → All IsSilent no_op → Rises (positions (taken ++ no_op)) → All (λ (x : Seen). x.stamp.pos < last.stamp.pos) (taken ++ no_op) → Stands table low (taken ++ last ∷ []) nodes rows → Stands table low ((taken ++ no_op) ++ last ∷ []) nodes rows
+with_no_op table a strict low taken no_op last nodes rows automaton is_strict (inl none) silent rise later st = subst (λ xs. Stands table low (xs ++ last ∷ []) nodes rows) (sym (ap (λ ps. taken ++ ps) none ∙ append_none taken)) st
+with_no_op table a strict low taken no_op last nodes rows automaton is_strict (inr skip_insensitive) silent rise later st =
+    skip_insensitive_stands table low taken no_op last nodes rows
+    (subst (λ b. IsSkipInsensitive b table.cea.strict) (sym automaton) (subst (IsSkipInsensitive a) (sym is_strict) skip_insensitive))
+    silent (come_after taken no_op rise) later st
 
 -- and so does where a member leads
-pub leads_with_passed : (a : Automaton) (strict : Bool) (taken passed : List Seen) (last : Seen) (t : Standing) (m : Member) → (passed ≡ []) ⊎ IsPatient a strict → All IsSilent passed → Rises (positions (taken ++ passed)) → All (λ (x : Seen). x.stamp.pos < last.stamp.pos) (taken ++ passed) → Reaches a strict (taken ++ last ∷ []) t m → Reaches a strict ((taken ++ passed) ++ last ∷ []) t m
-leads_with_passed a strict taken passed last t m (inl none) silent rise later r = subst (λ xs. Reaches a strict (xs ++ last ∷ []) t m) (sym (ap (λ ps. taken ++ ps) none ∙ append_none taken)) r
-leads_with_passed a strict taken passed last t m (inr patient) silent rise later r = patient_reaches a strict taken passed last t m patient silent (come_after taken passed rise) later r
+pub leads_with_no_op : (a : Automaton) (strict : Bool) (taken no_op : List Seen) (last : Seen) (t : Standing) (m : Member) → (no_op ≡ []) ⊎ IsSkipInsensitive a strict → All IsSilent no_op → Rises (positions (taken ++ no_op)) → All (λ (x : Seen). x.stamp.pos < last.stamp.pos) (taken ++ no_op) → Reaches a strict (taken ++ last ∷ []) t m → Reaches a strict ((taken ++ no_op) ++ last ∷ []) t m
+leads_with_no_op a strict taken no_op last t m (inl none) silent rise later r = subst (λ xs. Reaches a strict (xs ++ last ∷ []) t m) (sym (ap (λ ps. taken ++ ps) none ∙ append_none taken)) r
+leads_with_no_op a strict taken no_op last t m (inr skip_insensitive) silent rise later r = skip_insensitive_reaches a strict taken no_op last t m skip_insensitive silent (come_after taken no_op rise) later r

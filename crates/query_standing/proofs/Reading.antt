@@ -7,7 +7,7 @@ use Rattle.stream_schema.specs.Types.{Declared}
 use Rattle.stream_schema.specs.declared.Event.{Event}
 use Rattle.cel_terms.specs.declared.Query.{Query}
 use Rattle.cel_terms.specs.Answers.{query_types}
-use Rattle.cel_terms.specs.Reading.{query_reads as reads}
+use Rattle.cel_terms.specs.EventsRead.{query_reads as reads}
 use Rattle.query_standing.specs.Clocks.{Reads}
 use Rattle.query_standing.proofs.Lists.{here, there, cons_cases, none_in_nil}
 

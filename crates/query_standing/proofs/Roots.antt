@@ -16,10 +16,10 @@ use Rattle.query_leaves.specs.Expand.{tree_of}
 use Rattle.cea_determinise.specs.Runs.{Automaton, accepts}
 use Rattle.cea_determinise.specs.Strict.{Standing}
 use Rattle.cea_determinise.specs.Cea as stored
-use Rattle.cea_determinise.specs.Det.{Table, standing_at}
+use Rattle.cea_determinise.specs.LazyDfa.{Table, standing_at}
 use Rattle.cea_compile.specs.Compiled.{automaton_of}
 use Rattle.cel_terms.specs.Answers.{AreAnswersAt}
-use Rattle.tecs_enumerate.specs.Rest.{recent_of}
+use Rattle.tecs_enumerate.specs.Remaining.{recent_of}
 use Rattle.union_lists.specs.Lists.{members_of}
 use Rattle.event_update.specs.Reach.{Seen, all_of}
 use Rattle.event_update.specs.Stands.{Stands, member_rows}

@@ -1,4 +1,4 @@
--- Events that are not brought to what is kept of a query: it stays as it is, and only the clock goes on, which queries share.
+-- Events that are not brought to a query state: it stays as it is, and only the clock goes on, which queries share.
 use Rattle.std.specs.Prelude.{◌≡◌, ℕ, suc, ◌-◌, ◌+◌, ◌<◌, ◌≤◌, ◌⊎◌, ◌↔◌, ℤ, ◌≤ℤ◌, Bool, false, ◌&&◌, List, [], ◌∷◌, ◌++◌, length, Contains, Option, Some, None, slice_get, IfSome, IfNone}
 use Rattle.stream_schema.specs.Types.{Declared}
 use Rattle.stream_schema.specs.declared.Event.{Event}
@@ -10,15 +10,15 @@ use Rattle.query_leaves.specs.Expand.{tree_of}
 use Rattle.cea_determinise.specs.Runs.{LeafSet}
 use Rattle.cea_determinise.specs.Strict.{Standing, begin, next_standing}
 use Rattle.cea_compile.specs.Compiled.{automaton_of}
-use Rattle.event_update.specs.Still.{IsPatient}
+use Rattle.event_update.specs.Dormancy.{IsSkipInsensitive}
 use Rattle.query_standing.specs.Clocks.{Reads, NeverFalls, IsLastClock, FallsBack, NoneFallsBack, IsFirstToFall, least, low_of}
 use Rattle.query_standing.specs.Keys.{leaves_reading}
-use Rattle.query_standing.specs.Kept.{Part, PartStands}
-use Rattle.query_standing.specs.Steps.{OwnListsRest, BeginsNothing}
+use Rattle.query_standing.specs.Kept.{QueryState, QueryStateStands}
+use Rattle.query_standing.specs.Steps.{OwnListsAreDormant, BeginsNothing}
 
--- the part with another last clock, where it has no answer at the last event
-abbrev pub dormant : Option ℤ → Part → Part
-dormant clock part = record part { clock = clock; here = None }
+-- the query state with another last clock, where it has no answer at the last event
+abbrev pub after_no_ops : Option ℤ → QueryState → QueryState
+after_no_ops clock query_state = record query_state { clock = clock; here = None }
 
 -- the query reads the event, whose clock is not before the last one
 pub record IsMoved (schema : Declared) (q : Query) (position : ℕ) (event : Event) (before after : Option ℤ) : Type 0 where
@@ -28,29 +28,29 @@ pub record IsMoved (schema : Declared) (q : Query) (position : ℕ) (event : Eve
   pub in_time : IfSome before (λ b. b ≤ℤ now)
   pub after_is : after ≡ Some now
 
--- What an event at the position makes of the query's last clock, whatever becomes of its part.
+-- What an event at the position makes of the query's last clock, whatever becomes of its query state.
 abbrev pub Moves : Declared → Query → ℕ → Event → Option ℤ → Option ℤ → Type 0
 Moves schema q position event before after = ((Reads schema q event → ⊥) × (after ≡ before)) ⊎ IsMoved schema q position event before after
 
--- no leaf can read it, and the automaton is patient or the lists of its key rest
-pub record IsLetPass (schema : Declared) (q : Query) (event : Event) (part : Part) : Type 0 where
+-- no leaf can read it, and the automaton is skip-insensitive or the lists of its key are dormant
+pub record IsLetPass (schema : Declared) (q : Query) (event : Event) (query_state : QueryState) : Type 0 where
   pub unread : (k : ℕ) → leaves_reading schema q event k ≡ false
-  pub rests : IsPatient (automaton_of (tree_of q)) q.strict ⊎ OwnListsRest schema q event part
+  pub is_dormant : IsSkipInsensitive (automaton_of (tree_of q)) q.strict ⊎ OwnListsAreDormant schema q event query_state
 
--- The event leaves the part as it is: it has no key, no leaf can read it and it is let pass, or it begins nothing where no match is open.
-abbrev pub IsNoOp : Declared → Query → Event → Part → Type 0
-IsNoOp schema q event part = ((key : List Value) → HasKey schema q event key → ⊥) ⊎ (IsLetPass schema q event part ⊎ BeginsNothing schema q event part (record part { here = None }))
+-- The event leaves the query state as it is: it has no key, no leaf can read it and it is let pass, or it begins nothing where no match is open.
+abbrev pub IsNoOp : Declared → Query → Event → QueryState → Type 0
+IsNoOp schema q event query_state = ((key : List Value) → HasKey schema q event key → ⊥) ⊎ (IsLetPass schema q event query_state ⊎ BeginsNothing schema q event query_state (record query_state { here = None }))
 
--- Each of the events, from the position on, leaves the part as it is, and they move the clock from the first to the second.
-abbrev pub AreNoOps : Declared → Query → Part → ℕ → Option ℤ → List Event → Option ℤ → Type 0
-AreNoOps schema q part position before [] after = after ≡ before
-AreNoOps schema q part position before (event ∷ later) after =
-    (mid : Option ℤ) × Moves schema q position event before mid × (Reads schema q event → IsNoOp schema q event part) × AreNoOps schema q part (position + 1) mid later after
+-- Each of the events, from the position on, leaves the query state as it is, and they move the clock from the first to the second.
+abbrev pub AreNoOps : Declared → Query → QueryState → ℕ → Option ℤ → List Event → Option ℤ → Type 0
+AreNoOps schema q query_state position before [] after = after ≡ before
+AreNoOps schema q query_state position before (event ∷ later) after =
+    (mid : Option ℤ) × Moves schema q position event before mid × (Reads schema q event → IsNoOp schema q event query_state) × AreNoOps schema q query_state (position + 1) mid later after
 
--- A part that was last touched after the first events, and that the later ones leave as it is, stands for all of them with the clock that they moved.
-abbrev pub DormantStands : Type 0
-DormantStands = (schema : Declared) (q : Query) (events : List Event) (event : Event) (later : List Event) (part : Part) (clock : Option ℤ) →
-    PartStands schema q events part → AreNoOps schema q part (length events) part.clock (event ∷ later) clock → PartStands schema q (events ++ event ∷ later) (dormant clock part)
+-- A query state that was last touched after the first events, and that the later ones leave as it is, stands for all of them with the clock that they moved.
+abbrev pub NoOpsStand : Type 0
+NoOpsStand = (schema : Declared) (q : Query) (events : List Event) (event : Event) (later : List Event) (query_state : QueryState) (clock : Option ℤ) →
+    QueryStateStands schema q events query_state → AreNoOps schema q query_state (length events) query_state.clock (event ∷ later) clock → QueryStateStands schema q (events ++ event ∷ later) (after_no_ops clock query_state)
 
 -- The clock is that of the last event that the query reads, or none where it reads none.
 pub record IsClockOf (schema : Declared) (q : Query) (events : List Event) (clock : Option ℤ) : Type 0 where
@@ -58,23 +58,23 @@ pub record IsClockOf (schema : Declared) (q : Query) (events : List Event) (cloc
   pub none : IfNone clock ((p : ℕ) (event : Event) → slice_get events p ≡ Some event → Reads schema q event → ⊥)
 
 -- What is kept, which has no clock of its own, stands for the events with the clock that they have.
-abbrev pub StandsWithClock : Declared → Query → List Event → Part → Type 0
-StandsWithClock schema q events part = (clock : Option ℤ) × PartStands schema q events (record part { clock = clock })
+abbrev pub StandsWithClock : Declared → Query → List Event → QueryState → Type 0
+StandsWithClock schema q events query_state = (clock : Option ℤ) × QueryStateStands schema q events (record query_state { clock = clock })
 
 -- Where the query reads the event it has a clock, which does not fall.
 pub record CanCome (schema : Declared) (q : Query) (events : List Event) (event : Event) : Type 0 where
   pub has : Reads schema q event → (now : ℤ) × HasClock schema q.window event (length events) now
   pub in_time : (before now : ℤ) → FallsBack schema q events event before now → ⊥
 
--- A part that has no clock stands for one event more that leaves it as it is.
+-- A query state that has no clock stands for one event more that leaves it as it is.
 abbrev pub NoOpStands : Type 0
-NoOpStands = (schema : Declared) (q : Query) (events : List Event) (event : Event) (part : Part) →
-    StandsWithClock schema q events part → CanCome schema q events event → (Reads schema q event → IsNoOp schema q event part) →
-    StandsWithClock schema q (events ++ event ∷ []) (record part { here = None })
+NoOpStands = (schema : Declared) (q : Query) (events : List Event) (event : Event) (query_state : QueryState) →
+    StandsWithClock schema q events query_state → CanCome schema q events event → (Reads schema q event → IsNoOp schema q event query_state) →
+    StandsWithClock schema q (events ++ event ∷ []) (record query_state { here = None })
 
 -- With the clock of the events it stands as ever.
 abbrev pub ClockIsGiven : Type 0
-ClockIsGiven = (schema : Declared) (q : Query) (events : List Event) (part : Part) (clock : Option ℤ) → StandsWithClock schema q events part → IsClockOf schema q events clock → PartStands schema q events (record part { clock = clock })
+ClockIsGiven = (schema : Declared) (q : Query) (events : List Event) (query_state : QueryState) (clock : Option ℤ) → StandsWithClock schema q events query_state → IsClockOf schema q events clock → QueryStateStands schema q events (record query_state { clock = clock })
 
 -- The clock of the events goes on with each.
 abbrev pub ClockGoesOn : Type 0
@@ -87,7 +87,7 @@ OnlyFirstBegin = (q : Query) (bits : LeafSet) → ((k : ℕ) → (automaton_of (
 
 -- The clock is a fact of the events: whatever stands for them has the same.
 abbrev pub ClockIsOfEvents : Type 0
-ClockIsOfEvents = (schema : Declared) (q : Query) (events : List Event) (one other : Part) → PartStands schema q events one → PartStands schema q events other → one.clock ≡ other.clock
+ClockIsOfEvents = (schema : Declared) (q : Query) (events : List Event) (one other : QueryState) → QueryStateStands schema q events one → QueryStateStands schema q events other → one.clock ≡ other.clock
 
 -- the clock of the last event of the type
 pub record IsLastOfType (schema : Declared) (window : Window) (events : List Event) (ty : ℕ) (clock : ℤ) : Type 0 where

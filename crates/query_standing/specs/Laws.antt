@@ -1,4 +1,4 @@
--- Laws that tie what is kept of a query's events to its answers.
+-- Laws that tie a query state's events to its answers.
 use Rattle.std.specs.Prelude.{◌≡◌, ℕ, suc, ◌-◌, ◌≤◌, ℤ, ◌≤ℤ◌, Bool, All, Contains, Option, None, List, [], ◌∷◌, ◌++◌, map, length, Some, slice_get}
 use Rattle.stream_schema.specs.Types.{Declared}
 use Rattle.stream_schema.specs.declared.Event.{Event}
@@ -11,17 +11,17 @@ use Rattle.cer_base.specs.Members.{Member}
 use Rattle.cea_determinise.specs.Runs.{Automaton}
 use Rattle.cea_determinise.specs.Strict.{Standing}
 use Rattle.cea_determinise.specs.Cea as stored
-use Rattle.cea_determinise.specs.Det.{Table, standing_at}
+use Rattle.cea_determinise.specs.LazyDfa.{Table, standing_at}
 use Rattle.cea_compile.specs.Compiled.{automaton_of}
-use Rattle.tecs_enumerate.specs.Rest.{CursorState, rest, recent_of}
+use Rattle.tecs_enumerate.specs.Remaining.{CursorState, rest, recent_of}
 use Rattle.event_update.specs.Reach.{Seen}
 use Rattle.event_update.specs.Stands.{Stands}
 use Rattle.query_standing.specs.Bounds.{MeetAtMost}
 use Rattle.query_standing.specs.Clocks.{Reads, HasClockAt, NeverFalls, low_of}
 use Rattle.query_standing.specs.Keys.{AreSeen, IsSeenAs, IsGiven}
 use Rattle.query_standing.specs.Holding.{Holds, answer_of, answers_in, dropped}
-use Rattle.query_standing.specs.Kept.{Rows, Part, low_at, PartStands, roots_of, roots_at, KeptState, KeptStands, kept_rest}
-use Rattle.query_standing.specs.Giving.{AreGivenUp}
+use Rattle.query_standing.specs.Kept.{Rows, QueryState, low_at, QueryStateStands, roots_of, roots_at, KeptState, KeptStands, kept_rest}
+use Rattle.query_standing.specs.Giving.{AreRemoved}
 use Rattle.query_standing.specs.Steps.{Advances, HasNoKey, LeavesLists, HasKeyOf}
 
 -- Where the lists of a key hold what its events say, the recent members of accepting states are exactly the answers at the key's last event, each once.
@@ -71,51 +71,51 @@ LaterAnswersStartLate = (schema : Declared) (q : Query) (events : List Event) (i
     NeverFalls schema q events → i ≤ end → HasClockAt schema q events i before → HasClockAt schema q events end now → IsAnswer schema q events end answer →
     slice_get events answer.start ≡ Some first → HasClock schema q.window first answer.start from → low_of q.window before ≤ℤ from
 
--- What is kept of a query gives, by a cursor on the lists of the last event's key, exactly the answers there, each once.
+-- A query state gives, by a cursor on the lists of the last event's key, exactly the answers there, each once.
 abbrev pub KeptGivesAnswers : Type 0
-KeptGivesAnswers = (schema : Declared) (q : Query) (events : List Event) (end : ℕ) (part : Part) →
-    suc end ≡ length events → PartStands schema q events part →
-    AreAnswersAt schema q events end (map answer_of (recent_of (low_at q part.clock) part.nodes (roots_at q part)))
+KeptGivesAnswers = (schema : Declared) (q : Query) (events : List Event) (end : ℕ) (query_state : QueryState) →
+    suc end ≡ length events → QueryStateStands schema q events query_state →
+    AreAnswersAt schema q events end (map answer_of (recent_of (low_at q query_state.clock) query_state.nodes (roots_at q query_state)))
 
 -- The same of the engine over nodes: what a cursor is still to give that was begun there.
 abbrev pub KeptEngineGivesAnswers : Type 0
-KeptEngineGivesAnswers = (engine : KeptState) (events : List Event) (end query : ℕ) (q : Query) (part : Part) (w : CursorState) →
-    KeptStands engine events → suc end ≡ length events → slice_get engine.queries (query - 1) ≡ Some q → slice_get engine.parts (query - 1) ≡ Some part → w.query ≡ query →
-    rest w part.nodes ≡ recent_of (low_at q part.clock) part.nodes (roots_at q part) → AreAnswersAt engine.schema q events end (map answer_of (kept_rest engine w))
+KeptEngineGivesAnswers = (engine : KeptState) (events : List Event) (end query : ℕ) (q : Query) (query_state : QueryState) (w : CursorState) →
+    KeptStands engine events → suc end ≡ length events → slice_get engine.queries (query - 1) ≡ Some q → slice_get engine.query_states (query - 1) ≡ Some query_state → w.query ≡ query →
+    rest w query_state.nodes ≡ recent_of (low_at q query_state.clock) query_state.nodes (roots_at q query_state) → AreAnswersAt engine.schema q events end (map answer_of (kept_rest engine w))
 
 -- It stands for one event more: where the event is not read, where it has no key, where it leaves the lists of its key as they are, and where it has a known key.
 abbrev pub KeptPassesUnread : Type 0
-KeptPassesUnread = (schema : Declared) (q : Query) (events : List Event) (event : Event) (part : Part) →
-    PartStands schema q events part → (Reads schema q event → ⊥) → PartStands schema q (events ++ event ∷ []) (record part { here = None })
+KeptPassesUnread = (schema : Declared) (q : Query) (events : List Event) (event : Event) (query_state : QueryState) →
+    QueryStateStands schema q events query_state → (Reads schema q event → ⊥) → QueryStateStands schema q (events ++ event ∷ []) (record query_state { here = None })
 
 -- Many events that are not read, as blank ones after a skip.
 abbrev pub KeptSkips : Type 0
-KeptSkips = (schema : Declared) (q : Query) (events : List Event) (event : Event) (later : List Event) (part : Part) →
-    PartStands schema q events part → (Reads schema q event → ⊥) → All (λ e. Reads schema q e → ⊥) later → PartStands schema q (events ++ event ∷ later) (record part { here = None })
+KeptSkips = (schema : Declared) (q : Query) (events : List Event) (event : Event) (later : List Event) (query_state : QueryState) →
+    QueryStateStands schema q events query_state → (Reads schema q event → ⊥) → All (λ e. Reads schema q e → ⊥) later → QueryStateStands schema q (events ++ event ∷ later) (record query_state { here = None })
 
 abbrev pub KeptPassesWithoutKey : Type 0
-KeptPassesWithoutKey = (schema : Declared) (q : Query) (events : List Event) (event : Event) (now : ℤ) (old new : Part) →
-    PartStands schema q events old → Advances schema q events event now old new → HasNoKey schema q event old new → PartStands schema q (events ++ event ∷ []) new
+KeptPassesWithoutKey = (schema : Declared) (q : Query) (events : List Event) (event : Event) (now : ℤ) (old new : QueryState) →
+    QueryStateStands schema q events old → Advances schema q events event now old new → HasNoKey schema q event old new → QueryStateStands schema q (events ++ event ∷ []) new
 
-abbrev pub KeptPassesResting : Type 0
-KeptPassesResting = (schema : Declared) (q : Query) (events : List Event) (event : Event) (now : ℤ) (old new : Part) →
-    PartStands schema q events old → Advances schema q events event now old new → LeavesLists schema q event old new → PartStands schema q (events ++ event ∷ []) new
+abbrev pub KeptPassesDormant : Type 0
+KeptPassesDormant = (schema : Declared) (q : Query) (events : List Event) (event : Event) (now : ℤ) (old new : QueryState) →
+    QueryStateStands schema q events old → Advances schema q events event now old new → LeavesLists schema q event old new → QueryStateStands schema q (events ++ event ∷ []) new
 
 abbrev pub KeptAdvances : Type 0
-KeptAdvances = (schema : Declared) (q : Query) (events : List Event) (event : Event) (now : ℤ) (old new : Part) →
-    PartStands schema q events old → Advances schema q events event now old new → HasKeyOf schema q events event now old new → PartStands schema q (events ++ event ∷ []) new
+KeptAdvances = (schema : Declared) (q : Query) (events : List Event) (event : Event) (now : ℤ) (old new : QueryState) →
+    QueryStateStands schema q events old → Advances schema q events event now old new → HasKeyOf schema q events event now old new → QueryStateStands schema q (events ++ event ∷ []) new
 
 -- A key that is not kept may be put in with no list, before the event comes.
 abbrev pub KeptTakesAKey : Type 0
-KeptTakesAKey = (schema : Declared) (q : Query) (events : List Event) (part : Part) (key : List Value) →
-    PartStands schema q events part → (Contains part.keys key → ⊥) → PartStands schema q events (record part { keys = part.keys ++ key ∷ []; rows = part.rows ++ [] ∷ [] })
+KeptTakesAKey = (schema : Declared) (q : Query) (events : List Event) (query_state : QueryState) (key : List Value) →
+    QueryStateStands schema q events query_state → (Contains query_state.keys key → ⊥) → QueryStateStands schema q events (record query_state { keys = query_state.keys ++ key ∷ []; rows = query_state.rows ++ [] ∷ [] })
 
--- Keys without lists may be given up, but not the last event's.
-abbrev pub KeptGivesUpKeys : Type 0
-KeptGivesUpKeys = (schema : Declared) (q : Query) (events : List Event) (part : Part) (keys : List (List Value)) (rows : List Rows) (here : Option ℕ) →
-    PartStands schema q events part → AreGivenUp part.keys part.rows part.here keys rows here → PartStands schema q events (record part { keys = keys; rows = rows; here = here })
+-- Keys without lists may be removed, but not the last event's.
+abbrev pub KeptRemovesKeys : Type 0
+KeptRemovesKeys = (schema : Declared) (q : Query) (events : List Event) (query_state : QueryState) (keys : List (List Value)) (rows : List Rows) (here : Option ℕ) →
+    QueryStateStands schema q events query_state → AreRemoved query_state.keys query_state.rows query_state.here keys rows here → QueryStateStands schema q events (record query_state { keys = keys; rows = rows; here = here })
 
 -- So many states are kept as runs over the events lead to, at most.
 abbrev pub StatesAreMet : Type 0
-StatesAreMet = (schema : Declared) (q : Query) (events : List Event) (part : Part) (n : ℕ) →
-    PartStands schema q events part → MeetAtMost schema q events n → length part.table.states ≤ n
+StatesAreMet = (schema : Declared) (q : Query) (events : List Event) (query_state : QueryState) (n : ℕ) →
+    QueryStateStands schema q events query_state → MeetAtMost schema q events n → length query_state.table.states ≤ n

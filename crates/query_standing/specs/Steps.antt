@@ -1,4 +1,4 @@
--- What happens to what is kept of a query when an event comes that it reads.
+-- What happens to a query state when an event comes that it reads.
 use Rattle.std.specs.Prelude.{◌≡◌, ◌≢◌, ℕ, ◌⊎◌, ◌<◌, ℤ, ◌≤ℤ◌, Bool, false, List, [], ◌∷◌, ◌++◌, length, All, Contains, Some, None, slice_get, IfSome}
 use Rattle.std.specs.List.{IsDistinct}
 use Rattle.stream_schema.specs.Types.{Declared}
@@ -16,14 +16,14 @@ use Rattle.cea_compile.specs.Compiled.{automaton_of}
 use Rattle.query_leaves.specs.Expand.{tree_of}
 use Rattle.event_update.specs.Reach.{Seen}
 use Rattle.event_update.specs.Stands.{Stands}
-use Rattle.event_update.specs.Still.{Rest, IsPatient}
+use Rattle.event_update.specs.Dormancy.{AreDormant, IsSkipInsensitive}
 use Rattle.query_standing.specs.Bounds.{IsMet}
 use Rattle.query_standing.specs.Clocks.{Reads, least, low_of}
 use Rattle.query_standing.specs.Keys.{leaves_reading, IsSeenAs}
-use Rattle.query_standing.specs.Kept.{Rows, Part, low_at, Extends}
+use Rattle.query_standing.specs.Kept.{Rows, QueryState, low_at, Extends}
 
 -- The event is read, its clock does not fall, and the low clock is a number of 128 bits; states and nodes are added, and no start but the event's own.
-pub record Advances (schema : Declared) (q : Query) (events : List Event) (event : Event) (now : ℤ) (old new : Part) : Type 0 where
+pub record Advances (schema : Declared) (q : Query) (events : List Event) (event : Event) (now : ℤ) (old new : QueryState) : Type 0 where
   pub reads : Reads schema q event
   pub now_is : HasClock schema q.window event (length events) now
   pub in_time : IfSome old.clock (λ before. before ≤ℤ now)
@@ -36,27 +36,27 @@ pub record Advances (schema : Declared) (q : Query) (events : List Event) (event
   pub starts : (s : Stamp) → Contains new.nodes (Bottom s) → Contains old.nodes (Bottom s) ⊎ (s ≡ record { pos = length events; clock = now })
 
 -- the event has no key: no list changes
-pub record HasNoKey (schema : Declared) (q : Query) (event : Event) (old new : Part) : Type 0 where
+pub record HasNoKey (schema : Declared) (q : Query) (event : Event) (old new : QueryState) : Type 0 where
   pub none : (key : List Value) → HasKey schema q event key → ⊥
   pub keys : new.keys ≡ old.keys
   pub rows : new.rows ≡ old.rows
   pub here : new.here ≡ None
 
--- the lists of the event's key rest, where that is kept
-abbrev pub OwnListsRest : Declared → Query → Event → Part → Type 0
-OwnListsRest schema q event old = (key : List Value) (number : ℕ) (rows : Rows) → HasKey schema q event key → slice_get old.keys number ≡ Some key → slice_get old.rows number ≡ Some rows → Rest old.table rows
+-- the lists of the event's key are dormant, where that is kept
+abbrev pub OwnListsAreDormant : Declared → Query → Event → QueryState → Type 0
+OwnListsAreDormant schema q event old = (key : List Value) (number : ℕ) (rows : Rows) → HasKey schema q event key → slice_get old.keys number ≡ Some key → slice_get old.rows number ≡ Some rows → AreDormant old.table rows
 
--- No leaf can read the event, and the query's automaton is patient or the lists of the event's key rest: no list changes, and there is no answer.
-pub record LeavesLists (schema : Declared) (q : Query) (event : Event) (old new : Part) : Type 0 where
+-- No leaf can read the event, and the query's automaton is skip-insensitive or the lists of the event's key are dormant: no list changes, and there is no answer.
+pub record LeavesLists (schema : Declared) (q : Query) (event : Event) (old new : QueryState) : Type 0 where
   pub unread : (k : ℕ) → leaves_reading schema q event k ≡ false
-  pub rests : IsPatient (automaton_of (tree_of q)) q.strict ⊎ OwnListsRest schema q event old
+  pub is_dormant : IsSkipInsensitive (automaton_of (tree_of q)) q.strict ⊎ OwnListsAreDormant schema q event old
   pub table : new.table ≡ old.table
   pub keys : new.keys ≡ old.keys
   pub rows : new.rows ≡ old.rows
   pub here : new.here ≡ None
 
 -- Leaves of the query may read the event, but it begins no match, and no match is open of its key, whether that is kept or not: no list changes, and there is no answer.
-pub record BeginsNothing (schema : Declared) (q : Query) (event : Event) (old new : Part) : Type 0 where
+pub record BeginsNothing (schema : Declared) (q : Query) (event : Event) (old new : QueryState) : Type 0 where
   pub begins : (s : Standing) (mark : Bool) → next_standing (automaton_of (tree_of q)) q.strict begin (leaves_reading schema q event) mark ≡ Some s → ⊥
   pub empty : (key : List Value) (number : ℕ) (rows : Rows) → HasKey schema q event key → slice_get old.keys number ≡ Some key → slice_get old.rows number ≡ Some rows → rows ≡ []
   pub table : new.table ≡ old.table
@@ -65,7 +65,7 @@ pub record BeginsNothing (schema : Declared) (q : Query) (event : Event) (old ne
   pub here : new.here ≡ None
 
 -- The event has a known key: its lists alone change, and stand for one event more where they stood before.
-pub record HasKeyOf (schema : Declared) (q : Query) (events : List Event) (event : Event) (now : ℤ) (old new : Part) : Type 0 where
+pub record HasKeyOf (schema : Declared) (q : Query) (events : List Event) (event : Event) (now : ℤ) (old new : QueryState) : Type 0 where
   pub key : List Value
   pub has : HasKey schema q event key
   pub number : ℕ

@@ -1,9 +1,9 @@
 //! Laws that tie what the engine keeps to the answers of a query. Each function does nothing; its
 //! contract is the law.
 
-ghost use Rattle.query_standing.specs.Laws.{HeldAreAnswers, NodesGiveAnswers, NoKeyNoAnswer, OthersLeaveAKey, OneOfAKeyComesLast, LowNeverFalls, HoldsLater, HoldsWithoutDropped, LaterAnswersStartLate, KeptGivesAnswers, KeptEngineGivesAnswers, KeptPassesUnread, KeptSkips, KeptPassesWithoutKey, KeptPassesResting, KeptAdvances, KeptTakesAKey, KeptGivesUpKeys, StatesAreMet};
-ghost use Rattle.query_standing.specs.Dormancy.{GreatestIsLast, DormantStands, NoOpStands, ClockIsGiven, ClockGoesOn, OnlyFirstBegin, ClockIsOfEvents, LastClockIsShared, FallIsShared, FirstHeadFallsFirst, NoHeadNoneFalls};
-ghost use Rattle.query_standing.specs.Giving.{NoneIsGivenUp, MoreAreGivenUp, OneIsGivenUp};
+ghost use Rattle.query_standing.specs.Laws.{HeldAreAnswers, NodesGiveAnswers, NoKeyNoAnswer, OthersLeaveAKey, OneOfAKeyComesLast, LowNeverFalls, HoldsLater, HoldsWithoutDropped, LaterAnswersStartLate, KeptGivesAnswers, KeptEngineGivesAnswers, KeptPassesUnread, KeptSkips, KeptPassesWithoutKey, KeptPassesDormant, KeptAdvances, KeptTakesAKey, KeptRemovesKeys, StatesAreMet};
+ghost use Rattle.query_standing.specs.Dormancy.{GreatestIsLast, NoOpsStand, NoOpStands, ClockIsGiven, ClockGoesOn, OnlyFirstBegin, ClockIsOfEvents, LastClockIsShared, FallIsShared, FirstHeadFallsFirst, NoHeadNoneFalls};
+ghost use Rattle.query_standing.specs.Giving.{NoneIsRemoved, MoreAreRemoved, OneIsRemoved};
 
 /// The recent open matches of accepting states are exactly the answers at the last event of their
 /// key, each once; over nodes, a cursor on their entries gives exactly these.
@@ -32,23 +32,22 @@ pub fn old_starts_may_go()
     ensures answers { LaterAnswersStartLate }
 {}
 
-/// What is kept of a query stands for the events, as they come.
+/// A query state stands for the events, as they come.
 pub fn kept_stands()
     ensures answers { KeptGivesAnswers }
     ensures engine { KeptEngineGivesAnswers }
     ensures unread { KeptPassesUnread }
     ensures skips { KeptSkips }
     ensures no_key { KeptPassesWithoutKey }
-    ensures resting { KeptPassesResting }
+    ensures dormant { KeptPassesDormant }
     ensures keyed { KeptAdvances }
     ensures new_key { KeptTakesAKey }
     ensures states { StatesAreMet }
 {}
 
-/// What is kept of a query stands for events that are not brought to it, with the clock that queries
-/// share.
-pub fn dormant_stands()
-    ensures dormant { DormantStands }
+/// A query state stands for events that are not brought to it, with the clock that queries share.
+pub fn no_ops_stand()
+    ensures after_no_ops { NoOpsStand }
     ensures no_op { NoOpStands }
     ensures given { ClockIsGiven }
     ensures goes_on { ClockGoesOn }
@@ -61,10 +60,10 @@ pub fn dormant_stands()
     ensures none { NoHeadNoneFalls }
 {}
 
-/// Keys without lists may be given up.
-pub fn kept_gives_up()
-    ensures stands { KeptGivesUpKeys }
-    ensures none { NoneIsGivenUp }
-    ensures more { MoreAreGivenUp }
-    ensures one { OneIsGivenUp }
+/// Keys without lists may be removed.
+pub fn kept_removes()
+    ensures stands { KeptRemovesKeys }
+    ensures none { NoneIsRemoved }
+    ensures more { MoreAreRemoved }
+    ensures one { OneIsRemoved }
 {}

@@ -1,5 +1,5 @@
-//! What is kept of a query along events: which definitions say that it stands for them, and the
-//! laws that tie it to the query's answers.
+//! A query state along events: which definitions say that it stands for them, and the laws that tie
+//! it to the query's answers.
 //!
 //! Promised, as laws: where what is kept stands for the events, the recent members of the accepting
 //! states' lists are exactly the query's answers at the last event, each once; it stands for one

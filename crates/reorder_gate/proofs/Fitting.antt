@@ -12,7 +12,7 @@ use Rattle.stream_schema.specs.declared.Kind.{Kind}
 use Rattle.stream_schema.specs.declared.Kind.TheVariants as kind
 use Rattle.stream_schema.specs.declared.Value.{Value}
 use Rattle.stream_schema.specs.declared.Value.TheVariants as value
-use Rattle.reorder_gate.specs.Clocks.{is_int, is_some_int, has_clock, clock_fits, clock_value, whole, attribute_clock}
+use Rattle.reorder_gate.specs.AttributeClock.{is_int, is_some_int, has_clock, clock_fits, clock_value, whole, attribute_clock}
 
 -- a value of a whole number's kind is one
 whole_of_kind : (k : Kind) (v : Value) → is_int k ≡ true → IsOfKind k v → Some v ≡ Some (value.Int (whole (Some v)))

@@ -5,13 +5,13 @@ use Rattle.std.specs.List.{AllByRecursion}
 use Rattle.stream_schema.specs.declared.Event.{Event}
 use Rattle.reorder_gate.specs.Sorting.{placed, sorted}
 use Rattle.reorder_gate.specs.Releasing.{greatest, IsInTime, released, BeginsWith}
-use Rattle.reorder_gate.specs.Gates.{Held, clock_at, lateness, StandsFor}
+use Rattle.reorder_gate.specs.Gates.{GateState, clock_at, lateness, StandsFor}
 use Rattle.reorder_gate.proofs.Placing.{all_placed}
 use Rattle.reorder_gate.proofs.Fronts.{one_more_in_time}
 use Rattle.reorder_gate.proofs.Standing.{not_late, gone_stays}
 
 -- what has gone before the end stays first, whatever comes in time
-pub gone_goes_first : (g : Held) (put gone more : List (ℕ × Event)) → g.is_finished ≡ false → StandsFor g put gone → IsInTime (clock_at g.places) g.late (put ++ more) →
+pub gone_goes_first : (g : GateState) (put gone more : List (ℕ × Event)) → g.is_finished ≡ false → StandsFor g put gone → IsInTime (clock_at g.places) g.late (put ++ more) →
     BeginsWith gone (released (clock_at g.places) g.late (put ++ more)) × BeginsWith gone (sorted (clock_at g.places) (put ++ more))
 gone_goes_first g put gone more going stands in_time = gone_stays g put gone more going stands in_time
 

@@ -8,7 +8,7 @@ use Rattle.stream_schema.specs.declared.Event.{Event}
 use Rattle.reorder_gate.specs.declared.gate.TooLate.{TooLate}
 use Rattle.reorder_gate.specs.Sorting.{placed, sorted, Ascends}
 use Rattle.reorder_gate.specs.Releasing.{raised, is_late, is_due, greatest, IsInTime, released, BeginsWith}
-use Rattle.reorder_gate.specs.Gates.{Held, clock_at, lateness, with_event, may_go, StandsFor, all_due}
+use Rattle.reorder_gate.specs.Gates.{GateState, clock_at, lateness, with_event, may_go, StandsFor, all_due}
 use Rattle.reorder_gate.specs.Holding.{first_due, any_due}
 use Rattle.reorder_gate.proofs.Placing.{onto, all_by, all_append, not_less_test}
 use Rattle.reorder_gate.proofs.OnlyOne.{no_item}
@@ -40,13 +40,13 @@ still_due late (Some high) now new e =
     let more = keeps_high high new in
     test_upto now (raised (Some high) new -ℤ pos late) (omega (arith, ints))
 
-due_open : (g : Held) (e : ℕ × Event) → g.is_finished ≡ false → may_go g e ≡ true → is_due g.late g.high (clock_at g.places e) ≡ true
+due_open : (g : GateState) (e : ℕ × Event) → g.is_finished ≡ false → may_go g e ≡ true → is_due g.late g.high (clock_at g.places e) ≡ true
 due_open g e going may = ap (λ t. cond t true (is_due g.late g.high (clock_at g.places e))) (sym going) ∙ may
 
-may_open : (g : Held) (e : ℕ × Event) → g.is_finished ≡ false → is_due g.late g.high (clock_at g.places e) ≡ true → may_go g e ≡ true
+may_open : (g : GateState) (e : ℕ × Event) → g.is_finished ≡ false → is_due g.late g.high (clock_at g.places e) ≡ true → may_go g e ≡ true
 may_open g e going due = ap (λ t. cond t true (is_due g.late g.high (clock_at g.places e))) going ∙ due
 
-pub put_stands : (g : Held) (e : ℕ × Event) → g.is_finished ≡ false → lateness g.high g.late (clock_at g.places e) ≡ None → (put gone : List (ℕ × Event)) → StandsFor g put gone → StandsFor (with_event g e) (put ++ e ∷ []) gone
+pub put_stands : (g : GateState) (e : ℕ × Event) → g.is_finished ≡ false → lateness g.high g.late (clock_at g.places e) ≡ None → (put gone : List (ℕ × Event)) → StandsFor g put gone → StandsFor (with_event g e) (put ++ e ∷ []) gone
 put_stands g e going in_time put gone stands =
     let clock = clock_at g.places in
     let not = not_late g.high g.late (clock e) in_time in
@@ -58,7 +58,7 @@ put_stands g e going in_time put gone stands =
       due = all_by (λ x. may_go g x ≡ true) (λ x. may_go (with_event g e) x ≡ true) (λ x may. may_open (with_event g e) x going (still_due g.late g.high (clock x) (clock e) (due_open g x going may))) gone stands.due;
     }
 
-pub finish_stands : (g : Held) (put gone : List (ℕ × Event)) → StandsFor g put gone → StandsFor (record g { is_finished = true }) put gone
+pub finish_stands : (g : GateState) (put gone : List (ℕ × Event)) → StandsFor g put gone → StandsFor (record g { is_finished = true }) put gone
 finish_stands g put gone stands = record {
   in_time = stands.in_time;
   high = stands.high;
@@ -66,7 +66,7 @@ finish_stands g put gone stands = record {
   due = all_by (λ x. may_go g x ≡ true) (λ x. may_go (record g { is_finished = true }) x ≡ true) (λ x may. refl) gone stands.due;
 }
 
-pub take_stands : (g : Held) (e : ℕ × Event) (events put gone : List (ℕ × Event)) → g.events ≡ e ∷ events → may_go g e ≡ true → StandsFor g put gone → StandsFor (record g { events = events }) put (gone ++ e ∷ [])
+pub take_stands : (g : GateState) (e : ℕ × Event) (events put gone : List (ℕ × Event)) → g.events ≡ e ∷ events → may_go g e ≡ true → StandsFor g put gone → StandsFor (record g { events = events }) put (gone ++ e ∷ [])
 take_stands g e events put gone is may stands = record {
   in_time = stands.in_time;
   high = stands.high;
@@ -103,7 +103,7 @@ may_not : (t due : Bool) → cond t true due ≡ false → (t ≡ false) × (due
 may_not true due e = absurd (search (rules, e))
 may_not false due e = (refl, e)
 
-none_to_go : (g : Held) (events : List (ℕ × Event)) → Ascends (clock_at g.places) events → first_due g events ≡ false → AllByRecursion (λ e. may_go g e ≡ false) events
+none_to_go : (g : GateState) (events : List (ℕ × Event)) → Ascends (clock_at g.places) events → first_due g events ≡ false → AllByRecursion (λ e. may_go g e ≡ false) events
 none_to_go g [] up not = tt
 none_to_go g (e ∷ events) up not =
     let parts = may_not g.is_finished (is_due g.late g.high (clock_at g.places e)) not in
@@ -111,16 +111,16 @@ none_to_go g (e ∷ events) up not =
     (λ x due. ap (λ t. cond t true (is_due g.late g.high (clock_at g.places x))) parts.0 ∙ due)
     (e ∷ events) (none_due g.late g.high (clock_at g.places) e events up parts.1)
 
-pub none_goes : (g : Held) → Ascends (clock_at g.places) g.events → any_due g ≡ false → AllByRecursion (λ e. may_go g e ≡ false) g.events
+pub none_goes : (g : GateState) → Ascends (clock_at g.places) g.events → any_due g ≡ false → AllByRecursion (λ e. may_go g e ≡ false) g.events
 none_goes g up not = none_to_go g g.events up not
 
-no_event : (g : Held) (events : List (ℕ × Event)) → g.is_finished ≡ true → AllByRecursion (λ e. may_go g e ≡ false) events → events ≡ []
+no_event : (g : GateState) (events : List (ℕ × Event)) → g.is_finished ≡ true → AllByRecursion (λ e. may_go g e ≡ false) events → events ≡ []
 no_event g [] finished none = refl
 no_event g (e ∷ events) finished none =
     let clash : true ≡ false = ap (λ t. cond t true (is_due g.late g.high (clock_at g.places e))) (sym finished) ∙ none.0 in
     absurd (search (rules, clash))
 
-pub all_gone : (g : Held) (put gone : List (ℕ × Event)) → AllByRecursion (λ e. may_go g e ≡ false) g.events → StandsFor g put gone → gone ≡ all_due g put
+pub all_gone : (g : GateState) (put gone : List (ℕ × Event)) → AllByRecursion (λ e. may_go g e ≡ false) g.events → StandsFor g put gone → gone ≡ all_due g put
 all_gone g put gone none stands = at_end g.is_finished refl
   where
     at_end : (t : Bool) → g.is_finished ≡ t → gone ≡ cond t (sorted (clock_at g.places) put) (released (clock_at g.places) g.late put)
@@ -130,7 +130,7 @@ all_gone g put gone none stands = at_end g.is_finished refl
         (all_by (λ x. may_go g x ≡ false) (λ x. is_due g.late g.high (clock_at g.places x) ≡ false) (λ x may. ap (λ t. cond t true (is_due g.late g.high (clock_at g.places x))) (sym e) ∙ may) g.events none)
 
 -- what has gone before the end stays first
-pub gone_stays : (g : Held) (put gone more : List (ℕ × Event)) → g.is_finished ≡ false → StandsFor g put gone → IsInTime (clock_at g.places) g.late (put ++ more) → BeginsWith gone (released (clock_at g.places) g.late (put ++ more)) × BeginsWith gone (sorted (clock_at g.places) (put ++ more))
+pub gone_stays : (g : GateState) (put gone more : List (ℕ × Event)) → g.is_finished ≡ false → StandsFor g put gone → IsInTime (clock_at g.places) g.late (put ++ more) → BeginsWith gone (released (clock_at g.places) g.late (put ++ more)) × BeginsWith gone (sorted (clock_at g.places) (put ++ more))
 gone_stays g put gone more going stands t = by_high g.high refl gone stands.order (all_by (λ x. may_go g x ≡ true) (λ x. is_due g.late g.high (clock_at g.places x) ≡ true) (λ x may. due_open g x going may) gone stands.due)
   where
     by_high : (high : Option ℤ) → g.high ≡ high → (gone : List (ℕ × Event)) → gone ++ g.events ≡ sorted (clock_at g.places) put → AllByRecursion (λ x. is_due g.late high ((clock_at g.places) x) ≡ true) gone → BeginsWith gone (released (clock_at g.places) g.late (put ++ more)) × BeginsWith gone (sorted (clock_at g.places) (put ++ more))

@@ -7,7 +7,7 @@ use Rattle.std.proofs.lemmas.Bool.{and_right, and_from, and_parts}
 use Rattle.stream_schema.specs.Types.{Declared, DeclaredType}
 use Rattle.stream_schema.specs.Names.{attr_index, attr_among}
 use Rattle.stream_schema.proofs.AttributePlaces.{value_there}
-use Rattle.reorder_gate.specs.Clocks.{is_some_int, has_clock, whole, IsClock}
+use Rattle.reorder_gate.specs.AttributeClock.{is_some_int, has_clock, whole, IsClock}
 
 pub table_tells : (schema : Declared) (name : List ℕ) (places : List (Option ℕ)) → places ≡ map (λ (t : DeclaredType). attr_index name t.attrs) schema.types → IsClock schema name places
 table_tells schema name places e = record {

@@ -1,6 +1,6 @@
 pub mod Sorting
 pub mod Releasing
-pub mod Clocks
+pub mod AttributeClock
 pub mod Gates
 pub mod Holding
-pub mod Laws
+pub mod ReleaseLaws

@@ -2,7 +2,7 @@
 
 ghost use Rattle.std.specs.Prelude.{◌≡◌, Some};
 ghost use Rattle.stream_schema.specs.Names.{attr_at};
-ghost use Rattle.reorder_gate.specs.Clocks.{is_some_int, clock_fits, clock_in, whole};
+ghost use Rattle.reorder_gate.specs.AttributeClock.{is_some_int, clock_fits, clock_in, whole};
 
 use stream_schema::{Event, Kind, Schema, TypeId, Value, value_in};
 

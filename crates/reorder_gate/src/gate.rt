@@ -26,7 +26,7 @@ pub struct TooLate {
 
 /// When an event goes: by its clock, then by how many were put before it.
 #[derive(Debug, Clone, Copy, PartialEq, Eq, PartialOrd, Ord)]
-struct Turn {
+struct ReleaseKey {
     clock: i64,
     arrival: u64,
 }
@@ -43,15 +43,15 @@ pub struct Gate {
     is_finished: bool,
     /// How many events were put.
     arrivals: u64,
-    waiting: BTreeMap<Turn, (u64, Event)>,
+    waiting: BTreeMap<ReleaseKey, (u64, Event)>,
 }
 
 impl Model for Gate {
     ghost use Rattle.std.specs.Prelude.{map};
-    ghost use Rattle.reorder_gate.specs.Gates.{Held};
+    ghost use Rattle.reorder_gate.specs.Gates.{GateState};
     ghost use Rattle.reorder_gate.specs.Holding.{IsKept};
 
-    ghost Value = { Held };
+    ghost Value = { GateState };
 
     ghost view = { λ g. record {
       places = g.places.items;
@@ -101,7 +101,7 @@ fn raised(high: Option<i64>, now: i64) -> i64
 }
 
 impl Gate {
-    ghost use Rattle.reorder_gate.specs.Clocks.{clock_fits, IsClock};
+    ghost use Rattle.reorder_gate.specs.AttributeClock.{clock_fits, IsClock};
     ghost use Rattle.reorder_gate.specs.Sorting.{Ascends};
     ghost use Rattle.reorder_gate.specs.Gates.{clock_at, with_event, may_go, StandsFor, all_due};
     ghost use Rattle.reorder_gate.specs.Holding.{any_due};
@@ -152,7 +152,7 @@ impl Gate {
             Some(arrivals) => arrivals,
             None => return Err(OrMemory::Memory),
         };
-        let turn = Turn {
+        let turn = ReleaseKey {
             clock: now,
             arrival,
         };

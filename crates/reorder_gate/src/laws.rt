@@ -1,6 +1,6 @@
 //! Laws of sorting and releasing. Each function does nothing; its contract is the law.
 
-ghost use Rattle.reorder_gate.specs.Laws.{SortingMoves, SortingOrders, SortedIsUnique, SortedGrows, SortingKeepsParts, ReleasingKeepsParts, FrontsAreInTime, InTimeGrows, ReleasedIsFinal, ReleasedGrows, FittingClocksAreTold, GoneIsFinal};
+ghost use Rattle.reorder_gate.specs.ReleaseLaws.{SortingMoves, SortingOrders, SortedIsUnique, SortedGrows, SortingKeepsParts, ReleasingKeepsParts, FrontsAreInTime, InTimeGrows, ReleasedIsFinal, ReleasedGrows, FittingClocksAreTold, GoneIsFinal};
 
 /// Sorting moves the items, and neither loses nor makes one.
 pub fn sorting_moves<A>()

@@ -16,8 +16,8 @@ use Rattle.cer_base.specs.Nodes.{tree, WellFormed, AreInStep, HasNode, Grows, Is
 use Rattle.cer_base.proofs.Trees.{in_step-bottom, tree-append, tree-grows, length-grows}
 use Rattle.cer_base.proofs.Walks.{test_tells}
 use Rattle.tecs_nodes.specs.Unite.{CanUnite, united}
-use Rattle.set_tests.specs.declared.part.Part.{Part}
-use Rattle.set_tests.specs.declared.part.Part.TheVariants as kind_of_part
+use Rattle.set_tests.specs.declared.part.BuildStep.{BuildStep}
+use Rattle.set_tests.specs.declared.part.BuildStep.TheVariants as kind_of_part
 use Rattle.set_tests.specs.Parts.{at, made, can_make, all_pass, is_before, is_after, is_same, all_differ, is_safe, trees_at, AreNodes}
 
 and_first : (a b : Bool) → a && b ≡ true → a ≡ true
@@ -98,23 +98,23 @@ tree_there nodes ids trees k id root are less there is =
     let same : id ≡ get_or ids k 0 = there ∙ get_or_default ids k id 0 within in
     ap (tree nodes) (is ∙ same) ∙ (sym (at_is nodes ids k within) ∙ ap (λ ts. at ts k) are)
 
-pub can_start : (nodes : List Node) (ids : List ℕ) (part : Part) (stamp : Stamp) → part ≡ kind_of_part.Start stamp.pos stamp.clock → AreNodes nodes ids → can_make (trees_at nodes ids) part ≡ true → AreInStep (nodes ++ Bottom stamp ∷ [])
+pub can_start : (nodes : List Node) (ids : List ℕ) (part : BuildStep) (stamp : Stamp) → part ≡ kind_of_part.Start stamp.pos stamp.clock → AreNodes nodes ids → can_make (trees_at nodes ids) part ≡ true → AreInStep (nodes ++ Bottom stamp ∷ [])
 can_start nodes ids part stamp is are can =
-    let before : all_pass (is_before stamp) (trees_at nodes ids) ≡ true = subst (λ (p : Part). can_make (trees_at nodes ids) p ≡ true) is can in
+    let before : all_pass (is_before stamp) (trees_at nodes ids) ≡ true = subst (λ (p : BuildStep). can_make (trees_at nodes ids) p ≡ true) is can in
     let all = all_tells (is_before stamp) (λ t. is_before stamp t ≡ true) (λ t e. e) (trees_at nodes ids) before in
     in_step-bottom nodes stamp are.well_formed.in_step (λ s has.
     let e : nat_lt s.pos stamp.pos && int_le s.clock stamp.clock ≡ true = All-contains (λ t. is_before stamp t ≡ true) (trees_at nodes ids) (Start s) all (are.starts s has) in
     (ltb-true _ _ (and_first _ _ e), test_tells _ _ (and_second _ _ e)))
 
-pub extend_inside : (nodes : List Node) (ids : List ℕ) (part : Part) (k p : ℕ) → part ≡ kind_of_part.Extend k p → can_make (trees_at nodes ids) part ≡ true → k < length ids
+pub extend_inside : (nodes : List Node) (ids : List ℕ) (part : BuildStep) (k p : ℕ) → part ≡ kind_of_part.Extend k p → can_make (trees_at nodes ids) part ≡ true → k < length ids
 extend_inside nodes ids part k p is can =
-    let e : nat_lt k (length (trees_at nodes ids)) && all_pass (is_after p) (members (at (trees_at nodes ids) k)) ≡ true = subst (λ (x : Part). can_make (trees_at nodes ids) x ≡ true) is can in
+    let e : nat_lt k (length (trees_at nodes ids)) && all_pass (is_after p) (members (at (trees_at nodes ids) k)) ≡ true = subst (λ (x : BuildStep). can_make (trees_at nodes ids) x ≡ true) is can in
     let l = length-map ids (tree nodes) in
     let h : k < length (trees_at nodes ids) = ltb-true _ _ (and_first _ _ e) in omega arith
 
-pub can_extend : (nodes : List Node) (ids : List ℕ) (part : Part) (k p : ℕ) → part ≡ kind_of_part.Extend k p → can_make (trees_at nodes ids) part ≡ true → All (ComesAfter p) (members (tree nodes (get_or ids k 0)))
+pub can_extend : (nodes : List Node) (ids : List ℕ) (part : BuildStep) (k p : ℕ) → part ≡ kind_of_part.Extend k p → can_make (trees_at nodes ids) part ≡ true → All (ComesAfter p) (members (tree nodes (get_or ids k 0)))
 can_extend nodes ids part k p is can =
-    let e : nat_lt k (length (trees_at nodes ids)) && all_pass (is_after p) (members (at (trees_at nodes ids) k)) ≡ true = subst (λ (x : Part). can_make (trees_at nodes ids) x ≡ true) is can in
+    let e : nat_lt k (length (trees_at nodes ids)) && all_pass (is_after p) (members (at (trees_at nodes ids) k)) ≡ true = subst (λ (x : BuildStep). can_make (trees_at nodes ids) x ≡ true) is can in
     let inside = extend_inside nodes ids part k p is can in
     subst (λ (t : SetTree). All (ComesAfter p) (members t)) (at_is nodes ids k inside) (after_tells p _ (and_second _ _ e))
 
@@ -124,33 +124,33 @@ two_inside nodes ids a b more e =
     let f : nat_lt b (length (trees_at nodes ids)) && more ≡ true = and_second _ _ e in
     (let h : a < length (trees_at nodes ids) = ltb-true _ _ (and_first _ _ e) in omega arith, let h : b < length (trees_at nodes ids) = ltb-true _ _ (and_first _ _ f) in omega arith, and_second _ _ f)
 
-pub can_join : (nodes : List Node) (ids : List ℕ) (part : Part) (a b : ℕ) → part ≡ kind_of_part.Join a b → can_make (trees_at nodes ids) part ≡ true → CanJoin (tree nodes (get_or ids a 0)) (tree nodes (get_or ids b 0))
+pub can_join : (nodes : List Node) (ids : List ℕ) (part : BuildStep) (a b : ℕ) → part ≡ kind_of_part.Join a b → can_make (trees_at nodes ids) part ≡ true → CanJoin (tree nodes (get_or ids a 0)) (tree nodes (get_or ids b 0))
 can_join nodes ids part a b is can =
-    let e = subst (λ (x : Part). can_make (trees_at nodes ids) x ≡ true) is can in
+    let e = subst (λ (x : BuildStep). can_make (trees_at nodes ids) x ≡ true) is can in
     let h = two_inside nodes ids a b _ e in
     rw (← at_is nodes ids a h.0, ← at_is nodes ids b h.1) (join_tells _ _ h.2)
 
-pub can_unite : (nodes : List Node) (ids : List ℕ) (part : Part) (a b : ℕ) → part ≡ kind_of_part.Unite a b → can_make (trees_at nodes ids) part ≡ true → CanUnite (tree nodes (get_or ids a 0)) (tree nodes (get_or ids b 0))
+pub can_unite : (nodes : List Node) (ids : List ℕ) (part : BuildStep) (a b : ℕ) → part ≡ kind_of_part.Unite a b → can_make (trees_at nodes ids) part ≡ true → CanUnite (tree nodes (get_or ids a 0)) (tree nodes (get_or ids b 0))
 can_unite nodes ids part a b is can =
-    let e = subst (λ (x : Part). can_make (trees_at nodes ids) x ≡ true) is can in
+    let e = subst (λ (x : BuildStep). can_make (trees_at nodes ids) x ≡ true) is can in
     let h = two_inside nodes ids a b _ e in
     rw (← at_is nodes ids a h.0, ← at_is nodes ids b h.1) (unite_tells _ _ h.2)
 
 -- the trees of the parts
-pub made_start : (nodes : List Node) (ids : List ℕ) (part : Part) (stamp : Stamp) → part ≡ kind_of_part.Start stamp.pos stamp.clock → made (trees_at nodes ids) part ≡ Start stamp
+pub made_start : (nodes : List Node) (ids : List ℕ) (part : BuildStep) (stamp : Stamp) → part ≡ kind_of_part.Start stamp.pos stamp.clock → made (trees_at nodes ids) part ≡ Start stamp
 made_start nodes ids part stamp is = ap (made (trees_at nodes ids)) is
 
-pub made_extend : (nodes : List Node) (ids : List ℕ) (part : Part) (k p : ℕ) → part ≡ kind_of_part.Extend k p → k < length ids → made (trees_at nodes ids) part ≡ Extended p (tree nodes (get_or ids k 0))
+pub made_extend : (nodes : List Node) (ids : List ℕ) (part : BuildStep) (k p : ℕ) → part ≡ kind_of_part.Extend k p → k < length ids → made (trees_at nodes ids) part ≡ Extended p (tree nodes (get_or ids k 0))
 made_extend nodes ids part k p is inside = ap (made (trees_at nodes ids)) is ∙ ap (Extended p) (at_is nodes ids k inside)
 
-pub made_join : (nodes : List Node) (ids : List ℕ) (part : Part) (a b : ℕ) → part ≡ kind_of_part.Join a b → can_make (trees_at nodes ids) part ≡ true → made (trees_at nodes ids) part ≡ United (tree nodes (get_or ids a 0)) (tree nodes (get_or ids b 0))
+pub made_join : (nodes : List Node) (ids : List ℕ) (part : BuildStep) (a b : ℕ) → part ≡ kind_of_part.Join a b → can_make (trees_at nodes ids) part ≡ true → made (trees_at nodes ids) part ≡ United (tree nodes (get_or ids a 0)) (tree nodes (get_or ids b 0))
 made_join nodes ids part a b is can =
-    let h = two_inside nodes ids a b _ (subst (λ (x : Part). can_make (trees_at nodes ids) x ≡ true) is can) in
+    let h = two_inside nodes ids a b _ (subst (λ (x : BuildStep). can_make (trees_at nodes ids) x ≡ true) is can) in
     rw (← at_is nodes ids a h.0, ← at_is nodes ids b h.1) (ap (made (trees_at nodes ids)) is)
 
-pub made_unite : (nodes : List Node) (ids : List ℕ) (part : Part) (a b : ℕ) → part ≡ kind_of_part.Unite a b → can_make (trees_at nodes ids) part ≡ true → made (trees_at nodes ids) part ≡ united (tree nodes (get_or ids a 0)) (tree nodes (get_or ids b 0))
+pub made_unite : (nodes : List Node) (ids : List ℕ) (part : BuildStep) (a b : ℕ) → part ≡ kind_of_part.Unite a b → can_make (trees_at nodes ids) part ≡ true → made (trees_at nodes ids) part ≡ united (tree nodes (get_or ids a 0)) (tree nodes (get_or ids b 0))
 made_unite nodes ids part a b is can =
-    let h = two_inside nodes ids a b _ (subst (λ (x : Part). can_make (trees_at nodes ids) x ≡ true) is can) in
+    let h = two_inside nodes ids a b _ (subst (λ (x : BuildStep). can_make (trees_at nodes ids) x ≡ true) is can) in
     rw (← at_is nodes ids a h.0, ← at_is nodes ids b h.1) (ap (made (trees_at nodes ids)) is)
 
 -- older ids keep their trees

@@ -9,7 +9,7 @@ use Rattle.cer_base.specs.declared.node.Node.{Node}
 use Rattle.cer_base.specs.declared.node.Node.TheVariants.{Bottom}
 use Rattle.cer_base.specs.Nodes.{WellFormed, AreInStep, IsRoot}
 use Rattle.cer_base.proofs.Trees.{in_step-bottom}
-use Rattle.cea_determinise.specs.Det.{Table}
+use Rattle.cea_determinise.specs.LazyDfa.{Table}
 use Rattle.union_lists.specs.Lists.{IsUnionList}
 use Rattle.event_update.specs.Reach.{Seen}
 use Rattle.event_update.specs.Stands.{Stands, CanAdvance, IsLater, seen}

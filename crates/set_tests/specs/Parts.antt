@@ -7,22 +7,22 @@ use Rattle.cer_base.specs.declared.node.Node.TheVariants.{Bottom}
 use Rattle.cer_base.specs.Members.{Member, SetTree, Start, Extended, United, members, newest, depth}
 use Rattle.cer_base.specs.Nodes.{tree, WellFormed}
 use Rattle.tecs_nodes.specs.Unite.{united}
-use Rattle.set_tests.specs.declared.part.Part.{Part}
-use Rattle.set_tests.specs.declared.part.Part.TheVariants as kind_of_part
+use Rattle.set_tests.specs.declared.part.BuildStep.{BuildStep}
+use Rattle.set_tests.specs.declared.part.BuildStep.TheVariants as kind_of_part
 
 -- the tree at a place, and some leaf past the last
 abbrev pub at : List SetTree → ℕ → SetTree
 at trees k = get_or trees k (Start (record { pos = 0; clock = pos 0 }))
 
 -- the tree of a part that is made of earlier ones
-abbrev pub made : List SetTree → Part → SetTree
+abbrev pub made : List SetTree → BuildStep → SetTree
 made trees (kind_of_part.Start p clock) = Start (record { pos = p; clock = clock })
 made trees (kind_of_part.Extend k p) = Extended p (at trees k)
 made trees (kind_of_part.Join l r) = United (at trees l) (at trees r)
 made trees (kind_of_part.Unite a b) = united (at trees a) (at trees b)
 
 -- the trees of all parts, after those that are there
-abbrev pub trees_of : List SetTree → List Part → List SetTree
+abbrev pub trees_of : List SetTree → List BuildStep → List SetTree
 trees_of trees [] = trees
 trees_of trees (p ∷ ps) = trees_of (trees ++ made trees p ∷ []) ps
 
@@ -57,14 +57,14 @@ is_safe (Extended p t) = true
 is_safe (United l r) = (depth l == 0) && nat_le (depth r) 2
 
 -- the part can be made of the trees
-abbrev pub can_make : List SetTree → Part → Bool
+abbrev pub can_make : List SetTree → BuildStep → Bool
 can_make trees (kind_of_part.Start p clock) = all_pass (is_before (record { pos = p; clock = clock })) trees
 can_make trees (kind_of_part.Extend k p) = nat_lt k (length trees) && all_pass (is_after p) (members (at trees k))
 can_make trees (kind_of_part.Join l r) = nat_lt l (length trees) && (nat_lt r (length trees) && (nat_le (newest (at trees r)).pos (newest (at trees l)).pos && (all_differ (members (at trees l) ++ members (at trees r)) && nat_le (depth (at trees l)) 2)))
 can_make trees (kind_of_part.Unite a b) = nat_lt a (length trees) && (nat_lt b (length trees) && (is_safe (at trees a) && (is_safe (at trees b) && (((newest (at trees a)).pos == (newest (at trees b)).pos) && (int_le (newest (at trees a)).clock (newest (at trees b)).clock && (int_le (newest (at trees b)).clock (newest (at trees a)).clock && all_differ (members (at trees a) ++ members (at trees b))))))))
 
 -- each part can be made of those before it
-abbrev pub can_make_all : List SetTree → List Part → Bool
+abbrev pub can_make_all : List SetTree → List BuildStep → Bool
 can_make_all trees [] = true
 can_make_all trees (p ∷ ps) = can_make trees p && can_make_all (trees ++ made trees p ∷ []) ps
 

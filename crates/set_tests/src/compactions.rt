@@ -1,19 +1,19 @@
 //! Three events, a list and a cursor.
 ghost use Rattle.std.specs.Prelude.{◌≡◌, [], ◌∷◌, All, IfOk, OnOk};
 ghost use Rattle.cer_base.specs.Nodes.{WellFormed, IsRoot};
-ghost use Rattle.tecs_enumerate.specs.Rest.{Fits};
+ghost use Rattle.tecs_enumerate.specs.Remaining.{Fits};
 ghost use Rattle.set_tests.specs.Ledgers.{Opens};
 ghost use Rattle.union_lists.specs.Lists.{IsUnionList};
 
 use crate::listings::write_all;
-use crate::part::Part;
+use crate::part::BuildStep;
 use crate::parts::{make_all, root_of};
 use arena_compact::{Room, compact};
 use cer_base::Memory;
 use cer_base::node::Root;
 use cer_base::steps::{Opening, Steps};
 use cer_base::store::NodeStore;
-use event_update::Active;
+use event_update::ActiveStates;
 use std::alloc::Global;
 use std::sync::ledger::Ledger;
 use tecs_arena::Arena;
@@ -29,12 +29,12 @@ pub struct Outcome {
 }
 
 /// The list, as that of state 1 alone.
-fn of_state_one(alloc: Global, list: UList) -> Result<Active, Memory>
+fn of_state_one(alloc: Global, list: UList) -> Result<ActiveStates, Memory>
     ensures { IfOk result (λ a. a.entries ≡ (1, list) ∷ []) }
 {
     let mut rows = Vec::new(alloc);
     rows.push((1, list))?;
-    Ok(Active::of(rows))
+    Ok(ActiveStates::of(rows))
 }
 
 /// Makes ten nodes in an empty store: 0 a bottom at 0, 1 an output of 0 at 0, 2 a bottom at 1, 3 an
@@ -44,7 +44,7 @@ fn of_state_one(alloc: Global, list: UList) -> Result<Active, Memory>
 fn three_events<S: NodeStore, L: Ledger>(
     alloc: Global,
     store: &mut S,
-    keys: &mut Vec<Active>,
+    keys: &mut Vec<ActiveStates>,
     steps: &mut Steps<L>,
 ) -> Result<Root, Memory>
     requires empty { S.nodes store.old ≡ [] }
@@ -55,16 +55,16 @@ fn three_events<S: NodeStore, L: Ledger>(
     ensures root { IfOk result (IsRoot (S.nodes store.new)) }
 {
     let parts = [
-        Part::Start(0, 0),
-        Part::Extend(0, 0),
-        Part::Start(1, 1),
-        Part::Extend(2, 1),
-        Part::Extend(1, 1),
-        Part::Join(3, 4),
-        Part::Start(2, 2),
-        Part::Extend(6, 2),
-        Part::Extend(5, 2),
-        Part::Join(7, 8),
+        BuildStep::Start(0, 0),
+        BuildStep::Extend(0, 0),
+        BuildStep::Start(1, 1),
+        BuildStep::Extend(2, 1),
+        BuildStep::Extend(1, 1),
+        BuildStep::Join(3, 4),
+        BuildStep::Start(2, 2),
+        BuildStep::Extend(6, 2),
+        BuildStep::Extend(5, 2),
+        BuildStep::Join(7, 8),
     ];
     let ids = make_all(alloc, store, &parts, steps)?;
     let list = one(alloc, store, ids[8], steps)?;
@@ -76,7 +76,7 @@ fn three_events<S: NodeStore, L: Ledger>(
 fn lists_text<S: NodeStore, L: Ledger>(
     alloc: Global,
     store: &S,
-    lists: &Active,
+    lists: &ActiveStates,
     steps: &mut Steps<L>,
 ) -> Result<String, Memory>
     requires well_formed { WellFormed (S.nodes store.now) }
@@ -117,7 +117,7 @@ fn cursors_text<S: NodeStore, L: Ledger>(
 fn tell<S: NodeStore, L: Ledger>(
     alloc: Global,
     store: &S,
-    keys: &[Active],
+    keys: &[ActiveStates],
     cursors: &mut [Cursor],
     steps: &mut Steps<L>,
 ) -> Result<Outcome, Memory>
@@ -141,7 +141,7 @@ fn tell<S: NodeStore, L: Ledger>(
 fn compact_and_tell<S: NodeStore, L: Ledger>(
     alloc: Global,
     store: &mut S,
-    keys: &mut [Active],
+    keys: &mut [ActiveStates],
     cursors: &mut [Cursor],
     low: i128,
     steps: &mut Steps<L>,

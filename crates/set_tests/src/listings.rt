@@ -3,11 +3,11 @@
 ghost use Rattle.std.specs.Prelude.{◌≡◌, ℕ, ◌+◌, ◌*◌, ◌<◌, ◌≤◌, ◌≤ℤ◌, List, [], ◌∷◌, length, pos, All, IfOk, IsTrue};
 ghost use Rattle.cer_base.specs.Members.{Member, Start, Extended, United};
 ghost use Rattle.cer_base.specs.Nodes.{tree, WellFormed, IsRoot};
-ghost use Rattle.tecs_enumerate.specs.Rest.{rest, Fits};
+ghost use Rattle.tecs_enumerate.specs.Remaining.{rest, Fits};
 ghost use Rattle.set_tests.specs.Parts.{can_make_all, AreNodes};
 ghost use Rattle.set_tests.specs.Ledgers.{Opens};
 
-use crate::part::Part;
+use crate::part::BuildStep;
 use crate::parts::{make_all, root_of};
 use cer_base::node::{Id, Root};
 use cer_base::steps::{Opening, Steps};
@@ -62,12 +62,12 @@ pub fn join_of_two<S: NodeStore, L: Ledger>(
         (Extended 1 (Extended 0 (Start (record { pos = 0; clock = pos 0 }))))) }
 {
     let parts = [
-        Part::Start(0, 0),
-        Part::Extend(0, 0),
-        Part::Start(1, 1),
-        Part::Extend(2, 1),
-        Part::Extend(1, 1),
-        Part::Join(3, 4),
+        BuildStep::Start(0, 0),
+        BuildStep::Extend(0, 0),
+        BuildStep::Start(1, 1),
+        BuildStep::Extend(2, 1),
+        BuildStep::Extend(1, 1),
+        BuildStep::Join(3, 4),
     ];
     let ids = make_all(alloc, store, &parts, steps)?;
     Ok(root_of(store, ids[5], steps))
@@ -193,7 +193,7 @@ pub fn write_all<S: NodeStore, L: Ledger>(
 /// Makes the parts in an arena, and writes the answers of a cursor on those at the places.
 pub fn listing<L: Ledger>(
     alloc: Global,
-    parts: &[Part],
+    parts: &[BuildStep],
     places: &[usize],
     low: i128,
     opening: Opening,

@@ -4,7 +4,7 @@ ghost use Rattle.cer_base.specs.Nodes.{WellFormed, Grows};
 ghost use Rattle.union_lists.specs.Lists.{IsUnionList};
 ghost use Rattle.set_tests.specs.Rows.{CanInsertAll};
 
-use crate::part::Part;
+use crate::part::BuildStep;
 use crate::parts::make_all;
 use cer_base::Memory;
 use cer_base::node::Id;
@@ -62,12 +62,12 @@ fn seven_takes_in_three<S: NodeStore, L: Ledger>(
     requires empty { S.nodes store.old ≡ [] }
 {
     let parts = [
-        Part::Start(5, 5),
-        Part::Start(7, 7),
-        Part::Extend(1, 8),
-        Part::Extend(0, 8),
-        Part::Extend(1, 9),
-        Part::Extend(0, 9),
+        BuildStep::Start(5, 5),
+        BuildStep::Start(7, 7),
+        BuildStep::Extend(1, 8),
+        BuildStep::Extend(0, 8),
+        BuildStep::Extend(1, 9),
+        BuildStep::Extend(0, 9),
     ];
     let ids = make_all(alloc, store, &parts, steps)?;
     let mut list = one(alloc, store, ids[2], steps)?;

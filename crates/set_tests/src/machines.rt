@@ -3,7 +3,7 @@
 ghost use Rattle.std.specs.Prelude.{◌≡◌, ◌≤◌, length, IfOk};
 
 use cea_compile::compile;
-use cea_determinise::det::Det;
+use cea_determinise::lazy_dfa::LazyDfa;
 use cea_determinise::table::{State, Successors};
 use cel_terms::Query;
 use ceql_parser::{Accepted, read_queries};
@@ -42,7 +42,7 @@ pub fn event(alloc: Global, ty: u64, v: i64) -> Result<Event, Memory> {
 #[derive(Drop)]
 pub struct Machine {
     conditions: Conditions,
-    det: Det,
+    lazy_dfa: LazyDfa,
 }
 
 impl Model for Machine {
@@ -52,26 +52,29 @@ impl Model for Machine {
 
     ghost view = { λ m. length m.conditions };
 
-    ghost invariant = { λ m. length m.conditions ≡ m.det.cea.size };
+    ghost invariant = { λ m. length m.conditions ≡ m.lazy_dfa.cea.size };
 }
 
 impl Machine {
     /// The machine of the query, with no state met yet.
     pub fn of(alloc: Global, schema: &Schema, query: &Query) -> Result<Machine, Memory> {
         let leaves = leaves_of(alloc, schema, query)?;
-        let det = Det::new(alloc, Seed::default(), compile(alloc, &leaves)?);
+        let lazy_dfa = LazyDfa::new(alloc, Seed::default(), compile(alloc, &leaves)?);
         let conditions = Conditions::of(alloc, leaves.list)?;
-        Ok(Machine { conditions, det })
+        Ok(Machine {
+            conditions,
+            lazy_dfa,
+        })
     }
 
     /// How many states other than the start were met.
     pub fn found(&self) -> u64 {
-        self.det.found()
+        self.lazy_dfa.found()
     }
 
     /// Whether there is such a state and it accepts.
     pub fn accepts(&self, state: State) -> bool {
-        state <= self.det.found() && self.det.accepts(state)
+        state <= self.lazy_dfa.found() && self.lazy_dfa.accepts(state)
     }
 
     /// The successors of the state on the event, None where there is no such state.
@@ -82,13 +85,13 @@ impl Machine {
         event: &Event,
         steps: &mut Steps<L>,
     ) -> Result<Option<Successors>, Memory> {
-        if state > self.det.found() {
+        if state > self.lazy_dfa.found() {
             return Ok(None);
         }
         let mut bits = self.conditions.blank(alloc)?;
         self.conditions.fill(event, &mut bits);
-        let class = self.det.class(&bits, steps)?;
-        Ok(Some(self.det.next(state, class, steps)?))
+        let event_class = self.lazy_dfa.event_class(&bits, steps)?;
+        Ok(Some(self.lazy_dfa.next(state, event_class, steps)?))
     }
 }
 

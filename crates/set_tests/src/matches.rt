@@ -7,7 +7,7 @@ ghost use Rattle.cea_determinise.specs.Cea.{IsWellFormed};
 use crate::listings::write_all;
 use crate::lists::starts_of;
 use cea_determinise::cea::Cea;
-use cea_determinise::det::Det;
+use cea_determinise::lazy_dfa::LazyDfa;
 use cea_determinise::table::State;
 use cer_base::bits::Bits;
 use cer_base::node::Stamp;
@@ -15,7 +15,7 @@ use cer_base::seed::Seed;
 use cer_base::steps::Steps;
 use cer_base::time::{LowTime, Time};
 use cer_base::{Memory, Pos};
-use event_update::{Active, Stage, commit, prepare};
+use event_update::{ActiveStates, Stage, commit, prepare};
 use std::alloc::Global;
 use std::marker::Model;
 use std::sync::ledger::Ledger;
@@ -28,22 +28,22 @@ use union_lists::UList;
 #[derive(Drop)]
 pub struct OpenMatches {
     low: LowTime,
-    det: Det,
+    lazy_dfa: LazyDfa,
     store: Arena,
-    active: Active,
+    active: ActiveStates,
     stage: Stage,
     next: Pos,
 }
 
 impl Model for OpenMatches {
-    ghost use Rattle.cea_determinise.specs.Det.{Table};
+    ghost use Rattle.cea_determinise.specs.LazyDfa.{Table};
     ghost use Rattle.set_tests.specs.Ready.{IsReady};
 
     ghost Value = { Table };
 
-    ghost view = { λ m. m.det };
+    ghost view = { λ m. m.lazy_dfa };
 
-    ghost invariant = { λ m. IsReady m.low m.det m.store.nodes m.active.entries m.next };
+    ghost invariant = { λ m. IsReady m.low m.lazy_dfa m.store.nodes m.active.entries m.next };
 }
 
 /// Writes the state's number, where the entries of its list start, and its members.
@@ -76,9 +76,9 @@ impl OpenMatches {
     {
         OpenMatches {
             low,
-            det: Det::new(alloc, Seed::default(), cea),
+            lazy_dfa: LazyDfa::new(alloc, Seed::default(), cea),
             store: Arena::new(alloc),
-            active: Active::new(alloc),
+            active: ActiveStates::new(alloc),
             stage: Stage::new(alloc),
             next: 0,
         }
@@ -102,7 +102,7 @@ impl OpenMatches {
             &self.active,
             &mut self.stage,
             &mut self.store,
-            &mut self.det,
+            &mut self.lazy_dfa,
             bits,
             stamp,
             self.low,

@@ -5,7 +5,7 @@ use cer_base::Pos;
 
 /// A node that is made of earlier ones, which are named by their places in the list, from 0.
 #[derive(Clone, Copy)]
-pub enum Part {
+pub enum BuildStep {
     /// A bottom, by the position where it starts and the clock there.
     Start(Pos, i64),
     /// The part at the place, extended by the position.

@@ -4,7 +4,7 @@ ghost use Rattle.std.specs.Prelude.{◌≡◌, ◌<◌, List, [], ◌∷◌, ◌
 ghost use Rattle.cer_base.specs.Nodes.{HasNode, WellFormed, IsRoot};
 ghost use Rattle.set_tests.specs.Parts.{made, trees_of, can_make, can_make_all, trees_at, AreNodes};
 
-use crate::part::Part;
+use crate::part::BuildStep;
 use cer_base::Memory;
 use cer_base::node::{Id, Root, Stamp};
 use cer_base::steps::Steps;
@@ -18,7 +18,7 @@ use tecs_nodes::{bottom, extend, join, union};
 fn make<S: NodeStore, L: Ledger>(
     store: &mut S,
     ids: &[Id],
-    part: Part,
+    part: BuildStep,
     steps: &mut Steps<L>,
 ) -> Result<Id, Memory>
     requires nodes { AreNodes (S.nodes store.old) ids.now }
@@ -29,13 +29,13 @@ fn make<S: NodeStore, L: Ledger>(
         []) }
 {
     match part {
-        Part::Start(pos, clock) => {
+        BuildStep::Start(pos, clock) => {
             let clock = Time::of(clock);
             bottom(store, Stamp { pos, clock }, steps)
         }
-        Part::Extend(place, pos) => extend(store, ids[place], pos, steps),
-        Part::Join(left, right) => join(store, ids[left], ids[right], steps),
-        Part::Unite(a, b) => union(store, ids[a], ids[b], steps),
+        BuildStep::Extend(place, pos) => extend(store, ids[place], pos, steps),
+        BuildStep::Join(left, right) => join(store, ids[left], ids[right], steps),
+        BuildStep::Unite(a, b) => union(store, ids[a], ids[b], steps),
     }
 }
 
@@ -43,7 +43,7 @@ fn make<S: NodeStore, L: Ledger>(
 pub fn make_all<S: NodeStore, L: Ledger>(
     alloc: Global,
     store: &mut S,
-    parts: &[Part],
+    parts: &[BuildStep],
     steps: &mut Steps<L>,
 ) -> Result<Vec<Id>, Memory>
     requires empty { S.nodes store.old ≡ [] }

@@ -6,7 +6,7 @@ use Rattle.cel_terms.specs.declared.Query.{Query}
 use Rattle.query_engine.specs.declared.sizes.Size.{Size}
 use Rattle.query_engine.specs.Bounds.{update_bound, for_each_query}
 use Rattle.query_engine.specs.Counts.{MeetMost, HasFewNodes, event_bound, compaction_bound}
-use Rattle.query_engine.specs.Engine.{State, StandsFor, SameQueries, found_of, len_of}
+use Rattle.query_engine.specs.Engine.{EngineState, StandsFor, SameQueries, found_of, len_of}
 use Rattle.query_engine.specs.Keys.{HasAddedKeys}
 use Rattle.query_engine.specs.Sizes.{steady_bound, AreTended, AreKeptSmall}
 use Rattle.query_engine.specs.Windows.{HasAdded}
@@ -37,7 +37,7 @@ pace_least None queries most = each_at_most queries (λ k. 2 * update_bound (mos
 pace_least (Some n) queries most = omega arith
 
 -- an event that was taken, with what is put by after it
-pub event_pays : (every : Option ℕ) (old new : State) (events : List Event) (event : Event) (bases : List Size) (most : ℕ → ℕ) →
+pub event_pays : (every : Option ℕ) (old new : EngineState) (events : List Event) (event : Event) (bases : List Size) (most : ℕ → ℕ) →
     SameQueries old new → StandsFor new (events ++ event ∷ []) → HasAdded old new event → HasAddedKeys old new event → MeetMost new.schema new.queries (events ++ event ∷ []) most →
     event_bound (length new.queries) most + saved_by every new bases ≤ saved_by every old bases + pace every (length new.queries) most
 event_pays None old new events event bases most same stands added keys meet = event_puts_by old new events event bases most same stands added keys meet
@@ -69,7 +69,7 @@ paced_first (Some n) queries events most = omega arith
 -- THE SIZES
 
 -- an event was taken
-pub goes_on : (plan : Plan) (old new : State) (events : List Event) (event : Event) → SameQueries old new → HasAdded old new event → HasAddedKeys old new event → IsOnTime plan old events → IsGoingOn plan new (events ++ event ∷ [])
+pub goes_on : (plan : Plan) (old new : EngineState) (events : List Event) (event : Event) → SameQueries old new → HasAdded old new event → HasAddedKeys old new event → IsOnTime plan old events → IsGoingOn plan new (events ++ event ∷ [])
 goes_on plan old new events event same added keys t =
     let g = t.going_on in
     let count : length (events ++ event ∷ []) ≡ length events + 1 = length-append events (event ∷ []) in
@@ -82,7 +82,7 @@ goes_on plan old new events event same added keys t =
     }
 
 -- the queries were looked at
-pub looked_at : (plan now : Plan) (old new : State) (events : List Event) → SameQueries old new → ((query : ℕ) → found_of new query ≡ found_of old query) → AreTended LEAST_SIZE old new events [] plan.bases now.bases →
+pub looked_at : (plan now : Plan) (old new : EngineState) (events : List Event) → SameQueries old new → ((query : ℕ) → found_of new query ≡ found_of old query) → AreTended LEAST_SIZE old new events [] plan.bases now.bases →
     length now.bases ≡ length plan.bases → now.looked ≡ length events → now.next ≤ now.looked + EVENTS_A_QUERY * length new.queries → now.looked ≤ now.next → IsGoingOn plan old events → IsOnTime now new events
 looked_at plan now old new events same found tended count looked next until g = record {
   going_on = record {
@@ -95,7 +95,7 @@ looked_at plan now old new events same found tended count looked next until g = 
 }
 
 -- all queries were compacted
-pub on_time_at_first : (plan : Plan) (engine : State) (events : List Event) → length plan.bases ≡ length engine.queries → plan.looked ≡ length events → plan.next ≤ plan.looked + EVENTS_A_QUERY * length engine.queries → plan.looked ≤ plan.next →
+pub on_time_at_first : (plan : Plan) (engine : EngineState) (events : List Event) → length plan.bases ≡ length engine.queries → plan.looked ≡ length events → plan.next ≤ plan.looked + EVENTS_A_QUERY * length engine.queries → plan.looked ≤ plan.next →
     AreKeptSmall LEAST_SIZE (length events) engine plan.bases events → IsOnTime plan engine events
 on_time_at_first plan engine events count looked next until small = record {
   going_on = record {
@@ -108,7 +108,7 @@ on_time_at_first plan engine events count looked next until small = record {
 }
 
 -- so each query is kept small
-pub keeps_up : (plan : Plan) (engine : State) (events : List Event) → IsOnTime plan engine events → KeepsUp engine events
+pub keeps_up : (plan : Plan) (engine : EngineState) (events : List Event) → IsOnTime plan engine events → KeepsUp engine events
 keeps_up plan engine events t k q at =
     let s = t.going_on.small k q at in
     let b = update_bound (found_of engine (k + 1)) + 8 in

@@ -14,6 +14,6 @@ pub mod Compacted
 -- the nodes that follow the windows, from event to event; for callers
 pub mod Windows
 -- how a run ends
-mod Ends
+mod RunEnds
 -- the steps, from event to event and at the end; for callers
 pub mod Totals

@@ -3,7 +3,7 @@ use Rattle.std.proofs.Common.{◌≡◌, ℕ, suc, ◌+◌, ◌<◌, ◌≤◌, 
 use Rattle.std.proofs.Math.Seq.{take-append_seam}
 use Rattle.std.proofs.lemmas.List.{append-nil, take-append-le, take_all}
 use Rattle.cer_outside.specs.Bytes.{TookAll, TookPart, IsProperPart}
-use Rattle.answer_blocks.specs.Taken.{TookPrefix, IsPart}
+use Rattle.answer_blocks.specs.SinkBytes.{TookPrefix, IsPart}
 
 -- nothing was taken
 pub took_none : (before : Option (List ℕ)) → TookAll before before []

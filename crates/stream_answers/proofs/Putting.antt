@@ -9,9 +9,9 @@ use Rattle.cel_terms.specs.declared.Query.{Query}
 use Rattle.answer_text.specs.declared.Order.{Order}
 use Rattle.answer_text.specs.declared.Order.TheVariants.{Walk}
 use Rattle.answer_text.specs.Output.{AreBlocks}
-use Rattle.answer_blocks.specs.Taken.{TookPrefix, IsPart, TookBy}
+use Rattle.answer_blocks.specs.SinkBytes.{TookPrefix, IsPart, TookBy}
 use Rattle.answer_blocks.proofs.Blocks.{some_blocks_are}
-use Rattle.stream_answers.specs.Gathering.{Gathered, PassesOn, Passed}
+use Rattle.stream_answers.specs.Gathering.{OutputState, PassesOn, Passed}
 use Rattle.stream_answers.proofs.Portions.{took_none}
 
 -- lines that are written at once
@@ -26,21 +26,21 @@ passed_walk before after came (Ok done) took = record { written = came; took = t
 passed_walk before after came (Err (Fault f)) took = took
 passed_walk before after came (Err Memory) took = walk_memory before after came took
 
-pub walk_put : {T F : Type 0} (schema : Declared) (queries : List Query) (events : List Event) (end : ℕ) (order : Order) (held : List ℕ) (s : Gathered) (before after : Option (List ℕ)) (result : Result T (OrMemory F)) →
-    record { order = order; held = held } ≡ s → order ≡ Walk → (order ≡ Walk → held ≡ []) →
+pub walk_put : {T F : Type 0} (schema : Declared) (queries : List Query) (events : List Event) (end : ℕ) (order : Order) (buffer : List ℕ) (s : OutputState) (before after : Option (List ℕ)) (result : Result T (OrMemory F)) →
+    record { order = order; buffer = buffer } ≡ s → order ≡ Walk → (order ≡ Walk → buffer ≡ []) →
     (bytes : List ℕ) × AreBlocks Walk schema 1 queries events end bytes × TookBy before after bytes result →
-    (bytes : List ℕ) × AreBlocks s.order schema 1 queries events end bytes × Passed before after s.held bytes held result
-walk_put schema queries events end order held s before after result view is empty put =
-    let P : Gathered → Type 0 = λ g. (bytes : List ℕ) × AreBlocks g.order schema 1 queries events end bytes × Passed before after g.held bytes held result in
+    (bytes : List ℕ) × AreBlocks s.order schema 1 queries events end bytes × Passed before after s.buffer bytes buffer result
+walk_put schema queries events end order buffer s before after result view is empty put =
+    let P : OutputState → Type 0 = λ g. (bytes : List ℕ) × AreBlocks g.order schema 1 queries events end bytes × Passed before after g.buffer bytes buffer result in
     let B : Order → Type 0 = λ o. AreBlocks o schema 1 queries events end put.0 in
     let H : List ℕ → Type 0 = λ h. Passed before after h put.0 h result in
     subst P view (put.0, subst B (sym is) put.1, subst H (sym (empty is)) (passed_walk before after put.0 result put.2))
 
 -- memory ran out, and all that was held is
-pub kept_put : (schema : Declared) (queries : List Query) (events : List Event) (end : ℕ) (order : Order) (held now : List ℕ) (s : Gathered) (before : Option (List ℕ)) →
-    record { order = order; held = held } ≡ s → now ≡ held →
-    (bytes : List ℕ) × AreBlocks s.order schema 1 queries events end bytes × ((rest : List ℕ) × PassesOn before before s.held bytes now rest)
-kept_put schema queries events end order held now s before view kept =
+pub kept_put : (schema : Declared) (queries : List Query) (events : List Event) (end : ℕ) (order : Order) (buffer now : List ℕ) (s : OutputState) (before : Option (List ℕ)) →
+    record { order = order; buffer = buffer } ≡ s → now ≡ buffer →
+    (bytes : List ℕ) × AreBlocks s.order schema 1 queries events end bytes × ((rest : List ℕ) × PassesOn before before s.buffer bytes now rest)
+kept_put schema queries events end order buffer now s before view kept =
     let some = some_blocks_are s.order schema 1 queries events end in
-    let same : s.held ≡ held = sym (ap (λ (g : Gathered). g.held) view) in
+    let same : s.buffer ≡ buffer = sym (ap (λ (g : OutputState). g.buffer) view) in
     (some.0, some.1, (some.0, record { written = []; took = took_none before; whole = ap (λ h. h ++ some.0) (same ∙ sym kept) }))

@@ -11,34 +11,34 @@ use Rattle.cel_terms.specs.declared.Query.{Query}
 use Rattle.cer_outside.specs.Bytes.{TookAll, TookPart}
 use Rattle.answer_text.specs.declared.Order.{Order}
 use Rattle.answer_text.specs.declared.Order.TheVariants.{Walk, Sorted}
-use Rattle.answer_text.specs.Rows.{Row, row_line, lines_of, AreRowsAt}
+use Rattle.answer_text.specs.OutputRows.{Row, row_line, lines_of, AreRowsAt}
 use Rattle.output_laws.specs.After.{AreRowsAfter}
 use Rattle.answer_text.proofs.RowLists.{lines_both, blocks_of_rows, rows_of_blocks, ends_at}
-use Rattle.answer_blocks.specs.Taken.{TookBy}
-use Rattle.answer_blocks.specs.Counted.{row_delays, HasRowsAt, StopsAmong, WroteRows}
+use Rattle.answer_blocks.specs.SinkBytes.{TookBy}
+use Rattle.answer_blocks.specs.RowSteps.{row_delays, HasRowsAt, StopsAmong, WroteRows}
 use Rattle.answer_blocks.proofs.Blocks.{some_blocks_are}
 use Rattle.answer_blocks.proofs.Counting.{delays_both}
-use Rattle.event_reader.specs.Reading.{LineReader, HasGiven}
+use Rattle.event_reader.specs.LineReaders.{LineReader, HasGiven}
 use Rattle.event_reader.specs.Lines.{file_lines}
 use Rattle.query_engine.specs.Bounds.{update_bound, for_each_query}
-use Rattle.query_engine.specs.Engine.{State, StandsFor, update_bounds}
+use Rattle.query_engine.specs.Engine.{EngineState, StandsFor, update_bounds}
 use Rattle.query_engine.specs.Windows.{IsDense}
 use Rattle.query_engine.specs.Counts.{MeetMost, HasFewNodes, event_bound, cursor_bounds}
 use Rattle.query_engine.proofs.Counting.{first_meet_fewer, event_is_bounded, refused_is_bounded, one_query_more, fewer_queries}
 use Rattle.query_engine.proofs.DenseNodes.{dense_has_few}
-use Rattle.event_run.specs.declared.Taken.{Taken}
-use Rattle.event_run.specs.declared.Taken.TheVariants as taken
+use Rattle.event_run.specs.declared.NextEvent.{NextEvent}
+use Rattle.event_run.specs.declared.NextEvent.TheVariants as taken
 use Rattle.event_run.specs.declared.RunFault.{RunFault}
 use Rattle.event_run.specs.declared.RunFault.TheVariants as run
-use Rattle.event_run.specs.Runs.{Stop, RunsAfter}
+use Rattle.event_run.specs.Runs.{RunStop, RunsAfter}
 use Rattle.event_run.specs.Runs as stop
 use Rattle.event_run.specs.Taking.{HasTakenAfter, BeginsRunAfter, AfterCall, TakesSteps}
 use Rattle.event_run.specs.Wanting.{OnMemory, AreWantingSteps, WantsSteps}
 use Rattle.output_laws.proofs.After.{rows_after_none, rows_after_grow, rows_after_grow_at_last}
 use Rattle.stream_answers.specs.declared.StreamFault.{StreamFault}
 use Rattle.stream_answers.specs.declared.StreamFault.TheVariants as fault
-use Rattle.stream_answers.specs.Gathering.{Gathered, PassesOn, Passed, Running, Finished, stream_fault}
-use Rattle.stream_answers.specs.Streams.{Asked}
+use Rattle.stream_answers.specs.Gathering.{OutputState, PassesOn, Passed, Running, Finished, stream_fault}
+use Rattle.stream_answers.specs.Streams.{RunRequest}
 use Rattle.stream_answers.specs.Schedules.{Timing, due_by, pace, first_compaction}
 use Rattle.stream_answers.specs.Steps.{compaction_by, compactions, run_bound, AreBoundedBy, AreOfEvents, CountsAllAfter, CountsAfter, CountsUpToAfter, CountsAtFaultAfter, StepsOverAfter}
 use Rattle.stream_answers.specs.Counting.{Counted, IsCompacted, StepsAtFault, StepsPut}
@@ -69,13 +69,13 @@ took_rows before after rows most now (Err (Fault f)) w = part_of_rows before aft
 took_rows before after rows most now (Err Memory) w = w.0
 
 -- lines that are written at once
-pub walk_rows : {T F : Type 0} (engine : State) (order : Order) (held : List ℕ) (s : Gathered) (before after : Option (List ℕ)) (most now : ℕ) (result : Result T (OrMemory F)) →
-    record { order = order; held = held } ≡ s → order ≡ Walk → (order ≡ Walk → held ≡ []) →
+pub walk_rows : {T F : Type 0} (engine : EngineState) (order : Order) (buffer : List ℕ) (s : OutputState) (before after : Option (List ℕ)) (most now : ℕ) (result : Result T (OrMemory F)) →
+    record { order = order; buffer = buffer } ≡ s → order ≡ Walk → (order ≡ Walk → buffer ≡ []) →
     HasRowsAt Walk engine engine.queries (λ rows. WroteRows before after rows most now result) →
-    HasRowsAt s.order engine engine.queries (λ rows. Passed before after s.held (lines_of rows) held result × StepsPut s.order before after rows most now result)
-walk_rows engine order held s before after most now result view is empty put =
-    let P : Gathered → Type 0 = λ g. HasRowsAt g.order engine engine.queries (λ rows. Passed before after g.held (lines_of rows) held result × StepsPut g.order before after rows most now result) in
-    let O : Order → Type 0 = λ o. HasRowsAt o engine engine.queries (λ rows. Passed before after held (lines_of rows) held result × StepsPut o before after rows most now result) in
+    HasRowsAt s.order engine engine.queries (λ rows. Passed before after s.buffer (lines_of rows) buffer result × StepsPut s.order before after rows most now result)
+walk_rows engine order buffer s before after most now result view is empty put =
+    let P : OutputState → Type 0 = λ g. HasRowsAt g.order engine engine.queries (λ rows. Passed before after g.buffer (lines_of rows) buffer result × StepsPut g.order before after rows most now result) in
+    let O : Order → Type 0 = λ o. HasRowsAt o engine engine.queries (λ rows. Passed before after buffer (lines_of rows) buffer result × StepsPut o before after rows most now result) in
     let H : List ℕ → List Row → Type 0 = λ h rows. Passed before after h (lines_of rows) h result in
     subst P view (subst O (sym is) (record {
       rows_are = λ events stands.
@@ -84,13 +84,13 @@ walk_rows engine order held s before after most now result view is empty put =
     }))
 
 -- memory ran out, and all that was held is
-pub kept_rows : (engine : State) (order : Order) (held now_held : List ℕ) (s : Gathered) (before : Option (List ℕ)) (most now : ℕ) →
-    record { order = order; held = held } ≡ s → now_held ≡ held → order ≡ Sorted →
+pub kept_rows : (engine : EngineState) (order : Order) (buffer now_held : List ℕ) (s : OutputState) (before : Option (List ℕ)) (most now : ℕ) →
+    record { order = order; buffer = buffer } ≡ s → now_held ≡ buffer → order ≡ Sorted →
     HasRowsAt Sorted engine engine.queries (λ rows. Unit {0} × (now ≤ most + row_delays rows)) →
-    HasRowsAt s.order engine engine.queries (λ rows. ((rest : List ℕ) × PassesOn before before s.held (lines_of rows) now_held rest) × (now ≤ most + row_delays rows))
-kept_rows engine order held now_held s before most now view kept is put =
-    let P : Gathered → Type 0 = λ g. HasRowsAt g.order engine engine.queries (λ rows. ((rest : List ℕ) × PassesOn before before g.held (lines_of rows) now_held rest) × (now ≤ most + row_delays rows)) in
-    let O : Order → Type 0 = λ o. HasRowsAt o engine engine.queries (λ rows. ((rest : List ℕ) × PassesOn before before held (lines_of rows) now_held rest) × (now ≤ most + row_delays rows)) in
+    HasRowsAt s.order engine engine.queries (λ rows. ((rest : List ℕ) × PassesOn before before s.buffer (lines_of rows) now_held rest) × (now ≤ most + row_delays rows))
+kept_rows engine order buffer now_held s before most now view kept is put =
+    let P : OutputState → Type 0 = λ g. HasRowsAt g.order engine engine.queries (λ rows. ((rest : List ℕ) × PassesOn before before g.buffer (lines_of rows) now_held rest) × (now ≤ most + row_delays rows)) in
+    let O : Order → Type 0 = λ o. HasRowsAt o engine engine.queries (λ rows. ((rest : List ℕ) × PassesOn before before buffer (lines_of rows) now_held rest) × (now ≤ most + row_delays rows)) in
     subst P view (subst O (sym is) (record {
       rows_are = λ events stands.
           let r = put.rows_are events stands in
@@ -101,7 +101,7 @@ module _ (timing : Timing) where
   -- FROM EVENT TO EVENT
 
   -- one event more, with the rows at it, and the compaction after it: so much had been put by, and is after the event
-  pub bounded_on : (a : Asked) (engine : State) (events : List StreamEvent) (next : StreamEvent) (rows more : List Row) (first old had mid seen paused now : ℕ) → engine.schema ≡ a.schema → engine.queries ≡ a.queries →
+  pub bounded_on : (a : RunRequest) (engine : EngineState) (events : List StreamEvent) (next : StreamEvent) (rows more : List Row) (first old had mid seen paused now : ℕ) → engine.schema ≡ a.schema → engine.queries ≡ a.queries →
       StandsFor engine (events ++ next ∷ []) → AreBoundedBy timing a.schema a.queries events rows first (old + had) → seen ≤ old + update_bounds engine → paused ≤ seen + cursor_bounds engine + row_delays more →
       ((most : ℕ → ℕ) → MeetMost a.schema a.queries (events ++ next ∷ []) most → event_bound (length a.queries) most + mid ≤ had + pace timing.every (length a.queries) most) →
       ((most : ℕ → ℕ) → MeetMost a.schema a.queries (events ++ next ∷ []) most → now ≤ paused + mid + compaction_by (due_by timing) (length a.queries) most (length (events ++ next ∷ []))) →
@@ -125,7 +125,7 @@ module _ (timing : Timing) where
       omega (arith, before, here, costs, pays, product, both, took, put, last, sums)
 
   -- one event more, with the rows at it
-  pub bounded_more : (a : Asked) (engine : State) (events : List StreamEvent) (next : StreamEvent) (rows more : List Row) (first old had mid seen now : ℕ) → engine.schema ≡ a.schema → engine.queries ≡ a.queries →
+  pub bounded_more : (a : RunRequest) (engine : EngineState) (events : List StreamEvent) (next : StreamEvent) (rows more : List Row) (first old had mid seen now : ℕ) → engine.schema ≡ a.schema → engine.queries ≡ a.queries →
       StandsFor engine (events ++ next ∷ []) → AreBoundedBy timing a.schema a.queries events rows first (old + had) → seen ≤ old + update_bounds engine → now ≤ seen + cursor_bounds engine + row_delays more →
       ((most : ℕ → ℕ) → MeetMost a.schema a.queries (events ++ next ∷ []) most → event_bound (length a.queries) most + mid ≤ had + pace timing.every (length a.queries) most) →
       AreBoundedBy timing a.schema a.queries (events ++ next ∷ []) (rows ++ more) first now
@@ -142,11 +142,11 @@ module _ (timing : Timing) where
       subst Q q (subst S s (subst O o are))
 
   -- at the beginning
-  abbrev pub counts_start : (earlier : List StreamEvent) (a : Asked) (source before : Option (List ℕ)) (reader : LineReader) (held : List ℕ) (engine : State) (first now : ℕ) → engine.schema ≡ a.schema → engine.queries ≡ a.queries →
+  abbrev pub counts_start : (earlier : List StreamEvent) (a : RunRequest) (source before : Option (List ℕ)) (reader : LineReader) (buffer : List ℕ) (engine : EngineState) (first now : ℕ) → engine.schema ≡ a.schema → engine.queries ≡ a.queries →
       StandsFor engine earlier → IsDense engine earlier → AreBoundedBy timing a.schema a.queries earlier [] first now →
-      ((bytes : List ℕ) → HasGiven reader bytes (Some bytes) []) → held ≡ [] → Counted timing earlier a source reader source before before held engine first now
-  counts_start earlier a source before reader held engine first now same alike stands dense bounded given empty = record {
-    running = starts earlier a source before reader held engine stands given empty;
+      ((bytes : List ℕ) → HasGiven reader bytes (Some bytes) []) → buffer ≡ [] → Counted timing earlier a source reader source before before buffer engine first now
+  counts_start earlier a source before reader buffer engine first now same alike stands dense bounded given empty = record {
+    running = starts earlier a source before reader buffer engine stands given empty;
     rows = [];
     are_rows = rows_after_none (length earlier) a.order a.schema a.queries earlier refl;
     lines = empty;
@@ -155,25 +155,25 @@ module _ (timing : Timing) where
   }
 
   -- lines that were written or held, with those that came
-  pub lines_more : (rows : List Row) (written held came put now : List ℕ) → held ++ came ≡ put ++ (now ++ []) → written ++ held ≡ lines_of rows → (written ++ put) ++ now ≡ lines_of rows ++ came
-  lines_more rows written held came put now whole so_far =
+  pub lines_more : (rows : List Row) (written buffer came put now : List ℕ) → buffer ++ came ≡ put ++ (now ++ []) → written ++ buffer ≡ lines_of rows → (written ++ put) ++ now ≡ lines_of rows ++ came
+  lines_more rows written buffer came put now whole so_far =
       append_assoc written put now ∙ (ap (λ (l : List ℕ). written ++ (put ++ l)) (sym (append-nil now)) ∙ (ap (λ (l : List ℕ). written ++ l) (sym whole)
-      ∙ (sym (append_assoc written held came) ∙ ap (λ (l : List ℕ). l ++ came) so_far)))
+      ∙ (sym (append_assoc written buffer came) ∙ ap (λ (l : List ℕ). l ++ came) so_far)))
 
   -- the answers were put, and the engine is compacted where that is due
-  abbrev pub counts_on : (earlier : List StreamEvent) (a : Asked) (source : Option (List ℕ)) (reader : LineReader) (left before middle after : Option (List ℕ)) (held now_held : List ℕ) (engine compacted : State) → (o : Owing earlier a source reader left before middle held engine) →
+  abbrev pub counts_on : (earlier : List StreamEvent) (a : RunRequest) (source : Option (List ℕ)) (reader : LineReader) (left before middle after : Option (List ℕ)) (buffer now_held : List ℕ) (engine compacted : EngineState) → (o : Owing earlier a source reader left before middle buffer engine) →
       (rows more : List Row) (first old had mid seen paused now : ℕ) → engine.schema ≡ a.schema → engine.queries ≡ a.queries → AreRowsAt a.order a.schema 1 a.queries (o.events ++ o.next ∷ []) (length (o.events ++ o.next ∷ []) - 1) more →
-      PassesOn middle after held (lines_of more) now_held [] → AreRowsAfter (length earlier) a.order a.schema a.queries o.events rows → o.written ++ held ≡ lines_of rows →
+      PassesOn middle after buffer (lines_of more) now_held [] → AreRowsAfter (length earlier) a.order a.schema a.queries o.events rows → o.written ++ buffer ≡ lines_of rows →
       AreBoundedBy timing a.schema a.queries o.events rows first (old + had) → seen ≤ old + update_bounds engine → paused ≤ seen + cursor_bounds engine + row_delays more →
       ((most : ℕ → ℕ) → MeetMost a.schema a.queries (o.events ++ o.next ∷ []) most → event_bound (length a.queries) most + mid ≤ had + pace timing.every (length a.queries) most) →
       IsCompacted timing a (o.events ++ o.next ∷ []) compacted (paused + mid) now → Counted timing earlier a source reader left before after now_held compacted first now
-  counts_on earlier a source reader left before middle after held now_held engine compacted o rows more first old had mid seen paused now same alike are_more passed are_rows lines bounded took put paid c =
+  counts_on earlier a source reader left before middle after buffer now_held engine compacted o rows more first old had mid seen paused now same alike are_more passed are_rows lines bounded took put paid c =
       let came : Came a (o.events ++ o.next ∷ []) (lines_of more) =
       record { blocks_are = blocks_of_rows a.order a.schema 1 a.queries (o.events ++ o.next ∷ []) (length (o.events ++ o.next ∷ []) - 1) more are_more } in record {
-        running = runs_on earlier a source reader left before middle after held (lines_of more) now_held compacted (owes_still earlier a source reader left before middle held engine compacted o c.stands) came passed;
+        running = runs_on earlier a source reader left before middle after buffer (lines_of more) now_held compacted (owes_still earlier a source reader left before middle buffer engine compacted o c.stands) came passed;
         rows = rows ++ more;
         are_rows = rows_after_grow_at_last (length earlier) a.order a.schema a.queries o.events o.next rows more o.behind are_rows are_more;
-        lines = lines_more rows o.written held (lines_of more) passed.written now_held passed.whole lines ∙ sym (lines_both rows more);
+        lines = lines_more rows o.written buffer (lines_of more) passed.written now_held passed.whole lines ∙ sym (lines_both rows more);
         bounded = bounded_on a engine o.events o.next rows more first old had mid seen paused now same alike o.stands bounded took put paid c.steps;
         few = c.few;
       }
@@ -181,7 +181,7 @@ module _ (timing : Timing) where
   -- OVER A WHOLE FILE
 
   -- What bounds the steps by the first events and their rows bounds them by all.
-  pub bounded_all : (a : Asked) (events later : List StreamEvent) (rows more : List Row) (before now : ℕ) → AreBoundedBy timing a.schema a.queries events rows before now →
+  pub bounded_all : (a : RunRequest) (events later : List StreamEvent) (rows more : List Row) (before now : ℕ) → AreBoundedBy timing a.schema a.queries events rows before now →
       AreBoundedBy timing a.schema a.queries (events ++ later) (rows ++ more) before now
   bounded_all a events later rows more before now bounded = λ most meet.
       let all = events ++ later in
@@ -196,7 +196,7 @@ module _ (timing : Timing) where
       omega (arith, few, product, both, grown)
 
   -- the same over a whole file
-  pub counts_whole : (earlier : List StreamEvent) (a : Asked) (lines : List ℕ) (events : List StreamEvent) (rows : List Row) (before now : ℕ) → length earlier ≤ length events → BeginsRunAfter earlier a.schema a.queries a.most_bytes lines events → AreRowsAfter (length earlier) a.order a.schema a.queries events rows →
+  pub counts_whole : (earlier : List StreamEvent) (a : RunRequest) (lines : List ℕ) (events : List StreamEvent) (rows : List Row) (before now : ℕ) → length earlier ≤ length events → BeginsRunAfter earlier a.schema a.queries a.most_bytes lines events → AreRowsAfter (length earlier) a.order a.schema a.queries events rows →
       AreBoundedBy timing a.schema a.queries events rows before now → CountsAfter timing earlier a lines before now
   counts_whole earlier a lines events rows before now behind begun are_rows bounded =
       let all = events ++ begun.more in
@@ -212,7 +212,7 @@ module _ (timing : Timing) where
       }
 
   -- no event was taken after those before
-  pub counts_none : (earlier : List StreamEvent) (a : Asked) (lines : List ℕ) (first now : ℕ) → AreBoundedBy timing a.schema a.queries earlier [] first now → CountsAfter timing earlier a lines first now
+  pub counts_none : (earlier : List StreamEvent) (a : RunRequest) (lines : List ℕ) (first now : ℕ) → AreBoundedBy timing a.schema a.queries earlier [] first now → CountsAfter timing earlier a lines first now
   counts_none earlier a lines first now bounded = counts_whole earlier a lines earlier [] first now (omega arith) (begins_at_first earlier a lines) (rows_after_none (length earlier) a.order a.schema a.queries earlier refl) bounded
 
   -- nothing was paid yet
@@ -220,7 +220,7 @@ module _ (timing : Timing) where
   bounded_none schema queries events rows now = λ most meet. omega arith
 
   -- before the first of the events that count, with the first compaction, where one is made
-  pub bounded_first : (engine : State) (events : List StreamEvent) (first before now : ℕ) → StandsFor engine events → IsDense engine events → AreOfEvents engine.schema engine.queries events first before →
+  pub bounded_first : (engine : EngineState) (events : List StreamEvent) (first before now : ℕ) → StandsFor engine events → IsDense engine events → AreOfEvents engine.schema engine.queries events first before →
       ((most : ℕ → ℕ) → MeetMost engine.schema engine.queries events most → HasFewNodes engine (length events) most → now ≤ before + first_compaction timing.every (length engine.queries) most (length events)) →
       AreBoundedBy timing engine.schema engine.queries events [] first now
   bounded_first engine events first before now stands dense taken compacted = λ most meet.
@@ -230,7 +230,7 @@ module _ (timing : Timing) where
       omega (arith, of_events, one, paced)
 
   -- memory ran out while an event was taken
-  pub bounded_wanting : (a : Asked) (events : List StreamEvent) (next : StreamEvent) (rows more : List Row) (first old had seen : ℕ) → AreBoundedBy timing a.schema a.queries events rows first (old + had) →
+  pub bounded_wanting : (a : RunRequest) (events : List StreamEvent) (next : StreamEvent) (rows more : List Row) (first old had seen : ℕ) → AreBoundedBy timing a.schema a.queries events rows first (old + had) →
       AreWantingSteps a.schema a.queries (events ++ next ∷ []) old seen → AreBoundedBy timing a.schema a.queries (events ++ next ∷ []) (rows ++ more) first seen
   bounded_wanting a events next rows more first old had seen bounded wants = λ most meet.
       let all = events ++ next ∷ [] in
@@ -247,7 +247,7 @@ module _ (timing : Timing) where
       subst (λ (n : ℕ). compactions (due_by timing) (length a.queries) most (length events) ≤ compactions (due_by timing) (length a.queries) most n) (sym count) (fewer_queries (length events) 1 f) in
       omega (arith, before, here, within, paced, product, both, later)
 
-  counts_wanting : (earlier : List StreamEvent) (a : Asked) (lines : List ℕ) (events : List StreamEvent) (next : StreamEvent) (rows : List Row) (first old had seen : ℕ) → length earlier ≤ length events → BeginsRunAfter earlier a.schema a.queries a.most_bytes lines (events ++ next ∷ []) →
+  counts_wanting : (earlier : List StreamEvent) (a : RunRequest) (lines : List ℕ) (events : List StreamEvent) (next : StreamEvent) (rows : List Row) (first old had seen : ℕ) → length earlier ≤ length events → BeginsRunAfter earlier a.schema a.queries a.most_bytes lines (events ++ next ∷ []) →
       AreRowsAfter (length earlier) a.order a.schema a.queries events rows → AreBoundedBy timing a.schema a.queries events rows first (old + had) → AreWantingSteps a.schema a.queries (events ++ next ∷ []) old seen → CountsAfter timing earlier a lines first seen
   counts_wanting earlier a lines events next rows first old had seen behind begun are_rows bounded wants =
       let all = events ++ next ∷ [] in
@@ -259,78 +259,78 @@ module _ (timing : Timing) where
   -- HOW A RUN ENDS
 
   -- nothing was to be written, and so it was
-  pub none_taken : (middle after : Option (List ℕ)) (held : List ℕ) → held ≡ [] → TookPart middle after held → TookAll middle after held
-  none_taken None after held none part = part
-  none_taken (Some m) None held none part = absurd part
-  none_taken (Some m) (Some n) held none part = absurd (let within = part.within in let l = ap length none in omega arith)
+  pub none_taken : (middle after : Option (List ℕ)) (buffer : List ℕ) → buffer ≡ [] → TookPart middle after buffer → TookAll middle after buffer
+  none_taken None after buffer none part = part
+  none_taken (Some m) None buffer none part = absurd part
+  none_taken (Some m) (Some n) buffer none part = absurd (let within = part.within in let l = ap length none in omega arith)
 
-  at_fault : (earlier : List StreamEvent) (a : Asked) (lines : List ℕ) (before after : Option (List ℕ)) (first now : ℕ) (o : Order) → o ≡ Sorted → CountsAfter timing earlier a lines first now → CountsAtFaultAfter timing earlier o a lines before after first now
+  at_fault : (earlier : List StreamEvent) (a : RunRequest) (lines : List ℕ) (before after : Option (List ℕ)) (first now : ℕ) (o : Order) → o ≡ Sorted → CountsAfter timing earlier a lines first now → CountsAtFaultAfter timing earlier o a lines before after first now
   at_fault earlier a lines before after first now o sorted counts = subst (λ (x : Order). CountsAtFaultAfter timing earlier x a lines before after first now) (sym sorted) counts
 
   pub walk_or_sorted : (o : Order) → (o ≡ Walk) ⊎ (o ≡ Sorted)
   walk_or_sorted Walk = inl refl
   walk_or_sorted Sorted = inr refl
 
-  steps_end : (earlier : List StreamEvent) {T : Type 0} (a : Asked) (lines : List ℕ) (before middle after : Option (List ℕ)) (held : List ℕ) (old new : ℕ) (end result : Result T (OrMemory StreamFault)) (first now : ℕ) →
-      Finished middle after old new held end result → (a.order ≡ Walk → (held ≡ []) × (result ≡ end)) → CountsAfter timing earlier a lines first now → (TookAll middle after held → StepsOverAfter timing earlier a lines before after first now end) → StepsOverAfter timing earlier a lines before after first now result
-  steps_end earlier {T} a lines before middle after held old new end result first now finished walk counts well =
+  steps_end : (earlier : List StreamEvent) {T : Type 0} (a : RunRequest) (lines : List ℕ) (before middle after : Option (List ℕ)) (buffer : List ℕ) (old new : ℕ) (end result : Result T (OrMemory StreamFault)) (first now : ℕ) →
+      Finished middle after old new buffer end result → (a.order ≡ Walk → (buffer ≡ []) × (result ≡ end)) → CountsAfter timing earlier a lines first now → (TookAll middle after buffer → StepsOverAfter timing earlier a lines before after first now end) → StepsOverAfter timing earlier a lines before after first now result
+  steps_end earlier {T} a lines before middle after buffer old new end result first now finished walk counts well =
       let P : Result T (OrMemory StreamFault) → Type 0 = λ r. StepsOverAfter timing earlier a lines before after first now r in
       elim finished.way [
         | inl fine ↦ subst P (sym fine.0) (well fine.1)
         | inr failed ↦ elim (walk_or_sorted a.order) [
-          | inl is ↦ let w = walk is in subst P (sym w.1) (well (none_taken middle after held w.0 failed.1))
+          | inl is ↦ let w = walk is in subst P (sym w.1) (well (none_taken middle after buffer w.0 failed.1))
           | inr is ↦ subst P (sym failed.0) (at_fault earlier a lines before after first now a.order is counts)
         ]
       ]
 
   -- the run ended by itself
-  stopped : (earlier : List StreamEvent) (a : Asked) (lines : List ℕ) (before middle after : Option (List ℕ)) (held written : List ℕ) (events : List StreamEvent) (halt : Stop) (rows : List Row) (first now : ℕ) →
-      RunsAfter earlier a.schema a.queries a.most_bytes lines events halt → AreRowsAfter (length earlier) a.order a.schema a.queries events rows → written ++ held ≡ lines_of rows → AreBoundedBy timing a.schema a.queries events rows first now →
-      TookAll before middle written → TookAll middle after held → CountsAllAfter timing earlier a lines (λ h. h ≡ halt) (TookAll before after) first now
-  stopped earlier a lines before middle after held written events halt rows first now runs are_rows same bounded took all = record {
+  stopped : (earlier : List StreamEvent) (a : RunRequest) (lines : List ℕ) (before middle after : Option (List ℕ)) (buffer written : List ℕ) (events : List StreamEvent) (halt : RunStop) (rows : List Row) (first now : ℕ) →
+      RunsAfter earlier a.schema a.queries a.most_bytes lines events halt → AreRowsAfter (length earlier) a.order a.schema a.queries events rows → written ++ buffer ≡ lines_of rows → AreBoundedBy timing a.schema a.queries events rows first now →
+      TookAll before middle written → TookAll middle after buffer → CountsAllAfter timing earlier a lines (λ h. h ≡ halt) (TookAll before after) first now
+  stopped earlier a lines before middle after buffer written events halt rows first now runs are_rows same bounded took all = record {
     events = events;
     stop = halt;
     runs = runs;
     stops = refl;
     rows = rows;
     are_rows = are_rows;
-    took = subst (TookAll before after) same (took_both before middle after written held took all);
+    took = subst (TookAll before after) same (took_both before middle after written buffer took all);
     bounded = bounded;
   }
 
-  whole_run : (earlier : List StreamEvent) (a : Asked) (lines : List ℕ) (events : List StreamEvent) (halt : Stop) → RunsAfter earlier a.schema a.queries a.most_bytes lines events halt → BeginsRunAfter earlier a.schema a.queries a.most_bytes lines events
+  whole_run : (earlier : List StreamEvent) (a : RunRequest) (lines : List ℕ) (events : List StreamEvent) (halt : RunStop) → RunsAfter earlier a.schema a.queries a.most_bytes lines events halt → BeginsRunAfter earlier a.schema a.queries a.most_bytes lines events
   whole_run earlier a lines events halt runs = let P : List StreamEvent → Type 0 = λ e. RunsAfter earlier a.schema a.queries a.most_bytes lines e halt in record { more = []; stop = halt; runs = subst P (sym (append-nil events)) runs }
 
   -- the run over the file, with the bytes that are too many by another name
-  runs_as : (earlier : List StreamEvent) (a : Asked) (most : ℕ) (lines : List ℕ) (events : List StreamEvent) (halt : Stop) → most ≡ a.most_bytes → RunsAfter earlier a.schema a.queries most lines events halt → RunsAfter earlier a.schema a.queries a.most_bytes lines events halt
+  runs_as : (earlier : List StreamEvent) (a : RunRequest) (most : ℕ) (lines : List ℕ) (events : List StreamEvent) (halt : RunStop) → most ≡ a.most_bytes → RunsAfter earlier a.schema a.queries most lines events halt → RunsAfter earlier a.schema a.queries a.most_bytes lines events halt
   runs_as earlier a most lines events halt same runs = subst (λ n. RunsAfter earlier a.schema a.queries n lines events halt) same runs
 
-  bounded_same : (a : Asked) (events : List StreamEvent) (rows : List Row) (first old now : ℕ) → now ≤ old → AreBoundedBy timing a.schema a.queries events rows first old → AreBoundedBy timing a.schema a.queries events rows first now
+  bounded_same : (a : RunRequest) (events : List StreamEvent) (rows : List Row) (first old now : ℕ) → now ≤ old → AreBoundedBy timing a.schema a.queries events rows first old → AreBoundedBy timing a.schema a.queries events rows first now
   bounded_same a events rows first old now less bounded = λ most meet. let b = bounded most meet in omega (arith, less, b)
 
-  halts : (earlier : List StreamEvent) {T : Type 0} (a : Asked) (lines : List ℕ) (before middle after : Option (List ℕ)) (held written : List ℕ) (old new : ℕ) (events : List StreamEvent) (halt : Stop) (rows : List Row) (end result : Result T (OrMemory StreamFault)) (first now : ℕ) → length earlier ≤ length events →
-      RunsAfter earlier a.schema a.queries a.most_bytes lines events halt → AreRowsAfter (length earlier) a.order a.schema a.queries events rows → written ++ held ≡ lines_of rows → AreBoundedBy timing a.schema a.queries events rows first now →
-      TookAll before middle written → Finished middle after old new held end result → (a.order ≡ Walk → (held ≡ []) × (result ≡ end)) →
+  halts : (earlier : List StreamEvent) {T : Type 0} (a : RunRequest) (lines : List ℕ) (before middle after : Option (List ℕ)) (buffer written : List ℕ) (old new : ℕ) (events : List StreamEvent) (halt : RunStop) (rows : List Row) (end result : Result T (OrMemory StreamFault)) (first now : ℕ) → length earlier ≤ length events →
+      RunsAfter earlier a.schema a.queries a.most_bytes lines events halt → AreRowsAfter (length earlier) a.order a.schema a.queries events rows → written ++ buffer ≡ lines_of rows → AreBoundedBy timing a.schema a.queries events rows first now →
+      TookAll before middle written → Finished middle after old new buffer end result → (a.order ≡ Walk → (buffer ≡ []) × (result ≡ end)) →
       (CountsAllAfter timing earlier a lines (λ h. h ≡ halt) (TookAll before after) first now → StepsOverAfter timing earlier a lines before after first now end) → StepsOverAfter timing earlier a lines before after first now result
-  halts earlier a lines before middle after held written old new events halt rows end result first now behind runs are_rows same bounded took finished walk well =
-      steps_end earlier a lines before middle after held old new end result first now finished walk (counts_whole earlier a lines events rows first now behind (whole_run earlier a lines events halt runs) are_rows bounded)
-      (λ all. well (stopped earlier a lines before middle after held written events halt rows first now runs are_rows same bounded took all))
+  halts earlier a lines before middle after buffer written old new events halt rows end result first now behind runs are_rows same bounded took finished walk well =
+      steps_end earlier a lines before middle after buffer old new end result first now finished walk (counts_whole earlier a lines events rows first now behind (whole_run earlier a lines events halt runs) are_rows bounded)
+      (λ all. well (stopped earlier a lines before middle after buffer written events halt rows first now runs are_rows same bounded took all))
 
-  pub steps_at_end : (earlier : List StreamEvent) {T : Type 0} (a : Asked) (source : Option (List ℕ)) (lines : List ℕ) (old_reader reader : LineReader) (had left before middle after : Option (List ℕ)) (held : List ℕ) (old new : ℕ) (engine now_engine : State) (done : T) (result : Result T (OrMemory StreamFault)) (first before_steps now : ℕ) →
-      source ≡ Some lines → reader.budget ≡ a.most_bytes → (c : Counted timing earlier a source old_reader had before middle held engine first before_steps) →
+  pub steps_at_end : (earlier : List StreamEvent) {T : Type 0} (a : RunRequest) (source : Option (List ℕ)) (lines : List ℕ) (old_reader reader : LineReader) (had left before middle after : Option (List ℕ)) (buffer : List ℕ) (old new : ℕ) (engine now_engine : EngineState) (done : T) (result : Result T (OrMemory StreamFault)) (first before_steps now : ℕ) →
+      source ≡ Some lines → reader.budget ≡ a.most_bytes → (c : Counted timing earlier a source old_reader had before middle buffer engine first before_steps) →
       AfterCall earlier a.schema a.queries reader engine now_engine (λ bytes. HasTakenAfter earlier a.schema a.queries old_reader bytes had c.running.events) left c.running.events (Ok taken.End) → now ≤ before_steps →
-      Finished middle after old new held (Ok done) result → (a.order ≡ Walk → (held ≡ []) × (result ≡ Ok done)) → StepsOverAfter timing earlier a lines before after first now result
-  steps_at_end earlier a source lines old_reader reader had left before middle after held old new engine now_engine done result first before_steps now told budget c took same finished walk =
+      Finished middle after old new buffer (Ok done) result → (a.order ≡ Walk → (buffer ≡ []) × (result ≡ Ok done)) → StepsOverAfter timing earlier a lines before after first now result
+  steps_at_end earlier a source lines old_reader reader had left before middle after buffer old new engine now_engine done result first before_steps now told budget c took same finished walk =
       let runs = runs_as earlier a reader.budget lines c.running.events stop.End budget (took.1 lines (c.running.taken lines told)) in
-      halts earlier a lines before middle after held c.running.written old new c.running.events stop.End c.rows (Ok done) result first now c.running.behind runs c.are_rows c.lines
+      halts earlier a lines before middle after buffer c.running.written old new c.running.events stop.End c.rows (Ok done) result first now c.running.behind runs c.are_rows c.lines
       (bounded_same a c.running.events c.rows first before_steps now same c.bounded) c.running.took finished walk (λ all. all)
 
-  pub steps_by : (earlier : List StreamEvent) {T : Type 0} (a : Asked) (source : Option (List ℕ)) (lines : List ℕ) (old_reader reader : LineReader) (had left before middle after : Option (List ℕ)) (held : List ℕ) (old new : ℕ) (engine now_engine : State) (why : OrMemory RunFault) (result : Result T (OrMemory StreamFault)) (first before_steps had_by now : ℕ) →
-      source ≡ Some lines → reader.budget ≡ a.most_bytes → old_reader.budget ≡ a.most_bytes → engine.schema ≡ a.schema → engine.queries ≡ a.queries → (c : Counted timing earlier a source old_reader had before middle held engine first (before_steps + had_by)) →
+  pub steps_by : (earlier : List StreamEvent) {T : Type 0} (a : RunRequest) (source : Option (List ℕ)) (lines : List ℕ) (old_reader reader : LineReader) (had left before middle after : Option (List ℕ)) (buffer : List ℕ) (old new : ℕ) (engine now_engine : EngineState) (why : OrMemory RunFault) (result : Result T (OrMemory StreamFault)) (first before_steps had_by now : ℕ) →
+      source ≡ Some lines → reader.budget ≡ a.most_bytes → old_reader.budget ≡ a.most_bytes → engine.schema ≡ a.schema → engine.queries ≡ a.queries → (c : Counted timing earlier a source old_reader had before middle buffer engine first (before_steps + had_by)) →
       AfterCall earlier a.schema a.queries reader engine now_engine (λ bytes. HasTakenAfter earlier a.schema a.queries old_reader bytes had c.running.events) left c.running.events (Err why) → TakesSteps (update_bounds now_engine) before_steps now (Err why) →
-      OnMemory {T = Taken} (Err why) (WantsSteps engine.schema engine.queries c.running.events (λ next. (bytes : List ℕ) → HasTakenAfter earlier engine.schema engine.queries old_reader bytes had c.running.events → BeginsRunAfter earlier engine.schema engine.queries reader.budget bytes (c.running.events ++ next ∷ [])) before_steps now) →
-      Finished middle after old new held (Err (stream_fault why)) result → (a.order ≡ Walk → (held ≡ []) × (result ≡ Err (stream_fault why))) → StepsOverAfter timing earlier a lines before after first now result
-  steps_by earlier a source lines old_reader reader had left before middle after held old new engine now_engine Memory result first before_steps had_by now told budget same_budget same alike c took steps wants finished walk =
+      OnMemory {T = NextEvent} (Err why) (WantsSteps engine.schema engine.queries c.running.events (λ next. (bytes : List ℕ) → HasTakenAfter earlier engine.schema engine.queries old_reader bytes had c.running.events → BeginsRunAfter earlier engine.schema engine.queries reader.budget bytes (c.running.events ++ next ∷ [])) before_steps now) →
+      Finished middle after old new buffer (Err (stream_fault why)) result → (a.order ≡ Walk → (buffer ≡ []) × (result ≡ Err (stream_fault why))) → StepsOverAfter timing earlier a lines before after first now result
+  steps_by earlier a source lines old_reader reader had left before middle after buffer old new engine now_engine Memory result first before_steps had_by now told budget same_budget same alike c took steps wants finished walk =
       let begun = begins_so earlier a source old_reader had c.running.events same_budget c.running.taken lines told in
       let Wants : Declared → List Query → Type 0 = λ s qs. WantsSteps s qs c.running.events (λ next. (bytes : List ℕ) → HasTakenAfter earlier s qs old_reader bytes had c.running.events → BeginsRunAfter earlier s qs reader.budget bytes (c.running.events ++ next ∷ [])) before_steps now in
       let w : Wants a.schema a.queries = subst (λ (qs : List Query). Wants a.schema qs) alike (subst (λ (s : Declared). Wants s engine.queries) same wants) in
@@ -339,28 +339,28 @@ module _ (timing : Timing) where
         | inr some ↦ counts_wanting earlier a lines c.running.events some.0 c.rows first before_steps had_by now c.running.behind
             (subst (λ n. BeginsRunAfter earlier a.schema a.queries n lines (c.running.events ++ some.0 ∷ [])) budget (some.1 lines (c.running.taken lines told))) c.are_rows c.bounded some.2
       ] in
-      steps_end earlier a lines before middle after held old new (Err Memory) result first now finished walk counts (λ all. counts)
-  steps_by earlier a source lines old_reader reader had left before middle after held old new engine now_engine (Fault run.ReadFault) result first before_steps had_by now told budget same_budget same alike c took steps wants finished walk =
+      steps_end earlier a lines before middle after buffer old new (Err Memory) result first now finished walk counts (λ all. counts)
+  steps_by earlier a source lines old_reader reader had left before middle after buffer old new engine now_engine (Fault run.ReadFault) result first before_steps had_by now told budget same_budget same alike c took steps wants finished walk =
       let begun = begins_so earlier a source old_reader had c.running.events same_budget c.running.taken lines told in
       let counts = counts_whole earlier a lines c.running.events c.rows first now c.running.behind begun c.are_rows (bounded_same a c.running.events c.rows first (before_steps + had_by) now (omega (arith, steps)) c.bounded) in
-      steps_end earlier a lines before middle after held old new (Err (Fault fault.ReadFault)) result first now finished walk counts (λ all. counts)
-  steps_by earlier a source lines old_reader reader had left before middle after held old new engine now_engine (Fault (run.Event line refusal)) result first before_steps had_by now told budget same_budget same alike c took steps wants finished walk =
+      steps_end earlier a lines before middle after buffer old new (Err (Fault fault.ReadFault)) result first now finished walk counts (λ all. counts)
+  steps_by earlier a source lines old_reader reader had left before middle after buffer old new engine now_engine (Fault (run.Event line refusal)) result first before_steps had_by now told budget same_budget same alike c took steps wants finished walk =
       let runs = runs_as earlier a reader.budget lines c.running.events (stop.Event line refusal) budget (took.1 lines (c.running.taken lines told)) in
-      halts earlier a lines before middle after held c.running.written old new c.running.events (stop.Event line refusal) c.rows (Err (Fault (fault.Event line refusal))) result first now c.running.behind runs c.are_rows c.lines
+      halts earlier a lines before middle after buffer c.running.written old new c.running.events (stop.Event line refusal) c.rows (Err (Fault (fault.Event line refusal))) result first now c.running.behind runs c.are_rows c.lines
       (bounded_same a c.running.events c.rows first (before_steps + had_by) now (omega (arith, steps)) c.bounded) c.running.took finished walk (λ all. all)
-  steps_by earlier a source lines old_reader reader had left before middle after held old new engine now_engine (Fault (run.InputTooLong most)) result first before_steps had_by now told budget same_budget same alike c took steps wants finished walk =
+  steps_by earlier a source lines old_reader reader had left before middle after buffer old new engine now_engine (Fault (run.InputTooLong most)) result first before_steps had_by now told budget same_budget same alike c took steps wants finished walk =
       let runs = runs_as earlier a reader.budget lines c.running.events (stop.InputTooLong most) budget (took.1 lines (c.running.taken lines told)) in
-      halts earlier a lines before middle after held c.running.written old new c.running.events (stop.InputTooLong most) c.rows (Err (Fault (fault.InputTooLong most))) result first now c.running.behind runs c.are_rows c.lines
+      halts earlier a lines before middle after buffer c.running.written old new c.running.events (stop.InputTooLong most) c.rows (Err (Fault (fault.InputTooLong most))) result first now c.running.behind runs c.are_rows c.lines
       (bounded_same a c.running.events c.rows first (before_steps + had_by) now (omega (arith, steps)) c.bounded) c.running.took finished walk (λ all. all)
 
   -- memory ran out while the answers of an event were put
-  pub steps_for_memory : (earlier : List StreamEvent) {T : Type 0} (a : Asked) (source : Option (List ℕ)) (lines : List ℕ) (reader : LineReader) (left before middle later after : Option (List ℕ)) (held now_held : List ℕ) (old new : ℕ) (engine : State) → (o : Owing earlier a source reader left before middle held engine) →
+  pub steps_for_memory : (earlier : List StreamEvent) {T : Type 0} (a : RunRequest) (source : Option (List ℕ)) (lines : List ℕ) (reader : LineReader) (left before middle later after : Option (List ℕ)) (buffer now_held : List ℕ) (old new : ℕ) (engine : EngineState) → (o : Owing earlier a source reader left before middle buffer engine) →
       (rows more : List Row) (first before_steps had mid seen now : ℕ) (result : Result T (OrMemory StreamFault)) → source ≡ Some lines → reader.budget ≡ a.most_bytes → engine.schema ≡ a.schema → engine.queries ≡ a.queries →
-      AreRowsAt a.order a.schema 1 a.queries (o.events ++ o.next ∷ []) (length (o.events ++ o.next ∷ []) - 1) more → AreRowsAfter (length earlier) a.order a.schema a.queries o.events rows → o.written ++ held ≡ lines_of rows →
+      AreRowsAt a.order a.schema 1 a.queries (o.events ++ o.next ∷ []) (length (o.events ++ o.next ∷ []) - 1) more → AreRowsAfter (length earlier) a.order a.schema a.queries o.events rows → o.written ++ buffer ≡ lines_of rows →
       AreBoundedBy timing a.schema a.queries o.events rows first (before_steps + had) → seen ≤ before_steps + update_bounds engine → now ≤ seen + cursor_bounds engine + row_delays more →
       ((most : ℕ → ℕ) → MeetMost a.schema a.queries (o.events ++ o.next ∷ []) most → event_bound (length a.queries) most + mid ≤ had + pace timing.every (length a.queries) most) →
       Finished later after old new now_held (Err Memory) result → (a.order ≡ Walk → (now_held ≡ []) × (result ≡ Err Memory)) → StepsOverAfter timing earlier a lines before after first now result
-  steps_for_memory earlier a source lines reader left before middle later after held now_held old new engine o rows more first before_steps had mid seen now result told budget same alike are_more are_rows so_far bounded took put paid finished walk =
+  steps_for_memory earlier a source lines reader left before middle later after buffer now_held old new engine o rows more first before_steps had mid seen now result told budget same alike are_more are_rows so_far bounded took put paid finished walk =
       let all = o.events ++ o.next ∷ [] in
       let begun = begins_so earlier a source reader left all budget o.taken lines told in
       let counts = counts_whole earlier a lines all (rows ++ more) first now (let long = length-append o.events (o.next ∷ []) in let b = o.behind in omega (arith, long, b)) begun (rows_after_grow_at_last (length earlier) a.order a.schema a.queries o.events o.next rows more o.behind are_rows are_more)
@@ -368,28 +368,28 @@ module _ (timing : Timing) where
       steps_end earlier a lines before later after now_held old new (Err Memory) result first now finished walk counts (λ taken. counts)
 
   -- memory ran out while the engine was compacted
-  pub steps_for_compaction : (earlier : List StreamEvent) {T : Type 0} (a : Asked) (source : Option (List ℕ)) (lines : List ℕ) (reader : LineReader) (left before middle after : Option (List ℕ)) (held : List ℕ) (old new : ℕ) (engine : State) (result : Result T (OrMemory StreamFault)) (first all now : ℕ) →
-      source ≡ Some lines → reader.budget ≡ a.most_bytes → now ≤ all → Counted timing earlier a source reader left before middle held engine first all → Finished middle after old new held (Err Memory) result →
-      (a.order ≡ Walk → (held ≡ []) × (result ≡ Err Memory)) → StepsOverAfter timing earlier a lines before after first now result
-  steps_for_compaction earlier a source lines reader left before middle after held old new engine result first all now told budget less c finished walk =
+  pub steps_for_compaction : (earlier : List StreamEvent) {T : Type 0} (a : RunRequest) (source : Option (List ℕ)) (lines : List ℕ) (reader : LineReader) (left before middle after : Option (List ℕ)) (buffer : List ℕ) (old new : ℕ) (engine : EngineState) (result : Result T (OrMemory StreamFault)) (first all now : ℕ) →
+      source ≡ Some lines → reader.budget ≡ a.most_bytes → now ≤ all → Counted timing earlier a source reader left before middle buffer engine first all → Finished middle after old new buffer (Err Memory) result →
+      (a.order ≡ Walk → (buffer ≡ []) × (result ≡ Err Memory)) → StepsOverAfter timing earlier a lines before after first now result
+  steps_for_compaction earlier a source lines reader left before middle after buffer old new engine result first all now told budget less c finished walk =
       let begun = begins_so earlier a source reader left c.running.events budget c.running.taken lines told in
       let counts = counts_whole earlier a lines c.running.events c.rows first now c.running.behind begun c.are_rows (bounded_same a c.running.events c.rows first all now less c.bounded) in
-      steps_end earlier a lines before middle after held old new (Err Memory) result first now finished walk counts (λ taken. counts)
+      steps_end earlier a lines before middle after buffer old new (Err Memory) result first now finished walk counts (λ taken. counts)
 
   -- the answer whose line was not written is one of its position
-  pub one_ends : (a : Asked) (events : List StreamEvent) (whole later : List Row) (one : Row) (rows : List Row) → rows ≡ whole ++ one ∷ later → AreRowsAt a.order a.schema 1 a.queries events (length events - 1) rows → one.end ≡ length events - 1
+  pub one_ends : (a : RunRequest) (events : List StreamEvent) (whole later : List Row) (one : Row) (rows : List Row) → rows ≡ whole ++ one ∷ later → AreRowsAt a.order a.schema 1 a.queries events (length events - 1) rows → one.end ≡ length events - 1
   one_ends a events whole later one rows is are =
       let has : Contains (whole ++ one ∷ later) one = Contains-append_right whole (one ∷ later) one (0, omega arith, refl) in
       ends_at a.order a.schema 1 a.queries events (length events - 1) rows are one (subst (λ (l : List Row). Contains l one) (sym is) has)
 
   -- a write failed meanwhile
-  counts_up_to : (earlier : List StreamEvent) (a : Asked) (source : Option (List ℕ)) (lines : List ℕ) (reader : LineReader) (left before middle after : Option (List ℕ)) (held : List ℕ) (engine : State) → (o : Owing earlier a source reader left before middle held engine) →
-      (rows more : List Row) (first before_steps had mid seen now : ℕ) → BeginsRunAfter earlier a.schema a.queries a.most_bytes lines (o.events ++ o.next ∷ []) → engine.schema ≡ a.schema → engine.queries ≡ a.queries → held ≡ [] →
-      AreRowsAt a.order a.schema 1 a.queries (o.events ++ o.next ∷ []) (length (o.events ++ o.next ∷ []) - 1) more → AreRowsAfter (length earlier) a.order a.schema a.queries o.events rows → o.written ++ held ≡ lines_of rows →
+  counts_up_to : (earlier : List StreamEvent) (a : RunRequest) (source : Option (List ℕ)) (lines : List ℕ) (reader : LineReader) (left before middle after : Option (List ℕ)) (buffer : List ℕ) (engine : EngineState) → (o : Owing earlier a source reader left before middle buffer engine) →
+      (rows more : List Row) (first before_steps had mid seen now : ℕ) → BeginsRunAfter earlier a.schema a.queries a.most_bytes lines (o.events ++ o.next ∷ []) → engine.schema ≡ a.schema → engine.queries ≡ a.queries → buffer ≡ [] →
+      AreRowsAt a.order a.schema 1 a.queries (o.events ++ o.next ∷ []) (length (o.events ++ o.next ∷ []) - 1) more → AreRowsAfter (length earlier) a.order a.schema a.queries o.events rows → o.written ++ buffer ≡ lines_of rows →
       AreBoundedBy timing a.schema a.queries o.events rows first (before_steps + had) → seen ≤ before_steps + update_bounds engine →
       ((most : ℕ → ℕ) → MeetMost a.schema a.queries (o.events ++ o.next ∷ []) most → event_bound (length a.queries) most + mid ≤ had + pace timing.every (length a.queries) most) →
       StopsAmong middle after more (seen + cursor_bounds engine) now → CountsUpToAfter timing earlier a lines before after first now
-  counts_up_to earlier a source lines reader left before middle after held engine o rows more first before_steps had mid seen now begun same alike none are_more are_rows so_far bounded took paid s =
+  counts_up_to earlier a source lines reader left before middle after buffer engine o rows more first before_steps had mid seen now begun same alike none are_more are_rows so_far bounded took paid s =
       let all = o.events ++ o.next ∷ [] in
       let P : List Row → Type 0 = AreRowsAfter (length earlier) a.order a.schema a.queries all in
       let whole : rows ++ more ≡ (rows ++ s.whole) ++ s.one ∷ s.later = ap (λ (l : List Row). rows ++ l) s.rows_are ∙ sym (append_assoc rows s.whole (s.one ∷ s.later)) in
@@ -411,19 +411,19 @@ module _ (timing : Timing) where
         bounded = subst B (sym (append_assoc rows s.whole (s.one ∷ []))) (bounded_more a engine o.events o.next rows (s.whole ++ s.one ∷ []) first before_steps had mid seen now same alike o.stands bounded took s.steps paid);
       }
 
-  pub steps_for_fault : (earlier : List StreamEvent) (a : Asked) (source : Option (List ℕ)) (lines : List ℕ) (reader : LineReader) (left before middle after : Option (List ℕ)) (held : List ℕ) (engine : State) → (o : Owing earlier a source reader left before middle held engine) →
+  pub steps_for_fault : (earlier : List StreamEvent) (a : RunRequest) (source : Option (List ℕ)) (lines : List ℕ) (reader : LineReader) (left before middle after : Option (List ℕ)) (buffer : List ℕ) (engine : EngineState) → (o : Owing earlier a source reader left before middle buffer engine) →
       (rows more : List Row) (first before_steps had mid seen now : ℕ) (order : Order) → source ≡ Some lines → reader.budget ≡ a.most_bytes → engine.schema ≡ a.schema → engine.queries ≡ a.queries → order ≡ a.order →
-      AreRowsAt a.order a.schema 1 a.queries (o.events ++ o.next ∷ []) (length (o.events ++ o.next ∷ []) - 1) more → AreRowsAfter (length earlier) a.order a.schema a.queries o.events rows → o.written ++ held ≡ lines_of rows →
+      AreRowsAt a.order a.schema 1 a.queries (o.events ++ o.next ∷ []) (length (o.events ++ o.next ∷ []) - 1) more → AreRowsAfter (length earlier) a.order a.schema a.queries o.events rows → o.written ++ buffer ≡ lines_of rows →
       AreBoundedBy timing a.schema a.queries o.events rows first (before_steps + had) → seen ≤ before_steps + update_bounds engine →
       ((most : ℕ → ℕ) → MeetMost a.schema a.queries (o.events ++ o.next ∷ []) most → event_bound (length a.queries) most + mid ≤ had + pace timing.every (length a.queries) most) →
-      StepsAtFault order middle after more (seen + cursor_bounds engine) now → (a.order ≡ Walk → held ≡ []) →
+      StepsAtFault order middle after more (seen + cursor_bounds engine) now → (a.order ≡ Walk → buffer ≡ []) →
       CountsAtFaultAfter timing earlier a.order a lines before after first now
-  steps_for_fault earlier a source lines reader left before middle after held engine o rows more first before_steps had mid seen now order told budget same alike is are_more are_rows so_far bounded took paid put none =
+  steps_for_fault earlier a source lines reader left before middle after buffer engine o rows more first before_steps had mid seen now order told budget same alike is are_more are_rows so_far bounded took paid put none =
       over a.order refl (subst (λ (x : Order). StepsAtFault x middle after more (seen + cursor_bounds engine) now) is put)
     where
       over : (x : Order) → a.order ≡ x → StepsAtFault x middle after more (seen + cursor_bounds engine) now → CountsAtFaultAfter timing earlier x a lines before after first now
       over Walk walk steps =
-          counts_up_to earlier a source lines reader left before middle after held engine o rows more first before_steps had mid seen now (begins_so earlier a source reader left (o.events ++ o.next ∷ []) budget o.taken lines told) same alike (none walk)
+          counts_up_to earlier a source lines reader left before middle after buffer engine o rows more first before_steps had mid seen now (begins_so earlier a source reader left (o.events ++ o.next ∷ []) budget o.taken lines told) same alike (none walk)
           are_more are_rows so_far bounded took paid steps
       over Sorted sorted steps =
           counts_whole earlier a lines (o.events ++ o.next ∷ []) (rows ++ more) first now (let long = length-append o.events (o.next ∷ []) in let b = o.behind in omega (arith, long, b)) (begins_so earlier a source reader left (o.events ++ o.next ∷ []) budget o.taken lines told) (rows_after_grow_at_last (length earlier) a.order a.schema a.queries o.events o.next rows more o.behind are_rows are_more)

@@ -3,16 +3,16 @@ use Rattle.std.proofs.Common.{◌≡◌, ℕ, ◌+◌, ◌≤◌, List, [], ◌+
 use Rattle.std.proofs.lemmas.List.{append-nil}
 use Rattle.stream_schema.specs.declared.Event.{Event}
 use Rattle.output_laws.specs.After.{IsOutputAfter}
-use Rattle.answer_blocks.specs.Taken.{TookPrefix, IsPart}
+use Rattle.answer_blocks.specs.SinkBytes.{TookPrefix, IsPart}
 use Rattle.answer_blocks.proofs.Blocks.{some_blocks_are}
 use Rattle.event_reader.specs.Lines.{file_lines}
 use Rattle.event_run.specs.Taking.{BeginsRunAfter}
 use Rattle.event_run.proofs.ForCallers.{HasRun, some_run}
 use Rattle.output_laws.proofs.After.{after_none, after_grows}
-use Rattle.stream_answers.specs.Streams.{Asked, AreAnswersAfter, WrotePartOfAfter}
+use Rattle.stream_answers.specs.Streams.{RunRequest, AreAnswersAfter, WrotePartOfAfter}
 
 -- A part of the answers over the first events is one of the answers over all.
-pub part_of_run : (earlier : List Event) (a : Asked) (source : Option (List ℕ)) (events : List Event) (bytes : List ℕ) (Took : List ℕ → Type 0) → length earlier ≤ length events → IsOutputAfter (length earlier) a.order a.schema a.queries events bytes →
+pub part_of_run : (earlier : List Event) (a : RunRequest) (source : Option (List ℕ)) (events : List Event) (bytes : List ℕ) (Took : List ℕ → Type 0) → length earlier ≤ length events → IsOutputAfter (length earlier) a.order a.schema a.queries events bytes →
     ((lines : List ℕ) → source ≡ Some lines → BeginsRunAfter earlier a.schema a.queries a.most_bytes lines events) → ((rest : List ℕ) → Took bytes → Took (bytes ++ rest)) → Took bytes → WrotePartOfAfter earlier a source Took
 part_of_run earlier a None events bytes Took behind output begins more took = record { bytes = bytes; took = took; are = λ lines same. absurd cc }
 part_of_run earlier a (Some lines) events bytes Took behind output begins more took =
@@ -26,7 +26,7 @@ part_of_run earlier a (Some lines) events bytes Took behind output begins more t
     }
 
 -- every run begins with the events before it
-pub begins_at_first : (earlier : List Event) (a : Asked) (lines : List ℕ) → BeginsRunAfter earlier a.schema a.queries a.most_bytes lines earlier
+pub begins_at_first : (earlier : List Event) (a : RunRequest) (lines : List ℕ) → BeginsRunAfter earlier a.schema a.queries a.most_bytes lines earlier
 begins_at_first earlier a lines =
     let run = some_run a.schema a.queries 1 earlier (file_lines a.most_bytes lines).texts (file_lines a.most_bytes lines).fault in
     record { more = run.more; stop = run.stop; runs = run.runs }
@@ -36,6 +36,6 @@ prefix_none : (before : Option (List ℕ)) (bytes : List ℕ) → TookPrefix bef
 prefix_none None bytes = refl
 prefix_none (Some b) bytes = record { count = 0; within = omega arith; took = sym (append-nil b) }
 
-pub wrote_none : (earlier : List Event) (a : Asked) (source before : Option (List ℕ)) → WrotePartOfAfter earlier a source (TookPrefix before before)
+pub wrote_none : (earlier : List Event) (a : RunRequest) (source before : Option (List ℕ)) → WrotePartOfAfter earlier a source (TookPrefix before before)
 wrote_none earlier a source before =
     part_of_run earlier a source earlier [] (TookPrefix before before) (omega arith) (after_none (length earlier) a.order a.schema a.queries earlier refl) (λ lines same. begins_at_first earlier a lines) (λ rest took. prefix_none before rest) (prefix_none before [])

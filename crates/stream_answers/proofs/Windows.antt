@@ -9,7 +9,7 @@ use Rattle.stream_schema.specs.Types.{Declared}
 use Rattle.stream_schema.specs.declared.Event.{Event}
 use Rattle.cel_terms.specs.declared.Query.{Query}
 use Rattle.query_engine.specs.Clocks.{HasClockAt, IsLastClock}
-use Rattle.query_engine.specs.Engine.{State, Open, StandsFor, SameQueries, found_of, len_of, peak_of}
+use Rattle.query_engine.specs.Engine.{EngineState, Open, StandsFor, SameQueries, found_of, len_of, peak_of}
 use Rattle.query_engine.specs.Windows.{IsBoundedBy, IsReadFrom, IsDense, FollowsWindow, IsRecentAt, FollowsWindowSince, HasAdded}
 use Rattle.query_engine.proofs.DenseNodes.{dense_follows}
 use Rattle.query_engine.proofs.Windows.{bounded_on, event_keeps_dense, event_keeps_window, compacted_follows_window, first_follows_window, clock_inside, recent_inside}
@@ -35,7 +35,7 @@ last_stays due (suc n) none = ap (λ (b : Bool). cond b (suc n) (last_of due n))
 
 -- AT FIRST
 
-pub windows_at_first : (due : ℕ → Bool) (engine : State) → StandsFor engine [] → FollowsWindowsBy due (peak_of engine) 0 [] engine
+pub windows_at_first : (due : ℕ → Bool) (engine : EngineState) → StandsFor engine [] → FollowsWindowsBy due (peak_of engine) 0 [] engine
 windows_at_first due engine stands =
     let first = first_follows_window engine stands in
     record { dense = first.0; nodes = first.1; peaks = λ k q at. inl (omega arith) }
@@ -67,7 +67,7 @@ last_none every (suc k) (suc n) le =
     none_due (nat_lt (suc k) (suc n)) (is_due every (suc n - suc k)) (suc n) (last_of (is_due_after every (suc k)) n) (not_less (suc n) (suc k) le)
     ∙ last_none every (suc k) n (omega arith)
 
-pub windows_behind : (every : Option ℕ) (first : ℕ) (peaks : ℕ → ℕ) (engine : State) (events : List Event) → first ≡ length events → FollowsEvents peaks engine events →
+pub windows_behind : (every : Option ℕ) (first : ℕ) (peaks : ℕ → ℕ) (engine : EngineState) (events : List Event) → first ≡ length events → FollowsEvents peaks engine events →
     FollowsWindowsBy (is_due_after every first) peaks (last_of (is_due_after every first) (length events)) events engine
 windows_behind every first peaks engine events behind f = record {
   dense = f.dense;
@@ -89,7 +89,7 @@ windows_behind every first peaks engine events behind f = record {
 }
 
 -- an engine of no event
-pub follows_none : (engine : State) → StandsFor engine [] → FollowsEvents (peak_of engine) engine []
+pub follows_none : (engine : EngineState) → StandsFor engine [] → FollowsEvents (peak_of engine) engine []
 follows_none engine stands = record { stands = stands; dense = (first_follows_window engine stands).0; peaks_are = λ k q at. inl (omega arith) }
 
 -- AN EVENT
@@ -101,7 +101,7 @@ most_stays : (n m : ℕ) → m ≤ n → max n m ≡ n
 most_stays n m le = omega arith
 
 -- a peak that there was is one still
-peak_on : (due : ℕ → Bool) (old new : State) (events more : List Event) (k : ℕ) (q : Query) → new.schema ≡ old.schema → found_of old (k + 1) ≤ found_of new (k + 1) → peak_of new (k + 1) ≤ peak_of old (k + 1) →
+peak_on : (due : ℕ → Bool) (old new : EngineState) (events more : List Event) (k : ℕ) (q : Query) → new.schema ≡ old.schema → found_of old (k + 1) ≤ found_of new (k + 1) → peak_of new (k + 1) ≤ peak_of old (k + 1) →
     HasPeak due events old k q → HasPeak due (events ++ more) new k q
 peak_on due old new events more k q same found few h =
     let first = last_of due (h.count - 1) in
@@ -118,7 +118,7 @@ peak_on due old new events more k q same found few h =
     }
 
 -- the nodes that there are are a peak
-peak_here : (due : ℕ → Bool) (new : State) (events : List Event) (event : Event) (k : ℕ) (q : Query) → peak_of new (k + 1) ≡ len_of new (k + 1) →
+peak_here : (due : ℕ → Bool) (new : EngineState) (events : List Event) (event : Event) (k : ℕ) (q : Query) → peak_of new (k + 1) ≡ len_of new (k + 1) →
     IsBoundedBy (IsRecentAt new.schema q (events ++ event ∷ []) (last_of due (length events))) new (k + 1) (len_of new (k + 1)) → HasPeak due (events ++ event ∷ []) new k q
 peak_here due new events event k q is h =
     let all = events ++ event ∷ [] in
@@ -132,7 +132,7 @@ peak_here due new events event k q is h =
           subst (IsBoundedBy (IsRecentAt new.schema q all (last_of due (length events))) new (k + 1)) (sym is) h));
     }
 
-pub windows_on : (due : ℕ → Bool) (before : ℕ → ℕ) (old new : State) (events : List Event) (event : Event) → SameQueries old new → StandsFor new (events ++ event ∷ []) → HasAdded old new event →
+pub windows_on : (due : ℕ → Bool) (before : ℕ → ℕ) (old new : EngineState) (events : List Event) (event : Event) → SameQueries old new → StandsFor new (events ++ event ∷ []) → HasAdded old new event →
     FollowsWindowsBy due before (last_of due (length events)) events old → FollowsWindowsBy due before (last_of due (length events)) (events ++ event ∷ []) new
 windows_on due before old new events event same stands added w = record {
   dense = event_keeps_dense old new events event same stands added w.dense;
@@ -155,7 +155,7 @@ windows_on due before old new events event same stands added w = record {
   nodes_now = event_keeps_window old new events event same stands added (last_of due (length events)) (last_upto due (length events)) w.nodes
 
 -- so they do before the compaction that may be due
-pub windows_due : (due : ℕ → Bool) (before : ℕ → ℕ) (old new : State) (events : List Event) (event : Event) → SameQueries old new → StandsFor new (events ++ event ∷ []) → HasAdded old new event →
+pub windows_due : (due : ℕ → Bool) (before : ℕ → ℕ) (old new : EngineState) (events : List Event) (event : Event) → SameQueries old new → StandsFor new (events ++ event ∷ []) → HasAdded old new event →
     FollowsWindowsBy due before (last_of due (length events)) events old → FollowsWindowsBy due before (last_of due (length (events ++ event ∷ []) - 1)) (events ++ event ∷ []) new
 windows_due due before old new events event same stands added w =
     let long = length-append events (event ∷ []) in
@@ -164,12 +164,12 @@ windows_due due before old new events event same stands added w =
 
 -- A COMPACTION
 
-pub nothing_held : (held : List Open) → length held ≡ 0 → held ≡ []
+pub nothing_held : (buffer : List Open) → length buffer ≡ 0 → buffer ≡ []
 nothing_held [] none = refl
-nothing_held (c ∷ held) none = absurd (omega arith)
+nothing_held (c ∷ buffer) none = absurd (omega arith)
 
 -- the peaks are as they were
-peaks_stay : (due : ℕ → Bool) (before : ℕ → ℕ) (first : ℕ) (old new : State) (events : List Event) → SameQueries old new → ((query : ℕ) → found_of new query ≡ found_of old query) → ((query : ℕ) → peak_of new query ≡ peak_of old query) →
+peaks_stay : (due : ℕ → Bool) (before : ℕ → ℕ) (first : ℕ) (old new : EngineState) (events : List Event) → SameQueries old new → ((query : ℕ) → found_of new query ≡ found_of old query) → ((query : ℕ) → peak_of new query ≡ peak_of old query) →
     FollowsWindowsBy due before first events old → (k : ℕ) (q : Query) → slice_get new.queries k ≡ Some q → (peak_of new (k + 1) ≤ before (k + 1)) ⊎ HasPeak due events new k q
 peaks_stay due before first old new events same found peak w k q at =
     let states = found (k + 1) in
@@ -180,10 +180,10 @@ peaks_stay due before first old new events same found peak w k q at =
     ]
 
 -- it is made of all, with no cursor held
-pub windows_compacted : (due : ℕ → Bool) (before : ℕ → ℕ) (first : ℕ) (old new : State) (held : List Open) (events : List Event) → due (length events) ≡ true → length held ≡ 0 → SameQueries old new → ((query : ℕ) → found_of new query ≡ found_of old query) →
-    ((query : ℕ) → peak_of new query ≡ peak_of old query) → StandsFor new events → IsDense new events → FollowsWindow new events held → FollowsWindowsBy due before first events old → FollowsWindowsBy due before (last_of due (length events)) events new
-windows_compacted due before first old new held events has_come none same found peak stands dense window w =
-    let left = subst (FollowsWindow new events) (nothing_held held none) window in
+pub windows_compacted : (due : ℕ → Bool) (before : ℕ → ℕ) (first : ℕ) (old new : EngineState) (buffer : List Open) (events : List Event) → due (length events) ≡ true → length buffer ≡ 0 → SameQueries old new → ((query : ℕ) → found_of new query ≡ found_of old query) →
+    ((query : ℕ) → peak_of new query ≡ peak_of old query) → StandsFor new events → IsDense new events → FollowsWindow new events buffer → FollowsWindowsBy due before first events old → FollowsWindowsBy due before (last_of due (length events)) events new
+windows_compacted due before first old new buffer events has_come none same found peak stands dense window w =
+    let left = subst (FollowsWindow new events) (nothing_held buffer none) window in
     record {
       dense = dense;
       nodes = subst (λ (n : ℕ). FollowsWindowSince n new events) (sym (last_now due (length events) has_come)) (compacted_follows_window new events stands left);
@@ -191,7 +191,7 @@ windows_compacted due before first old new held events has_come none same found 
     }
 
 -- it is made of some, and none of all is due
-pub windows_kept : (due : ℕ → Bool) (before : ℕ → ℕ) (first : ℕ) (old new : State) (events : List Event) → SameQueries old new → ((query : ℕ) → found_of new query ≡ found_of old query) → ((query : ℕ) → peak_of new query ≡ peak_of old query) →
+pub windows_kept : (due : ℕ → Bool) (before : ℕ → ℕ) (first : ℕ) (old new : EngineState) (events : List Event) → SameQueries old new → ((query : ℕ) → found_of new query ≡ found_of old query) → ((query : ℕ) → peak_of new query ≡ peak_of old query) →
     ((query : ℕ) → len_of new query ≤ len_of old query) → IsDense new events → FollowsWindowsBy due before first events old → FollowsWindowsBy due before first events new
 windows_kept due before first old new events same found peak fewer dense w = record {
   dense = dense;
@@ -206,7 +206,7 @@ windows_kept due before first old new events same found peak fewer dense w = rec
 }
 
 -- an engine that goes on after it
-pub follows_kept : (peaks : ℕ → ℕ) (old new : State) (events : List Event) → SameQueries old new → ((query : ℕ) → found_of new query ≡ found_of old query) → ((query : ℕ) → peak_of new query ≡ peak_of old query) →
+pub follows_kept : (peaks : ℕ → ℕ) (old new : EngineState) (events : List Event) → SameQueries old new → ((query : ℕ) → found_of new query ≡ found_of old query) → ((query : ℕ) → peak_of new query ≡ peak_of old query) →
     StandsFor new events → IsDense new events → FollowsEvents peaks old events → FollowsEvents peaks new events
 follows_kept peaks old new events same found peak stands dense f = record {
   stands = stands;
@@ -224,33 +224,33 @@ follows_kept peaks old new events same found peak stands dense f = record {
 }
 
 -- none is due
-pub windows_stay : (due : ℕ → Bool) (engine : State) (count : ℕ) → ((events : List Event) → StandsFor engine events → count ≡ length events) → due count ≡ false →
+pub windows_stay : (due : ℕ → Bool) (engine : EngineState) (count : ℕ) → ((events : List Event) → StandsFor engine events → count ≡ length events) → due count ≡ false →
     (before : ℕ → ℕ) (events : List Event) → StandsFor engine events → FollowsWindowsBy due before (last_of due (length events - 1)) events engine → FollowsWindowsBy due before (last_of due (length events)) events engine
 windows_stay due engine count counted none before events stands w =
     let here : due (length events) ≡ false = subst (λ (n : ℕ). due n ≡ false) (counted events stands) none in
     subst (λ (n : ℕ). FollowsWindowsBy due before n events engine) (sym (last_stays due (length events) here)) w
 
 -- where none ever is, what keeps them keeps them now
-pub windows_looked : (first : ℕ) (old new : State) → ((due : ℕ → Bool) (before : ℕ → ℕ) (n : ℕ) (events : List Event) → FollowsWindowsBy due before n events old → FollowsWindowsBy due before n events new) →
+pub windows_looked : (first : ℕ) (old new : EngineState) → ((due : ℕ → Bool) (before : ℕ → ℕ) (n : ℕ) (events : List Event) → FollowsWindowsBy due before n events old → FollowsWindowsBy due before n events new) →
     (before : ℕ → ℕ) (events : List Event) → StandsFor old events → FollowsWindowsBy (is_due_after None first) before (last_of (is_due_after None first) (length events - 1)) events old → FollowsWindowsBy (is_due_after None first) before (last_of (is_due_after None first) (length events)) events new
 windows_looked first old new kept before events stands w =
     let due : ℕ → Bool = is_due_after None first in
     subst (λ (n : ℕ). FollowsWindowsBy due before n events new) (sym (last_stays due (length events) (never_due first (length events)))) (kept due before (last_of due (length events - 1)) events w)
 
 -- by how the call ended
-pub compaction_follows : {T E : Type 0} (r : Result T E) (due : ℕ → Bool) (old new : State) (held : List Open) (count : ℕ) → ((events : List Event) → StandsFor old events → count ≡ length events) → due count ≡ true → length held ≡ 0 →
+pub compaction_follows : {T E : Type 0} (r : Result T E) (due : ℕ → Bool) (old new : EngineState) (buffer : List Open) (count : ℕ) → ((events : List Event) → StandsFor old events → count ≡ length events) → due count ≡ true → length buffer ≡ 0 →
     SameQueries old new → ((query : ℕ) → found_of new query ≡ found_of old query) → ((query : ℕ) → peak_of new query ≡ peak_of old query) →
     OnOk r ((events : List Event) → StandsFor old events → StandsFor new events) → OnOk r ((events : List Event) → IsDense old events → IsDense new events) →
-    OnOk r ((events : List Event) → StandsFor old events → IsDense old events → FollowsWindow new events held) →
+    OnOk r ((events : List Event) → StandsFor old events → IsDense old events → FollowsWindow new events buffer) →
     OnOk r ((before : ℕ → ℕ) (events : List Event) → StandsFor old events → FollowsWindowsBy due before (last_of due (length events - 1)) events old → FollowsWindowsBy due before (last_of due (length events)) events new)
-compaction_follows (Err e) due old new held count counted has_come none same found peak stands dense window = tt
-compaction_follows (Ok x) due old new held count counted has_come none same found peak stands dense window = λ before events at w.
-    windows_compacted due before (last_of due (length events - 1)) old new held events (subst (λ (n : ℕ). due n ≡ true) (counted events at) has_come) none same found peak (stands events at) (dense events w.dense) (window events at w.dense) w
+compaction_follows (Err e) due old new buffer count counted has_come none same found peak stands dense window = tt
+compaction_follows (Ok x) due old new buffer count counted has_come none same found peak stands dense window = λ before events at w.
+    windows_compacted due before (last_of due (length events - 1)) old new buffer events (subst (λ (n : ℕ). due n ≡ true) (counted events at) has_come) none same found peak (stands events at) (dense events w.dense) (window events at w.dense) w
 
 -- AT THE END
 
 -- the same with the peaks that there were by another name
-pub windows_before : (due : ℕ → Bool) (before others : ℕ → ℕ) (first : ℕ) (events : List Event) (engine : State) → ((query : ℕ) → before query ≤ others query) → FollowsWindowsBy due before first events engine → FollowsWindowsBy due others first events engine
+pub windows_before : (due : ℕ → Bool) (before others : ℕ → ℕ) (first : ℕ) (events : List Event) (engine : EngineState) → ((query : ℕ) → before query ≤ others query) → FollowsWindowsBy due before first events engine → FollowsWindowsBy due others first events engine
 windows_before due before others first events engine less w = record {
   dense = w.dense;
   nodes = w.nodes;

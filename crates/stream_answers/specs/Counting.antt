@@ -4,42 +4,42 @@ use Rattle.cer_base.specs.declared.OrMemory.{OrMemory}
 use Rattle.cer_base.specs.declared.OrMemory.TheVariants.{Fault, Memory}
 use Rattle.answer_text.specs.declared.Order.{Order}
 use Rattle.answer_text.specs.declared.Order.TheVariants.{Walk, Sorted}
-use Rattle.answer_text.specs.Rows.{Row, lines_of}
+use Rattle.answer_text.specs.OutputRows.{Row, lines_of}
 use Rattle.output_laws.specs.After.{AreRowsAfter}
-use Rattle.answer_blocks.specs.Counted.{row_delays, StopsAmong}
-use Rattle.event_reader.specs.Reading.{LineReader}
+use Rattle.answer_blocks.specs.RowSteps.{row_delays, StopsAmong}
+use Rattle.event_reader.specs.LineReaders.{LineReader}
 use Rattle.stream_schema.specs.declared.Event.{Event}
-use Rattle.query_engine.specs.Engine.{State, StandsFor}
+use Rattle.query_engine.specs.Engine.{EngineState, StandsFor}
 use Rattle.query_engine.specs.Counts.{MeetMost, HasFewNodes}
 use Rattle.stream_answers.specs.Gathering.{Running}
 use Rattle.stream_answers.specs.Windows.{last_of, FollowsEvents, FollowsWindowsBy}
 use Rattle.stream_answers.specs.Steps.{AreBoundedBy, compaction_by}
 use Rattle.stream_answers.specs.Schedules.{Timing, Plan, due_by, saved_by, WithNoNumber, IsOnTime}
-use Rattle.stream_answers.specs.Streams.{Asked}
+use Rattle.stream_answers.specs.Streams.{RunRequest}
 
 -- What is written or held are the lines of the output's rows, the steps are bounded by these and the events, and the nodes by the events.
-pub record Counted (timing : Timing) (earlier : List Event) (a : Asked) (source : Option (List ℕ)) (reader : LineReader) (left before after : Option (List ℕ)) (held : List ℕ) (engine : State) (first now : ℕ) : Type 0 where
-  pub running : Running earlier a source reader left before after held engine
+pub record Counted (timing : Timing) (earlier : List Event) (a : RunRequest) (source : Option (List ℕ)) (reader : LineReader) (left before after : Option (List ℕ)) (buffer : List ℕ) (engine : EngineState) (first now : ℕ) : Type 0 where
+  pub running : Running earlier a source reader left before after buffer engine
   pub rows : List Row
   pub are_rows : AreRowsAfter (length earlier) a.order a.schema a.queries running.events rows
-  pub lines : running.written ++ held ≡ lines_of rows
+  pub lines : running.written ++ buffer ≡ lines_of rows
   pub bounded : AreBoundedBy timing a.schema a.queries running.events rows first now
   pub few : (most : ℕ → ℕ) → MeetMost a.schema a.queries running.events most → HasFewNodes engine (length running.events) most
 
 -- What a run begins with: the engine stands for the events before it, which do not count for the plan, and is kept by the plan after them; these were the peaks before any event.
-pub record HasBegun (plan : Plan) (peaks : ℕ → ℕ) (earlier : List Event) (engine : State) : Type 0 where
+pub record HasBegun (plan : Plan) (peaks : ℕ → ℕ) (earlier : List Event) (engine : EngineState) : Type 0 where
   pub follows : FollowsEvents peaks engine earlier
   pub first : plan.timing.first ≡ length earlier
   pub on_time : WithNoNumber plan.timing.every (IsOnTime plan engine earlier)
 
 -- The steps are counted so far, with those that the plan of this timing has put by, the nodes follow the windows of the queries, and the engine is kept by the plan; these were the peaks before any event.
-pub record Following (timing : Timing) (plan : Plan) (earlier : List Event) (a : Asked) (source : Option (List ℕ)) (reader : LineReader) (left before after : Option (List ℕ)) (held : List ℕ) (engine : State) (first now : ℕ) (peaks : ℕ → ℕ) : Type 0 where
-  pub counting : Counted timing earlier a source reader left before after held engine first (now + saved_by timing.every engine plan.bases)
+pub record Following (timing : Timing) (plan : Plan) (earlier : List Event) (a : RunRequest) (source : Option (List ℕ)) (reader : LineReader) (left before after : Option (List ℕ)) (buffer : List ℕ) (engine : EngineState) (first now : ℕ) (peaks : ℕ → ℕ) : Type 0 where
+  pub counting : Counted timing earlier a source reader left before after buffer engine first (now + saved_by timing.every engine plan.bases)
   pub windows : FollowsWindowsBy (due_by timing) peaks (last_of (due_by timing) (length counting.running.events)) counting.running.events engine
   pub on_time : WithNoNumber timing.every (IsOnTime plan engine counting.running.events)
 
 -- After these events the engine was compacted, or that was not due: it stands for them, with few nodes, and took so many steps.
-pub record IsCompacted (timing : Timing) (a : Asked) (events : List Event) (engine : State) (before now : ℕ) : Type 0 where
+pub record IsCompacted (timing : Timing) (a : RunRequest) (events : List Event) (engine : EngineState) (before now : ℕ) : Type 0 where
   pub stands : StandsFor engine events
   pub few : (most : ℕ → ℕ) → MeetMost a.schema a.queries events most → HasFewNodes engine (length events) most
   pub steps : (most : ℕ → ℕ) → MeetMost a.schema a.queries events most → now ≤ before + compaction_by (due_by timing) (length a.queries) most (length events)

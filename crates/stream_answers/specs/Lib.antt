@@ -1,4 +1,4 @@
-pub mod Ends
+pub mod RunEnds
 pub mod Windows
 pub mod Streams
 pub mod Steps

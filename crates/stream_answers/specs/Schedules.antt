@@ -5,7 +5,7 @@ use Rattle.cel_terms.specs.declared.Query.{Query}
 use Rattle.query_engine.specs.declared.sizes.Size.{Size}
 use Rattle.query_engine.specs.Bounds.{update_bound}
 use Rattle.query_engine.specs.Counts.{event_bound, compaction_bound}
-use Rattle.query_engine.specs.Engine.{State, found_of}
+use Rattle.query_engine.specs.Engine.{EngineState, found_of}
 use Rattle.query_engine.specs.Sizes.{put_by, size_of, steady_bound, IsInWindowAfter, IsSizedBy, AreKeptSmall}
 use Rattle.stream_answers.specs.declared.schedule.TheConstants.{LEAST_SIZE, EVENTS_A_QUERY}
 use Rattle.stream_answers.specs.Windows.{is_due_after}
@@ -39,11 +39,11 @@ pace None queries most = steady_bound queries most
 pace (Some n) queries most = event_bound queries most
 
 -- what is put by
-abbrev pub saved_by : Option ℕ → State → List Size → ℕ
+abbrev pub saved_by : Option ℕ → EngineState → List Size → ℕ
 saved_by None engine bases = put_by engine bases
 saved_by (Some n) engine bases = 0
 
-abbrev pub saved : Plan → State → ℕ
+abbrev pub saved : Plan → EngineState → ℕ
 saved plan engine = saved_by plan.timing.every engine plan.bases
 
 -- a schedule that has no number begins with a compaction, after so many events
@@ -54,23 +54,23 @@ first_compaction (Some n) queries most events = 0
 -- THE SIZES
 
 -- how many events come between two looks
-abbrev pub events_between : State → ℕ
+abbrev pub events_between : EngineState → ℕ
 events_between engine = EVENTS_A_QUERY * length engine.queries
 
 -- It took events since it was looked at last, no more than come between two looks.
-pub record IsGoingOn (plan : Plan) (engine : State) (events : List Event) : Type 0 where
+pub record IsGoingOn (plan : Plan) (engine : EngineState) (events : List Event) : Type 0 where
   pub count : length plan.bases ≡ length engine.queries
   pub looked : plan.looked ≤ length events
   pub next : plan.next ≤ plan.looked + events_between engine
   pub small : AreKeptSmall LEAST_SIZE plan.looked engine plan.bases events
 
 -- The engine is kept by the plan after these events.
-pub record IsOnTime (plan : Plan) (engine : State) (events : List Event) : Type 0 where
+pub record IsOnTime (plan : Plan) (engine : EngineState) (events : List Event) : Type 0 where
   pub going_on : IsGoingOn plan engine events
   pub until : length events ≤ plan.next
 
 -- After some first events the query's window needed so much. What is kept of it is at most twice that, and what a few events may add: nodes, and keys as eight of them each.
-pub record IsSmall (engine : State) (events : List Event) (k : ℕ) (q : Query) : Type 0 where
+pub record IsSmall (engine : EngineState) (events : List Event) (k : ℕ) (q : Query) : Type 0 where
   pub first : ℕ
   pub among : first ≤ length events
   pub needed : ℕ
@@ -78,5 +78,5 @@ pub record IsSmall (engine : State) (events : List Event) (k : ℕ) (q : Query) 
   pub size : size_of engine (k + 1) ≤ LEAST_SIZE + 2 * needed + events_between engine * (update_bound (found_of engine (k + 1)) + 8)
 
 -- each query is kept small
-abbrev pub KeepsUp : State → List Event → Type 0
+abbrev pub KeepsUp : EngineState → List Event → Type 0
 KeepsUp engine events = (k : ℕ) (q : Query) → slice_get engine.queries k ≡ Some q → IsSmall engine events k q

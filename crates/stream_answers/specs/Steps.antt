@@ -9,13 +9,13 @@ use Rattle.cel_terms.specs.declared.Query.{Query}
 use Rattle.query_engine.specs.Counts.{MeetMost, event_bound, compaction_bound}
 use Rattle.answer_text.specs.declared.Order.{Order}
 use Rattle.answer_text.specs.declared.Order.TheVariants.{Walk, Sorted}
-use Rattle.answer_text.specs.Rows.{Row, row_line, lines_of}
+use Rattle.answer_text.specs.OutputRows.{Row, row_line, lines_of}
 use Rattle.output_laws.specs.After.{AreRowsAfter}
-use Rattle.answer_blocks.specs.Counted.{row_delays}
-use Rattle.event_run.specs.Runs.{Stop, RunsAfter}
+use Rattle.answer_blocks.specs.RowSteps.{row_delays}
+use Rattle.event_run.specs.Runs.{RunStop, RunsAfter}
 use Rattle.stream_answers.specs.declared.StreamFault.{StreamFault}
-use Rattle.stream_answers.specs.Ends.{Said, ByEnd}
-use Rattle.stream_answers.specs.Streams.{Asked}
+use Rattle.stream_answers.specs.RunEnds.{EndClaims, ByEnd}
+use Rattle.stream_answers.specs.Streams.{RunRequest}
 use Rattle.stream_answers.specs.Schedules.{Timing, due_by, pace}
 pub use Rattle.stream_answers.specs.Windows.{is_due}
 
@@ -52,9 +52,9 @@ abbrev pub AreOfEvents : Declared → List Query → List StreamEvent → ℕ �
 AreOfEvents schema queries events before now = (most : ℕ → ℕ) → MeetMost schema queries events most → now ≤ before + length events * event_bound (length queries) most
 
 -- The steps are bounded by the events, those before and those that the queries take of a file of these bytes, and by the rows of the output after those before.
-pub record CountsAllAfter (timing : Timing) (earlier : List StreamEvent) (a : Asked) (lines : List ℕ) (Stops : Stop → Type 0) (Took : List ℕ → Type 0) (before now : ℕ) : Type 0 where
+pub record CountsAllAfter (timing : Timing) (earlier : List StreamEvent) (a : RunRequest) (lines : List ℕ) (Stops : RunStop → Type 0) (Took : List ℕ → Type 0) (before now : ℕ) : Type 0 where
   pub events : List StreamEvent
-  pub stop : Stop
+  pub stop : RunStop
   pub runs : RunsAfter earlier a.schema a.queries a.most_bytes lines events stop
   pub stops : Stops stop
   pub rows : List Row
@@ -63,14 +63,14 @@ pub record CountsAllAfter (timing : Timing) (earlier : List StreamEvent) (a : As
   pub bounded : AreBoundedBy timing a.schema a.queries events rows before now
 
 -- whatever ended the run, and whatever was written
-abbrev pub CountsAfter : Timing → List StreamEvent → Asked → List ℕ → ℕ → ℕ → Type 0
+abbrev pub CountsAfter : Timing → List StreamEvent → RunRequest → List ℕ → ℕ → ℕ → Type 0
 CountsAfter timing earlier a lines before now = CountsAllAfter timing earlier a lines (λ halt. Unit {0}) (λ bytes. Unit {0}) before now
 
 -- A write failed in walk order, at the line of one of the answers: they are bounded by the events up to its position, and by that answer and those whose lines were taken.
-pub record CountsUpToAfter (timing : Timing) (earlier : List StreamEvent) (a : Asked) (lines : List ℕ) (before after : Option (List ℕ)) (old now : ℕ) : Type 0 where
+pub record CountsUpToAfter (timing : Timing) (earlier : List StreamEvent) (a : RunRequest) (lines : List ℕ) (before after : Option (List ℕ)) (old now : ℕ) : Type 0 where
   pub events : List StreamEvent
   pub more : List StreamEvent
-  pub stop : Stop
+  pub stop : RunStop
   pub runs : RunsAfter earlier a.schema a.queries a.most_bytes lines (events ++ more) stop
   pub whole : List Row
   pub one : Row
@@ -83,12 +83,12 @@ pub record CountsUpToAfter (timing : Timing) (earlier : List StreamEvent) (a : A
   pub bounded : AreBoundedBy timing a.schema a.queries events (whole ++ one ∷ []) old now
 
 -- where a write failed, by the order of the lines
-abbrev pub CountsAtFaultAfter : Timing → List StreamEvent → Order → Asked → List ℕ → Option (List ℕ) → Option (List ℕ) → ℕ → ℕ → Type 0
+abbrev pub CountsAtFaultAfter : Timing → List StreamEvent → Order → RunRequest → List ℕ → Option (List ℕ) → Option (List ℕ) → ℕ → ℕ → Type 0
 CountsAtFaultAfter timing earlier Walk a lines before after old now = CountsUpToAfter timing earlier a lines before after old now
 CountsAtFaultAfter timing earlier Sorted a lines before after old now = CountsAfter timing earlier a lines old now
 
 -- How the steps are bounded by what passes for the stop and what was taken of the lines, by how it ended: where it ended by itself these are its stop and all that was written.
-abbrev pub counts_said : ((Stop → Type 0) → (List ℕ → Type 0) → Type 0) → Type 0 → Option (List ℕ) → Option (List ℕ) → Said
+abbrev pub counts_said : ((RunStop → Type 0) → (List ℕ → Type 0) → Type 0) → Type 0 → Option (List ℕ) → Option (List ℕ) → EndClaims
 counts_said All AtFault before after = record {
   stops = λ halt. All (λ stop. stop ≡ halt) (TookAll before after);
   unread = λ left. All (λ halt. Unit {0}) (λ bytes. Unit {0});
@@ -97,19 +97,19 @@ counts_said All AtFault before after = record {
 }
 
 -- the steps of a run over a file of these bytes
-abbrev pub StepsOverAfter : Timing → List StreamEvent → Asked → List ℕ → Option (List ℕ) → Option (List ℕ) → ℕ → ℕ → {T : Type 0} → Result T (OrMemory StreamFault) → Type 0
+abbrev pub StepsOverAfter : Timing → List StreamEvent → RunRequest → List ℕ → Option (List ℕ) → Option (List ℕ) → ℕ → ℕ → {T : Type 0} → Result T (OrMemory StreamFault) → Type 0
 StepsOverAfter timing earlier a lines before after old now result =
     ByEnd (counts_said (λ Stops Took. CountsAllAfter timing earlier a lines Stops Took old now) (CountsAtFaultAfter timing earlier a.order a lines before after old now) before after) None result
 
 -- THE SAME WITH NO EVENT BEFORE
 
 -- The steps are bounded by the events that the queries take of a file of these bytes, and by the rows of their output.
-abbrev pub CountsAll : Option ℕ → Asked → List ℕ → (Stop → Type 0) → (List ℕ → Type 0) → ℕ → ℕ → Type 0
+abbrev pub CountsAll : Option ℕ → RunRequest → List ℕ → (RunStop → Type 0) → (List ℕ → Type 0) → ℕ → ℕ → Type 0
 CountsAll every a lines Stops Took before now = CountsAllAfter (record { every = every; first = 0 }) [] a lines Stops Took before now
 
-abbrev pub CountsAtFault : Option ℕ → Order → Asked → List ℕ → Option (List ℕ) → Option (List ℕ) → ℕ → ℕ → Type 0
+abbrev pub CountsAtFault : Option ℕ → Order → RunRequest → List ℕ → Option (List ℕ) → Option (List ℕ) → ℕ → ℕ → Type 0
 CountsAtFault every order a lines before after old now = CountsAtFaultAfter (record { every = every; first = 0 }) [] order a lines before after old now
 
 -- by how the run ended
-abbrev pub StepsOver : Option ℕ → Asked → List ℕ → Option (List ℕ) → Option (List ℕ) → ℕ → ℕ → {T : Type 0} → Result T (OrMemory StreamFault) → Type 0
+abbrev pub StepsOver : Option ℕ → RunRequest → List ℕ → Option (List ℕ) → Option (List ℕ) → ℕ → ℕ → {T : Type 0} → Result T (OrMemory StreamFault) → Type 0
 StepsOver every a lines before after old now result = StepsOverAfter (record { every = every; first = 0 }) [] a lines before after old now result

@@ -7,46 +7,46 @@ use Rattle.stream_schema.specs.declared.Event.{Event as StreamEvent}
 use Rattle.cel_terms.specs.declared.Query.{Query}
 use Rattle.answer_text.specs.declared.Order.{Order}
 use Rattle.output_laws.specs.After.{IsOutputAfter}
-use Rattle.answer_blocks.specs.Taken.{TookPrefix}
-use Rattle.query_engine.specs.Engine.{State, StandsFor}
-use Rattle.event_run.specs.Runs.{Stop, RunsAfter}
+use Rattle.answer_blocks.specs.SinkBytes.{TookPrefix}
+use Rattle.query_engine.specs.Engine.{EngineState, StandsFor}
+use Rattle.event_run.specs.Runs.{RunStop, RunsAfter}
 use Rattle.event_run.specs.Runs as stop
 use Rattle.event_run.specs.Taking.{AreEventsReadAfter}
 use Rattle.stream_answers.specs.Windows.{last_of, FollowsWindowsBy}
 use Rattle.stream_answers.specs.Schedules.{Timing, due_by, WithNoNumber, KeepsUp}
 use Rattle.stream_answers.specs.declared.RunOptions.{RunOptions}
 use Rattle.stream_answers.specs.declared.StreamFault.{StreamFault}
-use Rattle.stream_answers.specs.Ends.{Said, ByEnd}
+use Rattle.stream_answers.specs.RunEnds.{EndClaims, ByEnd}
 
 -- the schema and the queries, and how many bytes of events, or of a script, are too many
-pub record EventsAsked : Type 0 where
+pub record EventsRequest : Type 0 where
   pub schema : Declared
   pub queries : List Query
   pub most_bytes : ℕ
 
 -- the schema and the queries, how lines are ordered, and how many bytes are too many
-pub record Asked : Type 0 where
+pub record RunRequest : Type 0 where
   pub order : Order
   pub schema : Declared
   pub queries : List Query
   pub most_bytes : ℕ
 
 -- what is asked of the events of an engine's queries, by the options of a run
-abbrev pub asked_by : RunOptions → State → Asked
+abbrev pub asked_by : RunOptions → EngineState → RunRequest
 asked_by options engine = record { order = options.order; schema = engine.schema; queries = engine.queries; most_bytes = options.most_bytes }
 
 -- WHAT COMES AFTER OTHER EVENTS
 -- `earlier` are events that came before and whose answers are not asked for; `events` are these and then those of the file.
 
 -- The bytes are the answers over the events that come after those before, as the queries take them of a file of these bytes.
-pub record AreAnswersAfter (earlier : List StreamEvent) (a : Asked) (lines bytes : List ℕ) : Type 0 where
+pub record AreAnswersAfter (earlier : List StreamEvent) (a : RunRequest) (lines bytes : List ℕ) : Type 0 where
   pub events : List StreamEvent
-  pub stop : Stop
+  pub stop : RunStop
   pub runs : RunsAfter earlier a.schema a.queries a.most_bytes lines events stop
   pub output : IsOutputAfter (length earlier) a.order a.schema a.queries events bytes
 
 -- The sink took the answers over the events that come after those before, and what the source was tells which these are.
-pub record WroteOverAfter (earlier : List StreamEvent) (a : Asked) (source : Option (List ℕ)) (Are : List ℕ → List StreamEvent → Type 0) (old new : Option (List ℕ)) : Type 0 where
+pub record WroteOverAfter (earlier : List StreamEvent) (a : RunRequest) (source : Option (List ℕ)) (Are : List ℕ → List StreamEvent → Type 0) (old new : Option (List ℕ)) : Type 0 where
   pub events : List StreamEvent
   pub bytes : List ℕ
   pub output : IsOutputAfter (length earlier) a.order a.schema a.queries events bytes
@@ -54,7 +54,7 @@ pub record WroteOverAfter (earlier : List StreamEvent) (a : Asked) (source : Opt
   pub are : (lines : List ℕ) → source ≡ Some lines → Are lines events
 
 -- The engine stands for exactly the events before and those that the queries take of a file of these bytes, which is read to its end. It was compacted where that was due, and its nodes follow the windows; these were its peaks before. Where its queries are compacted as they grow, each is kept small.
-pub record StandsForAllAfter (timing : Timing) (peaks : ℕ → ℕ) (earlier : List StreamEvent) (a : Asked) (lines : List ℕ) (engine : State) : Type 0 where
+pub record StandsForAllAfter (timing : Timing) (peaks : ℕ → ℕ) (earlier : List StreamEvent) (a : RunRequest) (lines : List ℕ) (engine : EngineState) : Type 0 where
   pub events : List StreamEvent
   pub runs : RunsAfter earlier a.schema a.queries a.most_bytes lines events stop.End
   pub stands : StandsFor engine events
@@ -62,18 +62,18 @@ pub record StandsForAllAfter (timing : Timing) (peaks : ℕ → ℕ) (earlier : 
   pub keeps_up : WithNoNumber timing.every (KeepsUp engine events)
 
 -- it took those over all events that the queries take, which stop so
-abbrev pub WroteAllAfter : List StreamEvent → Asked → Option (List ℕ) → Stop → Option (List ℕ) → Option (List ℕ) → Type 0
+abbrev pub WroteAllAfter : List StreamEvent → RunRequest → Option (List ℕ) → RunStop → Option (List ℕ) → Option (List ℕ) → Type 0
 WroteAllAfter earlier a source stop old new =
     WroteOverAfter earlier a source (λ lines events. RunsAfter earlier a.schema a.queries a.most_bytes lines events stop) old new
 
 -- The sink took a part of bytes, and where the source told its own, these are the answers over its events.
-pub record WrotePartOfAfter (earlier : List StreamEvent) (a : Asked) (source : Option (List ℕ)) (Took : List ℕ → Type 0) : Type 0 where
+pub record WrotePartOfAfter (earlier : List StreamEvent) (a : RunRequest) (source : Option (List ℕ)) (Took : List ℕ → Type 0) : Type 0 where
   pub bytes : List ℕ
   pub took : Took bytes
   pub are : (lines : List ℕ) → source ≡ Some lines → AreAnswersAfter earlier a lines bytes
 
 -- all answers up to the stop; those over the lines that were read; a proper part after a fault of the sink; a first part where memory ran out
-abbrev pub answers_said : List StreamEvent → Asked → Option (List ℕ) → Option (List ℕ) → Option (List ℕ) → Said
+abbrev pub answers_said : List StreamEvent → RunRequest → Option (List ℕ) → Option (List ℕ) → Option (List ℕ) → EndClaims
 answers_said earlier a source old new = record {
   stops = λ halt. WroteAllAfter earlier a source halt old new;
   unread = λ left. WroteOverAfter earlier a source (λ lines events. AreEventsReadAfter earlier a.schema a.queries a.most_bytes lines left events) old new;
@@ -81,29 +81,29 @@ answers_said earlier a source old new = record {
   wants = WrotePartOfAfter earlier a source (TookPrefix old new);
 }
 
-abbrev pub WroteStreamAfter : List StreamEvent → Asked → Option (List ℕ) → Option (List ℕ) → Option (List ℕ) → Option (List ℕ) → {T : Type 0} → Result T (OrMemory StreamFault) → Type 0
+abbrev pub WroteStreamAfter : List StreamEvent → RunRequest → Option (List ℕ) → Option (List ℕ) → Option (List ℕ) → Option (List ℕ) → {T : Type 0} → Result T (OrMemory StreamFault) → Type 0
 WroteStreamAfter earlier a source left old new result = ByEnd (answers_said earlier a source old new) left result
 
 -- THE SAME WITH NO EVENT BEFORE
 
 -- The bytes are the answers over the events that the queries take of a file of these bytes.
-abbrev pub AreAnswersOver : Asked → List ℕ → List ℕ → Type 0
+abbrev pub AreAnswersOver : RunRequest → List ℕ → List ℕ → Type 0
 AreAnswersOver a lines bytes = AreAnswersAfter [] a lines bytes
 
 -- The sink took the answers over these events, and what the source was tells which these are.
-abbrev pub WroteOver : Asked → Option (List ℕ) → (List ℕ → List StreamEvent → Type 0) → Option (List ℕ) → Option (List ℕ) → Type 0
+abbrev pub WroteOver : RunRequest → Option (List ℕ) → (List ℕ → List StreamEvent → Type 0) → Option (List ℕ) → Option (List ℕ) → Type 0
 WroteOver a source Are old new = WroteOverAfter [] a source Are old new
 
 -- The engine stands for exactly the events that the queries take of a file of these bytes, which is read to its end. It was compacted after every so many of them, and its nodes follow the windows; these were its peaks before. Without such a number its queries are kept small.
-abbrev pub StandsForAll : Option ℕ → (ℕ → ℕ) → Asked → List ℕ → State → Type 0
+abbrev pub StandsForAll : Option ℕ → (ℕ → ℕ) → RunRequest → List ℕ → EngineState → Type 0
 StandsForAll every peaks a lines engine = StandsForAllAfter (record { every = every; first = 0 }) peaks [] a lines engine
 
-abbrev pub WroteAll : Asked → Option (List ℕ) → Stop → Option (List ℕ) → Option (List ℕ) → Type 0
+abbrev pub WroteAll : RunRequest → Option (List ℕ) → RunStop → Option (List ℕ) → Option (List ℕ) → Type 0
 WroteAll a source stop old new = WroteAllAfter [] a source stop old new
 
-abbrev pub WrotePartOf : Asked → Option (List ℕ) → (List ℕ → Type 0) → Type 0
+abbrev pub WrotePartOf : RunRequest → Option (List ℕ) → (List ℕ → Type 0) → Type 0
 WrotePartOf a source Took = WrotePartOfAfter [] a source Took
 
 -- all answers up to the stop, or those over what was read, or a part of them
-abbrev pub WroteStream : Asked → Option (List ℕ) → Option (List ℕ) → Option (List ℕ) → Option (List ℕ) → {T : Type 0} → Result T (OrMemory StreamFault) → Type 0
+abbrev pub WroteStream : RunRequest → Option (List ℕ) → Option (List ℕ) → Option (List ℕ) → Option (List ℕ) → {T : Type 0} → Result T (OrMemory StreamFault) → Type 0
 WroteStream a source left old new result = WroteStreamAfter [] a source left old new result

@@ -2,7 +2,7 @@
 use Rattle.std.specs.Prelude.{◌≡◌, ℕ, zero, suc, ◌+◌, ◌-◌, ◌%◌, ◌≤◌, ◌⊎◌, Bool, false, ◌&&◌, ◌==◌, nat_lt, cond, List, length, take, Option, Some, None, slice_get}
 use Rattle.stream_schema.specs.declared.Event.{Event}
 use Rattle.cel_terms.specs.declared.Query.{Query}
-use Rattle.query_engine.specs.Engine.{State, StandsFor, peak_of}
+use Rattle.query_engine.specs.Engine.{EngineState, StandsFor, peak_of}
 use Rattle.query_engine.specs.Peaks.{PeaksFollow}
 use Rattle.query_engine.specs.Windows.{IsBoundedBy, IsDense, IsRecentAt, FollowsWindowSince}
 
@@ -26,23 +26,23 @@ abbrev pub last_due : Option ℕ → ℕ → ℕ
 last_due every events = last_of (is_due every) events
 
 -- After one of the events there were as many nodes as at most ever: they are bounded by the events up to it that came after the compaction before it, and those in the windows that this left.
-pub record HasPeak (due : ℕ → Bool) (events : List Event) (engine : State) (k : ℕ) (q : Query) : Type 0 where
+pub record HasPeak (due : ℕ → Bool) (events : List Event) (engine : EngineState) (k : ℕ) (q : Query) : Type 0 where
   pub count : ℕ
   pub among : count ≤ length events
   pub nodes : IsBoundedBy (IsRecentAt engine.schema q (take count events) (last_of due (count - 1))) engine (k + 1) (peak_of engine (k + 1))
 
 -- The engine stands for the events, was compacted after the first so many, and had these peaks before it took any. Its nodes are bounded by the events since then and those in the windows that this left.
-pub record FollowsWindowsBy (due : ℕ → Bool) (before : ℕ → ℕ) (first : ℕ) (events : List Event) (engine : State) : Type 0 where
+pub record FollowsWindowsBy (due : ℕ → Bool) (before : ℕ → ℕ) (first : ℕ) (events : List Event) (engine : EngineState) : Type 0 where
   pub dense : IsDense engine events
   pub nodes : FollowsWindowSince first engine events
   pub peaks : (k : ℕ) (q : Query) → slice_get engine.queries k ≡ Some q → (peak_of engine (k + 1) ≤ before (k + 1)) ⊎ HasPeak due events engine k q
 
 -- the windows are followed with a compaction after every N-th event
-abbrev pub FollowsWindows : Option ℕ → (ℕ → ℕ) → ℕ → List Event → State → Type 0
+abbrev pub FollowsWindows : Option ℕ → (ℕ → ℕ) → ℕ → List Event → EngineState → Type 0
 FollowsWindows every before first events engine = FollowsWindowsBy (is_due every) before first events engine
 
 -- What an engine is that goes on with events after these: it stands for them, and its nodes and its peaks follow them; these were its peaks before any of them.
-pub record FollowsEvents (peaks : ℕ → ℕ) (engine : State) (events : List Event) : Type 0 where
+pub record FollowsEvents (peaks : ℕ → ℕ) (engine : EngineState) (events : List Event) : Type 0 where
   pub stands : StandsFor engine events
   pub dense : IsDense engine events
   pub peaks_are : PeaksFollow peaks engine events

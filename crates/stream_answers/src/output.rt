@@ -8,8 +8,8 @@ ghost use Rattle.query_engine.specs.Engine.{StandsFor, count_of};
 ghost use Rattle.query_engine.specs.Counts.{cursor_bounds};
 ghost use Rattle.answer_text.specs.declared.Order.TheVariants.{Walk};
 ghost use Rattle.answer_text.specs.Output.{AreBlocks};
-ghost use Rattle.answer_text.specs.Rows.{lines_of};
-ghost use Rattle.answer_blocks.specs.Counted.{HasRowsAt};
+ghost use Rattle.answer_text.specs.OutputRows.{lines_of};
+ghost use Rattle.answer_blocks.specs.RowSteps.{HasRowsAt};
 ghost use Rattle.stream_answers.specs.Counting.{StepsPut};
 ghost use Rattle.stream_answers.specs.Gathering.{PassesOn, Passed, MayWait};
 
@@ -33,7 +33,7 @@ const PIECE: usize = 65_536;
 pub struct Output {
     alloc: Global,
     order: Order,
-    held: Vec<u8>,
+    buffer: Vec<u8>,
     line: Vec<u8>,
 }
 
@@ -41,24 +41,24 @@ impl Model for Output {
     ghost use Rattle.std.specs.Prelude.{◌≡◌, []};
     ghost use Rattle.answer_text.specs.declared.Order.{Order};
     ghost use Rattle.answer_text.specs.declared.Order.TheVariants.{Walk};
-    ghost use Rattle.stream_answers.specs.Gathering.{Gathered};
+    ghost use Rattle.stream_answers.specs.Gathering.{OutputState};
 
-    ghost Value = { Gathered };
+    ghost Value = { OutputState };
 
-    ghost view = { λ o. record { order = o.order; held = o.held.items } };
+    ghost view = { λ o. record { order = o.order; buffer = o.buffer.items } };
 
-    ghost invariant = { λ o. o.order ≡ Walk → o.held.items ≡ [] };
+    ghost invariant = { λ o. o.order ≡ Walk → o.buffer.items ≡ [] };
 }
 
 impl Output {
     /// No line yet.
     pub fn new(alloc: Global, order: Order) -> Output
-        ensures { result ≡ record { order = order; held = [] } }
+        ensures { result ≡ record { order = order; buffer = [] } }
     {
         Output {
             alloc,
             order,
-            held: Vec::new(alloc),
+            buffer: Vec::new(alloc),
             line: Vec::new(alloc),
         }
     }
@@ -75,24 +75,25 @@ impl Output {
     ) -> Result<(), OrMemory<WriteFault>>
         requires seen { 0 < count_of engine.now }
         ensures lines { lines.new ≡ lines.old }
-        ensures waits { OnOk result (MayWait self.new.held lines.old.pending) }
+        ensures waits { OnOk result (MayWait self.new.buffer lines.old.pending) }
         ensures order { self.new.order ≡ self.old.order }
         ensures passed { (events : List Event) → StandsFor engine.now events → (bytes : List ℕ)
             × AreBlocks self.old.order engine.now.schema 1 engine.now.queries events
             (length events - 1) bytes
-            × Passed (K.taken out.old) (K.taken out.new) self.old.held bytes self.new.held result }
+            × Passed (K.taken out.old)
+            (K.taken out.new) self.old.buffer bytes self.new.buffer result }
         ensures rows { HasRowsAt self.old.order engine.now engine.now.queries (λ rows.
-            Passed (K.taken out.old) (K.taken out.new) self.old.held (lines_of rows)
-            self.new.held result
+            Passed (K.taken out.old) (K.taken out.new) self.old.buffer (lines_of rows)
+            self.new.buffer result
             × StepsPut self.old.order (K.taken out.old) (K.taken out.new) rows
             (steps.old + cursor_bounds engine.now) steps.new result) }
-        ensures walk { self.old.order ≡ Walk → self.new.held ≡ [] }
+        ensures walk { self.old.order ≡ Walk → self.new.buffer ≡ [] }
         ensures cause { HasCauseOrMemory (K.faults out.old) (K.faults out.new) result }
     {
         match self.order {
             Order::Walk => write_blocks(engine, out, &mut self.line, steps),
             Order::Sorted => {
-                match push_blocks(self.alloc, engine, &mut self.held, steps) {
+                match push_blocks(self.alloc, engine, &mut self.buffer, steps) {
                     Ok(()) => {}
                     Err(Memory) => return Err(OrMemory::Memory),
                 }
@@ -111,12 +112,12 @@ impl Output {
     /// line, which is not empty, is at hand.
     fn may_wait(&self, lines: &mut Lines) -> bool
         ensures lines { lines.new ≡ lines.old }
-        ensures waits { result ≡ true → MayWait self.now.held lines.old.pending }
+        ensures waits { result ≡ true → MayWait self.now.buffer lines.old.pending }
     {
-        if self.held.is_empty() {
+        if self.buffer.is_empty() {
             return true;
         }
-        if self.held.len() >= PIECE || lines.begins_with_end() {
+        if self.buffer.len() >= PIECE || lines.begins_with_end() {
             return false;
         }
         lines.has_line()
@@ -136,13 +137,14 @@ impl Output {
         ensures passed { (events : List Event) → StandsFor engine.now events → (bytes : List ℕ)
             × AreBlocks self.old.order engine.now.schema 1 engine.now.queries events
             (length events - 1) bytes
-            × Passed (K.taken out.old) (K.taken out.new) self.old.held bytes self.new.held result }
+            × Passed (K.taken out.old)
+            (K.taken out.new) self.old.buffer bytes self.new.buffer result }
         ensures rows { HasRowsAt self.old.order engine.now engine.now.queries (λ rows.
-            Passed (K.taken out.old) (K.taken out.new) self.old.held (lines_of rows)
-            self.new.held result
+            Passed (K.taken out.old) (K.taken out.new) self.old.buffer (lines_of rows)
+            self.new.buffer result
             × StepsPut self.old.order (K.taken out.old) (K.taken out.new) rows
             (steps.old + cursor_bounds engine.now) steps.new result) }
-        ensures walk { self.old.order ≡ Walk → self.new.held ≡ [] }
+        ensures walk { self.old.order ≡ Walk → self.new.buffer ≡ [] }
         ensures cause { HasCauseOrMemory (K.faults out.old) (K.faults out.new) result }
     {
         match self.order {
@@ -151,11 +153,11 @@ impl Output {
                 write_blocks(engine, out, line, steps)
             }
             Order::Sorted => {
-                match push_blocks(self.alloc, engine, &mut self.held, steps) {
+                match push_blocks(self.alloc, engine, &mut self.buffer, steps) {
                     Ok(()) => {}
                     Err(Memory) => return Err(OrMemory::Memory),
                 }
-                if self.held.len() < PIECE {
+                if self.buffer.len() < PIECE {
                     return Ok(());
                 }
                 match self.flush(out) {
@@ -170,12 +172,12 @@ impl Output {
     /// waits while the source is asked.
     pub fn settle<K: Sink>(&mut self, lines: &mut Lines, out: &mut K) -> Result<(), WriteFault>
         ensures lines { lines.new ≡ lines.old }
-        ensures waits { OnOk result (MayWait self.new.held lines.old.pending) }
+        ensures waits { OnOk result (MayWait self.new.buffer lines.old.pending) }
         ensures order { self.new.order ≡ self.old.order }
         ensures kept { OnOk result (PassesOn (K.taken out.old)
-            (K.taken out.new) self.old.held [] self.new.held []) }
-        ensures part { OnErr result (TookPart (K.taken out.old) (K.taken out.new) self.old.held) }
-        ensures none { self.old.held ≡ [] → IsOk result }
+            (K.taken out.new) self.old.buffer [] self.new.buffer []) }
+        ensures part { OnErr result (TookPart (K.taken out.old) (K.taken out.new) self.old.buffer) }
+        ensures none { self.old.buffer ≡ [] → IsOk result }
         ensures cause { HasCause (K.faults out.old) (K.faults out.new) result }
     {
         if self.may_wait(lines) {
@@ -186,15 +188,15 @@ impl Output {
 
     /// Writes what is held.
     pub fn flush<K: Sink>(&mut self, out: &mut K) -> Result<(), WriteFault>
-        ensures all { OnOk result (TookAll (K.taken out.old) (K.taken out.new) self.old.held) }
-        ensures part { OnErr result (TookPart (K.taken out.old) (K.taken out.new) self.old.held) }
+        ensures all { OnOk result (TookAll (K.taken out.old) (K.taken out.new) self.old.buffer) }
+        ensures part { OnErr result (TookPart (K.taken out.old) (K.taken out.new) self.old.buffer) }
         ensures cause { HasCause (K.faults out.old) (K.faults out.new) result }
-        ensures empty { OnOk result (self.new.held ≡ []) }
-        ensures none { self.old.held ≡ [] → IsOk result }
+        ensures empty { OnOk result (self.new.buffer ≡ []) }
+        ensures none { self.old.buffer ≡ [] → IsOk result }
         ensures order { self.new.order ≡ self.old.order }
     {
-        put_all(out, self.held.as_slice())?;
-        self.held.clear();
+        put_all(out, self.buffer.as_slice())?;
+        self.buffer.clear();
         Ok(())
     }
 }

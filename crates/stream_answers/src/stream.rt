@@ -2,7 +2,7 @@
 
 ghost use Rattle.std.specs.Prelude.{◌≡◌, ◌+◌, ◌-◌, ◌^◌, ◌<◌, ◌≤◌, ℕ, List, [], length, false, Some, OnOk};
 ghost use Rattle.stream_schema.specs.declared.Event.{Event};
-ghost use Rattle.event_reader.specs.Reading.{HasGiven};
+ghost use Rattle.event_reader.specs.LineReaders.{HasGiven};
 ghost use Rattle.query_engine.specs.Engine.{StandsFor, SameQueries, count_of, len_of, peak_of};
 ghost use Rattle.query_engine.specs.Counts.{MeetMost, HasFewNodes};
 ghost use Rattle.stream_answers.specs.Gathering.{Finished, stream_fault};
@@ -10,7 +10,7 @@ ghost use Rattle.stream_answers.specs.Counting.{HasBegun};
 ghost use Rattle.stream_answers.specs.Schedules.{saved};
 ghost use Rattle.stream_answers.specs.Steps.{AreBoundedBy, AreOfEvents, StepsOver, StepsOverAfter};
 ghost use Rattle.stream_answers.specs.Windows.{FollowsEvents};
-ghost use Rattle.stream_answers.specs.Ends.{HasReadCause, HasWriteCause};
+ghost use Rattle.stream_answers.specs.RunEnds.{HasReadCause, HasWriteCause};
 ghost use Rattle.stream_answers.specs.Streams.{asked_by, WroteStream, WroteStreamAfter, StandsForAll, StandsForAllAfter};
 
 use crate::output::Output;
@@ -19,8 +19,8 @@ use crate::{RunOptions, StreamFault};
 use cer_base::steps::Steps;
 use cer_base::{Memory, OrMemory};
 use cer_outside::{Sink, Source, WriteFault};
-use event_reader::{Lines, Row};
-use event_run::{RunFault, Taken, take_event};
+use event_reader::{EventBuffer, Lines};
+use event_run::{NextEvent, RunFault, take_event};
 use query_engine::Engine;
 use std::alloc::Global;
 use std::sync::ledger::Ledger;
@@ -111,7 +111,7 @@ pub fn write_answers_after<Q: Source, K: Sink, L: Ledger>(
         Ok(lines) => lines,
         Err(Memory) => return Err(OrMemory::Memory),
     };
-    let mut row = Row::new(alloc);
+    let mut row = EventBuffer::new(alloc);
     let mut output = Output::new(alloc, options.order);
     let mut schedule = match Schedule::new(alloc, options.compact_every, engine, steps) {
         Ok(schedule) => schedule,
@@ -134,7 +134,7 @@ pub fn write_answers_after<Q: Source, K: Sink, L: Ledger>(
 fn answer_events<Q: Source, K: Sink, L: Ledger>(
     alloc: Global,
     lines: &mut Lines,
-    row: &mut Row,
+    row: &mut EventBuffer,
     output: &mut Output,
     schedule: &mut Schedule,
     engine: &mut Engine,
@@ -145,7 +145,7 @@ fn answer_events<Q: Source, K: Sink, L: Ledger>(
     requires open { lines.old.closed ≡ false }
     requires room { count_of engine.old + lines.old.budget < 2 ^ 64 }
     requires given { (bytes : List ℕ) → HasGiven lines.old bytes (Some bytes) [] }
-    requires empty { output.old.held ≡ [] }
+    requires empty { output.old.buffer ≡ [] }
     requires bases { length schedule.old.bases ≡ length engine.old.queries }
     ensures wrote { (peaks : ℕ → ℕ) (earlier : List Event)
         → HasBegun schedule.old peaks earlier engine.old
@@ -182,8 +182,8 @@ fn answer_events<Q: Source, K: Sink, L: Ledger>(
 {
     loop {
         match take_event(alloc, lines, row, source, engine, steps) {
-            Ok(Taken::Event) => {}
-            Ok(Taken::End) => return finish(output, out, Ok(())),
+            Ok(NextEvent::Event) => {}
+            Ok(NextEvent::End) => return finish(output, out, Ok(())),
             Err(stop) => return finish(output, out, Err(stream_fault(stop))),
         }
         match output.put(engine, lines, out, steps) {
@@ -223,8 +223,8 @@ pub fn finish<K: Sink>(
     end: Result<(), OrMemory<StreamFault>>,
 ) -> Result<(), OrMemory<StreamFault>>
     ensures finished { Finished (K.taken out.old) (K.taken out.new)
-        (K.faults out.old) (K.faults out.new) output.old.held end result }
-    ensures none { output.old.held ≡ [] → result ≡ end }
+        (K.faults out.old) (K.faults out.new) output.old.buffer end result }
+    ensures none { output.old.buffer ≡ [] → result ≡ end }
 {
     match output.flush(out) {
         Ok(()) => end,

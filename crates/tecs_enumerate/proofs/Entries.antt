@@ -11,7 +11,7 @@ use Rattle.cer_base.specs.Members.{SetTree, Start, Extended, United, with_positi
 use Rattle.cer_base.specs.Nodes.{tree}
 use Rattle.cer_base.proofs.Walks.{test_passes, recent-with_position}
 use Rattle.tecs_enumerate.specs.declared.descent.Pending.{Pending}
-use Rattle.tecs_enumerate.specs.Rest.{with_positions, answers, rest_of, Room, AllHaveRoom, AreNested, id_of, prefix_of}
+use Rattle.tecs_enumerate.specs.Remaining.{with_positions, answers, rest_of, Room, AllHaveRoom, AreNested, id_of, prefix_of}
 
 -- a list is turned round with a change at its place from the end
 pub reverse-set : {A : Type 0} (xs : List A) (k : ℕ) (v : A) → k < length xs → reverse (set xs (length xs - 1 - k) v) ≡ set (reverse xs) k v

@@ -9,7 +9,7 @@ use Rattle.cer_base.specs.Members.{Member, members, recent}
 use Rattle.cer_base.specs.Nodes.{tree, WellFormed, IsRoot}
 use Rattle.cer_base.proofs.Walks.{none_recent, test_tells}
 use Rattle.tecs_enumerate.specs.declared.descent.Pending.{Pending}
-use Rattle.tecs_enumerate.specs.Rest.{with_positions, rest_of, recent_of, Room, AllHaveRoom, AreNested}
+use Rattle.tecs_enumerate.specs.Remaining.{with_positions, rest_of, recent_of, Room, AllHaveRoom, AreNested}
 use Rattle.tecs_enumerate.proofs.Visits.{AllHaveRoom-more}
 
 -- what the stack has of the last roots

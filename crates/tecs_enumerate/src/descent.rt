@@ -38,7 +38,7 @@
 
 ghost use Rattle.std.specs.Prelude.{◌≡◌, ◌+◌, ◌*◌, ◌<◌, ◌≤◌, [], ◌∷◌, ◌++◌, length, reverse, int_le, vec_capacity};
 ghost use Rattle.cer_base.specs.Nodes.{tree, WellFormed};
-ghost use Rattle.tecs_enumerate.specs.Rest.{answers, rest_of, HasRoom, AllHaveRoom, AreNested};
+ghost use Rattle.tecs_enumerate.specs.Remaining.{answers, rest_of, HasRoom, AllHaveRoom, AreNested};
 
 use cer_base::Pos;
 use cer_base::node::{Id, Node, Stamp};

@@ -1,66 +1,66 @@
 use Rattle.std.proofs.Common.{rules, ◌≡◌, ◌+◌, ◌-◌, ◌<◌, true, length, slice_index_or, sym, subst, refl, arith}
 use Rattle.std.proofs.lemmas.List.{take_all}
 use Rattle.all_or_none.specs.Phases.{is_among}
-use Rattle.all_or_none.proofs.Awake.{AreLooked, looked_none, looked_next}
+use Rattle.all_or_none.proofs.ActiveQueries.{AreLooked, looked_none, looked_next}
 use Rattle.all_or_none.proofs.Committed.{HasCommitted, committed_none, is_listed, positive, back_again, next_within, next_prepared, committed_next, committed_all, may_answer}
 use Rattle.all_or_none.proofs.commit_all.Goals as goal
 
 pub loop-number-init : goal.loop-number-init
 loop-number-init g c = record {
-  committed = committed_none (g.P.Keeps.phase c.args.position) (g.P.Keeps.phase (c.args.position + 1)) c.args.event.now c.args.position c.args.parts.now;
-  looked = looked_none g.P.Keeps.phase c.args.awake.now c.args.parts.now;
+  committed = committed_none (g.P.Participant.phase c.args.position) (g.P.Participant.phase (c.args.position + 1)) c.args.event.now c.args.position c.args.query_states.now;
+  looked = looked_none g.P.Participant.phase c.args.active_queries.now c.args.query_states.now;
 }
 
 pub commit_one-requires-clause-prepared : goal.commit_one-requires-clause-prepared
 commit_one-requires-clause-prepared g c =
-    next_prepared (g.P.Keeps.phase c.args.position) (g.P.Keeps.phase (c.args.position + 1)) c.args.event.now c.args.position c.args.numbers.now c.loop-number.number-index (slice_index_or c.args.numbers.now c.loop-number.number-index 0) c.args.parts.now c.loop-number.parts c.loop-number-test.true refl c.requires.set c.loop-number.invariant.committed _
+    next_prepared (g.P.Participant.phase c.args.position) (g.P.Participant.phase (c.args.position + 1)) c.args.event.now c.args.position c.args.numbers.now c.loop-number.number-index (slice_index_or c.args.numbers.now c.loop-number.number-index 0) c.args.query_states.now c.loop-number.query_states c.loop-number-test.true refl c.requires.set c.loop-number.invariant.committed _
 
 pub commit_one-requires-clause-inside : goal.commit_one-requires-clause-inside
 commit_one-requires-clause-inside g c =
-    let low = positive (g.P.Keeps.phase c.args.position) (g.P.Keeps.phase (c.args.position + 1)) c.args.event.now c.args.position c.args.numbers.now c.loop-number.number-index (slice_index_or c.args.numbers.now c.loop-number.number-index 0) c.args.parts.now c.loop-number.parts c.loop-number-test.true refl c.requires.set c.loop-number.invariant.committed in
-    let among = is_listed (g.P.Keeps.phase c.args.position) (g.P.Keeps.phase (c.args.position + 1)) c.args.event.now c.args.position c.args.numbers.now c.loop-number.number-index (slice_index_or c.args.numbers.now c.loop-number.number-index 0) c.args.parts.now c.loop-number.parts c.loop-number-test.true refl c.requires.set c.loop-number.invariant.committed in
+    let low = positive (g.P.Participant.phase c.args.position) (g.P.Participant.phase (c.args.position + 1)) c.args.event.now c.args.position c.args.numbers.now c.loop-number.number-index (slice_index_or c.args.numbers.now c.loop-number.number-index 0) c.args.query_states.now c.loop-number.query_states c.loop-number-test.true refl c.requires.set c.loop-number.invariant.committed in
+    let among = is_listed (g.P.Participant.phase c.args.position) (g.P.Participant.phase (c.args.position + 1)) c.args.event.now c.args.position c.args.numbers.now c.loop-number.number-index (slice_index_or c.args.numbers.now c.loop-number.number-index 0) c.args.query_states.now c.loop-number.query_states c.loop-number-test.true refl c.requires.set c.loop-number.invariant.committed in
     let same = c.loop-number.invariant.looked.room in
-    let inside = c.requires.inside (slice_index_or c.args.numbers.now c.loop-number.number-index 0 - 1) (subst (λ m. is_among c.args.numbers.now m ≡ true) (sym (back_again (g.P.Keeps.phase c.args.position) (g.P.Keeps.phase (c.args.position + 1)) c.args.event.now c.args.position c.args.numbers.now c.loop-number.number-index (slice_index_or c.args.numbers.now c.loop-number.number-index 0) c.args.parts.now c.loop-number.parts c.loop-number-test.true refl c.requires.set c.loop-number.invariant.committed)) among) in
+    let inside = c.requires.inside (slice_index_or c.args.numbers.now c.loop-number.number-index 0 - 1) (subst (λ m. is_among c.args.numbers.now m ≡ true) (sym (back_again (g.P.Participant.phase c.args.position) (g.P.Participant.phase (c.args.position + 1)) c.args.event.now c.args.position c.args.numbers.now c.loop-number.number-index (slice_index_or c.args.numbers.now c.loop-number.number-index 0) c.args.query_states.now c.loop-number.query_states c.loop-number-test.true refl c.requires.set c.loop-number.invariant.committed)) among) in
     omega arith
 
 pub loop-number-preserved : goal.loop-number-preserved
 loop-number-preserved g c = record {
-  committed = committed_next (g.P.Keeps.phase c.args.position) (g.P.Keeps.phase (c.args.position + 1)) c.args.event.now c.args.position c.args.numbers.now c.loop-number.number-index (slice_index_or c.args.numbers.now c.loop-number.number-index 0) c.args.parts.now c.loop-number.parts c.loop-number-test.true refl c.requires.set c.loop-number.invariant.committed _ c.commit_one.new.part c.commit_one.ensures.taken;
-  looked = looked_next g.P.Keeps.phase c.args.numbers.now c.loop-number.number-index (slice_index_or c.args.numbers.now c.loop-number.number-index 0) c.args.awake.now c.loop-number.awake c.commit_one.new.awake c.loop-number.parts c.commit_one.new.part c.loop-number-test.true refl
-      (positive (g.P.Keeps.phase c.args.position) (g.P.Keeps.phase (c.args.position + 1)) c.args.event.now c.args.position c.args.numbers.now c.loop-number.number-index (slice_index_or c.args.numbers.now c.loop-number.number-index 0) c.args.parts.now c.loop-number.parts c.loop-number-test.true refl c.requires.set c.loop-number.invariant.committed)
+  committed = committed_next (g.P.Participant.phase c.args.position) (g.P.Participant.phase (c.args.position + 1)) c.args.event.now c.args.position c.args.numbers.now c.loop-number.number-index (slice_index_or c.args.numbers.now c.loop-number.number-index 0) c.args.query_states.now c.loop-number.query_states c.loop-number-test.true refl c.requires.set c.loop-number.invariant.committed _ c.commit_one.new.query_state c.commit_one.ensures.taken;
+  looked = looked_next g.P.Participant.phase c.args.numbers.now c.loop-number.number-index (slice_index_or c.args.numbers.now c.loop-number.number-index 0) c.args.active_queries.now c.loop-number.active_queries c.commit_one.new.active_queries c.loop-number.query_states c.commit_one.new.query_state c.loop-number-test.true refl
+      (positive (g.P.Participant.phase c.args.position) (g.P.Participant.phase (c.args.position + 1)) c.args.event.now c.args.position c.args.numbers.now c.loop-number.number-index (slice_index_or c.args.numbers.now c.loop-number.number-index 0) c.args.query_states.now c.loop-number.query_states c.loop-number-test.true refl c.requires.set c.loop-number.invariant.committed)
       c.commit_one.ensures.rest c.commit_one.ensures.others c.commit_one.ensures.sets c.loop-number.invariant.looked;
 }
 
 pub returns-clause-taken : goal.returns-clause-taken
 returns-clause-taken g c =
-    committed_all (g.P.Keeps.phase c.args.position) (g.P.Keeps.phase (c.args.position + 1)) c.args.event.now c.args.position c.args.numbers.now c.args.parts.now c.loop-number.parts c.requires.set
-    (subst (λ ns. HasCommitted (g.P.Keeps.phase c.args.position) (g.P.Keeps.phase (c.args.position + 1)) c.args.event.now c.args.position ns c.args.parts.now c.loop-number.parts) (take_all c.loop-number.number-index c.args.numbers.now c.loop-number-test.false) c.loop-number.invariant.committed)
+    committed_all (g.P.Participant.phase c.args.position) (g.P.Participant.phase (c.args.position + 1)) c.args.event.now c.args.position c.args.numbers.now c.args.query_states.now c.loop-number.query_states c.requires.set
+    (subst (λ ns. HasCommitted (g.P.Participant.phase c.args.position) (g.P.Participant.phase (c.args.position + 1)) c.args.event.now c.args.position ns c.args.query_states.now c.loop-number.query_states) (take_all c.loop-number.number-index c.args.numbers.now c.loop-number-test.false) c.loop-number.invariant.committed)
 
 pub returns-clause-answering : goal.returns-clause-answering
 returns-clause-answering g c =
-    may_answer (g.P.Keeps.phase c.args.position) (g.P.Keeps.phase (c.args.position + 1)) c.args.event.now c.args.position c.args.numbers.now c.args.parts.now c.loop-number.parts c.requires.set
-    (subst (λ ns. HasCommitted (g.P.Keeps.phase c.args.position) (g.P.Keeps.phase (c.args.position + 1)) c.args.event.now c.args.position ns c.args.parts.now c.loop-number.parts) (take_all c.loop-number.number-index c.args.numbers.now c.loop-number-test.false) c.loop-number.invariant.committed)
+    may_answer (g.P.Participant.phase c.args.position) (g.P.Participant.phase (c.args.position + 1)) c.args.event.now c.args.position c.args.numbers.now c.args.query_states.now c.loop-number.query_states c.requires.set
+    (subst (λ ns. HasCommitted (g.P.Participant.phase c.args.position) (g.P.Participant.phase (c.args.position + 1)) c.args.event.now c.args.position ns c.args.query_states.now c.loop-number.query_states) (take_all c.loop-number.number-index c.args.numbers.now c.loop-number-test.false) c.loop-number.invariant.committed)
 
 pub overflow_sub-k : goal.overflow_sub-k
-overflow_sub-k g c = positive (g.P.Keeps.phase c.args.position) (g.P.Keeps.phase (c.args.position + 1)) c.args.event.now c.args.position c.args.numbers.now c.loop-number.number-index (slice_index_or c.args.numbers.now c.loop-number.number-index 0) c.args.parts.now c.loop-number.parts c.loop-number-test.true refl c.requires.set c.loop-number.invariant.committed
+overflow_sub-k g c = positive (g.P.Participant.phase c.args.position) (g.P.Participant.phase (c.args.position + 1)) c.args.event.now c.args.position c.args.numbers.now c.loop-number.number-index (slice_index_or c.args.numbers.now c.loop-number.number-index 0) c.args.query_states.now c.loop-number.query_states c.loop-number-test.true refl c.requires.set c.loop-number.invariant.committed
 
-pub bounds-parts-k : goal.bounds-parts-k
-bounds-parts-k g c = next_within (g.P.Keeps.phase c.args.position) (g.P.Keeps.phase (c.args.position + 1)) c.args.event.now c.args.position c.args.numbers.now c.loop-number.number-index (slice_index_or c.args.numbers.now c.loop-number.number-index 0) c.args.parts.now c.loop-number.parts c.loop-number-test.true refl c.requires.set c.loop-number.invariant.committed
+pub bounds-query_states-k : goal.bounds-query_states-k
+bounds-query_states-k g c = next_within (g.P.Participant.phase c.args.position) (g.P.Participant.phase (c.args.position + 1)) c.args.event.now c.args.position c.args.numbers.now c.loop-number.number-index (slice_index_or c.args.numbers.now c.loop-number.number-index 0) c.args.query_states.now c.loop-number.query_states c.loop-number-test.true refl c.requires.set c.loop-number.invariant.committed
 
-pub offset_bounds-parts-k : goal.offset_bounds-parts-k
-offset_bounds-parts-k g c =
-    let inside : slice_index_or c.args.numbers.now c.loop-number.number-index 0 - 1 < length c.loop-number.parts = next_within (g.P.Keeps.phase c.args.position) (g.P.Keeps.phase (c.args.position + 1)) c.args.event.now c.args.position c.args.numbers.now c.loop-number.number-index (slice_index_or c.args.numbers.now c.loop-number.number-index 0) c.args.parts.now c.loop-number.parts c.loop-number-test.true refl c.requires.set c.loop-number.invariant.committed in
+pub offset_bounds-query_states-k : goal.offset_bounds-query_states-k
+offset_bounds-query_states-k g c =
+    let inside : slice_index_or c.args.numbers.now c.loop-number.number-index 0 - 1 < length c.loop-number.query_states = next_within (g.P.Participant.phase c.args.position) (g.P.Participant.phase (c.args.position + 1)) c.args.event.now c.args.position c.args.numbers.now c.loop-number.number-index (slice_index_or c.args.numbers.now c.loop-number.number-index 0) c.args.query_states.now c.loop-number.query_states c.loop-number-test.true refl c.requires.set c.loop-number.invariant.committed in
     search rules
 
 pub returns-clause-others : goal.returns-clause-others
 returns-clause-others g c =
-    (subst (λ ns. HasCommitted (g.P.Keeps.phase c.args.position) (g.P.Keeps.phase (c.args.position + 1)) c.args.event.now c.args.position ns c.args.parts.now c.loop-number.parts) (take_all c.loop-number.number-index c.args.numbers.now c.loop-number-test.false) c.loop-number.invariant.committed).left
+    (subst (λ ns. HasCommitted (g.P.Participant.phase c.args.position) (g.P.Participant.phase (c.args.position + 1)) c.args.event.now c.args.position ns c.args.query_states.now c.loop-number.query_states) (take_all c.loop-number.number-index c.args.numbers.now c.loop-number-test.false) c.loop-number.invariant.committed).left
 
 pub returns-clause-rest : goal.returns-clause-rest
-returns-clause-rest g c = (subst (λ ns. AreLooked g.P.Keeps.phase ns c.args.awake.now c.loop-number.awake c.loop-number.parts) (take_all c.loop-number.number-index c.args.numbers.now c.loop-number-test.false) c.loop-number.invariant.looked).rest
+returns-clause-rest g c = (subst (λ ns. AreLooked g.P.Participant.phase ns c.args.active_queries.now c.loop-number.active_queries c.loop-number.query_states) (take_all c.loop-number.number-index c.args.numbers.now c.loop-number-test.false) c.loop-number.invariant.looked).rest
 
-pub returns-clause-awake : goal.returns-clause-awake
-returns-clause-awake g c = (subst (λ ns. AreLooked g.P.Keeps.phase ns c.args.awake.now c.loop-number.awake c.loop-number.parts) (take_all c.loop-number.number-index c.args.numbers.now c.loop-number-test.false) c.loop-number.invariant.looked).others
+pub returns-clause-active_queries : goal.returns-clause-active_queries
+returns-clause-active_queries g c = (subst (λ ns. AreLooked g.P.Participant.phase ns c.args.active_queries.now c.loop-number.active_queries c.loop-number.query_states) (take_all c.loop-number.number-index c.args.numbers.now c.loop-number-test.false) c.loop-number.invariant.looked).others
 
 pub returns-clause-sets : goal.returns-clause-sets
 returns-clause-sets g c = c.loop-number.invariant.looked.room

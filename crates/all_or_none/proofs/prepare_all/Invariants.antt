@@ -8,12 +8,12 @@ use Rattle.all_or_none.proofs.prepare_all.Given as goal
 
 abbrev pub invariant-loop-k : goal.invariant-loop-k
 invariant-loop-k g l = record {
-  low : l.from ≤ length l.fn.parts;
-  gone : HaveGone g.P.Keeps.phase l.event l.position l.marked l.from l.touched.items l.fn.parts l.parts;
-  unchanged : AreUnchanged g.P.Keeps.phase l.touched.items l.fn.parts l.parts;
-  steps : l.steps ≤ l.fn.steps + sum_by (λ p. ready_bound (g.P.Keeps.phase l.position p)) (take l.from l.parts);
-  within : (events : List Event) (most : List ℕ) → length events ≡ l.position → AreBounded events l.event (map (g.P.Keeps.phase l.position) l.fn.parts) most → l.steps ≤ l.fn.steps + sum_by update_bound (take l.from most);
+  low : l.from ≤ length l.fn.query_states;
+  gone : HaveGone g.P.Participant.phase l.event l.position l.marked l.from l.touched.items l.fn.query_states l.query_states;
+  unchanged : AreUnchanged g.P.Participant.phase l.touched.items l.fn.query_states l.query_states;
+  steps : l.steps ≤ l.fn.steps + sum_by (λ p. ready_bound (g.P.Participant.phase l.position p)) (take l.from l.query_states);
+  within : (events : List Event) (most : List ℕ) → length events ≡ l.position → AreBounded events l.event (map (g.P.Participant.phase l.position) l.fn.query_states) most → l.steps ≤ l.fn.steps + sum_by update_bound (take l.from most);
 }
 
 abbrev pub decreases-loop-k : goal.decreases-loop-k
-decreases-loop-k g l = length l.parts - l.from
+decreases-loop-k g l = length l.query_states - l.from

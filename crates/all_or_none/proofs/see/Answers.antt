@@ -5,31 +5,31 @@ use Rattle.all_or_none.proofs.Marked.{has_within, known_after, left_after, left_
 use Rattle.all_or_none.proofs.see.Goals as goal
 
 pub returns-in-Ok-clause-stands : goal.returns-in-Ok-clause-stands
-returns-in-Ok-clause-stands g c events len time stands = stands_after (g.P.Keeps.phase c.args.position) (g.P.Keeps.phase (c.args.position + 1)) events c.args.event.now c.args.position c.args.parts.now c.prepare_all.new.parts c.commit_all.new.parts len c.in-Ok.ensures.kept c.commit_all.ensures.taken time stands
+returns-in-Ok-clause-stands g c events len time stands = stands_after (g.P.Participant.phase c.args.position) (g.P.Participant.phase (c.args.position + 1)) events c.args.event.now c.args.position c.args.query_states.now c.prepare_all.new.query_states c.commit_all.new.query_states len c.in-Ok.ensures.kept c.commit_all.ensures.taken time stands
 
 pub returns-in-Ok-clause-idle : goal.returns-in-Ok-clause-idle
-returns-in-Ok-clause-idle g c = idle_after (g.P.Keeps.phase c.args.position) (g.P.Keeps.phase (c.args.position + 1)) c.args.event.now c.args.position c.prepare_all.new.parts c.commit_all.new.parts c.commit_all.ensures.taken
+returns-in-Ok-clause-idle g c = idle_after (g.P.Participant.phase c.args.position) (g.P.Participant.phase (c.args.position + 1)) c.args.event.now c.args.position c.prepare_all.new.query_states c.commit_all.new.query_states c.commit_all.ensures.taken
 
 pub returns-in-Ok-clause-quiet : goal.returns-in-Ok-clause-quiet
-returns-in-Ok-clause-quiet g c = quiet_after (g.P.Keeps.phase c.args.position) (g.P.Keeps.phase (c.args.position + 1)) c.args.event.now c.args.position c.prepare_all.new.parts c.commit_all.new.parts c.commit_all.ensures.taken
+returns-in-Ok-clause-quiet g c = quiet_after (g.P.Participant.phase c.args.position) (g.P.Participant.phase (c.args.position + 1)) c.args.event.now c.args.position c.prepare_all.new.query_states c.commit_all.new.query_states c.commit_all.ensures.taken
 
 pub returns-in-Err-clause-unchanged : goal.returns-in-Err-clause-unchanged
-returns-in-Err-clause-unchanged g c = unchanged_after g.P.Keeps.phase c.args.position c.args.marked.now c.args.parts.now c.prepare_all.new.parts c.take_back_all.new.parts c.requires.idle c.prepare_all.ensures.kept c.prepare_all.ensures.others c.take_back_all.ensures
+returns-in-Err-clause-unchanged g c = unchanged_after g.P.Participant.phase c.args.position c.args.marked.now c.args.query_states.now c.prepare_all.new.query_states c.take_back_all.new.query_states c.requires.idle c.prepare_all.ensures.kept c.prepare_all.ensures.others c.take_back_all.ensures
 
 pub returns-in-Ok-clause-grown : goal.returns-in-Ok-clause-grown
-returns-in-Ok-clause-grown g c = grown_after (g.P.Keeps.phase c.args.position) (g.P.Keeps.phase (c.args.position + 1)) c.args.event.now c.args.position c.args.parts.now c.prepare_all.new.parts c.commit_all.new.parts c.in-Ok.ensures.kept c.commit_all.ensures.taken
+returns-in-Ok-clause-grown g c = grown_after (g.P.Participant.phase c.args.position) (g.P.Participant.phase (c.args.position + 1)) c.args.event.now c.args.position c.args.query_states.now c.prepare_all.new.query_states c.commit_all.new.query_states c.in-Ok.ensures.kept c.commit_all.ensures.taken
 
 pub returns-in-Ok-clause-steps : goal.returns-in-Ok-clause-steps
 returns-in-Ok-clause-steps g c =
     let own = c.in-Ok.ensures.steps in
-    let same = bounds_after (g.P.Keeps.phase c.args.position) (g.P.Keeps.phase (c.args.position + 1)) c.args.event.now c.args.position c.prepare_all.new.parts c.commit_all.new.parts c.commit_all.ensures.taken in
+    let same = bounds_after (g.P.Participant.phase c.args.position) (g.P.Participant.phase (c.args.position + 1)) c.args.event.now c.args.position c.prepare_all.new.query_states c.commit_all.new.query_states c.commit_all.ensures.taken in
     omega arith
 
 pub returns-in-Ok-clause-answering : goal.returns-in-Ok-clause-answering
-returns-in-Ok-clause-answering g c = subst (λ ns. MayAnswer ns (map (g.P.Keeps.phase (c.args.position + 1)) c.commit_all.new.parts)) c.as_slice.ensures.value c.commit_all.ensures.answering
+returns-in-Ok-clause-answering g c = subst (λ ns. MayAnswer ns (map (g.P.Participant.phase (c.args.position + 1)) c.commit_all.new.query_states)) c.as_slice.ensures.value c.commit_all.ensures.answering
 
 pub commit_all-requires-clause-set : goal.commit_all-requires-clause-set
-commit_all-requires-clause-set g c = subst (λ ns. AreSet (g.P.Keeps.phase c.args.position) (g.P.Keeps.phase (c.args.position + 1)) c.args.event.now c.args.position (length c.prepare_all.new.parts) ns c.prepare_all.new.parts) (sym c.as_slice.ensures.value) c.in-Ok.ensures.set
+commit_all-requires-clause-set g c = subst (λ ns. AreSet (g.P.Participant.phase c.args.position) (g.P.Participant.phase (c.args.position + 1)) c.args.event.now c.args.position (length c.prepare_all.new.query_states) ns c.prepare_all.new.query_states) (sym c.as_slice.ensures.value) c.in-Ok.ensures.set
 
 pub commit_all-requires-clause-inside : goal.commit_all-requires-clause-inside
 commit_all-requires-clause-inside g c k among =
@@ -39,17 +39,17 @@ commit_all-requires-clause-inside g c k among =
     omega arith
 
 pub prepare_all-requires-clause-left : goal.prepare_all-requires-clause-left
-prepare_all-requires-clause-left g c = left_more g.P.Keeps.phase c.args.position c.args.awake.now c.args.marked.now c.args.parts.now c.requires.awake c.requires.left
+prepare_all-requires-clause-left g c = left_more g.P.Participant.phase c.args.position c.args.active_queries.now c.args.marked.now c.args.query_states.now c.requires.active_queries c.requires.left
 
 pub returns-in-Ok-clause-left : goal.returns-in-Ok-clause-left
 returns-in-Ok-clause-left g c =
-    left_after g.P.Keeps.phase c.args.position c.args.awake.now c.commit_all.new.awake c.as_slice.result.now c.args.parts.now c.prepare_all.new.parts c.commit_all.new.parts c.prepare_all.auto.parts
-    (known_after g.P.Keeps.phase c.args.event.now c.args.position c.args.parts.now c.prepare_all.new.parts c.commit_all.new.parts c.in-Ok.ensures.kept c.commit_all.ensures.taken c.requires.left.known)
+    left_after g.P.Participant.phase c.args.position c.args.active_queries.now c.commit_all.new.active_queries c.as_slice.result.now c.args.query_states.now c.prepare_all.new.query_states c.commit_all.new.query_states c.prepare_all.auto.query_states
+    (known_after g.P.Participant.phase c.args.event.now c.args.position c.args.query_states.now c.prepare_all.new.query_states c.commit_all.new.query_states c.in-Ok.ensures.kept c.commit_all.ensures.taken c.requires.left.known)
     c.requires.left
-    (subst (λ ns. AreUnchanged g.P.Keeps.phase ns c.args.parts.now c.prepare_all.new.parts) (sym c.as_slice.ensures.value) c.in-Ok.ensures.left)
-    c.commit_all.ensures.others c.commit_all.ensures.rest c.commit_all.ensures.awake
+    (subst (λ ns. AreUnchanged g.P.Participant.phase ns c.args.query_states.now c.prepare_all.new.query_states) (sym c.as_slice.ensures.value) c.in-Ok.ensures.left)
+    c.commit_all.ensures.others c.commit_all.ensures.rest c.commit_all.ensures.active_queries
 
 pub returns-in-Err-clause-still_left : goal.returns-in-Err-clause-still_left
 returns-in-Err-clause-still_left g c =
-    let same = unchanged_after g.P.Keeps.phase c.args.position c.args.marked.now c.args.parts.now c.prepare_all.new.parts c.take_back_all.new.parts c.requires.idle c.prepare_all.ensures.kept c.prepare_all.ensures.others c.take_back_all.ensures in
-    left_again g.P.Keeps.phase c.args.position c.args.marked.now c.args.awake.now c.unite.new.self c.args.parts.now c.take_back_all.new.parts same (λ k unmarked. c.take_back_all.ensures.others k unmarked ∙ c.prepare_all.ensures.others k unmarked) c.requires.left c.unite.ensures.members
+    let same = unchanged_after g.P.Participant.phase c.args.position c.args.marked.now c.args.query_states.now c.prepare_all.new.query_states c.take_back_all.new.query_states c.requires.idle c.prepare_all.ensures.kept c.prepare_all.ensures.others c.take_back_all.ensures in
+    left_again g.P.Participant.phase c.args.position c.args.marked.now c.args.active_queries.now c.unite.new.self c.args.query_states.now c.take_back_all.new.query_states same (λ k unmarked. c.take_back_all.ensures.others k unmarked ∙ c.prepare_all.ensures.others k unmarked) c.requires.left c.unite.ensures.members

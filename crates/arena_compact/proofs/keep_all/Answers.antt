@@ -1,6 +1,6 @@
 use Rattle.std.proofs.Common.{◌++◌, [], map, get_or, arith, ◌∙◌}
 use Rattle.std.proofs.lemmas.Option.{slice_get-get_or}
-use Rattle.tecs_enumerate.specs.Rest.{id_of}
+use Rattle.tecs_enumerate.specs.Remaining.{id_of}
 use Rattle.arena_compact.specs.Roots.{key_roots, cursor_roots}
 use Rattle.arena_compact.proofs.Keeping.{marks_none}
 use Rattle.arena_compact.proofs.Rests.{fits_at}

@@ -1,7 +1,7 @@
 ghost use Rattle.std.specs.Prelude.{◌≡◌};
 
 use cel_terms::{Formula, Name, Query, Window};
-use cer_base::{Listed, Memory, OrMemory, Place, Text};
+use cer_base::{Listed, Location, Memory, OrMemory, Text};
 use cer_outside::sinks::MemSink;
 use cer_outside::sources::MemSource;
 use checkpoint_text::{History, Keep, MOST_POSITIONS, read_checkpoint};
@@ -30,7 +30,7 @@ pub fn two_types(alloc: Global) -> Result<Schema, OrMemory<SchemaFault>> {
 fn name(alloc: Global, text: &str) -> Result<Name, Memory> {
     Ok(Name {
         text: Text::copy_of(alloc, text)?,
-        place: Place { line: 1, col: 1 },
+        place: Location { line: 1, col: 1 },
     })
 }
 
@@ -46,7 +46,7 @@ fn query_in(alloc: Global, window: Window) -> Result<Query, Memory> {
         formula: Formula::Of(name(alloc, "A")?),
         partition: Listed::of(Vec::new(alloc)),
         window,
-        place: Place { line: 1, col: 1 },
+        place: Location { line: 1, col: 1 },
     })
 }
 

@@ -2,7 +2,7 @@
 
 ghost use Rattle.std.specs.Prelude.{◌≡◌, ◌<◌, [], IfOk};
 ghost use Rattle.query_engine.specs.Engine.{StandsFor, count_of};
-ghost use Rattle.reorder_gate.specs.Clocks.{clock_fits};
+ghost use Rattle.reorder_gate.specs.AttributeClock.{clock_fits};
 
 use answer_text::Order;
 use ceql_parser::read_queries;

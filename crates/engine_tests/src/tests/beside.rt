@@ -1,7 +1,7 @@
 //! The engine beside the definition, which `cel_plain` computes, over queries and events by chance.
 
 use super::generator::{DECLARATIONS, lines, query};
-use crate::rows::{RowFault, answers_after_each, engine_of, write_answer};
+use crate::rows::{CaseFault, answers_after_each, engine_of, write_answer};
 use cel_plain::answers::{ComplexEvent, answers};
 use cel_terms::Query;
 use ceql_parser::read_queries;
@@ -18,18 +18,18 @@ use stream_schema::{Event, Schema};
 const QUERIES: u64 = 200;
 
 /// The event of the line.
-fn event_of(alloc: Global, schema: &Schema, line: &[u8]) -> Result<Event, RowFault> {
+fn event_of(alloc: Global, schema: &Schema, line: &[u8]) -> Result<Event, CaseFault> {
     if line.contains(&b'\n') {
-        return Err(RowFault::Line);
+        return Err(CaseFault::Line);
     }
     match read_event(alloc, schema, line) {
         Ok(Some(event)) => Ok(event),
-        _ => Err(RowFault::Line),
+        _ => Err(CaseFault::Line),
     }
 }
 
 /// The events of the lines.
-fn events_of(alloc: Global, schema: &Schema, lines: &[u8]) -> Result<Vec<Event>, RowFault> {
+fn events_of(alloc: Global, schema: &Schema, lines: &[u8]) -> Result<Vec<Event>, CaseFault> {
     let mut events = Vec::new(alloc);
     for line in lines.split(|b| *b == b';') {
         events.push(event_of(alloc, schema, line)?)?;
@@ -38,7 +38,7 @@ fn events_of(alloc: Global, schema: &Schema, lines: &[u8]) -> Result<Vec<Event>,
 }
 
 /// Writes the answer: where it starts, and its positions, greatest first.
-fn write_one(alloc: Global, answer: &ComplexEvent, text: &mut String) -> Result<(), RowFault> {
+fn write_one(alloc: Global, answer: &ComplexEvent, text: &mut String) -> Result<(), CaseFault> {
     let mut marks = Vec::from_slice(alloc, answer.marks())?;
     marks.as_mut_slice().reverse();
     write_answer(answer.start(), marks.as_slice(), text)
@@ -52,7 +52,7 @@ fn write_defined(
     events: &[Event],
     end: u64,
     text: &mut String,
-) -> Result<(), RowFault> {
+) -> Result<(), CaseFault> {
     let found = answers(alloc, schema, query, events, end)?;
     for answer in &found {
         write_one(alloc, answer, text)?;
@@ -67,7 +67,7 @@ fn write_each(
     queries: &[Query],
     events: &[Event],
     text: &mut String,
-) -> Result<(), RowFault> {
+) -> Result<(), CaseFault> {
     for end in 0..events.len() {
         for query in queries {
             write_defined(alloc, schema, query, events, end as u64, text)?;
@@ -83,7 +83,7 @@ fn defined_under(
     schema: &Schema,
     queries: &[Query],
     lines: &[u8],
-) -> Result<String, RowFault> {
+) -> Result<String, CaseFault> {
     let events = events_of(alloc, schema, lines)?;
     let mut text = String::new(alloc);
     write_each(alloc, schema, queries, events.as_slice(), &mut text)?;
@@ -91,10 +91,10 @@ fn defined_under(
 }
 
 /// What the definition finds after each line, under the declarations of the text and for its queries.
-fn defined_after_each(alloc: Global, text: &str, lines: &[u8]) -> Result<String, RowFault> {
+fn defined_after_each(alloc: Global, text: &str, lines: &[u8]) -> Result<String, CaseFault> {
     match read_queries(alloc, text.as_bytes()) {
         Ok(accepted) => defined_under(alloc, &accepted.schema, accepted.queries.as_slice(), lines),
-        Err(_) => Err(RowFault::Query),
+        Err(_) => Err(CaseFault::Query),
     }
 }
 
@@ -124,20 +124,20 @@ fn found_after_each(
     text: &str,
     lines: &[u8],
     runtime: &HostRuntime,
-) -> Result<String, RowFault> {
+) -> Result<String, CaseFault> {
     let mut engine = engine_of(alloc, text)?;
     answers_after_each::<Brand>(alloc, &mut engine, lines, Opening::new(runtime))
 }
 
 /// A query over some lines.
 #[derive(Drop)]
-struct Row {
+struct Case {
     query: String,
     lines: String,
 }
 
-fn next_row(alloc: Global, random: &mut Pcg32) -> Result<Row, AllocError> {
-    Ok(Row {
+fn next_row(alloc: Global, random: &mut Pcg32) -> Result<Case, AllocError> {
+    Ok(Case {
         query: query(alloc, random)?,
         lines: lines(alloc, random)?,
     })
@@ -148,12 +148,12 @@ fn sorted_found(
     text: &str,
     lines: &[u8],
     runtime: &HostRuntime,
-) -> Result<String, RowFault> {
+) -> Result<String, CaseFault> {
     let found = found_after_each(alloc, text, lines, runtime)?;
     Ok(sorted(alloc, found.as_str())?)
 }
 
-fn sorted_defined(alloc: Global, text: &str, lines: &[u8]) -> Result<String, RowFault> {
+fn sorted_defined(alloc: Global, text: &str, lines: &[u8]) -> Result<String, CaseFault> {
     let defined = defined_after_each(alloc, text, lines)?;
     Ok(sorted(alloc, defined.as_str())?)
 }
@@ -172,7 +172,7 @@ fn count_answers(answers: &str) -> usize {
 fn row_holds(
     rt: &impl Abort,
     alloc: Global,
-    row: &Row,
+    row: &Case,
     runtime: &HostRuntime,
 ) -> Result<usize, Fail> {
     let text = format!(in alloc; "{DECLARATIONS}{}", row.query)?;

@@ -1,7 +1,7 @@
 //! Compactions beside what was worked out by hand.
 
 use crate::held::{held_over_a_compaction, most_after_compactions};
-use crate::rows::{RowFault, engine_of};
+use crate::rows::{CaseFault, engine_of};
 use crate::tests::engine_after;
 use cer_base::steps::Opening;
 use query_engine::Engine;
@@ -19,12 +19,12 @@ const FIRST: &[u8] = b"A,1;A,2;A,3";
 
 const NEXT: &[u8] = b"A,4";
 
-fn held(alloc: Global, engine: &mut Engine, runtime: &HostRuntime) -> Result<String, RowFault> {
+fn held(alloc: Global, engine: &mut Engine, runtime: &HostRuntime) -> Result<String, CaseFault> {
     held_over_a_compaction::<Brand>(alloc, engine, FIRST, NEXT, Opening::new(runtime))
 }
 
 /// What a cursor gives of the third event, of which it gave one answer before the compaction.
-fn held_answers(alloc: Global, runtime: &HostRuntime) -> Result<String, RowFault> {
+fn held_answers(alloc: Global, runtime: &HostRuntime) -> Result<String, CaseFault> {
     let mut engine = engine_of(alloc, TEXT)?;
     held(alloc, &mut engine, runtime)
 }
@@ -41,12 +41,12 @@ fn a_cursor_gives_the_same_over_a_compaction_that_holds_it(rt: HostRuntime) -> R
 
 const LINE: &[u8] = b"A,1";
 
-fn most(alloc: Global, engine: &mut Engine, runtime: &HostRuntime) -> Result<u64, RowFault> {
+fn most(alloc: Global, engine: &mut Engine, runtime: &HostRuntime) -> Result<u64, CaseFault> {
     most_after_compactions::<Brand>(alloc, engine, LINE, Opening::new(runtime))
 }
 
 /// The most nodes under a window of one event.
-fn most_in_a_window(alloc: Global, runtime: &HostRuntime) -> Result<u64, RowFault> {
+fn most_in_a_window(alloc: Global, runtime: &HostRuntime) -> Result<u64, CaseFault> {
     let mut engine = engine_after(alloc, TEXT, " WITHIN 1 EVENTS")?;
     most(alloc, &mut engine, runtime)
 }

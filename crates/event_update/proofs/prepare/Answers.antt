@@ -1,40 +1,40 @@
 use Rattle.std.proofs.Common.{arith, subst, sym, ◌∷◌}
 use Rattle.event_update.specs.ActiveLists.{keys}
-use Rattle.cea_determinise.specs.Det.{Table}
+use Rattle.cea_determinise.specs.LazyDfa.{Table}
 use Rattle.event_update.specs.Update.{Discovers}
-use Rattle.event_update.proofs.GivenBack.{discovers_none, states_more, pairs_more, classes_more, stay_so, back_so}
+use Rattle.event_update.proofs.GivenBack.{discovers_none, states_more, pairs_more, event_classes_more, stay_so, back_so}
 use Rattle.event_update.proofs.prepare.Goals as goal
 
 pub find_and_stage-requires-clause-can : goal.find_and_stage-requires-clause-can
 find_and_stage-requires-clause-can g c = record { store = record { well_formed = c.requires.well_formed; in_step = c.requires.in_step }; lists = c.requires.can }
 
 pub back-requires-clause-states : goal.back-requires-clause-states
-back-requires-clause-states g c = let more = states_more _ _ _ _ c.find_and_stage.ensures.within.det in let same = c.sizes-sizes.ensures.states in omega arith
+back-requires-clause-states g c = let more = states_more _ _ _ _ c.find_and_stage.ensures.within.lazy_dfa in let same = c.sizes-sizes.ensures.states in omega arith
 
 pub back-requires-clause-pairs : goal.back-requires-clause-pairs
-back-requires-clause-pairs g c = let more = pairs_more _ _ _ _ c.find_and_stage.ensures.within.det in let same = c.sizes-sizes.ensures.pairs in omega arith
+back-requires-clause-pairs g c = let more = pairs_more _ _ _ _ c.find_and_stage.ensures.within.lazy_dfa in let same = c.sizes-sizes.ensures.pairs in omega arith
 
-pub back-requires-clause-classes : goal.back-requires-clause-classes
-back-requires-clause-classes g c = let more = classes_more _ _ _ _ c.find_and_stage.ensures.within.det in let same = c.sizes-sizes.ensures.classes in omega arith
+pub back-requires-clause-event_classes : goal.back-requires-clause-event_classes
+back-requires-clause-event_classes g c = let more = event_classes_more _ _ _ _ c.find_and_stage.ensures.within.lazy_dfa in let same = c.sizes-sizes.ensures.event_classes in omega arith
 
 pub back-requires-clause-within : goal.back-requires-clause-within
-back-requires-clause-within g c = stay_so _ _ _ _ c.find_and_stage.ensures.within.det _ _ _ c.sizes-sizes.ensures.states c.sizes-sizes.ensures.pairs c.sizes-sizes.ensures.classes c.sizes-sizes.ensures.sound
+back-requires-clause-within g c = stay_so _ _ _ _ c.find_and_stage.ensures.within.lazy_dfa _ _ _ c.sizes-sizes.ensures.states c.sizes-sizes.ensures.pairs c.sizes-sizes.ensures.event_classes c.sizes-sizes.ensures.sound
 
 pub returns-in-Err-clause-refused : goal.returns-in-Err-clause-refused
-returns-in-Err-clause-refused g c = (c.in-Err.ensures.refused, back_so _ _ _ _ c.find_and_stage.ensures.within.det _ _ _ c.sizes-sizes.ensures.states c.sizes-sizes.ensures.pairs c.sizes-sizes.ensures.classes _ c.back.ensures)
+returns-in-Err-clause-refused g c = (c.in-Err.ensures.refused, back_so _ _ _ _ c.find_and_stage.ensures.within.lazy_dfa _ _ _ c.sizes-sizes.ensures.states c.sizes-sizes.ensures.pairs c.sizes-sizes.ensures.event_classes _ c.back.ensures)
 
-pub returns-in-Err-clause-det : goal.returns-in-Err-clause-det
-returns-in-Err-clause-det g c =
-    let t = c.args.det.now in
+pub returns-in-Err-clause-lazy_dfa : goal.returns-in-Err-clause-lazy_dfa
+returns-in-Err-clause-lazy_dfa g c =
+    let t = c.args.lazy_dfa.now in
     let ns = 0 ∷ keys c.args.active.now in
-    let same = back_so _ _ _ _ c.find_and_stage.ensures.within.det _ _ _ c.sizes-sizes.ensures.states c.sizes-sizes.ensures.pairs c.sizes-sizes.ensures.classes _ c.back.ensures in
+    let same = back_so _ _ _ _ c.find_and_stage.ensures.within.lazy_dfa _ _ _ c.sizes-sizes.ensures.states c.sizes-sizes.ensures.pairs c.sizes-sizes.ensures.event_classes _ c.back.ensures in
     subst (λ (u : Table). Discovers t ns c.args.bits.now u) (sym same) (discovers_none t ns c.args.bits.now)
 
 pub returns-in-Err-clause-refused_steps : goal.returns-in-Err-clause-refused_steps
-returns-in-Err-clause-refused_steps g c = record { found = c.find_and_stage.new.det; discovers = c.find_and_stage.ensures.within.det; sound = c.sizes-reached-in-Err.ensures.sound; distinct = c.found-found-in-Err.ensures.once; bounded = c.find_and_stage.ensures.within.steps }
+returns-in-Err-clause-refused_steps g c = record { found = c.find_and_stage.new.lazy_dfa; discovers = c.find_and_stage.ensures.within.lazy_dfa; sound = c.sizes-reached-in-Err.ensures.sound; distinct = c.found-found-in-Err.ensures.once; bounded = c.find_and_stage.ensures.within.steps }
 
 pub returns-in-Ok-clause-refused_steps : goal.returns-in-Ok-clause-refused_steps
-returns-in-Ok-clause-refused_steps g c = record { found = c.find_and_stage.new.det; discovers = c.find_and_stage.ensures.within.det; sound = c.sizes-reached.ensures.sound; distinct = c.found-found.ensures.once; bounded = c.find_and_stage.ensures.within.steps }
+returns-in-Ok-clause-refused_steps g c = record { found = c.find_and_stage.new.lazy_dfa; discovers = c.find_and_stage.ensures.within.lazy_dfa; sound = c.sizes-reached.ensures.sound; distinct = c.found-found.ensures.once; bounded = c.find_and_stage.ensures.within.steps }
 
 pub returns-in-Ok-clause-advanced : goal.returns-in-Ok-clause-advanced
 returns-in-Ok-clause-advanced g c = c.in-Ok.ensures.prepared.advanced
@@ -42,5 +42,5 @@ returns-in-Ok-clause-advanced g c = c.in-Ok.ensures.prepared.advanced
 pub returns-in-Ok-clause-stands : goal.returns-in-Ok-clause-stands
 returns-in-Ok-clause-stands g c = c.in-Ok.ensures.prepared.stands
 
-pub returns-in-Ok-clause-passed : goal.returns-in-Ok-clause-passed
-returns-in-Ok-clause-passed g c = c.in-Ok.ensures.prepared.passed
+pub returns-in-Ok-clause-no_op : goal.returns-in-Ok-clause-no_op
+returns-in-Ok-clause-no_op g c = c.in-Ok.ensures.prepared.no_op

@@ -1,6 +1,6 @@
 use Rattle.std.proofs.Common.{arith, ◌∷◌}
 use Rattle.event_update.specs.ActiveLists.{keys}
-use Rattle.cea_determinise.specs.Det.{class_at}
+use Rattle.cea_determinise.specs.LazyDfa.{event_class_at}
 use Rattle.event_update.proofs.GivenBack.{discovers_none}
 use Rattle.event_update.proofs.Placing.{if_ok}
 use Rattle.event_update.proofs.Prepares.{prepared_staged}
@@ -11,18 +11,18 @@ use Rattle.event_update.proofs.prepare_at.Goals as goal
 
 pub returns-in-Some-clause-prepared : goal.returns-in-Some-clause-prepared
 returns-in-Some-clause-prepared g c =
-    let t = c.args.det.now in
+    let t = c.args.lazy_dfa.now in
     let few = few_states t c.args.active.now.entries c.len-len.ensures.unique c.requires.can.lists.states in
-    if_both c.work_out.result _ _ _ (λ s staged go. prepared_staged t t c.args.class c.requires.class c.args.arrival.stamp c.args.arrival.low _ _ c.requires.can.store.well_formed c.args.active.now.entries s c.in-Some.row.now.successors.items (discovers_none t (0 ∷ keys c.args.active.now) (class_at t.classes c.args.class)) c.in-Some.ensures.known c.requires.can.lists few staged go) c.work_out.ensures.staged c.work_out.ensures.passed
+    if_both c.work_out.result _ _ _ (λ s staged go. prepared_staged t t c.args.event_class c.requires.event_class c.args.arrival.stamp c.args.arrival.low _ _ c.requires.can.store.well_formed c.args.active.now.entries s c.in-Some.row.now.successors.items (discovers_none t (0 ∷ keys c.args.active.now) (event_class_at t.event_classes c.args.event_class)) c.in-Some.ensures.cached c.requires.can.lists few staged go) c.work_out.ensures.staged c.work_out.ensures.no_op
 
 pub returns-in-Some-clause-within : goal.returns-in-Some-clause-within
 returns-in-Some-clause-within g c =
-    let t = c.args.det.now in
+    let t = c.args.lazy_dfa.now in
     let few = few_states t c.args.active.now.entries c.len-len.ensures.unique c.requires.can.lists.states in
     let one = c.recall.ensures.steps in
     let each = c.tick_times.ensures in
     let long = c.len-len.ensures.len in
-    built_within t t (class_at t.classes c.args.class) c.args.arrival.stamp c.args.active.now.entries (discovers_none t (0 ∷ keys c.args.active.now) (class_at t.classes c.args.class)) _ _ _ _ _ _ c.work_out.ensures.within c.requires.can.lists.narrow few (omega arith)
+    built_within t t (event_class_at t.event_classes c.args.event_class) c.args.arrival.stamp c.args.active.now.entries (discovers_none t (0 ∷ keys c.args.active.now) (event_class_at t.event_classes c.args.event_class)) _ _ _ _ _ _ c.work_out.ensures.within c.requires.can.lists.narrow few (omega arith)
 
 pub returns-in-Some-clause-counted : goal.returns-in-Some-clause-counted
 returns-in-Some-clause-counted g c =

@@ -1,6 +1,6 @@
 ghost use Rattle.std.specs.Prelude.{ℕ};
 ghost use Rattle.stream_schema.specs.declared.Event.{Event};
-ghost use Rattle.reorder_gate.specs.Laws.{SortingKeepsParts, ReleasedIsFinal};
+ghost use Rattle.reorder_gate.specs.ReleaseLaws.{SortingKeepsParts, ReleasedIsFinal};
 
 use crate::tests::same;
 use cer_base::{Listed, OrMemory, Text};

@@ -1,5 +1,5 @@
 ghost use Rattle.std.specs.Prelude.{◌≡◌, ◌<◌, ℕ, List, map, Some, IfOk};
-ghost use Rattle.event_reader.specs.Reading.{HasTold};
+ghost use Rattle.event_reader.specs.LineReaders.{HasTold};
 
 use crate::tests::events::answer;
 use crate::tests::same;

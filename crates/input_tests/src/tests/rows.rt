@@ -1,6 +1,6 @@
 use crate::tests::events::{event_words, five_types, push_values};
 use cer_base::{Listed, OrMemory, Text};
-use event_reader::Row;
+use event_reader::EventBuffer;
 use std::alloc::{AllocError, Global};
 use std::test::Fail;
 use stream_schema::{Attr, Event, Kind, Schema, SchemaFault};
@@ -37,7 +37,7 @@ fn words_of(
     alloc: Global,
     schema: &Schema,
     line: &[u8],
-    row: &mut Row,
+    row: &mut EventBuffer,
 ) -> Result<String, AllocError> {
     if line.contains(&b'\n') {
         return "line feed".to_string(alloc);
@@ -64,7 +64,7 @@ fn before_values(alloc: Global, word: String, event: &Event) -> Result<String, A
 fn first_wrong(
     alloc: Global,
     schema: &Schema,
-    row: &mut Row,
+    row: &mut EventBuffer,
     table: &str,
 ) -> Result<String, AllocError> {
     for entry in table.split('\n') {
@@ -83,7 +83,7 @@ fn read_wrong(alloc: Global, table: &str) -> Result<String, AllocError> {
     let Ok(schema) = seven_types(alloc) else {
         return "seven types".to_string(alloc);
     };
-    let mut row = Row::new(alloc);
+    let mut row = EventBuffer::new(alloc);
     first_wrong(alloc, &schema, &mut row, table)
 }
 
@@ -184,7 +184,7 @@ const TEXTS: &[(&[u8], &str)] = &[
 fn first_wrong_text(
     alloc: Global,
     schema: &Schema,
-    row: &mut Row,
+    row: &mut EventBuffer,
     table: &[(&[u8], &str)],
 ) -> Result<String, AllocError> {
     for &(line, wanted) in table {
@@ -200,7 +200,7 @@ fn texts_wrong(alloc: Global, table: &[(&[u8], &str)]) -> Result<String, AllocEr
     let Ok(schema) = seven_types(alloc) else {
         return "seven types".to_string(alloc);
     };
-    let mut row = Row::new(alloc);
+    let mut row = EventBuffer::new(alloc);
     first_wrong_text(alloc, &schema, &mut row, table)
 }
 

@@ -19,7 +19,7 @@ const USAGE: &str =
 /// that marks all, the lines of the checkpoint, those of the event file, the status, the lines of
 /// the output, and the note.
 #[derive(Clone, Copy)]
-struct Row<'a> {
+struct Case<'a> {
     words: &'a str,
     query: Option<&'a str>,
     formula: Option<&'a str>,
@@ -32,8 +32,8 @@ struct Row<'a> {
 
 /// The row of the line, whose cells are those of the columns. Where it has no such cell, the words
 /// run both files, the status is 0, and there are no lines.
-fn row_of<'a>(columns: &str, line: &'a str) -> Row<'a> {
-    let mut row = Row {
+fn row_of<'a>(columns: &str, line: &'a str) -> Case<'a> {
+    let mut row = Case {
         words: RUN,
         query: None,
         formula: None,
@@ -69,7 +69,7 @@ fn push_lines(text: &mut String, cell: &str) -> Result<(), AllocError> {
 }
 
 /// The query text, which begins with these lines.
-fn queries_of(alloc: Global, first: &str, row: Row<'_>) -> Result<String, AllocError> {
+fn queries_of(alloc: Global, first: &str, row: Case<'_>) -> Result<String, AllocError> {
     let mut text = first.to_string(alloc)?;
     if let Some(query) = row.query {
         push_lines(&mut text, query)?;
@@ -90,7 +90,7 @@ fn lines_of(alloc: Global, cell: Option<&str>) -> Result<String, AllocError> {
 }
 
 /// The status, a bar, the output, a bar, the note. An empty cell is no output, and no note.
-fn wanted_of(alloc: Global, row: Row<'_>) -> Result<String, AllocError> {
+fn wanted_of(alloc: Global, row: Case<'_>) -> Result<String, AllocError> {
     let mut text = format!(in alloc; "{}|", row.status)?;
     if !row.output.is_empty() {
         push_lines(&mut text, row.output)?;
@@ -107,7 +107,7 @@ fn wanted_of(alloc: Global, row: Row<'_>) -> Result<String, AllocError> {
 /// What the row's words answer.
 fn answers_of(
     alloc: Global,
-    row: Row<'_>,
+    row: Case<'_>,
     queries: &str,
     events: &str,
     runtime: &HostRuntime,

@@ -1,7 +1,7 @@
 //! Sets written down by hand, made node by node and listed again.
 
 use crate::listings::{join_of_two_is_listed, listing};
-use crate::part::Part;
+use crate::part::BuildStep;
 use cer_base::Memory;
 use cer_base::steps::Opening;
 use std::marker::Brand;
@@ -39,24 +39,24 @@ const LISTINGS: &[(&[usize], i128, &str)] = &[
 #[test]
 fn each_union_lists_its_members_and_shares_a_node(rt: HostRuntime) -> Result<(), Memory> {
     let parts = [
-        Part::Start(1, 10),
-        Part::Start(2, 20),
-        Part::Extend(0, 2),
-        Part::Extend(1, 2),
-        Part::Extend(1, 3),
-        Part::Extend(1, 4),
-        Part::Extend(3, 4),
+        BuildStep::Start(1, 10),
+        BuildStep::Start(2, 20),
+        BuildStep::Extend(0, 2),
+        BuildStep::Extend(1, 2),
+        BuildStep::Extend(1, 3),
+        BuildStep::Extend(1, 4),
+        BuildStep::Extend(3, 4),
         // 7: late 2, then early 2
-        Part::Join(3, 2),
+        BuildStep::Join(3, 2),
         // 8 to 12: neither is a union, the second is, the first is, both are, and the other way round
-        Part::Unite(4, 5),
-        Part::Unite(6, 7),
-        Part::Unite(7, 4),
-        Part::Unite(8, 7),
-        Part::Unite(7, 8),
+        BuildStep::Unite(4, 5),
+        BuildStep::Unite(6, 7),
+        BuildStep::Unite(7, 4),
+        BuildStep::Unite(8, 7),
+        BuildStep::Unite(7, 8),
         // 13 and 14: two unions that share 7
-        Part::Extend(9, 5),
-        Part::Extend(10, 6),
+        BuildStep::Extend(9, 5),
+        BuildStep::Extend(10, 6),
     ];
     for &(places, low, expected) in LISTINGS {
         let listed = listing::<Brand>(rt.alloc(), &parts, places, low, Opening::new(&rt))?;

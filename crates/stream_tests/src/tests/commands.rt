@@ -1,5 +1,5 @@
 use cer_base::{Listed, OrMemory, Text};
-use command_session::{Command, CommandFault, command_text, read_command};
+use command_session::{CommandFault, ScriptCommand, command_text, read_command};
 use std::alloc::{AllocError, Global};
 use std::test::Fail;
 use stream_schema::{Attr, Kind, Schema, SchemaFault};
@@ -16,19 +16,19 @@ fn one_type(alloc: Global) -> Result<Schema, OrMemory<SchemaFault>> {
     Ok(schema)
 }
 
-fn command_words(alloc: Global, command: &Command) -> Result<String, AllocError> {
+fn command_words(alloc: Global, command: &ScriptCommand) -> Result<String, AllocError> {
     match command {
-        Command::Event(event) => {
+        ScriptCommand::Event(event) => {
             format!(in alloc;
                 "event of {} with {}",
                 event.ty,
                 event.values.as_slice().len()
             )
         }
-        Command::OpenAt { query, cursor } => format!(in alloc; "{cursor} on {query}"),
-        Command::Pull { cursor, n } => format!(in alloc; "{n} from {cursor}"),
-        Command::Drop { cursor } => format!(in alloc; "without {cursor}"),
-        Command::Compact => "less".to_string(alloc),
+        ScriptCommand::OpenAt { query, cursor } => format!(in alloc; "{cursor} on {query}"),
+        ScriptCommand::Pull { cursor, n } => format!(in alloc; "{n} from {cursor}"),
+        ScriptCommand::Drop { cursor } => format!(in alloc; "without {cursor}"),
+        ScriptCommand::Compact => "less".to_string(alloc),
     }
 }
 

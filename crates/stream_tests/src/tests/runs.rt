@@ -8,8 +8,8 @@ use cer_base::steps::{Opening, Steps};
 use cer_base::{Memory, OrMemory};
 use cer_outside::Source;
 use cer_outside::sources::MemSource;
-use event_reader::{Lines, Row};
-use event_run::{RunFault, Taken, read_events, take_event};
+use event_reader::{EventBuffer, Lines};
+use event_run::{NextEvent, RunFault, read_events, take_event};
 use query_engine::Engine;
 use std::alloc::{AllocError, Global};
 use std::marker::Brand;
@@ -57,11 +57,11 @@ fn take_all<Q: Source, L: Ledger>(
     requires open { lines.old.closed ≡ false }
     requires counted { count_of engine.old + lines.old.room < 2 ^ 64 }
 {
-    let mut row = Row::new(alloc);
+    let mut row = EventBuffer::new(alloc);
     loop {
         match take_event(alloc, lines, &mut row, source, engine, steps) {
-            Ok(Taken::Event) => {}
-            Ok(Taken::End) => return Ok(()),
+            Ok(NextEvent::Event) => {}
+            Ok(NextEvent::End) => return Ok(()),
             Err(fault) => return Err(fault),
         }
     }

@@ -1,7 +1,7 @@
 -- What was found so far and what is still to be given are all that is wanted.
 use Rattle.std.proofs.Common.{◌≡◌, ◌+◌, ◌≤◌, ◌++◌, length}
 use Rattle.query_engine.specs.Engine.{Fits}
-use Rattle.answer_blocks.specs.Counted.{delays}
+use Rattle.answer_blocks.specs.RowSteps.{delays}
 use Rattle.answer_blocks.specs.Wanted.{to_give}
 use Rattle.answer_blocks.proofs.sorted.pull_all.Given as goal
 

@@ -1,11 +1,11 @@
 -- A block more.
 use Rattle.std.proofs.Common.{length, take, ◌≡◌, List, ℕ, ◌+◌, ◌-◌, ◌≤◌, ◌++◌, ◌∙◌, refl, sym, ap, subst, append_assoc, slice_index_or, arith}
 use Rattle.answer_text.specs.declared.Order.TheVariants.{Sorted}
-use Rattle.answer_text.specs.Rows.{lines_of}
+use Rattle.answer_text.specs.OutputRows.{lines_of}
 use Rattle.query_engine.proofs.Named.{among_at}
 use Rattle.query_engine.specs.Bounds.{for_each_query}
 use Rattle.answer_blocks.specs.Blocks.{HasBlock, HasBlocks}
-use Rattle.answer_blocks.specs.Counted.{row_delays, HasRows, HasRowsAt}
+use Rattle.answer_blocks.specs.RowSteps.{row_delays, HasRows, HasRowsAt}
 use Rattle.answer_blocks.proofs.Joined.{blocks_more, all_blocks}
 use Rattle.answer_blocks.proofs.Skipped.{done_to, IsNext, is_next, none_left, done_within, skip_blocks, skip_rows}
 use Rattle.std.proofs.lemmas.Result.{err_from_is_err_and}

@@ -1,12 +1,12 @@
 -- The blocks of the queries up to the last number stand after the text.
 use Rattle.std.proofs.Common.{◌≡◌, ◌+◌, ◌≤◌, ◌++◌, take}
 use Rattle.answer_text.specs.declared.Order.TheVariants.{Sorted}
-use Rattle.answer_text.specs.Rows.{lines_of}
+use Rattle.answer_text.specs.OutputRows.{lines_of}
 use Rattle.answer_text.specs.Texts.{StartsWith}
 use Rattle.query_engine.specs.Bounds.{for_each_query}
 use Rattle.query_engine.specs.Counts.{cursor_bound}
 use Rattle.answer_blocks.specs.Blocks.{HasBlocks}
-use Rattle.answer_blocks.specs.Counted.{row_delays, HasRowsAt}
+use Rattle.answer_blocks.specs.RowSteps.{row_delays, HasRowsAt}
 use Rattle.answer_blocks.proofs.Skipped.{done_to}
 use Rattle.answer_blocks.proofs.sorted.push_each.Given as goal
 

@@ -4,7 +4,7 @@ use Rattle.cel_terms.specs.Answers.{Answer}
 use Rattle.cer_outside.specs.Bytes.{TookAll}
 use Rattle.query_engine.specs.Engine.{Fits}
 use Rattle.answer_text.specs.Output.{line}
-use Rattle.answer_blocks.specs.Counted.{delays}
+use Rattle.answer_blocks.specs.RowSteps.{delays}
 use Rattle.answer_blocks.specs.Wanted.{to_give}
 use Rattle.answer_blocks.proofs.walk.write_answers.Given as goal
 

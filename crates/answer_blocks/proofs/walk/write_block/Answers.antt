@@ -3,7 +3,7 @@ use Rattle.std.proofs.Common.{ℕ, ◌+◌, ◌-◌, length, map, ap, refl, arit
 use Rattle.std.proofs.lemmas.List.Sorted.{IsPermutation-refl}
 use Rattle.std.proofs.lemmas.Result.{err_from_is_err_and}
 use Rattle.answer_text.specs.declared.Order.TheVariants.{Walk}
-use Rattle.answer_text.specs.Rows.{lines_of, row_at}
+use Rattle.answer_text.specs.OutputRows.{lines_of, row_at}
 use Rattle.query_engine.specs.Counts.{cursor_bound}
 use Rattle.answer_blocks.specs.Wanted.{to_give}
 use Rattle.answer_blocks.proofs.Blocks.{some_block_is}

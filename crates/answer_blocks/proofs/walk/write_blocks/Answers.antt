@@ -4,12 +4,12 @@ use Rattle.std.proofs.lemmas.Result.{err_from_is_err_and}
 use Rattle.cer_outside.specs.Bytes.{TookAll}
 use Rattle.answer_text.specs.declared.Order.TheVariants.{Walk}
 use Rattle.query_engine.specs.Counts.{cursor_bound, cursor_bounds}
-use Rattle.answer_text.specs.Rows.{lines_of}
+use Rattle.answer_text.specs.OutputRows.{lines_of}
 use Rattle.query_engine.proofs.Named.{among_at}
 use Rattle.query_engine.specs.Bounds.{for_each_query}
 use Rattle.answer_blocks.specs.Blocks.{HasBlock, HasBlocks}
-use Rattle.answer_blocks.specs.Counted.{row_delays, HasRows, HasRowsAt, WroteRows}
-use Rattle.answer_blocks.specs.Taken.{TookBy}
+use Rattle.answer_blocks.specs.RowSteps.{row_delays, HasRows, HasRowsAt, WroteRows}
+use Rattle.answer_blocks.specs.SinkBytes.{TookBy}
 use Rattle.answer_blocks.proofs.Counting.{rows_more, rows_cut, all_rows, one_block_more, one_block_failed, all_done, text_grows}
 use Rattle.answer_blocks.proofs.Joined.{blocks_more, blocks_cut, all_blocks}
 use Rattle.answer_blocks.proofs.Skipped.{done_to, IsNext, is_next, none_left, done_within, skip_blocks, skip_rows}

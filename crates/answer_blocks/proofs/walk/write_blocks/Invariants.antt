@@ -2,11 +2,11 @@
 use Rattle.std.proofs.Common.{◌≡◌, ◌+◌, ◌≤◌, take}
 use Rattle.cer_outside.specs.Bytes.{TookAll}
 use Rattle.answer_text.specs.declared.Order.TheVariants.{Walk}
-use Rattle.answer_text.specs.Rows.{lines_of}
+use Rattle.answer_text.specs.OutputRows.{lines_of}
 use Rattle.query_engine.specs.Bounds.{for_each_query}
 use Rattle.query_engine.specs.Counts.{cursor_bound}
 use Rattle.answer_blocks.specs.Blocks.{HasBlocks}
-use Rattle.answer_blocks.specs.Counted.{row_delays, HasRowsAt}
+use Rattle.answer_blocks.specs.RowSteps.{row_delays, HasRowsAt}
 use Rattle.answer_blocks.proofs.Skipped.{done_to}
 use Rattle.answer_blocks.proofs.walk.write_blocks.Given as goal
 

@@ -1,5 +1,5 @@
 -- The order is that on the start with the marks.
-use Rattle.answer_text.specs.Held.{answer_of}
+use Rattle.answer_text.specs.AnswerSpans.{answer_of}
 use Rattle.answer_text.proofs.Ordered.{is_less, is_equal, is_greater}
 use Rattle.answer_text.proofs.answer.order.Goals as goal
 

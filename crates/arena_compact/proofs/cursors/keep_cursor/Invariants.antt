@@ -1,6 +1,6 @@
 use Rattle.std.proofs.Common.{◌≡◌, ◌≤◌, ◌++◌, ℕ, ℤ, List, Option, length, map, take}
 use Rattle.cer_base.specs.declared.node.Node.{Node}
-use Rattle.tecs_enumerate.specs.Rest.{CursorState, Fits, id_of}
+use Rattle.tecs_enumerate.specs.Remaining.{CursorState, Fits, id_of}
 use Rattle.arena_compact.specs.Marks.{AreNodeMarks, needed_from}
 use Rattle.arena_compact.proofs.cursors.keep_cursor.Given as goal
 

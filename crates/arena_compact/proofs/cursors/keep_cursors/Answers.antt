@@ -1,6 +1,6 @@
 use Rattle.std.proofs.Common.{◌≡◌, ◌<◌, ◌++◌, All, length, take, ◌∙◌, arith}
 use Rattle.std.proofs.lemmas.List.{take_all, length-map}
-use Rattle.tecs_enumerate.specs.Rest.{CursorState, Fits, id_of}
+use Rattle.tecs_enumerate.specs.Remaining.{CursorState, Fits, id_of}
 use Rattle.std.specs.Prelude.{◌==◌, cond, map, []}
 use Rattle.arena_compact.specs.Roots.{stack_roots, cursor_roots}
 use Rattle.arena_compact.proofs.Readings.{mapped_read, all_read, roots_next}

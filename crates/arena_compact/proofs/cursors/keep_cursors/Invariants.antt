@@ -1,6 +1,6 @@
 use Rattle.std.proofs.Common.{◌≡◌, ◌≤◌, ◌++◌, ℕ, ℤ, List, Option, length, map, take, All}
 use Rattle.cer_base.specs.declared.node.Node.{Node}
-use Rattle.tecs_enumerate.specs.Rest.{CursorState, Fits}
+use Rattle.tecs_enumerate.specs.Remaining.{CursorState, Fits}
 use Rattle.arena_compact.specs.Marks.{AreNodeMarks}
 use Rattle.arena_compact.specs.Roots.{cursor_roots}
 use Rattle.arena_compact.proofs.cursors.keep_cursors.Given as goal

@@ -1,5 +1,5 @@
 use Rattle.std.proofs.Common.{◌≡◌, ◌≤◌, ℕ, List, Option, length, map}
-use Rattle.tecs_enumerate.specs.Rest.{CursorState, id_of, prefix_of}
+use Rattle.tecs_enumerate.specs.Remaining.{CursorState, id_of, prefix_of}
 use Rattle.arena_compact.proofs.Rests.{Turned}
 use Rattle.arena_compact.proofs.cursors.move_cursor.Given as goal
 

@@ -1,4 +1,4 @@
-use Rattle.cel_terms.specs.Laws.{stream_of}
+use Rattle.cel_terms.specs.MeaningLaws.{stream_of}
 use Rattle.cel_terms.proofs.Intervals.{lies}
 use Rattle.cel_terms.proofs.laws.intervals_span.Goals as goal
 

@@ -1,5 +1,5 @@
 use Rattle.cel_terms.specs.Meaning.{meaning}
-use Rattle.cel_terms.specs.Laws.{stream_of}
+use Rattle.cel_terms.specs.MeaningLaws.{stream_of}
 use Rattle.cel_terms.proofs.Operations.{unfolded, folded}
 use Rattle.cel_terms.proofs.laws.repetition_unfolds.Goals as goal
 

@@ -3,7 +3,7 @@ use Rattle.std.specs.Prelude.{codes}
 use Rattle.std.proofs.lemmas.Result.{err_from_is_err_and}
 use Rattle.ceql_grammar.specs.PartlyRead.{with_front}
 use Rattle.ceql_grammar.specs.WordsAndSigns.{is}
-use Rattle.ceql_grammar.specs.Reading.{attr, more_attrs, no_value}
+use Rattle.ceql_grammar.specs.RuleReaders.{attr, more_attrs, no_value}
 use Rattle.ceql_grammar.proofs.LoopExits.{exit, turn_fails, turn_goes_plain, turn_ends}
 use Rattle.ceql_grammar.proofs.LoopRules.{attrs_again}
 use Rattle.ceql_grammar.proofs.declarations.more_attrs.Goals as goal

@@ -1,6 +1,6 @@
 use Rattle.std.proofs.Common.{◌≡◌, ◌≤◌, length}
 use Rattle.ceql_grammar.specs.PartlyRead.{with_front}
-use Rattle.ceql_grammar.specs.Reading.{more_attrs}
+use Rattle.ceql_grammar.specs.RuleReaders.{more_attrs}
 use Rattle.ceql_grammar.proofs.declarations.more_attrs.Given as goal
 
 abbrev pub invariant-loop-later : goal.invariant-loop-later

@@ -1,6 +1,6 @@
 use Rattle.std.proofs.Common.{◌≡◌, ◌+◌, ◌*◌, ◌≤◌, length, map}
 use Rattle.ceql_grammar.specs.PartlyRead.{with_front}
-use Rattle.ceql_grammar.specs.Reading.{filter, more_filter_units, more_filter_conjunctions}
+use Rattle.ceql_grammar.specs.RuleReaders.{filter, more_filter_units, more_filter_conjunctions}
 use Rattle.ceql_grammar.specs.Trees.{filter_tree}
 use Rattle.ceql_grammar.proofs.filters.+filter.Given as goal
 

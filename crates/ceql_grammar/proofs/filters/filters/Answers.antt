@@ -2,7 +2,7 @@ use Rattle.std.proofs.Common.{ap, arith, map}
 use Rattle.std.specs.Prelude.{codes}
 use Rattle.std.proofs.lemmas.Result.{err_from_is_err_and}
 use Rattle.ceql_grammar.specs.WordsAndSigns.{is}
-use Rattle.ceql_grammar.specs.Reading.{filter, more_filters, no_value}
+use Rattle.ceql_grammar.specs.RuleReaders.{filter, more_filters, no_value}
 use Rattle.ceql_grammar.specs.Trees.{filter_tree}
 use Rattle.ceql_grammar.proofs.LoopExits.{exit, front_none, turn_fails, turn_goes, turn_ends}
 use Rattle.ceql_grammar.proofs.LoopRules.{filters_again}

@@ -1,6 +1,6 @@
 use Rattle.std.proofs.Common.{◌≡◌, ◌≤◌, length, map}
 use Rattle.ceql_grammar.specs.PartlyRead.{with_front}
-use Rattle.ceql_grammar.specs.Reading.{more_filters}
+use Rattle.ceql_grammar.specs.RuleReaders.{more_filters}
 use Rattle.ceql_grammar.specs.Trees.{filter_tree}
 use Rattle.ceql_grammar.proofs.filters.filters.Given as goal
 

@@ -4,7 +4,7 @@ use Rattle.std.proofs.lemmas.Result.{err_from_is_err_and}
 use Rattle.ceql_grammar.specs.Formulas.{is_link}
 use Rattle.ceql_grammar.specs.PartlyRead.{with_front}
 use Rattle.ceql_grammar.specs.WordsAndSigns.{is}
-use Rattle.ceql_grammar.specs.Reading.{chain_step, either_step, formula, formula_step, is_tight, more_chains, more_filters, more_links, no_value, post_step, parts_tree}
+use Rattle.ceql_grammar.specs.RuleReaders.{chain_step, either_step, formula, formula_step, is_tight, more_chains, more_filters, more_links, no_value, post_step, parts_tree}
 use Rattle.ceql_grammar.specs.RuleForms.{◌>>=◌, map_read}
 use Rattle.ceql_grammar.specs.Trees.{FormulaTree, filter_tree, formula_tree}
 use Rattle.ceql_grammar.specs.LinkViews.{link_view}

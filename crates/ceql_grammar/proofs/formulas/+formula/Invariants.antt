@@ -1,6 +1,6 @@
 use Rattle.std.proofs.Common.{◌≡◌, ◌+◌, ◌*◌, ◌≤◌, length, map}
 use Rattle.ceql_grammar.specs.PartlyRead.{with_front}
-use Rattle.ceql_grammar.specs.Reading.{formula, more_links, more_chains}
+use Rattle.ceql_grammar.specs.RuleReaders.{formula, more_links, more_chains}
 use Rattle.ceql_grammar.specs.Trees.{formula_tree}
 use Rattle.ceql_grammar.specs.LinkViews.{link_view}
 use Rattle.ceql_grammar.proofs.formulas.+formula.Given as goal

@@ -1,6 +1,6 @@
 use Rattle.std.proofs.Common.{sym, ◌∙◌, arith}
 use Rattle.std.proofs.lemmas.Result.{err_from_is_err_and}
-use Rattle.ceql_grammar.specs.Reading.{is_postfix, postfix, postfixes}
+use Rattle.ceql_grammar.specs.RuleReaders.{is_postfix, postfix, postfixes}
 use Rattle.ceql_grammar.proofs.LoopExits.{exit, front_none, step_fails, step_goes_plain, step_ends}
 use Rattle.ceql_grammar.proofs.LoopRules.{postfixes_again}
 use Rattle.ceql_grammar.proofs.formulas.postfixes.Goals as goal

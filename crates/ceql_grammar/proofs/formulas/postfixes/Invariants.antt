@@ -1,6 +1,6 @@
 use Rattle.std.proofs.Common.{◌≡◌, ◌≤◌, length}
 use Rattle.ceql_grammar.specs.PartlyRead.{with_front}
-use Rattle.ceql_grammar.specs.Reading.{postfixes}
+use Rattle.ceql_grammar.specs.RuleReaders.{postfixes}
 use Rattle.ceql_grammar.proofs.formulas.postfixes.Given as goal
 
 abbrev pub invariant-loop-alloc : goal.invariant-loop-alloc

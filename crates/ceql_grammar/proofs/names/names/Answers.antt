@@ -2,7 +2,7 @@ use Rattle.std.proofs.Common.{sym, ap, ◌∙◌, arith, Ok}
 use Rattle.std.specs.Prelude.{codes}
 use Rattle.std.proofs.lemmas.Result.{err_from_is_err_and}
 use Rattle.ceql_grammar.specs.WordsAndSigns.{is}
-use Rattle.ceql_grammar.specs.Reading.{name, names, more_names, no_value}
+use Rattle.ceql_grammar.specs.RuleReaders.{name, names, more_names, no_value}
 use Rattle.ceql_grammar.proofs.LoopExits.{exit, turn_fails, turn_goes_plain, turn_ends}
 use Rattle.ceql_grammar.proofs.LoopRules.{names_again}
 use Rattle.ceql_grammar.proofs.names.names.Goals as goal

@@ -1,6 +1,6 @@
 use Rattle.std.proofs.Common.{◌≡◌, ◌<◌, length}
 use Rattle.ceql_grammar.specs.PartlyRead.{with_front}
-use Rattle.ceql_grammar.specs.Reading.{more_names, names}
+use Rattle.ceql_grammar.specs.RuleReaders.{more_names, names}
 use Rattle.ceql_grammar.proofs.names.names.Given as goal
 
 abbrev pub invariant-loop-later : goal.invariant-loop-later

@@ -1,6 +1,6 @@
 use Rattle.std.proofs.Common.{◌∙◌, sym, subst, refl, map, []}
 use Rattle.ceql_grammar.specs.ReadResults.{StopsAs}
-use Rattle.ceql_grammar.specs.Reading.{text}
+use Rattle.ceql_grammar.specs.RuleReaders.{text}
 use Rattle.ceql_grammar.specs.Statements.{statement_tree}
 use Rattle.ceql_grammar.specs.Texts.{IsShallow, IsTooDeep}
 use Rattle.ceql_grammar.proofs.AnswerRules.{one_answer, found_deep, found_text, found_stray}

@@ -1,7 +1,7 @@
 use Rattle.std.proofs.Common.{sym, ap, ◌∙◌, length, map, Ok, []}
 use Rattle.std.proofs.lemmas.Bool.{eqb-true, eqb-false}
 use Rattle.std.proofs.lemmas.Result.{err_from_is_err_and}
-use Rattle.ceql_grammar.specs.Reading.{any_token, one_statement, text}
+use Rattle.ceql_grammar.specs.RuleReaders.{any_token, one_statement, text}
 use Rattle.ceql_grammar.specs.RuleForms.{starts}
 use Rattle.ceql_grammar.specs.Statements.{statement_tree}
 use Rattle.ceql_grammar.proofs.LoopExits.{all_exit, front_none, not_empty, all_read, step_fails, step_goes, step_ends}

@@ -1,6 +1,6 @@
 use Rattle.std.proofs.Common.{◌≡◌, map, length}
 use Rattle.ceql_grammar.specs.PartlyRead.{with_front}
-use Rattle.ceql_grammar.specs.Reading.{text}
+use Rattle.ceql_grammar.specs.RuleReaders.{text}
 use Rattle.ceql_grammar.specs.Statements.{statement_tree}
 use Rattle.ceql_grammar.proofs.parsing.text.Given as goal
 

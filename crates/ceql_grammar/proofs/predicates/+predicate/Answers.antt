@@ -2,10 +2,10 @@ use Rattle.std.proofs.Common.{refl, sym, ap, ◌∙◌, [], ◌∷◌, ◌++◌,
 use Rattle.std.specs.Prelude.{codes}
 use Rattle.std.proofs.lemmas.Result.{err_from_is_err_and}
 use Rattle.ceql_grammar.specs.Conditions.{any_pred}
-use Rattle.ceql_grammar.specs.Joined.{any_pred_of}
+use Rattle.ceql_grammar.specs.MemberLists.{any_pred_of}
 use Rattle.ceql_grammar.specs.PartlyRead.{with_front}
 use Rattle.ceql_grammar.specs.WordsAndSigns.{is}
-use Rattle.ceql_grammar.specs.Reading.{conjunction, more_conjunctions, more_units, pred, pred_step, unit, no_value}
+use Rattle.ceql_grammar.specs.RuleReaders.{conjunction, more_conjunctions, more_units, pred, pred_step, unit, no_value}
 use Rattle.ceql_grammar.specs.Trees.{pred_tree}
 use Rattle.ceql_grammar.proofs.LoopExits.{exit, fails_as, bind_fails, join_fails, join_goes, turn_fails, turn_goes, turn_ends}
 use Rattle.ceql_grammar.proofs.PredicateRules.{pred_is}

@@ -1,6 +1,6 @@
 use Rattle.std.proofs.Common.{◌≡◌, ◌+◌, ◌*◌, ◌≤◌, length, map}
 use Rattle.ceql_grammar.specs.PartlyRead.{with_front}
-use Rattle.ceql_grammar.specs.Reading.{pred, more_units, more_conjunctions}
+use Rattle.ceql_grammar.specs.RuleReaders.{pred, more_units, more_conjunctions}
 use Rattle.ceql_grammar.specs.Trees.{pred_tree}
 use Rattle.ceql_grammar.proofs.predicates.+predicate.Given as goal
 

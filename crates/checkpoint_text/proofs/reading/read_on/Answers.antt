@@ -1,7 +1,7 @@
 use Rattle.std.proofs.Common.{◌≡◌, length, ◌∙◌, arith}
 use Rattle.std.proofs.lemmas.Grind.{common_steps}
 use Rattle.checkpoint_text.proofs.Lines.{line_told, line_refused, text_ends, no_further}
-use Rattle.checkpoint_text.proofs.Told.{some_more, spelled_at_end}
+use Rattle.checkpoint_text.proofs.ParseState.{some_more, spelled_at_end}
 use Rattle.checkpoint_text.proofs.reading.read_on.Goals as goal
 
 pub returns-in-Ok-End-clause-text : goal.returns-in-Ok-End-clause-text

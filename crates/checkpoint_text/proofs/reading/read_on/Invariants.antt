@@ -1,8 +1,8 @@
 use Rattle.std.proofs.Common.{◌≡◌, ℕ, ◌+◌, ◌≤◌, List, [], false}
-use Rattle.event_reader.specs.Reading.{HasGiven}
+use Rattle.event_reader.specs.LineReaders.{HasGiven}
 use Rattle.checkpoint_text.specs.declared.reading.TheConstants.{MOST_BYTES}
 use Rattle.checkpoint_text.specs.LastClocks.{last_clocks}
-use Rattle.checkpoint_text.specs.Reading.{HasTold, SomeTold}
+use Rattle.checkpoint_text.specs.ReaderAnswers.{HasTold, SomeTold}
 use Rattle.checkpoint_text.proofs.reading.read_on.Given as goal
 
 -- the lines so far have told where it stands, and the events

@@ -1,5 +1,5 @@
 use Rattle.std.proofs.Common.{ℕ, List, Option, refl, sym, ◌∙◌}
-use Rattle.stream_answers.specs.Ends.{Said}
+use Rattle.stream_answers.specs.RunEnds.{EndClaims}
 use Rattle.command_base.specs.Sources.{Sources}
 use Rattle.stream_answers.specs.Streams.{asked_by}
 use Rattle.command_base.proofs.Ends.{file_unopened, file_opened}
@@ -22,7 +22,7 @@ returns-in-Err-clause-left g c = λ fine. absurd (early_is_not_fine _ (is_openin
 pub returns-clause-stop : goal.returns-clause-stop
 returns-clause-stop g c =
     let sources : Sources _ = record { faults = g.H.Src.Source.faults; left = g.H.Src.Source.left } in
-    let said : Option (List ℕ) → Said = λ source. resumed_said c.args.history.now (asked_by c.args.options c.args.engine.now) source (g.K.Sink.taken c.args.out.now) (g.K.Sink.taken c.resume_answers-end.new.out) in
+    let said : Option (List ℕ) → EndClaims = λ source. resumed_said c.args.history.now (asked_by c.args.options c.args.engine.now) source (g.K.Sink.taken c.args.out.now) (g.K.Sink.taken c.resume_answers-end.new.out) in
     file_opened sources said _ _ _ _ _ c.in-Ok.ensures.bytes c.in-Ok.ensures.counts
     (rw (c.stop_of.ensures.cause, c.stop_of.ensures.failed, c.fault_count-before.ensures) (source_stops sources (said (g.H.Src.Source.left c.in-Ok.source)) c.resume_answers-end.new.source (g.H.Src.Source.faults c.in-Ok.source) (g.K.Sink.faults c.args.out.now) (g.K.Sink.faults c.resume_answers-end.new.out)
     c.resume_answers-end.result c.in-Ok.ensures.fresh c.resume_answers-end.ensures.wrote c.resume_answers-end.ensures.read_cause c.resume_answers-end.ensures.write_cause))

@@ -1,6 +1,6 @@
 use Rattle.std.proofs.Common.{ℕ, List, Option, refl, subst}
 use Rattle.cel_terms.specs.declared.Query.{Query}
-use Rattle.stream_answers.specs.Ends.{Said, ByEnd}
+use Rattle.stream_answers.specs.RunEnds.{EndClaims, ByEnd}
 use Rattle.command_base.specs.Sources.{Sources}
 use Rattle.command_base.proofs.Ends.{file_unopened, file_opened}
 use Rattle.command_base.proofs.Sources.{source_stops, source_writes}
@@ -14,7 +14,7 @@ returns-in-Err-clause-stop g c = file_unopened _ _ _ _ _ _ _ refl refl c.in-Err.
 pub returns-clause-stop : goal.returns-clause-stop
 returns-clause-stop g c =
     let sources : Sources _ = record { faults = g.H.Src.Source.faults; left = g.H.Src.Source.left } in
-    let said : List Query → Option (List ℕ) → Said = λ queries source. saved_said (save_asked c.args.accepted.now.schema queries) source (g.K.Sink.taken c.args.out.now) (g.K.Sink.taken c.save_events-end.new.out) in
+    let said : List Query → Option (List ℕ) → EndClaims = λ queries source. saved_said (save_asked c.args.accepted.now.schema queries) source (g.K.Sink.taken c.args.out.now) (g.K.Sink.taken c.save_events-end.new.out) in
     let wrote = subst (λ (queries : List Query). ByEnd (said queries (g.H.Src.Source.left c.in-Ok.source)) (g.H.Src.Source.left c.save_events-end.new.source) c.save_events-end.result) c.as_slice-queries.ensures c.save_events-end.ensures.wrote in
     file_opened sources (said c.args.accepted.now.queries) _ _ _ _ _ c.in-Ok.ensures.bytes c.in-Ok.ensures.counts
     (rw (c.stop_of.ensures.cause, c.stop_of.ensures.failed, c.fault_count-before.ensures) (source_stops sources (said c.args.accepted.now.queries (g.H.Src.Source.left c.in-Ok.source)) c.save_events-end.new.source (g.H.Src.Source.faults c.in-Ok.source) (g.K.Sink.faults c.args.out.now) (g.K.Sink.faults c.save_events-end.new.out)

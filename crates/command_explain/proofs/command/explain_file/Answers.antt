@@ -1,10 +1,10 @@
 use Rattle.std.proofs.Common.{ℕ, List, Option, refl, subst}
 use Rattle.cel_terms.specs.declared.Query.{Query}
-use Rattle.stream_answers.specs.Ends.{Said, ByEnd}
+use Rattle.stream_answers.specs.RunEnds.{EndClaims, ByEnd}
 use Rattle.command_base.specs.Sources.{Sources}
 use Rattle.command_base.proofs.Ends.{file_unopened, file_opened}
 use Rattle.command_base.proofs.Sources.{source_stops, source_writes}
-use Rattle.command_explain.specs.Written.{explained_said}
+use Rattle.command_explain.specs.ExplanationOutput.{explained_said}
 use Rattle.command_explain.proofs.command.explain_file.Goals as goal
 
 pub returns-in-Err-clause-stop : goal.returns-in-Err-clause-stop
@@ -13,7 +13,7 @@ returns-in-Err-clause-stop g c = file_unopened _ _ _ _ _ _ _ refl refl c.in-Err.
 pub returns-clause-stop : goal.returns-clause-stop
 returns-clause-stop g c =
     let sources : Sources g.row.H-Src.Denot = record { faults = g.H.Src.Source.faults; left = g.H.Src.Source.left } in
-    let said : Option (List ℕ) → List Query → Said = λ source queries.
+    let said : Option (List ℕ) → List Query → EndClaims = λ source queries.
     explained_said (record { schema = c.args.accepted.now.schema; queries = queries; question = c.args.question.now }) source (g.K.Sink.taken c.args.out.now) (g.K.Sink.taken c.write_explanation-end.new.out) in
     let wrote = subst (λ (queries : List Query). ByEnd (said (g.H.Src.Source.left c.in-Ok.source) queries) (g.H.Src.Source.left c.write_explanation-end.new.source) c.write_explanation-end.result) c.as_slice-queries.ensures c.write_explanation-end.ensures.wrote in
     file_opened sources (λ source. said source c.args.accepted.now.queries) _ _ _ _ _ c.in-Ok.ensures.bytes c.in-Ok.ensures.counts

@@ -1,9 +1,9 @@
 use Rattle.std.proofs.Common.{◌≡◌, true, false, inl, refl, rules}
-use Rattle.reorder_gate.specs.Clocks.{clock_fits}
+use Rattle.reorder_gate.specs.AttributeClock.{clock_fits}
 use Rattle.command_base.proofs.Ends.{queries_ended, left_by_end}
 use Rattle.command_base.proofs.StepClauses.{has_no_queries, early_steps, early_is_not_fine}
 use Rattle.command_reorder.specs.Reordered.{reorder_task}
-use Rattle.command_reorder.specs.Left.{reorder_leaves}
+use Rattle.command_reorder.specs.LeftEngine.{reorder_leaves}
 use Rattle.command_reorder.proofs.Unfit.{unfit_ended, unfit_is_early}
 use Rattle.command_reorder.proofs.CommandEnds.{late_ended, late_steps}
 use Rattle.command_reorder.proofs.EngineLeft.{engine_left}

@@ -1,12 +1,12 @@
 use Rattle.std.proofs.Common.{ℕ, List, Option, refl, sym, ◌∙◌}
-use Rattle.stream_answers.specs.Ends.{Said}
+use Rattle.stream_answers.specs.RunEnds.{EndClaims}
 use Rattle.command_base.specs.Sources.{Sources}
 use Rattle.command_base.proofs.Ends.{file_unopened, file_opened}
 use Rattle.command_base.proofs.StepClauses.{is_opening, early_steps, early_is_not_fine, steps_of_source}
 use Rattle.command_base.proofs.Sources.{source_stops, source_writes, source_steps, ended_well}
-use Rattle.command_reorder.specs.Written.{late_said}
+use Rattle.command_reorder.specs.LateOutput.{late_said}
 use Rattle.command_reorder.specs.Reordered.{feed_of}
-use Rattle.command_reorder.specs.Counted.{reorder_counts}
+use Rattle.command_reorder.specs.StepCounts.{reorder_counts}
 use Rattle.command_reorder.proofs.EngineLeft.{left_of_source}
 use Rattle.command_reorder.proofs.command.reorder_file.Goals as goal
 
@@ -22,7 +22,7 @@ returns-in-Err-clause-left g c = λ fine. absurd (early_is_not_fine _ (is_openin
 pub returns-clause-stop : goal.returns-clause-stop
 returns-clause-stop g c =
     let sources : Sources g.row.H-Src.Denot = record { faults = g.H.Src.Source.faults; left = g.H.Src.Source.left } in
-    let said : Option (List ℕ) → Said = λ source. late_said (feed_of c.args.words.now c.args.engine.now.schema c.args.engine.now.queries) source (g.K.Sink.taken c.args.out.now) (g.K.Sink.taken c.write_late-end.new.out) in
+    let said : Option (List ℕ) → EndClaims = λ source. late_said (feed_of c.args.words.now c.args.engine.now.schema c.args.engine.now.queries) source (g.K.Sink.taken c.args.out.now) (g.K.Sink.taken c.write_late-end.new.out) in
     file_opened sources said _ _ _ _ _ (rw c.as_str.ensures at c.in-Ok.ensures.bytes) c.in-Ok.ensures.counts
     (rw (c.stop_of.ensures.cause, c.stop_of.ensures.failed, c.fault_count-before.ensures) (source_stops sources (said (g.H.Src.Source.left c.in-Ok.source)) c.write_late-end.new.source (g.H.Src.Source.faults c.in-Ok.source) (g.K.Sink.faults c.args.out.now) (g.K.Sink.faults c.write_late-end.new.out) c.write_late-end.result
     c.in-Ok.ensures.fresh (rw c.as_str-2.ensures at c.write_late-end.ensures.wrote) c.write_late-end.ensures.read_cause c.write_late-end.ensures.write_cause))

@@ -9,9 +9,9 @@ returns-in-Ok-clause-put c = λ a text put gone sits is stands.
 pub returns-in-Ok-clause-of_schema : goal.returns-in-Ok-clause-of_schema
 returns-in-Ok-clause-of_schema c = held_with c.args.schema.now c.args.gate.now c.put.new.self (c.args.line, c.args.event) c.in-Ok.ensures.put c.requires.one_of_schema c.requires.of_schema
 
-pub returns-in-Ok-clause-held : goal.returns-in-Ok-clause-held
-returns-in-Ok-clause-held c =
-    let held = held_length c.args.gate.now c.put.new.self (c.args.line, c.args.event) c.in-Ok.ensures.put in omega (arith, held)
+pub returns-in-Ok-clause-buffer : goal.returns-in-Ok-clause-buffer
+returns-in-Ok-clause-buffer c =
+    let buffer = held_length c.args.gate.now c.put.new.self (c.args.line, c.args.event) c.in-Ok.ensures.put in omega (arith, buffer)
 
 pub returns-in-Err-Fault-clause-put : goal.returns-in-Err-Fault-clause-put
 returns-in-Err-Fault-clause-put c = λ a text put gone sits is stands.

@@ -1,6 +1,6 @@
 use Rattle.std.proofs.Common.{ℕ, Bool, refl, sym, ◌∙◌, subst}
 use Rattle.event_run.specs.Runs as stop
-use Rattle.command_reorder.specs.Flowing.{Feeds}
+use Rattle.command_reorder.specs.LateProgress.{Feeds}
 use Rattle.command_reorder.proofs.FedLines.{line_fed, line_stops, no_line, no_more}
 use Rattle.command_reorder.proofs.FaultCounts.{no_write}
 use Rattle.command_reorder.proofs.feeding.put_line.Goals as goal

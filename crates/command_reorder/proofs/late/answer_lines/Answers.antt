@@ -5,23 +5,23 @@ use Rattle.stream_schema.specs.Events.{IsOfSchema}
 use Rattle.stream_schema.specs.declared.Event.{Event}
 use Rattle.cer_outside.specs.Causes.{Rose}
 use Rattle.query_engine.specs.Engine.{count_of}
-use Rattle.reorder_gate.specs.Gates.{Held}
-use Rattle.stream_answers.specs.Ends.{HasReadCause, HasWriteCause}
-use Rattle.command_reorder.specs.Flowing.{AreOfSchema, Flowing}
+use Rattle.reorder_gate.specs.Gates.{GateState}
+use Rattle.stream_answers.specs.RunEnds.{HasReadCause, HasWriteCause}
+use Rattle.command_reorder.specs.LateProgress.{AreOfSchema, LateProgress}
 use Rattle.command_reorder.proofs.FaultCounts.{read_cause_of, write_cause_of}
 use Rattle.command_reorder.proofs.Ends.{starts, line_flows, due_open, settles, settles_failing, ends_at_line}
 use Rattle.command_reorder.proofs.late.answer_lines.Goals as goal
 
 pub loop-lines-init : goal.loop-lines-init
 loop-lines-init g c =
-    let held = ap (λ (l : List (ℕ × Event)). length l) c.requires.held in
+    let buffer = ap (λ (l : List (ℕ × Event)). length l) c.requires.buffer in
     let none = c.requires.none in
     let P : List (ℕ × Event) → Type 0 = λ l. AllByRecursion (λ e. IsOfSchema c.args.engine.now.schema e.1) l in
     record {
       open_is = c.requires.open;
       going = c.requires.going;
-      counted = omega (arith, held, none);
-      of_schema = subst P (sym c.requires.held) tt;
+      counted = omega (arith, buffer, none);
+      of_schema = subst P (sym c.requires.buffer) tt;
       same = (refl, refl);
       read_faults = refl;
       write_faults = refl;
@@ -51,7 +51,7 @@ returns-in-Ok-false-clause-closed g c = λ every peaks a first fresh.
     let r = c.loop-lines.invariant.runs every peaks a first fresh in
     let room = rw c.in-Ok-false.field-0-test at c.in-Ok-false.ensures.room in
     let feeds = (rw c.in-Ok-false.field-0-test at c.in-Ok-false.ensures.put) a (g.Q.Source.left c.args.source.now) r.put r.flowing.gone r.flowing.sits (sym r.flowing.schema ∙ sym c.schema.ensures) (sym r.most_bytes) r.flowing.gate_stands r.fed in
-    let P : Held → Type 0 = λ h. Flowing every c.loop-lines.schedule peaks a (g.Q.Source.left c.args.source.now) r.put h c.loop-lines.output c.loop-lines.engine (g.K.Sink.taken c.args.out.now) (g.K.Sink.taken c.loop-lines.out) first c.loop-lines.steps in
+    let P : GateState → Type 0 = λ h. LateProgress every c.loop-lines.schedule peaks a (g.Q.Source.left c.args.source.now) r.put h c.loop-lines.output c.loop-lines.engine (g.K.Sink.taken c.args.out.now) (g.K.Sink.taken c.loop-lines.out) first c.loop-lines.steps in
     c.answer_rest.ensures.closed every peaks a (g.Q.Source.left c.args.source.now) (g.Q.Source.left c.put_line.new.source) (g.K.Sink.taken c.args.out.now) r.put first (subst P (sym room.0) r.flowing) feeds
 
 pub returns-in-Ok-false-clause-read_cause : goal.returns-in-Ok-false-clause-read_cause

@@ -1,7 +1,7 @@
 use Rattle.std.proofs.Common.{◌≡◌, ◌+◌, ◌≤◌, ℕ, Option, false, length}
 use Rattle.query_engine.specs.Engine.{SameQueries, count_of}
-use Rattle.command_reorder.specs.Late.{Feed}
-use Rattle.command_reorder.specs.Flowing.{AreOfSchema, HasBases, Running, IsFresh}
+use Rattle.command_reorder.specs.Late.{LateRequest}
+use Rattle.command_reorder.specs.LateProgress.{AreOfSchema, HasBases, Running, IsFresh}
 use Rattle.command_reorder.proofs.late.answer_lines.Given as goal
 
 -- the lines so far are put, and the answers over what they release are written or held
@@ -15,7 +15,7 @@ invariant-loop-lines g l = record {
   read_faults : g.Q.Source.faults l.source ≡ g.Q.Source.faults l.fn.source;
   write_faults : g.K.Sink.faults l.out ≡ g.K.Sink.faults l.fn.out;
   bases : HasBases l.schedule l.engine;
-  runs : (every : Option ℕ) (peaks : ℕ → ℕ) (a : Feed) (first : ℕ) → IsFresh every l.fn.schedule peaks a l.fn.lines l.fn.gate l.fn.output l.fn.engine first l.fn.steps
+  runs : (every : Option ℕ) (peaks : ℕ → ℕ) (a : LateRequest) (first : ℕ) → IsFresh every l.fn.schedule peaks a l.fn.lines l.fn.gate l.fn.output l.fn.engine first l.fn.steps
       → Running every l.schedule peaks a (g.Q.Source.left l.fn.source) l.lines (g.Q.Source.left l.source) l.gate l.output l.engine (g.K.Sink.taken l.fn.out) (g.K.Sink.taken l.out) first l.steps;
 }
 

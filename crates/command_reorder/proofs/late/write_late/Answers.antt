@@ -1,7 +1,7 @@
 use Rattle.std.proofs.Common.{ℕ, refl, ◌∙◌, ap, arith}
 use Rattle.stream_schema.specs.declared.Event.{Event}
 use Rattle.query_engine.specs.Engine.{peak_of}
-use Rattle.command_reorder.specs.Written.{feed_by}
+use Rattle.command_reorder.specs.LateOutput.{feed_by}
 use Rattle.command_reorder.proofs.Plans.{timed_first, bases_first, compacted_first, fresh}
 use Rattle.command_reorder.proofs.Ends.{closed_none}
 use Rattle.command_reorder.proofs.late.write_late.Goals as goal

@@ -1,7 +1,7 @@
 use Rattle.std.proofs.Common.{refl, ◌∙◌}
 use Rattle.stream_answers.proofs.Compacted.{paid_in_time, windows_in_time, on_in_time}
 use Rattle.stream_answers.proofs.Totals.{rows_as}
-use Rattle.command_reorder.specs.Flowing.{from_first}
+use Rattle.command_reorder.specs.LateProgress.{from_first}
 use Rattle.command_reorder.proofs.Plans.{bases_on}
 use Rattle.command_reorder.proofs.Flows.{answer_wants, answer_falls, takes, takes_compacted, puts, puts_wanting, puts_failing, compaction_wants}
 use Rattle.command_reorder.proofs.releasing.answer_event.Goals as goal

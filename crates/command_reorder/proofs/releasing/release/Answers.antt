@@ -1,8 +1,8 @@
 use Rattle.std.proofs.Common.{◌≡◌, ℕ, Err, length, refl, sym, ◌∙◌, ap, subst, arith}
-use Rattle.reorder_gate.specs.Gates.{Held, all_due}
+use Rattle.reorder_gate.specs.Gates.{GateState, all_due}
 use Rattle.stream_schema.specs.Types.{Declared}
-use Rattle.stream_answers.specs.Ends.{HasWriteCause}
-use Rattle.command_reorder.specs.Flowing.{AreOfSchema, Flowing}
+use Rattle.stream_answers.specs.RunEnds.{HasWriteCause}
+use Rattle.command_reorder.specs.LateProgress.{AreOfSchema, LateProgress}
 use Rattle.command_reorder.proofs.Flows.{owes}
 use Rattle.command_reorder.proofs.releasing.release.Goals as goal
 
@@ -19,11 +19,11 @@ loop-line-init g c = record {
 
 pub answer_event-requires-clause-of_schema : goal.answer_event-requires-clause-of_schema
 answer_event-requires-clause-of_schema g c =
-    let P : Held → Type 0 = λ h. AreOfSchema c.loop-line.engine.schema h in (subst P c.in-Some.ensures.taken c.loop-line.invariant.of_schema).0
+    let P : GateState → Type 0 = λ h. AreOfSchema c.loop-line.engine.schema h in (subst P c.in-Some.ensures.taken c.loop-line.invariant.of_schema).0
 
 pub answer_event-requires-clause-room : goal.answer_event-requires-clause-room
 answer_event-requires-clause-room g c =
-    let more = ap (λ (h : Held). length h.events) c.in-Some.ensures.taken in
+    let more = ap (λ (h : GateState). length h.events) c.in-Some.ensures.taken in
     let counted = c.loop-line.invariant.counted in
     let range = c.ranges.read.fits in
     omega (arith, more, counted, range)
@@ -40,14 +40,14 @@ returns-in-Err-clause-released g c = λ every peaks a source put before first f.
 
 pub returns-in-Err-clause-counted : goal.returns-in-Err-clause-counted
 returns-in-Err-clause-counted g c =
-    let more = ap (λ (h : Held). length h.events) c.in-Some.ensures.taken in
+    let more = ap (λ (h : GateState). length h.events) c.in-Some.ensures.taken in
     let counted = c.loop-line.invariant.counted in
     let one = c.answer_event.ensures.counted in
     omega (arith, more, counted, one)
 
 pub returns-in-Err-clause-of_schema : goal.returns-in-Err-clause-of_schema
 returns-in-Err-clause-of_schema g c =
-    let P : Held → Type 0 = λ h. AreOfSchema c.loop-line.engine.schema h in
+    let P : GateState → Type 0 = λ h. AreOfSchema c.loop-line.engine.schema h in
     let S : Declared → Type 0 = λ s. AreOfSchema s c.take.new.self in
     subst S (sym c.answer_event.ensures.same.0) (subst P c.in-Some.ensures.taken c.loop-line.invariant.of_schema).1
 
@@ -56,7 +56,7 @@ returns-in-Err-clause-same g c =
     (c.answer_event.ensures.same.0 ∙ c.loop-line.invariant.same.0, c.answer_event.ensures.same.1 ∙ c.loop-line.invariant.same.1)
 
 pub returns-in-Err-clause-finished : goal.returns-in-Err-clause-finished
-returns-in-Err-clause-finished g c = sym (ap (λ (h : Held). h.is_finished) c.in-Some.ensures.taken) ∙ c.loop-line.invariant.finished
+returns-in-Err-clause-finished g c = sym (ap (λ (h : GateState). h.is_finished) c.in-Some.ensures.taken) ∙ c.loop-line.invariant.finished
 
 pub returns-in-Err-clause-write_cause : goal.returns-in-Err-clause-write_cause
 returns-in-Err-clause-write_cause g c =
@@ -65,21 +65,21 @@ returns-in-Err-clause-write_cause g c =
 
 pub loop-line-smaller : goal.loop-line-smaller
 loop-line-smaller g c =
-    let more = ap (λ (h : Held). length h.events) c.in-Some.ensures.taken in omega (arith, more)
+    let more = ap (λ (h : GateState). length h.events) c.in-Some.ensures.taken in omega (arith, more)
 
 pub loop-line-preserved : goal.loop-line-preserved
 loop-line-preserved g c =
     let inv = c.loop-line.invariant in
-    let more = ap (λ (h : Held). length h.events) c.in-Some.ensures.taken in
+    let more = ap (λ (h : GateState). length h.events) c.in-Some.ensures.taken in
     let counted = inv.counted in
     let one = c.answer_event.ensures.counted in
-    let P : Held → Type 0 = λ h. AreOfSchema c.loop-line.engine.schema h in
+    let P : GateState → Type 0 = λ h. AreOfSchema c.loop-line.engine.schema h in
     let S : Declared → Type 0 = λ s. AreOfSchema s c.take.new.self in
     record {
       counted = omega (arith, more, counted, one);
       of_schema = subst S (sym c.answer_event.ensures.same.0) (subst P c.in-Some.ensures.taken inv.of_schema).1;
       same = (c.answer_event.ensures.same.0 ∙ inv.same.0, c.answer_event.ensures.same.1 ∙ inv.same.1);
-      finished = sym (ap (λ (h : Held). h.is_finished) c.in-Some.ensures.taken) ∙ inv.finished;
+      finished = sym (ap (λ (h : GateState). h.is_finished) c.in-Some.ensures.taken) ∙ inv.finished;
       faults = c.in-Ok.ensures.write_cause ∙ inv.faults;
       bases = c.answer_event.ensures.bases;
       flows = λ every peaks a source put before first f.
@@ -92,7 +92,7 @@ loop-line-preserved g c =
 pub returns-in-None-clause-released : goal.returns-in-None-clause-released
 returns-in-None-clause-released g c = λ every peaks a source put before first f.
     let now = c.loop-line.invariant.flows every peaks a source put before first f in
-    let P : Held → Type 0 = λ h. (x : Flowing every c.loop-line.schedule peaks a source put h c.loop-line.output c.loop-line.engine before (g.K.Sink.taken c.loop-line.out) first c.loop-line.steps) × (x.gone ≡ all_due h put) in
+    let P : GateState → Type 0 = λ h. (x : LateProgress every c.loop-line.schedule peaks a source put h c.loop-line.output c.loop-line.engine before (g.K.Sink.taken c.loop-line.out) first c.loop-line.steps) × (x.gone ≡ all_due h put) in
     subst P (sym c.in-None.ensures.unchanged) (now, c.in-None.ensures.all put now.gone now.gate_stands)
 
 pub returns-in-None-clause-counted : goal.returns-in-None-clause-counted
@@ -105,7 +105,7 @@ pub returns-in-None-clause-same : goal.returns-in-None-clause-same
 returns-in-None-clause-same g c = c.loop-line.invariant.same
 
 pub returns-in-None-clause-finished : goal.returns-in-None-clause-finished
-returns-in-None-clause-finished g c = ap (λ (h : Held). h.is_finished) c.in-None.ensures.unchanged ∙ c.loop-line.invariant.finished
+returns-in-None-clause-finished g c = ap (λ (h : GateState). h.is_finished) c.in-None.ensures.unchanged ∙ c.loop-line.invariant.finished
 
 pub returns-in-None-clause-write_cause : goal.returns-in-None-clause-write_cause
 returns-in-None-clause-write_cause g c = c.loop-line.invariant.faults

@@ -1,11 +1,11 @@
 use Rattle.std.proofs.Common.{ℕ, List, [], Option, refl, sym, ◌∙◌}
-use Rattle.stream_answers.specs.Ends.{Said}
+use Rattle.stream_answers.specs.RunEnds.{EndClaims}
 use Rattle.stream_answers.specs.Streams.{asked_by, answers_said}
 use Rattle.command_base.specs.Sources.{Sources}
 use Rattle.command_base.proofs.Ends.{file_unopened, file_opened}
 use Rattle.command_base.proofs.StepClauses.{is_opening, early_steps, early_is_not_fine, steps_of_source}
 use Rattle.command_base.proofs.Sources.{source_stops, source_writes, source_steps, ended_well}
-use Rattle.command_run.specs.Steps.{run_counts}
+use Rattle.command_run.specs.StepCounts.{run_counts}
 use Rattle.command_run.proofs.EngineLeft.{left_of_source}
 use Rattle.command_run.proofs.command.answer_file.Goals as goal
 
@@ -21,7 +21,7 @@ returns-in-Err-clause-left g c = λ fine. absurd (early_is_not_fine _ (is_openin
 pub returns-clause-stop : goal.returns-clause-stop
 returns-clause-stop g c =
     let sources : Sources _ = record { faults = g.H.Src.Source.faults; left = g.H.Src.Source.left } in
-    let said : Option (List ℕ) → Said = λ source. answers_said [] (asked_by c.args.options c.args.engine.now) source (g.K.Sink.taken c.args.out.now) (g.K.Sink.taken c.write_answers-end.new.out) in
+    let said : Option (List ℕ) → EndClaims = λ source. answers_said [] (asked_by c.args.options c.args.engine.now) source (g.K.Sink.taken c.args.out.now) (g.K.Sink.taken c.write_answers-end.new.out) in
     file_opened sources said _ _ _ _ _ c.in-Ok.ensures.bytes c.in-Ok.ensures.counts
     (rw (c.stop_of.ensures.cause, c.stop_of.ensures.failed, c.fault_count-before.ensures) (source_stops sources (said (g.H.Src.Source.left c.in-Ok.source)) c.write_answers-end.new.source (g.H.Src.Source.faults c.in-Ok.source) (g.K.Sink.faults c.args.out.now) (g.K.Sink.faults c.write_answers-end.new.out)
     c.write_answers-end.result c.in-Ok.ensures.fresh c.write_answers-end.ensures.wrote c.write_answers-end.ensures.read_cause c.write_answers-end.ensures.write_cause))

@@ -3,12 +3,12 @@ use Rattle.std.proofs.Common.{List, sym, subst, Result, Ok, Err}
 use Rattle.std.specs.Prelude.{IfOk}
 use Rattle.stream_schema.specs.Types.{Declared}
 use Rattle.cel_terms.specs.declared.Query.{Query}
-use Rattle.query_engine.specs.Engine.{State, IsNew}
+use Rattle.query_engine.specs.Engine.{EngineState, IsNew}
 use Rattle.command_sample.specs.Queries.{AreQueries}
 use Rattle.command_sample.proofs.Checked.{all_checked}
 use Rattle.command_sample.proofs.counting.sample_engine.Goals as goal
 
-has_queries : {E : Type 0} (schema : Declared) (queries : List Query) (r : Result State E) → IfOk r (IsNew schema queries) → AreQueries queries → IfOk r (λ e. AreQueries e.queries)
+has_queries : {E : Type 0} (schema : Declared) (queries : List Query) (r : Result EngineState E) → IfOk r (IsNew schema queries) → AreQueries queries → IfOk r (λ e. AreQueries e.queries)
 has_queries schema queries (Ok e) new h = subst AreQueries (sym new.given.1) h
 has_queries schema queries (Err e) new h = tt
 

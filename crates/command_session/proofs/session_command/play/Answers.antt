@@ -2,7 +2,7 @@ use Rattle.std.proofs.Common.{inl, refl}
 use Rattle.command_base.proofs.Ends.{queries_ended}
 use Rattle.command_base.proofs.StepClauses.{has_no_queries, early_steps, steps_of_files}
 use Rattle.command_session.specs.Played.{session_task}
-use Rattle.command_session.specs.Counted.{script_counts}
+use Rattle.command_session.specs.StepCounts.{script_counts}
 use Rattle.command_session.proofs.OverFiles.{play_ended}
 use Rattle.command_session.proofs.session_command.play.Goals as goal
 

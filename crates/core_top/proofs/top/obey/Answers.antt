@@ -3,7 +3,7 @@ use Rattle.command_base.specs.declared.Cause.TheVariants as cause
 use Rattle.command_base.proofs.StepClauses.{early_steps}
 use Rattle.command_words.proofs.ForCallers.{resume_has_bound}
 use Rattle.core_top.specs.Jobs.{running, reordering, explaining, playing, resuming, saving}
-use Rattle.core_top.specs.Steps.{steps_of}
+use Rattle.core_top.specs.StepCounts.{steps_of}
 use Rattle.core_top.specs.Calls.{ran, sampled, refused, unread}
 use Rattle.core_top.proofs.Words.{no_job_and_sample}
 use Rattle.core_top.proofs.TopClauses.{job_steps, never_counted, left_asked, early_left, never_left}

@@ -1,7 +1,7 @@
 use Rattle.std.proofs.Common.{sym, arith, length, eq-eqb}
 use Rattle.std.proofs.lemmas.List.Sums.{position_or_len_is}
 use Rattle.event_reader.specs.declared.words.TheConstants.{BLANK}
-use Rattle.event_reader.specs.Words.{is_blank}
+use Rattle.event_reader.specs.LineWords.{is_blank}
 use Rattle.event_reader.proofs.words.blank_at.Goals as goal
 
 pub returns-then-byte-eq-BLANK-clause-place : goal.returns-then-byte-eq-BLANK-clause-place

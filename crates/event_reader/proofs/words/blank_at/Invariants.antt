@@ -1,5 +1,5 @@
 use Rattle.std.proofs.Common.{◌≡◌, ℕ, ◌<◌, get_or, false}
-use Rattle.event_reader.specs.Words.{is_blank}
+use Rattle.event_reader.specs.LineWords.{is_blank}
 use Rattle.event_reader.proofs.words.blank_at.Given as goal
 
 abbrev pub invariant-loop-i : goal.invariant-loop-i

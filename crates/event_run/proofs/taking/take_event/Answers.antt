@@ -1,6 +1,6 @@
 use Rattle.std.proofs.Common.{◌+◌, ◌≤◌, None, refl, subst, ◌∙◌, arith}
 use Rattle.query_engine.specs.Bounds.{update_bound}
-use Rattle.query_engine.specs.Engine.{State, found_of, len_of}
+use Rattle.query_engine.specs.Engine.{EngineState, found_of, len_of}
 use Rattle.query_engine.specs.Keys.{HasAddedKeys}
 use Rattle.query_engine.specs.Windows.{HasAdded}
 use Rattle.event_run.proofs.Given.{at_end, begins}
@@ -30,14 +30,14 @@ returns-in-Ok-true-clause-took g c = λ before events stands.
       λ bytes had.
           taken_event before _ _ _ _ c.loop-fault.lines c.next.new.self bytes (g.Q.Source.left c.loop-fault.source) (g.Q.Source.left c.next.new.source) events took.0 inv.same.0 inv.same.1
           ((rw c.in-Ok-Line.field-0-is at c.in-Ok-Line.ensures.lines) bytes) took.1 took.3 (inv.taken before events stands bytes had),
-      subst (λ (e : State). HasAdded e c.give_line.new.engine took.0) inv.kept took.4,
-      subst (λ (e : State). HasAddedKeys e c.give_line.new.engine took.0) inv.kept took.5,
+      subst (λ (e : EngineState). HasAdded e c.give_line.new.engine took.0) inv.kept took.4,
+      subst (λ (e : EngineState). HasAddedKeys e c.give_line.new.engine took.0) inv.kept took.5,
     )
 
 pub returns-in-Ok-true-clause-growth : goal.returns-in-Ok-true-clause-growth
 returns-in-Ok-true-clause-growth g c = λ taken query.
     let grown = (rw c.in-Ok-true.field-0-test at c.in-Ok-true.ensures.growth) refl query in
-    subst (λ (e : State). len_of c.give_line.new.engine query ≤ len_of e query + update_bound (found_of c.give_line.new.engine query)) c.loop-fault.invariant.kept grown
+    subst (λ (e : EngineState). len_of c.give_line.new.engine query ≤ len_of e query + update_bound (found_of c.give_line.new.engine query)) c.loop-fault.invariant.kept grown
 
 pub returns-in-Err-Memory-clause-took : goal.returns-in-Err-Memory-clause-took
 returns-in-Err-Memory-clause-took g c = λ before events stands.

@@ -1,13 +1,13 @@
 use Rattle.std.proofs.Common.{◌≡◌, ◌+◌, ◌<◌, ◌≤◌, ◌∙◌, ℕ, ℤ, Bool, true, List, Option, None, map, length, subst, sym, arith, refl, slice_index_or, slice_set, [], ◌∷◌}
 use Rattle.std.specs.List.{AllZip}
 use Rattle.std.proofs.lemmas.List.{map-id, take_all}
-use Rattle.tecs_enumerate.specs.Rest.{CursorState}
+use Rattle.tecs_enumerate.specs.Remaining.{CursorState}
 use Rattle.stream_schema.specs.declared.Event.{Event}
 use Rattle.all_or_none.specs.Phases.{Phase}
 use Rattle.all_or_none.proofs.LoopTurn.{all_here, said_here, left_next}
 use Rattle.query_standing.specs.Kept.{low_at}
-use Rattle.query_part.specs.Parts.{StandsWith}
-use Rattle.query_part.specs.Compacting.{PartCompacted}
+use Rattle.query_state.specs.QueryStates.{StandsWith}
+use Rattle.query_state.specs.Compacting.{QueryStateCompacted}
 use Rattle.query_engine.specs.Times.{clocks_in, with_clocks}
 use Rattle.query_engine.specs.Compacting.{is_chosen, CanCompact, IsCompacted, AreTrimmed, AreOnce, OthersStay, AreCarried}
 use Rattle.query_engine.proofs.Carried.{none_carried}
@@ -17,7 +17,7 @@ use Rattle.query_engine.proofs.compacting.compact_all.Invariants.{Compacts}
 use Rattle.query_engine.proofs.compacting.compact_all.Goals as goal
 use Rattle.query_engine.proofs.compacting.compact_all.Goals.{then-chosen-k, else-chosen-k}
 
--- the same, as the parts, the cursors, the room and the steps are named
+-- the same, as the query states, the cursors, the room and the steps are named
 renamed : (chosen : List Bool) (clocks : List (Option ℤ)) (old cur cur' : List Phase) (ws vs vs' : List CursorState) (k room now_room now_room' before now now' : ℕ) → cur' ≡ cur → vs' ≡ vs → now_room' ≡ now_room → now' ≡ now →
     Compacts chosen clocks old cur ws vs k room now_room before now → Compacts chosen clocks old cur' ws vs' k room now_room' before now'
 renamed chosen clocks old cur cur' ws vs vs' k room now_room now_room' before now now' a b c d h =
@@ -33,7 +33,7 @@ first_of (x ∷ xs) inside = x
 pub clock-requires-clause-there : goal.clock-requires-clause-there
 clock-requires-clause-there g c =
     let many = c.requires.clocks in
-    let same = c.loop-k.auto.parts in
+    let same = c.loop-k.auto.query_states in
     let t = c.loop-k-test.true in
     omega arith
 
@@ -42,36 +42,36 @@ clock-requires-clause-inside g c = c.requires.times
 
 pub compact-requires-clause-idle : goal.compact-requires-clause-idle
 compact-requires-clause-idle g c =
-    let inside : c.loop-k.k < length c.loop-k.parts = (let e = c.loop-k.auto.parts in let t = c.loop-k-test.true in omega arith) in
-    let same : length c.loop-k.parts ≡ length c.args.parts.now = c.loop-k.auto.parts in
-    (all_here CanCompact c.loop-k.parts c.args.parts.now c.loop-k.k c.index-parts-k.result inside same c.loop-k.invariant.left c.requires.parts).idle
+    let inside : c.loop-k.k < length c.loop-k.query_states = (let e = c.loop-k.auto.query_states in let t = c.loop-k-test.true in omega arith) in
+    let same : length c.loop-k.query_states ≡ length c.args.query_states.now = c.loop-k.auto.query_states in
+    (all_here CanCompact c.loop-k.query_states c.args.query_states.now c.loop-k.k c.index-query_states-k.result inside same c.loop-k.invariant.left c.requires.query_states).idle
 
 pub compact-requires-clause-events : goal.compact-requires-clause-events
 compact-requires-clause-events g c =
-    let inside : c.loop-k.k < length c.loop-k.parts = (let e = c.loop-k.auto.parts in let t = c.loop-k-test.true in omega arith) in
-    let same : length c.loop-k.parts ≡ length c.args.parts.now = c.loop-k.auto.parts in
-    (all_here CanCompact c.loop-k.parts c.args.parts.now c.loop-k.k c.index-parts-k.result inside same c.loop-k.invariant.left c.requires.parts).events
+    let inside : c.loop-k.k < length c.loop-k.query_states = (let e = c.loop-k.auto.query_states in let t = c.loop-k-test.true in omega arith) in
+    let same : length c.loop-k.query_states ≡ length c.args.query_states.now = c.loop-k.auto.query_states in
+    (all_here CanCompact c.loop-k.query_states c.args.query_states.now c.loop-k.k c.index-query_states-k.result inside same c.loop-k.invariant.left c.requires.query_states).events
 
 pub compact-requires-clause-room : goal.compact-requires-clause-room
 compact-requires-clause-room g c =
-    let inside : c.loop-k.k < length c.loop-k.parts = (let e = c.loop-k.auto.parts in let t = c.loop-k-test.true in omega arith) in
-    let same : length c.loop-k.parts ≡ length c.args.parts.now = c.loop-k.auto.parts in
-    let le = said_here (λ (j : ℕ) (p : Phase). j < length c.args.parts.now → is_chosen c.args.chosen.now j ≡ true → length p.kept.nodes ≤ c.args.room.now) c.loop-k.parts c.args.parts.now c.loop-k.k c.index-parts-k.result inside same c.loop-k.invariant.left
+    let inside : c.loop-k.k < length c.loop-k.query_states = (let e = c.loop-k.auto.query_states in let t = c.loop-k-test.true in omega arith) in
+    let same : length c.loop-k.query_states ≡ length c.args.query_states.now = c.loop-k.auto.query_states in
+    let le = said_here (λ (j : ℕ) (p : Phase). j < length c.args.query_states.now → is_chosen c.args.chosen.now j ≡ true → length p.kept.nodes ≤ c.args.room.now) c.loop-k.query_states c.args.query_states.now c.loop-k.k c.index-query_states-k.result inside same c.loop-k.invariant.left
     (λ j p at less flag. c.requires.room j p less at flag) c.loop-k-test.true c.if-chosen-k.true in
     let room = c.loop-k.invariant.same_room in
     omega arith
 
 pub compact-requires-clause-cursors : goal.compact-requires-clause-cursors
 compact-requires-clause-cursors g c =
-    let inside : c.loop-k.k < length c.loop-k.parts = (let e = c.loop-k.auto.parts in let t = c.loop-k-test.true in omega arith) in
-    let same : length c.loop-k.parts ≡ length c.args.parts.now = c.loop-k.auto.parts in
-    one_fits (clocks_in c.args.times.now) c.args.parts.now c.loop-k.parts c.loop-k.k c.index-parts-k.result inside same c.loop-k.invariant.left c.args.held.now c.loop-k.held c.requires.held c.loop-k.invariant.held
+    let inside : c.loop-k.k < length c.loop-k.query_states = (let e = c.loop-k.auto.query_states in let t = c.loop-k-test.true in omega arith) in
+    let same : length c.loop-k.query_states ≡ length c.args.query_states.now = c.loop-k.auto.query_states in
+    one_fits (clocks_in c.args.times.now) c.args.query_states.now c.loop-k.query_states c.loop-k.k c.index-query_states-k.result inside same c.loop-k.invariant.left c.args.held.now c.loop-k.held c.requires.held c.loop-k.invariant.held
 
 pub loop-k-init : goal.loop-k-init
 loop-k-init g c = record {
   done = tt;
   left = refl;
-  held = none_carried (with_clocks c.args.parts.now (clocks_in c.args.times.now)) c.args.held.now c.requires.held;
+  held = none_carried (with_clocks c.args.query_states.now (clocks_in c.args.times.now)) c.args.held.now c.requires.held;
   same_room = refl;
   trimmed = λ j p less at flag. absurd (omega arith);
   once = λ j p less at flag. absurd (omega arith);
@@ -82,16 +82,16 @@ loop-k-init g c = record {
 
 pub loop-k-preserved : goal.loop-k-preserved
 loop-k-preserved g c =
-    let inside : c.loop-k.k < length c.loop-k.parts = (let e = c.loop-k.auto.parts in let t = c.loop-k-test.true in omega arith) in
-    let same : length c.loop-k.parts ≡ length c.args.parts.now = c.loop-k.auto.parts in
+    let inside : c.loop-k.k < length c.loop-k.query_states = (let e = c.loop-k.auto.query_states in let t = c.loop-k-test.true in omega arith) in
+    let same : length c.loop-k.query_states ≡ length c.args.query_states.now = c.loop-k.auto.query_states in
     let left = c.loop-k.invariant.left in
     let clocks = clocks_in c.args.times.now in
     let paid = c.loop-k.invariant.paid in
     let few = c.loop-k-test.true in
     elim c.if-chosen-k.branch [
       | then-chosen-k w ↦ (
-          let q = slice_index_or c.loop-k.parts c.loop-k.k w.index-parts-k.result in
-          let of = subst (λ (clock : Option ℤ). PartCompacted (c.loop-k.k + 1) (low_at q.query clock) q.kept w.compact.new.self.kept (map (λ v. v) c.loop-k.held) (map (λ v. v) w.compact.new.cursors)) w.clock.ensures w.compact.ensures.compacted in
+          let q = slice_index_or c.loop-k.query_states c.loop-k.k w.index-query_states-k.result in
+          let of = subst (λ (clock : Option ℤ). QueryStateCompacted (c.loop-k.k + 1) (low_at q.query clock) q.kept w.compact.new.self.kept (map (λ v. v) c.loop-k.held) (map (λ v. v) w.compact.new.cursors)) w.clock.ensures w.compact.ensures.compacted in
           let one : IsOneCompacted (c.loop-k.k + 1) (slice_index_or clocks c.loop-k.k None) q w.compact.new.self c.loop-k.held w.compact.new.cursors = record {
             schema = w.compact.ensures.same.0;
             query = w.compact.ensures.same.1;
@@ -103,87 +103,87 @@ loop-k-preserved g c =
             once = w.compact.ensures.once;
           } in
           let flag = w.if-chosen-k.true in
-          let more = one_cost clocks c.args.parts.now c.loop-k.parts c.loop-k.k w.index-parts-k.result inside same left c.args.chosen.now flag in
+          let more = one_cost clocks c.args.query_states.now c.loop-k.query_states c.loop-k.k w.index-query_states-k.result inside same left c.args.chosen.now flag in
           let step = w.compact.ensures.steps in
-          renamed c.args.chosen.now clocks c.args.parts.now (slice_set c.loop-k.parts c.loop-k.k w.compact.new.self) c.if-chosen-k.parts c.args.held.now w.compact.new.cursors c.if-chosen-k.held (c.loop-k.k + 1) c.args.room.now w.compact.new.room c.if-chosen-k.room c.args.steps.now w.compact.new.steps c.if-chosen-k.steps w.parts-is w.held-is w.room-is w.steps-is (record {
-            done = one_done clocks c.args.parts.now c.loop-k.parts c.loop-k.k w.index-parts-k.result inside same left w.compact.new.self c.args.held.now c.loop-k.held w.compact.new.cursors one c.loop-k.invariant.done;
-            left = left_next c.loop-k.parts c.args.parts.now c.loop-k.k w.compact.new.self inside same left;
-            held = one_carried clocks c.args.parts.now c.loop-k.parts c.loop-k.k w.index-parts-k.result inside same left w.compact.new.self c.args.held.now c.loop-k.held w.compact.new.cursors one c.requires.held c.loop-k.invariant.held;
+          renamed c.args.chosen.now clocks c.args.query_states.now (slice_set c.loop-k.query_states c.loop-k.k w.compact.new.self) c.if-chosen-k.query_states c.args.held.now w.compact.new.cursors c.if-chosen-k.held (c.loop-k.k + 1) c.args.room.now w.compact.new.room c.if-chosen-k.room c.args.steps.now w.compact.new.steps c.if-chosen-k.steps w.query_states-is w.held-is w.room-is w.steps-is (record {
+            done = one_done clocks c.args.query_states.now c.loop-k.query_states c.loop-k.k w.index-query_states-k.result inside same left w.compact.new.self c.args.held.now c.loop-k.held w.compact.new.cursors one c.loop-k.invariant.done;
+            left = left_next c.loop-k.query_states c.args.query_states.now c.loop-k.k w.compact.new.self inside same left;
+            held = one_carried clocks c.args.query_states.now c.loop-k.query_states c.loop-k.k w.index-query_states-k.result inside same left w.compact.new.self c.args.held.now c.loop-k.held w.compact.new.cursors one c.requires.held c.loop-k.invariant.held;
             same_room = w.compact.ensures.room ∙ c.loop-k.invariant.same_room;
-            trimmed = one_trimmed clocks c.args.parts.now c.loop-k.parts c.loop-k.k w.index-parts-k.result inside same left w.compact.new.self c.args.held.now c.loop-k.held w.compact.new.cursors one c.args.chosen.now c.loop-k.invariant.trimmed;
-            once = one_once clocks c.args.parts.now c.loop-k.parts c.loop-k.k w.index-parts-k.result inside same left w.compact.new.self c.args.held.now c.loop-k.held w.compact.new.cursors one c.args.chosen.now c.loop-k.invariant.once;
-            others = one_others clocks c.args.parts.now c.loop-k.parts c.loop-k.k w.index-parts-k.result inside same left w.compact.new.self c.args.held.now c.loop-k.held w.compact.new.cursors one c.args.chosen.now flag c.loop-k.invariant.others;
+            trimmed = one_trimmed clocks c.args.query_states.now c.loop-k.query_states c.loop-k.k w.index-query_states-k.result inside same left w.compact.new.self c.args.held.now c.loop-k.held w.compact.new.cursors one c.args.chosen.now c.loop-k.invariant.trimmed;
+            once = one_once clocks c.args.query_states.now c.loop-k.query_states c.loop-k.k w.index-query_states-k.result inside same left w.compact.new.self c.args.held.now c.loop-k.held w.compact.new.cursors one c.args.chosen.now c.loop-k.invariant.once;
+            others = one_others clocks c.args.query_states.now c.loop-k.query_states c.loop-k.k w.index-query_states-k.result inside same left w.compact.new.self c.args.held.now c.loop-k.held w.compact.new.cursors one c.args.chosen.now flag c.loop-k.invariant.others;
             few = omega arith;
             paid = omega arith;
           })
           )
       | else-chosen-k w ↦ (
           let flag = w.if-chosen-k.false in
-          let d = slice_index_or c.loop-k.parts c.loop-k.k (first_of c.loop-k.parts inside) in
-          let less = left_cost clocks c.args.parts.now c.loop-k.parts c.loop-k.k d inside same left c.args.chosen.now flag in
-          let idle = (all_here CanCompact c.loop-k.parts c.args.parts.now c.loop-k.k d inside same left c.requires.parts).idle in
-          renamed c.args.chosen.now clocks c.args.parts.now c.loop-k.parts c.if-chosen-k.parts c.args.held.now c.loop-k.held c.if-chosen-k.held (c.loop-k.k + 1) c.args.room.now c.loop-k.room c.if-chosen-k.room c.args.steps.now c.loop-k.steps c.if-chosen-k.steps w.parts-is w.held-is w.room-is w.steps-is (record {
-            done = left_done clocks c.args.parts.now c.loop-k.parts c.loop-k.k d inside same left c.args.chosen.now flag idle c.loop-k.invariant.done;
-            left = left_behind clocks c.args.parts.now c.loop-k.parts c.loop-k.k d inside same left c.args.chosen.now flag;
-            held = left_carried clocks c.args.parts.now c.loop-k.parts c.loop-k.k d inside same left c.args.chosen.now flag c.args.held.now c.loop-k.held c.requires.held c.loop-k.invariant.held;
+          let d = slice_index_or c.loop-k.query_states c.loop-k.k (first_of c.loop-k.query_states inside) in
+          let less = left_cost clocks c.args.query_states.now c.loop-k.query_states c.loop-k.k d inside same left c.args.chosen.now flag in
+          let idle = (all_here CanCompact c.loop-k.query_states c.args.query_states.now c.loop-k.k d inside same left c.requires.query_states).idle in
+          renamed c.args.chosen.now clocks c.args.query_states.now c.loop-k.query_states c.if-chosen-k.query_states c.args.held.now c.loop-k.held c.if-chosen-k.held (c.loop-k.k + 1) c.args.room.now c.loop-k.room c.if-chosen-k.room c.args.steps.now c.loop-k.steps c.if-chosen-k.steps w.query_states-is w.held-is w.room-is w.steps-is (record {
+            done = left_done clocks c.args.query_states.now c.loop-k.query_states c.loop-k.k d inside same left c.args.chosen.now flag idle c.loop-k.invariant.done;
+            left = left_behind clocks c.args.query_states.now c.loop-k.query_states c.loop-k.k d inside same left c.args.chosen.now flag;
+            held = left_carried clocks c.args.query_states.now c.loop-k.query_states c.loop-k.k d inside same left c.args.chosen.now flag c.args.held.now c.loop-k.held c.requires.held c.loop-k.invariant.held;
             same_room = c.loop-k.invariant.same_room;
-            trimmed = left_trimmed clocks c.args.parts.now c.loop-k.parts c.loop-k.k d inside same left c.args.chosen.now flag c.loop-k.held (with_clocks c.loop-k.parts clocks) c.loop-k.invariant.trimmed;
-            once = left_once clocks c.args.parts.now c.loop-k.parts c.loop-k.k d inside same left c.args.chosen.now flag (with_clocks c.args.parts.now clocks) c.loop-k.invariant.once;
-            others = left_others clocks c.args.parts.now c.loop-k.parts c.loop-k.k d inside same left c.args.chosen.now flag c.loop-k.invariant.others;
+            trimmed = left_trimmed clocks c.args.query_states.now c.loop-k.query_states c.loop-k.k d inside same left c.args.chosen.now flag c.loop-k.held (with_clocks c.loop-k.query_states clocks) c.loop-k.invariant.trimmed;
+            once = left_once clocks c.args.query_states.now c.loop-k.query_states c.loop-k.k d inside same left c.args.chosen.now flag (with_clocks c.args.query_states.now clocks) c.loop-k.invariant.once;
+            others = left_others clocks c.args.query_states.now c.loop-k.query_states c.loop-k.k d inside same left c.args.chosen.now flag c.loop-k.invariant.others;
             few = omega arith;
             paid = omega arith;
           })
           )
     ]
 
-pub returns-clause-parts : goal.returns-clause-parts
-returns-clause-parts g c =
+pub returns-clause-query_states : goal.returns-clause-query_states
+returns-clause-query_states g c =
     let few = c.loop-k.invariant.few in
-    let same = c.loop-k.auto.parts in
+    let same = c.loop-k.auto.query_states in
     let end = c.loop-k-test.false in
     let clocks = clocks_in c.args.times.now in
-    let long_old = clocked_length c.args.parts.now clocks in
-    let long_new = clocked_length c.loop-k.parts clocks in
-    let all_old = take_all c.loop-k.k (with_clocks c.args.parts.now clocks) (omega arith) in
-    let all_new = take_all c.loop-k.k (with_clocks c.loop-k.parts clocks) (omega arith) in
-    subst (λ (ps : List Phase). AllZip IsCompacted ps (with_clocks c.loop-k.parts clocks)) (map-id (with_clocks c.args.parts.now clocks))
-    (subst (AllZip IsCompacted (map (λ p. p) (with_clocks c.args.parts.now clocks))) (map-id (with_clocks c.loop-k.parts clocks)) (rw (all_old, all_new) at c.loop-k.invariant.done))
+    let long_old = clocked_length c.args.query_states.now clocks in
+    let long_new = clocked_length c.loop-k.query_states clocks in
+    let all_old = take_all c.loop-k.k (with_clocks c.args.query_states.now clocks) (omega arith) in
+    let all_new = take_all c.loop-k.k (with_clocks c.loop-k.query_states clocks) (omega arith) in
+    subst (λ (ps : List Phase). AllZip IsCompacted ps (with_clocks c.loop-k.query_states clocks)) (map-id (with_clocks c.args.query_states.now clocks))
+    (subst (AllZip IsCompacted (map (λ p. p) (with_clocks c.args.query_states.now clocks))) (map-id (with_clocks c.loop-k.query_states clocks)) (rw (all_old, all_new) at c.loop-k.invariant.done))
 
 pub returns-clause-left : goal.returns-clause-left
 returns-clause-left g c =
     let few = c.loop-k.invariant.few in
-    let same = c.loop-k.auto.parts in
+    let same = c.loop-k.auto.query_states in
     let end = c.loop-k-test.false in
-    let is : c.loop-k.k ≡ length c.args.parts.now = omega arith in
-    subst (λ k. AreTrimmed c.args.chosen.now k c.loop-k.held (with_clocks c.loop-k.parts (clocks_in c.args.times.now))) is c.loop-k.invariant.trimmed
+    let is : c.loop-k.k ≡ length c.args.query_states.now = omega arith in
+    subst (λ k. AreTrimmed c.args.chosen.now k c.loop-k.held (with_clocks c.loop-k.query_states (clocks_in c.args.times.now))) is c.loop-k.invariant.trimmed
 
 pub returns-clause-once : goal.returns-clause-once
 returns-clause-once g c =
     let few = c.loop-k.invariant.few in
     let end = c.loop-k-test.false in
-    let is : c.loop-k.k ≡ length c.args.parts.now = omega arith in
-    subst (λ k. AreOnce c.args.chosen.now k (with_clocks c.args.parts.now (clocks_in c.args.times.now))) is c.loop-k.invariant.once
+    let is : c.loop-k.k ≡ length c.args.query_states.now = omega arith in
+    subst (λ k. AreOnce c.args.chosen.now k (with_clocks c.args.query_states.now (clocks_in c.args.times.now))) is c.loop-k.invariant.once
 
 pub returns-clause-others : goal.returns-clause-others
 returns-clause-others g c =
     let few = c.loop-k.invariant.few in
     let end = c.loop-k-test.false in
-    let is : c.loop-k.k ≡ length c.args.parts.now = omega arith in
-    subst (λ k. OthersStay c.args.chosen.now k (with_clocks c.args.parts.now (clocks_in c.args.times.now)) (with_clocks c.loop-k.parts (clocks_in c.args.times.now))) is c.loop-k.invariant.others
+    let is : c.loop-k.k ≡ length c.args.query_states.now = omega arith in
+    subst (λ k. OthersStay c.args.chosen.now k (with_clocks c.args.query_states.now (clocks_in c.args.times.now)) (with_clocks c.loop-k.query_states (clocks_in c.args.times.now))) is c.loop-k.invariant.others
 
 pub returns-clause-held : goal.returns-clause-held
 returns-clause-held g c =
     let few = c.loop-k.invariant.few in
-    let same = c.loop-k.auto.parts in
+    let same = c.loop-k.auto.query_states in
     let end = c.loop-k-test.false in
-    let is : c.loop-k.k ≡ length c.args.parts.now = omega arith in
-    subst (λ k. AreCarried k (with_clocks c.args.parts.now (clocks_in c.args.times.now)) (with_clocks c.loop-k.parts (clocks_in c.args.times.now)) c.args.held.now c.loop-k.held) is c.loop-k.invariant.held
+    let is : c.loop-k.k ≡ length c.args.query_states.now = omega arith in
+    subst (λ k. AreCarried k (with_clocks c.args.query_states.now (clocks_in c.args.times.now)) (with_clocks c.loop-k.query_states (clocks_in c.args.times.now)) c.args.held.now c.loop-k.held) is c.loop-k.invariant.held
 
 pub returns-clause-steps : goal.returns-clause-steps
 returns-clause-steps g c =
     let few = c.loop-k.invariant.few in
-    let same = c.loop-k.auto.parts in
+    let same = c.loop-k.auto.query_states in
     let end = c.loop-k-test.false in
-    let long = clocked_length c.args.parts.now (clocks_in c.args.times.now) in
-    let all_old = take_all c.loop-k.k (with_clocks c.args.parts.now (clocks_in c.args.times.now)) (omega arith) in
+    let long = clocked_length c.args.query_states.now (clocks_in c.args.times.now) in
+    let all_old = take_all c.loop-k.k (with_clocks c.args.query_states.now (clocks_in c.args.times.now)) (omega arith) in
     rw all_old at c.loop-k.invariant.paid

@@ -1,4 +1,4 @@
-use Rattle.query_engine.proofs.Machine.{first_is_machine, event_is_step, refusal_is_step, want_is_step, cursor_is_step, pull_is_step, last_pull_is_step, drop_is_step, compaction_is_step}
+use Rattle.query_engine.proofs.EngineModel.{first_is_machine, event_is_step, refusal_is_step, want_is_step, cursor_is_step, pull_is_step, last_pull_is_step, drop_is_step, compaction_is_step}
 use Rattle.query_engine.proofs.laws.calls_are_steps.Goals as goal
 
 pub returns-clause-first : goal.returns-clause-first

@@ -6,4 +6,4 @@ pub returns-clause-entries : goal.returns-clause-entries
 returns-clause-entries c = entries_few
 
 pub returns-clause-keys : goal.returns-clause-keys
-returns-clause-keys c schema q events part low stands recent have = keys_few schema q events part low stands recent have
+returns-clause-keys c schema q events query_state low stands recent have = keys_few schema q events query_state low stands recent have

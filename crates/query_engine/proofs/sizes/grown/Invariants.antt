@@ -5,5 +5,5 @@ use Rattle.query_engine.proofs.sizes.grown.Given as goal
 abbrev pub invariant-loop-k : goal.invariant-loop-k
 invariant-loop-k l = record {
   long : length l.chosen.items ≡ l.k;
-  are : AreGrown l.least l.bases l.k l.parts l.chosen.items;
+  are : AreGrown l.least l.bases l.k l.query_states l.chosen.items;
 }

@@ -1,6 +1,6 @@
 use Rattle.std.proofs.Common.{◌≡◌, ℕ, List, All, length, arith}
 use Rattle.std.proofs.lemmas.List.{length-map}
-use Rattle.tecs_enumerate.specs.Rest.{CursorState, Fits}
+use Rattle.tecs_enumerate.specs.Remaining.{CursorState, Fits}
 use Rattle.std.proofs.lemmas.List.Elements.{All-map}
 use Rattle.cer_base.specs.declared.node.Root.{Root}
 use Rattle.event_update.specs.ActiveLists.{ActiveLists}

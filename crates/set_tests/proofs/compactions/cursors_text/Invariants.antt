@@ -1,5 +1,5 @@
 use Rattle.std.proofs.Common.{◌≡◌, ℕ, ◌≤◌, get_or}
-use Rattle.tecs_enumerate.specs.Rest.{CursorState}
+use Rattle.tecs_enumerate.specs.Remaining.{CursorState}
 use Rattle.set_tests.proofs.compactions.cursors_text.Given as goal
 
 -- the cursors from the one at hand on are as they were

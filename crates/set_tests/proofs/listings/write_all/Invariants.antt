@@ -1,5 +1,5 @@
 use Rattle.std.proofs.Common.{length}
-use Rattle.tecs_enumerate.specs.Rest.{rest, Fits}
+use Rattle.tecs_enumerate.specs.Remaining.{rest, Fits}
 use Rattle.set_tests.proofs.listings.write_all.Given as goal
 
 abbrev pub invariant-loop-start : goal.invariant-loop-start

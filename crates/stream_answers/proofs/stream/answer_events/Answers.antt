@@ -1,7 +1,7 @@
 use Rattle.std.proofs.Common.{◌≡◌, ◌+◌, ◌^◌, ◌<◌, ◌≤◌, ◌++◌, ◌∷◌, ℕ, Bool, [], length, refl, sym, ap, ◌∙◌, Ok, Err, arith}
-use Rattle.event_run.specs.declared.Taken.TheVariants as taken
+use Rattle.event_run.specs.declared.NextEvent.TheVariants as taken
 use Rattle.event_run.proofs.Given.{room_within}
-use Rattle.stream_answers.specs.Streams.{Asked}
+use Rattle.stream_answers.specs.Streams.{RunRequest}
 use Rattle.stream_answers.specs.Schedules.{Timing, due_by, saved, saved_by}
 use Rattle.stream_answers.proofs.Running.{as_asked, owes, came_as}
 use Rattle.query_engine.proofs.Counting.{first_meet_fewer}
@@ -9,7 +9,7 @@ use Rattle.stream_answers.proofs.Growing.{with_none, keeps_up}
 use Rattle.stream_answers.proofs.Compacted.{compacted, pays_for, noted_all, paid_in_time, windows_in_time, on_in_time}
 use Rattle.stream_answers.proofs.Windows.{windows_behind, windows_due}
 use Rattle.stream_answers.proofs.Totals.{bounded_none, counts_start, counts_on, rows_as, steps_at_end, steps_by, steps_for_memory, steps_for_fault, steps_for_compaction}
-use Rattle.stream_answers.proofs.Ends.{ends_at_end, ends_by, ends_for_memory, ends_for_compaction, ends_for_fault, stands_at_end, ok_then, none_ok, read_cause}
+use Rattle.stream_answers.proofs.RunEnds.{ends_at_end, ends_by, ends_for_memory, ends_for_compaction, ends_for_fault, stands_at_end, ok_then, none_ok, read_cause}
 use Rattle.stream_answers.proofs.stream.answer_events.Goals as goal
 
 pub loop-output-init : goal.loop-output-init
@@ -62,9 +62,9 @@ loop-output-preserved g c =
           let t : Timing = c.args.schedule.now.timing in
           let so_far = inv.following peaks earlier begun f paid in
           let took = as_asked earlier _ _ _ _ c.loop-output.lines c.take_event.new.lines c.loop-output.engine c.take_event.new.engine (g.Q.Source.left c.loop-output.source) (g.Q.Source.left c.take_event.new.source) (Ok taken.Event) inv.same.0 inv.same.1 ((rw c.in-Ok-Event.field-0-is at c.in-Ok-Event.ensures.took) earlier) in
-          let owing = owes earlier _ _ c.loop-output.lines c.take_event.new.lines (g.Q.Source.left c.loop-output.source) (g.Q.Source.left c.take_event.new.source) (g.K.Sink.taken c.args.out.now) (g.K.Sink.taken c.loop-output.out) c.loop-output.output.held c.loop-output.engine c.take_event.new.engine so_far.counting.running (took so_far.counting.running.events so_far.counting.running.stands) in
+          let owing = owes earlier _ _ c.loop-output.lines c.take_event.new.lines (g.Q.Source.left c.loop-output.source) (g.Q.Source.left c.take_event.new.source) (g.K.Sink.taken c.args.out.now) (g.K.Sink.taken c.loop-output.out) c.loop-output.output.buffer c.loop-output.engine c.take_event.new.engine so_far.counting.running (took so_far.counting.running.events so_far.counting.running.stands) in
           let put = c.in-Ok.ensures.rows.rows_are _ owing.stands in
-          let a : Asked = record { order = c.args.output.now.order; schema = c.args.engine.now.schema; queries = c.args.engine.now.queries; most_bytes = c.args.lines.now.budget } in
+          let a : RunRequest = record { order = c.args.output.now.order; schema = c.args.engine.now.schema; queries = c.args.engine.now.queries; most_bytes = c.args.lines.now.budget } in
           let had : ℕ = saved_by t.every c.loop-output.engine c.loop-output.schedule.bases in
           let mid : ℕ = saved_by t.every c.take_event.new.engine c.loop-output.schedule.bases in
           let now : ℕ = c.keep_up.new.steps + saved_by t.every c.keep_up.new.engine c.keep_up.new.self.bases in
@@ -75,7 +75,7 @@ loop-output-preserved g c =
           (λ most meet. first_meet_fewer _ _ _ _ most meet) in
           let due_here = windows_due (due_by t) peaks c.loop-output.engine c.take_event.new.engine owing.events owing.next same owing.stands event.3 so_far.windows in
           record {
-            counting = counts_on t earlier a (g.Q.Source.left c.args.source.now) c.take_event.new.lines (g.Q.Source.left c.take_event.new.source) (g.K.Sink.taken c.args.out.now) (g.K.Sink.taken c.loop-output.out) (g.K.Sink.taken c.put.new.out) c.loop-output.output.held c.put.new.self.held c.take_event.new.engine c.keep_up.new.engine owing
+            counting = counts_on t earlier a (g.Q.Source.left c.args.source.now) c.take_event.new.lines (g.Q.Source.left c.take_event.new.source) (g.K.Sink.taken c.args.out.now) (g.K.Sink.taken c.loop-output.out) (g.K.Sink.taken c.put.new.out) c.loop-output.output.buffer c.put.new.self.buffer c.take_event.new.engine c.keep_up.new.engine owing
                 so_far.counting.rows put.0 begun c.loop-output.steps had mid c.take_event.new.steps c.put.new.steps now (same.0 ∙ inv.same.0) (same.1 ∙ inv.same.1)
                 (rows_as t _ _ _ _ _ _ _ put.0 inv.order (same.0 ∙ inv.same.0) (same.1 ∙ inv.same.1) put.1) put.2.0 so_far.counting.are_rows so_far.counting.lines so_far.counting.bounded (rw c.in-Ok-Event.field-0-is at c.in-Ok-Event.ensures.steps) put.2.1 pays compacted_is;
             windows = windows_in_time c.loop-output.schedule c.keep_up.new.self t c.take_event.new.engine c.keep_up.new.engine inv.timing c.in-Ok-keep_up.ensures.windows peaks _ owing.stands due_here;
@@ -100,10 +100,10 @@ returns-in-Err-Memory-clause-wrote g c = λ peaks earlier f.
     let t : Timing = c.args.schedule.now.timing in
     let so_far = inv.following peaks earlier (c.args.steps.now + saved c.args.schedule.now c.args.engine.now) f (bounded_none t c.args.engine.now.schema c.args.engine.now.queries earlier [] (c.args.steps.now + saved c.args.schedule.now c.args.engine.now)) in
     let took = as_asked earlier _ _ _ _ c.loop-output.lines c.take_event.new.lines c.loop-output.engine c.take_event.new.engine (g.Q.Source.left c.loop-output.source) (g.Q.Source.left c.take_event.new.source) (Ok taken.Event) inv.same.0 inv.same.1 ((rw c.in-Ok-Event.field-0-is at c.in-Ok-Event.ensures.took) earlier) in
-    let owing = owes earlier _ _ c.loop-output.lines c.take_event.new.lines (g.Q.Source.left c.loop-output.source) (g.Q.Source.left c.take_event.new.source) (g.K.Sink.taken c.args.out.now) (g.K.Sink.taken c.loop-output.out) c.loop-output.output.held c.loop-output.engine c.take_event.new.engine so_far.counting.running (took so_far.counting.running.events so_far.counting.running.stands) in
+    let owing = owes earlier _ _ c.loop-output.lines c.take_event.new.lines (g.Q.Source.left c.loop-output.source) (g.Q.Source.left c.take_event.new.source) (g.K.Sink.taken c.args.out.now) (g.K.Sink.taken c.loop-output.out) c.loop-output.output.buffer c.loop-output.engine c.take_event.new.engine so_far.counting.running (took so_far.counting.running.events so_far.counting.running.stands) in
     let same = c.take_event.ensures.same in
     let put = (rw c.in-Err-Memory.field-0-is at c.in-Err-Memory.ensures.passed) _ owing.stands in
-    ends_for_memory earlier _ _ c.take_event.new.lines (g.Q.Source.left c.take_event.new.source) (g.K.Sink.taken c.args.out.now) (g.K.Sink.taken c.loop-output.out) (g.K.Sink.taken c.put.new.out) (g.K.Sink.taken c.finish-in-Err-Memory.new.out) c.loop-output.output.held put.0 c.put.new.self.held _ _ c.take_event.new.engine c.finish-in-Err-Memory.result (c.take_event.ensures.budget ∙ inv.budget) owing
+    ends_for_memory earlier _ _ c.take_event.new.lines (g.Q.Source.left c.take_event.new.source) (g.K.Sink.taken c.args.out.now) (g.K.Sink.taken c.loop-output.out) (g.K.Sink.taken c.put.new.out) (g.K.Sink.taken c.finish-in-Err-Memory.new.out) c.loop-output.output.buffer put.0 c.put.new.self.buffer _ _ c.take_event.new.engine c.finish-in-Err-Memory.result (c.take_event.ensures.budget ∙ inv.budget) owing
     (came_as _ _ _ _ _ put.0 inv.order (same.0 ∙ inv.same.0) (same.1 ∙ inv.same.1) put.1) put.2 c.finish-in-Err-Memory.ensures.finished
 
 pub returns-in-Err-Fault-clause-wrote : goal.returns-in-Err-Fault-clause-wrote
@@ -112,10 +112,10 @@ returns-in-Err-Fault-clause-wrote g c = λ peaks earlier f.
     let t : Timing = c.args.schedule.now.timing in
     let so_far = inv.following peaks earlier (c.args.steps.now + saved c.args.schedule.now c.args.engine.now) f (bounded_none t c.args.engine.now.schema c.args.engine.now.queries earlier [] (c.args.steps.now + saved c.args.schedule.now c.args.engine.now)) in
     let took = as_asked earlier _ _ _ _ c.loop-output.lines c.take_event.new.lines c.loop-output.engine c.take_event.new.engine (g.Q.Source.left c.loop-output.source) (g.Q.Source.left c.take_event.new.source) (Ok taken.Event) inv.same.0 inv.same.1 ((rw c.in-Ok-Event.field-0-is at c.in-Ok-Event.ensures.took) earlier) in
-    let owing = owes earlier _ _ c.loop-output.lines c.take_event.new.lines (g.Q.Source.left c.loop-output.source) (g.Q.Source.left c.take_event.new.source) (g.K.Sink.taken c.args.out.now) (g.K.Sink.taken c.loop-output.out) c.loop-output.output.held c.loop-output.engine c.take_event.new.engine so_far.counting.running (took so_far.counting.running.events so_far.counting.running.stands) in
+    let owing = owes earlier _ _ c.loop-output.lines c.take_event.new.lines (g.Q.Source.left c.loop-output.source) (g.Q.Source.left c.take_event.new.source) (g.K.Sink.taken c.args.out.now) (g.K.Sink.taken c.loop-output.out) c.loop-output.output.buffer c.loop-output.engine c.take_event.new.engine so_far.counting.running (took so_far.counting.running.events so_far.counting.running.stands) in
     let same = c.take_event.ensures.same in
     let put = (rw c.in-Err-Fault.field-0-is at c.in-Err-Fault.ensures.passed) _ owing.stands in
-    ends_for_fault earlier _ _ c.take_event.new.lines (g.Q.Source.left c.take_event.new.source) (g.K.Sink.taken c.args.out.now) (g.K.Sink.taken c.loop-output.out) (g.K.Sink.taken c.put.new.out) c.loop-output.output.held put.0 c.take_event.new.engine (c.take_event.ensures.budget ∙ inv.budget) owing
+    ends_for_fault earlier _ _ c.take_event.new.lines (g.Q.Source.left c.take_event.new.source) (g.K.Sink.taken c.args.out.now) (g.K.Sink.taken c.loop-output.out) (g.K.Sink.taken c.put.new.out) c.loop-output.output.buffer put.0 c.take_event.new.engine (c.take_event.ensures.budget ∙ inv.budget) owing
     (came_as _ _ _ _ _ put.0 inv.order (same.0 ∙ inv.same.0) (same.1 ∙ inv.same.1) put.1) put.2
 
 -- THE STEPS
@@ -147,15 +147,15 @@ returns-in-Err-Memory-clause-steps g c = λ peaks earlier begun f paid bytes tol
     let t : Timing = c.args.schedule.now.timing in
     let so_far = inv.following peaks earlier begun f paid in
     let took = as_asked earlier _ _ _ _ c.loop-output.lines c.take_event.new.lines c.loop-output.engine c.take_event.new.engine (g.Q.Source.left c.loop-output.source) (g.Q.Source.left c.take_event.new.source) (Ok taken.Event) inv.same.0 inv.same.1 ((rw c.in-Ok-Event.field-0-is at c.in-Ok-Event.ensures.took) earlier) in
-    let owing = owes earlier _ _ c.loop-output.lines c.take_event.new.lines (g.Q.Source.left c.loop-output.source) (g.Q.Source.left c.take_event.new.source) (g.K.Sink.taken c.args.out.now) (g.K.Sink.taken c.loop-output.out) c.loop-output.output.held c.loop-output.engine c.take_event.new.engine so_far.counting.running (took so_far.counting.running.events so_far.counting.running.stands) in
+    let owing = owes earlier _ _ c.loop-output.lines c.take_event.new.lines (g.Q.Source.left c.loop-output.source) (g.Q.Source.left c.take_event.new.source) (g.K.Sink.taken c.args.out.now) (g.K.Sink.taken c.loop-output.out) c.loop-output.output.buffer c.loop-output.engine c.take_event.new.engine so_far.counting.running (took so_far.counting.running.events so_far.counting.running.stands) in
     let same = c.take_event.ensures.same in
     let put = (rw c.in-Err-Memory.field-0-is at c.in-Err-Memory.ensures.rows).rows_are _ owing.stands in
-    let a : Asked = record { order = c.args.output.now.order; schema = c.args.engine.now.schema; queries = c.args.engine.now.queries; most_bytes = c.args.lines.now.budget } in
+    let a : RunRequest = record { order = c.args.output.now.order; schema = c.args.engine.now.schema; queries = c.args.engine.now.queries; most_bytes = c.args.lines.now.budget } in
     let had : ℕ = saved_by t.every c.loop-output.engine c.loop-output.schedule.bases in
     let mid : ℕ = saved_by t.every c.take_event.new.engine c.loop-output.schedule.bases in
     let event = took so_far.counting.running.events so_far.counting.running.stands in
     let pays = pays_for t.every a c.loop-output.engine c.take_event.new.engine owing.events owing.next c.loop-output.schedule.bases (same.0 ∙ inv.same.0) (same.1 ∙ inv.same.1) same owing.stands event.3 event.4 in
-    steps_for_memory t earlier a _ bytes c.take_event.new.lines (g.Q.Source.left c.take_event.new.source) (g.K.Sink.taken c.args.out.now) (g.K.Sink.taken c.loop-output.out) (g.K.Sink.taken c.put.new.out) (g.K.Sink.taken c.finish-in-Err-Memory.new.out) c.loop-output.output.held c.put.new.self.held _ _ c.take_event.new.engine owing
+    steps_for_memory t earlier a _ bytes c.take_event.new.lines (g.Q.Source.left c.take_event.new.source) (g.K.Sink.taken c.args.out.now) (g.K.Sink.taken c.loop-output.out) (g.K.Sink.taken c.put.new.out) (g.K.Sink.taken c.finish-in-Err-Memory.new.out) c.loop-output.output.buffer c.put.new.self.buffer _ _ c.take_event.new.engine owing
     so_far.counting.rows put.0 begun c.loop-output.steps had mid c.take_event.new.steps c.put.new.steps c.finish-in-Err-Memory.result told (c.take_event.ensures.budget ∙ inv.budget) (same.0 ∙ inv.same.0) (same.1 ∙ inv.same.1)
     (rows_as t _ _ _ _ _ _ _ put.0 inv.order (same.0 ∙ inv.same.0) (same.1 ∙ inv.same.1) put.1) so_far.counting.are_rows so_far.counting.lines so_far.counting.bounded (rw c.in-Ok-Event.field-0-is at c.in-Ok-Event.ensures.steps) put.2.1 pays c.finish-in-Err-Memory.ensures.finished
     (λ walk. let none = c.put.ensures.walk (inv.order ∙ walk) in (none, c.finish-in-Err-Memory.ensures.none none))
@@ -166,15 +166,15 @@ returns-in-Err-Fault-clause-steps g c = λ peaks earlier begun f paid bytes told
     let t : Timing = c.args.schedule.now.timing in
     let so_far = inv.following peaks earlier begun f paid in
     let took = as_asked earlier _ _ _ _ c.loop-output.lines c.take_event.new.lines c.loop-output.engine c.take_event.new.engine (g.Q.Source.left c.loop-output.source) (g.Q.Source.left c.take_event.new.source) (Ok taken.Event) inv.same.0 inv.same.1 ((rw c.in-Ok-Event.field-0-is at c.in-Ok-Event.ensures.took) earlier) in
-    let owing = owes earlier _ _ c.loop-output.lines c.take_event.new.lines (g.Q.Source.left c.loop-output.source) (g.Q.Source.left c.take_event.new.source) (g.K.Sink.taken c.args.out.now) (g.K.Sink.taken c.loop-output.out) c.loop-output.output.held c.loop-output.engine c.take_event.new.engine so_far.counting.running (took so_far.counting.running.events so_far.counting.running.stands) in
+    let owing = owes earlier _ _ c.loop-output.lines c.take_event.new.lines (g.Q.Source.left c.loop-output.source) (g.Q.Source.left c.take_event.new.source) (g.K.Sink.taken c.args.out.now) (g.K.Sink.taken c.loop-output.out) c.loop-output.output.buffer c.loop-output.engine c.take_event.new.engine so_far.counting.running (took so_far.counting.running.events so_far.counting.running.stands) in
     let same = c.take_event.ensures.same in
     let put = (rw c.in-Err-Fault.field-0-is at c.in-Err-Fault.ensures.rows).rows_are _ owing.stands in
-    let a : Asked = record { order = c.args.output.now.order; schema = c.args.engine.now.schema; queries = c.args.engine.now.queries; most_bytes = c.args.lines.now.budget } in
+    let a : RunRequest = record { order = c.args.output.now.order; schema = c.args.engine.now.schema; queries = c.args.engine.now.queries; most_bytes = c.args.lines.now.budget } in
     let had : ℕ = saved_by t.every c.loop-output.engine c.loop-output.schedule.bases in
     let mid : ℕ = saved_by t.every c.take_event.new.engine c.loop-output.schedule.bases in
     let event = took so_far.counting.running.events so_far.counting.running.stands in
     let pays = pays_for t.every a c.loop-output.engine c.take_event.new.engine owing.events owing.next c.loop-output.schedule.bases (same.0 ∙ inv.same.0) (same.1 ∙ inv.same.1) same owing.stands event.3 event.4 in
-    steps_for_fault t earlier a _ bytes c.take_event.new.lines (g.Q.Source.left c.take_event.new.source) (g.K.Sink.taken c.args.out.now) (g.K.Sink.taken c.loop-output.out) (g.K.Sink.taken c.put.new.out) c.loop-output.output.held c.take_event.new.engine owing
+    steps_for_fault t earlier a _ bytes c.take_event.new.lines (g.Q.Source.left c.take_event.new.source) (g.K.Sink.taken c.args.out.now) (g.K.Sink.taken c.loop-output.out) (g.K.Sink.taken c.put.new.out) c.loop-output.output.buffer c.take_event.new.engine owing
     so_far.counting.rows put.0 begun c.loop-output.steps had mid c.take_event.new.steps c.put.new.steps _ told (c.take_event.ensures.budget ∙ inv.budget) (same.0 ∙ inv.same.0) (same.1 ∙ inv.same.1) inv.order
     (rows_as t _ _ _ _ _ _ _ put.0 inv.order (same.0 ∙ inv.same.0) (same.1 ∙ inv.same.1) put.1) so_far.counting.are_rows so_far.counting.lines so_far.counting.bounded (rw c.in-Ok-Event.field-0-is at c.in-Ok-Event.ensures.steps) pays put.2.1 inv.none_waits
 
@@ -186,10 +186,10 @@ returns-in-Err-keep_up-clause-wrote g c = λ peaks earlier f.
     let t : Timing = c.args.schedule.now.timing in
     let so_far = inv.following peaks earlier (c.args.steps.now + saved c.args.schedule.now c.args.engine.now) f (bounded_none t c.args.engine.now.schema c.args.engine.now.queries earlier [] (c.args.steps.now + saved c.args.schedule.now c.args.engine.now)) in
     let took = as_asked earlier _ _ _ _ c.loop-output.lines c.take_event.new.lines c.loop-output.engine c.take_event.new.engine (g.Q.Source.left c.loop-output.source) (g.Q.Source.left c.take_event.new.source) (Ok taken.Event) inv.same.0 inv.same.1 ((rw c.in-Ok-Event.field-0-is at c.in-Ok-Event.ensures.took) earlier) in
-    let owing = owes earlier _ _ c.loop-output.lines c.take_event.new.lines (g.Q.Source.left c.loop-output.source) (g.Q.Source.left c.take_event.new.source) (g.K.Sink.taken c.args.out.now) (g.K.Sink.taken c.loop-output.out) c.loop-output.output.held c.loop-output.engine c.take_event.new.engine so_far.counting.running (took so_far.counting.running.events so_far.counting.running.stands) in
+    let owing = owes earlier _ _ c.loop-output.lines c.take_event.new.lines (g.Q.Source.left c.loop-output.source) (g.Q.Source.left c.take_event.new.source) (g.K.Sink.taken c.args.out.now) (g.K.Sink.taken c.loop-output.out) c.loop-output.output.buffer c.loop-output.engine c.take_event.new.engine so_far.counting.running (took so_far.counting.running.events so_far.counting.running.stands) in
     let same = c.take_event.ensures.same in
     let put = c.in-Ok.ensures.rows.rows_are _ owing.stands in
-    let a : Asked = record { order = c.args.output.now.order; schema = c.args.engine.now.schema; queries = c.args.engine.now.queries; most_bytes = c.args.lines.now.budget } in
+    let a : RunRequest = record { order = c.args.output.now.order; schema = c.args.engine.now.schema; queries = c.args.engine.now.queries; most_bytes = c.args.lines.now.budget } in
     let had : ℕ = saved_by t.every c.loop-output.engine c.loop-output.schedule.bases in
     let mid : ℕ = saved_by t.every c.take_event.new.engine c.loop-output.schedule.bases in
     let now : ℕ = c.keep_up.new.steps + saved_by t.every c.keep_up.new.engine c.keep_up.new.self.bases in
@@ -198,10 +198,10 @@ returns-in-Err-keep_up-clause-wrote g c = λ peaks earlier f.
     let compacted_is = compacted t a c.loop-output.engine c.take_event.new.engine c.keep_up.new.engine owing.events owing.next (c.put.new.steps + mid) now (same.0 ∙ inv.same.0) (same.1 ∙ inv.same.1) same c.keep_up.ensures.same
     owing.stands (c.keep_up.ensures.stands _ owing.stands) so_far.counting.few (c.in-Ok-Event.ensures.growth (ap Ok c.in-Ok-Event.field-0-is)) c.keep_up.ensures.fewer (paid_in_time c.loop-output.schedule c.keep_up.new.self t c.take_event.new.engine c.keep_up.new.engine inv.timing c.put.new.steps c.keep_up.new.steps c.keep_up.ensures.timing c.keep_up.ensures.steps (owing.events ++ owing.next ∷ []) owing.stands)
     (λ most meet. first_meet_fewer _ _ _ _ most meet) in
-    let counting = counts_on t earlier a (g.Q.Source.left c.args.source.now) c.take_event.new.lines (g.Q.Source.left c.take_event.new.source) (g.K.Sink.taken c.args.out.now) (g.K.Sink.taken c.loop-output.out) (g.K.Sink.taken c.put.new.out) c.loop-output.output.held c.put.new.self.held c.take_event.new.engine c.keep_up.new.engine owing
+    let counting = counts_on t earlier a (g.Q.Source.left c.args.source.now) c.take_event.new.lines (g.Q.Source.left c.take_event.new.source) (g.K.Sink.taken c.args.out.now) (g.K.Sink.taken c.loop-output.out) (g.K.Sink.taken c.put.new.out) c.loop-output.output.buffer c.put.new.self.buffer c.take_event.new.engine c.keep_up.new.engine owing
     so_far.counting.rows put.0 (c.args.steps.now + saved c.args.schedule.now c.args.engine.now) c.loop-output.steps had mid c.take_event.new.steps c.put.new.steps now (same.0 ∙ inv.same.0) (same.1 ∙ inv.same.1)
     (rows_as t _ _ _ _ _ _ _ put.0 inv.order (same.0 ∙ inv.same.0) (same.1 ∙ inv.same.1) put.1) put.2.0 so_far.counting.are_rows so_far.counting.lines so_far.counting.bounded (rw c.in-Ok-Event.field-0-is at c.in-Ok-Event.ensures.steps) put.2.1 pays compacted_is in
-    ends_for_compaction earlier a (g.Q.Source.left c.args.source.now) c.take_event.new.lines (g.Q.Source.left c.take_event.new.source) (g.K.Sink.taken c.args.out.now) (g.K.Sink.taken c.put.new.out) (g.K.Sink.taken c.finish-in-Err-keep_up.new.out) c.put.new.self.held _ _ c.keep_up.new.engine c.finish-in-Err-keep_up.result
+    ends_for_compaction earlier a (g.Q.Source.left c.args.source.now) c.take_event.new.lines (g.Q.Source.left c.take_event.new.source) (g.K.Sink.taken c.args.out.now) (g.K.Sink.taken c.put.new.out) (g.K.Sink.taken c.finish-in-Err-keep_up.new.out) c.put.new.self.buffer _ _ c.keep_up.new.engine c.finish-in-Err-keep_up.result
     (c.take_event.ensures.budget ∙ inv.budget) counting.running c.finish-in-Err-keep_up.ensures.finished
 
 pub returns-in-Err-keep_up-clause-steps : goal.returns-in-Err-keep_up-clause-steps
@@ -210,10 +210,10 @@ returns-in-Err-keep_up-clause-steps g c = λ peaks earlier begun f paid bytes to
     let t : Timing = c.args.schedule.now.timing in
     let so_far = inv.following peaks earlier begun f paid in
     let took = as_asked earlier _ _ _ _ c.loop-output.lines c.take_event.new.lines c.loop-output.engine c.take_event.new.engine (g.Q.Source.left c.loop-output.source) (g.Q.Source.left c.take_event.new.source) (Ok taken.Event) inv.same.0 inv.same.1 ((rw c.in-Ok-Event.field-0-is at c.in-Ok-Event.ensures.took) earlier) in
-    let owing = owes earlier _ _ c.loop-output.lines c.take_event.new.lines (g.Q.Source.left c.loop-output.source) (g.Q.Source.left c.take_event.new.source) (g.K.Sink.taken c.args.out.now) (g.K.Sink.taken c.loop-output.out) c.loop-output.output.held c.loop-output.engine c.take_event.new.engine so_far.counting.running (took so_far.counting.running.events so_far.counting.running.stands) in
+    let owing = owes earlier _ _ c.loop-output.lines c.take_event.new.lines (g.Q.Source.left c.loop-output.source) (g.Q.Source.left c.take_event.new.source) (g.K.Sink.taken c.args.out.now) (g.K.Sink.taken c.loop-output.out) c.loop-output.output.buffer c.loop-output.engine c.take_event.new.engine so_far.counting.running (took so_far.counting.running.events so_far.counting.running.stands) in
     let same = c.take_event.ensures.same in
     let put = c.in-Ok.ensures.rows.rows_are _ owing.stands in
-    let a : Asked = record { order = c.args.output.now.order; schema = c.args.engine.now.schema; queries = c.args.engine.now.queries; most_bytes = c.args.lines.now.budget } in
+    let a : RunRequest = record { order = c.args.output.now.order; schema = c.args.engine.now.schema; queries = c.args.engine.now.queries; most_bytes = c.args.lines.now.budget } in
     let had : ℕ = saved_by t.every c.loop-output.engine c.loop-output.schedule.bases in
     let mid : ℕ = saved_by t.every c.take_event.new.engine c.loop-output.schedule.bases in
     let now : ℕ = c.keep_up.new.steps + saved_by t.every c.keep_up.new.engine c.keep_up.new.self.bases in
@@ -222,10 +222,10 @@ returns-in-Err-keep_up-clause-steps g c = λ peaks earlier begun f paid bytes to
     let compacted_is = compacted t a c.loop-output.engine c.take_event.new.engine c.keep_up.new.engine owing.events owing.next (c.put.new.steps + mid) now (same.0 ∙ inv.same.0) (same.1 ∙ inv.same.1) same c.keep_up.ensures.same
     owing.stands (c.keep_up.ensures.stands _ owing.stands) so_far.counting.few (c.in-Ok-Event.ensures.growth (ap Ok c.in-Ok-Event.field-0-is)) c.keep_up.ensures.fewer (paid_in_time c.loop-output.schedule c.keep_up.new.self t c.take_event.new.engine c.keep_up.new.engine inv.timing c.put.new.steps c.keep_up.new.steps c.keep_up.ensures.timing c.keep_up.ensures.steps (owing.events ++ owing.next ∷ []) owing.stands)
     (λ most meet. first_meet_fewer _ _ _ _ most meet) in
-    let counting = counts_on t earlier a (g.Q.Source.left c.args.source.now) c.take_event.new.lines (g.Q.Source.left c.take_event.new.source) (g.K.Sink.taken c.args.out.now) (g.K.Sink.taken c.loop-output.out) (g.K.Sink.taken c.put.new.out) c.loop-output.output.held c.put.new.self.held c.take_event.new.engine c.keep_up.new.engine owing
+    let counting = counts_on t earlier a (g.Q.Source.left c.args.source.now) c.take_event.new.lines (g.Q.Source.left c.take_event.new.source) (g.K.Sink.taken c.args.out.now) (g.K.Sink.taken c.loop-output.out) (g.K.Sink.taken c.put.new.out) c.loop-output.output.buffer c.put.new.self.buffer c.take_event.new.engine c.keep_up.new.engine owing
     so_far.counting.rows put.0 begun c.loop-output.steps had mid c.take_event.new.steps c.put.new.steps now (same.0 ∙ inv.same.0) (same.1 ∙ inv.same.1)
     (rows_as t _ _ _ _ _ _ _ put.0 inv.order (same.0 ∙ inv.same.0) (same.1 ∙ inv.same.1) put.1) put.2.0 so_far.counting.are_rows so_far.counting.lines so_far.counting.bounded (rw c.in-Ok-Event.field-0-is at c.in-Ok-Event.ensures.steps) put.2.1 pays compacted_is in
-    steps_for_compaction t earlier a (g.Q.Source.left c.args.source.now) bytes c.take_event.new.lines (g.Q.Source.left c.take_event.new.source) (g.K.Sink.taken c.args.out.now) (g.K.Sink.taken c.put.new.out) (g.K.Sink.taken c.finish-in-Err-keep_up.new.out) c.put.new.self.held _ _ c.keep_up.new.engine c.finish-in-Err-keep_up.result begun now c.keep_up.new.steps
+    steps_for_compaction t earlier a (g.Q.Source.left c.args.source.now) bytes c.take_event.new.lines (g.Q.Source.left c.take_event.new.source) (g.K.Sink.taken c.args.out.now) (g.K.Sink.taken c.put.new.out) (g.K.Sink.taken c.finish-in-Err-keep_up.new.out) c.put.new.self.buffer _ _ c.keep_up.new.engine c.finish-in-Err-keep_up.result begun now c.keep_up.new.steps
     told (c.take_event.ensures.budget ∙ inv.budget) (omega arith) counting c.finish-in-Err-keep_up.ensures.finished
     (λ walk. let none = c.put.ensures.walk (inv.order ∙ walk) in (none, c.finish-in-Err-keep_up.ensures.none none))
 

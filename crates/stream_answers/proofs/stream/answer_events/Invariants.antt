@@ -13,10 +13,10 @@ invariant-loop-output g l = record {
   following : (peaks : ℕ → ℕ) (earlier : List Event) (begun : ℕ) → HasBegun l.fn.schedule peaks earlier l.fn.engine
       → AreBoundedBy l.fn.schedule.timing l.fn.engine.schema l.fn.engine.queries earlier [] begun (l.fn.steps + saved l.fn.schedule l.fn.engine)
       → Following l.fn.schedule.timing l.schedule earlier (record { order = l.fn.output.order; schema = l.fn.engine.schema; queries = l.fn.engine.queries; most_bytes = l.fn.lines.budget })
-      (g.Q.Source.left l.fn.source) l.lines (g.Q.Source.left l.source) (g.K.Sink.taken l.fn.out) (g.K.Sink.taken l.out) l.output.held l.engine begun l.steps peaks;
+      (g.Q.Source.left l.fn.source) l.lines (g.Q.Source.left l.source) (g.K.Sink.taken l.fn.out) (g.K.Sink.taken l.out) l.output.buffer l.engine begun l.steps peaks;
   timing : l.schedule.timing ≡ l.fn.schedule.timing;
   noted : length l.schedule.bases ≡ length l.fn.engine.queries;
-  none_waits : l.fn.output.order ≡ Walk → l.output.held ≡ [];
+  none_waits : l.fn.output.order ≡ Walk → l.output.buffer ≡ [];
   open_is : l.lines.closed ≡ false;
   counted : count_of l.engine + l.lines.room < 2 ^ 64;
   same : SameQueries l.fn.engine l.engine;

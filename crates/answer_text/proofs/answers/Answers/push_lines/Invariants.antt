@@ -1,7 +1,7 @@
 -- The lines of the answers so far are there.
 use Rattle.std.proofs.Common.{◌≡◌, ◌++◌, take, flat_map, map}
 use Rattle.answer_text.specs.Output.{line}
-use Rattle.answer_text.specs.Held.{answer_in}
+use Rattle.answer_text.specs.AnswerSpans.{answer_in}
 use Rattle.answer_text.proofs.answers.Answers.push_lines.Given as goal
 
 abbrev pub invariant-loop-k : goal.invariant-loop-k

@@ -7,7 +7,7 @@ use Rattle.std.specs.List.Sorted.{IsPermutation}
 use Rattle.cel_terms.specs.Answers.{Answer}
 use Rattle.cer_base.proofs.Repeats.{HasNoRepeats-permutation}
 use Rattle.answer_text.specs.Output.{ComesBefore, EachBeforeNext}
-use Rattle.answer_text.specs.Held.{answer_in, IsWithin}
+use Rattle.answer_text.specs.AnswerSpans.{answer_in, IsWithin}
 use Rattle.answer_text.proofs.SortedSpans.{sorted_by_order}
 use Rattle.answer_text.proofs.answers.Answers.sort.Goals as goal
 

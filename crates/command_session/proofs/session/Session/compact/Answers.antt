@@ -2,7 +2,7 @@
 use Rattle.std.proofs.Common.{◌≡◌, ◌≤◌, ◌∙◌, length, ap, arith}
 use Rattle.std.specs.Vec.{with_items}
 use Rattle.std.proofs.lemmas.List.{with_items_is}
-use Rattle.query_engine.specs.Engine.{State}
+use Rattle.query_engine.specs.Engine.{EngineState}
 use Rattle.query_engine.specs.Sizes.{put_by}
 use Rattle.query_engine.proofs.SmallSizes.{nothing_is_put_by}
 use Rattle.command_session.specs.Sessions.{Session}
@@ -66,5 +66,5 @@ returns-in-Err-clause-costs g c = λ machine stands.
     let e = c.self.inside.engine in
     let f = c.compact.new.self in
     let bs = c.self.inside.schedule.bases in
-    let less : put_by f bs ≤ put_by e bs = (let same = ap (λ (x : State). put_by x bs) c.in-Err.ensures.unchanged.0 in omega (arith, same)) in
+    let less : put_by f bs ≤ put_by e bs = (let same = ap (λ (x : EngineState). put_by x bs) c.in-Err.ensures.unchanged.0 in omega (arith, same)) in
     costs_compact e f c.self.inside.opened.items c.self.inside.opened.items c.self.inside.cursors.items c.self.inside.cursors.items c.self.inside.closed c.self.inside.closed bs bs c.args.self.now machine c.args.steps.now c.compact.new.steps c.self.view_is less c.compact.ensures.bounded stands

@@ -2,10 +2,10 @@
 use Rattle.std.proofs.Common.{◌≡◌, ◌+◌, ◌-◌, ◌==◌, ◌≤◌, ◌<◌, ◌∙◌, length, ap, subst, sym, position, None, ℕ, arith}
 use Rattle.query_engine.specs.Bounds.{update_bound}
 use Rattle.query_engine.specs.Engine.{count_of, found_of}
-use Rattle.command_session.specs.declared.opened.Opened.{Opened}
-use Rattle.command_session.specs.declared.command.Command.TheVariants as command
+use Rattle.command_session.specs.declared.opened.CursorNumber.{CursorNumber}
+use Rattle.command_session.specs.declared.command.ScriptCommand.TheVariants as command
 use Rattle.command_session.specs.Sessions.{Session}
-use Rattle.command_session.specs.Steps.{CostsAtMost}
+use Rattle.command_session.specs.CommandSteps.{CostsAtMost}
 use Rattle.command_session.proofs.Stepping.{session, went_open, kept_open, kept_same, is_open, none_found, unchanged, same_lists}
 use Rattle.command_session.proofs.Costs.{costs_open}
 use Rattle.command_session.proofs.session.Session.open.Goals as goal
@@ -16,7 +16,7 @@ returns-then-is_some-clause-ended g c = λ machine taken stands.
     let one : 1 ≤ c.args.query = omega (arith, c.if-query-eq0.false) in
     let most : c.args.query ≤ length c.self.inside.engine.queries = omega (arith, c.if-query-queries.false, c.queries.ensures) in
     let some : 0 < count_of c.self.inside.engine = omega (arith, c.if-events-eq0.false, c.events.ensures.count) in
-    let found = c.place_among.ensures ∙ ap (position (λ (o : Opened). o.number == c.args.number)) c.as_slice.ensures.value in
+    let found = c.place_among.ensures ∙ ap (position (λ (o : CursorNumber). o.number == c.args.number)) c.as_slice.ensures.value in
     is_open c.self.inside.engine c.self.inside.opened.items c.self.inside.cursors.items c.self.inside.closed c.self.inside.schedule.bases c.args.self.now machine c.args.query c.args.number c.place_among.result taken
     c.self.view_is c.self.invariant.0 one most some found (sym c.if-is_some.true ∙ c.is_some.ensures) stands
 
@@ -40,8 +40,8 @@ returns-after-add-clause-ended g c = λ machine taken stands.
     let one : 1 ≤ c.args.query = omega (arith, c.if-query-eq0.false) in
     let most : c.args.query ≤ length e.queries = omega (arith, c.if-query-queries.false, c.queries.ensures) in
     let some : 0 < count_of e = omega (arith, c.if-events-eq0.false, c.events.ensures.count) in
-    let found = c.place_among.ensures ∙ ap (position (λ (o : Opened). o.number == c.args.number)) c.as_slice.ensures.value in
-    let free : position (λ (o : Opened). o.number == c.args.number) os ≡ None = sym found ∙ none_found c.place_among.result (sym c.is_some.ensures ∙ c.if-is_some.false) in
+    let found = c.place_among.ensures ∙ ap (position (λ (o : CursorNumber). o.number == c.args.number)) c.as_slice.ensures.value in
+    let free : position (λ (o : CursorNumber). o.number == c.args.number) os ≡ None = sym found ∙ none_found c.place_among.result (sym c.is_some.ensures ∙ c.if-is_some.false) in
     let last : c.events-position.result - 1 ≡ count_of e - 1 = ap (λ (n : ℕ). n - 1) c.events-position.ensures.count in
     elim c.match-add.branch [
       | in-Ok-add w ↦ rw w.result-is (went_open e os c.add.new.opened.items cs c.add.new.cursors.items d bs c.args.self.now machine c.args.query c.args.number (c.events-position.result - 1) c.in-Ok.cursor taken

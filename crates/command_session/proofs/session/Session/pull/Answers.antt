@@ -1,7 +1,7 @@
 -- The cursor is not open, or gives answers.
 use Rattle.std.proofs.Common.{◌==◌, ◌∙◌, true, length, ap, refl, slice_set, position, arith}
 use Rattle.std.proofs.lemmas.Option.{slice_get_read}
-use Rattle.command_session.specs.declared.opened.Opened.{Opened}
+use Rattle.command_session.specs.declared.opened.CursorNumber.{CursorNumber}
 use Rattle.command_session.specs.Sessions.{Session, PullIsWithin}
 use Rattle.command_session.proofs.Stepping.{session, went_pull, broke_pull, within_pull, unrefused, not_open, unchanged, place_within}
 use Rattle.command_session.proofs.Costs.{costs_pull}
@@ -9,7 +9,7 @@ use Rattle.command_session.proofs.session.Session.pull.Goals as goal
 
 pub returns-in-None-clause-ended : goal.returns-in-None-clause-ended
 returns-in-None-clause-ended g c = λ machine stands.
-    let found = c.in-None.ensures ∙ ap (position (λ (o : Opened). o.number == c.args.number)) c.as_slice.ensures.value in (
+    let found = c.in-None.ensures ∙ ap (position (λ (o : CursorNumber). o.number == c.args.number)) c.as_slice.ensures.value in (
       (refl, not_open c.self.inside.engine c.self.inside.opened.items c.self.inside.cursors.items c.self.inside.closed c.self.inside.schedule.bases c.args.self.now machine c.args.number c.self.view_is c.self.invariant.0 found stands),
       unchanged c.args.self.now c.args.self.now (g.K.Sink.taken c.args.out.now) refl,
     )
@@ -20,7 +20,7 @@ returns-in-Ok-clause-ended g c = λ machine stands.
     let os = c.self.inside.opened.items in
     let cs = c.self.inside.cursors.items in
     let k = c.in-Some.k in
-    let found = c.in-Some.ensures ∙ ap (position (λ (o : Opened). o.number == c.args.number)) c.as_slice.ensures.value in
+    let found = c.in-Some.ensures ∙ ap (position (λ (o : CursorNumber). o.number == c.args.number)) c.as_slice.ensures.value in
     let inside = place_within os c.args.number k found in
     let here = slice_get_read os (length os) k c.index.result.now refl inside c.index.ensures in
     let there = slice_get_read cs (length cs) k c.index_mut-cursor.result.now refl (omega (arith, inside, c.self.invariant.0.count)) c.index_mut-cursor.ensures.value in
@@ -33,7 +33,7 @@ returns-in-Ok-clause-steps g c = λ machine stands.
     let os = c.self.inside.opened.items in
     let cs = c.self.inside.cursors.items in
     let k = c.in-Some.k in
-    let found = c.in-Some.ensures ∙ ap (position (λ (o : Opened). o.number == c.args.number)) c.as_slice.ensures.value in
+    let found = c.in-Some.ensures ∙ ap (position (λ (o : CursorNumber). o.number == c.args.number)) c.as_slice.ensures.value in
     let inside = place_within os c.args.number k found in
     let here = slice_get_read os (length os) k c.index.result.now refl inside c.index.ensures in
     let there = slice_get_read cs (length cs) k c.index_mut-cursor.result.now refl (omega (arith, inside, c.self.invariant.0.count)) c.index_mut-cursor.ensures.value in
@@ -46,7 +46,7 @@ returns-in-Err-clause-ended g c = λ machine stands.
     let os = c.self.inside.opened.items in
     let cs = c.self.inside.cursors.items in
     let k = c.in-Some.k in
-    let found = c.in-Some.ensures ∙ ap (position (λ (o : Opened). o.number == c.args.number)) c.as_slice.ensures.value in
+    let found = c.in-Some.ensures ∙ ap (position (λ (o : CursorNumber). o.number == c.args.number)) c.as_slice.ensures.value in
     let inside = place_within os c.args.number k found in
     let here = slice_get_read os (length os) k c.index.result.now refl inside c.index.ensures in
     let there = slice_get_read cs (length cs) k c.index_mut-cursor.result.now refl (omega (arith, inside, c.self.invariant.0.count)) c.index_mut-cursor.ensures.value in
@@ -59,7 +59,7 @@ returns-in-Err-clause-steps g c = λ machine stands.
     let os = c.self.inside.opened.items in
     let cs = c.self.inside.cursors.items in
     let k = c.in-Some.k in
-    let found = c.in-Some.ensures ∙ ap (position (λ (o : Opened). o.number == c.args.number)) c.as_slice.ensures.value in
+    let found = c.in-Some.ensures ∙ ap (position (λ (o : CursorNumber). o.number == c.args.number)) c.as_slice.ensures.value in
     let inside = place_within os c.args.number k found in
     let here = slice_get_read os (length os) k c.index.result.now refl inside c.index.ensures in
     let there = slice_get_read cs (length cs) k c.index_mut-cursor.result.now refl (omega (arith, inside, c.self.invariant.0.count)) c.index_mut-cursor.ensures.value in
@@ -73,7 +73,7 @@ returns-in-Ok-clause-costs g c = λ machine stands.
     let os = c.self.inside.opened.items in
     let cs = c.self.inside.cursors.items in
     let k = c.in-Some.k in
-    let found = c.in-Some.ensures ∙ ap (position (λ (o : Opened). o.number == c.args.number)) c.as_slice.ensures.value in
+    let found = c.in-Some.ensures ∙ ap (position (λ (o : CursorNumber). o.number == c.args.number)) c.as_slice.ensures.value in
     let inside = place_within os c.args.number k found in
     let here = slice_get_read os (length os) k c.index.result.now refl inside c.index.ensures in
     let there = slice_get_read cs (length cs) k c.index_mut-cursor.result.now refl (omega (arith, inside, c.self.invariant.0.count)) c.index_mut-cursor.ensures.value in
@@ -86,7 +86,7 @@ returns-in-Err-clause-costs g c = λ machine stands.
     let os = c.self.inside.opened.items in
     let cs = c.self.inside.cursors.items in
     let k = c.in-Some.k in
-    let found = c.in-Some.ensures ∙ ap (position (λ (o : Opened). o.number == c.args.number)) c.as_slice.ensures.value in
+    let found = c.in-Some.ensures ∙ ap (position (λ (o : CursorNumber). o.number == c.args.number)) c.as_slice.ensures.value in
     let inside = place_within os c.args.number k found in
     let here = slice_get_read os (length os) k c.index.result.now refl inside c.index.ensures in
     let there = slice_get_read cs (length cs) k c.index_mut-cursor.result.now refl (omega (arith, inside, c.self.invariant.0.count)) c.index_mut-cursor.ensures.value in

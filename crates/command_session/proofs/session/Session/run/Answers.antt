@@ -1,7 +1,7 @@
 -- Each command is one of the session's own calls.
 use Rattle.std.proofs.Common.{List, refl, ap₂}
 use Rattle.query_engine.specs.declared.sizes.Size.{Size}
-use Rattle.query_engine.specs.Engine.{State}
+use Rattle.query_engine.specs.Engine.{EngineState}
 use Rattle.query_engine.specs.Sizes.{put_by}
 use Rattle.command_session.proofs.Costs.{costs_nothing}
 use Rattle.command_session.proofs.session.Session.run.Goals as goal
@@ -47,7 +47,7 @@ returns-in-Drop-clause-engine g c = rw c.in-Drop.is c.drop_cursor.ensures.engine
 
 pub returns-in-Drop-clause-costs : goal.returns-in-Drop-clause-costs
 returns-in-Drop-clause-costs g c = λ machine stands.
-    costs_nothing c.args.command c.args.self.now machine c.drop_cursor.new.self c.args.steps.now c.args.steps.now refl (ap₂ (λ (e : State) (bases : List Size). put_by e bases) c.drop_cursor.ensures.engine c.drop_cursor.ensures.noted)
+    costs_nothing c.args.command c.args.self.now machine c.drop_cursor.new.self c.args.steps.now c.args.steps.now refl (ap₂ (λ (e : EngineState) (bases : List Size). put_by e bases) c.drop_cursor.ensures.engine c.drop_cursor.ensures.noted)
 
 pub returns-in-Compact-clause-engine : goal.returns-in-Compact-clause-engine
 returns-in-Compact-clause-engine g c = rw c.in-Compact.is c.compact.ensures.engine

@@ -3,7 +3,7 @@ use Rattle.std.proofs.Common.{◌∙◌, inl, true, refl, ap, rules}
 use Rattle.std.specs.Int.{w128}
 use mir.Val.{SFits}
 use Rattle.std.proofs.lemmas.Int.{to_z-of_z}
-use Rattle.command_session.specs.declared.command.Command.TheVariants as command
+use Rattle.command_session.specs.declared.command.ScriptCommand.TheVariants as command
 use Rattle.command_session.specs.Sessions.{Session}
 use Rattle.command_session.proofs.Stepping.{session, went_event, broke_event, fell, adds, adds_untold, within_untold}
 use Rattle.command_session.proofs.Costs.{costs_event, costs_want, costs_refused}

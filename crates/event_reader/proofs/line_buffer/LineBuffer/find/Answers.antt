@@ -1,6 +1,6 @@
 use Rattle.std.proofs.Common.{ap, sym, ◌∙◌, arith, ◌+◌, ◌≡◌, ◌-◌, length}
 use Rattle.event_reader.specs.Lines.{has_line_feed}
-use Rattle.event_reader.specs.LineBuffers.{Held, bytes_between}
+use Rattle.event_reader.specs.LineBuffers.{BufferState, bytes_between}
 use Rattle.event_reader.proofs.LineBufferParts.{searched_none, window_searched, found_plain, found_feed, length_between}
 use Rattle.event_reader.proofs.line_buffer.LineBuffer.find.Goals as goal
 
@@ -21,9 +21,9 @@ pub returns-in-Some-clause-found : goal.returns-in-Some-clause-found
 returns-in-Some-clause-found c =
     let found = rw c.as_slice.ensures.value at c.in-Some.ensures in
     let here = found_feed c.self.inside.buffer.items _ _ _ _ _ c.in-Some.place c.self.invariant found in
-    rw (ap (λ (h : Held). h.pending) c.self.view_is) at here
+    rw (ap (λ (h : BufferState). h.pending) c.self.view_is) at here
 
 pub returns-in-None-clause-found : goal.returns-in-None-clause-found
 returns-in-None-clause-found c =
     let none = rw c.as_slice.ensures.value at c.in-None.ensures in
-    ap (λ (h : Held). has_line_feed h.pending) (sym c.self.view_is) ∙ searched_none c.self.inside.buffer.items _ _ _ _ _ c.self.invariant none
+    ap (λ (h : BufferState). has_line_feed h.pending) (sym c.self.view_is) ∙ searched_none c.self.inside.buffer.items _ _ _ _ _ c.self.invariant none

@@ -1,5 +1,5 @@
 use Rattle.std.proofs.Common.{ap, refl, ◌∙◌, length, true}
-use Rattle.event_reader.specs.Reading.{LineReader}
+use Rattle.event_reader.specs.LineReaders.{LineReader}
 use Rattle.event_reader.proofs.NextLines.{whole_reader}
 use Rattle.event_reader.proofs.reader.Lines.last.Goals as goal
 

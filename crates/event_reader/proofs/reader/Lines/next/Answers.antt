@@ -3,7 +3,7 @@ use Rattle.event_reader.specs.declared.LineFault.{LineFault}
 use Rattle.event_reader.specs.declared.LineFault.TheVariants.{LineTooLong, InputTooLong}
 use Rattle.event_reader.specs.declared.reader.Next.{Next}
 use Rattle.event_reader.specs.declared.reader.Next.TheVariants.{Line, End}
-use Rattle.event_reader.specs.Reading.{LineReader, HasGiven, HasTakenFor}
+use Rattle.event_reader.specs.LineReaders.{LineReader, HasGiven, HasTakenFor}
 use Rattle.event_reader.specs.contracts.reader.Lines.{the_view}
 use Rattle.event_reader.proofs.NextLines.{next_line, next_long, next_full, next_cut, next_last, took_ended, took_line, took_long, took_cut, took_full}
 use Rattle.event_reader.proofs.reader.Lines.next.Goals as goal

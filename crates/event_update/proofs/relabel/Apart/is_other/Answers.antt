@@ -1,7 +1,7 @@
 use Rattle.std.proofs.Common.{arith, subst, ◌∙◌}
 use Rattle.std.proofs.lemmas.Option.{slice_get-get_or}
 use Rattle.event_update.specs.Update.{IsOther}
-use Rattle.event_update.proofs.Known.{take_all}
+use Rattle.event_update.proofs.Cached.{take_all}
 use Rattle.event_update.proofs.Moving.{other_next}
 use Rattle.event_update.proofs.relabel.Apart.is_other.Goals as goal
 

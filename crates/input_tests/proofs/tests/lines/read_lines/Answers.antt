@@ -1,7 +1,7 @@
 use Rattle.std.proofs.Common.{◌≡◌, ℕ, List, [], ◌∷◌, ◌++◌, map, sym, ◌∙◌, ap, subst}
 use Rattle.std.proofs.lemmas.List.{map-append}
 use Rattle.event_reader.specs.Lines.{file_lines}
-use Rattle.event_reader.specs.Reading.{HasGiven}
+use Rattle.event_reader.specs.LineReaders.{HasGiven}
 use Rattle.input_tests.proofs.tests.lines.read_lines.Goals as goal
 
 -- one more text was seen

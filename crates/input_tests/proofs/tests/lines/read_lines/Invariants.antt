@@ -1,6 +1,6 @@
 -- What the reader has given so far is what was seen.
 use Rattle.std.proofs.Common.{◌≡◌, ℕ, List, map, Some, false}
-use Rattle.event_reader.specs.Reading.{HasGiven}
+use Rattle.event_reader.specs.LineReaders.{HasGiven}
 use Rattle.input_tests.proofs.tests.lines.read_lines.Given as goal
 
 abbrev pub invariant-loop-lines : goal.invariant-loop-lines

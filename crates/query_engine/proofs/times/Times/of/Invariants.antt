@@ -4,6 +4,6 @@ use Rattle.query_engine.proofs.times.Times.of.Given as goal
 
 abbrev pub invariant-loop-k : goal.invariant-loop-k
 invariant-loop-k l = record {
-  groups : AreGroups l.schema (map (λ p. p.query) l.parts) l.k l.groups.items l.numbers.items;
+  groups : AreGroups l.schema (map (λ p. p.query) l.query_states) l.k l.groups.items l.numbers.items;
   blank : All IsBlankGroup l.groups.items;
 }

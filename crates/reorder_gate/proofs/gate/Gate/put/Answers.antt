@@ -2,7 +2,7 @@ use Rattle.std.proofs.Common.{rules, ◌≡◌, refl, sym, ap, ◌∙◌}
 use Rattle.std.specs.Int.{w64}
 use mir.Val.{SFits}
 use Rattle.std.proofs.lemmas.Int.{to_z-of_z}
-use Rattle.reorder_gate.specs.Clocks.{clock_in}
+use Rattle.reorder_gate.specs.AttributeClock.{clock_in}
 use Rattle.reorder_gate.specs.Gates.{clock_at}
 use Rattle.reorder_gate.proofs.Entries.{kept_with}
 use Rattle.reorder_gate.proofs.Views.{put_seen, put_keeps}

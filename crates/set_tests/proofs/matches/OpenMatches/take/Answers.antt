@@ -19,4 +19,4 @@ invariant_of-self-2 g c =
     let e = c.in_ok-staged.ensures in
     let after = later _ _ _ _ _ r stamp refl c.of.ensures in
     let stand = e.stands _ _ (omega (arith, ints)) after r.stand in
-    subst (λ rows. IsReady c.self.inside.low c.prepare.new.det c.prepare.new.store.nodes rows c.in-Some.next) (sym c.commit.ensures) (ready_next _ _ _ _ _ r stamp refl c.of.ensures c.args.bits.now _ _ _ _ more c.prepare.ensures.grows stand)
+    subst (λ rows. IsReady c.self.inside.low c.prepare.new.lazy_dfa c.prepare.new.store.nodes rows c.in-Some.next) (sym c.commit.ensures) (ready_next _ _ _ _ _ r stamp refl c.of.ensures c.args.bits.now _ _ _ _ more c.prepare.ensures.grows stand)

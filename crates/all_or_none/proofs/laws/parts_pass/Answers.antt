@@ -1,8 +1,0 @@
-use Rattle.all_or_none.proofs.Dormancy.{passes_by, quiet_rests}
-use Rattle.all_or_none.proofs.laws.parts_pass.Goals as goal
-
-pub returns-clause-pass : goal.returns-clause-pass
-returns-clause-pass c = passes_by
-
-pub returns-clause-rest : goal.returns-clause-rest
-returns-clause-rest c = quiet_rests

@@ -1,8 +1,0 @@
-use Rattle.std.proofs.Common.{◌≡◌, subst, IfSome, Some, slice_get}
-use Rattle.cea_determinise.specs.Det.{Table}
-use Rattle.cea_determinise.proofs.Classes.{class_if_found}
-use Rattle.cea_determinise.proofs.det.Det.known_class.Goals as goal
-
-pub returns-in-None-clause-found : goal.returns-in-None-clause-found
-returns-in-None-clause-found c =
-    subst (λ (t : Table). IfSome c.get_index_of.result (λ n. slice_get t.classes n ≡ Some c.args.bits.now)) c.self.view_is (class_if_found c.args.bits.now c.self.inside.classes.keys c.get_index_of.result c.get_index_of.ensures.index)

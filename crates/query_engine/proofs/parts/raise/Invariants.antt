@@ -1,9 +1,0 @@
-use Rattle.std.proofs.Common.{◌≡◌, take, drop}
-use Rattle.query_engine.specs.Running.{raised}
-use Rattle.query_engine.proofs.parts.raise.Given as goal
-
-abbrev pub invariant-loop-k : goal.invariant-loop-k
-invariant-loop-k l = record {
-  done : take l.k l.peaks ≡ take l.k (raised l.fn.peaks l.parts);
-  left : drop l.k l.peaks ≡ drop l.k l.fn.peaks;
-}

@@ -1,6 +1,0 @@
-use Rattle.std.proofs.Common.{List, Bool, sym, subst}
-use Rattle.query_watch.specs.Rows.{HaveRooms}
-use Rattle.query_engine.proofs.watching.Watching.mark.Goals as goal
-
-pub mark-requires-clause-rooms : goal.mark-requires-clause-rooms
-mark-requires-clause-rooms c = subst (λ (sets : List (List Bool)). HaveRooms c.args.self.now.watch.count c.args.self.now.watch.rows c.args.self.now.watch.leaves c.args.event.now sets) (sym c.as_mut_slice-leaves.ensures.value) c.requires.leaves

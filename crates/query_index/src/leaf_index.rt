@@ -1,0 +1,231 @@
+//! The leaves of all queries, and which queries an event can concern.
+
+ghost use Rattle.std.specs.Prelude.{◌≡◌, ◌≢◌, ℕ, ◌<◌, ◌≤◌, ◌==◌, ◌⊎◌, Bool, true, false, ◌&&◌, ◌||◌, [], ◌∷◌, length, map, slice_get, slice_index_or, Some, IfOk, All};
+ghost use Rattle.std.specs.Option.{option_copied};
+ghost use Rattle.cer_base.specs.Bits.{has};
+ghost use Rattle.stream_schema.specs.declared.Event.{Event as EventData};
+ghost use Rattle.query_leaves.specs.Shapes.{each_holds as tests_hold};
+ghost use Rattle.predicate_bits.specs.Ranges.{AsksFor};
+ghost use Rattle.query_index.specs.TextPrefilters.{AsksToOpen};
+ghost use Rattle.query_index.specs.Index.{IsIndex, Suffice, gathered};
+ghost use Rattle.query_index.specs.Rows.{rows_of, AreBelow, AreExact, IsRangeOf, IsRowBelow, IsLeafIndex, HasRow, AreReaders, HaveRoom, HaveRooms, Marks};
+
+use crate::index::{Index, few_of, indexes_of};
+use crate::rows::{IndexedLeaf, LeafRow, add_query};
+use crate::text_prefilters::may_open;
+use cel_terms::Query;
+use cer_base::Memory;
+use cer_base::bits::Bits;
+use predicate_bits::checks::hold_by;
+use predicate_bits::ranges::{Range, may_hold};
+use std::alloc::Global;
+use std::marker::Model;
+use stream_schema::{Event, Schema, TypeId};
+
+/// What is looked at of the leaves of queries, which have numbers from 0.
+#[derive(Drop)]
+pub struct LeafIndex {
+    /// The rows of the leaves of each type, by the type's number.
+    rows: Vec<Vec<LeafRow>>,
+    /// The rows of each type by the values that an event may have, by the type's number.
+    indexes: Vec<Vec<Index>>,
+    /// The leaves of all queries, by their numbers.
+    leaves: Vec<IndexedLeaf>,
+    /// How many queries there are.
+    count: usize,
+}
+
+impl Model for LeafIndex {
+    ghost use Rattle.std.specs.Coded.{codes};
+    ghost use Rattle.query_leaves.specs.contracts.Test as test;
+    ghost use Rattle.query_index.specs.Rows.{Table, rows_of, AreBelow};
+    ghost use Rattle.query_index.specs.Index.{AreIndexed, indexes_of};
+
+    ghost Value = { Table };
+
+    ghost coded = { Prim.hlevel (codes, test.the_row.coded) };
+
+    ghost view = { λ w. record {
+      rows = rows_of w.rows.items;
+      leaves = w.leaves.items;
+      count = w.count;
+    } };
+
+    ghost invariant = { λ w. AreBelow w.count (rows_of w.rows.items) w.leaves.items
+        × AreIndexed w.leaves.items (rows_of w.rows.items) (indexes_of w.indexes.items) };
+}
+
+/// The rows of the leaves of the queries, with the leaves put in last.
+fn rows_for(
+    leaves: &mut Vec<IndexedLeaf>,
+    alloc: Global,
+    schema: &Schema,
+    queries: &[Query],
+) -> Result<Vec<Vec<LeafRow>>, Memory>
+    ensures leaf_index { IfOk result (λ v. IsLeafIndex schema.now queries.now (rows_of v.items)
+        leaves.new.items) }
+    ensures exact { IfOk result (λ v. AreExact schema.now queries.now (rows_of v.items)
+        leaves.new.items) }
+    ensures below { IfOk result (λ v. AreBelow (length queries.now) (rows_of v.items)
+        leaves.new.items) }
+{
+    let mut rows = Vec::new(alloc);
+    for k in 0..queries.len() {
+        add_query(&mut rows, leaves, alloc, schema, &queries[k], k as u64)?;
+    }
+    Ok(rows)
+}
+
+impl LeafIndex {
+    /// The index of the queries' leaves.
+    pub fn of(alloc: Global, schema: &Schema, queries: &[Query]) -> Result<LeafIndex, Memory>
+        ensures leaf_index { IfOk result (λ w. IsLeafIndex schema.now queries.now w.rows w.leaves) }
+        ensures exact { IfOk result (λ w. AreExact schema.now queries.now w.rows w.leaves) }
+        ensures count { IfOk result (λ w. w.count ≡ length queries.now) }
+    {
+        let mut leaves = Vec::new(alloc);
+        let rows = rows_for(&mut leaves, alloc, schema, queries)?;
+        let indexes = indexes_of(alloc, rows.as_slice(), leaves.as_slice(), schema)?;
+        Ok(LeafIndex {
+            rows,
+            indexes,
+            leaves,
+            count: queries.len(),
+        })
+    }
+
+    /// Marks each query that has a leaf which can read the event, and no other. The set has room for
+    /// all numbers. Of each query that was not marked before and is now, the set of its number is then
+    /// that of the numbers of its leaves that can read the event; the sets have room for these.
+    #[inline(always)]
+    pub fn mark(&self, event: &Event, into: &mut Bits, leaves: &mut [Bits])
+        requires count { self.now.count ≤ length into.old }
+        requires rooms { HaveRooms self.now.count self.now.rows self.now.leaves event.now
+            leaves.old }
+        ensures marked { (number : ℕ) → HasRow self.now.rows self.now.leaves number event.now
+            → has into.new number ≡ true }
+        ensures only { (k : ℕ) → has into.new k ≡ true → (has into.old k ≡ true)
+            ⊎ HasRow self.now.rows self.now.leaves k event.now }
+        ensures kept { (k : ℕ) → has into.old k ≡ true → has into.new k ≡ true }
+        ensures room { length into.new ≡ length into.old }
+        ensures read { (query : ℕ) → has into.old query ≡ false → has into.new query ≡ true
+            → AreReaders self.now.rows self.now.leaves query event.now
+            (slice_index_or leaves.new query []) }
+        ensures rooms { map (λ set. length set) leaves.new ≡ map (λ set. length set) leaves.old }
+    {
+        if let Some(indexes) = list_of(self.indexes.as_slice(), event.ty) {
+            mark_indexed(
+                indexes.as_slice(),
+                self.leaves.as_slice(),
+                event,
+                into,
+                leaves,
+            );
+        }
+    }
+}
+
+/// The indexes of the type.
+fn list_of(indexes: &[Vec<Index>], ty: TypeId) -> Option<&Vec<Index>>
+    ensures { option_copied result ≡ slice_get indexes.now ty }
+{
+    indexes.get(ty as usize)
+}
+
+/// Whether the leaf's tests hold of the event.
+fn holds_of(range: &Range, leaf: &IndexedLeaf, event: &Event) -> bool
+    requires { IsRangeOf range.now leaf.now }
+    ensures { result ≡ tests_hold leaf.now.tests.items event.now }
+{
+    hold_by(range, &leaf.checks, leaf.tests.as_slice(), event)
+}
+
+/// Puts in the query's number, and the leaf's into the query's set, which is emptied where the query
+/// was not in.
+#[inline(always)]
+fn put_in(query: usize, leaf: usize, into: &mut Bits, sets: &mut [Bits])
+    requires inside { query < length into.old }
+    requires room { leaf < length (slice_index_or sets.old query []) }
+    ensures members { (k : ℕ) → has into.new k ≡ (k == query) || has into.old k }
+    ensures room { length into.new ≡ length into.old }
+    ensures set { (k : ℕ) → has (slice_index_or sets.new query []) k ≡ (k == leaf)
+        || (has into.old query && has (slice_index_or sets.old query []) k) }
+    ensures others { (k : ℕ) → k ≢ query → slice_index_or sets.new k []
+        ≡ slice_index_or sets.old k [] }
+    ensures rooms { map (λ set. length set) sets.new ≡ map (λ set. length set) sets.old }
+{
+    let set = &mut sets[query];
+    if !into.contains(query) {
+        set.clear();
+        into.insert(query);
+    }
+    set.insert(leaf);
+}
+
+/// Puts in the numbers of the row's query and of its leaf, if the leaf's tests hold of the event.
+fn mark_leaf(
+    row: &LeafRow,
+    leaves: &[IndexedLeaf],
+    event: &Event,
+    into: &mut Bits,
+    sets: &mut [Bits],
+)
+    requires below { IsRowBelow (length into.old) leaves.now row.now }
+    requires room { HaveRoom (row.now ∷ []) leaves.now event.now sets.old }
+    ensures { Marks (row.now ∷ []) leaves.now event.now into.old into.new sets.old sets.new }
+{
+    let leaf = &leaves[row.leaf as usize];
+    if holds_of(&row.range, leaf, event) {
+        put_in(leaf.query as usize, leaf.number as usize, into, sets);
+    }
+}
+
+/// Whether the event may have what the row's leaf asks for.
+#[inline(always)]
+fn may_read(row: &LeafRow, event: &Event) -> bool
+    ensures { (holds : EventData → Bool) → AsksFor row.now.range holds
+        → AsksToOpen row.now.text_prefilter holds → result ≡ false → holds event.now ≡ false }
+{
+    may_hold(&row.range, event) && may_open(&row.text_prefilter, event)
+}
+
+/// Puts in the numbers of the query and of the leaf of each row, if the leaf's tests hold of the event.
+#[inline(always)]
+fn mark_rows(
+    rows: &[LeafRow],
+    leaves: &[IndexedLeaf],
+    event: &Event,
+    into: &mut Bits,
+    sets: &mut [Bits],
+)
+    requires below { All (IsRowBelow (length into.old) leaves.now) rows.now }
+    requires room { HaveRoom rows.now leaves.now event.now sets.old }
+    ensures { Marks rows.now leaves.now event.now into.old into.new sets.old sets.new }
+{
+    for row in rows {
+        if may_read(row, event) {
+            mark_leaf(row, leaves, event, into, sets);
+        }
+    }
+}
+
+/// Puts in the numbers of the query and of the leaf of each row of the indexes, if the leaf's tests hold
+/// of the event.
+#[inline(always)]
+fn mark_indexed(
+    indexes: &[Index],
+    leaves: &[IndexedLeaf],
+    event: &Event,
+    into: &mut Bits,
+    sets: &mut [Bits],
+)
+    requires indexes { All (IsIndex leaves.now) indexes.now }
+    requires below { All (IsRowBelow (length into.old) leaves.now) (gathered indexes.now) }
+    requires room { HaveRoom (gathered indexes.now) leaves.now event.now sets.old }
+    ensures { Marks (gathered indexes.now) leaves.now event.now into.old into.new sets.old
+        sets.new }
+{
+    for index in indexes {
+        mark_rows(few_of(index, event), leaves, event, into, sets);
+    }
+}

@@ -1,0 +1,155 @@
+//! The leaves of all queries by their types.
+
+ghost use Rattle.std.specs.Prelude.{◌≡◌, ℕ, ◌+◌, ◌<◌, ◌≤◌, length, slice_index_or, [], ◌∷◌, IfOk, OnOk};
+ghost use Rattle.cel_terms.specs.declared.Query.{Query as QueryData};
+ghost use Rattle.query_index.specs.Rows.{rows_of, HasPut, HasAdded, HasAddedQuery, HaveRows, HasLeafRow, IsIndexed};
+
+use crate::text_prefilters::{TextPrefilter, text_prefilter_of};
+use cel_terms::Query;
+use cer_base::Memory;
+use predicate_bits::checks::{Check, checks_of};
+use predicate_bits::ranges::{Range, range_of};
+use query_leaves::{Leaf, Test, leaves_of};
+use std::alloc::Global;
+use stream_schema::{Schema, TypeId};
+
+/// What is looked at first of a leaf: the range and the text that its tests ask for, and where the rest
+/// is.
+#[derive(Drop, Debug, Clone, Copy)]
+pub struct LeafRow {
+    pub range: Range,
+    pub text_prefilter: TextPrefilter,
+    /// The number of the leaf among those of all queries, from 0.
+    pub leaf: u64,
+}
+
+/// What is looked at of a leaf where its row lets an event through.
+#[derive(Drop, Debug)]
+pub struct IndexedLeaf {
+    /// Its query's number, from 0.
+    pub query: u64,
+    /// Its own number among the leaves of its query, from 0.
+    pub number: u64,
+    /// What is left to test where an event has a number of the range, where that is known.
+    pub checks: Option<Vec<Check>>,
+    pub tests: Vec<Test>,
+}
+
+/// The number after that of the type. Where there is none, no memory has a list for each type.
+fn after(ty: TypeId) -> Result<usize, Memory>
+    ensures { IfOk result (λ next. next ≡ ty + 1) }
+{
+    match (ty as usize).checked_add(1) {
+        Some(next) => Ok(next),
+        None => Err(Memory),
+    }
+}
+
+/// Makes lists with nothing in them up to that of the type.
+fn grow(rows: &mut Vec<Vec<LeafRow>>, alloc: Global, ty: TypeId) -> Result<(), Memory>
+    ensures room { OnOk result (ty < length rows.new.items) }
+    ensures same { OnOk result ((t : ℕ) → slice_index_or (rows_of rows.new.items) t []
+        ≡ slice_index_or (rows_of rows.old.items) t []) }
+{
+    for _n in rows.len()..after(ty)? {
+        rows.push(Vec::new(alloc))?;
+    }
+    Ok(())
+}
+
+/// Puts the row at the end of the type's list, which is there.
+fn push_row(rows: &mut Vec<Vec<LeafRow>>, ty: usize, row: LeafRow) -> Result<(), Memory>
+    requires { ty < length rows.old.items }
+    ensures { OnOk result (HasPut ty row (rows_of rows.old.items) (rows_of rows.new.items)) }
+{
+    rows[ty].push(row)?;
+    Ok(())
+}
+
+/// Puts the row at the end of the type's list.
+fn put(rows: &mut Vec<Vec<LeafRow>>, alloc: Global, ty: TypeId, row: LeafRow) -> Result<(), Memory>
+    ensures { OnOk result (HasPut ty row (rows_of rows.old.items) (rows_of rows.new.items)) }
+{
+    grow(rows, alloc, ty)?;
+    push_row(rows, ty as usize, row)?;
+    Ok(())
+}
+
+/// Puts in a row for the leaf of the query of this number, and the leaf's own number and its tests.
+fn add_leaf(
+    rows: &mut Vec<Vec<LeafRow>>,
+    leaves: &mut Vec<IndexedLeaf>,
+    alloc: Global,
+    query: u64,
+    number: u64,
+    leaf: Leaf,
+) -> Result<(), Memory>
+    ensures row { OnOk result (HasLeafRow query number (rows_of rows.new.items)
+        leaves.new.items leaf) }
+    ensures added { OnOk result (HasAdded query number (leaf ∷ []) (rows_of rows.old.items)
+        leaves.old.items (rows_of rows.new.items) leaves.new.items) }
+{
+    let ty = leaf.ty;
+    let tests = leaf.tests;
+    let range = range_of(tests.as_slice());
+    let text_prefilter = text_prefilter_of(tests.as_slice());
+    let checks = checks_of(alloc, &range, tests.as_slice())?;
+    let place = leaves.len() as u64;
+    leaves.push(IndexedLeaf {
+        query,
+        number,
+        checks,
+        tests,
+    })?;
+    put(
+        rows,
+        alloc,
+        ty,
+        LeafRow {
+            range,
+            text_prefilter,
+            leaf: place,
+        },
+    )?;
+    Ok(())
+}
+
+/// Puts in a row for each leaf of the query of this number, the leaves being numbered from 0.
+fn add_leaves(
+    rows: &mut Vec<Vec<LeafRow>>,
+    leaves: &mut Vec<IndexedLeaf>,
+    alloc: Global,
+    query: u64,
+    list: Vec<Leaf>,
+) -> Result<(), Memory>
+    ensures rows { OnOk result (HaveRows query list.items (rows_of rows.new.items)
+        leaves.new.items) }
+    ensures added { OnOk result (HasAdded query 0 list.items (rows_of rows.old.items)
+        leaves.old.items (rows_of rows.new.items) leaves.new.items) }
+{
+    let first = leaves.len();
+    for leaf in list {
+        let number = (leaves.len() - first) as u64;
+        add_leaf(rows, leaves, alloc, query, number, leaf)?;
+    }
+    Ok(())
+}
+
+/// Puts in a row for each leaf of the query, which has this number.
+pub fn add_query(
+    rows: &mut Vec<Vec<LeafRow>>,
+    leaves: &mut Vec<IndexedLeaf>,
+    alloc: Global,
+    schema: &Schema,
+    query: &Query,
+    number: u64,
+) -> Result<(), Memory>
+    ensures watched { OnOk result (IsIndexed schema.now query.now number
+        (rows_of rows.new.items) leaves.new.items) }
+    ensures added { OnOk result (HasAddedQuery schema.now query.now number
+        (rows_of rows.old.items) leaves.old.items (rows_of rows.new.items) leaves.new.items) }
+{
+    let found = leaves_of(alloc, schema, query)?;
+    add_leaves(rows, leaves, alloc, number, found.list.into_vec())?;
+    Ok(())
+}

@@ -1,0 +1,29 @@
+use Rattle.std.proofs.Common.{◌≡◌, ◌<◌, ◌∙◌, length, Some, slice_get, sym, ap, subst, List, arith}
+use Rattle.event_update.specs.Dormancy.{AreNoOp}
+use Rattle.query_standing.specs.Kept.{Rows}
+use Rattle.query_state.specs.declared.lists.Lists.{Lists}
+use Rattle.query_state.specs.Matches.{OpenMatches, MayBeDormant}
+use Rattle.query_state.proofs.Cuts.{row_at, rows_length}
+use Rattle.query_state.proofs.NoOp.{active_keys_same}
+use Rattle.query_state.proofs.Dormant.{noted_all, all_there, set_long, rows_set}
+use Rattle.query_state.proofs.matches.Matches.learn.Goals as goal
+
+pub invariant_of-self : goal.invariant_of-self
+invariant_of-self c =
+    let less = c.requires.inside in
+    let inside : c.args.number < length c.self.inside.lists.items = (let l = rows_length _ c.self.inside.lists.items c.args.self.now.rows (ap (λ (h : OpenMatches). h.rows) c.self.view_is) in omega arith) in
+    let there = row_at (λ (l : Lists). l.active.entries) c.self.inside.lists.items c.args.number c.index_mut.result.now inside c.index_mut.ensures.value in
+    let passes = c.requires.no_op (c.is_unchanged.ensures c.if-is_unchanged.true) c.index_mut.result.now.active.entries (subst (λ (h : OpenMatches). slice_get h.rows c.args.number ≡ Some c.index_mut.result.now.active.entries) c.self.view_is there) in
+    let no_op : AreNoOp c.self.inside.lazy_dfa c.args.bits.now c.index_mut.result.now.active.entries = subst (λ (h : OpenMatches). AreNoOp h.table c.args.bits.now c.index_mut.result.now.active.entries) (sym c.self.view_is) passes in (
+      c.self.invariant.0 ∙ sym (set_long c.self.inside.lists.items c.args.number c.learn.new.self),
+      noted_all (MayBeDormant c.self.inside.lazy_dfa) c.self.inside.lists.items c.args.number c.learn.new.self c.self.invariant.1 (c.learn.ensures.is_dormant c.self.inside.lazy_dfa no_op (all_there (MayBeDormant c.self.inside.lazy_dfa) c.self.inside.lists.items c.args.number c.index_mut.result.now inside c.index_mut.ensures.value c.self.invariant.1)),
+      c.self.invariant.2 ∙ sym (active_keys_same c.self.inside.lists.items c.args.number c.index_mut.result.now c.learn.new.self inside (c.learn.ensures.known ∙ ap (λ (l : Lists). l.is_dormant) c.index_mut.ensures.value)),
+      c.self.invariant.3,
+    )
+
+pub returns-then-is_unchanged : goal.returns-then-is_unchanged
+returns-then-is_unchanged c =
+    let less = c.requires.inside in
+    let inside : c.args.number < length c.self.inside.lists.items = (let l = rows_length _ c.self.inside.lists.items c.args.self.now.rows (ap (λ (h : OpenMatches). h.rows) c.self.view_is) in omega arith) in
+    let view : List Rows → OpenMatches = λ rows. record { table = c.self.inside.lazy_dfa; nodes = c.self.inside.store.nodes; keys = c.self.inside.keys; rows = rows } in
+    ap view (rows_set c.self.inside.lists.items c.args.number c.index_mut.result.now c.learn.new.self inside (c.learn.ensures.rows ∙ ap (λ (l : Lists). l.active.entries) c.index_mut.ensures.value)) ∙ c.self.view_is

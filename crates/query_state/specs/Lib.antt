@@ -1,0 +1,6 @@
+pub mod KeyPlaces
+pub mod Compacting
+pub mod Matches
+pub mod QueryStates
+pub mod Own
+pub mod Dropping

@@ -1,7 +1,0 @@
-use Rattle.query_watch.specs.Rows.{rows_of}
-use Rattle.query_watch.specs.Index.{indexes_of}
-use Rattle.query_watch.proofs.Indexed.{AreIndexedTo}
-use Rattle.query_watch.proofs.index.indexes_of.Given as goal
-
-abbrev pub invariant-loop-k : goal.invariant-loop-k
-invariant-loop-k l = AreIndexedTo l.k l.leaves (rows_of l.rows) (indexes_of l.indexes.items)

@@ -1,9 +1,0 @@
-use Rattle.std.proofs.Common.{◌++◌, All}
-use Rattle.query_watch.specs.Index.{IsIndex, HaveSame, gathered}
-use Rattle.query_watch.proofs.index.indexes_over.Given as goal
-
-abbrev pub invariant-loop-k : goal.invariant-loop-k
-invariant-loop-k l = record {
-  rows : HaveSame l.rows (gathered l.indexes.items ++ l.left.items);
-  each : All (IsIndex l.leaves) l.indexes.items;
-}

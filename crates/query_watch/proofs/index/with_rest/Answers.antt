@@ -1,5 +1,0 @@
-use Rattle.query_watch.proofs.Indexed.{rest_some}
-use Rattle.query_watch.proofs.index.with_rest.Goals as goal
-
-pub returns : goal.returns
-returns c = rest_some c.args.indexes.items c.push.new.self.items c.args.left.items c.without_buckets.result c.in_ok-push.ensures.items c.without_buckets.ensures.rows c.without_buckets.ensures.index

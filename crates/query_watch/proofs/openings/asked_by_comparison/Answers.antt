@@ -1,7 +1,0 @@
-use Rattle.std.proofs.Common.{◌∙◌, sym, ap}
-use Rattle.stream_schema.specs.declared.Value.TheVariants as value
-use Rattle.query_watch.proofs.Opened.{asks_text}
-use Rattle.query_watch.proofs.openings.asked_by_comparison.Goals as goal
-
-pub returns-in-Eq-Text : goal.returns-in-Eq-Text
-returns-in-Eq-Text c = asks_text c.opening_at.result c.args.place c.args.op c.args.literal.now c.as_str.result.now c.in-Eq-Text.is-0 (c.in-Eq-Text.is-1 ∙ ap (λ t. value.Text t) (sym c.as_str.ensures)) c.opening_at.ensures.place c.opening_at.ensures.opens

@@ -1,7 +1,0 @@
-use Rattle.std.proofs.Common.{take}
-use Rattle.query_watch.specs.Rows.{Marks}
-use Rattle.query_watch.specs.Index.{gathered}
-use Rattle.query_watch.proofs.watch.mark_indexed.Given as goal
-
-abbrev pub invariant-loop-index : goal.invariant-loop-index
-invariant-loop-index l = Marks (gathered (take l.index-index l.indexes)) l.leaves l.event l.fn.into l.into l.fn.sets l.sets

@@ -15,6 +15,7 @@ pub mod matcher;
 pub mod matches;
 mod own;
 mod reading;
+mod sharing;
 pub mod state;
 mod types;
 

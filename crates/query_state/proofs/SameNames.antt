@@ -1,6 +1,6 @@
 -- Queries that name the same streams read the same types, and those that are partitioned by the same attributes have keys at
 -- the same places.
-use Rattle.std.proofs.Common.{◌≡◌, ℕ, ◌<◌, Bool, false, List, [], ◌∷◌, ◌++◌, refl, ap, ap₂, ◌∙◌, Option, Some, None, option_map, option_and_then, slice_index_or}
+use Rattle.std.proofs.Common.{◌≡◌, ℕ, Bool, List, [], ◌∷◌, ◌++◌, refl, ap, ap₂, ◌∙◌, Option, option_map, option_and_then}
 use Rattle.std.specs.Prelude.{◌==◌}
 use Rattle.std.specs.List.{list_any}
 use Rattle.stream_schema.specs.Types.{Declared}

@@ -15,8 +15,8 @@ pub mod matcher;
 pub mod matches;
 mod own;
 mod reading;
-mod sharing;
 pub mod state;
+mod tables;
 mod types;
 
 pub use state::QueryState;

@@ -14,7 +14,7 @@ ghost use Rattle.query_state.specs.QueryStates.{AreTypesRead, IsMatcherOf, HasAu
 use crate::matches::Matches;
 use crate::QueryState;
 use crate::reading::{Places, is_whole};
-use crate::sharing::{clock_of, keys_of, types_of};
+use crate::tables::{clock_of, keys_of, types_of};
 use cea_compile::compile;
 use cel_terms::Query;
 use cer_base::Memory;

@@ -49,7 +49,7 @@ fn on_one_attribute(one: &Window, other: &Window) -> bool
 }
 
 /// The table, to be shared.
-fn shared<T>(alloc: Global, table: Vec<T>) -> Result<Rc<Vec<T>>, Memory>
+fn shared<T: Drop>(alloc: Global, table: Vec<T>) -> Result<Rc<Vec<T>>, Memory>
     ensures { IfOk result (λ rc. rc.value.items ≡ table.items) }
 {
     match Rc::new(alloc, table) {

@@ -258,7 +258,7 @@ module _ (every : Option ℕ) (plan : Plan) (peaks : ℕ → ℕ) where
         steps = steps;
         counting = w.counting;
         pays = pays_for every (asked a) old new w.events e.1 plan.bases (same.0 ∙ w.schema) (same.1 ∙ w.queries) same after_it.0 added keys;
-        windows = windows_due (is_due every) peaks old new w.events e.1 same after_it.0 added w.windows;
+        windows = windows_due (is_due every) peaks old new w.events e.1 same after_it.0 added keys w.windows;
         kept = same;
         added = added;
         keys = keys;

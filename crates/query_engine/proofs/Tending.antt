@@ -22,7 +22,7 @@ use Rattle.query_engine.specs.declared.sizes.Size.{Size}
 use Rattle.query_engine.specs.Times.{query_states_at}
 use Rattle.query_engine.specs.Engine.{EngineState, Open, StandsFor, SameQueries, kept_of, len_of, MayStartAt}
 use Rattle.query_engine.specs.Compacting.{is_chosen, places_of, compact_bounds, chosen_bounds, IsLeft, IsLeftOf, OthersAreKept}
-use Rattle.query_engine.specs.Keys.{keys_of}
+use Rattle.query_engine.specs.Keys.{keys_of, KeysFollowWindows}
 use Rattle.query_engine.specs.Windows.{IsReadFrom, IsDense, IsHeld, IsFollowed, FollowsWindow}
 use Rattle.query_engine.proofs.DenseNodes.{dense_nodes}
 use Rattle.query_engine.specs.Sizes.{size_of, base_of, has_grown, AreSizes, put_by, AreTended}
@@ -262,6 +262,13 @@ pub spared_follows : (chosen : List Bool) (old new : EngineState) (events : List
 spared_follows chosen old new events held same free stands dense left k q at = elim (cases_Bool (is_chosen chosen k)) [
   | inl flag ↦ query_follows_window new events held stands dense k q at (λ query_state query_state_at. left k q query_state at query_state_at flag)
   | inr other ↦ free_follows new events held stands dense k q at (free k q (subst (λ (qs : List Query). slice_get qs k ≡ Some q) same.1 at) other)
+]
+
+-- And keys of the others that follow theirs.
+pub spared_keys : (chosen : List Bool) (old new : EngineState) (events : List Event) (held : List Open) → SameQueries old new → ((k : ℕ) (q : Query) → slice_get old.queries k ≡ Some q → is_chosen chosen k ≡ false → q.window ≡ Free) → StandsFor new events → IsLeftOf chosen new held → KeysFollowWindows new events
+spared_keys chosen old new events held same free stands left k q at windowed = elim (cases_Bool (is_chosen chosen k)) [
+  | inl flag ↦ query_keys_follow new events held stands k q at (λ query_state query_state_at. left k q query_state at query_state_at flag)
+  | inr other ↦ absurd (windowed (free k q (subst (λ (qs : List Query). slice_get qs k ≡ Some q) same.1 at) other))
 ]
 
 pub none_held : (held : List Open) → length held ≡ 0 → held ≡ []

@@ -37,7 +37,7 @@ fn add_query_state(
         ≡ map (λ p. p.query) query_states.old.items ++ query ∷ []) }
     ensures first { OnOk result (All (IsFirst schema.now.value) query_states.new.items) }
 {
-    let query_state = QueryState::new(alloc, seed, schema, query)?;
+    let query_state = QueryState::new(alloc, seed, schema, query, query_states.as_slice())?;
     query_states.push(query_state)?;
     Ok(())
 }

@@ -23,3 +23,5 @@ mod Removed
 mod KeptRoots
 -- queries that share a clock
 mod Sharing
+-- queries that name the same streams or attributes
+mod SameNames

@@ -1,10 +1,12 @@
 -- A query state while an event is prepared: it is still seen as what it was, and what a commit makes of it is told.
-use Rattle.std.specs.Prelude.{◌≡◌, ◌≢◌, ℕ, ◌<◌, ◌==◌, ℤ, Bool, true, false, ◌||◌, List, [], length, Option, Some, None, slice_set, slice_index_or}
+use Rattle.std.specs.Prelude.{◌≡◌, ◌≢◌, ℕ, ◌<◌, ◌==◌, ℤ, Bool, true, false, ◌||◌, List, [], length, map, Option, Some, None, slice_set, slice_index_or}
 use Rattle.std.specs.List.{list_any}
 use Rattle.stream_schema.specs.Types.{Declared}
 use Rattle.stream_schema.specs.Events.{IsOfSchema}
 use Rattle.stream_schema.specs.declared.Event.{Event}
 use Rattle.cel_terms.specs.declared.Query.{Query}
+use Rattle.cel_terms.specs.declared.Window.{Window}
+use Rattle.cel_terms.specs.declared.Name.{Name}
 use Rattle.cel_terms.specs.Answers.{query_types}
 use Rattle.query_leaves.specs.Expand.{tree_of}
 use Rattle.cea_determinise.specs.Runs.{Automaton}
@@ -18,7 +20,7 @@ use Rattle.event_update.specs.declared.Staged.{Staged}
 use Rattle.event_update.specs.Update.{rows_after}
 use Rattle.event_update.specs.Dormancy.{IsSkipInsensitive}
 use Rattle.window_clock.specs.declared.Source.{Source}
-use Rattle.window_clock.specs.Places.{clock_in, IsOf}
+use Rattle.window_clock.specs.Places.{Seen, clock_in, IsOf}
 use Rattle.query_standing.specs.Clocks.{Reads}
 use Rattle.query_standing.specs.Kept.{QueryState, QueryStateStands}
 use Rattle.query_state.specs.declared.state.Step.{Step}
@@ -77,6 +79,10 @@ MayBeWhole schema places whole = whole ≡ true → (ty : ℕ) → ty < length s
 abbrev pub MayBeSkipInsensitive : Query → Bool → Type 0
 MayBeSkipInsensitive q skip_insensitive = skip_insensitive ≡ true → IsSkipInsensitive (automaton_of (tree_of q)) q.strict
 
+-- the texts of names, which are all that these mean
+abbrev pub texts_of : List Name → List (List ℕ)
+texts_of names = map (λ (n : Name). n.text) names
+
 -- whether one of the query's streams has the type
 abbrev pub reads_type : Declared → Query → ℕ → Bool
 reads_type schema q ty = list_any (λ t. t == ty) (query_types schema q.streams)
@@ -102,6 +108,11 @@ pub record IsMatcherOf (q : Query) (none : List Bool) (h : OpenMatches) : Type 0
   pub empty : (k : ℕ) → has none k ≡ false
   pub room : length none ≡ room_for h.table.cea.size
   pub matches : HasAutomaton (automaton_of (tree_of q)) q.strict h
+
+-- The clock of a query with this window, with no event seen.
+pub record IsFirstClock (schema : Declared) (window : Window) (clock : Seen) : Type 0 where
+  pub source : IsOf schema window clock.source
+  pub blank : clock.last ≡ None
 
 -- each event that the query reads has a clock
 abbrev pub HaveClocks : Declared → Query → Source → Type 0

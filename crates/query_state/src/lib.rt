@@ -16,6 +16,7 @@ pub mod matches;
 mod own;
 mod reading;
 pub mod state;
+mod tables;
 mod types;
 
 pub use state::QueryState;

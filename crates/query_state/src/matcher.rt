@@ -1,6 +1,6 @@
 //! The tables that are made of a query before any event.
 
-ghost use Rattle.std.specs.Prelude.{◌≡◌, ℕ, false, true, None, IfOk, length};
+ghost use Rattle.std.specs.Prelude.{◌≡◌, ℕ, false, true, None, All, IfOk, length};
 ghost use Rattle.cer_base.specs.Bits.{has, room_for};
 ghost use Rattle.cea_determinise.specs.Cea.{automaton_of_cea};
 ghost use Rattle.cea_compile.specs.LeafAutomaton.{automaton_of_leaves};
@@ -12,8 +12,9 @@ ghost use Rattle.query_state.specs.KeyPlaces.{AreKeyPlaces};
 ghost use Rattle.query_state.specs.QueryStates.{AreTypesRead, IsMatcherOf, HasAutomaton, AreFirst, MayBeSkipInsensitive, MayBeWhole};
 
 use crate::matches::Matches;
-use crate::reading::{Places, is_whole, key_places};
-use crate::types::types_read;
+use crate::QueryState;
+use crate::reading::{Places, is_whole};
+use crate::tables::{clock_of, keys_of, types_of};
 use cea_compile::compile;
 use cel_terms::Query;
 use cer_base::Memory;
@@ -22,6 +23,7 @@ use cer_base::seed::Seed;
 use event_update::dormancy::is_skip_insensitive;
 use query_leaves::{Leaves, leaves_of};
 use std::alloc::Global;
+use std::rc::Rc;
 use stream_schema::Schema;
 use window_clock::Clock;
 
@@ -29,25 +31,32 @@ use window_clock::Clock;
 #[derive(Drop)]
 pub struct Reading {
     pub clock: Clock,
-    pub types: Vec<bool>,
-    pub keys: Vec<Option<Places>>,
+    pub types: Rc<Vec<bool>>,
+    pub keys: Rc<Vec<Option<Places>>>,
     /// Whether the query has no partition.
     pub whole: bool,
 }
 
 impl Reading {
-    /// How the query reads the events of the schema.
-    pub fn of(alloc: Global, schema: &Schema, query: &Query) -> Result<Reading, Memory>
+    /// How the query reads the events of the schema, of which the others are too. It shares with
+    /// these what it can.
+    pub fn of(
+        alloc: Global,
+        schema: &Schema,
+        query: &Query,
+        others: &[QueryState],
+    ) -> Result<Reading, Memory>
         requires wide { HasWidth query.now.window }
-        ensures types { IfOk result (λ r. AreTypesRead schema.now query.now r.types.items) }
-        ensures keys { IfOk result (λ r. AreKeyPlaces schema.now query.now r.keys.items) }
+        requires others { All (λ p. p.schema ≡ schema.now) others.now }
+        ensures types { IfOk result (λ r. AreTypesRead schema.now query.now r.types.value.items) }
+        ensures keys { IfOk result (λ r. AreKeyPlaces schema.now query.now r.keys.value.items) }
         ensures clock { IfOk result (λ r. IsOf schema.now query.now.window r.clock.source) }
         ensures blank { IfOk result (λ r. r.clock.last ≡ None) }
-        ensures whole { IfOk result (λ r. MayBeWhole schema.now r.keys.items r.whole) }
+        ensures whole { IfOk result (λ r. MayBeWhole schema.now r.keys.value.items r.whole) }
     {
-        let clock = Clock::of(alloc, schema, query)?;
-        let types = types_read(alloc, schema, query)?;
-        let keys = key_places(alloc, schema, query)?;
+        let clock = clock_of(alloc, schema, query, others)?;
+        let types = types_of(alloc, schema, query, others)?;
+        let keys = keys_of(alloc, schema, query, others)?;
         Ok(Reading {
             clock,
             types,

@@ -9,9 +9,9 @@ ghost use Rattle.query_standing.specs.Kept.{low_at, roots_at};
 ghost use Rattle.query_standing.specs.Dormancy.{ShareClock};
 ghost use Rattle.all_or_none.specs.Phases.{IsPrepared, IsIdle, HasNoAnswer, back, IsCommitted, CanPrepare, StandsAt, query_state_bound};
 ghost use Rattle.all_or_none.specs.Dormancy.{phase_at};
-ghost use Rattle.window_clock.specs.Places.{IsNear, IsOf, HasWidth, clock_in};
+ghost use Rattle.window_clock.specs.Places.{IsNear, IsOf, HasWidth, NameOneAttribute, clock_in};
 ghost use Rattle.query_state.specs.KeyPlaces.{AreKeyPlaces};
-ghost use Rattle.query_state.specs.QueryStates.{AreTypesRead, IsMatcherOf, AreFirst, HaveClocks, MayBeSkipInsensitive, MayBeWhole, HasEvents, StandsWith, reads_type, woken};
+ghost use Rattle.query_state.specs.QueryStates.{AreTypesRead, IsFirstClock, IsMatcherOf, AreFirst, HaveClocks, MayBeSkipInsensitive, MayBeWhole, HasEvents, StandsWith, reads_type, woken};
 ghost use Rattle.query_state.specs.Compacting.{QueryStateCompacted};
 ghost use Rattle.query_state.specs.Matches.{HasStatesOnce};
 ghost use Rattle.arena_compact.specs.Roots.{places};
@@ -22,7 +22,7 @@ use crate::own::{Own, advance_own, look};
 use crate::reading::{Places, is_read, same_types};
 use all_or_none::Participant;
 use arena_compact::{HasCursor, Room};
-use cel_terms::Query;
+use cel_terms::{Query, Window};
 use cer_base::bits::Bits;
 use cer_base::node::Stamp;
 use cer_base::seed::Seed;
@@ -64,8 +64,8 @@ pub struct QueryState {
     upto: Pos,
     /// The number of that event's key, where it may have an answer.
     here: Option<u64>,
-    /// For each type the places of the partition's attributes.
-    keys: Vec<Option<Places>>,
+    /// For each type the places of the partition's attributes. Queries with the same ones share them.
+    keys: Rc<Vec<Option<Places>>>,
     /// Where its clock is read, and how wide its window is. It sees no event.
     clock: Clock,
     step: Option<Step>,
@@ -78,8 +78,8 @@ pub struct QueryState {
     no_leaves: Bits,
     /// The leaves that may read the first event of a match.
     first: Bits,
-    /// For each type whether the query reads it.
-    types: Vec<bool>,
+    /// For each type whether the query reads it. Queries over the same streams share it.
+    types: Rc<Vec<bool>>,
     query: Query,
     /// The engine's schema, which all query states share.
     schema: Rc<Schema>,
@@ -103,11 +103,11 @@ impl Model for QueryState {
       upto = p.upto;
     } };
 
-    ghost invariant = { λ p. IsMade p.schema.value p.query p.types.items p.keys.items
+    ghost invariant = { λ p. IsMade p.schema.value p.query p.types.value.items p.keys.value.items
         p.clock.source p.no_leaves p.matches × CanEnd p.step p.ready p.sizes p.matches
         × AreFirst p.query p.first
         × MayBeSkipInsensitive p.query p.skip_insensitive
-        × MayBeWhole p.schema.value p.keys.items p.whole };
+        × MayBeWhole p.schema.value p.keys.value.items p.whole };
 }
 
 /// The query state with these tables, before any event.
@@ -118,14 +118,14 @@ fn joined(
     reading: Reading,
     matcher: Matcher,
 ) -> QueryState
-    requires types { AreTypesRead schema.value query reading.types.items }
-    requires keys { AreKeyPlaces schema.value query reading.keys.items }
+    requires types { AreTypesRead schema.value query reading.types.value.items }
+    requires keys { AreKeyPlaces schema.value query reading.keys.value.items }
     requires clock { IsOf schema.value query.window reading.clock.source }
     requires clocks { HaveClocks schema.value query reading.clock.source }
     requires matcher { IsMatcherOf query matcher.no_leaves matcher.matches }
     requires first { AreFirst query matcher.first }
     requires skip_insensitive { MayBeSkipInsensitive query matcher.skip_insensitive }
-    requires whole { MayBeWhole schema.value reading.keys.items reading.whole }
+    requires whole { MayBeWhole schema.value reading.keys.value.items reading.whole }
     ensures given { (result.schema ≡ schema.value) × (result.query ≡ query) }
     ensures idle { IsIdle result }
     ensures upto { result.upto ≡ 0 }
@@ -155,14 +155,17 @@ fn joined(
 
 impl QueryState {
     /// What is kept of the query, which is checked for the schema, before any event. Its tables hash
-    /// by the seed.
+    /// by the seed. What types tell of it is shared with those of the others, which are of the same
+    /// schema, that name the same streams and attributes.
     pub fn new(
         alloc: Global,
         seed: Seed,
         schema: &Rc<Schema>,
         query: Query,
+        others: &[QueryState],
     ) -> Result<QueryState, Memory>
         requires checked { IsChecked schema.now.value query }
+        requires others { All (λ p. p.schema ≡ schema.now.value) others.now }
         ensures given { IfOk result (λ p. (p.schema ≡ schema.now.value) × (p.query ≡ query)) }
         ensures idle { IfOk result IsIdle }
         ensures upto { IfOk result (λ p. p.upto ≡ 0) }
@@ -171,7 +174,7 @@ impl QueryState {
     {
         let declared = schema.as_ref();
         declared.well_declared();
-        let reading = Reading::of(alloc, declared, &query)?;
+        let reading = Reading::of(alloc, declared, &query, others)?;
         let matcher = Matcher::of(alloc, seed, declared, &query)?;
         let shared = schema.clone()?;
         Ok(joined(alloc, shared, query, reading, matcher))
@@ -182,6 +185,32 @@ impl QueryState {
         ensures { result.now ≡ self.now.query }
     {
         &self.query
+    }
+
+    /// For each type whether the query reads it.
+    pub fn types(&self) -> Result<Rc<Vec<bool>>, Memory>
+        ensures { IfOk result (λ table. AreTypesRead self.now.schema self.now.query
+            table.value.items) }
+    {
+        Ok(self.types.clone()?)
+    }
+
+    /// For each type the places of the partition's attributes.
+    pub fn keys(&self) -> Result<Rc<Vec<Option<Places>>>, Memory>
+        ensures { IfOk result (λ table. AreKeyPlaces self.now.schema self.now.query
+            table.value.items) }
+    {
+        Ok(self.keys.clone()?)
+    }
+
+    /// The clock of a query whose window, that of a checked query, is on the same attribute as this
+    /// one's, before any event.
+    pub fn clock_of(&self, window: &Window) -> Result<Option<Clock>, Memory>
+        requires wide { HasWidth window.now }
+        requires same { NameOneAttribute self.now.query.window window.now }
+        ensures { IfOk result (λ o. IfSome o (IsFirstClock self.now.schema window.now)) }
+    {
+        self.clock.like(window)
     }
 
     /// How many states were found.
@@ -215,7 +244,10 @@ impl QueryState {
         ensures { result ≡ true → ShareClock self.now.schema self.now.query other.now.query }
     {
         self.schema.as_ref().well_declared();
-        same_types(self.types.as_slice(), other.types.as_slice())
+        same_types(
+            self.types.as_ref().as_slice(),
+            other.types.as_ref().as_slice(),
+        )
             && self.clock.reads_as(&other.clock)
     }
 
@@ -224,7 +256,7 @@ impl QueryState {
         requires { ty < length self.now.schema.types }
         ensures { result ≡ reads_type self.now.schema self.now.query ty }
     {
-        is_read(self.types.as_slice(), ty)
+        is_read(self.types.as_ref().as_slice(), ty)
     }
 
     /// Whether a cursor that is opened after so many events may give an answer: whether the last
@@ -377,7 +409,7 @@ impl Participant for QueryState {
         leaves: &Bits,
         steps: &mut Steps<L>,
     ) -> Result<bool, Memory> {
-        if !is_read(self.types.as_slice(), event.ty) {
+        if !is_read(self.types.as_ref().as_slice(), event.ty) {
             if self.upto <= position {
                 return Ok(true);
             }
@@ -385,7 +417,7 @@ impl Participant for QueryState {
             return Ok(false);
         }
         let bits = leaves_for(reads, leaves, &self.no_leaves);
-        let table = self.keys.as_slice();
+        let table = self.keys.as_ref().as_slice();
         let (alloc, whole, skip_insensitive) = (self.alloc, self.whole, self.skip_insensitive);
         let own = look(
             &self.matches,

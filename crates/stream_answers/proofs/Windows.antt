@@ -10,9 +10,10 @@ use Rattle.stream_schema.specs.declared.Event.{Event}
 use Rattle.cel_terms.specs.declared.Query.{Query}
 use Rattle.query_engine.specs.Clocks.{HasClockAt, IsLastClock}
 use Rattle.query_engine.specs.Engine.{EngineState, Open, StandsFor, SameQueries, found_of, len_of, peak_of}
+use Rattle.query_engine.specs.Keys.{HasAddedKeys, KeysFollowWindows, KeysFollowWindowsSince}
 use Rattle.query_engine.specs.Windows.{IsBoundedBy, IsReadFrom, IsDense, FollowsWindow, IsRecentAt, FollowsWindowSince, HasAdded}
 use Rattle.query_engine.proofs.DenseNodes.{dense_follows}
-use Rattle.query_engine.proofs.Windows.{bounded_on, event_keeps_dense, event_keeps_window, compacted_follows_window, first_follows_window, clock_inside, recent_inside}
+use Rattle.query_engine.proofs.Windows.{bounded_on, event_keeps_dense, event_keeps_window, event_keeps_keys, compacted_follows_window, compacted_follow_windows, first_follows_window, clock_inside, recent_inside}
 use Rattle.stream_answers.specs.Windows.{is_due, is_due_after, last_of, HasPeak, FollowsEvents, FollowsWindowsBy}
 
 -- WHEN A COMPACTION IS DUE
@@ -38,7 +39,7 @@ last_stays due (suc n) none = ap (λ (b : Bool). cond b (suc n) (last_of due n))
 pub windows_at_first : (due : ℕ → Bool) (engine : EngineState) → StandsFor engine [] → FollowsWindowsBy due (peak_of engine) 0 [] engine
 windows_at_first due engine stands =
     let first = first_follows_window engine stands in
-    record { dense = first.0; nodes = first.1; peaks = λ k q at. inl (omega arith) }
+    record { dense = first.0; nodes = first.1; keys = λ is_made. absurd (omega arith); peaks = λ k q at. inl (omega arith) }
 
 -- without a number none ever is
 never : (b : Bool) → (b && false) ≡ false
@@ -48,6 +49,10 @@ never false = refl
 pub never_due : (first events : ℕ) → is_due_after None first events ≡ false
 never_due zero events = refl
 never_due (suc n) events = never (nat_lt (suc n) events)
+
+pub never_last : (first n : ℕ) → last_of (is_due_after None first) n ≡ 0
+never_last first zero = refl
+never_last first (suc n) = ap (λ (b : Bool). cond b (suc n) (last_of (is_due_after None first) n)) (never_due first (suc n)) ∙ never_last first n
 
 -- after earlier events none is due up to the last of these
 not_less : (n m : ℕ) → n ≤ m → nat_lt m n ≡ false
@@ -72,6 +77,7 @@ pub windows_behind : (every : Option ℕ) (first : ℕ) (peaks : ℕ → ℕ) (e
 windows_behind every first peaks engine events behind f = record {
   dense = f.dense;
   nodes = subst (λ (n : ℕ). FollowsWindowSince n engine events) (sym (last_none every first (length events) (omega arith))) (dense_follows engine events f.dense);
+  keys = λ is_made. absurd (let none = last_none every first (length events) (omega arith) in omega arith);
   peaks = λ k q at. elim (f.peaks_are k q at) [
     | inl was ↦ inl was
     | inr had ↦ inr (record {
@@ -132,11 +138,12 @@ peak_here due new events event k q is h =
           subst (IsBoundedBy (IsRecentAt new.schema q all (last_of due (length events))) new (k + 1)) (sym is) h));
     }
 
-pub windows_on : (due : ℕ → Bool) (before : ℕ → ℕ) (old new : EngineState) (events : List Event) (event : Event) → SameQueries old new → StandsFor new (events ++ event ∷ []) → HasAdded old new event →
+pub windows_on : (due : ℕ → Bool) (before : ℕ → ℕ) (old new : EngineState) (events : List Event) (event : Event) → SameQueries old new → StandsFor new (events ++ event ∷ []) → HasAdded old new event → HasAddedKeys old new event →
     FollowsWindowsBy due before (last_of due (length events)) events old → FollowsWindowsBy due before (last_of due (length events)) (events ++ event ∷ []) new
-windows_on due before old new events event same stands added w = record {
+windows_on due before old new events event same stands added keyed w = record {
   dense = event_keeps_dense old new events event same stands added w.dense;
   nodes = nodes_now;
+  keys = event_keeps_keys old new events event same stands added keyed (last_of due (length events)) (last_upto due (length events)) w.keys;
   peaks = λ k q at. (
       let peak = added.peak (k + 1) in
       let found = added.found (k + 1) in
@@ -155,12 +162,12 @@ windows_on due before old new events event same stands added w = record {
   nodes_now = event_keeps_window old new events event same stands added (last_of due (length events)) (last_upto due (length events)) w.nodes
 
 -- so they do before the compaction that may be due
-pub windows_due : (due : ℕ → Bool) (before : ℕ → ℕ) (old new : EngineState) (events : List Event) (event : Event) → SameQueries old new → StandsFor new (events ++ event ∷ []) → HasAdded old new event →
+pub windows_due : (due : ℕ → Bool) (before : ℕ → ℕ) (old new : EngineState) (events : List Event) (event : Event) → SameQueries old new → StandsFor new (events ++ event ∷ []) → HasAdded old new event → HasAddedKeys old new event →
     FollowsWindowsBy due before (last_of due (length events)) events old → FollowsWindowsBy due before (last_of due (length (events ++ event ∷ []) - 1)) (events ++ event ∷ []) new
-windows_due due before old new events event same stands added w =
+windows_due due before old new events event same stands added keyed w =
     let long = length-append events (event ∷ []) in
     let count : length events ≡ length (events ++ event ∷ []) - 1 = omega arith in
-    subst (λ (n : ℕ). FollowsWindowsBy due before (last_of due n) (events ++ event ∷ []) new) count (windows_on due before old new events event same stands added w)
+    subst (λ (n : ℕ). FollowsWindowsBy due before (last_of due n) (events ++ event ∷ []) new) count (windows_on due before old new events event same stands added keyed w)
 
 -- A COMPACTION
 
@@ -181,28 +188,30 @@ peaks_stay due before first old new events same found peak w k q at =
 
 -- it is made of all, with no cursor held
 pub windows_compacted : (due : ℕ → Bool) (before : ℕ → ℕ) (first : ℕ) (old new : EngineState) (buffer : List Open) (events : List Event) → due (length events) ≡ true → length buffer ≡ 0 → SameQueries old new → ((query : ℕ) → found_of new query ≡ found_of old query) →
-    ((query : ℕ) → peak_of new query ≡ peak_of old query) → StandsFor new events → IsDense new events → FollowsWindow new events buffer → FollowsWindowsBy due before first events old → FollowsWindowsBy due before (last_of due (length events)) events new
-windows_compacted due before first old new buffer events has_come none same found peak stands dense window w =
+    ((query : ℕ) → peak_of new query ≡ peak_of old query) → StandsFor new events → IsDense new events → FollowsWindow new events buffer → KeysFollowWindows new events → FollowsWindowsBy due before first events old → FollowsWindowsBy due before (last_of due (length events)) events new
+windows_compacted due before first old new buffer events has_come none same found peak stands dense window keyed w =
     let left = subst (FollowsWindow new events) (nothing_held buffer none) window in
     record {
       dense = dense;
       nodes = subst (λ (n : ℕ). FollowsWindowSince n new events) (sym (last_now due (length events) has_come)) (compacted_follows_window new events stands left);
+      keys = subst (λ (n : ℕ). KeysFollowWindowsSince n new events) (sym (last_now due (length events) has_come)) (compacted_follow_windows new events keyed);
       peaks = peaks_stay due before first old new events same found peak w;
     }
 
--- it is made of some, and none of all is due
-pub windows_kept : (due : ℕ → Bool) (before : ℕ → ℕ) (first : ℕ) (old new : EngineState) (events : List Event) → SameQueries old new → ((query : ℕ) → found_of new query ≡ found_of old query) → ((query : ℕ) → peak_of new query ≡ peak_of old query) →
-    ((query : ℕ) → len_of new query ≤ len_of old query) → IsDense new events → FollowsWindowsBy due before first events old → FollowsWindowsBy due before first events new
-windows_kept due before first old new events same found peak fewer dense w = record {
+-- it is made of some, and none of all ever was
+pub windows_kept : (due : ℕ → Bool) (before : ℕ → ℕ) (old new : EngineState) (events : List Event) → SameQueries old new → ((query : ℕ) → found_of new query ≡ found_of old query) → ((query : ℕ) → peak_of new query ≡ peak_of old query) →
+    ((query : ℕ) → len_of new query ≤ len_of old query) → IsDense new events → FollowsWindowsBy due before 0 events old → FollowsWindowsBy due before 0 events new
+windows_kept due before old new events same found peak fewer dense w = record {
   dense = dense;
   nodes = λ k q at. (
       let states = found (k + 1) in
-      let Are : ℕ → Type 0 = IsRecentAt old.schema q events first in
-      subst (λ (s : Declared). IsBoundedBy (IsRecentAt s q events first) new (k + 1) (len_of new (k + 1))) (sym same.0) (
-      bounded_on Are Are old new (k + 1) (len_of old (k + 1)) (len_of new (k + 1)) (length events) (λ x r. r) (λ x r. recent_inside old.schema q events first x r) (omega arith) (inl (fewer (k + 1)))
+      let Are : ℕ → Type 0 = IsRecentAt old.schema q events 0 in
+      subst (λ (s : Declared). IsBoundedBy (IsRecentAt s q events 0) new (k + 1) (len_of new (k + 1))) (sym same.0) (
+      bounded_on Are Are old new (k + 1) (len_of old (k + 1)) (len_of new (k + 1)) (length events) (λ x r. r) (λ x r. recent_inside old.schema q events 0 x r) (omega arith) (inl (fewer (k + 1)))
       (w.nodes k q (subst (λ (qs : List Query). slice_get qs k ≡ Some q) same.1 at)))
       );
-  peaks = peaks_stay due before first old new events same found peak w;
+  keys = λ is_made. absurd (omega arith);
+  peaks = peaks_stay due before 0 old new events same found peak w;
 }
 
 -- an engine that goes on after it
@@ -231,21 +240,21 @@ windows_stay due engine count counted none before events stands w =
     subst (λ (n : ℕ). FollowsWindowsBy due before n events engine) (sym (last_stays due (length events) here)) w
 
 -- where none ever is, what keeps them keeps them now
-pub windows_looked : (first : ℕ) (old new : EngineState) → ((due : ℕ → Bool) (before : ℕ → ℕ) (n : ℕ) (events : List Event) → FollowsWindowsBy due before n events old → FollowsWindowsBy due before n events new) →
+pub windows_looked : (first : ℕ) (old new : EngineState) → ((due : ℕ → Bool) (before : ℕ → ℕ) (events : List Event) → FollowsWindowsBy due before 0 events old → FollowsWindowsBy due before 0 events new) →
     (before : ℕ → ℕ) (events : List Event) → StandsFor old events → FollowsWindowsBy (is_due_after None first) before (last_of (is_due_after None first) (length events - 1)) events old → FollowsWindowsBy (is_due_after None first) before (last_of (is_due_after None first) (length events)) events new
 windows_looked first old new kept before events stands w =
     let due : ℕ → Bool = is_due_after None first in
-    subst (λ (n : ℕ). FollowsWindowsBy due before n events new) (sym (last_stays due (length events) (never_due first (length events)))) (kept due before (last_of due (length events - 1)) events w)
+    subst (λ (n : ℕ). FollowsWindowsBy due before n events new) (sym (never_last first (length events))) (kept due before events (subst (λ (n : ℕ). FollowsWindowsBy due before n events old) (never_last first (length events - 1)) w))
 
 -- by how the call ended
 pub compaction_follows : {T E : Type 0} (r : Result T E) (due : ℕ → Bool) (old new : EngineState) (buffer : List Open) (count : ℕ) → ((events : List Event) → StandsFor old events → count ≡ length events) → due count ≡ true → length buffer ≡ 0 →
     SameQueries old new → ((query : ℕ) → found_of new query ≡ found_of old query) → ((query : ℕ) → peak_of new query ≡ peak_of old query) →
     OnOk r ((events : List Event) → StandsFor old events → StandsFor new events) → OnOk r ((events : List Event) → IsDense old events → IsDense new events) →
-    OnOk r ((events : List Event) → StandsFor old events → IsDense old events → FollowsWindow new events buffer) →
+    OnOk r ((events : List Event) → StandsFor old events → IsDense old events → FollowsWindow new events buffer) → OnOk r ((events : List Event) → StandsFor old events → KeysFollowWindows new events) →
     OnOk r ((before : ℕ → ℕ) (events : List Event) → StandsFor old events → FollowsWindowsBy due before (last_of due (length events - 1)) events old → FollowsWindowsBy due before (last_of due (length events)) events new)
-compaction_follows (Err e) due old new buffer count counted has_come none same found peak stands dense window = tt
-compaction_follows (Ok x) due old new buffer count counted has_come none same found peak stands dense window = λ before events at w.
-    windows_compacted due before (last_of due (length events - 1)) old new buffer events (subst (λ (n : ℕ). due n ≡ true) (counted events at) has_come) none same found peak (stands events at) (dense events w.dense) (window events at w.dense) w
+compaction_follows (Err e) due old new buffer count counted has_come none same found peak stands dense window keyed = tt
+compaction_follows (Ok x) due old new buffer count counted has_come none same found peak stands dense window keyed = λ before events at w.
+    windows_compacted due before (last_of due (length events - 1)) old new buffer events (subst (λ (n : ℕ). due n ≡ true) (counted events at) has_come) none same found peak (stands events at) (dense events w.dense) (window events at w.dense) (keyed events at) w
 
 -- AT THE END
 
@@ -254,6 +263,7 @@ pub windows_before : (due : ℕ → Bool) (before others : ℕ → ℕ) (first :
 windows_before due before others first events engine less w = record {
   dense = w.dense;
   nodes = w.nodes;
+  keys = w.keys;
   peaks = λ k q at. (let le = less (k + 1) in elim (w.peaks k q at) [ inl was ↦ inl (omega arith) | inr had ↦ inr had ]);
 }
 

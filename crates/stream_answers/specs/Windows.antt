@@ -3,6 +3,7 @@ use Rattle.std.specs.Prelude.{◌≡◌, ℕ, zero, suc, ◌+◌, ◌-◌, ◌%�
 use Rattle.stream_schema.specs.declared.Event.{Event}
 use Rattle.cel_terms.specs.declared.Query.{Query}
 use Rattle.query_engine.specs.Engine.{EngineState, StandsFor, peak_of}
+use Rattle.query_engine.specs.Keys.{KeysFollowWindowsSince}
 use Rattle.query_engine.specs.Peaks.{PeaksFollow}
 use Rattle.query_engine.specs.Windows.{IsBoundedBy, IsDense, IsRecentAt, FollowsWindowSince}
 
@@ -31,10 +32,11 @@ pub record HasPeak (due : ℕ → Bool) (events : List Event) (engine : EngineSt
   pub among : count ≤ length events
   pub nodes : IsBoundedBy (IsRecentAt engine.schema q (take count events) (last_of due (count - 1))) engine (k + 1) (peak_of engine (k + 1))
 
--- The engine stands for the events, was compacted after the first so many, and had these peaks before it took any. Its nodes are bounded by the events since then and those in the windows that this left.
+-- The engine stands for the events, was compacted after the first so many, and had these peaks before it took any. Its nodes are bounded by the events since then and those in the windows that this left, and so are the keys of each query that has a window.
 pub record FollowsWindowsBy (due : ℕ → Bool) (before : ℕ → ℕ) (first : ℕ) (events : List Event) (engine : EngineState) : Type 0 where
   pub dense : IsDense engine events
   pub nodes : FollowsWindowSince first engine events
+  pub keys : KeysFollowWindowsSince first engine events
   pub peaks : (k : ℕ) (q : Query) → slice_get engine.queries k ≡ Some q → (peak_of engine (k + 1) ≤ before (k + 1)) ⊎ HasPeak due events engine k q
 
 -- the windows are followed with a compaction after every N-th event

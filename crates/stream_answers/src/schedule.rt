@@ -6,6 +6,7 @@ ghost use Rattle.stream_schema.specs.declared.Event.{Event};
 ghost use Rattle.query_engine.specs.Engine.{Open, StandsFor, SameQueries, Fits, IsKept, count_of, found_of, len_of, peak_of};
 ghost use Rattle.query_engine.specs.Counts.{MeetMost, HasFewNodes, compaction_bound};
 ghost use Rattle.query_engine.specs.Sizes.{AreKeptSmall, AreSizes, put_by};
+ghost use Rattle.query_engine.specs.Keys.{KeysFollowWindows};
 ghost use Rattle.query_engine.specs.Windows.{IsDense, FollowsWindow};
 ghost use Rattle.stream_answers.specs.Schedules.{due_by, saved, first_compaction, WithNoNumber, IsOnTime, IsGoingOn};
 ghost use Rattle.stream_answers.specs.Steps.{compaction_by};
@@ -197,6 +198,8 @@ impl Schedule {
             → IsDense engine.new events) }
         ensures window { OnOk result ((events : List Event) → StandsFor engine.old events
             → IsDense engine.old events → FollowsWindow engine.new events []) }
+        ensures keys { OnOk result ((events : List Event) → StandsFor engine.old events
+            → KeysFollowWindows engine.new events) }
         ensures same { SameQueries engine.old engine.new }
         ensures count { count_of engine.new ≡ count_of engine.old }
         ensures found { (query : ℕ) → found_of engine.new query ≡ found_of engine.old query }
@@ -271,9 +274,9 @@ impl Schedule {
         ensures same { SameQueries engine.old engine.new }
         ensures count { count_of engine.new ≡ count_of engine.old }
         ensures fewer { (query : ℕ) → len_of engine.new query ≤ len_of engine.old query }
-        ensures windows { OnOk result ((due : ℕ → Bool) (before : ℕ → ℕ) (first : ℕ)
-            (events : List Event) → FollowsWindowsBy due before first events engine.old
-            → FollowsWindowsBy due before first events engine.new) }
+        ensures windows { OnOk result ((due : ℕ → Bool) (before : ℕ → ℕ)
+            (events : List Event) → FollowsWindowsBy due before 0 events engine.old
+            → FollowsWindowsBy due before 0 events engine.new) }
         ensures on_time { OnOk result ((events : List Event) → StandsFor engine.old events
             → IsDense engine.old events
             → IsGoingOn self.old engine.old events → IsOnTime self.new engine.new events) }

@@ -73,7 +73,7 @@ loop-output-preserved g c =
           let compacted_is = compacted t a c.loop-output.engine c.take_event.new.engine c.keep_up.new.engine owing.events owing.next (c.put.new.steps + mid) now (same.0 ∙ inv.same.0) (same.1 ∙ inv.same.1) same c.keep_up.ensures.same
           owing.stands (c.keep_up.ensures.stands _ owing.stands) so_far.counting.few (c.in-Ok-Event.ensures.growth (ap Ok c.in-Ok-Event.field-0-is)) c.keep_up.ensures.fewer (paid_in_time c.loop-output.schedule c.keep_up.new.self t c.take_event.new.engine c.keep_up.new.engine inv.timing c.put.new.steps c.keep_up.new.steps c.keep_up.ensures.timing c.keep_up.ensures.steps (owing.events ++ owing.next ∷ []) owing.stands)
           (λ most meet. first_meet_fewer _ _ _ _ most meet) in
-          let due_here = windows_due (due_by t) peaks c.loop-output.engine c.take_event.new.engine owing.events owing.next same owing.stands event.3 so_far.windows in
+          let due_here = windows_due (due_by t) peaks c.loop-output.engine c.take_event.new.engine owing.events owing.next same owing.stands event.3 event.4 so_far.windows in
           record {
             counting = counts_on t earlier a (g.Q.Source.left c.args.source.now) c.take_event.new.lines (g.Q.Source.left c.take_event.new.source) (g.K.Sink.taken c.args.out.now) (g.K.Sink.taken c.loop-output.out) (g.K.Sink.taken c.put.new.out) c.loop-output.output.buffer c.put.new.self.buffer c.take_event.new.engine c.keep_up.new.engine owing
                 so_far.counting.rows put.0 begun c.loop-output.steps had mid c.take_event.new.steps c.put.new.steps now (same.0 ∙ inv.same.0) (same.1 ∙ inv.same.1)

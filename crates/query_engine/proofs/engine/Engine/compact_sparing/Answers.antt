@@ -4,7 +4,7 @@ use Rattle.query_engine.specs.Choosing.{OthersAreFree}
 use Rattle.query_engine.specs.Engine.{Open}
 use Rattle.query_engine.specs.Windows.{FollowsWindow}
 use Rattle.all_or_none.specs.Phases.{Phase}
-use Rattle.query_engine.proofs.Tending.{query_states_long, others_free, spared_follows, none_held}
+use Rattle.query_engine.proofs.Tending.{query_states_long, others_free, spared_follows, spared_keys, none_held}
 use Rattle.query_engine.proofs.engine.Engine.compact_sparing.Goals as goal
 
 pub unspared-requires-clause-count : goal.unspared-requires-clause-count
@@ -27,3 +27,9 @@ returns-clause-window g c = λ events stands dense.
     let did = c.in_ok-compact_chosen.ensures in
     subst (FollowsWindow c.compact_chosen.new.self events) (none_held c.compact_chosen.new.held did.held)
     (spared_follows c.as_slice-flags.result.now c.args.self.now c.compact_chosen.new.self events c.compact_chosen.new.held did.same free (did.stands events stands) (did.dense events dense) did.left)
+
+pub returns-clause-keys : goal.returns-clause-keys
+returns-clause-keys g c = λ events stands.
+    let free = others_free c.self.inside.schema c.self.inside.count (clocks_in c.self.inside.times) c.self.inside.query_states.items c.self.inside.peaks.items c.args.self.now c.self.view_is c.as_slice-flags.result.now (subst (OthersAreFree (length c.self.inside.query_states.items) c.self.inside.query_states.items) (sym c.as_slice-flags.ensures.value) (subst (λ (ps : List Phase). OthersAreFree (length ps) ps c.in_ok-chosen.chosen.items) c.as_slice.ensures.value c.in_ok-chosen.ensures.free)) in
+    let did = c.in_ok-compact_chosen.ensures in
+    spared_keys c.as_slice-flags.result.now c.args.self.now c.compact_chosen.new.self events c.compact_chosen.new.held did.same free (did.stands events stands) did.left

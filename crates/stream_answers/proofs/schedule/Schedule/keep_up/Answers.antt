@@ -7,7 +7,7 @@ pub returns-then-is_due_after-clause-windows : goal.returns-then-is_due_after-cl
 returns-then-is_due_after-clause-windows g c = rw (← c.self.view_is) (
     let due : is_due_after c.self.inside.every c.self.inside.first c.events.result ≡ true = (let e = c.is_due_after.ensures in let f = c.if-is_due_after.true in cc) in
     let did = c.compact.ensures in
-    compaction_follows c.compact.result (is_due_after c.self.inside.every c.self.inside.first) c.args.engine.now c.compact.new.engine [] c.events.result c.events.ensures.length due refl did.same did.found did.peak did.stands did.dense did.window)
+    compaction_follows c.compact.result (is_due_after c.self.inside.every c.self.inside.first) c.args.engine.now c.compact.new.engine [] c.events.result c.events.ensures.length due refl did.same did.found did.peak did.stands did.dense did.window did.keys)
 
 pub returns-else-is_due_after-clause-windows : goal.returns-else-is_due_after-clause-windows
 returns-else-is_due_after-clause-windows g c = rw (← c.self.view_is) (

@@ -10,9 +10,9 @@ use Rattle.stream_answers.proofs.Windows.{nothing_held, windows_kept}
 use Rattle.stream_answers.proofs.schedule.Schedule.look.Goals as goal
 
 pub returns-clause-windows : goal.returns-clause-windows
-returns-clause-windows g c = λ due before first events w.
+returns-clause-windows g c = λ due before events w.
     let did = c.in_ok-compact_grown.ensures in
-    windows_kept due before first c.args.engine.now c.compact_grown.new.self events did.same did.found did.peak did.fewer (did.dense events w.dense) w
+    windows_kept due before c.args.engine.now c.compact_grown.new.self events did.same did.found did.peak did.fewer (did.dense events w.dense) w
 
 pub returns-clause-on_time : goal.returns-clause-on_time
 returns-clause-on_time g c = λ events stands dense going.

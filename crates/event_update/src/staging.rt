@@ -112,6 +112,10 @@ fn make_room(
     if k < rows.len() {
         return Ok(());
     }
+    // Most keys have one row: a first growth takes room for no more, later ones for twice as many.
+    if rows.len() == rows.capacity() {
+        rows.reserve_exact(rows.len().max(1))?;
+    }
     rows.push((state, list.head()))?;
     Ok(())
 }

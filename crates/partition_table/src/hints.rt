@@ -48,20 +48,23 @@ pub fn slot_at(places: &[u64], values: &[Value]) -> usize {
 }
 
 /// Hints that lead to the first key.
-fn no_hints(alloc: Global) -> Result<Vec<u64>, Memory> {
+fn no_hints(alloc: Global) -> Result<Vec<u32>, Memory> {
     Ok(vec![in alloc; 0; HINTS as usize]?)
 }
 
-/// Makes room for hints, where there are none yet.
-pub fn make_hints(alloc: Global, hints: &mut Vec<u64>) -> Result<(), Memory> {
-    if hints.is_empty() {
+/// Makes room for hints, where there are none yet. The key of no values needs none.
+pub fn make_hints(alloc: Global, hints: &mut Vec<u32>, key: &Key) -> Result<(), Memory> {
+    if hints.is_empty() && !key.values().is_empty() {
         *hints = no_hints(alloc)?;
     }
     Ok(())
 }
 
-/// Hints that the key has this number.
-pub fn put_hint(hints: &mut Vec<u64>, key: &Key, number: u64) {
+/// Hints that the key has this number, where it is one of 32 bits.
+pub fn put_hint(hints: &mut Vec<u32>, key: &Key, number: u64) {
+    let Ok(number) = u32::try_from(number) else {
+        return;
+    };
     if let Some(hint) = hints.get_mut(slot(key.values())) {
         *hint = number;
     }

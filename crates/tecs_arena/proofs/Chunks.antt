@@ -1,11 +1,12 @@
 -- Where a place stands in the row of all places, as chunks are written and made.
-use Rattle.std.proofs.Common.{◌≡◌, ℕ, zero, suc, ◌+◌, ◌-◌, ◌*◌, ◌^◌, ◌<◌, ◌≤◌, List, [], ◌∷◌, ◌++◌, length, map, set, get_or, Option, Some, None, refl, sym, ap, ◌∙◌, arith, length-append, length-set, append_assoc, inl, inr, ◌%◌, add-one, replicate, lit<}
+use Rattle.std.proofs.Common.{◌≡◌, ℕ, zero, suc, ◌+◌, ◌-◌, ◌*◌, ◌^◌, ◌<◌, ◌≤◌, List, [], ◌∷◌, ◌++◌, length, map, set, get_or, Option, Some, None, refl, sym, ap, ◌∙◌, arith, length-append, length-set, append_assoc, take, subst, inl, inr, ◌%◌, add-one, replicate, lit<}
 use Rattle.std.proofs.Math.Nat.{mul_assoc}
 use Rattle.std.proofs.lemmas.Nat.{pow_below, shl_whole}
 use Rattle.std.proofs.lemmas.Bool.{cases_lt}
 use Rattle.std.proofs.lemmas.List.{append-nil, length-replicate, get_or_default, get_or_append_left, get_or-append-add, set-append_left, set-append_right}
+use Rattle.std.proofs.Math.Seq.{take-append-add}
 use Rattle.std.proofs.Math.Nat.{pow-suc}
-use Rattle.tecs_arena.specs.Chunks.{IsFilled, values_of, places, row, AreChunks}
+use Rattle.tecs_arena.specs.Chunks.{IsFilled, values_of, places, places_of, row, AreChunks}
 
 -- how many places chunk k has, and how many all before it
 pub size : ℕ → ℕ → ℕ
@@ -40,6 +41,34 @@ unfolding first
 first_mono n zero k le = omega arith
 first_mono n (suc j) zero le = absurd (omega arith)
 first_mono n (suc j) (suc k) le = let e = first_mono (n + n) j k (omega arith) in omega arith
+
+-- how many places come before chunk k, where the first one has 64
+first_is : (k : ℕ) → first 64 k ≡ places_of k
+first_is k = let a = size_is 64 k in let b = size_sum 64 k in omega arith
+
+-- no shift of the code loses a bit
+shift : (k : ℕ) → k ≤ 25 → (64 * 2 ^ k) % 2 ^ 64 ≡ 64 * 2 ^ k
+shift k few = shl_whole 64 7 k 64 (lit< tt) (omega arith)
+
+-- so many nodes leave the last of m chunks empty where they fit into all but the last two
+pub two_empty : (m n : ℕ) → 2 ≤ m → m ≤ 27 → n ≤ (64 * 2 ^ (m - 2)) % 2 ^ 64 - 64 → n ≤ places_of (m - 1)
+two_empty zero n two few le = absurd (omega arith)
+two_empty (suc zero) n two few le = absurd (omega arith)
+two_empty (suc (suc k)) n two few le =
+    let last : suc (suc k) - 1 ≡ suc k = omega arith in let before : suc (suc k) - 2 ≡ k = omega arith in
+    let s = shift k (omega arith) in let p = pow-suc 2 k in
+    let h = rw before at le in
+    rw last (omega arith)
+
+-- and where they do not, there are at most four places for each, and 192
+pub not_two_empty : (m n : ℕ) → 2 ≤ m → m ≤ 27 → (64 * 2 ^ (m - 2)) % 2 ^ 64 - 64 < n → places_of m ≤ 4 * n + 192
+not_two_empty zero n two few lt = absurd (omega arith)
+not_two_empty (suc zero) n two few lt = absurd (omega arith)
+not_two_empty (suc (suc k)) n two few lt =
+    let before : suc (suc k) - 2 ≡ k = omega arith in
+    let s = shift k (omega arith) in let p = pow-suc 2 k in let q = pow-suc 2 (suc k) in
+    let h = rw before at lt in
+    omega arith
 
 module _ {X : Type 0} where
   set_append_add : (xs ys : List (Option X)) (n : ℕ) (v : Option X) → set (xs ++ ys) (length xs + n) v ≡ xs ++ set ys n v
@@ -116,60 +145,76 @@ module _ {X : Type 0} where
   filled_within (c ∷ cs) (suc i) h = omega (arith, filled_within cs i h)
 
   -- Memory has not as many bytes as that.
-  pub row_small : (m : ℕ) (table : List (Option (List (Option X)))) → AreChunks 1024 m table → m ≤ 23 → length (row table) + 1024 ≤ 2 ^ 33
+  pub row_small : (m : ℕ) (table : List (Option (List (Option X)))) → AreChunks 64 m table → m ≤ 27 → length (row table) + 64 ≤ 2 ^ 33
   row_small m table h le =
-      let a = row_length 1024 m table h in let b = size_sum 1024 m in let e = size_is 1024 m in let p : 2 ^ m ≤ 2 ^ 23 = pow_mono m 23 le in omega arith
+      let a = row_length 64 m table h in let b = size_sum 64 m in let e = size_is 64 m in let p : 2 ^ m ≤ 2 ^ 27 = pow_mono m 27 le in omega arith
 
   -- what the code computes of the room: no shift loses a bit
-  pub row_room : (m : ℕ) (table : List (Option (List (Option X)))) → AreChunks 1024 m table → m ≤ 23 → ((1024 * 2 ^ m) % 2 ^ 64 ≡ 1024 * 2 ^ m) × (1024 * 2 ^ m ≡ length (row table) + 1024)
+  pub row_room : (m : ℕ) (table : List (Option (List (Option X)))) → AreChunks 64 m table → m ≤ 27 → ((64 * 2 ^ m) % 2 ^ 64 ≡ 64 * 2 ^ m) × (64 * 2 ^ m ≡ length (row table) + 64)
   row_room m table h le =
-      let a = row_length 1024 m table h in let b = size_sum 1024 m in let e = size_is 1024 m in let p : 2 ^ m ≤ 2 ^ 23 = pow_mono m 23 le in
-      (shl_whole 1024 11 m 64 (lit< tt) (omega arith), omega arith)
+      let a = row_length 64 m table h in let b = size_sum 64 m in let e = size_is 64 m in let p : 2 ^ m ≤ 2 ^ 27 = pow_mono m 27 le in
+      (shl_whole 64 7 m 64 (lit< tt) (omega arith), omega arith)
 
   -- the table with one chunk more
-  pub grown_row : (m n : ℕ) (cs : List (Option X)) (table : List (Option (List (Option X)))) → AreChunks 1024 m table → m < 23 → length table ≡ 23 → n ≡ (1024 * 2 ^ m) % 2 ^ 64 → cs ≡ replicate n None → (AreChunks 1024 (m + 1) (set table m (Some cs)) × (m + 1 ≤ 23)) × (row (set table m (Some cs)) ≡ row table ++ replicate (length (row table) + 1024) None)
+  pub grown_row : (m n : ℕ) (cs : List (Option X)) (table : List (Option (List (Option X)))) → AreChunks 64 m table → m < 27 → length table ≡ 27 → n ≡ (64 * 2 ^ m) % 2 ^ 64 → cs ≡ replicate n None → (AreChunks 64 (m + 1) (set table m (Some cs)) × (m + 1 ≤ 27)) × (row (set table m (Some cs)) ≡ row table ++ replicate (length (row table) + 64) None)
   grown_row m n cs table h few long whole blank =
-      let r = row_room m table h (omega arith) in let e = size_is 1024 m in
-      let have : cs ≡ replicate (length (row table) + 1024) None = blank ∙ ap (λ (k : ℕ). let z : Option X = None in replicate k z) (whole ∙ r.0 ∙ r.1) in
-      let sized : length cs ≡ size 1024 m = ap length have ∙ length-replicate (length (row table) + 1024) None ∙ omega arith in
-      ((rw add-one (chunks-grow 1024 m cs table h (omega arith) sized), omega arith), row_grow 1024 m cs table h (omega arith) ∙ ap (λ ds. row table ++ ds) have)
+      let r = row_room m table h (omega arith) in let e = size_is 64 m in
+      let have : cs ≡ replicate (length (row table) + 64) None = blank ∙ ap (λ (k : ℕ). let z : Option X = None in replicate k z) (whole ∙ r.0 ∙ r.1) in
+      let sized : length cs ≡ size 64 m = ap length have ∙ length-replicate (length (row table) + 64) None ∙ omega arith in
+      ((rw add-one (chunks-grow 64 m cs table h (omega arith) sized), omega arith), row_grow 64 m cs table h (omega arith) ∙ ap (λ ds. row table ++ ds) have)
+
+  -- the table without its last chunk
+  row_cut : (n m : ℕ) (table : List (Option (List (Option X)))) → AreChunks n (suc m) table → AreChunks n m (set table m None) × (row (set table m None) ≡ take (first n m) (row table))
+  unfolding first
+  row_cut n m [] h = absurd h
+  row_cut n m (None ∷ table) h = absurd h
+  row_cut n zero (Some cs ∷ table) h = (h.1, h.1)
+  row_cut n (suc m) (Some cs ∷ table) h =
+      let e = row_cut (n + n) m table h.1 in
+      let from : length cs + first (n + n) m ≡ n + first (n + n) m = omega (arith, h.0) in
+      ((h.0, e.0), ap (λ r. cs ++ r) e.1 ∙ sym (take-append-add cs (row table) (first (n + n) m)) ∙ ap (λ i. take i (cs ++ row table)) from)
+
+  pub cut_row : (m k : ℕ) (table : List (Option (List (Option X)))) → AreChunks 64 m table → m ≤ 27 → m ≡ k + 1 → (AreChunks 64 k (set table k None) × (k ≤ 27)) × (row (set table k None) ≡ take (places_of k) (row table))
+  cut_row m k table h few last =
+      let e = row_cut 64 k table (subst (λ i. AreChunks 64 i table) (last ∙ add-one k) h) in
+      ((e.0, omega arith), e.1 ∙ ap (λ i. take i (row table)) (first_is k))
 
   -- A number's place: in which chunk, and where there.
   pub record IsSpot (table : List (Option (List (Option X)))) (m id k p : ℕ) : Type 0 where
-    pub before : id ≡ first 1024 k + p
+    pub before : id ≡ first 64 k + p
     pub chunk : k < m
-    pub there : (cs : List (Option X)) × (get_or table k None ≡ Some cs) × (length cs ≡ size 1024 k)
-    pub inside : p < size 1024 k
+    pub there : (cs : List (Option X)) × (get_or table k None ≡ Some cs) × (length cs ≡ size 64 k)
+    pub inside : p < size 64 k
 
-  pub spot : (m id k p : ℕ) (table : List (Option (List (Option X)))) → AreChunks 1024 m table → id < length (row table) → p < 1024 * 2 ^ k → id + 1024 ≡ 1024 * 2 ^ k + p → IsSpot table m id k p
+  pub spot : (m id k p : ℕ) (table : List (Option (List (Option X)))) → AreChunks 64 m table → id < length (row table) → p < 64 * 2 ^ k → id + 64 ≡ 64 * 2 ^ k + p → IsSpot table m id k p
   spot m id k p table h lt below sum =
-      let a = size_is 1024 k in let b = size_sum 1024 k in let l = row_length 1024 m table h in
-      let early : k < m = elim (cases_lt k m) [ inl less ↦ less | inr more ↦ absurd (let e = first_mono 1024 m k more in omega arith) ] in
-      record { before = omega arith; chunk = early; there = made_chunk 1024 k m table h early; inside = omega arith }
+      let a = size_is 64 k in let b = size_sum 64 k in let l = row_length 64 m table h in
+      let early : k < m = elim (cases_lt k m) [ inl less ↦ less | inr more ↦ absurd (let e = first_mono 64 m k more in omega arith) ] in
+      record { before = omega arith; chunk = early; there = made_chunk 64 k m table h early; inside = omega arith }
 
-  pub spot_read : (m id k p : ℕ) (table : List (Option (List (Option X)))) → AreChunks 1024 m table → IsSpot table m id k p → get_or (row table) id None ≡ get_or (places (get_or table k None)) p None
-  spot_read m id k p table h s = ap (λ i. get_or (row table) i None) s.before ∙ row_read 1024 k m p table h s.chunk s.inside
+  pub spot_read : (m id k p : ℕ) (table : List (Option (List (Option X)))) → AreChunks 64 m table → IsSpot table m id k p → get_or (row table) id None ≡ get_or (places (get_or table k None)) p None
+  spot_read m id k p table h s = ap (λ i. get_or (row table) i None) s.before ∙ row_read 64 k m p table h s.chunk s.inside
 
-  pub spot_write : (m id k p : ℕ) (v : Option X) (table : List (Option (List (Option X)))) → AreChunks 1024 m table → IsSpot table m id k p → row (set table k (Some (set (places (get_or table k None)) p v))) ≡ set (row table) id v
-  spot_write m id k p v table h s = row_write 1024 k m p v table h s.chunk s.inside ∙ ap (λ i. set (row table) i v) (sym s.before)
+  pub spot_write : (m id k p : ℕ) (v : Option X) (table : List (Option (List (Option X)))) → AreChunks 64 m table → IsSpot table m id k p → row (set table k (Some (set (places (get_or table k None)) p v))) ≡ set (row table) id v
+  spot_write m id k p v table h s = row_write 64 k m p v table h s.chunk s.inside ∙ ap (λ i. set (row table) i v) (sym s.before)
 
   pub spot_inside : (m id k p : ℕ) (table : List (Option (List (Option X)))) → IsSpot table m id k p → p < length (places (get_or table k None))
   spot_inside m id k p table s = let e = s.inside in rw (s.there.1) (omega (arith, s.there.2))
 
-  pub spot_kept : (m id k p : ℕ) (v : Option X) (table : List (Option (List (Option X)))) → AreChunks 1024 m table → IsSpot table m id k p → AreChunks 1024 m (set table k (Some (set (places (get_or table k None)) p v)))
-  spot_kept m id k p v table h s = chunks-set 1024 k m (set (places (get_or table k None)) p v) table h s.chunk (rw (s.there.1) (length-set s.there.0 p v ∙ s.there.2))
+  pub spot_kept : (m id k p : ℕ) (v : Option X) (table : List (Option (List (Option X)))) → AreChunks 64 m table → IsSpot table m id k p → AreChunks 64 m (set table k (Some (set (places (get_or table k None)) p v)))
+  spot_kept m id k p v table h s = chunks-set 64 k m (set (places (get_or table k None)) p v) table h s.chunk (rw (s.there.1) (length-set s.there.0 p v ∙ s.there.2))
 
   -- The same at the chunk as the code reads it.
-  pub spot_readable : (m id k p : ℕ) (r : Option (List (Option X))) (table : List (Option (List (Option X)))) → AreChunks 1024 m table → IsSpot table m id k p → k < length table → IsFilled (row table) id → IsFilled (places (get_or table k r)) p
+  pub spot_readable : (m id k p : ℕ) (r : Option (List (Option X))) (table : List (Option (List (Option X)))) → AreChunks 64 m table → IsSpot table m id k p → k < length table → IsFilled (row table) id → IsFilled (places (get_or table k r)) p
   spot_readable m id k p r table h s inside f = rw (get_or_default table k r None inside) (f.0, sym (spot_read m id k p table h s) ∙ f.1)
 
-  pub spot_told : (m id k p : ℕ) (r : Option (List (Option X))) (x : X) (table : List (Option (List (Option X)))) → AreChunks 1024 m table → IsSpot table m id k p → k < length table → get_or (places (get_or table k r)) p None ≡ Some x → get_or (row table) id None ≡ Some x
+  pub spot_told : (m id k p : ℕ) (r : Option (List (Option X))) (x : X) (table : List (Option (List (Option X)))) → AreChunks 64 m table → IsSpot table m id k p → k < length table → get_or (places (get_or table k r)) p None ≡ Some x → get_or (row table) id None ≡ Some x
   spot_told m id k p r x table h s inside e = spot_read m id k p table h s ∙ ap (λ c. get_or (places c) p None) (get_or_default table k None r inside) ∙ e
 
   pub spot_room : (m id k p : ℕ) (r : Option (List (Option X))) (table : List (Option (List (Option X)))) → IsSpot table m id k p → k < length table → p < length (places (get_or table k r))
   spot_room m id k p r table s inside = rw (get_or_default table k r None inside) (spot_inside m id k p table s)
 
-  pub spot_wrote : (m id k p : ℕ) (r : Option (List (Option X))) (v : Option X) (new : Option (List (Option X))) (table : List (Option (List (Option X)))) → AreChunks 1024 m table → IsSpot table m id k p → k < length table → new ≡ Some (set (places (get_or table k r)) p v) → AreChunks 1024 m (set table k new) × (row (set table k new) ≡ set (row table) id v)
+  pub spot_wrote : (m id k p : ℕ) (r : Option (List (Option X))) (v : Option X) (new : Option (List (Option X))) (table : List (Option (List (Option X)))) → AreChunks 64 m table → IsSpot table m id k p → k < length table → new ≡ Some (set (places (get_or table k r)) p v) → AreChunks 64 m (set table k new) × (row (set table k new) ≡ set (row table) id v)
   spot_wrote m id k p r v new table h s inside e =
       let same : new ≡ Some (set (places (get_or table k None)) p v) = e ∙ ap (λ c. Some (set (places c) p v)) (get_or_default table k r None inside) in
       rw same (spot_kept m id k p v table h s, spot_write m id k p v table h s)

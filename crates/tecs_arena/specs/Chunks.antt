@@ -36,4 +36,4 @@ pub record Row (X : Type 0) : Type 0 where
 
 -- how many places the first k chunks have
 abbrev pub places_of : ℕ → ℕ
-places_of k = 1024 * 2 ^ k - 1024
+places_of k = 64 * 2 ^ k - 64

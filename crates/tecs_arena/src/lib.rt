@@ -3,13 +3,13 @@
 //!
 //! Promised: it is a `NodeStore`; a new one is empty; a push makes one chunk exactly where all
 //! places are taken, and a refused push changes nothing; below the greatest count of nodes only a
-//! push that needs a chunk may be refused; writing and cutting keep the chunks; reading, writing and
-//! cutting take no memory. No place is read before it was written, and all chunks are given
-//! back when the arena is dropped. Only the module `raw` follows a pointer. It stands on
-//! `cer_base`.
+//! push that needs a chunk may be refused; writing and cutting keep the chunks, and shrinking gives
+//! those back that no node needs, but for one; all but a push take no memory. No place is read before
+//! it was written, and all chunks are given back when the arena is dropped. Only the module `raw`
+//! follows a pointer. It stands on `cer_base`.
 #![tactic(auto)]
 
-ghost use Rattle.std.specs.Prelude.{◌≡◌, ◌+◌, ◌^◌, ◌<◌, ◌≤◌, [], ◌∷◌, ◌++◌, length, take, cond, nat_lt, slice_set, IfOk, OnOk, OnErr};
+ghost use Rattle.std.specs.Prelude.{◌≡◌, ◌+◌, ◌*◌, ◌^◌, ◌<◌, ◌≤◌, [], ◌∷◌, ◌++◌, length, take, cond, nat_lt, slice_set, IfOk, OnOk, OnErr};
 ghost use Rattle.tecs_arena.specs.Chunks.{places_of};
 
 use cer_base::Memory;
@@ -30,7 +30,7 @@ mod tests;
 use nodes::Nodes;
 
 /// Nodes in chunks of memory, seen as the list of its nodes, oldest first, and the count of its
-/// chunks. The first chunk has 1,024 places, each other one twice as many as the one before it.
+/// chunks. The first chunk has 64 places, each other one twice as many as the one before it.
 #[derive(Drop)]
 pub struct Arena {
     nodes: Nodes,
@@ -55,14 +55,24 @@ impl Arena {
         }
     }
 
-    /// How many chunks were made, from 0 to 23. A push makes one where all places are taken, and else
+    /// How many chunks there are, from 0 to 27. A push makes one where all places are taken, and else
     /// none; `put` and `cut_to` keep them all; and there is a place for each node. It takes no memory.
     pub fn chunks(&self) -> usize
         ensures made { result ≡ self.now.chunks }
         ensures room { length self.now.nodes ≤ places_of result }
-        ensures few { result < 24 }
+        ensures few { result < 28 }
     {
         self.nodes.chunks()
+    }
+
+    /// Gives back the chunks that no node needs, but for one, which the next nodes may need: then there
+    /// are at most four places for each node, and 192. It takes no memory.
+    pub fn shrink(&mut self)
+        ensures nodes { self.new.nodes ≡ self.old.nodes }
+        ensures fewer { self.new.chunks ≤ self.old.chunks }
+        ensures places { places_of self.new.chunks ≤ 4 * length self.old.nodes + 192 }
+    {
+        self.nodes.shrink();
     }
 }
 

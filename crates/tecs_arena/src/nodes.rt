@@ -2,7 +2,7 @@
 //!
 //! The first places hold the nodes, oldest first. What the places after them hold is of no
 //! concern, also where it was a node before a cut.
-ghost use Rattle.std.specs.Prelude.{◌≡◌, ◌+◌, ◌^◌, ◌<◌, ◌≤◌, [], ◌∷◌, ◌++◌, length, take, cond, nat_lt, slice_get, slice_set, Some, IfOk, OnOk, OnErr};
+ghost use Rattle.std.specs.Prelude.{◌≡◌, ◌+◌, ◌*◌, ◌^◌, ◌<◌, ◌≤◌, [], ◌∷◌, ◌++◌, length, take, cond, nat_lt, slice_get, slice_set, Some, IfOk, OnOk, OnErr};
 ghost use Rattle.tecs_arena.specs.Chunks.{places_of};
 
 use super::table::Table;
@@ -49,12 +49,12 @@ impl Nodes {
         }
     }
 
-    /// How many chunks were made: at most 23, with a place for each node.
+    /// How many chunks there are: at most 27, with a place for each node.
     #[inline]
     pub(crate) fn chunks(&self) -> usize
         ensures made { result ≡ self.now.chunks }
         ensures room { length self.now.nodes ≤ places_of result }
-        ensures few { result < 24 }
+        ensures few { result < 28 }
     {
         self.table.chunks()
     }
@@ -122,5 +122,15 @@ impl Nodes {
         if n < self.len as u64 {
             self.len = n as Id;
         }
+    }
+
+    /// Gives back the chunks that no node needs, but for one, so that there are at most four places for
+    /// each node, and 192. It takes no memory.
+    pub(crate) fn shrink(&mut self)
+        ensures nodes { self.new.nodes ≡ self.old.nodes }
+        ensures fewer { self.new.chunks ≤ self.old.chunks }
+        ensures places { places_of self.new.chunks ≤ 4 * length self.old.nodes + 192 }
+    {
+        self.table.shrink(self.len as u64);
     }
 }

@@ -1,8 +1,8 @@
 //! The table of an arena's chunks, and where a node stands in it.
 //!
-//! The first chunk has 1,024 places, each other one twice as many as the one before it. So the
+//! The first chunk has 64 places, each other one twice as many as the one before it. So the
 //! chunk of a node follows from its number alone, and a chunk that was made never moves.
-ghost use Rattle.std.specs.Prelude.{◌≡◌, ◌+◌, ◌*◌, ◌^◌, ◌<◌, List, [], ◌++◌, Option, Some, None, length, replicate, get_or, slice_set, take, cond, nat_lt, ◌≤◌, IfOk, OnOk, OnErr};
+ghost use Rattle.std.specs.Prelude.{◌≡◌, ◌+◌, ◌*◌, ◌^◌, ◌-◌, ◌<◌, List, [], ◌++◌, Option, Some, None, length, replicate, get_or, slice_set, take, cond, nat_lt, ◌≤◌, IfOk, OnOk, OnErr, true, false};
 ghost use Rattle.cer_base.specs.declared.node.Node.{Node};
 ghost use Rattle.tecs_arena.specs.Chunks.{IsFilled, places, places_of};
 
@@ -14,11 +14,11 @@ use std::array;
 use std::marker::Model;
 
 /// How many places the first chunk has.
-const FIRST: u64 = 1024;
+const FIRST: u64 = 64;
 
 /// How many chunks there is a place for. A chunk of this number would take more bytes than memory
 /// has.
-const CHUNKS: usize = 23;
+const CHUNKS: usize = 27;
 
 /// The place of a node: its chunk, and the place in the chunk.
 #[derive(Drop, Debug, Clone, Copy, PartialEq, Eq)]
@@ -29,10 +29,10 @@ struct Spot {
 
 /// The place of the node with this id.
 fn spot_of(id: u64) -> Spot
-    requires { id + 1024 < 2 ^ 33 }
+    requires { id + 64 < 2 ^ 33 }
     ensures place { result.place < FIRST * 2 ^ result.chunk }
     ensures sum { id + FIRST ≡ FIRST * 2 ^ result.chunk + result.place }
-    ensures chunk { result.chunk < 23 }
+    ensures chunk { result.chunk < 27 }
 {
     let chunk = (id / FIRST + 1).ilog2();
     Spot {
@@ -79,7 +79,7 @@ impl Model for Table {
 
     ghost view = { λ t. record { places = row t.chunks; chunks = t.made } };
 
-    ghost invariant = { λ t. AreChunks 1024 t.made t.chunks × (t.made ≤ 23) };
+    ghost invariant = { λ t. AreChunks 64 t.made t.chunks × (t.made ≤ 27) };
 }
 
 impl Table {
@@ -101,20 +101,20 @@ impl Table {
         (FIRST << self.made) - FIRST
     }
 
-    /// How many chunks there are, at most 23.
+    /// How many chunks there are, at most 27.
     pub(crate) fn chunks(&self) -> usize
         ensures made { result ≡ self.now.chunks }
         ensures room { length self.now.places ≡ places_of result }
-        ensures few { result < 24 }
+        ensures few { result < 28 }
     {
         self.made
     }
 
-    /// Makes one more chunk, which has as many places as all before it and 1,024 more. `Memory`
-    /// where it cannot be had, and where there are 23; then nothing is changed.
+    /// Makes one more chunk, which has as many places as all before it and 64 more. `Memory`
+    /// where it cannot be had, and where there are 27; then nothing is changed.
     pub(crate) fn grow(&mut self, alloc: Global) -> Result<(), Memory>
         ensures places { OnOk result (self.new.places
-            ≡ self.old.places ++ replicate (length self.old.places + 1024) None) }
+            ≡ self.old.places ++ replicate (length self.old.places + 64) None) }
         ensures chunks { OnOk result (self.new.chunks ≡ self.old.chunks + 1) }
         ensures refused { OnErr result (self.new ≡ self.old) }
     {
@@ -142,6 +142,42 @@ impl Table {
             return Ok(());
         }
         self.grow(alloc)
+    }
+
+    /// Whether so many nodes leave the last two chunks empty.
+    fn has_two_empty(&self, count: u64) -> bool
+        ensures yes { result ≡ true → (0 < self.now.chunks)
+            × (count ≤ places_of (self.now.chunks - 1)) }
+        ensures no { result ≡ false → places_of self.now.chunks ≤ 4 * count + 192 }
+    {
+        self.made >= 2 && count <= (FIRST << (self.made - 2)) - FIRST
+    }
+
+    /// Gives back the last chunk.
+    fn give_back(&mut self)
+        requires { 0 < self.old.chunks }
+        ensures chunks { self.new.chunks + 1 ≡ self.old.chunks }
+        ensures places { self.new.places ≡ take (places_of self.new.chunks) self.old.places }
+    {
+        let last = self.made - 1;
+        self.chunks[last] = None;
+        self.made = last;
+    }
+
+    /// Gives back the chunks that so many nodes leave empty, but for one.
+    pub(crate) fn shrink(&mut self, count: u64)
+        requires { count ≤ length self.old.places }
+        ensures inside { count ≤ length self.new.places }
+        ensures same { take count self.new.places ≡ take count self.old.places }
+        ensures fewer { self.new.chunks ≤ self.old.chunks }
+        ensures few { places_of self.new.chunks ≤ 4 * count + 192 }
+    {
+        for _ in 0..self.made {
+            if !self.has_two_empty(count) {
+                return;
+            }
+            self.give_back();
+        }
     }
 
     /// The node with this id, whose place was written.

@@ -40,7 +40,7 @@ fn texts_compare(op: Op, text: &str, literal: &str) -> bool
 }
 
 /// Whether the value compares so with the literal, whole numbers without their places.
-fn compares(op: Op, value: &Value, literal: &Value) -> bool
+pub fn compares(op: Op, value: &Value, literal: &Value) -> bool
     ensures { result ≡ value_meets op value.now literal.now }
 {
     match (value, literal) {
@@ -128,17 +128,32 @@ fn all_hold_flat(tests: &[Test], event: &Event) -> bool
     true
 }
 
-/// Whether the test holds of the event. A comparison, and some that are joined, are made here.
+/// Whether one of the tests holds. Each comparison is made here.
+fn any_holds_flat(tests: &[Test], event: &Event) -> bool
+    ensures { result ≡ list_any (λ t. test_holds t event.now) tests.now }
+{
+    for test in tests {
+        if holds_flat(test, event) {
+            return true;
+        }
+    }
+    false
+}
+
+/// Whether the test holds of the event. A comparison, and some that are joined or of which one is
+/// enough, are made here.
 fn holds_joined(test: &Test, event: &Event) -> bool
     ensures { result ≡ test_holds test.now event.now }
 {
     match test {
         Test::All(tests) => all_hold_flat(tests.as_slice(), event),
+        Test::Any(tests) => any_holds_flat(tests.as_slice(), event),
         _ => holds_flat(test, event),
     }
 }
 
-/// Whether all of the tests hold. Each that is a comparison or joins some is tested here.
+/// Whether all of the tests hold. Each that is a comparison, joins some, or asks for one of some is
+/// tested here.
 fn all_hold_joined(tests: &[Test], event: &Event) -> bool
     ensures { result ≡ list_all (λ t. test_holds t event.now) tests.now }
 {
@@ -150,8 +165,8 @@ fn all_hold_joined(tests: &[Test], event: &Event) -> bool
     true
 }
 
-/// Whether each of the tests holds of the event. Most are comparisons, or join some: these are tested
-/// without a call of the recursion.
+/// Whether each of the tests holds of the event. Most are comparisons, join some, or ask for one of
+/// some: these are tested without a call of the recursion.
 #[inline(never)]
 pub fn each_holds(tests: &[Test], event: &Event) -> bool
     ensures { result ≡ each_holds tests.now event.now }

@@ -7,7 +7,8 @@ ghost use Rattle.stream_schema.specs.declared.Op.TheVariants as ops;
 ghost use Rattle.stream_schema.specs.Comparing.{value_meets};
 ghost use Rattle.predicate_bits.specs.Spans.{digest, flag_number, allows, IsNumber, IsNumbered, IsBetween, IsOf};
 
-use stream_schema::{Kind, Op, Value, is_met_by};
+use crate::holding::compares;
+use stream_schema::{Kind, Op, Value};
 
 /// What a byte of a text is multiplied by, so that texts which differ have digests far apart.
 const SPREAD: u32 = 2654435769;
@@ -109,10 +110,10 @@ fn equality_over(first: &Value, last: &Value, literal: &Value) -> Outcome
     ensures { (value : ValueData) → IsBetween first.now value last.now
         → allows result (value_meets ops.Eq value literal.now) ≡ true }
 {
-    let begins = is_met_by(Op::Le, first, literal);
-    let ends = is_met_by(Op::Ge, last, literal);
-    let is_least = is_met_by(Op::Ge, first, literal);
-    let is_most = is_met_by(Op::Le, last, literal);
+    let begins = compares(Op::Le, first, literal);
+    let ends = compares(Op::Ge, last, literal);
+    let is_least = compares(Op::Ge, first, literal);
+    let is_most = compares(Op::Le, last, literal);
     Outcome {
         may_hold: begins & ends,
         may_fail: !(is_least & is_most),
@@ -129,20 +130,20 @@ fn numbers_over(first: &Value, last: &Value, op: Op, literal: &Value) -> Outcome
         Op::Eq => equality_over(first, last, literal),
         Op::Ne => opposite(equality_over(first, last, literal)),
         Op::Lt => Outcome {
-            may_hold: is_met_by(Op::Lt, first, literal),
-            may_fail: !is_met_by(Op::Lt, last, literal),
+            may_hold: compares(Op::Lt, first, literal),
+            may_fail: !compares(Op::Lt, last, literal),
         },
         Op::Le => Outcome {
-            may_hold: is_met_by(Op::Le, first, literal),
-            may_fail: !is_met_by(Op::Le, last, literal),
+            may_hold: compares(Op::Le, first, literal),
+            may_fail: !compares(Op::Le, last, literal),
         },
         Op::Gt => Outcome {
-            may_hold: is_met_by(Op::Gt, last, literal),
-            may_fail: !is_met_by(Op::Gt, first, literal),
+            may_hold: compares(Op::Gt, last, literal),
+            may_fail: !compares(Op::Gt, first, literal),
         },
         Op::Ge => Outcome {
-            may_hold: is_met_by(Op::Ge, last, literal),
-            may_fail: !is_met_by(Op::Ge, first, literal),
+            may_hold: compares(Op::Ge, last, literal),
+            may_fail: !compares(Op::Ge, first, literal),
         },
     }
 }
@@ -202,8 +203,8 @@ fn flags_over(span: &Span, op: Op, literal: &Value) -> Outcome
 {
     let has_false = has_number(span, 0);
     let has_true = has_number(span, 1);
-    let of_false = is_met_by(op, &Value::Flag(false), literal);
-    let of_true = is_met_by(op, &Value::Flag(true), literal);
+    let of_false = compares(op, &Value::Flag(false), literal);
+    let of_true = compares(op, &Value::Flag(true), literal);
     Outcome {
         may_hold: (has_false && of_false) || (has_true && of_true),
         may_fail: (has_false && !of_false) || (has_true && !of_true),

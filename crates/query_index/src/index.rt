@@ -13,7 +13,7 @@ ghost use Rattle.query_index.specs.Rows.{rows_of};
 ghost use Rattle.query_index.specs.Index.{IsIndex, AreIndexes, AreIndexed, AreSplit, HaveSame, Suffice, gathered, indexes_of as listed};
 
 use crate::buckets::{Bucket, buckets_of};
-use crate::choosing::{chosen, is_served};
+use crate::choosing::{chosen, homes_left, is_served};
 use crate::parting::{Parting, span_of};
 use crate::rows::{IndexedLeaf, LeafRow};
 use cer_base::Memory;
@@ -80,20 +80,18 @@ fn without_buckets(alloc: Global, rows: Vec<LeafRow>) -> Index
     }
 }
 
-/// The rows that are to stand in the index of this number of those chosen, and the others.
-fn split(
-    alloc: Global,
-    rows: &[LeafRow],
-    leaves: &[IndexedLeaf],
-    chosen: &[Parting],
-    number: usize,
-) -> Result<Parts, Memory>
+/// The rows that are to stand in the index of this number, and the others. Told is for each row the
+/// number of its index.
+fn split(alloc: Global, rows: &[LeafRow], homes: &[usize], number: usize) -> Result<Parts, Memory>
     ensures { IfOk result (λ s. AreSplit rows.now s.taken.items s.left.items) }
 {
     let mut taken = Vec::new(alloc);
     let mut left = Vec::new(alloc);
+    let mut next: usize = 0;
     for row in rows {
-        if is_served(row, leaves, chosen, number) {
+        let place = next;
+        next = next.saturating_add(1);
+        if is_served(homes, place, number) {
             taken.push(*row)?;
         } else {
             left.push(*row)?;
@@ -125,11 +123,14 @@ fn indexes_over(
 ) -> Result<Vec<Index>, Memory>
     ensures { IfOk result (λ indexes. AreIndexes leaves.now rows.now indexes.items) }
 {
-    let partings = chosen(alloc, rows, leaves, attrs)?;
+    let choice = chosen(alloc, rows, leaves, attrs)?;
+    let partings = choice.partings;
+    let mut homes = choice.homes;
     let mut left = Vec::from_slice(alloc, rows)?;
     let mut indexes = Vec::new(alloc);
     for k in 0..partings.len() {
-        let parts = split(alloc, left.as_slice(), leaves, partings.as_slice(), k)?;
+        let parts = split(alloc, left.as_slice(), homes.as_slice(), k)?;
+        homes = homes_left(alloc, homes.as_slice(), k)?;
         indexes.push(index_of(alloc, parts.taken, leaves, &partings[k])?)?;
         left = parts.left;
     }

@@ -1,7 +1,9 @@
 -- A key without a mark is not there.
-use Rattle.std.proofs.Common.{◌≡◌, ◌∙◌, inl, inr, refl, sym, ap, subst, ℕ, ◌+◌, Bool, true, false, ◌&&◌, List, [], ◌∷◌, ◌++◌, length, All, Contains, Option, Some, None, slice_get, slice_index_or, arith}
+use Rattle.std.proofs.Common.{◌≡◌, ◌∙◌, inl, inr, refl, sym, ap, subst, ℕ, suc, ◌+◌, ◌<◌, take, get_or, Bool, true, false, ◌&&◌, List, [], ◌∷◌, ◌++◌, length, All, Contains, Option, Some, None, slice_get, slice_index_or, arith}
 use Rattle.std.specs.List.{fold}
 use Rattle.std.specs.Option.{option_map_or}
+use Rattle.std.proofs.Math.Seq.{take-suc}
+use Rattle.std.proofs.lemmas.Option.{slice_get-get_or}
 use Rattle.std.proofs.lemmas.Bool.{false≢true, cases_eq}
 use Rattle.std.proofs.lemmas.List.Elements.{All-nil, All-cons, All-append, All-contains}
 use Rattle.stream_schema.specs.declared.Value.{Value}
@@ -66,3 +68,10 @@ put_marked old new keys all key shown count are same counted marks h =
 -- no key is among none
 pub among_none : (keys : List (List Value)) (key : List Value) → length keys ≡ 0 → Contains keys key → ⊥
 among_none keys key none there = let inside = there.1 in omega arith
+
+-- one key more of those that there are
+pub next_marked : (old new : List Bool) (keys : List (List Value)) (k : ℕ) → k < length keys → ((digest : ℕ) → is_marked old digest ≡ true → is_marked new digest ≡ true) → ((key : List Value) → slice_get keys k ≡ Some key → IsMarked new key) → All (IsMarked old) (take k keys) → All (IsMarked new) (take (k + 1) keys)
+next_marked old new keys k less kept marked all =
+    let next : k + 1 ≡ suc k = omega arith in
+    let key = get_or keys k [] in
+    subst (λ ks. All (IsMarked new) ks) (sym (ap (λ i. take i keys) next ∙ take-suc keys k [] less)) (one_more old new (take k keys) key kept (marked key (slice_get-get_or keys k [] less)) all)

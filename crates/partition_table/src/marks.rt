@@ -1,10 +1,13 @@
 //! Marks of the keys that were met: a key that has none is not there, and needs no search.
 
-ghost use Rattle.std.specs.Prelude.{◌≡◌, ℕ, ◌+◌, true, false, List, [], ◌∷◌, ◌++◌, length, All};
+ghost use Rattle.std.specs.Prelude.{◌≡◌, ℕ, ◌+◌, true, false, List, [], ◌∷◌, ◌++◌, length, All, Some, slice_get};
 ghost use Rattle.stream_schema.specs.declared.Value.{Value as Datum};
 ghost use Rattle.partition_table.specs.Digests.{is_marked, IsMarked};
 
+use crate::Key;
 use crate::digests::digest;
+use cer_base::seed::Seed;
+use indexmap::IndexSet;
 use stream_schema::Value;
 
 /// How many marks there are. Keys whose digests differ by a multiple of it share one.
@@ -45,6 +48,31 @@ fn begin(marks: &mut Vec<bool>, values: &[Value], count: usize)
 {
     if count == 1 && !values.is_empty() {
         clear(marks);
+    }
+}
+
+/// Marks the key of this number.
+fn mark_key(marks: &mut Vec<bool>, keys: &IndexSet<Key, Seed>, number: usize)
+    ensures marked { (key : List Datum) → slice_get keys.now.keys number ≡ Some key
+        → IsMarked marks.new.items key }
+    ensures kept { (digest : ℕ) → is_marked marks.old.items digest ≡ true
+        → is_marked marks.new.items digest ≡ true }
+{
+    if let Some(key) = keys.get_index(number) {
+        mark(marks, key.values());
+    }
+}
+
+/// Marks these keys alone, where there are marks.
+pub fn mark_all(marks: &mut Vec<bool>, keys: &IndexSet<Key, Seed>)
+    ensures { All (IsMarked marks.new.items) keys.now.keys }
+{
+    if marks.is_empty() {
+        return;
+    }
+    clear(marks);
+    for k in 0..keys.len() {
+        mark_key(marks, keys, k);
     }
 }
 

@@ -11,8 +11,8 @@ ghost use Rattle.query_state.specs.Matches.{none_open};
 ghost use Rattle.query_state.specs.KeyPlaces.{AreKeyPlaces};
 ghost use Rattle.query_state.specs.QueryStates.{AreTypesRead, IsMatcherOf, HasAutomaton, AreFirst, MayBeSkipInsensitive, MayBeWhole};
 
-use crate::matches::Matches;
 use crate::QueryState;
+use crate::matches::Matches;
 use crate::reading::{Places, is_whole};
 use crate::tables::{clock_of, keys_of, types_of};
 use cea_compile::compile;

@@ -247,8 +247,7 @@ impl QueryState {
         same_types(
             self.types.as_ref().as_slice(),
             other.types.as_ref().as_slice(),
-        )
-            && self.clock.reads_as(&other.clock)
+        ) && self.clock.reads_as(&other.clock)
     }
 
     /// Whether it reads the events of the type.

@@ -106,7 +106,10 @@ fn keys_shared(
 {
     for k in 0..others.len() {
         let other = &others[k];
-        if same_names(other.query().partition.as_slice(), query.partition.as_slice()) {
+        if same_names(
+            other.query().partition.as_slice(),
+            query.partition.as_slice(),
+        ) {
             return Ok(Some(other.keys()?));
         }
     }

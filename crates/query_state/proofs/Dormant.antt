@@ -6,21 +6,38 @@ use Rattle.std.proofs.lemmas.List.{take_all}
 use Rattle.std.proofs.lemmas.List.Elements.{All-nil, All-cons, All-head, All-tail, All-weaker}
 use Rattle.cea_determinise.specs.LazyDfa.{Table}
 use Rattle.cer_base.specs.declared.node.Root.{Root}
-use Rattle.event_update.specs.Dormancy.{IsDormantState, AreDormant}
+use Rattle.event_update.specs.Dormancy.{IsDormantState, AreDormant, AreNoOp}
 use Rattle.event_update.specs.Update.{Discovers}
 use Rattle.event_update.proofs.Dormant.{dormant_stay}
 use Rattle.event_update.proofs.Passing.{no_op_stay}
 use Rattle.query_state.specs.declared.lists.Lists.{Lists}
 use Rattle.query_standing.specs.Kept.{Rows}
-use Rattle.query_state.specs.Matches.{MayBeDormant, AreDormantStates, active_keys_in}
+use Rattle.query_state.specs.Matches.{IsNoOpSet, MayBeDormant, AreDormantStates, active_keys_in}
 
-still_no_op : {P Q : List Bool → Type 0} (o : Option (List Bool)) → ((bits : List Bool) → P bits → Q bits) → IfSome o P → IfSome o Q
+still_no_op : {P Q : ℕ → Type 0} (o : Option ℕ) → ((n : ℕ) → P n → Q n) → IfSome o P → IfSome o Q
 still_no_op None f h = h
-still_no_op (Some bits) f h = f bits h
+still_no_op (Some n) f h = f n h
 
 -- what is known of lists stays known as the table grows
-pub rest_later : (old new : Table) (from : List ℕ) (bits : List Bool) (ls : List Lists) → Discovers old from bits new → All (MayBeDormant old) ls → All (MayBeDormant new) ls
-rest_later old new from bits ls d h = All-weaker (MayBeDormant old) (MayBeDormant new) (λ l is. record { once = is.once; rest = λ known. dormant_stay old new from bits l.active.entries d (is.rest known); no_op = still_no_op l.no_op (λ leaves h. no_op_stay old new from bits leaves l.active.entries d h) is.no_op }) ls h
+pub rest_later : (old new : Table) (sets : List (List Bool)) (from : List ℕ) (bits : List Bool) (ls : List Lists) → Discovers old from bits new → All (MayBeDormant old sets) ls → All (MayBeDormant new sets) ls
+rest_later old new sets from bits ls d h = All-weaker (MayBeDormant old sets) (MayBeDormant new sets) (λ l is. record {
+  once = is.once;
+  rest = λ known. dormant_stay old new from bits l.active.entries d (is.rest known);
+  no_op = still_no_op l.no_op (λ n (s : IsNoOpSet old sets l.active.entries n). record { leaves = s.leaves; at = s.at; no_op = no_op_stay old new from bits s.leaves l.active.entries d s.no_op }) is.no_op;
+}) ls h
+
+-- and as there are more sets
+pub more_sets : (t : Table) (old new : List (List Bool)) (ls : List Lists) → ((n : ℕ) (leaves : List Bool) → slice_get old n ≡ Some leaves → slice_get new n ≡ Some leaves) → All (MayBeDormant t old) ls → All (MayBeDormant t new) ls
+more_sets t old new ls kept h = All-weaker (MayBeDormant t old) (MayBeDormant t new) (λ l is. record {
+  once = is.once;
+  rest = is.rest;
+  no_op = still_no_op l.no_op (λ n (s : IsNoOpSet t old l.active.entries n). record { leaves = s.leaves; at = kept n s.leaves s.at; no_op = s.no_op }) is.no_op;
+}) ls h
+
+-- a set of leaves whose events are no-ops
+pub is_no_op_set : (t : Table) (sets : List (List Bool)) (rows : Rows) (leaves : List Bool) (number : Option ℕ) → AreNoOp t leaves rows → IfSome number (λ n. slice_get sets n ≡ Some leaves) → IfSome number (IsNoOpSet t sets rows)
+is_no_op_set t sets rows leaves None no_op at = at
+is_no_op_set t sets rows leaves (Some n) no_op at = record { leaves = leaves; at = at; no_op = no_op }
 
 -- other lists at a place
 pub noted_all : (P : Lists → Type 0) (ls : List Lists) (n : ℕ) (l : Lists) → All P ls → P l → All P (slice_set ls n l)
@@ -157,12 +174,12 @@ active_keys_next (x ∷ ls) zero l less = refl
 active_keys_next (x ∷ ls) (suc k) l less = ap (λ n. if x.is_dormant then n else suc n) (active_keys_next ls k l (omega arith)) ∙ swapped x.is_dormant l.is_dormant (active_keys_in (take k ls))
 
 -- where none is active all are known to be dormant
-pub none_active_keys : (t : Table) (ls : List Lists) → active_keys_in ls ≡ 0 → All (MayBeDormant t) ls → All (AreDormant t) (map (λ (l : Lists). l.active.entries) ls)
-none_active_keys t [] none may = All-nil (AreDormant t)
-none_active_keys t (l ∷ ls) none may = go l.is_dormant refl none (λ later. none_active_keys t ls later (All-tail (MayBeDormant t) l ls may))
+pub none_active_keys : (t : Table) (sets : List (List Bool)) (ls : List Lists) → active_keys_in ls ≡ 0 → All (MayBeDormant t sets) ls → All (AreDormant t) (map (λ (l : Lists). l.active.entries) ls)
+none_active_keys t sets [] none may = All-nil (AreDormant t)
+none_active_keys t sets (l ∷ ls) none may = go l.is_dormant refl none (λ later. none_active_keys t sets ls later (All-tail (MayBeDormant t sets) l ls may))
   where
     go : (b : Bool) → l.is_dormant ≡ b → (if b then active_keys_in ls else suc (active_keys_in ls)) ≡ 0 → (active_keys_in ls ≡ 0 → All (AreDormant t) (map (λ (x : Lists). x.active.entries) ls)) → All (AreDormant t) (map (λ (x : Lists). x.active.entries) (l ∷ ls))
-    go true e none later = All-cons (AreDormant t) l.active.entries (map (λ (x : Lists). x.active.entries) ls) ((All-head (MayBeDormant t) l ls may).rest e) (later none)
+    go true e none later = All-cons (AreDormant t) l.active.entries (map (λ (x : Lists). x.active.entries) ls) ((All-head (MayBeDormant t sets) l ls may).rest e) (later none)
     go false e none later = absurd (omega arith)
 
 pub active_keys_push : (ls : List Lists) (l : Lists) → active_keys_in (ls ++ l ∷ []) ≡ (if l.is_dormant then active_keys_in ls else suc (active_keys_in ls))

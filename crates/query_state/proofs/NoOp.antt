@@ -25,6 +25,9 @@ use Rattle.query_state.proofs.Dormant.{Recounted, recounted}
 pub one_row : (rows others : Rows) → Some rows ≡ Some others → rows ≡ others
 one_row rows others e = cc
 
+pub one_set : (leaves others : List Bool) → Some leaves ≡ Some others → leaves ≡ others
+one_set leaves others e = cc
+
 pub not_so : (b : Bool) → not b ≡ true → b ≡ false
 not_so false e = refl
 not_so true e = absurd cc

@@ -32,11 +32,17 @@ pub record OpenMatches : Type 0 where
 abbrev pub HasStatesOnce : Rows → Type 0
 HasStatesOnce rows = IsDistinct nat_eq (map (λ (r : ℕ × List Root). r.0) rows)
 
+-- The set of leaves of this number is there, and events of these leaves are no-ops for the lists.
+pub record IsNoOpSet (t : Table) (sets : List (List Bool)) (rows : Rows) (number : ℕ) : Type 0 where
+  pub leaves : List Bool
+  pub at : slice_get sets number ≡ Some leaves
+  pub no_op : AreNoOp t leaves rows
+
 -- In a key's lists no state stands twice. Lists that are known to be dormant are, and events of the leaves that are known to be no-ops for them are.
-pub record MayBeDormant (t : Table) (l : Lists) : Type 0 where
+pub record MayBeDormant (t : Table) (sets : List (List Bool)) (l : Lists) : Type 0 where
   pub once : HasStatesOnce l.active.entries
   pub rest : l.is_dormant ≡ true → AreDormant t l.active.entries
-  pub no_op : IfSome l.no_op (λ bits. AreNoOp t bits l.active.entries)
+  pub no_op : IfSome l.no_op (IsNoOpSet t sets l.active.entries)
 
 -- how many keys' lists are not known to be dormant
 abbrev pub active_keys_in : List Lists → ℕ

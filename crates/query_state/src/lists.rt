@@ -1,12 +1,12 @@
 //! The lists of a key, and whether an event that no leaf can read is known to leave them as they are.
 
-ghost use Rattle.std.specs.Prelude.{◌≡◌, ℕ, ◌+◌, ◌-◌, ◌<◌, [], length, map, All, slice_set, slice_index_or, true, false};
+ghost use Rattle.std.specs.Prelude.{◌≡◌, ℕ, ◌+◌, ◌-◌, ◌<◌, Bool, List, [], length, map, All, Some, IfSome, slice_get, slice_set, slice_index_or, true, false};
 ghost use Rattle.cea_determinise.specs.LazyDfa.{Table};
 ghost use Rattle.event_update.specs.ActiveLists.{keys};
 ghost use Rattle.event_update.specs.Dormancy.{HasNoReader, IsDormantState, AreDormant, AreNoOp};
 ghost use Rattle.event_update.specs.declared.Staged.TheVariants.{Unchanged};
 ghost use Rattle.event_update.specs.Update.{rows_after};
-ghost use Rattle.query_state.specs.Matches.{MayBeDormant, active_keys_in, AreDormantStates};
+ghost use Rattle.query_state.specs.Matches.{IsNoOpSet, MayBeDormant, active_keys_in, AreDormantStates};
 
 use arena_compact::HasLists;
 use cea_determinise::table::State;
@@ -20,16 +20,16 @@ pub struct Lists {
     pub active: ActiveStates,
     /// Whether an event that no leaf can read is known to leave them as they are.
     pub is_dormant: bool,
-    /// Leaves whose events are known to leave them as they are: those that can read the last event
-    /// that did.
-    pub no_op: Option<Bits>,
+    /// The number of a set of leaves whose events are known to leave them as they are: of those that
+    /// can read the last event that did.
+    pub no_op: Option<u8>,
 }
 
 impl Lists {
     /// Those of a new key, which are none.
     pub fn none(alloc: Global) -> Lists
         ensures none { result.active.entries ≡ [] }
-        ensures is_dormant { (t : Table) → MayBeDormant t result }
+        ensures is_dormant { (t : Table) (sets : List (List Bool)) → MayBeDormant t sets result }
         ensures known { result.is_dormant ≡ true }
     {
         Lists {
@@ -43,7 +43,8 @@ impl Lists {
     /// dormant.
     fn replace(&mut self, stage: &mut Stage, staged: Staged)
         ensures rows { self.new.active.entries ≡ rows_after self.old.active.entries staged }
-        ensures is_dormant { (t : Table) → MayBeDormant t self.old → MayBeDormant t self.new }
+        ensures is_dormant { (t : Table) (sets : List (List Bool)) → MayBeDormant t sets self.old
+            → MayBeDormant t sets self.new }
     {
         let stays = is_unchanged(&staged);
         commit(&mut self.active, stage, staged);
@@ -56,8 +57,9 @@ impl Lists {
     /// states are all known to be dormant.
     pub fn put(&mut self, dormant_states: &[bool], looks: bool, stage: &mut Stage, staged: Staged)
         ensures rows { self.new.active.entries ≡ rows_after self.old.active.entries staged }
-        ensures is_dormant { (t : Table) → AreDormantStates t dormant_states.now
-            → MayBeDormant t self.old → MayBeDormant t self.new }
+        ensures is_dormant { (t : Table) (sets : List (List Bool))
+            → AreDormantStates t dormant_states.now
+            → MayBeDormant t sets self.old → MayBeDormant t sets self.new }
     {
         self.replace(stage, staged);
         if looks {
@@ -68,7 +70,7 @@ impl Lists {
     /// Nothing is known of them, but that they are dormant where there are none.
     fn forget(&mut self)
         ensures rows { self.new.active.entries ≡ self.old.active.entries }
-        ensures is_dormant { (t : Table) → MayBeDormant t self.new }
+        ensures is_dormant { (t : Table) (sets : List (List Bool)) → MayBeDormant t sets self.new }
     {
         self.is_dormant = self.active.len() == 0;
         self.no_op = None;
@@ -77,8 +79,9 @@ impl Lists {
     /// Notes that they are dormant, where their states are all known to be dormant.
     pub fn look(&mut self, dormant_states: &[bool])
         ensures rows { self.new.active.entries ≡ self.old.active.entries }
-        ensures is_dormant { (t : Table) → AreDormantStates t dormant_states.now
-            → MayBeDormant t self.old → MayBeDormant t self.new }
+        ensures is_dormant { (t : Table) (sets : List (List Bool))
+            → AreDormantStates t dormant_states.now
+            → MayBeDormant t sets self.old → MayBeDormant t sets self.new }
     {
         if are_dormant_states(&self.active, dormant_states) {
             self.is_dormant = true;
@@ -88,35 +91,101 @@ impl Lists {
     /// Looks at them anew.
     pub fn look_again(&mut self, dormant_states: &[bool])
         ensures rows { self.new.active.entries ≡ self.old.active.entries }
-        ensures is_dormant { (t : Table) → AreDormantStates t dormant_states.now
-            → MayBeDormant t self.new }
+        ensures is_dormant { (t : Table) (sets : List (List Bool))
+            → AreDormantStates t dormant_states.now
+            → MayBeDormant t sets self.new }
     {
         self.forget();
         self.look(dormant_states);
     }
 
-    /// Notes that events of these leaves leave them as they are, where there is memory.
-    pub fn learn(&mut self, alloc: Global, bits: &Bits)
+    /// Notes that events of the leaves of the set of this number leave them as they are, where one is
+    /// told.
+    pub fn learn(&mut self, number: Option<u8>)
         ensures rows { self.new.active.entries ≡ self.old.active.entries }
         ensures known { self.new.is_dormant ≡ self.old.is_dormant }
-        ensures is_dormant { (t : Table) → AreNoOp t bits.now self.old.active.entries
-            → MayBeDormant t self.old → MayBeDormant t self.new }
+        ensures is_dormant { (t : Table) (sets : List (List Bool))
+            → IfSome number (IsNoOpSet t sets self.old.active.entries)
+            → MayBeDormant t sets self.old → MayBeDormant t sets self.new }
     {
-        self.no_op = match bits.copy(alloc) {
-            Ok(copy) => Some(copy),
-            Err(_) => None,
-        };
+        self.no_op = number;
     }
 
-    /// Whether events of these leaves are known to leave them as they are.
-    pub fn let_pass(&self, bits: &Bits) -> bool
-        ensures { result ≡ true → (t : Table) → MayBeDormant t self.now
+    /// Whether events of these leaves are known to leave them as they are, by the sets of leaves.
+    pub fn let_pass(&self, sets: &[Bits], bits: &Bits) -> bool
+        ensures { result ≡ true → (t : Table) → MayBeDormant t sets.now self.now
             → AreNoOp t bits.now self.now.active.entries }
     {
-        match &self.no_op {
-            Some(known) => known == bits,
+        match self.no_op {
+            Some(number) => is_set(sets, number, bits),
             None => false,
         }
+    }
+}
+
+/// Whether the set of this number is that of these leaves.
+fn is_set(sets: &[Bits], number: u8, bits: &Bits) -> bool
+    ensures { result ≡ true → slice_get sets.now number ≡ Some bits.now }
+{
+    match sets.get(number as usize) {
+        Some(known) => known == bits,
+        None => false,
+    }
+}
+
+/// So many sets of leaves are kept, by which lists tell whose events leave them as they are.
+const KEPT_SETS: u8 = 64;
+
+/// The number as one of a set.
+fn short(number: usize) -> Option<u8>
+    ensures { IfSome result (λ n. n ≡ number) }
+{
+    match u8::try_from(number) {
+        Ok(n) => Some(n),
+        Err(_) => None,
+    }
+}
+
+/// The number of the set of these leaves, where it is kept.
+fn find_set(sets: &[Bits], bits: &Bits) -> Option<u8>
+    ensures { IfSome result (λ n. slice_get sets.now n ≡ Some bits.now) }
+{
+    for number in 0..short(sets.len())? {
+        if is_set(sets, number, bits) {
+            return Some(number);
+        }
+    }
+    None
+}
+
+/// Keeps the set, where there is room and memory for it. Its number.
+fn add_set(sets: &mut Vec<Bits>, alloc: Global, bits: &Bits) -> Option<u8>
+    ensures is { IfSome result (λ n. slice_get sets.new.items n ≡ Some bits.now) }
+    ensures kept { (n : ℕ) (leaves : List Bool) → slice_get sets.old.items n ≡ Some leaves
+        → slice_get sets.new.items n ≡ Some leaves }
+{
+    let number = short(sets.len())?;
+    if KEPT_SETS <= number {
+        return None;
+    }
+    let Ok(copy) = bits.copy(alloc) else {
+        return None;
+    };
+    match sets.push(copy) {
+        Ok(()) => Some(number),
+        Err(_) => None,
+    }
+}
+
+/// The number of the set of these leaves, which is put in where there is room and memory for it.
+pub fn number_of_set(sets: &mut Vec<Bits>, alloc: Global, bits: &Bits) -> Option<u8>
+    ensures is { IfSome result (λ n. slice_get sets.new.items n ≡ Some bits.now) }
+    ensures kept { (n : ℕ) (leaves : List Bool) → slice_get sets.old.items n ≡ Some leaves
+        → slice_get sets.new.items n ≡ Some leaves }
+{
+    match find_set(sets.as_slice(), bits) {
+        Some(number) => Some(number),
+        None => add_set(sets, alloc, bits),
     }
 }
 
@@ -249,9 +318,10 @@ pub fn put_lists(
     ensures rows { map (λ l. l.active.entries) lists.new
         ≡ slice_set (map (λ l. l.active.entries) lists.old) number (rows_after
         (slice_index_or (map (λ l. l.active.entries) lists.old) number []) staged) }
-    ensures is_dormant { (t : Table) → AreDormantStates t dormant_states.now
-        → All (MayBeDormant t) lists.old
-        → All (MayBeDormant t) lists.new }
+    ensures is_dormant { (t : Table) (sets : List (List Bool))
+        → AreDormantStates t dormant_states.now
+        → All (MayBeDormant t sets) lists.old
+        → All (MayBeDormant t sets) lists.new }
     ensures active_keys { active_keys.new ≡ active_keys_in lists.new }
 {
     let count = lists.len() as u64;
@@ -264,8 +334,9 @@ pub fn put_lists(
 /// Looks at all lists anew. How many are not known to be dormant.
 pub fn look_over(lists: &mut [Lists], dormant_states: &[bool]) -> u64
     ensures rows { map (λ l. l.active.entries) lists.new ≡ map (λ l. l.active.entries) lists.old }
-    ensures is_dormant { (t : Table) → AreDormantStates t dormant_states.now
-        → All (MayBeDormant t) lists.new }
+    ensures is_dormant { (t : Table) (sets : List (List Bool))
+        → AreDormantStates t dormant_states.now
+        → All (MayBeDormant t sets) lists.new }
     ensures active_keys { result ≡ active_keys_in lists.new }
 {
     let mut active_keys: u64 = 0;

@@ -21,7 +21,7 @@ ghost use Rattle.query_state.specs.Dropping.{HaveListsButOne};
 ghost use Rattle.query_state.specs.Matches.{OpenMatches, HasStatesOnce, MayBeDormant, active_keys_in, AreDormantStates, HasKeyThere, HasNoneOf, HasBegun, MayPass, none_open, cut, CanCut, AreSizes, TakesKey, CanTake, IsReady, HasWorked, CanList, entries_for};
 
 use crate::dropping::{key_to_stay, number_of, remove_all};
-use crate::lists::{Lists, is_unchanged, look_over, note, put_lists};
+use crate::lists::{Lists, is_unchanged, look_over, note, number_of_set, put_lists};
 use arena_compact::{HasCursor, Room, compact};
 use cea_determinise::cea::Cea;
 use cea_determinise::lazy_dfa::LazyDfa;
@@ -71,6 +71,8 @@ pub struct Matches {
     /// For each state, by its number, whether an event that no leaf can read is known to leave its
     /// list as it is.
     dormant_states: Vec<bool>,
+    /// Sets of leaves, by whose numbers lists tell whose events leave them as they are.
+    no_op_sets: Vec<Bits>,
     keys: Keys,
     lazy_dfa: LazyDfa,
     store: Arena,
@@ -90,7 +92,7 @@ impl Model for Matches {
     } };
 
     ghost invariant = { λ m. (length m.keys ≡ length m.lists.items)
-        × All (MayBeDormant m.lazy_dfa) m.lists.items
+        × All (MayBeDormant m.lazy_dfa m.no_op_sets.items) m.lists.items
         × (m.active_keys ≡ active_keys_in m.lists.items)
         × AreDormantStates m.lazy_dfa m.dormant_states.items };
 }
@@ -109,6 +111,7 @@ impl Matches {
             lists: Vec::new(alloc),
             active_keys: 0,
             dormant_states: Vec::new(alloc),
+            no_op_sets: Vec::new(alloc),
             stage: Stage::new(alloc),
         }
     }
@@ -209,7 +212,8 @@ impl Matches {
         let _sizes = self.lazy_dfa.sizes();
         let _found = self.lazy_dfa.found();
         let lists = &self.lists[number as usize];
-        lists.let_pass(bits) && !some_accepts(&lists.active, &self.lazy_dfa)
+        lists.let_pass(self.no_op_sets.as_slice(), bits)
+            && !some_accepts(&lists.active, &self.lazy_dfa)
     }
 
     /// Whether no match is open of the key of this number.
@@ -296,7 +300,8 @@ impl Matches {
         ensures { self.new ≡ self.old }
     {
         if is_unchanged(staged) {
-            self.lists[number as usize].learn(self.alloc, bits);
+            let set = number_of_set(&mut self.no_op_sets, self.alloc, bits);
+            self.lists[number as usize].learn(set);
         }
     }
 

@@ -17,7 +17,7 @@ pub loop-k-preserved : goal.loop-k-preserved
 loop-k-preserved c =
     let less : c.loop-k.k < length c.loop-k.lists = (let e = c.loop-k.auto.lists in let l = c.loop-k-test.true in omega arith) in (
       rows_set c.loop-k.lists c.loop-k.k c.index-lists-k.result c.look_again.new.self less c.look_again.ensures.rows ∙ c.loop-k.invariant.0,
-      (λ t dormant_states. rw add-one (taken_set (MayBeDormant t) c.loop-k.lists c.loop-k.k c.look_again.new.self less (c.loop-k.invariant.1 t dormant_states) (c.look_again.ensures.is_dormant t dormant_states))),
+      (λ t sets dormant_states. rw add-one (taken_set (MayBeDormant t sets) c.loop-k.lists c.loop-k.k c.look_again.new.self less (c.loop-k.invariant.1 t sets dormant_states) (c.look_again.ensures.is_dormant t sets dormant_states))),
       (
           let next = active_keys_next c.loop-k.lists c.loop-k.k c.look_again.new.self less in
           elim c.if-not-lists-k.branch [
@@ -36,7 +36,7 @@ loop-k-preserved c =
     )
 
 pub returns-clause-is_dormant : goal.returns-clause-is_dormant
-returns-clause-is_dormant c t dormant_states =
+returns-clause-is_dormant c t sets dormant_states =
     let long : length c.loop-k.lists ≤ c.loop-k.k = (let e = c.loop-k.auto.lists in let l = c.loop-k-test.false in omega arith) in
     let all = take_all c.loop-k.k c.loop-k.lists long in
-    rw all at (c.loop-k.invariant.1 t dormant_states)
+    rw all at (c.loop-k.invariant.1 t sets dormant_states)

@@ -1,4 +1,4 @@
-use Rattle.std.proofs.Common.{◌≡◌, map, take, All}
+use Rattle.std.proofs.Common.{◌≡◌, Bool, List, map, take, All}
 use Rattle.cea_determinise.specs.LazyDfa.{Table}
 use Rattle.query_state.specs.declared.lists.Lists.{Lists}
 use Rattle.query_state.specs.Matches.{MayBeDormant, AreDormantStates, active_keys_in}
@@ -8,5 +8,5 @@ use Rattle.query_state.proofs.lists.look_over.Given as goal
 abbrev pub invariant-loop-k : goal.invariant-loop-k
 invariant-loop-k l =
     (map (λ (x : Lists). x.active.entries) l.lists ≡ map (λ (x : Lists). x.active.entries) l.fn.lists)
-    × ((t : Table) → AreDormantStates t l.dormant_states → All (MayBeDormant t) (take l.k l.lists))
+    × ((t : Table) (sets : List (List Bool)) → AreDormantStates t l.dormant_states → All (MayBeDormant t sets) (take l.k l.lists))
     × (l.active_keys ≡ active_keys_in (take l.k l.lists))

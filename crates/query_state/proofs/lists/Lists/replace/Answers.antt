@@ -1,17 +1,17 @@
 use Rattle.std.proofs.Common.{◌∙◌, ap, sym, subst, IfSome}
-use Rattle.event_update.specs.Dormancy.{AreDormant, AreNoOp}
+use Rattle.event_update.specs.Dormancy.{AreDormant}
 use Rattle.event_update.specs.Update.{rows_after}
-use Rattle.query_state.specs.Matches.{HasStatesOnce}
+use Rattle.query_state.specs.Matches.{HasStatesOnce, IsNoOpSet}
 use Rattle.query_state.proofs.lists.Lists.replace.Goals as goal
 
 pub returns-else-not-stays-clause-is_dormant : goal.returns-else-not-stays-clause-is_dormant
-returns-else-not-stays-clause-is_dormant c t known =
+returns-else-not-stays-clause-is_dormant c t sets known =
     let same = sym (c.commit.ensures ∙ ap (rows_after c.args.self.now.active.entries) (c.is_unchanged-stays.ensures c.if-not-stays.false)) in
     record {
       once = subst HasStatesOnce same known.once;
       rest = λ told. subst (AreDormant t) same (known.rest told);
-      no_op = subst (λ rows. IfSome c.args.self.now.no_op (λ bits. AreNoOp t bits rows)) same known.no_op;
+      no_op = subst (λ rows. IfSome c.args.self.now.no_op (IsNoOpSet t sets rows)) same known.no_op;
     }
 
 pub returns-then-not-stays-clause-is_dormant : goal.returns-then-not-stays-clause-is_dormant
-returns-then-not-stays-clause-is_dormant c t known = c.forget.ensures.is_dormant t
+returns-then-not-stays-clause-is_dormant c t sets known = c.forget.ensures.is_dormant t sets

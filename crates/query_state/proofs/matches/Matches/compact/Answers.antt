@@ -16,7 +16,7 @@ invariant_of-self g c =
     let items = with_items_is c.self.inside.lists c.look_over-self-inside.new.lists long in
     let same : length c.look_over-self-inside.new.lists ≡ length c.self.inside.lists.items = c.look_over-self-inside.auto.lists ∙ (c.compact.auto.keys ∙ ap length c.as_mut_slice-lists.ensures.value) in (
       c.self.invariant.0 ∙ sym (ap length items ∙ same),
-      subst (All (MayBeDormant c.self.inside.lazy_dfa)) (sym items) (c.look_over-self-inside.ensures.is_dormant c.self.inside.lazy_dfa (subst (AreDormantStates c.self.inside.lazy_dfa) (sym c.as_slice.ensures.value) c.self.invariant.3)),
+      subst (All (MayBeDormant c.self.inside.lazy_dfa c.self.inside.no_op_sets.items)) (sym items) (c.look_over-self-inside.ensures.is_dormant c.self.inside.lazy_dfa c.self.inside.no_op_sets.items (subst (AreDormantStates c.self.inside.lazy_dfa) (sym c.as_slice.ensures.value) c.self.invariant.3)),
       c.look_over-self-inside.ensures.active_keys ∙ sym (ap active_keys_in items),
       c.self.invariant.3,
     )
@@ -34,4 +34,4 @@ returns-clause-nodes g c =
 pub returns-clause-once : goal.returns-clause-once
 returns-clause-once g c =
     subst (λ (h : OpenMatches). All HasStatesOnce h.rows) c.self.view_is (All-map HasStatesOnce (λ (l : Lists). l.active.entries) c.self.inside.lists.items
-    (All-weaker (MayBeDormant c.self.inside.lazy_dfa) (λ (l : Lists). HasStatesOnce l.active.entries) (λ l may. may.once) c.self.inside.lists.items c.self.invariant.1))
+    (All-weaker (MayBeDormant c.self.inside.lazy_dfa c.self.inside.no_op_sets.items) (λ (l : Lists). HasStatesOnce l.active.entries) (λ l may. may.once) c.self.inside.lists.items c.self.invariant.1))

@@ -12,7 +12,7 @@ invariant_of-self c =
     let items = with_items_is c.truncate.new.self c.look_over-self-inside.new.lists long in
     let same : length c.look_over-self-inside.new.lists ≡ length c.truncate.new.self.items = c.look_over-self-inside.auto.lists ∙ ap length c.as_mut_slice.ensures.value in (
       ap length c.cut_to-2.ensures ∙ (take_same c.args.sizes.keys c.self.inside.keys c.self.inside.lists.items c.self.invariant.0 ∙ (sym (ap length c.truncate.ensures.items) ∙ (sym same ∙ sym (ap length items)))),
-      subst (All (MayBeDormant c.back.new.self)) (sym items) (c.look_over-self-inside.ensures.is_dormant c.back.new.self (subst (AreDormantStates c.back.new.self) (sym (c.as_slice.ensures.value ∙ c.clear.ensures.items)) (none_still c.back.new.self))),
+      subst (All (MayBeDormant c.back.new.self c.self.inside.no_op_sets.items)) (sym items) (c.look_over-self-inside.ensures.is_dormant c.back.new.self c.self.inside.no_op_sets.items (subst (AreDormantStates c.back.new.self) (sym (c.as_slice.ensures.value ∙ c.clear.ensures.items)) (none_still c.back.new.self))),
       c.look_over-self-inside.ensures.active_keys ∙ sym (ap active_keys_in items),
       subst (AreDormantStates c.back.new.self) (sym c.clear.ensures.items) (none_still c.back.new.self),
     )

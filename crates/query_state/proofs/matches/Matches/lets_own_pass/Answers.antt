@@ -15,15 +15,15 @@ pub some_accepts-requires : goal.some_accepts-requires
 some_accepts-requires c =
     let less = c.requires in
     let inside : c.args.number < length c.self.inside.lists.items = (let l = rows_length _ c.self.inside.lists.items c.args.self.now.rows (ap (λ (h : OpenMatches). h.rows) c.self.view_is) in omega arith) in
-    let may = all_there (MayBeDormant c.self.inside.lazy_dfa) c.self.inside.lists.items c.args.number c.index-lists.result.now inside c.index-lists.ensures c.self.invariant.1 in
-    record { states = no_op_states c.self.inside.lazy_dfa c.args.bits.now c.index-lists.result.now.active.entries (c.let_pass.ensures c.if-let_pass.true c.self.inside.lazy_dfa may).each }
+    let may = all_there (MayBeDormant c.self.inside.lazy_dfa c.self.inside.no_op_sets.items) c.self.inside.lists.items c.args.number c.index-lists.result.now inside c.index-lists.ensures c.self.invariant.1 in
+    record { states = no_op_states c.self.inside.lazy_dfa c.args.bits.now c.index-lists.result.now.active.entries (c.let_pass.ensures c.if-let_pass.true c.self.inside.lazy_dfa (subst (λ sets. MayBeDormant c.self.inside.lazy_dfa sets c.index-lists.result.now) (sym c.as_slice.ensures.value) may)).each }
 
 pub returns-then-let_pass : goal.returns-then-let_pass
 returns-then-let_pass c told =
     let less = c.requires in
     let inside : c.args.number < length c.self.inside.lists.items = (let l = rows_length _ c.self.inside.lists.items c.args.self.now.rows (ap (λ (h : OpenMatches). h.rows) c.self.view_is) in omega arith) in
-    let may = all_there (MayBeDormant c.self.inside.lazy_dfa) c.self.inside.lists.items c.args.number c.index-lists.result.now inside c.index-lists.ensures c.self.invariant.1 in
-    let no_op = c.let_pass.ensures c.if-let_pass.true c.self.inside.lazy_dfa may in
+    let may = all_there (MayBeDormant c.self.inside.lazy_dfa c.self.inside.no_op_sets.items) c.self.inside.lists.items c.args.number c.index-lists.result.now inside c.index-lists.ensures c.self.invariant.1 in
+    let no_op = c.let_pass.ensures c.if-let_pass.true c.self.inside.lazy_dfa (subst (λ sets. MayBeDormant c.self.inside.lazy_dfa sets c.index-lists.result.now) (sym c.as_slice.ensures.value) may) in
     let none = none_accepted c.self.inside.lazy_dfa c.index-lists.result.now.active.entries (sym c.some_accepts.ensures ∙ not_so c.some_accepts.result told) in
     record {
       rows = c.index-lists.result.now.active.entries;

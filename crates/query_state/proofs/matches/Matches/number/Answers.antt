@@ -20,7 +20,7 @@ invariant_of-self-in-Ok c =
             let two = length_more c.self.inside.lists.items c.none.result in
             omega arith
       ],
-      subst (All (MayBeDormant c.self.inside.lazy_dfa)) (sym pushed) (All-push (MayBeDormant c.self.inside.lazy_dfa) c.self.inside.lists.items c.none.result c.self.invariant.1 (c.none.ensures.is_dormant c.self.inside.lazy_dfa)),
+      subst (All (MayBeDormant c.self.inside.lazy_dfa c.self.inside.no_op_sets.items)) (sym pushed) (All-push (MayBeDormant c.self.inside.lazy_dfa c.self.inside.no_op_sets.items) c.self.inside.lists.items c.none.result c.self.invariant.1 (c.none.ensures.is_dormant c.self.inside.lazy_dfa c.self.inside.no_op_sets.items)),
       c.self.invariant.2 ∙ sym (ap active_keys_in pushed ∙ (active_keys_push c.self.inside.lists.items c.none.result ∙ ap (λ b. if b then active_keys_in c.self.inside.lists.items else suc (active_keys_in c.self.inside.lists.items)) c.none.ensures.known)),
       c.self.invariant.3,
     )
@@ -28,11 +28,11 @@ invariant_of-self-in-Ok c =
 pub invariant_of-self-in-Err : goal.invariant_of-self-in-Err
 invariant_of-self-in-Err c =
     let pushed : c.push.new.self.items ≡ c.self.inside.lists.items ++ c.none.result ∷ [] = c.in_ok-push.ensures.items in
-    let all = subst (All (MayBeDormant c.self.inside.lazy_dfa)) (sym pushed) (All-push (MayBeDormant c.self.inside.lazy_dfa) c.self.inside.lists.items c.none.result c.self.invariant.1 (c.none.ensures.is_dormant c.self.inside.lazy_dfa)) in
+    let all = subst (All (MayBeDormant c.self.inside.lazy_dfa c.self.inside.no_op_sets.items)) (sym pushed) (All-push (MayBeDormant c.self.inside.lazy_dfa c.self.inside.no_op_sets.items) c.self.inside.lists.items c.none.result c.self.invariant.1 (c.none.ensures.is_dormant c.self.inside.lazy_dfa c.self.inside.no_op_sets.items)) in
     let long : length c.number.new.self ≡ length c.pop-none.new.self.items = grind (arith, common_steps) in
     let back : length c.pop-none.new.self.items ≡ length c.self.inside.lists.items = grind (arith, common_steps) in (
       long,
-      subst (All (MayBeDormant c.self.inside.lazy_dfa)) (sym c.pop-none.ensures.rest) (All-take (MayBeDormant c.self.inside.lazy_dfa) _ c.push.new.self.items all),
+      subst (All (MayBeDormant c.self.inside.lazy_dfa c.self.inside.no_op_sets.items)) (sym c.pop-none.ensures.rest) (All-take (MayBeDormant c.self.inside.lazy_dfa c.self.inside.no_op_sets.items) _ c.push.new.self.items all),
       c.self.invariant.2 ∙ sym (ap active_keys_in (c.pop-none.ensures.rest ∙ (ap (take _) pushed ∙ popped c.self.inside.lists.items c.none.result _ (sym (ap length (c.pop-none.ensures.rest ∙ ap (take _) pushed)) ∙ back)))),
       c.self.invariant.3,
     )

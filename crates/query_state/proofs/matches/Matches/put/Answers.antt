@@ -35,7 +35,7 @@ invariant_of-self c =
     let items = with_items_is c.self.inside.lists c.put_lists.new.lists long in
     let same : length c.put_lists.new.lists ≡ length c.self.inside.lists.items = c.put_lists.auto.lists ∙ ap length c.as_mut_slice.ensures.value in (
       c.self.invariant.0 ∙ sym (ap length items ∙ same),
-      subst (All (MayBeDormant c.self.inside.lazy_dfa)) (sym items) (c.put_lists.ensures.is_dormant c.self.inside.lazy_dfa (subst (AreDormantStates c.self.inside.lazy_dfa) (sym c.as_slice.ensures.value) c.self.invariant.3) (subst (All (MayBeDormant c.self.inside.lazy_dfa)) (sym c.as_mut_slice.ensures.value) c.self.invariant.1)),
+      subst (All (MayBeDormant c.self.inside.lazy_dfa c.self.inside.no_op_sets.items)) (sym items) (c.put_lists.ensures.is_dormant c.self.inside.lazy_dfa c.self.inside.no_op_sets.items (subst (AreDormantStates c.self.inside.lazy_dfa) (sym c.as_slice.ensures.value) c.self.invariant.3) (subst (All (MayBeDormant c.self.inside.lazy_dfa c.self.inside.no_op_sets.items)) (sym c.as_mut_slice.ensures.value) c.self.invariant.1)),
       c.put_lists.ensures.active_keys ∙ sym (ap active_keys_in items),
       c.self.invariant.3,
     )

@@ -13,7 +13,7 @@ invariant_of-self c =
     let items = with_items_is c.remove_all-now.new.lists c.look_over-self-inside.new.lists long in
     let same : length c.look_over-self-inside.new.lists ≡ length c.remove_all-now.new.lists.items = c.look_over-self-inside.auto.lists ∙ ap length c.as_mut_slice.ensures.value in (
       c.remove_all-now.ensures.count ∙ sym (ap length items ∙ same),
-      subst (All (MayBeDormant c.self.inside.lazy_dfa)) (sym items) (c.look_over-self-inside.ensures.is_dormant c.self.inside.lazy_dfa (subst (AreDormantStates c.self.inside.lazy_dfa) (sym c.as_slice.ensures.value) c.self.invariant.3)),
+      subst (All (MayBeDormant c.self.inside.lazy_dfa c.self.inside.no_op_sets.items)) (sym items) (c.look_over-self-inside.ensures.is_dormant c.self.inside.lazy_dfa c.self.inside.no_op_sets.items (subst (AreDormantStates c.self.inside.lazy_dfa) (sym c.as_slice.ensures.value) c.self.invariant.3)),
       c.look_over-self-inside.ensures.active_keys ∙ sym (ap active_keys_in items),
       c.self.invariant.3,
     )

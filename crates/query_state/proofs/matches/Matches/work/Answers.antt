@@ -117,7 +117,7 @@ invariant_of-self g c =
     let can = subst (CanTake c.args.stamp) (sym c.self.view_is) c.requires.can c.args.number c.index.result.now.active.entries row in
     let dormant_states = still_later c.self.inside.lazy_dfa c.prepare.new.lazy_dfa _ c.args.bits.now c.self.inside.dormant_states.items c.prepare.ensures.lazy_dfa c.self.invariant.3 in (
       c.self.invariant.0,
-      rest_later c.self.inside.lazy_dfa c.prepare.new.lazy_dfa _ c.args.bits.now c.self.inside.lists.items c.prepare.ensures.lazy_dfa c.self.invariant.1,
+      rest_later c.self.inside.lazy_dfa c.prepare.new.lazy_dfa c.self.inside.no_op_sets.items _ c.args.bits.now c.self.inside.lists.items c.prepare.ensures.lazy_dfa c.self.invariant.1,
       c.self.invariant.2,
       c.note.ensures c.prepare.new.lazy_dfa dormant_states (λ quiet stays.
           unchanged_rest c.self.inside.lazy_dfa c.prepare.new.lazy_dfa c.args.bits.now c.args.stamp c.self.inside.store.nodes c.prepare.new.store.nodes c.index.result.now.active.entries quiet c.sizes-sizes.ensures.sound can c.prepare.ensures.grows (subst (λ s. IsAdvancedBy c.prepare.new.lazy_dfa c.args.bits.now c.args.stamp c.self.inside.store.nodes (going_on c.args.low c.index.result.now.active.entries s) c.prepare.new.store.nodes (rows_after c.index.result.now.active.entries s)) stays c.in-Ok.ensures.advanced)),

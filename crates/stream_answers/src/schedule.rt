@@ -20,7 +20,7 @@ use std::marker::Model;
 use std::sync::ledger::Ledger;
 
 /// A query that weighs less is not compacted by itself: so many nodes, or keys as eight of them each.
-pub const LEAST_SIZE: u64 = 8_192;
+pub const LEAST_SIZE: u64 = 1_024;
 
 /// The queries are looked at after so many events for each of them.
 pub const EVENTS_A_QUERY: u64 = 16;

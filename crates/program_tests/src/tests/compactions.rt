@@ -29,10 +29,10 @@ const EVENTS: u64 = 4000;
 /// So many, where it is compacted once it has grown.
 const MANY_EVENTS: u64 = 14_000;
 
-/// What is kept of the query then, in nodes, of which a key counts as eight: at most 8192; twice what
+/// What is kept of the query then, in nodes, of which a key counts as eight: at most 1024; twice what
 /// its window needed after some event, in which two were, each with 256 nodes and a key, and one key
 /// more; and what came since it was looked at, which was at most 16 events ago.
-const KEPT: u64 = 8192 + 2 * (2 * (256 + 8) + 8) + 16 * (256 + 8);
+const KEPT: u64 = 1024 + 2 * (2 * (256 + 8) + 8) + 16 * (256 + 8);
 
 /// The nodes that a call of these words leaves, over the query and these events.
 fn nodes_after(

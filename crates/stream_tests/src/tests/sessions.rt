@@ -259,10 +259,10 @@ SELECT * FROM S WHERE A+ WITHIN 1 EVENTS\nSELECT * FROM S WHERE A+ WITHIN 1 EVEN
 /// So many events come after the first three.
 const MORE_EVENTS: u64 = 20_000;
 
-/// What is kept of the second query then, in nodes, of which a key counts as eight: at most 8192; twice
+/// What is kept of the second query then, in nodes, of which a key counts as eight: at most 1024; twice
 /// what its window needed after some event, in which two were, each with 256 nodes and a key, and one key
 /// more; and what came since it was looked at, which was at most 2 * 16 events ago.
-const KEPT: u64 = 8192 + 2 * (2 * (256 + 8) + 8) + 2 * 16 * (256 + 8);
+const KEPT: u64 = 1024 + 2 * (2 * (256 + 8) + 8) + 2 * 16 * (256 + 8);
 
 /// Plays the line so many times.
 fn play_again<K: Sink, L: Ledger>(

@@ -171,9 +171,9 @@ windows_due due before old new events event same stands added keyed w =
 
 -- A COMPACTION
 
-pub nothing_held : (buffer : List Open) → length buffer ≡ 0 → buffer ≡ []
+pub nothing_held : (held : List Open) → length held ≡ 0 → held ≡ []
 nothing_held [] none = refl
-nothing_held (c ∷ buffer) none = absurd (omega arith)
+nothing_held (c ∷ held) none = absurd (omega arith)
 
 -- the peaks are as they were
 peaks_stay : (due : ℕ → Bool) (before : ℕ → ℕ) (first : ℕ) (old new : EngineState) (events : List Event) → SameQueries old new → ((query : ℕ) → found_of new query ≡ found_of old query) → ((query : ℕ) → peak_of new query ≡ peak_of old query) →
@@ -187,10 +187,10 @@ peaks_stay due before first old new events same found peak w k q at =
     ]
 
 -- it is made of all, with no cursor held
-pub windows_compacted : (due : ℕ → Bool) (before : ℕ → ℕ) (first : ℕ) (old new : EngineState) (buffer : List Open) (events : List Event) → due (length events) ≡ true → length buffer ≡ 0 → SameQueries old new → ((query : ℕ) → found_of new query ≡ found_of old query) →
-    ((query : ℕ) → peak_of new query ≡ peak_of old query) → StandsFor new events → IsDense new events → FollowsWindow new events buffer → KeysFollowWindows new events → FollowsWindowsBy due before first events old → FollowsWindowsBy due before (last_of due (length events)) events new
-windows_compacted due before first old new buffer events has_come none same found peak stands dense window keyed w =
-    let left = subst (FollowsWindow new events) (nothing_held buffer none) window in
+pub windows_compacted : (due : ℕ → Bool) (before : ℕ → ℕ) (first : ℕ) (old new : EngineState) (held : List Open) (events : List Event) → due (length events) ≡ true → length held ≡ 0 → SameQueries old new → ((query : ℕ) → found_of new query ≡ found_of old query) →
+    ((query : ℕ) → peak_of new query ≡ peak_of old query) → StandsFor new events → IsDense new events → FollowsWindow new events held → KeysFollowWindows new events → FollowsWindowsBy due before first events old → FollowsWindowsBy due before (last_of due (length events)) events new
+windows_compacted due before first old new held events has_come none same found peak stands dense window keyed w =
+    let left = subst (FollowsWindow new events) (nothing_held held none) window in
     record {
       dense = dense;
       nodes = subst (λ (n : ℕ). FollowsWindowSince n new events) (sym (last_now due (length events) has_come)) (compacted_follows_window new events stands left);
@@ -247,14 +247,14 @@ windows_looked first old new kept before events stands w =
     subst (λ (n : ℕ). FollowsWindowsBy due before n events new) (sym (never_last first (length events))) (kept due before events (subst (λ (n : ℕ). FollowsWindowsBy due before n events old) (never_last first (length events - 1)) w))
 
 -- by how the call ended
-pub compaction_follows : {T E : Type 0} (r : Result T E) (due : ℕ → Bool) (old new : EngineState) (buffer : List Open) (count : ℕ) → ((events : List Event) → StandsFor old events → count ≡ length events) → due count ≡ true → length buffer ≡ 0 →
+pub compaction_follows : {T E : Type 0} (r : Result T E) (due : ℕ → Bool) (old new : EngineState) (held : List Open) (count : ℕ) → ((events : List Event) → StandsFor old events → count ≡ length events) → due count ≡ true → length held ≡ 0 →
     SameQueries old new → ((query : ℕ) → found_of new query ≡ found_of old query) → ((query : ℕ) → peak_of new query ≡ peak_of old query) →
     OnOk r ((events : List Event) → StandsFor old events → StandsFor new events) → OnOk r ((events : List Event) → IsDense old events → IsDense new events) →
-    OnOk r ((events : List Event) → StandsFor old events → IsDense old events → FollowsWindow new events buffer) → OnOk r ((events : List Event) → StandsFor old events → KeysFollowWindows new events) →
+    OnOk r ((events : List Event) → StandsFor old events → IsDense old events → FollowsWindow new events held) → OnOk r ((events : List Event) → StandsFor old events → KeysFollowWindows new events) →
     OnOk r ((before : ℕ → ℕ) (events : List Event) → StandsFor old events → FollowsWindowsBy due before (last_of due (length events - 1)) events old → FollowsWindowsBy due before (last_of due (length events)) events new)
-compaction_follows (Err e) due old new buffer count counted has_come none same found peak stands dense window keyed = tt
-compaction_follows (Ok x) due old new buffer count counted has_come none same found peak stands dense window keyed = λ before events at w.
-    windows_compacted due before (last_of due (length events - 1)) old new buffer events (subst (λ (n : ℕ). due n ≡ true) (counted events at) has_come) none same found peak (stands events at) (dense events w.dense) (window events at w.dense) (keyed events at) w
+compaction_follows (Err e) due old new held count counted has_come none same found peak stands dense window keyed = tt
+compaction_follows (Ok x) due old new held count counted has_come none same found peak stands dense window keyed = λ before events at w.
+    windows_compacted due before (last_of due (length events - 1)) old new held events (subst (λ (n : ℕ). due n ≡ true) (counted events at) has_come) none same found peak (stands events at) (dense events w.dense) (window events at w.dense) (keyed events at) w
 
 -- AT THE END
 

@@ -221,19 +221,19 @@ impl Schedule {
     pub fn keep_small<L: Ledger>(
         &mut self,
         engine: &mut Engine,
-        buffer: &mut [Cursor],
+        held: &mut [Cursor],
         steps: &mut Steps<L>,
     )
         requires bases { length self.old.bases ≡ length engine.old.queries }
-        requires fits { All (Fits engine.old) buffer.old }
+        requires fits { All (Fits engine.old) held.old }
         ensures timing { self.new.timing ≡ self.old.timing }
         ensures bases { length self.new.bases ≡ length self.old.bases }
         ensures stands { (events : List Event) → StandsFor engine.old events
             → StandsFor engine.new events }
-        ensures cursors { (k : ℕ) → (d : Open) → k < length buffer.old
+        ensures cursors { (k : ℕ) → (d : Open) → k < length held.old
             → IsKept engine.old engine.new
-            (get_or buffer.old k d) (get_or buffer.new k d) }
-        ensures buffer { length buffer.new ≡ length buffer.old }
+            (get_or held.old k d) (get_or held.new k d) }
+        ensures held { length held.new ≡ length held.old }
         ensures same { SameQueries engine.old engine.new }
         ensures count { count_of engine.new ≡ count_of engine.old }
         ensures dense { (events : List Event) → IsDense engine.old events → IsDense engine.new
@@ -250,7 +250,7 @@ impl Schedule {
         self.looked = engine.events();
         self.next = next_look(self.looked, engine.queries());
         let bases = self.bases.as_mut_slice();
-        tend(engine, bases, buffer, steps);
+        tend(engine, bases, held, steps);
     }
 
     /// Notes how much is kept of each query, as after a compaction that was asked for. The schedule has no
@@ -324,17 +324,17 @@ fn begin<L: Ledger>(
 fn tend<L: Ledger>(
     engine: &mut Engine,
     bases: &mut [Size],
-    buffer: &mut [Cursor],
+    held: &mut [Cursor],
     steps: &mut Steps<L>,
 )
     requires bases { length bases.old ≡ length engine.old.queries }
-    requires fits { All (Fits engine.old) buffer.old }
+    requires fits { All (Fits engine.old) held.old }
     ensures bases { length bases.new ≡ length bases.old }
     ensures stands { (events : List Event) → StandsFor engine.old events
         → StandsFor engine.new events }
-    ensures cursors { (k : ℕ) → (d : Open) → k < length buffer.old → IsKept engine.old engine.new
-        (get_or buffer.old k d) (get_or buffer.new k d) }
-    ensures buffer { length buffer.new ≡ length buffer.old }
+    ensures cursors { (k : ℕ) → (d : Open) → k < length held.old → IsKept engine.old engine.new
+        (get_or held.old k d) (get_or held.new k d) }
+    ensures held { length held.new ≡ length held.old }
     ensures same { SameQueries engine.old engine.new }
     ensures count { count_of engine.new ≡ count_of engine.old }
     ensures dense { (events : List Event) → IsDense engine.old events → IsDense engine.new events }
@@ -344,7 +344,7 @@ fn tend<L: Ledger>(
     ensures steps { (events : List Event) → StandsFor engine.old events → steps.new
         + put_by engine.new bases.new ≤ steps.old + put_by engine.old bases.old }
 {
-    match engine.compact_grown(LEAST_SIZE, bases, buffer, steps) {
+    match engine.compact_grown(LEAST_SIZE, bases, held, steps) {
         Ok(()) => {}
         Err(_) => {}
     }

@@ -17,9 +17,9 @@ returns-clause-follows g c = λ peaks events f.
 pub returns-clause-small : goal.returns-clause-small
 returns-clause-small g c = λ events stands dense.
     let did = c.in_ok-compact.ensures in
-    let buffer = nothing_held c.compact.new.held did.held in
+    let held = nothing_held c.compact.new.held did.held in
     let long : length c.note_all.new.bases ≡ c.in_ok-bases.bases.len = (let x = c.as_mut_slice.ensures.len in let y = c.note_all.auto.bases in omega arith) in
     let is = with_items_is c.in_ok-bases.bases c.note_all.new.bases long in
-    let nodes = subst (FollowsWindow c.compact.new.self events) buffer (did.window events stands dense) in
+    let nodes = subst (FollowsWindow c.compact.new.self events) held (did.window events stands dense) in
     let keys = did.keys events stands in
     subst (λ (bs : List Size). AreKeptSmall LEAST_SIZE (length events) c.compact.new.self bs events) (sym is) (compacted_are_small c.compact.new.self c.note_all.new.bases events LEAST_SIZE nodes keys c.note_all.ensures)

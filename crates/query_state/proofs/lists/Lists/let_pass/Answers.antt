@@ -1,4 +1,4 @@
-use Rattle.std.proofs.Common.{◌≡◌, List, Bool, IfSome, Some, sym, subst, ◌∙◌}
+use Rattle.std.proofs.Common.{IfSome, sym, subst, ◌∙◌}
 use Rattle.event_update.specs.Dormancy.{AreNoOp}
 use Rattle.query_state.specs.Matches.{IsNoOpSet}
 use Rattle.query_state.proofs.NoOp.{one_set}

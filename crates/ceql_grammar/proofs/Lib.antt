@@ -30,6 +30,8 @@ pub mod RepeatedReading
 pub mod LoopRules
 -- what the exits and turns of reading functions need
 pub mod LoopExits
+-- what reading functions need that put values behind a list
+pub mod InPlaceReading
 -- a list of terms in one node, and a list with one member
 pub mod JoinedTerms
 -- the digits of a number and the bytes of a string, one after the other

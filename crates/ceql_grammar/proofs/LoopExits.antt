@@ -52,7 +52,7 @@ two_go r s f whole ts ys zs x y z w h k e =
     ap (λ o. o >>= λ p. Ok (f p.0, p.1)) (w ∙ ap (λ o. o >>= λ p. map_read (λ y. (p.0, y)) s p.1) h ∙ ap (λ o. o >>= λ q. Ok ((x, q.0), q.1)) k)
     ∙ ap (λ z. Ok (z, zs)) (sym e)
 
-front_fails : {X : Type 0} (made : List X) (out : Out (List X)) (zs : List Token) → with_front made out ≡ Err zs → out ≡ Err zs
+pub front_fails : {X : Type 0} (made : List X) (out : Out (List X)) (zs : List Token) → with_front made out ≡ Err zs → out ≡ Err zs
 front_fails made (Ok p) zs k = cc
 front_fails made (Err ys) zs k = k
 
@@ -65,7 +65,7 @@ outcome_of p = Ok p
 pairs_same : {X : Type 0} (p q : X × List Token) → outcome_of p ≡ outcome_of q → p ≡ q
 pairs_same p q e = cc
 
-both_same : {X : Type 0} (a b : X) (xs ys : List Token) → outcome a xs ≡ outcome b ys → (a ≡ b) × (xs ≡ ys)
+pub both_same : {X : Type 0} (a b : X) (xs ys : List Token) → outcome a xs ≡ outcome b ys → (a ≡ b) × (xs ≡ ys)
 both_same a b xs ys e = let k = pairs_same (a, xs) (b, ys) e in (ap (λ p. p.0) k, ap (λ p. p.1) k)
 
 -- a first item and the list after it, as one value

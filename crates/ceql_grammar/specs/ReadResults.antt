@@ -1,5 +1,5 @@
 -- What a reading function returned is what its reader gives, unless memory ran out.
-use Rattle.std.specs.Prelude.{◌≡◌, List, [], Option, Some, None, Result, Ok, Err}
+use Rattle.std.specs.Prelude.{◌≡◌, List, [], ◌∷◌, ◌++◌, map, Option, Some, None, Result, Ok, Err}
 use denote.Ref.{Bor}
 use Rattle.cer_base.specs.declared.OrMemory.{OrMemory}
 use Rattle.cer_base.specs.declared.OrMemory.TheVariants as wanted
@@ -15,6 +15,17 @@ StopsAs (wanted.Fault rest) out = out ≡ Err rest.now
 abbrev pub ReadsAs : {X Y : Type 0} → (X → Y) → Result (X × Bor (List Token)) (OrMemory (Bor (List Token))) → Out Y → Type 0
 ReadsAs view (Ok p) out = out ≡ Ok (view p.0, p.1.now)
 ReadsAs view (Err e) out = StopsAs e out
+
+-- one value more stands behind the old ones, each seen by view, and it and the tokens after it are those
+-- of the reader
+abbrev pub ReadsBehind : {X Y : Type 0} → (X → Y) → List X → List X → Result (Bor (List Token)) (OrMemory (Bor (List Token))) → Out Y → Type 0
+ReadsBehind view old new (Ok rest) out = (value : _) × ((map view new ≡ map view old ++ value ∷ []) × (out ≡ Ok (value, rest.now)))
+ReadsBehind view old new (Err e) out = StopsAs e out
+
+-- the values, each seen by view, and the tokens after them are those of the reader
+abbrev pub ReadsOnto : {X Y : Type 0} → (X → Y) → List X → Result (Bor (List Token)) (OrMemory (Bor (List Token))) → Out (List Y) → Type 0
+ReadsOnto view new (Ok rest) out = out ≡ Ok (map view new, rest.now)
+ReadsOnto view new (Err e) out = StopsAs e out
 
 -- the tokens after a word or a sign are those of the reader
 abbrev pub ReadsPast : Result (Bor (List Token)) (OrMemory (Bor (List Token))) → Out (Unit {0}) → Type 0

@@ -1,16 +1,20 @@
 //! Filters: predicates on names, joined by AND and OR.
+//!
+//! What is read is put behind a list of the caller, so that a parenthesis holds no filter on the stack
+//! while what stands in it is read; what makes large values is a call of its own likewise.
 
-ghost use Rattle.ceql_grammar.specs.ReadResults.{ReadsAs};
+ghost use Rattle.ceql_grammar.specs.ReadResults.{ReadsAs, ReadsBehind, ReadsOnto};
 ghost use Rattle.ceql_grammar.specs.MemberLists.{all_filters_of, any_filter_of};
 ghost use Rattle.ceql_grammar.specs.PartlyRead.{with_front};
 ghost use Rattle.ceql_grammar.specs.RuleReaders.{filter, filter_conjunction, filter_unit, more_filter_conjunctions, more_filter_units, more_filters, on_name};
 ghost use Rattle.ceql_grammar.specs.Trees.{filter_tree};
-ghost use Rattle.std.specs.Prelude.{◌≡◌, ◌<◌, ◌≤◌, IfOk, length, map};
+ghost use Rattle.std.specs.Prelude.{◌≡◌, ◌<◌, ◌≤◌, ◌∷◌, ◌++◌, [], IfOk, OnOk, length, map};
 
 use crate::predicates::predicate;
-use crate::tokens::{Read, closed, expect, name, skip};
+use crate::tokens::{Read, Rest, closed, expect, name, skip};
 use cel_terms::Filter;
 use ceql_lexer::Token;
+use cer_base::Memory;
 use std::alloc::Global;
 
 /// The only one of the filters, or all of them joined by AND.
@@ -43,6 +47,26 @@ fn any_filter_of(members: Vec<Filter>) -> Filter
     }
 }
 
+/// Puts the only one of the members, or all of them joined by AND, behind the filters.
+#[inline(never)]
+fn add_all(filters: &mut Vec<Filter>, members: Vec<Filter>) -> Result<(), Memory>
+    requires { 0 < length members.items }
+    ensures { OnOk result (map filter_tree filters.new.items
+        ≡ map filter_tree filters.old.items ++ all_filters_of (map filter_tree members.items) ∷ []) }
+{
+    Ok(filters.push(all_filters_of(members))?)
+}
+
+/// Puts the only one of the members, or all of them joined by OR, behind the filters.
+#[inline(never)]
+fn add_any(filters: &mut Vec<Filter>, members: Vec<Filter>) -> Result<(), Memory>
+    requires { 0 < length members.items }
+    ensures { OnOk result (map filter_tree filters.new.items
+        ≡ map filter_tree filters.old.items ++ any_filter_of (map filter_tree members.items) ∷ []) }
+{
+    Ok(filters.push(any_filter_of(members))?)
+}
+
 /// A name with a predicate in brackets.
 #[tactic(auto, unfolding(crate::specs::RuleReaders::on_name))]
 fn on_name<'a>(alloc: Global, tokens: &'a [Token]) -> Read<'a, Filter>
@@ -55,87 +79,90 @@ fn on_name<'a>(alloc: Global, tokens: &'a [Token]) -> Read<'a, Filter>
     closed(Filter::On(name, pred), rest, b"]")
 }
 
+/// A name with a predicate in brackets, put behind the filters.
+#[inline(never)]
+fn add_on_name<'a>(alloc: Global, filters: &mut Vec<Filter>, tokens: &'a [Token]) -> Rest<'a>
+    ensures value { ReadsBehind filter_tree filters.old.items filters.new.items result (on_name tokens.now) }
+    ensures shorter { IfOk result (λ rest. length rest.now < length tokens.now) }
+{
+    let (filter, rest) = on_name(alloc, tokens)?;
+    filters.push(filter)?;
+    Ok(rest)
+}
+
 /// A predicate on a name, or a parenthesis.
 #[cycle(filter)]
-#[tactic(auto, unfolding(crate::specs::RuleReaders::filter_unit))]
-fn unit<'a>(alloc: Global, tokens: &'a [Token]) -> Read<'a, Filter>
-    ensures value { ReadsAs filter_tree result (filter_unit filter tokens.now) }
-    ensures shorter { IfOk result (λ p. length p.1.now < length tokens.now) }
+fn unit<'a>(alloc: Global, filters: &mut Vec<Filter>, tokens: &'a [Token]) -> Rest<'a>
+    ensures value { ReadsBehind filter_tree filters.old.items filters.new.items result
+        (filter_unit filter tokens.now) }
+    ensures shorter { IfOk result (λ rest. length rest.now < length tokens.now) }
 {
     match skip(tokens, b"(") {
         Some(inside) => {
-            let (filter, rest) = filter(alloc, inside)?;
-            closed(filter, rest, b")")
+            let behind_inside = filter(alloc, filters, inside)?;
+            expect(behind_inside, b")")
         }
-        None => on_name(alloc, tokens),
+        None => add_on_name(alloc, filters, tokens),
     }
 }
 
 /// The units after those that were read, an AND before each.
 #[cycle(filter)]
-fn more_units<'a>(alloc: Global, members: Vec<Filter>, tokens: &'a [Token]) -> Read<'a, Vec<Filter>>
-    ensures value { ReadsAs (λ v. map filter_tree v.items) result
-        (with_front (map filter_tree members.items) (more_filter_units filter tokens.now)) }
-    ensures no_longer { IfOk result (λ p. length p.1.now ≤ length tokens.now) }
-    ensures more { IfOk result (λ p. length members.items ≤ length p.0.items) }
+fn more_units<'a>(alloc: Global, members: &mut Vec<Filter>, tokens: &'a [Token]) -> Rest<'a>
+    ensures value { ReadsOnto filter_tree members.new.items result
+        (with_front (map filter_tree members.old.items) (more_filter_units filter tokens.now)) }
+    ensures no_longer { IfOk result (λ rest. length rest.now ≤ length tokens.now) }
+    ensures more { IfOk result (λ _. length members.old.items ≤ length members.new.items) }
 {
-    let mut members = members;
     let mut rest = tokens;
     while let Some(later) = skip(rest, b"AND") {
-        let (next, behind_next) = unit(alloc, later)?;
-        members.push(next)?;
+        let behind_next = unit(alloc, members, later)?;
         rest = behind_next;
     }
-    Ok((members, rest))
+    Ok(rest)
 }
 
 /// Units joined by AND.
 #[cycle(filter)]
-#[tactic(auto, unfolding(crate::specs::RuleReaders::filter_conjunction))]
-fn conjunction<'a>(alloc: Global, tokens: &'a [Token]) -> Read<'a, Filter>
-    ensures value { ReadsAs filter_tree result (filter_conjunction filter tokens.now) }
-    ensures shorter { IfOk result (λ p. length p.1.now < length tokens.now) }
+fn conjunction<'a>(alloc: Global, filters: &mut Vec<Filter>, tokens: &'a [Token]) -> Rest<'a>
+    ensures value { ReadsBehind filter_tree filters.old.items filters.new.items result
+        (filter_conjunction filter tokens.now) }
+    ensures shorter { IfOk result (λ rest. length rest.now < length tokens.now) }
 {
-    let (first, rest) = unit(alloc, tokens)?;
     let mut members = Vec::new(alloc);
-    members.push(first)?;
-    let (members, rest) = more_units(alloc, members, rest)?;
-    Ok((all_filters_of(members), rest))
+    let behind_first = unit(alloc, &mut members, tokens)?;
+    let rest = more_units(alloc, &mut members, behind_first)?;
+    add_all(filters, members)?;
+    Ok(rest)
 }
 
 /// The conjunctions after those that were read, an OR before each.
 #[cycle(filter)]
-fn more_conjunctions<'a>(
-    alloc: Global,
-    members: Vec<Filter>,
-    tokens: &'a [Token],
-) -> Read<'a, Vec<Filter>>
-    ensures value { ReadsAs (λ v. map filter_tree v.items) result
-        (with_front (map filter_tree members.items) (more_filter_conjunctions filter tokens.now)) }
-    ensures no_longer { IfOk result (λ p. length p.1.now ≤ length tokens.now) }
-    ensures more { IfOk result (λ p. length members.items ≤ length p.0.items) }
+fn more_conjunctions<'a>(alloc: Global, members: &mut Vec<Filter>, tokens: &'a [Token]) -> Rest<'a>
+    ensures value { ReadsOnto filter_tree members.new.items result
+        (with_front (map filter_tree members.old.items) (more_filter_conjunctions filter tokens.now)) }
+    ensures no_longer { IfOk result (λ rest. length rest.now ≤ length tokens.now) }
+    ensures more { IfOk result (λ _. length members.old.items ≤ length members.new.items) }
 {
-    let mut members = members;
     let mut rest = tokens;
     while let Some(later) = skip(rest, b"OR") {
-        let (next, behind_next) = conjunction(alloc, later)?;
-        members.push(next)?;
+        let behind_next = conjunction(alloc, members, later)?;
         rest = behind_next;
     }
-    Ok((members, rest))
+    Ok(rest)
 }
 
 /// Conjunctions joined by OR.
 #[cycle(filter)]
-fn filter<'a>(alloc: Global, tokens: &'a [Token]) -> Read<'a, Filter>
-    ensures value { ReadsAs filter_tree result (filter tokens.now) }
-    ensures shorter { IfOk result (λ p. length p.1.now < length tokens.now) }
+fn filter<'a>(alloc: Global, filters: &mut Vec<Filter>, tokens: &'a [Token]) -> Rest<'a>
+    ensures value { ReadsBehind filter_tree filters.old.items filters.new.items result (filter tokens.now) }
+    ensures shorter { IfOk result (λ rest. length rest.now < length tokens.now) }
 {
-    let (first, rest) = conjunction(alloc, tokens)?;
     let mut members = Vec::new(alloc);
-    members.push(first)?;
-    let (members, rest) = more_conjunctions(alloc, members, rest)?;
-    Ok((any_filter_of(members), rest))
+    let behind_first = conjunction(alloc, &mut members, tokens)?;
+    let rest = more_conjunctions(alloc, &mut members, behind_first)?;
+    add_any(filters, members)?;
+    Ok(rest)
 }
 
 /// Filters with a FILTER before each, of which there may be none.
@@ -146,8 +173,7 @@ pub fn filters<'a>(alloc: Global, tokens: &'a [Token]) -> Read<'a, Vec<Filter>>
     let mut filters = Vec::new(alloc);
     let mut rest = tokens;
     while let Some(later) = skip(rest, b"FILTER") {
-        let (next, behind_next) = filter(alloc, later)?;
-        filters.push(next)?;
+        let behind_next = filter(alloc, &mut filters, later)?;
         rest = behind_next;
     }
     Ok((filters, rest))

@@ -21,16 +21,16 @@ decreases-filter l = length l.tokens.now * 5 + 4
 
 abbrev pub invariant-more_units-loop-later : goal.invariant-more_units-loop-later
 invariant-more_units-loop-later l =
-    (with_front (map filter_tree l.members.items) (more_filter_units filter l.rest) ≡ with_front (map filter_tree l.fn.members.items) (more_filter_units filter l.tokens))
-    × ((length l.rest ≤ length l.tokens) × (length l.fn.members.items ≤ length l.members.items))
+    (with_front (map filter_tree l.members.items) (more_filter_units filter l.rest) ≡ with_front (map filter_tree l.initial.members.items) (more_filter_units filter l.tokens))
+    × ((length l.rest ≤ length l.tokens) × (length l.initial.members.items ≤ length l.members.items))
 
 abbrev pub decreases-more_units-loop-later : goal.decreases-more_units-loop-later
 decreases-more_units-loop-later l = length l.rest
 
 abbrev pub invariant-more_conjunctions-loop-later : goal.invariant-more_conjunctions-loop-later
 invariant-more_conjunctions-loop-later l =
-    (with_front (map filter_tree l.members.items) (more_filter_conjunctions filter l.rest) ≡ with_front (map filter_tree l.fn.members.items) (more_filter_conjunctions filter l.tokens))
-    × ((length l.rest ≤ length l.tokens) × (length l.fn.members.items ≤ length l.members.items))
+    (with_front (map filter_tree l.members.items) (more_filter_conjunctions filter l.rest) ≡ with_front (map filter_tree l.initial.members.items) (more_filter_conjunctions filter l.tokens))
+    × ((length l.rest ≤ length l.tokens) × (length l.initial.members.items ≤ length l.members.items))
 
 abbrev pub decreases-more_conjunctions-loop-later : goal.decreases-more_conjunctions-loop-later
 decreases-more_conjunctions-loop-later l = length l.rest

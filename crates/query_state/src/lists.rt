@@ -281,6 +281,17 @@ pub fn note(dormant_states: &mut Vec<bool>, active: &ActiveStates, bits: &Bits, 
     mark_all(dormant_states, active);
 }
 
+/// Gives back room for lists, where it is for more than four times as many as there are, and 64. Where
+/// the smaller room cannot be had, it stays as it is.
+pub fn shrink(lists: &mut Vec<Lists>)
+    ensures { lists.new.items ≡ lists.old.items }
+{
+    let count = lists.len();
+    if lists.capacity() / 4 > count + 16 {
+        lists.shrink_to(2 * count);
+    }
+}
+
 /// How many keys' lists are not known to be dormant, of so many, once it is looked at one of them
 /// again.
 fn recount(active_keys: u64, count: u64, rested: bool, is_dormant: bool) -> u64

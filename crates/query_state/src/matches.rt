@@ -21,7 +21,7 @@ ghost use Rattle.query_state.specs.Dropping.{HaveListsButOne};
 ghost use Rattle.query_state.specs.Matches.{OpenMatches, HasStatesOnce, MayBeDormant, active_keys_in, AreDormantStates, HasKeyThere, HasNoneOf, HasBegun, MayPass, none_open, cut, CanCut, AreSizes, TakesKey, CanTake, IsReady, HasWorked, CanList, entries_for};
 
 use crate::dropping::{key_to_stay, number_of, remove_all};
-use crate::lists::{Lists, is_unchanged, look_over, note, number_of_set, put_lists};
+use crate::lists::{Lists, is_unchanged, look_over, note, number_of_set, put_lists, shrink};
 use arena_compact::{HasCursor, Room, compact};
 use cea_determinise::cea::Cea;
 use cea_determinise::lazy_dfa::LazyDfa;
@@ -442,6 +442,15 @@ impl Matches {
         let now = remove_all(&mut self.lists, &mut self.keys, stays);
         self.active_keys = look_over(self.lists.as_mut_slice(), self.dormant_states.as_slice());
         number_of(told, now)
+    }
+
+    /// Gives back room that was taken for many more nodes, lists and keys than there are.
+    pub fn shrink(&mut self)
+        ensures { self.new ≡ self.old }
+    {
+        self.store.shrink();
+        shrink(&mut self.lists);
+        self.keys.shrink();
     }
 
     /// How many states were found.

@@ -337,8 +337,9 @@ impl QueryState {
     /// those with its number, each from its own on, where the events have the last clock of this
     /// one. It stands for the same such events as before, and each of these cursors has the same
     /// answers left; the others are not touched. Keys without a list are removed then, but for one
-    /// at most. The room is for as many nodes as there are. It takes no memory. The last event was
-    /// not a no-op for the query state, or it was settled. No state stood twice in a key's lists.
+    /// at most, and memory that was taken for many more nodes and keys than are left is given back.
+    /// The room is for as many nodes as there are. It needs no memory. The last event was not a no-op
+    /// for the query state, or it was settled. No state stood twice in a key's lists.
     pub fn compact<C: HasCursor, L: Ledger>(
         &mut self,
         number: u64,
@@ -369,6 +370,7 @@ impl QueryState {
         let low = self.clock.low_after(clock);
         self.matches.compact(number, cursors, low, room, steps);
         self.here = self.matches.remove(self.here);
+        self.matches.shrink();
     }
 }
 

@@ -8,7 +8,7 @@ use Rattle.cea_determinise.specs.LazyDfa.{Table}
 use Rattle.tecs_enumerate.specs.Remaining.{CursorState, Fits}
 use Rattle.query_standing.specs.Kept.{QueryState}
 use Rattle.arena_compact.specs.Roots.{places}
-use Rattle.query_state.specs.Matches.{HasStatesOnce}
+use Rattle.query_state.specs.Matches.{OpenMatches, HasStatesOnce}
 use Rattle.query_state.proofs.Prepare.{idle_active_keys, inner_with, inner_stands}
 use Rattle.query_state.proofs.Giving.{low_is}
 use Rattle.query_state.proofs.Compacting.{query_state_lists, Left, Removed, query_state_compacted, query_state_stands, query_state_fewer}
@@ -40,7 +40,7 @@ compact-requires-clause-room g c =
 
 pub invariant_of-self : goal.invariant_of-self
 invariant_of-self g c =
-    let m = c.self.invariant.0 in let same = c.remove-self-inside.ensures.same.0 ∙ c.compact.ensures.same.0 in (
+    let m = c.self.invariant.0 in let same = ap (λ (h : OpenMatches). h.table) c.shrink.ensures ∙ (c.remove-self-inside.ensures.same.0 ∙ c.compact.ensures.same.0) in (
       record {
         types = m.types;
         keys = m.keys;
@@ -74,8 +74,8 @@ returns-clause-stands g c =
       lists = c.compact.ensures.lists;
       cursors = record { count = m ∙ (c.compact.ensures.count ∙ sym n); each = λ k d lt. c.compact.ensures.cursors k d (omega arith) };
     } in
-    let given : Removed c.compact.new.self c.self.inside.here c.remove-self-inside.new.self c.remove-self-inside.result = record { same = c.remove-self-inside.ensures.same; given = c.remove-self-inside.ensures.given; have = c.remove-self-inside.ensures.have } in
-    λ events stands. query_state_stands c.self.inside.schema.value c.self.inside.query c.self.inside.matches c.compact.new.self c.self.inside.here c.args.self.now c.args.number (to_z w128 (of_z w128 c.low_after-low.result)) c.args.clock.now.last (map f c.args.cursors.now) (map f c.compact.new.cursors) i low left c.remove-self-inside.new.self c.remove-self-inside.result given events (inner_with c.self.inside.schema.value c.self.inside.query c.self.inside.matches c.self.inside.here c.args.self.now i c.args.clock.now.last events stands)
+    let given : Removed c.compact.new.self c.self.inside.here c.shrink.new.self c.remove-self-inside.result = subst (λ (h : OpenMatches). Removed c.compact.new.self c.self.inside.here h c.remove-self-inside.result) (sym c.shrink.ensures) (record { same = c.remove-self-inside.ensures.same; given = c.remove-self-inside.ensures.given; have = c.remove-self-inside.ensures.have }) in
+    λ events stands. query_state_stands c.self.inside.schema.value c.self.inside.query c.self.inside.matches c.compact.new.self c.self.inside.here c.args.self.now c.args.number (to_z w128 (of_z w128 c.low_after-low.result)) c.args.clock.now.last (map f c.args.cursors.now) (map f c.compact.new.cursors) i low left c.shrink.new.self c.remove-self-inside.result given events (inner_with c.self.inside.schema.value c.self.inside.query c.self.inside.matches c.self.inside.here c.args.self.now i c.args.clock.now.last events stands)
 
 pub returns-clause-compacted : goal.returns-clause-compacted
 returns-clause-compacted g c =
@@ -90,10 +90,10 @@ returns-clause-compacted g c =
       lists = c.compact.ensures.lists;
       cursors = record { count = m ∙ (c.compact.ensures.count ∙ sym n); each = λ k d lt. c.compact.ensures.cursors k d (omega arith) };
     } in
-    let given : Removed c.compact.new.self c.self.inside.here c.remove-self-inside.new.self c.remove-self-inside.result = record { same = c.remove-self-inside.ensures.same; given = c.remove-self-inside.ensures.given; have = c.remove-self-inside.ensures.have } in
+    let given : Removed c.compact.new.self c.self.inside.here c.shrink.new.self c.remove-self-inside.result = subst (λ (h : OpenMatches). Removed c.compact.new.self c.self.inside.here h c.remove-self-inside.result) (sym c.shrink.ensures) (record { same = c.remove-self-inside.ensures.same; given = c.remove-self-inside.ensures.given; have = c.remove-self-inside.ensures.have }) in
     let e = c.requires.events in
     let s = inner_stands c.self.inside.schema.value c.self.inside.query c.self.inside.matches c.self.inside.here c.args.self.now i e.events e.stands in
-    query_state_compacted c.self.inside.schema.value c.self.inside.query c.self.inside.matches c.compact.new.self c.self.inside.here c.args.self.now c.args.number (to_z w128 (of_z w128 c.low_after-low.result)) c.args.clock.now.last (map f c.args.cursors.now) (map f c.compact.new.cursors) i low left c.remove-self-inside.new.self c.remove-self-inside.result given s.0 e.events s.1
+    query_state_compacted c.self.inside.schema.value c.self.inside.query c.self.inside.matches c.compact.new.self c.self.inside.here c.args.self.now c.args.number (to_z w128 (of_z w128 c.low_after-low.result)) c.args.clock.now.last (map f c.args.cursors.now) (map f c.compact.new.cursors) i low left c.shrink.new.self c.remove-self-inside.result given s.0 e.events s.1
 
 pub returns-clause-fewer : goal.returns-clause-fewer
 returns-clause-fewer g c =
@@ -108,8 +108,8 @@ returns-clause-fewer g c =
       lists = c.compact.ensures.lists;
       cursors = record { count = m ∙ (c.compact.ensures.count ∙ sym n); each = λ k d lt. c.compact.ensures.cursors k d (omega arith) };
     } in
-    let given : Removed c.compact.new.self c.self.inside.here c.remove-self-inside.new.self c.remove-self-inside.result = record { same = c.remove-self-inside.ensures.same; given = c.remove-self-inside.ensures.given; have = c.remove-self-inside.ensures.have } in
-    query_state_fewer c.self.inside.schema.value c.self.inside.query c.self.inside.matches c.compact.new.self c.self.inside.here c.args.self.now c.args.number (to_z w128 (of_z w128 c.low_after-low.result)) c.args.clock.now.last (map f c.args.cursors.now) (map f c.compact.new.cursors) i low left c.remove-self-inside.new.self c.remove-self-inside.result given
+    let given : Removed c.compact.new.self c.self.inside.here c.shrink.new.self c.remove-self-inside.result = subst (λ (h : OpenMatches). Removed c.compact.new.self c.self.inside.here h c.remove-self-inside.result) (sym c.shrink.ensures) (record { same = c.remove-self-inside.ensures.same; given = c.remove-self-inside.ensures.given; have = c.remove-self-inside.ensures.have }) in
+    query_state_fewer c.self.inside.schema.value c.self.inside.query c.self.inside.matches c.compact.new.self c.self.inside.here c.args.self.now c.args.number (to_z w128 (of_z w128 c.low_after-low.result)) c.args.clock.now.last (map f c.args.cursors.now) (map f c.compact.new.cursors) i low left c.shrink.new.self c.remove-self-inside.result given
 
 pub returns-clause-steps : goal.returns-clause-steps
 returns-clause-steps g c =

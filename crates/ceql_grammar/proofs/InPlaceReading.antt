@@ -1,7 +1,7 @@
 -- What reading functions that put values behind a list need, over plain values.
-use Rattle.std.proofs.Common.{◌≡◌, sym, ◌∙◌, ap, subst, ℕ, List, [], ◌∷◌, ◌++◌, map, length, length-append, arith, ◌≤◌, Bor}
+use Rattle.std.proofs.Common.{◌≡◌, refl, sym, ◌∙◌, ap, subst, ℕ, List, [], ◌∷◌, ◌++◌, map, length, length-append, arith, ◌≤◌, Bor}
 use Rattle.std.proofs.lemmas.List.{length-map}
-use Rattle.std.specs.Prelude.{Some, None, Result, Ok, Err}
+use Rattle.std.specs.Prelude.{Option, Some, None, Result, Ok, Err}
 use Rattle.cer_base.specs.declared.OrMemory.{OrMemory}
 use Rattle.cer_base.specs.declared.OrMemory.TheVariants as wanted
 use Rattle.ceql_lexer.specs.declared.Token.{Token}
@@ -10,7 +10,7 @@ use Rattle.ceql_grammar.specs.PartlyRead.{with_front}
 use Rattle.ceql_grammar.specs.WordsAndSigns.{is}
 use Rattle.ceql_grammar.specs.RuleReaders.{closed, led_or, mark_token, no_value}
 use Rattle.ceql_grammar.specs.RuleForms.{Out, TokenReader, ◌>>=◌, bind, map_read, when, first_token}
-use Rattle.ceql_grammar.proofs.LoopExits.{fails_as, bind_fails, change_fails, second_fails, front_fails, both_same}
+use Rattle.ceql_grammar.proofs.LoopExits.{fails_as, bind_fails, change_fails, second_fails, front_fails, both_same, map_behind}
 
 abbrev pub Rest : Type 0
 Rest = Result (Bor (List Token)) (OrMemory (Bor (List Token)))
@@ -21,6 +21,10 @@ behind_exit view old new r x e p q out h = subst (λ r. ReadsBehind view old new
 
 pub onto_exit : {X Y : Type 0} (view : X → Y) (new : List X) (r : Rest) (x e : OrMemory (Bor (List Token))) → r ≡ Err x → x ≡ e → (out : Out (List Y)) → StopsAs e out → ReadsOnto view new r out
 onto_exit view new r x e p q out h = subst (λ r. ReadsOnto view new r out) (sym (p ∙ ap (λ e. Err e) q)) h
+
+-- a value is put behind the others
+pub added : {X Y : Type 0} (view : X → Y) (old new : List X) (x : X) → new ≡ old ++ x ∷ [] → map view new ≡ map view old ++ view x ∷ []
+added view old new x e = ap (map view) e ∙ map_behind view old x
 
 -- a value is read behind none
 pub only_behind : {X Y : Type 0} (view : X → Y) (old new : List X) (y : Y) → old ≡ [] → map view new ≡ map view old ++ y ∷ [] → map view new ≡ y ∷ []
@@ -58,6 +62,44 @@ module _ {X Y : Type 0} (view : X → Y) (old new : List X) (opening closing : L
 -- the only value of a list, changed
 pub changed_alone : {Y Z : Type 0} (f : Y → Z) (joined : List Y → Y) → ((y : Y) → joined (y ∷ []) ≡ y) → (r : TokenReader Y) (ts us : List Token) (y : Y) (ys : List Y) → ys ≡ y ∷ [] → r ts ≡ Ok (y, us) → map_read f r ts ≡ Ok (f (joined ys), us)
 changed_alone f joined is r ts us y ys e k = ap (λ o. o >>= λ p. Ok (f p.0, p.1)) k ∙ ap (λ z. Ok (f z, us)) (sym (ap joined e ∙ is y))
+
+-- what is read between two signs, changed
+module _ {X Y : Type 0} (f : X → Y) (r : TokenReader X) (s : TokenReader Y) (opening closing : List ℕ) (ts : List Token) where
+  changed_out : (o : Out X) → (o >>= λ p. map_read (λ _. f p.0) (mark_token closing) p.1) ≡ ((o >>= λ p. Ok (f p.0, p.1)) >>= λ q. map_read (λ _. q.0) (mark_token closing) q.1)
+  changed_out (Ok p) = refl
+  changed_out (Err ys) = refl
+
+  changed_when : (o : Option (Unit {0} × List Token)) → when o (λ _. bind r (λ x. map_read (λ _. f x) (mark_token closing))) (s ts) ≡ when o (λ _. closed closing (map_read f r)) (s ts)
+  changed_when (Some q) = changed_out (r q.1)
+  changed_when None = refl
+
+  pub changed_inside : led_or opening (bind r (λ x. map_read (λ _. f x) (mark_token closing))) s ts ≡ led_or opening (closed closing (map_read f r)) s ts
+  changed_inside = changed_when (first_token (is opening) no_value ts)
+
+-- two values, changed as a pair
+module _ {X W Z : Type 0} (f : X × W → Z) (r : TokenReader X) (m : TokenReader W) (ts : List Token) where
+  second_out : (x : X) (o : Out W) → ((o >>= λ p. Ok ((x, p.0), p.1)) >>= λ q. Ok (f q.0, q.1)) ≡ (o >>= λ p. Ok (f (x, p.0), p.1))
+  second_out x (Ok p) = refl
+  second_out x (Err ys) = refl
+
+  first_out : (o : Out X) → ((o >>= λ p. map_read (λ w. (p.0, w)) m p.1) >>= λ q. Ok (f q.0, q.1)) ≡ (o >>= λ p. map_read (λ w. f (p.0, w)) m p.1)
+  first_out (Ok p) = second_out p.0 (m p.1)
+  first_out (Err ys) = refl
+
+  pub changed_pair : map_read f (bind r (λ x. map_read (λ w. (x, w)) m)) ts ≡ bind r (λ x. map_read (λ w. f (x, w)) m) ts
+  changed_pair = first_out (r ts)
+
+-- a first value, which stands alone in a list, and a second one
+module _ {X W Z : Type 0} (r : TokenReader X) (m : TokenReader W) (join : X → W → Z) (joined : List X → X) (is : (x : X) → joined (x ∷ []) ≡ x) (x : X) (xs : List X) (ts ys : List Token) (k : r ts ≡ Ok (x, ys)) (l : xs ≡ x ∷ []) where
+  paired : bind r (λ x. map_read (join x) m) ts ≡ map_read (join (joined xs)) m ys
+  paired = ap (λ o. o >>= λ p. map_read (join p.0) m p.1) k ∙ ap (λ x. map_read (join x) m ys) (sym (ap joined l ∙ is x))
+
+  pub pair_goes : (w : W) (zs : List Token) → m ys ≡ Ok (w, zs) → bind r (λ x. map_read (join x) m) ts ≡ Ok (join (joined xs) w, zs)
+  pair_goes w zs h = paired ∙ ap (λ o. o >>= λ p. Ok (join (joined xs) p.0, p.1)) h
+
+-- the second one is read by a call that puts both behind a list
+pub tail_goes : {V X W Z : Type 0} (view : V → Z) (old new : List V) (q : Rest) (r : TokenReader X) (m : TokenReader W) (join : X → W → Z) (joined : List X → X) → ((x : X) → joined (x ∷ []) ≡ x) → (x : X) (xs : List X) (ts ys : List Token) → r ts ≡ Ok (x, ys) → xs ≡ x ∷ [] → ReadsBehind view old new q (map_read (join (joined xs)) m ys) → ReadsBehind view old new q (bind r (λ x. map_read (join x) m) ts)
+tail_goes view old new q r m join joined is x xs ts ys k l h = subst (ReadsBehind view old new q) (sym (paired r m join joined is x xs ts ys k l)) h
 
 -- a first value and the list after it, as one value
 module _ {X Z : Type 0} (r : TokenReader X) (m : TokenReader (List X)) (join : X → List X → Z) (x : X) (xs : List X) (ts ys : List Token) (k : r ts ≡ Ok (x, ys)) (l : xs ≡ x ∷ []) where

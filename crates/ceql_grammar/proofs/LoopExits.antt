@@ -29,7 +29,7 @@ all_read (t ∷ ts) e = absurd (omega arith)
 pub fails_as : {Y : Type 0} (e : OrMemory (Bor (List Token))) (a b : Out Y) → a ≡ b → StopsAs e a → StopsAs e b
 fails_as e a b p h = subst (StopsAs e) p h
 
-map_behind : {X Y : Type 0} (f : X → Y) (xs : List X) (x : X) → map f (xs ++ x ∷ []) ≡ map f xs ++ f x ∷ []
+pub map_behind : {X Y : Type 0} (f : X → Y) (xs : List X) (x : X) → map f (xs ++ x ∷ []) ≡ map f xs ++ f x ∷ []
 map_behind f [] x = refl
 map_behind f (y ∷ xs) x = ap (λ l. f y ∷ l) (map_behind f xs x)
 

@@ -1,19 +1,21 @@
 //! Formulas: names with postfixes, sequences, alternatives and filters.
+//!
+//! What is read is put behind a list, as filters are.
 
-ghost use Rattle.ceql_grammar.specs.ReadResults.{ReadsAs, SkipsTo};
+ghost use Rattle.ceql_grammar.specs.ReadResults.{ReadsAs, ReadsBehind, ReadsOnto, SkipsTo};
 ghost use Rattle.ceql_grammar.specs.MemberLists.{any_formula_of};
 ghost use Rattle.ceql_grammar.specs.PartlyRead.{with_front};
 ghost use Rattle.ceql_grammar.specs.Formulas.{chain_tree, is_link, post_of, under_of};
-ghost use Rattle.ceql_grammar.specs.RuleReaders.{base, chain_step, either_step, formula, is_postfix, is_tight, more_chains, more_links, post_step, postfix, postfixes, parts_tree, word_postfix};
+ghost use Rattle.ceql_grammar.specs.RuleReaders.{base, chain_step, either_step, formula, is_postfix, is_tight, more_chains, more_filters, more_links, name, post_step, postfix, postfixes, parts_tree, word_postfix};
 ghost use Rattle.ceql_grammar.specs.RuleForms.{map_read, first_token, starts};
-ghost use Rattle.ceql_grammar.specs.Trees.{filter_tree, formula_tree};
+ghost use Rattle.ceql_grammar.specs.Trees.{filter_tree, formula_tree, of_type};
 ghost use Rattle.ceql_grammar.specs.LinkViews.{link_view, next_of, tight_of};
 ghost use Rattle.std.specs.List.{list_any};
-ghost use Rattle.std.specs.Prelude.{◌≡◌, ◌<◌, ◌≤◌, ◌∷◌, IfOk, IfSome, length, map};
+ghost use Rattle.std.specs.Prelude.{◌≡◌, ◌<◌, ◌≤◌, ◌∷◌, ◌++◌, [], IfOk, IfSome, OnOk, length, map};
 
 use crate::filters::filters;
 use crate::names::bracketed_names;
-use crate::tokens::{Read, closed, expect, is, name, skip};
+use crate::tokens::{Read, Rest, expect, is, name, skip};
 use cel_terms::{Filter, Formula, Link, Postfix};
 use ceql_lexer::Token;
 use cer_base::Memory;
@@ -166,108 +168,199 @@ fn link_sign<'a>(tokens: &'a [Token]) -> Option<(bool, &'a [Token])>
     }
 }
 
+/// The name of a type, put behind the formulas.
+#[inline(never)]
+fn add_type<'a>(alloc: Global, formulas: &mut Vec<Formula>, tokens: &'a [Token]) -> Rest<'a>
+    ensures value { ReadsBehind formula_tree formulas.old.items formulas.new.items result
+        (map_read of_type name tokens.now) }
+    ensures shorter { IfOk result (λ rest. length rest.now < length tokens.now) }
+{
+    let (name, rest) = name(alloc, tokens)?;
+    formulas.push(Formula::Of(name))?;
+    Ok(rest)
+}
+
+/// The only one of the bases with the postfixes that are read, put behind the formulas.
+#[inline(never)]
+fn add_post<'a>(
+    alloc: Global,
+    formulas: &mut Vec<Formula>,
+    bases: Vec<Formula>,
+    tokens: &'a [Token],
+) -> Rest<'a>
+    requires { 0 < length bases.items }
+    ensures value { ReadsBehind formula_tree formulas.old.items formulas.new.items result
+        (map_read (post_of (any_formula_of (map formula_tree bases.items))) postfixes tokens.now) }
+    ensures no_longer { IfOk result (λ rest. length rest.now ≤ length tokens.now) }
+{
+    let (postfixes, rest) = postfixes(alloc, tokens)?;
+    formulas.push(post_of(alloc, any_formula_of(bases), postfixes)?)?;
+    Ok(rest)
+}
+
+/// Puts the link of the only one of the formulas behind the links.
+#[inline(never)]
+fn add_link(links: &mut Vec<Link>, tight: bool, nexts: Vec<Formula>) -> Result<(), Memory>
+    requires { 0 < length nexts.items }
+    ensures { OnOk result (map link_view links.new.items
+        ≡ map link_view links.old.items ++ (tight, any_formula_of (map formula_tree nexts.items)) ∷ []) }
+{
+    let next = any_formula_of(nexts);
+    Ok(links.push(Link { tight, next })?)
+}
+
+/// Puts the only one of the first formulas, with those that follow it, behind the formulas.
+#[inline(never)]
+fn add_chain(
+    alloc: Global,
+    formulas: &mut Vec<Formula>,
+    firsts: Vec<Formula>,
+    links: Vec<Link>,
+) -> Result<(), Memory>
+    requires { 0 < length firsts.items }
+    ensures { OnOk result (map formula_tree formulas.new.items
+        ≡ map formula_tree formulas.old.items
+        ++ chain_tree (any_formula_of (map formula_tree firsts.items)) (map link_view links.items) ∷ []) }
+{
+    Ok(formulas.push(chain_tree(alloc, any_formula_of(firsts), links)?)?)
+}
+
+/// Puts the only one of the members, or all of them joined by OR, behind the formulas.
+#[inline(never)]
+fn add_any(formulas: &mut Vec<Formula>, members: Vec<Formula>) -> Result<(), Memory>
+    requires { 0 < length members.items }
+    ensures { OnOk result (map formula_tree formulas.new.items
+        ≡ map formula_tree formulas.old.items ++ any_formula_of (map formula_tree members.items) ∷ []) }
+{
+    Ok(formulas.push(any_formula_of(members))?)
+}
+
+/// The only one of the bases under the filters that are read, put behind the formulas.
+#[inline(never)]
+fn add_under<'a>(
+    alloc: Global,
+    formulas: &mut Vec<Formula>,
+    bases: Vec<Formula>,
+    tokens: &'a [Token],
+) -> Rest<'a>
+    requires { 0 < length bases.items }
+    ensures value { ReadsBehind formula_tree formulas.old.items formulas.new.items result
+        (map_read (under_of (any_formula_of (map formula_tree bases.items))) more_filters tokens.now) }
+    ensures no_longer { IfOk result (λ rest. length rest.now ≤ length tokens.now) }
+{
+    let (filters, rest) = filters(alloc, tokens)?;
+    formulas.push(under_of(alloc, any_formula_of(bases), filters)?)?;
+    Ok(rest)
+}
+
 /// The name of a type, or a parenthesis.
 #[cycle(formula)]
-#[tactic(auto, unfolding(crate::specs::RuleReaders::base))]
-fn base<'a>(alloc: Global, tokens: &'a [Token]) -> Read<'a, Formula>
-    ensures value { ReadsAs formula_tree result (base formula tokens.now) }
-    ensures shorter { IfOk result (λ p. length p.1.now < length tokens.now) }
+fn base<'a>(alloc: Global, formulas: &mut Vec<Formula>, tokens: &'a [Token]) -> Rest<'a>
+    ensures value { ReadsBehind formula_tree formulas.old.items formulas.new.items result
+        (base formula tokens.now) }
+    ensures shorter { IfOk result (λ rest. length rest.now < length tokens.now) }
 {
     match skip(tokens, b"(") {
         Some(inside) => {
-            let (formula, rest) = formula(alloc, inside)?;
-            closed(formula, rest, b")")
+            let behind_inside = add_formula(alloc, formulas, inside)?;
+            expect(behind_inside, b")")
         }
-        None => {
-            let (name, rest) = name(alloc, tokens)?;
-            Ok((Formula::Of(name), rest))
-        }
+        None => add_type(alloc, formulas, tokens),
     }
 }
 
 /// A name or a parenthesis with its postfixes.
 #[cycle(formula)]
-#[tactic(auto, unfolding(crate::specs::RuleReaders::post_step))]
-fn post<'a>(alloc: Global, tokens: &'a [Token]) -> Read<'a, Formula>
-    ensures value { ReadsAs formula_tree result (post_step formula tokens.now) }
-    ensures shorter { IfOk result (λ p. length p.1.now < length tokens.now) }
+fn post<'a>(alloc: Global, formulas: &mut Vec<Formula>, tokens: &'a [Token]) -> Rest<'a>
+    ensures value { ReadsBehind formula_tree formulas.old.items formulas.new.items result
+        (post_step formula tokens.now) }
+    ensures shorter { IfOk result (λ rest. length rest.now < length tokens.now) }
 {
-    let (base, rest) = base(alloc, tokens)?;
-    let (postfixes, rest) = postfixes(alloc, rest)?;
-    Ok((post_of(alloc, base, postfixes)?, rest))
+    let mut bases = Vec::new(alloc);
+    let behind_base = base(alloc, &mut bases, tokens)?;
+    add_post(alloc, formulas, bases, behind_base)
 }
 
 /// The formulas after a first one, a `;` or a `:` before each.
 #[cycle(formula)]
-fn more_links<'a>(alloc: Global, tokens: &'a [Token]) -> Read<'a, Vec<Link>>
-    ensures value { ReadsAs (λ v. map link_view v.items) result (more_links formula tokens.now) }
-    ensures no_longer { IfOk result (λ p. length p.1.now ≤ length tokens.now) }
+fn more_links<'a>(alloc: Global, links: &mut Vec<Link>, tokens: &'a [Token]) -> Rest<'a>
+    ensures value { ReadsOnto link_view links.new.items result
+        (with_front (map link_view links.old.items) (more_links formula tokens.now)) }
+    ensures no_longer { IfOk result (λ rest. length rest.now ≤ length tokens.now) }
 {
-    let mut links = Vec::new(alloc);
     let mut rest = tokens;
     while let Some((tight, later)) = link_sign(rest) {
-        let (next, behind_next) = post(alloc, later)?;
-        links.push(Link { tight, next })?;
+        let mut nexts = Vec::new(alloc);
+        let behind_next = post(alloc, &mut nexts, later)?;
+        add_link(links, tight, nexts)?;
         rest = behind_next;
     }
-    Ok((links, rest))
+    Ok(rest)
 }
 
 /// Formulas in sequence.
 #[cycle(formula)]
-#[tactic(auto, unfolding(crate::specs::RuleReaders::chain_step))]
-fn chain<'a>(alloc: Global, tokens: &'a [Token]) -> Read<'a, Formula>
-    ensures value { ReadsAs formula_tree result (chain_step formula tokens.now) }
-    ensures shorter { IfOk result (λ p. length p.1.now < length tokens.now) }
+fn chain<'a>(alloc: Global, formulas: &mut Vec<Formula>, tokens: &'a [Token]) -> Rest<'a>
+    ensures value { ReadsBehind formula_tree formulas.old.items formulas.new.items result
+        (chain_step formula tokens.now) }
+    ensures shorter { IfOk result (λ rest. length rest.now < length tokens.now) }
 {
-    let (first, rest) = post(alloc, tokens)?;
-    let (links, rest) = more_links(alloc, rest)?;
-    Ok((chain_tree(alloc, first, links)?, rest))
+    let mut firsts = Vec::new(alloc);
+    let behind_first = post(alloc, &mut firsts, tokens)?;
+    let mut links = Vec::new(alloc);
+    let rest = more_links(alloc, &mut links, behind_first)?;
+    add_chain(alloc, formulas, firsts, links)?;
+    Ok(rest)
 }
 
 /// The chains after those that were read, an OR before each.
 #[cycle(formula)]
-fn more_chains<'a>(
-    alloc: Global,
-    members: Vec<Formula>,
-    tokens: &'a [Token],
-) -> Read<'a, Vec<Formula>>
-    ensures value { ReadsAs (λ v. map formula_tree v.items) result
-        (with_front (map formula_tree members.items) (more_chains formula tokens.now)) }
-    ensures no_longer { IfOk result (λ p. length p.1.now ≤ length tokens.now) }
-    ensures more { IfOk result (λ p. length members.items ≤ length p.0.items) }
+fn more_chains<'a>(alloc: Global, members: &mut Vec<Formula>, tokens: &'a [Token]) -> Rest<'a>
+    ensures value { ReadsOnto formula_tree members.new.items result
+        (with_front (map formula_tree members.old.items) (more_chains formula tokens.now)) }
+    ensures no_longer { IfOk result (λ rest. length rest.now ≤ length tokens.now) }
+    ensures more { IfOk result (λ _. length members.old.items ≤ length members.new.items) }
 {
-    let mut members = members;
     let mut rest = tokens;
     while let Some(later) = skip(rest, b"OR") {
-        let (next, behind_next) = chain(alloc, later)?;
-        members.push(next)?;
+        let behind_next = chain(alloc, members, later)?;
         rest = behind_next;
     }
-    Ok((members, rest))
+    Ok(rest)
 }
 
 /// Chains joined by OR.
 #[cycle(formula)]
-#[tactic(auto, unfolding(crate::specs::RuleReaders::either_step))]
-fn either<'a>(alloc: Global, tokens: &'a [Token]) -> Read<'a, Formula>
-    ensures value { ReadsAs formula_tree result (either_step formula tokens.now) }
-    ensures shorter { IfOk result (λ p. length p.1.now < length tokens.now) }
+fn either<'a>(alloc: Global, formulas: &mut Vec<Formula>, tokens: &'a [Token]) -> Rest<'a>
+    ensures value { ReadsBehind formula_tree formulas.old.items formulas.new.items result
+        (either_step formula tokens.now) }
+    ensures shorter { IfOk result (λ rest. length rest.now < length tokens.now) }
 {
-    let (first, rest) = chain(alloc, tokens)?;
     let mut members = Vec::new(alloc);
-    members.push(first)?;
-    let (members, rest) = more_chains(alloc, members, rest)?;
-    Ok((any_formula_of(members), rest))
+    let behind_first = chain(alloc, &mut members, tokens)?;
+    let rest = more_chains(alloc, &mut members, behind_first)?;
+    add_any(formulas, members)?;
+    Ok(rest)
 }
 
 /// Alternatives and their filters.
 #[cycle(formula)]
+fn add_formula<'a>(alloc: Global, formulas: &mut Vec<Formula>, tokens: &'a [Token]) -> Rest<'a>
+    ensures value { ReadsBehind formula_tree formulas.old.items formulas.new.items result
+        (map_read parts_tree formula tokens.now) }
+    ensures shorter { IfOk result (λ rest. length rest.now < length tokens.now) }
+{
+    let mut bases = Vec::new(alloc);
+    let behind_base = either(alloc, &mut bases, tokens)?;
+    add_under(alloc, formulas, bases, behind_base)
+}
+
+/// Alternatives and their filters, as one formula.
 pub fn formula<'a>(alloc: Global, tokens: &'a [Token]) -> Read<'a, Formula>
     ensures value { ReadsAs formula_tree result (map_read parts_tree formula tokens.now) }
     ensures shorter { IfOk result (λ p. length p.1.now < length tokens.now) }
 {
-    let (formula, rest) = either(alloc, tokens)?;
-    let (filters, rest) = filters(alloc, rest)?;
-    Ok((under_of(alloc, formula, filters)?, rest))
+    let mut formulas = Vec::new(alloc);
+    let rest = add_formula(alloc, &mut formulas, tokens)?;
+    Ok((any_formula_of(formulas), rest))
 }

@@ -46,12 +46,6 @@ change_fails f r ts (wanted.Fault rest) k = ap (λ o. o >>= λ x. Ok (f x.0, x.1
 pub second_fails : {X Y : Type 0} (r : TokenReader X) (f : X → TokenReader Y) (ts ys : List Token) (x : X) (e : OrMemory (Bor (List Token))) → r ts ≡ Ok (x, ys) → StopsAs e (f x ys) → StopsAs e (bind r f ts)
 second_fails r f ts ys x e k h = fails_as e (f x ys) (bind r f ts) (sym (ap (λ o. o >>= λ p. f p.0 p.1) k)) h
 
--- two parts, the values of which are joined by the whole
-pub two_go : {X Y Z : Type 0} (r : TokenReader X) (s : TokenReader Y) (f : X × Y → Z) (whole : TokenReader (X × Y)) (ts ys zs : List Token) (x : X) (y : Y) (z : Z) → whole ts ≡ bind r (λ x. map_read (λ y. (x, y)) s) ts → r ts ≡ Ok (x, ys) → s ys ≡ Ok (y, zs) → z ≡ f (x, y) → map_read f whole ts ≡ Ok (z, zs)
-two_go r s f whole ts ys zs x y z w h k e =
-    ap (λ o. o >>= λ p. Ok (f p.0, p.1)) (w ∙ ap (λ o. o >>= λ p. map_read (λ y. (p.0, y)) s p.1) h ∙ ap (λ o. o >>= λ q. Ok ((x, q.0), q.1)) k)
-    ∙ ap (λ z. Ok (z, zs)) (sym e)
-
 pub front_fails : {X : Type 0} (made : List X) (out : Out (List X)) (zs : List Token) → with_front made out ≡ Err zs → out ≡ Err zs
 front_fails made (Ok p) zs k = cc
 front_fails made (Err ys) zs k = k
@@ -68,24 +62,6 @@ pairs_same p q e = cc
 pub both_same : {X : Type 0} (a b : X) (xs ys : List Token) → outcome a xs ≡ outcome b ys → (a ≡ b) × (xs ≡ ys)
 both_same a b xs ys e = let k = pairs_same (a, xs) (b, ys) e in (ap (λ p. p.0) k, ap (λ p. p.1) k)
 
--- a first item and the list after it, as one value
-module _ {V X Z : Type 0} (view : V → X) (r : TokenReader X) (m : TokenReader (List X)) (join : X → List X → Z) (v : V) (vs : List V) (ts ys : List Token) where
-  joined_at : (o : Out X) → o ≡ Ok (view v, ys) → (o >>= λ x. map_read (join x.0) m x.1) ≡ map_read (join (view v)) m ys
-  joined_at o e = ap (λ o. o >>= λ x. map_read (join x.0) m x.1) e
-
-  pub join_fails : (e : OrMemory (Bor (List Token))) → r ts ≡ Ok (view v, ys) → vs ≡ v ∷ [] → StopsAs e (with_front (map view vs) (m ys)) → StopsAs e (bind r (λ x. map_read (join x) m) ts)
-  join_fails wanted.Memory k l h = tt
-  join_fails (wanted.Fault rest) k l h = joined_at (r ts) k ∙ ap (λ o. o >>= λ q. Ok (join (view v) q.0, q.1)) (front_fails (map view vs) (m ys) rest.now h)
-
-  join_out : (o : Out (List X)) (us : List V) (zs : List Token) (joined : List X → Z) → ((x : X) (xs : List X) → join x xs ≡ joined (x ∷ xs)) → with_front (view v ∷ []) o ≡ Ok (map view us, zs) → (o >>= λ q. Ok (join (view v) q.0, q.1)) ≡ Ok (joined (map view us), zs)
-  join_out (Ok q) us zs joined is h =
-      let k = both_same (view v ∷ q.0) (map view us) q.1 zs h in
-      ap (λ z. Ok (z, q.1)) (is (view v) q.0 ∙ ap joined k.0) ∙ ap (λ zs. Ok (joined (map view us), zs)) k.1
-  join_out (Err ys) us zs joined is h = cc
-
-  pub join_goes : (us : List V) (zs : List Token) (joined : List X → Z) (z : Z) → ((x : X) (xs : List X) → join x xs ≡ joined (x ∷ xs)) → r ts ≡ Ok (view v, ys) → vs ≡ v ∷ [] → with_front (map view vs) (m ys) ≡ Ok (map view us, zs) → z ≡ joined (map view us) → bind r (λ x. map_read (join x) m) ts ≡ Ok (z, zs)
-  join_goes us zs joined z is k l h e = joined_at (r ts) k ∙ join_out (m ys) us zs joined is (ap (λ l. with_front (map view l) (m ys)) (sym l) ∙ h) ∙ ap (λ z. Ok (z, zs)) (sym e)
-
 -- nothing in front of what is read
 front_empty : {X : Type 0} (out : Out (List X)) → with_front [] out ≡ out
 front_empty (Ok p) = refl
@@ -98,10 +74,6 @@ module _ {X Y : Type 0} (p : Test) (f : Token → X) (g : X → TokenReader Y) (
   pub turn_fails : (made : List Y) (ts : List Token) (total : Out (List Y)) (x : X) (us : List Token) (e : OrMemory (Bor (List Token))) → with_front made (many p (bind (one_token p f) g) ts) ≡ total → first_token p f ts ≡ Some (x, us) → StopsAs e (g x us) → StopsAs e total
   turn_fails made ts total x us wanted.Memory i s k = tt
   turn_fails made ts total x us (wanted.Fault rest) i s k = sym i ∙ fails_led p f g h made ts x us rest.now s k
-
-  pub turn_goes : {Z : Type 0} (view : Z → Y) (made made' : List Z) (ts : List Token) (total : Out (List Y)) (x : X) (us : List Token) (z : Z) (ys : List Token) → with_front (map view made) (many p (bind (one_token p f) g) ts) ≡ total → first_token p f ts ≡ Some (x, us) → g x us ≡ Ok (view z, ys) → made' ≡ made ++ z ∷ [] → with_front (map view made') (many p (bind (one_token p f) g) ys) ≡ total
-  turn_goes view made made' ts total x us z ys i s k e =
-      ap (λ l. with_front (map view l) (many p (bind (one_token p f) g) ys)) e ∙ ap (λ l. with_front l (many p (bind (one_token p f) g) ys)) (map_behind view made z) ∙ sym (goes_led p f g h (map view made) ts x us (view z) ys s k) ∙ i
 
   pub turn_goes_plain : (made made' : List Y) (ts : List Token) (total : Out (List Y)) (x : X) (us : List Token) (z : Y) (ys : List Token) → with_front made (many p (bind (one_token p f) g) ts) ≡ total → first_token p f ts ≡ Some (x, us) → g x us ≡ Ok (z, ys) → made' ≡ made ++ z ∷ [] → with_front made' (many p (bind (one_token p f) g) ys) ≡ total
   turn_goes_plain made made' ts total x us z ys i s k e = ap (λ l. with_front l (many p (bind (one_token p f) g) ys)) e ∙ sym (goes_led p f g h made ts x us z ys s k) ∙ i

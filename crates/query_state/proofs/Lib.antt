@@ -5,6 +5,7 @@ pub mod Clocks
 mod Discovered
 mod Giving
 mod AtFirst
+mod Lacking
 mod Marked
 mod Prepare
 mod Worked

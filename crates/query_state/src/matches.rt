@@ -1,6 +1,6 @@
 //! The open matches of a query, key by key.
 
-ghost use Rattle.std.specs.Prelude.{◌≡◌, ℕ, ◌+◌, ◌-◌, ◌*◌, ◌<◌, ◌≤◌, ◌⊎◌, false, List, [], ◌∷◌, ◌++◌, length, map, get_or, All, Some, slice_get, slice_set, slice_index_or, IfOk, OnOk, OnErr, IfNone, MatchOption, IfSome, true};
+ghost use Rattle.std.specs.Prelude.{◌≡◌, ℕ, ◌+◌, ◌-◌, ◌*◌, ◌<◌, ◌≤◌, ◌⊎◌, false, List, [], ◌∷◌, ◌++◌, length, map, get_or, All, Contains, Some, slice_get, slice_set, slice_index_or, IfOk, OnOk, OnErr, IfNone, MatchOption, IfSome, true};
 ghost use Rattle.cer_base.specs.Bits.{room_for};
 ghost use Rattle.cer_base.specs.Nodes.{AreInStep, WellFormed};
 ghost use Rattle.cer_base.specs.declared.node.Node.TheVariants.{Bottom};
@@ -10,6 +10,7 @@ ghost use Rattle.stream_schema.specs.declared.Value.{Value as Datum};
 ghost use Rattle.event_update.specs.ActiveLists.{keys};
 ghost use Rattle.event_update.specs.Dormancy.{HasNoReader, AreDormant, AreNoOp};
 ghost use Rattle.event_update.specs.declared.Staged.TheVariants.{Unchanged};
+ghost use Rattle.partition_table.specs.Keys.{are_at};
 ghost use Rattle.query_standing.specs.Kept.{Rows};
 ghost use Rattle.event_update.specs.Update.{rows_after, work_bound};
 ghost use Rattle.tecs_enumerate.specs.Remaining.{CursorState, rest, recent_of, Fits};
@@ -167,6 +168,14 @@ impl Matches {
         ensures { IfSome result (HasKeyThere self.now places.now values.now) }
     {
         self.keys.find(places, values)
+    }
+
+    /// Whether the key of the values at the places is known not to be there, without a search.
+    pub fn lacks(&self, places: &[u64], values: &[Value]) -> bool
+        ensures { result ≡ true → (key : List Datum) → are_at key places.now values.now ≡ true
+            → Contains self.now.keys key → ⊥ }
+    {
+        self.keys.lacks(places, values)
     }
 
     /// Whether the key of no values is known to be the first one.

@@ -1,6 +1,6 @@
 //! The lists of the key that an event has.
 
-ghost use Rattle.std.specs.Prelude.{◌≡◌, ◌+◌, ◌<◌, ◌≤◌, ◌⊎◌, ◌&&◌, true, false, List, [], ◌∷◌, ◌++◌, length, Some, None, slice_get, slice_index_or, IfOk, IfSome, IfNone, OnOk, OnErr, ℕ};
+ghost use Rattle.std.specs.Prelude.{◌≡◌, ◌+◌, ◌<◌, ◌≤◌, ◌⊎◌, ◌&&◌, Bool, true, false, List, [], ◌∷◌, ◌++◌, length, Some, None, slice_get, slice_index_or, IfOk, IfSome, IfNone, OnOk, OnErr, ℕ};
 ghost use Rattle.cer_base.specs.Bits.{has, room_for};
 ghost use Rattle.cer_base.specs.Nodes.{AreInStep, WellFormed};
 ghost use Rattle.cer_base.specs.declared.node.Node.TheVariants.{Bottom};
@@ -78,6 +78,28 @@ fn is_nothing(matches: &Matches, key: &Key, first: &Bits, bits: &Bits) -> bool
     begins_none(first, bits) && matches.has_none_of(key)
 }
 
+/// Whether the event, whose key is not found without a search, has no key, or begins no match while
+/// its key is known not to be there.
+#[inline(always)]
+fn is_nothing_unfound(
+    matches: &Matches,
+    table: &[Option<Places>],
+    event: &Event,
+    first: &Bits,
+    bits: &Bits,
+) -> bool
+    requires room { length first.now ≡ length bits.now }
+    ensures { result ≡ true → (skip_insensitive : Bool) → Stays matches.now
+        (key_there table.now event.now) first.now bits.now skip_insensitive }
+{
+    match places_of(table, event.ty) {
+        Some(places) => {
+            begins_none(first, bits) && matches.lacks(places, event.values.as_slice())
+        }
+        None => true,
+    }
+}
+
 /// What is known of the event, by the set of the leaves that can read it. It changes no list where
 /// it has no key, where no leaf can read it and its key's lists are known to be dormant, or the
 /// automaton is told to be skip-insensitive, where it is known to be a no-op for its key's lists,
@@ -103,7 +125,7 @@ pub fn look(
     }
     match known(matches, table, whole, event) {
         None => {
-            if places_of(table, event.ty).is_none() {
+            if is_nothing_unfound(matches, table, event, first, bits) {
                 return Own::NoOp;
             }
             Own::Unknown

@@ -19,3 +19,6 @@ returns-then-is_nothing_at c =
     let k = c.in-Some.ensures in
     let known : c.is_nothing_at.result ≡ true = search rules in
     one_begins_none c.args.matches.now c.args.table.now c.args.event.now c.args.first.now c.args.bits.now c.args.skip_insensitive k.0 c.in-Some.number k.1 k.2 (c.is_nothing_at.ensures.begins known) (c.is_nothing_at.ensures.none known)
+
+pub returns-then-is_nothing_unfound : goal.returns-then-is_nothing_unfound
+returns-then-is_nothing_unfound c = c.is_nothing_unfound.ensures c.if-is_nothing_unfound.true c.args.skip_insensitive

@@ -15,7 +15,7 @@ use Rattle.cea_determinise.specs.Runs.{agrees}
 use Rattle.cea_compile.specs.declared.followers.Followers.{Followers}
 use Rattle.cea_compile.specs.declared.ends.Ends.{Ends}
 use Rattle.cea_compile.specs.Compiled.{first_set, last_set, follow_set}
-use Rattle.cea_compile.specs.Found.{FollowersHaveRoom, pairs, AreBelow}
+use Rattle.cea_compile.specs.Found.{FollowersHaveRoom, pairs, AreBelow, HasFirst}
 use Rattle.cea_compile.specs.Ended.{AreEndsOf}
 
 either_way : (a b : Bool) → agrees a b ≡ agrees b a
@@ -48,6 +48,15 @@ pub first_part : (xs : List ShapePart) (d : ShapePart) → 0 < length xs → cha
 first_part [] d some = absurd (omega arith)
 first_part (x ∷ xs) d some = refl
 
+-- what a chain may begin with, its first part may
+first_linked : (t : LeafTree ℕ) (ps : List (Bool × LeafTree ℕ)) (k : ℕ) → first_set (linked_to t ps) k ≡ first_set t k
+first_linked t [] k = refl
+first_linked t (p ∷ ps) k = first_linked (sequence p.0 t p.1) ps k
+
+pub first_of_chain : (xs : List ShapePart) (d : ShapePart) → d ≡ get_or xs 0 d → 0 < length xs → (k : ℕ) → first_set (tree_of_shape (out-ShapePart d).part) k ≡ first_set (chain_of (map shape_part xs)) k
+first_of_chain [] d is some k = absurd (omega arith)
+first_of_chain (x ∷ xs) d is some k = ap (λ (p : ShapePart). first_set (shape_part p).1 k) is ∙ sym (first_linked (shape_part x).1 (map shape_part xs) k)
+
 first_then : (pa ft fu l : Bool) → ((pa || ft) || fu) || l ≡ (pa || (ft || (fu || l)))
 first_then true ft fu l = refl
 first_then false true fu l = refl
@@ -67,9 +76,33 @@ joined size tight t u a b c d e f g one two room linked first last = record {
 }
 
 -- a choice with one more
-first_more : (ts : List (LeafTree ℕ)) (t : LeafTree ℕ) (k : ℕ) → first_set (choice_of (ts ++ t ∷ [])) k ≡ (first_set (choice_of ts) k || first_set t k)
+pub first_more : (ts : List (LeafTree ℕ)) (t : LeafTree ℕ) (k : ℕ) → first_set (choice_of (ts ++ t ∷ [])) k ≡ (first_set (choice_of ts) k || first_set t k)
 first_more [] t k = or_nothing (first_set t k)
 first_more (u ∷ us) t k = ap (λ b. first_set u k || b) (first_more us t k) ∙ sym (or_assoc (first_set u k) (first_set (choice_of us) k) (first_set t k))
+
+-- where one more is put in
+put_more : (a b c : Bool) → b || (a || c) ≡ (a || b) || c
+put_more true true c = refl
+put_more true false c = refl
+put_more false true c = refl
+put_more false false c = refl
+
+pub first_with : (xs : List Shape) (i : ℕ) (d : Shape) (old mid new : List Bool) → i < length xs → HasFirst (choice_of (map tree_of_shape (take i xs))) old mid → HasFirst (tree_of_shape (get_or xs i d)) mid new → HasFirst (choice_of (map tree_of_shape (take (i + 1) xs))) old new
+first_with xs i d old mid new less before one = record {
+  members = λ k.
+      one.members k
+      ∙ ap (λ b. first_set t k || b) (before.members k)
+      ∙ put_more (first_set (choice_of ts) k) (first_set t k) (has old k)
+      ∙ ap (λ b. b || has old k) (sym (first_more ts t k))
+      ∙ ap (λ us. first_set (choice_of us) k || has old k) (sym (ap (map tree_of_shape) (take_more xs i d less) ∙ map-append tree_of_shape (take i xs) (get_or xs i d ∷ [])));
+  room = one.room ∙ before.room;
+}
+  where
+    ts : List (LeafTree ℕ)
+    ts = map tree_of_shape (take i xs)
+
+    t : LeafTree ℕ
+    t = tree_of_shape (get_or xs i d)
 
 last_more : (ts : List (LeafTree ℕ)) (t : LeafTree ℕ) (k : ℕ) → last_set (choice_of (ts ++ t ∷ [])) k ≡ (last_set (choice_of ts) k || last_set t k)
 last_more [] t k = or_nothing (last_set t k)

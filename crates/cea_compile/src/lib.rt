@@ -7,7 +7,9 @@
 
 mod building;
 mod ends;
+mod first;
 mod followers;
 pub mod laws;
 
 pub use building::compile;
+pub use first::first_of;

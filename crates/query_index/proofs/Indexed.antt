@@ -130,7 +130,7 @@ pub split_all : (rows : List LeafRow) (k : ℕ) (taken left : List LeafRow) → 
 split_all rows k taken left end h = subst (λ xs. AreSplit xs taken left) (take_all k rows end) h
 
 -- the rows of one index more
-gathered_push : (indexes : List Index) (index : Index) → gathered (indexes ++ index ∷ []) ≡ gathered indexes ++ index.rows.items
+pub gathered_push : (indexes : List Index) (index : Index) → gathered (indexes ++ index ∷ []) ≡ gathered indexes ++ index.rows.items
 gathered_push [] index = append_none index.rows.items
   where
     append_none : (xs : List LeafRow) → xs ++ [] ≡ [] ++ xs

@@ -6,3 +6,5 @@ mod Indexed
 mod Found
 -- what tests that ask for a text ask to open with
 mod Opened
+-- rows that are looked at, of those that wait
+mod Awake

@@ -1,5 +1,5 @@
 -- Rows that are put in, and looked at.
-use Rattle.std.proofs.Common.{◌≡◌, ◌≢◌, refl, sym, ap, subst, ◌∙◌, ℕ, zero, suc, ◌+◌, ◌<◌, ◌≤◌, ◌⊎◌, inl, inr, Bool, true, false, ◌&&◌, ◌||◌, eqb, List, [], ◌∷◌, ◌++◌, length, map, length-append, take, Option, Some, IfSome, Vec, slice_get, slice_index_or, slice_set, Contains, All, arith}
+use Rattle.std.proofs.Common.{◌≡◌, ◌≢◌, refl, sym, ap, subst, ◌∙◌, ℕ, zero, suc, ◌+◌, ◌<◌, ◌≤◌, ◌⊎◌, inl, inr, Bool, true, false, ◌&&◌, ◌||◌, if◌then◌else◌, eqb, List, [], ◌∷◌, ◌++◌, length, map, length-append, length-take-le, nat_lt, not, take, Option, Some, IfSome, Vec, slice_get, slice_index_or, slice_set, Contains, All, arith}
 use Rattle.std.specs.declared.alloc.Global.{Global}
 use Rattle.std.proofs.lemmas.Bool.{cases_lt, cases_eq, eq-eqb, eqb-true, false≢true, and_parts, or_cases, or_left, or_right}
 use Rattle.std.proofs.lemmas.List.Elements.{Contains-append_left, Contains-append_right, Contains-append_cases, Contains-push, Contains-push_cases, Contains-get_or}
@@ -14,14 +14,16 @@ use Rattle.query_leaves.specs.declared.Test.{Test}
 use Rattle.query_leaves.specs.Expand.{Occurrence, tree_of}
 use Rattle.query_leaves.specs.Leaves.{occurrences, occurrence_reads}
 use Rattle.query_leaves.specs.Shapes.{each_holds, leaf_reads, IsLeafOf, AreLeavesOf}
+use Rattle.cea_compile.specs.Compiled.{automaton_of}
 use Rattle.predicate_bits.specs.declared.ranges.Range.{Range}
 use Rattle.predicate_bits.specs.declared.checks.Check.{Check}
 use Rattle.predicate_bits.specs.Ranges.{AsksFor}
 use Rattle.predicate_bits.specs.Checks.{all_checks_hold, ComesTo}
 use Rattle.query_index.specs.declared.rows.LeafRow.{LeafRow}
 use Rattle.query_index.specs.declared.rows.IndexedLeaf.{IndexedLeaf}
+use Rattle.query_index.specs.declared.rows.TheConstants.{NONE}
 use Rattle.query_index.specs.TextPrefilters.{AsksToOpen}
-use Rattle.query_index.specs.Rows.{Table, rows_of, IsListed, HasPut, HasAdded, HasAddedQuery, IsRangeOf, IsRowOf, IsRowOfLeaf, HasLeafRow, HaveRows, HaveReader, HaveLeaf, AreReaders, HaveRoom, HaveRooms, IsIndexed, IsLeafIndex, IsExact, AreExact, IsRowBelow, AreBelow, Marks}
+use Rattle.query_index.specs.Rows.{Table, rows_of, IsListed, HasPut, HasAdded, HasAddedQuery, IsRangeOf, IsRowOf, IsRowOfLeaf, HasLeafRow, HaveRows, HaveReader, HaveLeaf, AreReaders, HaveRoom, HaveRooms, HasType, HaveTypes, IsIndexed, IsLeafIndex, IsExact, AreExact, IsWaiting, AreWaiting, WaitAlike, waits_for, is_awake, may_be_among, IsRowBelow, AreBelow, Marks}
 
 -- a list with nothing in it, put in last, changes no list
 pub same_more : (vs : List (Vec LeafRow Global)) (v : Vec LeafRow Global) → v.items ≡ [] → (t : ℕ) → slice_index_or (rows_of (vs ++ v ∷ [])) t [] ≡ slice_index_or (rows_of vs) t []
@@ -105,28 +107,28 @@ pushed_at [] l x (suc k) at = absurd cc
 pushed_at (y ∷ xs) l x zero at = inl at
 pushed_at (y ∷ xs) l x (suc k) at = elim (pushed_at xs l x k at) [ inl p ↦ inl p | inr q ↦ inr (ap suc q.0, q.1) ]
 
-pub added_none : (query first : ℕ) (rows : List (List LeafRow)) (leaves : List IndexedLeaf) → HasAdded query first [] rows leaves rows leaves
-added_none query first rows leaves = record { kept = λ t r h. h; leaves = λ k l at. at; count = omega arith; only = λ t r h. inl h }
+pub added_none : (waiting : ℕ → ℕ) → (query first : ℕ) (rows : List (List LeafRow)) (leaves : List IndexedLeaf) → HasAdded waiting query first [] rows leaves rows leaves
+added_none waiting query first rows leaves = record { kept = λ t r h. h; leaves = λ k l at. at; count = omega arith; only = λ t r h. inl h }
 
 abbrev row_kept : (query : ℕ) (had have : List IndexedLeaf) (row : LeafRow) → ((k : ℕ) (l : IndexedLeaf) → slice_get had k ≡ Some l → slice_get have k ≡ Some l) → IsRowOf query had row → IsRowOf query have row
 row_kept query had have row kept h = record { leaf = h.leaf; at = kept row.leaf h.leaf h.at; range = h.range; text_prefilter = h.text_prefilter; numbered = h.numbered }
 
 -- the leaves of a list, and of one after it
-of_leaf_first : (query first : ℕ) (xs ys : List Leaf) (had have : List IndexedLeaf) (ty : ℕ) (row : LeafRow) → ((k : ℕ) (l : IndexedLeaf) → slice_get had k ≡ Some l → slice_get have k ≡ Some l) → IsRowOfLeaf query first xs had ty row → IsRowOfLeaf query first (xs ++ ys) have ty row
-of_leaf_first query first xs ys had have ty row kept h = record { of = row_kept query had have row kept h.of; leaf = h.leaf; place = h.place; listed = at_left xs ys h.place h.leaf h.listed; own = h.own; type = h.type; tests = h.tests }
+of_leaf_first : (waiting : ℕ → ℕ) → (query first : ℕ) (xs ys : List Leaf) (had have : List IndexedLeaf) (ty : ℕ) (row : LeafRow) → ((k : ℕ) (l : IndexedLeaf) → slice_get had k ≡ Some l → slice_get have k ≡ Some l) → IsRowOfLeaf waiting query first xs had ty row → IsRowOfLeaf waiting query first (xs ++ ys) have ty row
+of_leaf_first waiting query first xs ys had have ty row kept h = record { of = row_kept query had have row kept h.of; leaf = h.leaf; place = h.place; listed = at_left xs ys h.place h.leaf h.listed; own = h.own; type = h.type; tests = h.tests; waits = h.waits }
 
-of_leaf_later : (query first : ℕ) (xs ys : List Leaf) (have : List IndexedLeaf) (ty : ℕ) (row : LeafRow) → IsRowOfLeaf query (first + length xs) ys have ty row → IsRowOfLeaf query first (xs ++ ys) have ty row
-of_leaf_later query first xs ys have ty row h = record { of = h.of; leaf = h.leaf; place = length xs + h.place; listed = at_right xs ys h.place h.leaf h.listed; own = (let own = h.own in omega arith); type = h.type; tests = h.tests }
+of_leaf_later : (waiting : ℕ → ℕ) → (query first : ℕ) (xs ys : List Leaf) (have : List IndexedLeaf) (ty : ℕ) (row : LeafRow) → IsRowOfLeaf waiting query (first + length xs) ys have ty row → IsRowOfLeaf waiting query first (xs ++ ys) have ty row
+of_leaf_later waiting query first xs ys have ty row h = record { of = h.of; leaf = h.leaf; place = length xs + h.place; listed = at_right xs ys h.place h.leaf h.listed; own = (let own = h.own in omega arith); type = h.type; tests = h.tests; waits = h.waits }
 
 -- one leaf and its row
-pub added_leaf : (query number : ℕ) (row : LeafRow) (leaf : IndexedLeaf) (l : Leaf) (old new : List (List LeafRow)) (had have : List IndexedLeaf) → have ≡ had ++ leaf ∷ [] → row.leaf ≡ length had → leaf.query ≡ query → leaf.number ≡ number → leaf.tests.items ≡ l.tests.items → IsRangeOf row.range leaf → AsksToOpen row.text_prefilter (each_holds leaf.tests.items) → HasPut l.ty row old new → HasAdded query number (l ∷ []) old had new have
-added_leaf query number row leaf l old new had have is placed of own tests range text_prefilter p = record {
+pub added_leaf : (waiting : ℕ → ℕ) → (query number : ℕ) (row : LeafRow) (leaf : IndexedLeaf) (l : Leaf) (old new : List (List LeafRow)) (had have : List IndexedLeaf) → have ≡ had ++ leaf ∷ [] → row.leaf ≡ length had → leaf.query ≡ query → leaf.number ≡ number → leaf.tests.items ≡ l.tests.items → IsRangeOf row.range leaf → AsksToOpen row.text_prefilter (each_holds leaf.tests.items) → row.waits ≡ waiting l.ty → HasPut l.ty row old new → HasAdded waiting query number (l ∷ []) old had new have
+added_leaf waiting query number row leaf l old new had have is placed of own tests range text_prefilter waits p = record {
   kept = p.kept;
   leaves = λ k x at. subst (λ ls. slice_get ls k ≡ Some x) (sym is) (before_last had leaf x k at);
   count = ap length is ∙ length_push had leaf;
   only = λ t r now. elim (p.only t r now) [
     | inl was ↦ inl was
-    | inr one ↦ inr (subst (IsRowOfLeaf query number (l ∷ []) have t) one.1 (record { of = record { leaf = leaf; at = ap (slice_get have) placed ∙ last_leaf had have leaf is; range = range; text_prefilter = text_prefilter; numbered = of }; leaf = l; place = 0; listed = refl; own = omega arith; type = one.0; tests = tests }))
+    | inr one ↦ inr (subst (IsRowOfLeaf waiting query number (l ∷ []) have t) one.1 (record { of = record { leaf = leaf; at = ap (slice_get have) placed ∙ last_leaf had have leaf is; range = range; text_prefilter = text_prefilter; numbered = of }; leaf = l; place = 0; listed = refl; own = omega arith; type = one.0; tests = tests; waits = waits ∙ ap waiting one.0 }))
   ];
 }
 
@@ -141,22 +143,22 @@ leaf_row query number row leaf l old new had have is placed of own tests p = rec
   tests = tests;
 }
 
-pub added_more : (query first : ℕ) (xs ys : List Leaf) (old mid new : List (List LeafRow)) (a b c : List IndexedLeaf) → HasAdded query first xs old a mid b → HasAdded query (first + length xs) ys mid b new c → HasAdded query first (xs ++ ys) old a new c
-added_more query first xs ys old mid new a b c h p = record {
+pub added_more : (waiting : ℕ → ℕ) → (query first : ℕ) (xs ys : List Leaf) (old mid new : List (List LeafRow)) (a b c : List IndexedLeaf) → HasAdded waiting query first xs old a mid b → HasAdded waiting query (first + length xs) ys mid b new c → HasAdded waiting query first (xs ++ ys) old a new c
+added_more waiting query first xs ys old mid new a b c h p = record {
   kept = λ t r was. p.kept t r (h.kept t r was);
   leaves = λ k l at. p.leaves k l (h.leaves k l at);
   count = (let one = h.count in let two = p.count in let both = length-append xs ys in omega arith);
   only = λ t r now. elim (p.only t r now) [
     | inl mid_is ↦ elim (h.only t r mid_is) [
       | inl was ↦ inl was
-      | inr one ↦ inr (of_leaf_first query first xs ys b c t r p.leaves one)
+      | inr one ↦ inr (of_leaf_first waiting query first xs ys b c t r p.leaves one)
     ]
-    | inr one ↦ inr (of_leaf_later query first xs ys c t r one)
+    | inr one ↦ inr (of_leaf_later waiting query first xs ys c t r one)
   ];
 }
 
-leaf_kept : (query number other first : ℕ) (list : List Leaf) (old new : List (List LeafRow)) (had have : List IndexedLeaf) (l : Leaf) → HasAdded other first list old had new have → HasLeafRow query number old had l → HasLeafRow query number new have l
-leaf_kept query number other first list old new had have l added h = record { row = h.row; listed = added.kept l.ty h.row h.listed; leaf = h.leaf; at = added.leaves h.row.leaf h.leaf h.at; numbered = h.numbered; own = h.own; tests = h.tests }
+leaf_kept : (waiting : ℕ → ℕ) → (query number other first : ℕ) (list : List Leaf) (old new : List (List LeafRow)) (had have : List IndexedLeaf) (l : Leaf) → HasAdded waiting other first list old had new have → HasLeafRow query number old had l → HasLeafRow query number new have l
+leaf_kept waiting query number other first list old new had have l added h = record { row = h.row; listed = added.kept l.ty h.row h.listed; leaf = h.leaf; at = added.leaves h.row.leaf h.leaf h.at; numbered = h.numbered; own = h.own; tests = h.tests }
 
 -- the range of a leaf's tests, as the code reads them
 pub range_of_leaf : (query number : ℕ) (range : Range) (checks : Option (Vec Check Global)) (tests : Vec Test Global) (xs ys : List Test) → xs ≡ tests.items → ys ≡ tests.items → AsksFor range (each_holds xs) → IfSome checks (λ cs. ComesTo range (each_holds ys) (all_checks_hold cs.items)) → IsRangeOf range (record { query = query; number = number; checks = checks; tests = tests })
@@ -168,9 +170,9 @@ range_of_leaf query number range checks tests xs ys x_is y_is asks come = record
 pub rows_none : (query : ℕ) (rows : List (List LeafRow)) (leaves : List IndexedLeaf) → HaveRows query [] rows leaves
 rows_none query rows leaves k l at = absurd cc
 
-pub rows_next : (query : ℕ) (list : List Leaf) (l : Leaf) (old new : List (List LeafRow)) (had have : List IndexedLeaf) → HaveRows query list old had → HasAdded query (length list) (l ∷ []) old had new have → HasLeafRow query (length list) new have l → HaveRows query (list ++ l ∷ []) new have
-rows_next query list l old new had have h added one k x at = elim (pushed_at list l x k at) [
-  | inl was ↦ leaf_kept query k query (length list) (l ∷ []) old new had have x added (h k x was)
+pub rows_next : (waiting : ℕ → ℕ) → (query : ℕ) (list : List Leaf) (l : Leaf) (old new : List (List LeafRow)) (had have : List IndexedLeaf) → HaveRows query list old had → HasAdded waiting query (length list) (l ∷ []) old had new have → HasLeafRow query (length list) new have l → HaveRows query (list ++ l ∷ []) new have
+rows_next waiting query list l old new had have h added one k x at = elim (pushed_at list l x k at) [
+  | inl was ↦ leaf_kept waiting query k query (length list) (l ∷ []) old new had have x added (h k x was)
   | inr is ↦ subst (λ z. HasLeafRow query k new have z) is.1 (subst (λ i. HasLeafRow query i new have l) (sym is.0) one)
 ]
 
@@ -201,8 +203,8 @@ watched schema q number list rows leaves of have event k o at reads =
     )
 
 -- rows of another query leave a query watched
-pub watched_kept : (schema : Declared) (q : Query) (number other first : ℕ) (list : List Leaf) (old new : List (List LeafRow)) (had have : List IndexedLeaf) → HasAdded other first list old had new have → IsIndexed schema q number old had → IsIndexed schema q number new have
-watched_kept schema q number other first list old new had have added h event k o at reads =
+pub watched_kept : (waiting : ℕ → ℕ) → (schema : Declared) (q : Query) (number other first : ℕ) (list : List Leaf) (old new : List (List LeafRow)) (had have : List IndexedLeaf) → HasAdded waiting other first list old had new have → IsIndexed schema q number old had → IsIndexed schema q number new have
+watched_kept waiting schema q number other first list old new had have added h event k o at reads =
     let found = h event k o at reads in
     let was = found.0 in
     (record { row = was.row; listed = added.kept event.ty was.row was.listed; leaf = was.leaf; at = added.leaves was.row.leaf was.leaf was.at; numbered = was.numbered; holds = was.holds }, found.1)
@@ -212,6 +214,8 @@ pub record IsLeafIndexUpTo (k : ℕ) (schema : Declared) (queries : List Query) 
   pub each : (j : ℕ) (q : Query) → j < k → slice_get queries j ≡ Some q → IsIndexed schema q j rows leaves
   pub exact : (j : ℕ) (q : Query) → j < k → slice_get queries j ≡ Some q → IsExact schema q j rows leaves
   pub below : AreBelow k rows leaves
+  pub waiting : (j : ℕ) (q : Query) → j < k → slice_get queries j ≡ Some q → IsWaiting q j rows leaves
+  pub alike : WaitAlike rows leaves
 
 -- the occurrence of a leaf
 occurrence_there : (schema : Declared) (os : List Occurrence) (ls : List Leaf) (k : ℕ) (l : Leaf) → AreLeavesOf schema os ls → slice_get ls k ≡ Some l → (o : Occurrence) × (slice_get os k ≡ Some o) × IsLeafOf schema o l
@@ -222,8 +226,8 @@ occurrence_there schema (o ∷ os) (x ∷ ls) zero l of at = let same : x ≡ l 
 occurrence_there schema (o ∷ os) (x ∷ ls) (suc k) l of at = occurrence_there schema os ls k l of.1 at
 
 -- a row of the query's leaves whose tests hold is of one that reads
-exact_here : (schema : Declared) (q : Query) (number k : ℕ) (list : List Leaf) (have : List IndexedLeaf) (event : Event) (row : LeafRow) → AreLeavesOf schema (occurrences (tree_of q)) list → (n : IsRowOfLeaf number 0 list have event.ty row) → n.of.leaf.number ≡ k → each_holds n.of.leaf.tests.items event ≡ true → (o : Occurrence) × (slice_get (occurrences (tree_of q)) k ≡ Some o) × (occurrence_reads schema o event ≡ true)
-exact_here schema q number k list have event row are n own holds =
+exact_here : (waiting : ℕ → ℕ) → (schema : Declared) (q : Query) (number k : ℕ) (list : List Leaf) (have : List IndexedLeaf) (event : Event) (row : LeafRow) → AreLeavesOf schema (occurrences (tree_of q)) list → (n : IsRowOfLeaf waiting number 0 list have event.ty row) → n.of.leaf.number ≡ k → each_holds n.of.leaf.tests.items event ≡ true → (o : Occurrence) × (slice_get (occurrences (tree_of q)) k ≡ Some o) × (occurrence_reads schema o event ≡ true)
+exact_here waiting schema q number k list have event row are n own holds =
     let first = n.own in
     let place : n.place ≡ k = omega arith in
     let at : slice_get list k ≡ Some n.leaf = subst (λ i. slice_get list i ≡ Some n.leaf) place n.listed in
@@ -241,12 +245,151 @@ leaf_index_none schema queries rows leaves none = record {
   each = λ j q less. absurd (omega arith);
   exact = λ j q less. absurd (omega arith);
   below = λ t r h. absurd (nothing_listed t r (subst (λ rs. IsListed rs t r) none h));
+  waiting = λ j q less. absurd (omega arith);
+  alike = λ t query r other h. absurd (nothing_listed t r (subst (λ rs. IsListed rs t r) none h));
 }
+
+-- a type that is put in
+pub type_put : (types new : List Bool) (ty : ℕ) → ty < length types → ((j : ℕ) → has new j ≡ (eqb j ty || has types j)) → length new ≡ length types → HasType ty types new
+type_put types new ty inside members room = record {
+  here = or_right (not (nat_lt ty (length new))) (has new ty) (members ty ∙ or_left (eqb ty ty) (has types ty) (eq-eqb ty ty refl));
+  kept = λ t was. elim (or_cases (not (nat_lt t (length types))) (has types t) was) [
+    | inl past ↦ or_left (not (nat_lt t (length new))) (has new t) (ap (λ n. not (nat_lt t n)) room ∙ past)
+    | inr there ↦ or_right (not (nat_lt t (length new))) (has new t) (members t ∙ or_right (eqb t ty) (has types t) there)
+  ];
+}
+
+pub types_next : (list : List Leaf) (k : ℕ) (d : Leaf) (some types new : List Bool) → k < length list → (has some k ≡ true → may_be_among new (slice_index_or list k d).ty ≡ true) → ((t : ℕ) → may_be_among types t ≡ true → may_be_among new t ≡ true) → HaveTypes (take k list) some types → HaveTypes (take (k + 1) list) some new
+types_next list k d some types new inside here kept h j l at is = elim (pushed_at (take k list) (slice_index_or list k d) l j (subst (λ ls. slice_get ls j ≡ Some l) (take_more list k d inside) at)) [
+  | inl was ↦ kept l.ty (h j l was is)
+  | inr one ↦ (
+      let long : length (take k list) ≡ k = length-take-le k list (omega arith) in
+      ap (λ (x : Leaf). may_be_among new x.ty) (sym one.1) ∙ here (ap (has some) (sym (one.0 ∙ long)) ∙ is)
+      )
+]
+
+pub types_past : (list : List Leaf) (k : ℕ) (some types : List Bool) → k < length list → has some k ≡ false → HaveTypes (take k list) some types → HaveTypes (take (k + 1) list) some types
+types_past list k some types inside none h j l at is = types_next list k l some types types inside never (λ t was. was) h j l at is
+  where
+    never : has some k ≡ true → may_be_among types (slice_index_or list k l).ty ≡ true
+    never is = absurd (false≢true (sym none ∙ is))
+
+-- a row is of one query alone
+one_query : (leaves : List IndexedLeaf) (row : LeafRow) (one other : ℕ) → IsRowOf one leaves row → IsRowOf other leaves row → one ≡ other
+one_query leaves row one other a b =
+    let same : a.leaf ≡ b.leaf = (let both = sym a.at ∙ b.at in cc) in
+    sym a.numbered ∙ (ap (λ (l : IndexedLeaf). l.query) same ∙ b.numbered)
+
+-- a row that is not looked at, of a type and a query
+not_awake : (types : List Bool) (query ty : ℕ) (row : LeafRow) (open_queries : List Bool) → row.waits ≡ waits_for types query ty → is_awake open_queries row ≡ false → (has open_queries query ≡ false) × (may_be_among types ty ≡ false)
+not_awake types query ty row open_queries is out = by (may_be_among types ty) refl
+  where
+    parts : (a b : Bool) → (a || b) ≡ false → (a ≡ false) × (b ≡ false)
+    parts true b e = absurd (false≢true (sym e))
+    parts false b e = (refl, e)
+
+    both : (eqb row.waits NONE ≡ false) × (has open_queries row.waits ≡ false)
+    both = parts (eqb row.waits NONE) (has open_queries row.waits) out
+
+    by : (b : Bool) → may_be_among types ty ≡ b → (has open_queries query ≡ false) × (may_be_among types ty ≡ false)
+    by true e =
+        let none : row.waits ≡ NONE = is ∙ ap (λ c. if c then NONE else query) e in
+        absurd (false≢true (sym both.0 ∙ eq-eqb row.waits NONE none))
+    by false e =
+        let own : row.waits ≡ query = is ∙ ap (λ c. if c then NONE else query) e in
+        (ap (has open_queries) (sym own) ∙ both.1, e)
+
+module _ (schema : Declared) (q : Query) (query : ℕ) (old new : List (List LeafRow)) (had have : List IndexedLeaf) (below : AreBelow query old had) (a : HasAddedQuery schema q query old had new have) where
+  -- a row of the query that was put in last
+  row_here : (ty : ℕ) (row : LeafRow) (leaf : IndexedLeaf) → IsListed new ty row → slice_get have row.leaf ≡ Some leaf → leaf.query ≡ query → IsRowOfLeaf (waits_for a.types query) query 0 a.list have ty row
+  row_here ty row leaf listed at own = elim (a.added.only ty row listed) [
+    | inl was ↦ (
+        let b = below ty row was in
+        let low = b.below in
+        let same : b.of.leaf ≡ leaf = (let both = sym (a.added.leaves row.leaf b.of.leaf b.of.at) ∙ at in cc) in
+        let number : b.query ≡ query = sym b.of.numbered ∙ (ap (λ (l : IndexedLeaf). l.query) same ∙ own) in
+        absurd (omega arith)
+        )
+    | inr here ↦ here
+  ]
+
+  pub waiting_here : IsWaiting q query new have
+  waiting_here event h open_queries out =
+      let here = row_here event.ty h.row h.leaf h.listed h.at h.numbered in
+      let told = not_awake a.types query event.ty h.row open_queries here.waits out in
+      (told.0, λ k found. (
+          let n = row_here event.ty found.0.row found.0.leaf found.0.listed found.0.at found.0.numbered in
+          let first = n.own in
+          let same : n.of.leaf ≡ found.0.leaf = (let both = sym n.of.at ∙ found.0.at in cc) in
+          let number : n.of.leaf.number ≡ k = ap (λ (l : IndexedLeaf). l.number) same ∙ found.1 in
+          let place : n.place ≡ k = omega arith in
+          by k n.leaf (subst (λ i. slice_get a.list i ≡ Some n.leaf) place n.listed) (ap (may_be_among a.types) n.type ∙ told.1) ((automaton_of (tree_of q)).first k) refl
+          ))
+    where
+      by : (k : ℕ) (l : Leaf) → slice_get a.list k ≡ Some l → may_be_among a.types l.ty ≡ false → (b : Bool) → (automaton_of (tree_of q)).first k ≡ b → (automaton_of (tree_of q)).first k ≡ false
+      by k l at none true e = absurd (false≢true (sym none ∙ a.first k l at e))
+      by k l at none false e = e
+
+  pub alike_here : WaitAlike old had → WaitAlike new have
+  alike_here was t number r s in_r in_s of_r of_s = elim (a.added.only t r in_r) [
+    | inl old_r ↦ (
+        let b = below t r old_r in
+        let is : b.query ≡ number = one_query have r b.query number (row_kept b.query had have r a.added.leaves b.of) of_r in
+        let low = b.below in
+        elim (a.added.only t s in_s) [
+          | inl old_s ↦ (
+              let d = below t s old_s in
+              let other : d.query ≡ b.query = one_query have s d.query number (row_kept d.query had have s a.added.leaves d.of) of_s ∙ sym is in
+              was t b.query r s old_r old_s b.of (subst (λ n. IsRowOf n had s) other d.of)
+              )
+          | inr new_s ↦ (let same : query ≡ number = one_query have s query number new_s.of of_s in absurd (omega arith))
+        ]
+        )
+    | inr new_r ↦ (
+        let same : query ≡ number = one_query have r query number new_r.of of_r in
+        elim (a.added.only t s in_s) [
+          | inl old_s ↦ (
+              let d = below t s old_s in
+              let other : d.query ≡ number = one_query have s d.query number (row_kept d.query had have s a.added.leaves d.of) of_s in
+              let low = d.below in
+              absurd (omega arith)
+              )
+          | inr new_s ↦ new_r.waits ∙ sym new_s.waits
+        ]
+        )
+  ]
+
+-- rows of another query leave those of a query waiting
+waiting_kept : (schema : Declared) (q p : Query) (query j : ℕ) (old new : List (List LeafRow)) (had have : List IndexedLeaf) → j < query → AreBelow query old had → HasAddedQuery schema q query old had new have → IsWaiting p j old had → IsWaiting p j new have
+waiting_kept schema q p query j old new had have less below a was event h open_queries out =
+    let told = was event (back h) open_queries out in
+    (told.0, λ k found. told.1 k (back found.0, ap (λ (l : IndexedLeaf). l.number) (same_back found.0) ∙ found.1))
+  where
+    old_row : (x : HaveReader (slice_index_or new event.ty []) have j event) → IsListed old event.ty x.row
+    old_row x = elim (a.added.only event.ty x.row x.listed) [
+      | inl there ↦ there
+      | inr n ↦ (
+          let same : n.of.leaf ≡ x.leaf = (let both = sym n.of.at ∙ x.at in cc) in
+          let number : query ≡ j = sym n.of.numbered ∙ (ap (λ (l : IndexedLeaf). l.query) same ∙ x.numbered) in
+          absurd (omega arith)
+          )
+    ]
+
+    same_back : (x : HaveReader (slice_index_or new event.ty []) have j event) → (below event.ty x.row (old_row x)).of.leaf ≡ x.leaf
+    same_back x =
+        let b = below event.ty x.row (old_row x) in
+        let both = sym (a.added.leaves x.row.leaf b.of.leaf b.of.at) ∙ x.at in
+        cc
+
+    back : HaveReader (slice_index_or new event.ty []) have j event → HaveReader (slice_index_or old event.ty []) had j event
+    back x =
+        let b = below event.ty x.row (old_row x) in
+        record { row = x.row; listed = old_row x; leaf = b.of.leaf; at = b.of.at; numbered = ap (λ (l : IndexedLeaf). l.query) (same_back x) ∙ x.numbered; holds = ap (λ (l : IndexedLeaf). each_holds l.tests.items event) (same_back x) ∙ x.holds }
 
 pub leaf_index_next : (k : ℕ) (schema : Declared) (queries : List Query) (q : Query) (old new : List (List LeafRow)) (had have : List IndexedLeaf) → k < length queries → q ≡ slice_index_or queries k q → IsLeafIndexUpTo k schema queries old had → IsIndexed schema q k new have → HasAddedQuery schema q k old had new have → IsLeafIndexUpTo (k + 1) schema queries new have
 leaf_index_next k schema queries q old new had have less here h watched added = record {
   each = λ j p below at. elim (cases_lt j k) [
-    | inl low ↦ watched_kept schema p j k 0 added.list old new had have added.added (h.each j p low at)
+    | inl low ↦ watched_kept (waits_for added.types k) schema p j k 0 added.list old new had have added.added (h.each j p low at)
     | inr high ↦ (
         let same : k ≡ j = omega arith in
         let there = slice_get-get_or queries k q less in
@@ -269,7 +412,7 @@ leaf_index_next k schema queries q old new had have less here h watched added = 
             let same : k ≡ j = sym n.of.numbered ∙ (ap (λ (l : IndexedLeaf). l.query) one ∙ r.numbered) in
             let there = slice_get-get_or queries k q less in
             let query : q ≡ p = (let both = sym (subst (λ i. slice_get queries i ≡ Some p) (sym same) at) ∙ there in cc) in
-            exact_here schema p k i added.list have event r.row (subst (λ z. AreLeavesOf schema (occurrences (tree_of z)) added.list) query added.are) n (ap (λ (l : IndexedLeaf). l.number) one ∙ found.1) (ap (λ (l : IndexedLeaf). each_holds l.tests.items event) one ∙ r.holds)
+            exact_here (waits_for added.types k) schema p k i added.list have event r.row (subst (λ z. AreLeavesOf schema (occurrences (tree_of z)) added.list) query added.are) n (ap (λ (l : IndexedLeaf). l.number) one ∙ found.1) (ap (λ (l : IndexedLeaf). each_holds l.tests.items event) one ∙ r.holds)
             )
       ]);
   below = λ t r now. elim (added.added.only t r now) [
@@ -280,10 +423,23 @@ leaf_index_next k schema queries q old new had have less here h watched added = 
         )
     | inr is ↦ record { query = k; of = is.of; below = omega arith }
   ];
+  waiting = λ j p below at. elim (cases_lt j k) [
+    | inl low ↦ waiting_kept schema q p k j old new had have low h.below added (h.waiting j p low at)
+    | inr high ↦ (
+        let same : k ≡ j = omega arith in
+        let there = slice_get-get_or queries k q less in
+        let one : q ≡ p = (let both = sym (subst (λ i. slice_get queries i ≡ Some p) (sym same) at) ∙ there in cc) in
+        subst (λ i. IsWaiting p i new have) same (subst (λ z. IsWaiting z k new have) one (waiting_here schema q k old new had have h.below added))
+        )
+  ];
+  alike = alike_here schema q k old new had have h.below added h.alike;
 }
 
 pub exact_all : (k : ℕ) (schema : Declared) (queries : List Query) (rows : List (List LeafRow)) (leaves : List IndexedLeaf) → length queries ≤ k → IsLeafIndexUpTo k schema queries rows leaves → AreExact schema queries rows leaves
 exact_all k schema queries rows leaves end h j q at = let less = slice_get_within queries j q at in h.exact j q (omega arith) at
+
+pub waiting_all : (k : ℕ) (schema : Declared) (queries : List Query) (rows : List (List LeafRow)) (leaves : List IndexedLeaf) → length queries ≤ k → IsLeafIndexUpTo k schema queries rows leaves → AreWaiting queries rows leaves
+waiting_all k schema queries rows leaves end h j q at = let less = slice_get_within queries j q at in h.waiting j q (omega arith) at
 
 pub leaf_index_all : (k : ℕ) (schema : Declared) (queries : List Query) (rows : List (List LeafRow)) (leaves : List IndexedLeaf) → length queries ≤ k → IsLeafIndexUpTo k schema queries rows leaves → IsLeafIndex schema queries rows leaves
 leaf_index_all k schema queries rows leaves end h j q at = let less = slice_get_within queries j q at in h.each j q (omega arith) at

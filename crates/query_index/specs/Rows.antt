@@ -1,5 +1,5 @@
 -- What is looked at of the leaves of queries before an event is taken.
-use Rattle.std.specs.Prelude.{◌≡◌, ℕ, ◌+◌, ◌<◌, ◌⊎◌, Bool, true, List, [], length, map, Some, Vec, slice_get, slice_index_or, Contains, IfSome}
+use Rattle.std.specs.Prelude.{◌≡◌, ℕ, ◌+◌, ◌<◌, ◌⊎◌, ◌==◌, ◌||◌, nat_lt, not, Bool, true, false, List, [], length, map, filter, Some, Vec, slice_get, slice_index_or, Contains, IfSome, if◌then◌else◌}
 use Rattle.std.specs.declared.alloc.Global.{Global}
 use Rattle.cer_base.specs.Bits.{has}
 use Rattle.stream_schema.specs.Types.{Declared}
@@ -9,11 +9,13 @@ use Rattle.query_leaves.specs.declared.Leaf.{Leaf}
 use Rattle.query_leaves.specs.Expand.{Occurrence, tree_of}
 use Rattle.query_leaves.specs.Leaves.{occurrences, occurrence_reads}
 use Rattle.query_leaves.specs.Shapes.{each_holds, AreLeavesOf}
+use Rattle.cea_compile.specs.Compiled.{automaton_of}
 use Rattle.predicate_bits.specs.declared.ranges.Range.{Range}
 use Rattle.predicate_bits.specs.Ranges.{AsksFor}
 use Rattle.predicate_bits.specs.Checks.{all_checks_hold, ComesTo}
 use Rattle.query_index.specs.declared.rows.LeafRow.{LeafRow}
 use Rattle.query_index.specs.declared.rows.IndexedLeaf.{IndexedLeaf}
+use Rattle.query_index.specs.declared.rows.TheConstants.{NONE}
 use Rattle.query_index.specs.TextPrefilters.{AsksToOpen}
 
 -- the rows of each type, by the type's number
@@ -29,6 +31,30 @@ pub record Table : Type 0 where
 -- the row is in the list of the type
 abbrev pub IsListed : List (List LeafRow) → ℕ → LeafRow → Type 0
 IsListed rows ty row = Contains (slice_index_or rows ty []) row
+
+-- the row is looked at where the queries in the set may have an open match
+abbrev pub is_awake : List Bool → LeafRow → Bool
+is_awake open_queries row = (row.waits == NONE) || has open_queries row.waits
+
+abbrev pub awake : List Bool → List LeafRow → List LeafRow
+awake open_queries rows = filter (is_awake open_queries) rows
+
+-- the type is in the set, or one that it has no room for
+abbrev pub may_be_among : List Bool → ℕ → Bool
+may_be_among types ty = not (nat_lt ty (length types)) || has types ty
+
+-- The type is put in.
+pub record HasType (ty : ℕ) (old new : List Bool) : Type 0 where
+  pub here : may_be_among new ty ≡ true
+  pub kept : (t : ℕ) → may_be_among old t ≡ true → may_be_among new t ≡ true
+
+-- the number that a row of the type waits for, of a query the first event of whose matches has one of the types
+abbrev pub waits_for : List Bool → ℕ → ℕ → ℕ
+waits_for types query ty = if may_be_among types ty then NONE else query
+
+-- the types of the leaves in the set
+abbrev pub HaveTypes : List Leaf → List Bool → List Bool → Type 0
+HaveTypes list some types = (k : ℕ) (l : Leaf) → slice_get list k ≡ Some l → has some k ≡ true → may_be_among types l.ty ≡ true
 
 -- The list of the type has one row more.
 pub record HasPut (ty : ℕ) (row : LeafRow) (old new : List (List LeafRow)) : Type 0 where
@@ -49,8 +75,8 @@ pub record IsRowOf (query : ℕ) (leaves : List IndexedLeaf) (row : LeafRow) : T
   pub text_prefilter : AsksToOpen row.text_prefilter (each_holds leaf.tests.items)
   pub numbered : leaf.query ≡ query
 
--- The row in the list of the type is of one of these leaves of the query, which are numbered from this number on, and the leaf has this type and these tests.
-pub record IsRowOfLeaf (query first : ℕ) (list : List Leaf) (leaves : List IndexedLeaf) (ty : ℕ) (row : LeafRow) : Type 0 where
+-- The row in the list of the type is of one of these leaves of the query, which are numbered from this number on, and the leaf has this type and these tests. It waits for what its type does.
+pub record IsRowOfLeaf (waiting : ℕ → ℕ) (query first : ℕ) (list : List Leaf) (leaves : List IndexedLeaf) (ty : ℕ) (row : LeafRow) : Type 0 where
   pub of : IsRowOf query leaves row
   pub leaf : Leaf
   pub place : ℕ
@@ -58,13 +84,14 @@ pub record IsRowOfLeaf (query first : ℕ) (list : List Leaf) (leaves : List Ind
   pub own : of.leaf.number ≡ first + place
   pub type : leaf.ty ≡ ty
   pub tests : of.leaf.tests.items ≡ leaf.tests.items
+  pub waits : row.waits ≡ waiting ty
 
 -- These leaves of one query came, numbered from this number on, and their rows.
-pub record HasAdded (query first : ℕ) (list : List Leaf) (old : List (List LeafRow)) (had : List IndexedLeaf) (new : List (List LeafRow)) (have : List IndexedLeaf) : Type 0 where
+pub record HasAdded (waiting : ℕ → ℕ) (query first : ℕ) (list : List Leaf) (old : List (List LeafRow)) (had : List IndexedLeaf) (new : List (List LeafRow)) (have : List IndexedLeaf) : Type 0 where
   pub kept : (t : ℕ) (r : LeafRow) → IsListed old t r → IsListed new t r
   pub leaves : (k : ℕ) (l : IndexedLeaf) → slice_get had k ≡ Some l → slice_get have k ≡ Some l
   pub count : length have ≡ length had + length list
-  pub only : (t : ℕ) (r : LeafRow) → IsListed new t r → IsListed old t r ⊎ IsRowOfLeaf query first list have t r
+  pub only : (t : ℕ) (r : LeafRow) → IsListed new t r → IsListed old t r ⊎ IsRowOfLeaf waiting query first list have t r
 
 -- Of a leaf of the query, which has this number there, there is a row in the list of its type, with its tests.
 pub record HasLeafRow (query number : ℕ) (rows : List (List LeafRow)) (leaves : List IndexedLeaf) (l : Leaf) : Type 0 where
@@ -118,7 +145,9 @@ HaveRooms count rows leaves event sets = (query number : ℕ) → query < count 
 pub record HasAddedQuery (schema : Declared) (q : Query) (query : ℕ) (old : List (List LeafRow)) (had : List IndexedLeaf) (new : List (List LeafRow)) (have : List IndexedLeaf) : Type 0 where
   pub list : List Leaf
   pub are : AreLeavesOf schema (occurrences (tree_of q)) list
-  pub added : HasAdded query 0 list old had new have
+  pub types : List Bool
+  pub first : (k : ℕ) (l : Leaf) → slice_get list k ≡ Some l → (automaton_of (tree_of q)).first k ≡ true → may_be_among types l.ty ≡ true
+  pub added : HasAdded (waits_for types query) query 0 list old had new have
 
 -- each event that a leaf of the query can read has such a row of that leaf
 abbrev pub IsIndexed : Declared → Query → ℕ → List (List LeafRow) → List IndexedLeaf → Type 0
@@ -135,6 +164,19 @@ IsExact schema q query rows leaves = (event : Event) (k : ℕ) → HasLeaf rows 
 -- and that of each of the queries
 abbrev pub AreExact : Declared → List Query → List (List LeafRow) → List IndexedLeaf → Type 0
 AreExact schema queries rows leaves = (query : ℕ) (q : Query) → slice_get queries query ≡ Some q → IsExact schema q query rows leaves
+
+-- a row of an event's type that is not looked at is of a query which may have no open match, and of which no leaf that may read the first event of a match can read the event
+abbrev pub IsWaiting : Query → ℕ → List (List LeafRow) → List IndexedLeaf → Type 0
+IsWaiting q query rows leaves = (event : Event) (h : HasRow rows leaves query event) (open_queries : List Bool) → is_awake open_queries h.row ≡ false →
+    (has open_queries query ≡ false) × ((k : ℕ) → HasLeaf rows leaves query k event → (automaton_of (tree_of q)).first k ≡ false)
+
+-- and that of each of the queries
+abbrev pub AreWaiting : List Query → List (List LeafRow) → List IndexedLeaf → Type 0
+AreWaiting queries rows leaves = (query : ℕ) (q : Query) → slice_get queries query ≡ Some q → IsWaiting q query rows leaves
+
+-- rows of one type that are of one query wait for the same
+abbrev pub WaitAlike : List (List LeafRow) → List IndexedLeaf → Type 0
+WaitAlike rows leaves = (t query : ℕ) (r s : LeafRow) → IsListed rows t r → IsListed rows t s → IsRowOf query leaves r → IsRowOf query leaves s → r.waits ≡ s.waits
 
 -- The row is of a leaf of a query below the number.
 pub record IsRowBelow (count : ℕ) (leaves : List IndexedLeaf) (row : LeafRow) : Type 0 where

@@ -8,10 +8,10 @@ ghost use Rattle.query_leaves.specs.Shapes.{each_holds as tests_hold};
 ghost use Rattle.predicate_bits.specs.Ranges.{AsksFor};
 ghost use Rattle.query_index.specs.TextPrefilters.{AsksToOpen};
 ghost use Rattle.query_index.specs.Index.{IsIndex, Suffice, gathered};
-ghost use Rattle.query_index.specs.Rows.{rows_of, AreBelow, AreExact, IsRangeOf, IsRowBelow, IsLeafIndex, HasRow, AreReaders, HaveRoom, HaveRooms, Marks};
+ghost use Rattle.query_index.specs.Rows.{rows_of, awake, is_awake, AreBelow, AreExact, AreWaiting, IsRangeOf, IsRowBelow, IsLeafIndex, HasRow, HaveReader, AreReaders, HaveRoom, HaveRooms, WaitAlike, Marks};
 
 use crate::index::{Index, few_of, indexes_of};
-use crate::rows::{IndexedLeaf, LeafRow, add_query};
+use crate::rows::{IndexedLeaf, LeafRow, add_query, is_awake};
 use crate::text_prefilters::may_open;
 use cel_terms::Query;
 use cer_base::Memory;
@@ -38,7 +38,7 @@ pub struct LeafIndex {
 impl Model for LeafIndex {
     ghost use Rattle.std.specs.Coded.{codes};
     ghost use Rattle.query_leaves.specs.contracts.Test as test;
-    ghost use Rattle.query_index.specs.Rows.{Table, rows_of, AreBelow};
+    ghost use Rattle.query_index.specs.Rows.{Table, rows_of, AreBelow, WaitAlike};
     ghost use Rattle.query_index.specs.Index.{AreIndexed, indexes_of};
 
     ghost Value = { Table };
@@ -52,7 +52,8 @@ impl Model for LeafIndex {
     } };
 
     ghost invariant = { λ w. AreBelow w.count (rows_of w.rows.items) w.leaves.items
-        × AreIndexed w.leaves.items (rows_of w.rows.items) (indexes_of w.indexes.items) };
+        × AreIndexed w.leaves.items (rows_of w.rows.items) (indexes_of w.indexes.items)
+        × WaitAlike (rows_of w.rows.items) w.leaves.items };
 }
 
 /// The rows of the leaves of the queries, with the leaves put in last.
@@ -68,6 +69,8 @@ fn rows_for(
         leaves.new.items) }
     ensures below { IfOk result (λ v. AreBelow (length queries.now) (rows_of v.items)
         leaves.new.items) }
+    ensures waiting { IfOk result (λ v. AreWaiting queries.now (rows_of v.items) leaves.new.items) }
+    ensures alike { IfOk result (λ v. WaitAlike (rows_of v.items) leaves.new.items) }
 {
     let mut rows = Vec::new(alloc);
     for k in 0..queries.len() {
@@ -81,6 +84,7 @@ impl LeafIndex {
     pub fn of(alloc: Global, schema: &Schema, queries: &[Query]) -> Result<LeafIndex, Memory>
         ensures leaf_index { IfOk result (λ w. IsLeafIndex schema.now queries.now w.rows w.leaves) }
         ensures exact { IfOk result (λ w. AreExact schema.now queries.now w.rows w.leaves) }
+        ensures waiting { IfOk result (λ w. AreWaiting queries.now w.rows w.leaves) }
         ensures count { IfOk result (λ w. w.count ≡ length queries.now) }
     {
         let mut leaves = Vec::new(alloc);
@@ -94,15 +98,24 @@ impl LeafIndex {
         })
     }
 
-    /// Marks each query that has a leaf which can read the event, and no other. The set has room for
-    /// all numbers. Of each query that was not marked before and is now, the set of its number is then
+    /// Marks each query that has a leaf which can read the event, and no other; but not one that has
+    /// no open match and of which no leaf of the event's type may read the first event of a match. Of
+    /// the queries, those in the first set may have an open match. The set of marks has room for all
+    /// numbers. Of each query that was not marked before and is now, the set of its number is then
     /// that of the numbers of its leaves that can read the event; the sets have room for these.
     #[inline(always)]
-    pub fn mark(&self, event: &Event, into: &mut Bits, leaves: &mut [Bits])
+    pub fn mark(
+        &self,
+        event: &Event,
+        open_queries: &Bits,
+        into: &mut Bits,
+        leaves: &mut [Bits],
+    )
         requires count { self.now.count ≤ length into.old }
         requires rooms { HaveRooms self.now.count self.now.rows self.now.leaves event.now
             leaves.old }
-        ensures marked { (number : ℕ) → HasRow self.now.rows self.now.leaves number event.now
+        ensures marked { (number : ℕ) → HaveReader (awake open_queries.now
+            (slice_index_or self.now.rows event.now.ty [])) self.now.leaves number event.now
             → has into.new number ≡ true }
         ensures only { (k : ℕ) → has into.new k ≡ true → (has into.old k ≡ true)
             ⊎ HasRow self.now.rows self.now.leaves k event.now }
@@ -118,6 +131,7 @@ impl LeafIndex {
                 indexes.as_slice(),
                 self.leaves.as_slice(),
                 event,
+                open_queries,
                 into,
                 leaves,
             );
@@ -189,43 +203,65 @@ fn may_read(row: &LeafRow, event: &Event) -> bool
     may_hold(&row.range, event) && may_open(&row.text_prefilter, event)
 }
 
-/// Puts in the numbers of the query and of the leaf of each row, if the leaf's tests hold of the event.
+/// Whether the row is looked at, and the event may have what its leaf asks for.
+#[inline(always)]
+fn looks_at(row: &LeafRow, event: &Event, open_queries: &Bits) -> bool
+    ensures awake { result ≡ true → is_awake open_queries.now row.now ≡ true }
+    ensures not { (holds : EventData → Bool) → AsksFor row.now.range holds
+        → AsksToOpen row.now.text_prefilter holds → result ≡ false
+        → is_awake open_queries.now row.now ≡ true → holds event.now ≡ false }
+{
+    may_read(row, event) && is_awake(row, open_queries)
+}
+
+/// Puts in the numbers of the query and of the leaf of each row that is looked at, if the leaf's tests hold
+/// of the event.
 #[inline(always)]
 fn mark_rows(
     rows: &[LeafRow],
     leaves: &[IndexedLeaf],
     event: &Event,
+    open_queries: &Bits,
     into: &mut Bits,
     sets: &mut [Bits],
 )
     requires below { All (IsRowBelow (length into.old) leaves.now) rows.now }
     requires room { HaveRoom rows.now leaves.now event.now sets.old }
-    ensures { Marks rows.now leaves.now event.now into.old into.new sets.old sets.new }
+    ensures { Marks (awake open_queries.now rows.now) leaves.now event.now into.old into.new
+        sets.old sets.new }
 {
     for row in rows {
-        if may_read(row, event) {
+        if looks_at(row, event, open_queries) {
             mark_leaf(row, leaves, event, into, sets);
         }
     }
 }
 
-/// Puts in the numbers of the query and of the leaf of each row of the indexes, if the leaf's tests hold
-/// of the event.
+/// Puts in the numbers of the query and of the leaf of each row of the indexes that is looked at, if the
+/// leaf's tests hold of the event.
 #[inline(always)]
 fn mark_indexed(
     indexes: &[Index],
     leaves: &[IndexedLeaf],
     event: &Event,
+    open_queries: &Bits,
     into: &mut Bits,
     sets: &mut [Bits],
 )
     requires indexes { All (IsIndex leaves.now) indexes.now }
     requires below { All (IsRowBelow (length into.old) leaves.now) (gathered indexes.now) }
     requires room { HaveRoom (gathered indexes.now) leaves.now event.now sets.old }
-    ensures { Marks (gathered indexes.now) leaves.now event.now into.old into.new sets.old
-        sets.new }
+    ensures { Marks (awake open_queries.now (gathered indexes.now)) leaves.now event.now into.old
+        into.new sets.old sets.new }
 {
     for index in indexes {
-        mark_rows(few_of(index, event), leaves, event, into, sets);
+        mark_rows(
+            few_of(index, event),
+            leaves,
+            event,
+            open_queries,
+            into,
+            sets,
+        );
     }
 }

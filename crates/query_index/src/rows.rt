@@ -1,17 +1,23 @@
 //! The leaves of all queries by their types.
 
-ghost use Rattle.std.specs.Prelude.{◌≡◌, ℕ, ◌+◌, ◌<◌, ◌≤◌, length, slice_index_or, [], ◌∷◌, IfOk, OnOk};
+ghost use Rattle.std.specs.Prelude.{◌≡◌, ℕ, ◌+◌, ◌<◌, ◌≤◌, ◌||◌, ◌==◌, length, slice_index_or, [], ◌∷◌, IfOk, OnOk};
+ghost use Rattle.cer_base.specs.Bits.{has};
 ghost use Rattle.cel_terms.specs.declared.Query.{Query as QueryData};
-ghost use Rattle.query_index.specs.Rows.{rows_of, HasPut, HasAdded, HasAddedQuery, HaveRows, HasLeafRow, IsIndexed};
+ghost use Rattle.query_index.specs.Rows.{rows_of, is_awake, may_be_among, waits_for, HasPut, HasAdded, HasAddedQuery, HaveRows, HasLeafRow, HasType, HaveTypes, IsIndexed};
 
 use crate::text_prefilters::{TextPrefilter, text_prefilter_of};
+use cea_compile::first_of;
 use cel_terms::Query;
 use cer_base::Memory;
+use cer_base::bits::Bits;
 use predicate_bits::checks::{Check, checks_of};
 use predicate_bits::ranges::{Range, range_of};
 use query_leaves::{Leaf, Test, leaves_of};
 use std::alloc::Global;
 use stream_schema::{Schema, TypeId};
+
+/// The number of no query.
+pub const NONE: u64 = u64::MAX;
 
 /// What is looked at first of a leaf: the range and the text that its tests ask for, and where the rest
 /// is.
@@ -21,6 +27,18 @@ pub struct LeafRow {
     pub text_prefilter: TextPrefilter,
     /// The number of the leaf among those of all queries, from 0.
     pub leaf: u64,
+    /// Its query's number, from 0, where none of this query's leaves of its type may read the first
+    /// event of a match: it is then looked at only while that query may have an open match. Else
+    /// `NONE`.
+    pub waits: u64,
+}
+
+/// Whether the row is looked at where the queries in the set may have an open match.
+#[inline(always)]
+pub fn is_awake(row: &LeafRow, open_queries: &Bits) -> bool
+    ensures { result ≡ is_awake open_queries.now row.now }
+{
+    row.waits == NONE || open_queries.contains(row.waits as usize)
 }
 
 /// What is looked at of a leaf where its row lets an event through.
@@ -75,18 +93,21 @@ fn put(rows: &mut Vec<Vec<LeafRow>>, alloc: Global, ty: TypeId, row: LeafRow) ->
     Ok(())
 }
 
-/// Puts in a row for the leaf of the query of this number, and the leaf's own number and its tests.
+/// Puts in a row for the leaf of the query of this number, and the leaf's own number and its tests. The
+/// row waits for this query, or for `NONE`.
 fn add_leaf(
     rows: &mut Vec<Vec<LeafRow>>,
     leaves: &mut Vec<IndexedLeaf>,
     alloc: Global,
     query: u64,
     number: u64,
+    waits: u64,
     leaf: Leaf,
 ) -> Result<(), Memory>
     ensures row { OnOk result (HasLeafRow query number (rows_of rows.new.items)
         leaves.new.items leaf) }
-    ensures added { OnOk result (HasAdded query number (leaf ∷ []) (rows_of rows.old.items)
+    ensures added { OnOk result ((waiting : ℕ → ℕ) → waits ≡ waiting leaf.ty
+        → HasAdded waiting query number (leaf ∷ []) (rows_of rows.old.items)
         leaves.old.items (rows_of rows.new.items) leaves.new.items) }
 {
     let ty = leaf.ty;
@@ -109,28 +130,73 @@ fn add_leaf(
             range,
             text_prefilter,
             leaf: place,
+            waits,
         },
     )?;
     Ok(())
 }
 
-/// Puts in a row for each leaf of the query of this number, the leaves being numbered from 0.
+/// Puts the type in, where the set has room for it.
+fn put_type(types: &mut Bits, ty: TypeId)
+    ensures { HasType ty types.old types.new }
+{
+    if types.has_room_for(ty as usize) {
+        types.insert(ty as usize);
+    }
+}
+
+/// The types of the leaves in the set, of those that the schema has.
+fn types_of(alloc: Global, schema: &Schema, list: &[Leaf], some: &Bits) -> Result<Bits, Memory>
+    ensures { IfOk result (λ types. HaveTypes list.now some.now types) }
+{
+    let mut types = Bits::blank(alloc, schema.types() as usize)?;
+    for k in 0..list.len() {
+        if some.contains(k) {
+            put_type(&mut types, list[k].ty);
+        }
+    }
+    Ok(types)
+}
+
+/// Whether the type is in the set, or one that it has no room for.
+fn may_be_among(types: &Bits, ty: TypeId) -> bool
+    ensures { result ≡ may_be_among types.now ty }
+{
+    !types.has_room_for(ty as usize) || types.contains(ty as usize)
+}
+
+/// The number that a row of the type waits for, of the query of this number, the first event of whose
+/// matches has one of the types.
+fn waits_for(types: &Bits, query: u64, ty: TypeId) -> u64
+    ensures { result ≡ waits_for types.now query ty }
+{
+    if may_be_among(types, ty) {
+        return NONE;
+    }
+    query
+}
+
+/// Puts in a row for each leaf of the query of this number, the leaves being numbered from 0. The first
+/// event of its matches has one of the types.
 fn add_leaves(
     rows: &mut Vec<Vec<LeafRow>>,
     leaves: &mut Vec<IndexedLeaf>,
     alloc: Global,
     query: u64,
+    types: &Bits,
     list: Vec<Leaf>,
 ) -> Result<(), Memory>
     ensures rows { OnOk result (HaveRows query list.items (rows_of rows.new.items)
         leaves.new.items) }
-    ensures added { OnOk result (HasAdded query 0 list.items (rows_of rows.old.items)
+    ensures added { OnOk result (HasAdded (waits_for types.now query) query 0 list.items
+        (rows_of rows.old.items)
         leaves.old.items (rows_of rows.new.items) leaves.new.items) }
 {
     let first = leaves.len();
     for leaf in list {
         let number = (leaves.len() - first) as u64;
-        add_leaf(rows, leaves, alloc, query, number, leaf)?;
+        let waits = waits_for(types, query, leaf.ty);
+        add_leaf(rows, leaves, alloc, query, number, waits, leaf)?;
     }
     Ok(())
 }
@@ -150,6 +216,15 @@ pub fn add_query(
         (rows_of rows.old.items) leaves.old.items (rows_of rows.new.items) leaves.new.items) }
 {
     let found = leaves_of(alloc, schema, query)?;
-    add_leaves(rows, leaves, alloc, number, found.list.into_vec())?;
+    let first = first_of(alloc, &found)?;
+    let types = types_of(alloc, schema, found.list.as_slice(), &first)?;
+    add_leaves(
+        rows,
+        leaves,
+        alloc,
+        number,
+        &types,
+        found.list.into_vec(),
+    )?;
     Ok(())
 }

@@ -1,7 +1,7 @@
 use Rattle.std.proofs.Common.{List, Vec, Global, ap}
 use Rattle.query_index.specs.declared.rows.LeafRow.{LeafRow}
 use Rattle.query_index.specs.Rows.{rows_of}
-use Rattle.query_index.proofs.Listed.{leaf_index_none, leaf_index_next, leaf_index_all, exact_all, below_all}
+use Rattle.query_index.proofs.Listed.{leaf_index_none, leaf_index_next, leaf_index_all, exact_all, below_all, waiting_all}
 use Rattle.query_index.proofs.leaf_index.rows_for.Goals as goal
 
 pub loop-k-init : goal.loop-k-init
@@ -18,3 +18,9 @@ returns-clause-exact c = exact_all c.loop-k.k c.args.schema.now c.args.queries.n
 
 pub returns-clause-below : goal.returns-clause-below
 returns-clause-below c = below_all c.loop-k.k c.args.schema.now c.args.queries.now (rows_of c.loop-k.rows.items) c.loop-k.leaves.items c.loop-k.auto.k-end c.loop-k.invariant
+
+pub returns-clause-waiting : goal.returns-clause-waiting
+returns-clause-waiting c = waiting_all c.loop-k.k c.args.schema.now c.args.queries.now (rows_of c.loop-k.rows.items) c.loop-k.leaves.items c.loop-k-test.false c.loop-k.invariant
+
+pub returns-clause-alike : goal.returns-clause-alike
+returns-clause-alike c = c.loop-k.invariant.alike

@@ -7,14 +7,18 @@ use Rattle.stream_schema.specs.Types.{Declared}
 use Rattle.stream_schema.specs.Events.{IsOfSchema}
 use Rattle.stream_schema.specs.declared.Event.{Event}
 use Rattle.cel_terms.specs.declared.Query.{Query}
+use Rattle.query_leaves.specs.Expand.{tree_of}
+use Rattle.cea_compile.specs.Compiled.{automaton_of}
 use Rattle.query_standing.specs.Clocks.{Reads}
-use Rattle.query_standing.specs.Kept.{QueryState, roots_for}
+use Rattle.query_standing.specs.Keys.{leaves_reading}
+use Rattle.query_standing.specs.Kept.{QueryState, Rows, roots_for}
+use Rattle.query_standing.proofs.Nothing.{none_begins}
 use Rattle.query_standing.specs.Dormancy.{IsLetPass, IsNoOp}
 use Rattle.query_standing.proofs.Lists.{got}
 use Rattle.query_standing.proofs.Passing.{append_none}
 use Rattle.query_standing.proofs.Dormancy.{lets_pass}
 use Rattle.event_update.specs.Dormancy.{AreDormant}
-use Rattle.all_or_none.specs.Phases.{Phase, IsIdle, IsUnread, CanPrepare, Grows, IsStep, IsNoOpFor, IsDormant}
+use Rattle.all_or_none.specs.Phases.{Phase, IsIdle, IsUnread, CanPrepare, Grows, IsStep, IsNoOpFor, IsDormant, IsEmpty}
 use Rattle.all_or_none.specs.Dormancy.{here_at, phase_at, HasTimes, LetsPass}
 
 -- there are not as many events yet as there will be
@@ -71,3 +75,16 @@ quiet_is_dormant p idle times lets = record {
   pass : (event : Event) → IsUnread event p → LetsPass p.query p.kept → IsLetPass p.schema p.query event p.kept
   pass event unread (inl skip_insensitive) = record { unread = unread; is_dormant = inl skip_insensitive }
   pass event unread (inr all) = record { unread = unread; is_dormant = inr (λ key number rows has at were. All-contains (AreDormant p.kept.table) p.kept.rows rows all (got p.kept.rows number rows were)) }
+
+-- what has no open match
+pub none_is_empty : (p : Phase) → IsIdle p → HasTimes p.schema p.query → All (λ (rows : Rows). rows ≡ []) p.kept.rows → IsEmpty (λ n. phase_at n p)
+none_is_empty p idle times none = record {
+  passes = λ event position le is can begins. passes_by p event position idle times le can (λ reads. inr (inr (record {
+    begins = none_begins (automaton_of (tree_of p.query)) p.query.strict (leaves_reading p.schema p.query event) begins;
+    empty = λ key number rows has at were. All-contains (λ (rows : Rows). rows ≡ []) p.kept.rows rows none (got p.kept.rows number rows were);
+    table = refl;
+    keys = refl;
+    rows = refl;
+    here = refl;
+  })));
+}

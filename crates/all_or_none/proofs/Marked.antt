@@ -8,7 +8,8 @@ use Rattle.std.proofs.lemmas.List.Elements.{All-nil, All-cons, All-head, All-tai
 use Rattle.std.proofs.lemmas.List.Sums.{sum_by-cons}
 use Rattle.stream_schema.specs.declared.Event.{Event}
 use Rattle.cer_base.specs.Bits.{has}
-use Rattle.all_or_none.specs.Phases.{Phase, IsIdle, CanPrepare, IsNoOpFor, IsNoted, back, is_among, AreSet, IsTaken, IsDormant, AreLeft, IsUnread, AreUnread, AreUntouched, IsUnchanged, AreUnchanged, AreOfMarked, AreBack}
+use Rattle.all_or_none.specs.declared.Activity.{Activity}
+use Rattle.all_or_none.specs.Phases.{Phase, IsIdle, CanPrepare, IsNoOpFor, IsNoted, back, is_among, AreSet, IsTaken, IsDormant, IsEmpty, IsUnread, BeginsNone, AreLeft, AreLooked, AreNoOps, AreSpared, AreUntouched, IsUnchanged, AreUnchanged, AreOfMarked, AreBack}
 use Rattle.all_or_none.proofs.LoopTurn.{same_next, left_next, all_mapped}
 use Rattle.all_or_none.proofs.BothPhases.{map_map}
 use Rattle.all_or_none.proofs.Numbers.{read_other, read_there, as_long, among_push, set_none, set_next}
@@ -59,16 +60,27 @@ untouched_next marked old cur k v others is j unmarked = read_other cur k j v (�
 pub record CanTake {P : Type 0} (phase : ℕ → P → Phase) (event : Event) (position : ℕ) (marked : List Bool) (query_states : List P) : Type 0 where
   pub idle : All (λ p. IsIdle (phase position p)) query_states
   pub can : All (λ p. CanPrepare event position (phase position p)) query_states
-  pub left : AreLeft phase position marked query_states
-  pub unread : AreUnread (phase position) event marked query_states
+  pub no_ops : AreNoOps phase event position marked query_states
 
-pub no_op_there : {P : Type 0} (phase : ℕ → P → Phase) (event : Event) (position : ℕ) (marked : List Bool) (query_states : List P) → CanTake phase event position marked query_states → (k : ℕ) (p : P) → slice_get query_states k ≡ Some p → has marked k ≡ false → IsNoOpFor event position (phase position p) (phase (position + 1) p)
-no_op_there phase event position marked query_states h k p at unmarked =
-    (h.left.others k p at unmarked).passes event position
-    (all_get (λ x. (phase position x).upto ≤ position) query_states k p h.left.known at)
-    (all_get (λ x. IsIdle (phase position x)) query_states k p h.idle at)
-    (all_get (λ x. CanPrepare event position (phase position x)) query_states k p h.can at)
-    (h.unread k p at unmarked)
+-- For those that it does not go to the event is a no-op.
+pub no_ops_there : {P : Type 0} (phase : ℕ → P → Phase) (event : Event) (position : ℕ) (activity : Activity) (marked : List Bool) (query_states : List P) → All (λ p. IsIdle (phase position p)) query_states → All (λ p. CanPrepare event position (phase position p)) query_states → AreLeft phase position activity query_states → ((k : ℕ) → has activity.active_queries k ≡ true → has marked k ≡ true) → AreSpared (phase position) event marked activity.open_queries query_states → AreNoOps phase event position marked query_states
+no_ops_there phase event position activity marked query_states idle can left among spared k p at unmarked = elim (spared k p at unmarked) [
+  | inl unread ↦ (left.others k p at (dormant (has activity.active_queries k) refl)).passes event position known still may unread
+  | inr begins ↦ (left.empty k p at begins.0).passes event position known still may begins.1
+]
+  where
+    known : (phase position p).upto ≤ position
+    known = all_get (λ x. (phase position x).upto ≤ position) query_states k p left.known at
+
+    still : IsIdle (phase position p)
+    still = all_get (λ x. IsIdle (phase position x)) query_states k p idle at
+
+    may : CanPrepare event position (phase position p)
+    may = all_get (λ x. CanPrepare event position (phase position x)) query_states k p can at
+
+    dormant : (b : Bool) → has activity.active_queries k ≡ b → has activity.active_queries k ≡ false
+    dormant false e = e
+    dormant true e = absurd (false≢true (sym unmarked ∙ among k e))
 
 -- The first so many query states were gone over: the marked ones are prepared or the event is a no-op for them, and the others are as they were.
 pub record HaveGone {P : Type 0} (phase : ℕ → P → Phase) (event : Event) (position : ℕ) (marked : List Bool) (k : ℕ) (numbers : List ℕ) (old cur : List P) : Type 0 where
@@ -102,7 +114,7 @@ module _ {P : Type 0} (phase : ℕ → P → Phase) (event : Event) (position : 
       let x = there cur k inside in
       let same = set_same cur k x.0 x.1 in
       let here : slice_index_or cur k x.0 ≡ x.0 = (let both = sym (slice_get-get_or cur k x.0 inside) ∙ x.1 in cc) in
-      let no_op = no_op_there phase event position marked old asked k x.0 (sym (h.others k unmarked) ∙ x.1) unmarked in
+      let no_op = asked.no_ops k x.0 (sym (h.others k unmarked) ∙ x.1) unmarked in
       record {
         count = h.count;
         kept = subst (λ zs. map (λ p. back (phase position p)) (take (k + 1) zs) ≡ map (λ p. back (phase position p)) (take (k + 1) old)) same
@@ -213,31 +225,57 @@ is_dormant_as phase old new same h = record {
       (subst (λ b. (phase position old).upto ≤ position → IsIdle (phase position old) → CanPrepare event position (phase position old) → IsUnread event (phase position old) → IsNoOpFor event position (phase position old) b) (sym (same (position + 1))) (h.passes event position));
 }
 
--- each query state that is not among more numbers is dormant where it is not among fewer
-pub left_more : {P : Type 0} (phase : ℕ → P → Phase) (count : ℕ) (active_queries marked : List Bool) (query_states : List P) → ((k : ℕ) → has active_queries k ≡ true → has marked k ≡ true) → AreLeft phase count active_queries query_states → AreLeft phase count marked query_states
-left_more phase count active_queries marked query_states among left = record { known = left.known; others = λ k p at out. left.others k p at (by k out (has active_queries k) refl) }
-  where
-    by : (k : ℕ) → has marked k ≡ false → (b : Bool) → has active_queries k ≡ b → has active_queries k ≡ false
-    by k out false e = e
-    by k out true e = absurd (false≢true (sym out ∙ among k e))
+-- and has no open match where it had none
+is_empty_as : {P : Type 0} (phase : ℕ → P → Phase) (old new : P) → IsUnchanged phase old new → IsEmpty (λ n. phase n old) → IsEmpty (λ n. phase n new)
+is_empty_as phase old new same h = record {
+  passes = λ event position. subst (λ a. a.upto ≤ position → IsIdle a → CanPrepare event position a → BeginsNone event a → IsNoOpFor event position a (phase (position + 1) new)) (sym (same position))
+      (subst (λ b. (phase position old).upto ≤ position → IsIdle (phase position old) → CanPrepare event position (phase position old) → BeginsNone event (phase position old) → IsNoOpFor event position (phase position old) b) (sym (same (position + 1))) (h.passes event position));
+}
 
--- After the event each query state that is not among those that are active is dormant: of the numbers' query states that was looked at, and the others are as they were.
-pub left_after : {P : Type 0} (phase : ℕ → P → Phase) (count : ℕ) (before active_queries : List Bool) (numbers : List ℕ) (old prepared new : List P) → length prepared ≡ length old → All (λ p. (phase (count + 1) p).upto ≤ count + 1) new → AreLeft phase count before old → AreUnchanged phase numbers old prepared → ((k : ℕ) → is_among numbers (k + 1) ≡ false → slice_get new k ≡ slice_get prepared k) → ((k : ℕ) (p : P) → slice_get new k ≡ Some p → is_among numbers (k + 1) ≡ true → has active_queries k ≡ false → IsDormant (λ n. phase n p)) → ((k : ℕ) → is_among numbers (k + 1) ≡ false → has active_queries k ≡ has before k) → AreLeft phase (count + 1) active_queries new
-left_after phase count before active_queries numbers old prepared new long known left unchanged others rest stay = record { known = known; others = λ k p at out. by k p at out (is_among numbers (k + 1)) refl }
+-- After the event: what is known of the numbers' query states was looked at, and the others are as they were.
+pub left_after : {P : Type 0} (phase : ℕ → P → Phase) (count : ℕ) (before activity : Activity) (numbers : List ℕ) (old prepared new : List P) → length prepared ≡ length old → All (λ p. (phase (count + 1) p).upto ≤ count + 1) new → AreLeft phase count before old → AreUnchanged phase numbers old prepared → ((k : ℕ) → is_among numbers (k + 1) ≡ false → slice_get new k ≡ slice_get prepared k) → AreLooked phase numbers before activity new → AreLeft phase (count + 1) activity new
+left_after phase count before activity numbers old prepared new long known left unchanged others looked = record {
+  known = known;
+  others = λ k p at out. dormant k p at out (is_among numbers (k + 1)) refl;
+  empty = λ k p at out. none k p at out (is_among numbers (k + 1)) refl;
+  within = λ k is. both k is (is_among numbers (k + 1)) refl;
+}
   where
-    by : (k : ℕ) (p : _) → slice_get new k ≡ Some p → has active_queries k ≡ false → (b : Bool) → is_among numbers (k + 1) ≡ b → IsDormant (λ n. phase n p)
-    by k p at out true among = rest k p at among out
-    by k p at out false among =
+    was_there : (k : ℕ) (p : _) → slice_get new k ≡ Some p → is_among numbers (k + 1) ≡ false → (o : _) × (slice_get old k ≡ Some o) × IsUnchanged phase o p
+    was_there k p at among =
         let is = sym (others k among) ∙ at in
         let less = get_within prepared k p is in
         let was = there old k (omega arith) in
-        is_dormant_as phase was.0 p (unchanged k was.0 p was.1 is among) (left.others k was.0 was.1 (sym (stay k among) ∙ out))
+        (was.0, was.1, unchanged k was.0 p was.1 is among)
 
--- and after a refusal, where the marked ones stay active
-pub left_again : {P : Type 0} (phase : ℕ → P → Phase) (count : ℕ) (marked before active_queries : List Bool) (old new : List P) → map (phase count) new ≡ map (phase count) old → AreUntouched marked old new → AreLeft phase count before old → ((k : ℕ) → has active_queries k ≡ (has before k || has marked k)) → AreLeft phase count active_queries new
-left_again phase count marked before active_queries old new unchanged same left members = record {
+    dormant : (k : ℕ) (p : _) → slice_get new k ≡ Some p → has activity.active_queries k ≡ false → (b : Bool) → is_among numbers (k + 1) ≡ b → IsDormant (λ n. phase n p)
+    dormant k p at out true among = looked.rest k p at among out
+    dormant k p at out false among =
+        let was = was_there k p at among in
+        is_dormant_as phase was.0 p was.2 (left.others k was.0 was.1 (sym (looked.others k among).0 ∙ out))
+
+    none : (k : ℕ) (p : _) → slice_get new k ≡ Some p → has activity.open_queries k ≡ false → (b : Bool) → is_among numbers (k + 1) ≡ b → IsEmpty (λ n. phase n p)
+    none k p at out true among = looked.empty k p at among out
+    none k p at out false among =
+        let was = was_there k p at among in
+        is_empty_as phase was.0 p was.2 (left.empty k was.0 was.1 (sym (looked.others k among).1 ∙ out))
+
+    both : (k : ℕ) → has activity.active_queries k ≡ true → (b : Bool) → is_among numbers (k + 1) ≡ b → has activity.open_queries k ≡ true
+    both k is true among = looked.within k among is
+    both k is false among =
+        let same = looked.others k among in
+        same.1 ∙ left.within k (sym same.0 ∙ is)
+
+-- and after a refusal, where nothing is known of the marked ones
+pub left_again : {P : Type 0} (phase : ℕ → P → Phase) (count : ℕ) (marked : List Bool) (before activity : Activity) (old new : List P) → map (phase count) new ≡ map (phase count) old → AreUntouched marked old new → AreLeft phase count before old → ((k : ℕ) → has activity.active_queries k ≡ (has before.active_queries k || has marked k)) → ((k : ℕ) → has activity.open_queries k ≡ (has before.open_queries k || has marked k)) → AreLeft phase count activity new
+left_again phase count marked before activity old new unchanged same left active_are open_are = record {
   known = all_mapped (λ (p : Phase). p.upto ≤ count) (phase count) new (subst (All (λ (p : Phase). p.upto ≤ count)) (sym unchanged) (All-map (λ (p : Phase). p.upto ≤ count) (phase count) old left.known));
-  others = λ k p at out. (let neither = both (has before k) (has marked k) (sym (members k) ∙ out) in left.others k p (sym (same k neither.1) ∙ at) neither.0);
+  others = λ k p at out. (let neither = both (has before.active_queries k) (has marked k) (sym (active_are k) ∙ out) in left.others k p (sym (same k neither.1) ∙ at) neither.0);
+  empty = λ k p at out. (let neither = both (has before.open_queries k) (has marked k) (sym (open_are k) ∙ out) in left.empty k p (sym (same k neither.1) ∙ at) neither.0);
+  within = λ k is. open_are k ∙ elim (or_cases (has before.active_queries k) (has marked k) (sym (active_are k) ∙ is)) [
+    | inl was ↦ or_left (has before.open_queries k) (has marked k) (left.within k was)
+    | inr now ↦ or_right (has before.open_queries k) (has marked k) now
+  ];
 }
   where
     both : (a b : Bool) → (a || b) ≡ false → (a ≡ false) × (b ≡ false)

@@ -1,5 +1,5 @@
 -- Query states that keep no clock: what they are after later events, and that these are no-ops for them.
-use Rattle.std.specs.Prelude.{◌≡◌, ℕ, ◌+◌, ◌≤◌, ◌==◌, ◌⊎◌, ℤ, ◌≤ℤ◌, if◌then◌else◌, All, Option, None}
+use Rattle.std.specs.Prelude.{◌≡◌, ℕ, ◌+◌, ◌≤◌, ◌==◌, ◌⊎◌, ℤ, ◌≤ℤ◌, if◌then◌else◌, [], All, Option, None}
 use Rattle.stream_schema.specs.Types.{Declared}
 use Rattle.stream_schema.specs.Events.{IsOfSchema}
 use Rattle.stream_schema.specs.declared.Event.{Event}
@@ -7,12 +7,12 @@ use Rattle.cel_terms.specs.declared.Query.{Query}
 use Rattle.cel_terms.specs.Answers.{HasClock}
 use Rattle.query_leaves.specs.Expand.{tree_of}
 use Rattle.query_standing.specs.Clocks.{Reads}
-use Rattle.query_standing.specs.Kept.{QueryState}
+use Rattle.query_standing.specs.Kept.{QueryState, Rows}
 use Rattle.query_standing.specs.Dormancy.{IsNoOp}
 use Rattle.cea_compile.specs.Compiled.{automaton_of}
 use Rattle.event_update.specs.Dormancy.{IsSkipInsensitive}
 use Rattle.event_update.specs.Dormancy.{AreDormant}
-use Rattle.all_or_none.specs.Phases.{Phase, IsIdle, CanPrepare, IsNoOpFor, IsDormant}
+use Rattle.all_or_none.specs.Phases.{Phase, IsIdle, CanPrepare, IsNoOpFor, IsDormant, IsEmpty}
 
 -- the number of the last event's key after so many events: of none, where the last one was a no-op for the query state
 abbrev pub here_at : ℕ → ℕ → Option ℕ → Option ℕ
@@ -38,3 +38,7 @@ EventsAreNoOps = (p : Phase) (event : Event) (position : ℕ) → IsIdle p → H
 -- So a query state is dormant where its automaton is skip-insensitive, or all its lists are dormant.
 abbrev pub QueryStatesAreDormant : Type 0
 QueryStatesAreDormant = (p : Phase) → IsIdle p → HasTimes p.schema p.query → LetsPass p.query p.kept → IsDormant (λ n. phase_at n p)
+
+-- It has no open match where the list of each key is empty.
+abbrev pub QueryStatesAreEmpty : Type 0
+QueryStatesAreEmpty = (p : Phase) → IsIdle p → HasTimes p.schema p.query → All (λ (rows : Rows). rows ≡ []) p.kept.rows → IsEmpty (λ n. phase_at n p)

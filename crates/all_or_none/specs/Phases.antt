@@ -1,5 +1,5 @@
 -- One event over the query states of several queries, in two phases.
-use Rattle.std.specs.Prelude.{◌≡◌, ◌≢◌, ℕ, ◌+◌, ◌<◌, ◌≤◌, ◌==◌, ◌⊎◌, ℤ, Bool, true, false, List, [], ◌∷◌, ◌++◌, length, All, Option, Some, None, IsSomeAnd, slice_get, slice_index_or}
+use Rattle.std.specs.Prelude.{◌≡◌, ◌≢◌, ℕ, ◌+◌, ◌<◌, ◌≤◌, ◌==◌, ◌⊎◌, ◌&&◌, ℤ, Bool, true, false, List, [], ◌∷◌, ◌++◌, length, All, Option, Some, None, IsSomeAnd, slice_get, slice_index_or}
 use Rattle.std.specs.List.{AllZip, list_any}
 use Rattle.stream_schema.specs.Types.{Declared}
 use Rattle.stream_schema.specs.Events.{IsOfSchema}
@@ -9,10 +9,12 @@ use Rattle.query_standing.specs.Bounds.{update_bound, MeetAtMost}
 use Rattle.cer_base.specs.Bits.{has, room_for}
 use Rattle.query_leaves.specs.Expand.{tree_of}
 use Rattle.query_leaves.specs.Leaves.{occurrences}
+use Rattle.cea_compile.specs.Compiled.{automaton_of}
 use Rattle.query_standing.specs.Clocks.{Reads, FallsBack}
 use Rattle.query_standing.specs.Keys.{leaves_reading}
 use Rattle.query_standing.specs.Kept.{QueryState, Extends, roots_at}
 use Rattle.query_standing.specs.Dormancy.{StandsWithClock}
+use Rattle.all_or_none.specs.declared.Activity.{Activity}
 
 -- What a query state is seen as: its schema and query, what is kept, what a commit makes of that, where it is prepared, and how many events there were when the last one had come that was not a no-op for it. It has no clock: that is of the events.
 pub record Phase : Type 0 where
@@ -125,18 +127,52 @@ pub record AreLeavesRead (event : Event) (leaves : List Bool) (p : Phase) : Type
 abbrev pub IsUnread : Event → Phase → Type 0
 IsUnread event p = (k : ℕ) → leaves_reading p.schema p.query event k ≡ false
 
+-- none of those that may read the first event of a match does
+abbrev pub BeginsNone : Event → Phase → Type 0
+BeginsNone event p = (k : ℕ) → (automaton_of (tree_of p.query)).first k && leaves_reading p.schema p.query event k ≡ false
+
 -- The query state is dormant: from the last event on that was not a no-op for it, each event that no leaf of its query reads is a no-op for it. It is told by what the query state is after each number of events.
 pub record IsDormant (phase : ℕ → Phase) : Type 0 where
   pub passes : (event : Event) (position : ℕ) → (phase position).upto ≤ position → IsIdle (phase position) → CanPrepare event position (phase position) → IsUnread event (phase position) → IsNoOpFor event position (phase position) (phase (position + 1))
 
--- There were at least as many events as up to the last one that was not a no-op for a query state, and each query state whose number, from 0, is not in the set is dormant.
-pub record AreLeft {P : Type 0} (phase : ℕ → P → Phase) (count : ℕ) (active_queries : List Bool) (query_states : List P) : Type 0 where
-  pub known : All (λ p. (phase count p).upto ≤ count) query_states
-  pub others : (k : ℕ) (p : P) → slice_get query_states k ≡ Some p → has active_queries k ≡ false → IsDormant (λ n. phase n p)
+-- The query state has no open match: from the last event on that was not a no-op for it, each event that begins none is a no-op for it.
+pub record IsEmpty (phase : ℕ → Phase) : Type 0 where
+  pub passes : (event : Event) (position : ℕ) → (phase position).upto ≤ position → IsIdle (phase position) → CanPrepare event position (phase position) → BeginsNone event (phase position) → IsNoOpFor event position (phase position) (phase (position + 1))
 
--- no leaf reads the event of the query of a query state whose number, from 0, is not in the set
-abbrev pub AreUnread : {P : Type 0} → (P → Phase) → Event → List Bool → List P → Type 0
-AreUnread phase event marked query_states = (k : ℕ) (p : _) → slice_get query_states k ≡ Some p → has marked k ≡ false → IsUnread event (phase p)
+-- There were at least as many events as up to the last one that was not a no-op for a query state. Each query state whose number, from 0, is not among the active ones is dormant, and each one whose number is not among the open ones has no open match. The active ones are among the open ones.
+pub record AreLeft {P : Type 0} (phase : ℕ → P → Phase) (count : ℕ) (activity : Activity) (query_states : List P) : Type 0 where
+  pub known : All (λ p. (phase count p).upto ≤ count) query_states
+  pub others : (k : ℕ) (p : P) → slice_get query_states k ≡ Some p → has activity.active_queries k ≡ false → IsDormant (λ n. phase n p)
+  pub empty : (k : ℕ) (p : P) → slice_get query_states k ≡ Some p → has activity.open_queries k ≡ false → IsEmpty (λ n. phase n p)
+  pub within : (k : ℕ) → has activity.active_queries k ≡ true → has activity.open_queries k ≡ true
+
+-- The query state of this number was looked at: which sets it is in tells what is known of it. The others are in those that they were in.
+pub record IsLooked {P : Type 0} (phase : ℕ → P → Phase) (k : ℕ) (p : P) (old new : Activity) : Type 0 where
+  pub rest : has new.active_queries k ≡ false → IsDormant (λ n. phase n p)
+  pub empty : has new.open_queries k ≡ false → IsEmpty (λ n. phase n p)
+  pub within : has new.active_queries k ≡ true → has new.open_queries k ≡ true
+  pub others : (j : ℕ) → j ≢ k → (has new.active_queries j ≡ has old.active_queries j) × (has new.open_queries j ≡ has old.open_queries j)
+  pub room : (length new.active_queries ≡ length old.active_queries) × (length new.open_queries ≡ length old.open_queries)
+
+-- So were the query states of these numbers, from 1.
+pub record AreLooked {P : Type 0} (phase : ℕ → P → Phase) (numbers : List ℕ) (old new : Activity) (query_states : List P) : Type 0 where
+  pub rest : (k : ℕ) (p : P) → slice_get query_states k ≡ Some p → is_among numbers (k + 1) ≡ true → has new.active_queries k ≡ false → IsDormant (λ n. phase n p)
+  pub empty : (k : ℕ) (p : P) → slice_get query_states k ≡ Some p → is_among numbers (k + 1) ≡ true → has new.open_queries k ≡ false → IsEmpty (λ n. phase n p)
+  pub within : (k : ℕ) → is_among numbers (k + 1) ≡ true → has new.active_queries k ≡ true → has new.open_queries k ≡ true
+  pub others : (k : ℕ) → is_among numbers (k + 1) ≡ false → (has new.active_queries k ≡ has old.active_queries k) × (has new.open_queries k ≡ has old.open_queries k)
+  pub room : (length new.active_queries ≡ length old.active_queries) × (length new.open_queries ≡ length old.open_queries)
+
+-- no leaf reads the event of the query of a query state whose number, from 0, is in the first set and not in the second
+abbrev pub AreUnread : {P : Type 0} → (P → Phase) → Event → List Bool → List Bool → List P → Type 0
+AreUnread phase event marked read query_states = (k : ℕ) (p : _) → slice_get query_states k ≡ Some p → has marked k ≡ true → has read k ≡ false → IsUnread event (phase p)
+
+-- Of the query of a query state whose number, from 0, is not in the first set, no leaf reads the event; or the number is not in the second set, and the event begins no match.
+abbrev pub AreSpared : {P : Type 0} → (P → Phase) → Event → List Bool → List Bool → List P → Type 0
+AreSpared phase event marked open_queries query_states = (k : ℕ) (p : _) → slice_get query_states k ≡ Some p → has marked k ≡ false → IsUnread event (phase p) ⊎ ((has open_queries k ≡ false) × BeginsNone event (phase p))
+
+-- the event is a no-op for the query states whose numbers, from 0, are not in the set
+abbrev pub AreNoOps : {P : Type 0} → (ℕ → P → Phase) → Event → ℕ → List Bool → List P → Type 0
+AreNoOps phase event position marked query_states = (k : ℕ) (p : _) → slice_get query_states k ≡ Some p → has marked k ≡ false → IsNoOpFor event position (phase position p) (phase (position + 1) p)
 
 -- of each query state whose number is in the first set, the set of its number is that of the leaves of its query that read the event
 abbrev pub AreRead : {P : Type 0} → (P → Phase) → Event → List Bool → List (List Bool) → List P → Type 0

@@ -1,6 +1,6 @@
 //! Laws of query states that keep no clock. Each function does nothing; its contract is the law.
 
-ghost use Rattle.all_or_none.specs.Dormancy.{EventsAreNoOps, QueryStatesAreDormant};
+ghost use Rattle.all_or_none.specs.Dormancy.{EventsAreNoOps, QueryStatesAreDormant, QueryStatesAreEmpty};
 
 /// An event that leaves what is kept as it is is a no-op for the query state, and a query state is
 /// dormant for which all events are no-ops that no leaf reads, whatever its window, its partition
@@ -8,4 +8,5 @@ ghost use Rattle.all_or_none.specs.Dormancy.{EventsAreNoOps, QueryStatesAreDorma
 pub fn no_ops_and_dormancy()
     ensures pass { EventsAreNoOps }
     ensures rest { QueryStatesAreDormant }
+    ensures empty { QueryStatesAreEmpty }
 {}

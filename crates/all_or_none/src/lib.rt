@@ -9,12 +9,12 @@
 //! after a refusal by those that any run meets. It stands on `query_standing`.
 #![tactic(auto)]
 
-ghost use Rattle.std.specs.Prelude.{◌≡◌, ◌≢◌, ℕ, ◌+◌, ◌^◌, ◌<◌, ◌≤◌, ◌⊎◌, true, false, List, [], ◌∷◌, ◌++◌, length, map, sum_by, All, Some, slice_get, IfSome, IfNone, IfOk, OnOk, OnErr};
+ghost use Rattle.std.specs.Prelude.{◌≡◌, ◌≢◌, ℕ, ◌+◌, ◌^◌, ◌<◌, ◌≤◌, ◌⊎◌, Bool, true, false, List, [], ◌∷◌, ◌++◌, length, map, sum_by, All, Some, slice_get, IfSome, IfNone, IfOk, OnOk, OnErr};
 ghost use Rattle.std.specs.List.{AllZip};
 ghost use Rattle.cer_base.specs.Bits.{has};
 ghost use Rattle.stream_schema.specs.declared.Event.{Event};
 ghost use Rattle.query_standing.specs.Bounds.{update_bound};
-ghost use Rattle.all_or_none.specs.Phases.{Phase, CanPrepare, IsPrepared, IsCommitted, IsIdle, HasNoAnswer, back, IsNoOpFor, IsDormant, AreLeft, AreLeavesRead, AreRead, IsUnread, AreUnread, AreUntouched, IsUnchanged, AreUnchanged, AreOfMarked, AreBack, IsNoted, is_among, AreSet, MayAnswer, IsTaken, IsWithin, StandsAt, InTime, ready_bound, kept_bound, AreBounded, HasGrown};
+ghost use Rattle.all_or_none.specs.Phases.{Phase, CanPrepare, IsPrepared, IsCommitted, IsIdle, HasNoAnswer, back, IsNoOpFor, IsDormant, IsEmpty, AreLeft, IsLooked, AreLooked, AreNoOps, AreSpared, AreLeavesRead, AreRead, IsUnread, AreUnread, AreUntouched, IsUnchanged, AreUnchanged, AreOfMarked, AreBack, IsNoted, is_among, AreSet, MayAnswer, IsTaken, IsWithin, StandsAt, InTime, ready_bound, kept_bound, AreBounded, HasGrown};
 
 pub mod laws;
 
@@ -24,9 +24,18 @@ use cer_base::{Memory, Pos};
 use std::sync::ledger::Ledger;
 use stream_schema::Event;
 
+/// What is known of query states, by their numbers from 0.
+#[derive(Drop)]
+pub struct Activity {
+    /// Those that are not known to be dormant.
+    pub active_queries: Bits,
+    /// Those that are not known to have no open match, the active ones among them.
+    pub open_queries: Bits,
+}
+
 /// What is kept of one query. Between `prepare` and `commit` it is still seen as what it was.
 pub trait Participant {
-    ghost use Rattle.all_or_none.specs.Phases.{Phase, CanPrepare, IsDormant, AreLeavesRead, IsUnchanged, IsUnread, ready_bound, IsWithin};
+    ghost use Rattle.all_or_none.specs.Phases.{Phase, CanPrepare, IsDormant, IsEmpty, AreLeavesRead, IsUnchanged, IsUnread, ready_bound, IsWithin};
 
     /// What it is after so many events.
     ghost phase: { ℕ → Self → Phase };
@@ -35,6 +44,11 @@ pub trait Participant {
     /// no-op for it.
     fn is_dormant(&self) -> bool
         ensures { result ≡ true → IsDormant (λ n. phase n self.now) };
+
+    /// Whether it is known to have no open match: each later event that begins none is a no-op for
+    /// it.
+    fn is_empty(&self) -> bool
+        ensures { result ≡ true → IsEmpty (λ n. phase n self.now) };
 
     /// Makes ready what the event changes, or tells that the event is a no-op for it: it is then as
     /// it was, and takes the event by being left so. After `Memory` it is as it was. It is told
@@ -127,9 +141,8 @@ fn find(marked: &Bits, from: usize, end: usize) -> Option<usize>
 }
 
 /// Each marked query state prepares for which the event is not a no-op, up to the first that
-/// cannot. The others are dormant, and no leaf of theirs reads the event. A leaf of a query state
-/// reads it exactly where the query state is among those read, and which do its set in `leaves`
-/// tells then. The numbers of the prepared ones, from 1, are left in `touched`, and each other
+/// cannot. For the others the event is a no-op. A leaf of a marked query state reads it exactly where
+/// the query state is among those read, and which do its set in `leaves` tells then. The numbers of the prepared ones, from 1, are left in `touched`, and each other
 /// query state is as it was.
 fn prepare_all<P: Participant, L: Ledger>(
     query_states: &mut [P],
@@ -143,10 +156,9 @@ fn prepare_all<P: Participant, L: Ledger>(
 ) -> Result<(), Memory>
     requires idle { All (λ p. IsIdle (P.phase position p)) query_states.old }
     requires can { All (λ p. CanPrepare event.now position (P.phase position p)) query_states.old }
-    requires left { AreLeft P.phase position marked.now query_states.old }
-    requires unread { AreUnread (P.phase position) event.now marked.now query_states.old }
+    requires no_ops { AreNoOps P.phase event.now position marked.now query_states.old }
     requires reading { AreRead (P.phase position) event.now read.now leaves.now query_states.old }
-    requires told { AreUnread (P.phase position) event.now read.now query_states.old }
+    requires unread { AreUnread (P.phase position) event.now marked.now read.now query_states.old }
     requires leaves { length leaves.now ≡ length query_states.old }
     ensures kept { map (λ p. back (P.phase position p)) query_states.new
         ≡ map (λ p. back (P.phase position p)) query_states.old }
@@ -181,38 +193,58 @@ fn prepare_all<P: Participant, L: Ledger>(
     Ok(())
 }
 
-/// The query state commits. Its number, from 0, is in `active_queries` afterwards exactly where the query
-/// state is not known to be dormant.
+/// Puts the number in, or takes it out.
+#[inline(always)]
+fn put(set: &mut Bits, k: usize, member: bool)
+    requires { k < length set.old }
+    ensures here { has set.new k ≡ member }
+    ensures others { (j : ℕ) → j ≢ k → has set.new j ≡ has set.old j }
+    ensures room { length set.new ≡ length set.old }
+{
+    if member {
+        set.insert(k);
+    } else {
+        set.remove(k);
+    }
+}
+
+/// Notes what is known of the query state of this number, from 0.
+pub fn look<P: Participant>(query_state: &P, k: usize, activity: &mut Activity)
+    requires active { k < length activity.old.active_queries }
+    requires open { k < length activity.old.open_queries }
+    ensures { IsLooked P.phase k query_state.now activity.old activity.new }
+{
+    let is_empty = query_state.is_empty();
+    let is_dormant = is_empty || query_state.is_dormant();
+    put(&mut activity.open_queries, k, !is_empty);
+    put(&mut activity.active_queries, k, !is_dormant);
+}
+
+/// The query state of this number, from 0, commits, and is looked at.
 fn commit_one<P: Participant>(
     query_state: &mut P,
     k: usize,
-    active_queries: &mut Bits,
+    activity: &mut Activity,
     event: &Event,
     position: Pos,
 )
     requires room { position + 1 < 2 ^ 64 }
     requires prepared { IsPrepared event.now position (P.phase position query_state.old) }
-    requires inside { k < length active_queries.old }
+    requires active { k < length activity.old.active_queries }
+    requires open { k < length activity.old.open_queries }
     ensures taken { IsTaken event.now position (P.phase position query_state.old)
         (P.phase (position + 1) query_state.new) }
-    ensures rest { has active_queries.new k ≡ false → IsDormant (λ n. P.phase n query_state.new) }
-    ensures others { (j : ℕ) → j ≢ k → has active_queries.new j ≡ has active_queries.old j }
-    ensures sets { length active_queries.new ≡ length active_queries.old }
+    ensures looked { IsLooked P.phase k query_state.new activity.old activity.new }
 {
     query_state.commit(event, position);
-    if query_state.is_dormant() {
-        active_queries.remove(k);
-    } else {
-        active_queries.insert(k);
-    }
+    look(query_state, k, activity);
 }
 
-/// The query states of these numbers, which are those that are prepared, commit. Those of them that
-/// are not known to be dormant are in `active_queries` afterwards, with the others that were there.
+/// The query states of these numbers, which are those that are prepared, commit, and are looked at.
 fn commit_all<P: Participant>(
     query_states: &mut [P],
     numbers: &[u64],
-    active_queries: &mut Bits,
+    activity: &mut Activity,
     event: &Event,
     position: Pos,
 )
@@ -220,23 +252,17 @@ fn commit_all<P: Participant>(
     requires set { AreSet (P.phase position) (P.phase (position + 1)) event.now position
         (length query_states.old) numbers.now query_states.old }
     requires inside { (k : ℕ) → is_among numbers.now (k + 1) ≡ true
-        → k < length active_queries.old }
+        → (k < length activity.old.active_queries) × (k < length activity.old.open_queries) }
     ensures taken { AllZip (IsTaken event.now position) (map (P.phase position) query_states.old)
         (map (P.phase (position + 1)) query_states.new) }
     ensures answering { MayAnswer numbers.now (map (P.phase (position + 1)) query_states.new) }
     ensures others { (k : ℕ) → is_among numbers.now (k + 1) ≡ false → slice_get query_states.new k
         ≡ slice_get query_states.old k }
-    ensures rest { (k : ℕ) (p : P) → slice_get query_states.new k ≡ Some p
-        → is_among numbers.now (k + 1)
-        ≡ true → has active_queries.new k ≡ false → IsDormant (λ n. P.phase n p) }
-    ensures active_queries { (k : ℕ) → is_among numbers.now (k + 1) ≡ false
-        → has active_queries.new k
-        ≡ has active_queries.old k }
-    ensures sets { length active_queries.new ≡ length active_queries.old }
+    ensures looked { AreLooked P.phase numbers.now activity.old activity.new query_states.new }
 {
     for number in numbers {
         let k = *number as usize - 1;
-        commit_one(&mut query_states[k], k, active_queries, event, position);
+        commit_one(&mut query_states[k], k, activity, event, position);
     }
 }
 
@@ -254,21 +280,20 @@ fn take_back_all<P: Participant>(query_states: &mut [P], marked: &Bits)
 /// All query states take the event as the next one, or none does. After `Memory` each query state
 /// is as it was.
 ///
-/// It goes to the marked query states alone, by their numbers from 0. Among them are those in
-/// `active_queries`, which has each query state that is not known to be dormant. No leaf of the query of
-/// another query state reads the event. Those of which a leaf reads it are in `read`, and which
-/// leaves of one do its set in `leaves` tells; of the others that says nothing. In `active_queries` is then
-/// each query state that is not known to be dormant, for the next event, and after `Memory` each
-/// marked one beside those that were there. `touched` has then the numbers, from 1 and rising, of
-/// the query states for which the event was not a no-op; no other may have an answer. They alone
-/// are asked whether they are dormant: each other query state is as it was. The memory of `touched`
-/// is used again.
+/// It goes to the marked query states alone, by their numbers from 0. Among them is each one that is not
+/// known to be dormant. Of the query of another one no leaf reads the event; or it has no open match, and
+/// the event begins none. Those marked ones of which a leaf reads it are in `read`, and which leaves of
+/// one do its set in `leaves` tells; of the others that says nothing. What is known of the query states
+/// is then so for the next event, and after `Memory` nothing is known of the marked ones. `touched` has
+/// then the numbers, from 1 and rising, of the query states for which the event was not a no-op; no other
+/// may have an answer. They alone are looked at: each other query state is as it was. The memory of
+/// `touched` is used again.
 pub fn see<P: Participant, L: Ledger>(
     query_states: &mut [P],
     marked: &Bits,
     read: &Bits,
     leaves: &[Bits],
-    active_queries: &mut Bits,
+    activity: &mut Activity,
     touched: &mut Vec<u64>,
     event: &Event,
     position: Pos,
@@ -277,13 +302,15 @@ pub fn see<P: Participant, L: Ledger>(
     requires room { position + 1 < 2 ^ 64 }
     requires idle { All (λ p. IsIdle (P.phase position p)) query_states.old }
     requires can { All (λ p. CanPrepare event.now position (P.phase position p)) query_states.old }
-    requires left { AreLeft P.phase position active_queries.old query_states.old }
-    requires active_queries { (k : ℕ) → has active_queries.old k ≡ true → has marked.now k ≡ true }
-    requires unread { AreUnread (P.phase position) event.now marked.now query_states.old }
+    requires left { AreLeft P.phase position activity.old query_states.old }
+    requires active { (k : ℕ) → has activity.old.active_queries k ≡ true → has marked.now k ≡ true }
+    requires spared { AreSpared (P.phase position) event.now marked.now activity.old.open_queries
+        query_states.old }
     requires reading { AreRead (P.phase position) event.now read.now leaves.now query_states.old }
-    requires told { AreUnread (P.phase position) event.now read.now query_states.old }
+    requires unread { AreUnread (P.phase position) event.now marked.now read.now query_states.old }
     requires leaves { length leaves.now ≡ length query_states.old }
-    requires sets { length active_queries.old ≡ length marked.now }
+    requires sets { (length activity.old.active_queries ≡ length marked.now)
+        × (length activity.old.open_queries ≡ length marked.now) }
     ensures stands { OnOk result ((events : List Event) → length events ≡ position
         → All (λ p. InTime events event.now (P.phase position p)) query_states.old
         → All (λ p. StandsAt events (P.phase position p)) query_states.old
@@ -298,12 +325,12 @@ pub fn see<P: Participant, L: Ledger>(
     ensures answering { OnOk result (MayAnswer touched.new.items
         (map (P.phase (position + 1)) query_states.new)) }
     ensures left { OnOk result
-        (AreLeft P.phase (position + 1) active_queries.new query_states.new) }
+        (AreLeft P.phase (position + 1) activity.new query_states.new) }
     ensures unchanged { OnErr result (map (P.phase position) query_states.new
         ≡ map (P.phase position) query_states.old) }
-    ensures still_left { OnErr result
-        (AreLeft P.phase position active_queries.new query_states.new) }
-    ensures sets { length active_queries.new ≡ length active_queries.old }
+    ensures still_left { OnErr result (AreLeft P.phase position activity.new query_states.new) }
+    ensures sets { (length activity.new.active_queries ≡ length activity.old.active_queries)
+        × (length activity.new.open_queries ≡ length activity.old.open_queries) }
     ensures steps { OnOk result (steps.new
         ≤ steps.old + sum_by (λ p. kept_bound (P.phase (position + 1) p)) query_states.new) }
     ensures within { (events : List Event) (most : List ℕ) → length events ≡ position
@@ -324,7 +351,7 @@ pub fn see<P: Participant, L: Ledger>(
             commit_all(
                 query_states,
                 touched.as_slice(),
-                active_queries,
+                activity,
                 event,
                 position,
             );
@@ -332,7 +359,8 @@ pub fn see<P: Participant, L: Ledger>(
         }
         Err(refused) => {
             take_back_all(query_states, marked);
-            active_queries.unite(marked);
+            activity.active_queries.unite(marked);
+            activity.open_queries.unite(marked);
             Err(refused)
         }
     }

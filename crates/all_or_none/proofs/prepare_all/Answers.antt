@@ -22,7 +22,7 @@ prepare_one-requires-clause-idle g c =
     let phase = g.P.Participant.phase in
     let same = c.loop-k.invariant.gone.count in
     let inside : c.in-Some.k < length c.loop-k.query_states = c.in-Some.ensures.found.1 in
-    let asked : CanTake g.P.Participant.phase c.args.event.now c.args.position c.args.marked.now c.args.query_states.now = record { idle = c.requires.idle; can = c.requires.can; left = c.requires.left; unread = c.requires.unread } in
+    let asked : CanTake g.P.Participant.phase c.args.event.now c.args.position c.args.marked.now c.args.query_states.now = record { idle = c.requires.idle; can = c.requires.can; no_ops = c.requires.no_ops } in
     let gone = skip_to phase c.args.event.now c.args.position c.args.marked.now c.args.query_states.now asked c.loop-k.from c.in-Some.k c.loop-k.touched.items c.loop-k.query_states c.in-Some.ensures.found.0 (omega arith) c.loop-k.invariant.gone c.in-Some.ensures.first in
     all_here (λ p. IsIdle (phase c.args.position p)) c.loop-k.query_states c.args.query_states.now c.in-Some.k c.index-query_states-k.result inside same gone.left c.requires.idle
 
@@ -31,7 +31,7 @@ prepare_one-requires-clause-can g c =
     let phase = g.P.Participant.phase in
     let same = c.loop-k.invariant.gone.count in
     let inside : c.in-Some.k < length c.loop-k.query_states = c.in-Some.ensures.found.1 in
-    let asked : CanTake g.P.Participant.phase c.args.event.now c.args.position c.args.marked.now c.args.query_states.now = record { idle = c.requires.idle; can = c.requires.can; left = c.requires.left; unread = c.requires.unread } in
+    let asked : CanTake g.P.Participant.phase c.args.event.now c.args.position c.args.marked.now c.args.query_states.now = record { idle = c.requires.idle; can = c.requires.can; no_ops = c.requires.no_ops } in
     let gone = skip_to phase c.args.event.now c.args.position c.args.marked.now c.args.query_states.now asked c.loop-k.from c.in-Some.k c.loop-k.touched.items c.loop-k.query_states c.in-Some.ensures.found.0 (omega arith) c.loop-k.invariant.gone c.in-Some.ensures.first in
     all_here (λ p. CanPrepare c.args.event.now c.args.position (phase c.args.position p)) c.loop-k.query_states c.args.query_states.now c.in-Some.k c.index-query_states-k.result inside same gone.left c.requires.can
 
@@ -40,7 +40,7 @@ prepare_one-requires-clause-read g c some =
     let phase = g.P.Participant.phase in
     let same = c.loop-k.invariant.gone.count in
     let inside : c.in-Some.k < length c.loop-k.query_states = c.in-Some.ensures.found.1 in
-    let asked : CanTake g.P.Participant.phase c.args.event.now c.args.position c.args.marked.now c.args.query_states.now = record { idle = c.requires.idle; can = c.requires.can; left = c.requires.left; unread = c.requires.unread } in
+    let asked : CanTake g.P.Participant.phase c.args.event.now c.args.position c.args.marked.now c.args.query_states.now = record { idle = c.requires.idle; can = c.requires.can; no_ops = c.requires.no_ops } in
     let gone = skip_to phase c.args.event.now c.args.position c.args.marked.now c.args.query_states.now asked c.loop-k.from c.in-Some.k c.loop-k.touched.items c.loop-k.query_states c.in-Some.ensures.found.0 (omega arith) c.loop-k.invariant.gone c.in-Some.ensures.first in
     let there : c.in-Some.k < length c.args.leaves.now = (let many = c.requires.leaves in omega arith) in
     subst (λ ls. AreLeavesRead c.args.event.now ls (phase c.args.position (slice_index_or c.loop-k.query_states c.in-Some.k c.index-query_states-k.result))) (sym (get_or_read c.args.leaves.now c.in-Some.k c.index-leaves-k.result there c.index-leaves-k.is []))
@@ -51,16 +51,16 @@ prepare_one-requires-clause-unread g c none =
     let phase = g.P.Participant.phase in
     let same = c.loop-k.invariant.gone.count in
     let inside : c.in-Some.k < length c.loop-k.query_states = c.in-Some.ensures.found.1 in
-    let asked : CanTake g.P.Participant.phase c.args.event.now c.args.position c.args.marked.now c.args.query_states.now = record { idle = c.requires.idle; can = c.requires.can; left = c.requires.left; unread = c.requires.unread } in
+    let asked : CanTake g.P.Participant.phase c.args.event.now c.args.position c.args.marked.now c.args.query_states.now = record { idle = c.requires.idle; can = c.requires.can; no_ops = c.requires.no_ops } in
     let gone = skip_to phase c.args.event.now c.args.position c.args.marked.now c.args.query_states.now asked c.loop-k.from c.in-Some.k c.loop-k.touched.items c.loop-k.query_states c.in-Some.ensures.found.0 (omega arith) c.loop-k.invariant.gone c.in-Some.ensures.first in
-    said_here (λ j p. has c.args.read.now j ≡ false → IsUnread c.args.event.now (phase c.args.position p)) c.loop-k.query_states c.args.query_states.now c.in-Some.k c.index-query_states-k.result inside same gone.left c.requires.told (sym c.contains-reads.ensures ∙ none)
+    said_here (λ j p. has c.args.marked.now j ≡ true → has c.args.read.now j ≡ false → IsUnread c.args.event.now (phase c.args.position p)) c.loop-k.query_states c.args.query_states.now c.in-Some.k c.index-query_states-k.result inside same gone.left c.requires.unread c.in-Some.ensures.found.2 (sym c.contains-reads.ensures ∙ none)
 
 pub returns-in_err-prepare_one-clause-kept : goal.returns-in_err-prepare_one-clause-kept
 returns-in_err-prepare_one-clause-kept g c =
     let phase = g.P.Participant.phase in
     let same = c.loop-k.invariant.gone.count in
     let inside : c.in-Some.k < length c.loop-k.query_states = c.in-Some.ensures.found.1 in
-    let asked : CanTake g.P.Participant.phase c.args.event.now c.args.position c.args.marked.now c.args.query_states.now = record { idle = c.requires.idle; can = c.requires.can; left = c.requires.left; unread = c.requires.unread } in
+    let asked : CanTake g.P.Participant.phase c.args.event.now c.args.position c.args.marked.now c.args.query_states.now = record { idle = c.requires.idle; can = c.requires.can; no_ops = c.requires.no_ops } in
     let gone = skip_to phase c.args.event.now c.args.position c.args.marked.now c.args.query_states.now asked c.loop-k.from c.in-Some.k c.loop-k.touched.items c.loop-k.query_states c.in-Some.ensures.found.0 (omega arith) c.loop-k.invariant.gone c.in-Some.ensures.first in
     same_whole (λ p. back (phase c.args.position p)) c.loop-k.query_states c.args.query_states.now c.in-Some.k c.prepare_one.new.query_state c.index-query_states-k.result inside same gone.left gone.kept c.prepare_one.ensures.kept
 
@@ -74,7 +74,7 @@ returns-in_err-prepare_one-clause-within g c events most count bounded =
     let at = g.P.Participant.phase c.args.position in
     let same = c.loop-k.invariant.gone.count in
     let inside : c.in-Some.k < length c.loop-k.query_states = c.in-Some.ensures.found.1 in
-    let asked : CanTake g.P.Participant.phase c.args.event.now c.args.position c.args.marked.now c.args.query_states.now = record { idle = c.requires.idle; can = c.requires.can; left = c.requires.left; unread = c.requires.unread } in
+    let asked : CanTake g.P.Participant.phase c.args.event.now c.args.position c.args.marked.now c.args.query_states.now = record { idle = c.requires.idle; can = c.requires.can; no_ops = c.requires.no_ops } in
     let gone = skip_to phase event c.args.position c.args.marked.now c.args.query_states.now asked c.loop-k.from c.in-Some.k c.loop-k.touched.items c.loop-k.query_states c.in-Some.ensures.found.0 (omega arith) c.loop-k.invariant.gone c.in-Some.ensures.first in
     let pair = pair_at (MeetsAtMost events event) at update_bound c.loop-k.query_states c.args.query_states.now most c.in-Some.k c.index-query_states-k.result inside same gone.left bounded.each in
     let time = all_here (λ p. InTime events event (at p)) c.loop-k.query_states c.args.query_states.now c.in-Some.k c.index-query_states-k.result inside same gone.left (all_mapped (InTime events event) at c.args.query_states.now bounded.in_time) in
@@ -93,7 +93,7 @@ loop-k-preserved g c =
     let at = g.P.Participant.phase c.args.position in
     let same = c.loop-k.invariant.gone.count in
     let inside : c.in-Some.k < length c.loop-k.query_states = c.in-Some.ensures.found.1 in
-    let asked : CanTake g.P.Participant.phase c.args.event.now c.args.position c.args.marked.now c.args.query_states.now = record { idle = c.requires.idle; can = c.requires.can; left = c.requires.left; unread = c.requires.unread } in
+    let asked : CanTake g.P.Participant.phase c.args.event.now c.args.position c.args.marked.now c.args.query_states.now = record { idle = c.requires.idle; can = c.requires.can; no_ops = c.requires.no_ops } in
     let gone = skip_to phase event c.args.position c.args.marked.now c.args.query_states.now asked c.loop-k.from c.in-Some.k c.loop-k.touched.items c.loop-k.query_states c.in-Some.ensures.found.0 (omega arith) c.loop-k.invariant.gone c.in-Some.ensures.first in
     record {
       low = omega arith;
@@ -120,12 +120,12 @@ loop-k-preserved g c =
 
 pub returns-clause-kept : goal.returns-clause-kept
 returns-clause-kept g c =
-    let asked : CanTake g.P.Participant.phase c.args.event.now c.args.position c.args.marked.now c.args.query_states.now = record { idle = c.requires.idle; can = c.requires.can; left = c.requires.left; unread = c.requires.unread } in
+    let asked : CanTake g.P.Participant.phase c.args.event.now c.args.position c.args.marked.now c.args.query_states.now = record { idle = c.requires.idle; can = c.requires.can; no_ops = c.requires.no_ops } in
     (gone_all g.P.Participant.phase c.args.event.now c.args.position c.args.marked.now c.args.query_states.now asked c.loop-k.from c.loop-k.touched.items c.loop-k.query_states c.loop-k.invariant.low c.loop-k.invariant.gone c.in_default.ensures.none).kept
 
 pub returns-clause-set : goal.returns-clause-set
 returns-clause-set g c =
-    let asked : CanTake g.P.Participant.phase c.args.event.now c.args.position c.args.marked.now c.args.query_states.now = record { idle = c.requires.idle; can = c.requires.can; left = c.requires.left; unread = c.requires.unread } in
+    let asked : CanTake g.P.Participant.phase c.args.event.now c.args.position c.args.marked.now c.args.query_states.now = record { idle = c.requires.idle; can = c.requires.can; no_ops = c.requires.no_ops } in
     (gone_all g.P.Participant.phase c.args.event.now c.args.position c.args.marked.now c.args.query_states.now asked c.loop-k.from c.loop-k.touched.items c.loop-k.query_states c.loop-k.invariant.low c.loop-k.invariant.gone c.in_default.ensures.none).set
 
 pub returns-clause-left : goal.returns-clause-left

@@ -1,7 +1,7 @@
 use Rattle.std.proofs.Common.{◌+◌, ◌∙◌, length, map, subst, sym, arith}
 use Rattle.all_or_none.specs.Phases.{AreSet, MayAnswer, AreUnchanged, AreOfMarked}
 use Rattle.all_or_none.proofs.BothPhases.{stands_after, idle_after, quiet_after, grown_after, bounds_after}
-use Rattle.all_or_none.proofs.Marked.{has_within, known_after, left_after, left_again, left_more, unchanged_after}
+use Rattle.all_or_none.proofs.Marked.{has_within, known_after, left_after, left_again, no_ops_there, unchanged_after}
 use Rattle.all_or_none.proofs.see.Goals as goal
 
 pub returns-in-Ok-clause-stands : goal.returns-in-Ok-clause-stands
@@ -35,21 +35,22 @@ pub commit_all-requires-clause-inside : goal.commit_all-requires-clause-inside
 commit_all-requires-clause-inside g c k among =
     let marked = subst (AreOfMarked c.args.marked.now) (sym c.as_slice.ensures.value) c.in-Ok.ensures.marked k among in
     let less = has_within c.args.marked.now k marked in
-    let same = c.requires.sets in
-    omega arith
+    let active = c.requires.sets.0 in
+    let open_ones = c.requires.sets.1 in
+    (omega arith, omega arith)
 
-pub prepare_all-requires-clause-left : goal.prepare_all-requires-clause-left
-prepare_all-requires-clause-left g c = left_more g.P.Participant.phase c.args.position c.args.active_queries.now c.args.marked.now c.args.query_states.now c.requires.active_queries c.requires.left
+pub prepare_all-requires-clause-no_ops : goal.prepare_all-requires-clause-no_ops
+prepare_all-requires-clause-no_ops g c = no_ops_there g.P.Participant.phase c.args.event.now c.args.position c.args.activity.now c.args.marked.now c.args.query_states.now c.requires.idle c.requires.can c.requires.left c.requires.active c.requires.spared
 
 pub returns-in-Ok-clause-left : goal.returns-in-Ok-clause-left
 returns-in-Ok-clause-left g c =
-    left_after g.P.Participant.phase c.args.position c.args.active_queries.now c.commit_all.new.active_queries c.as_slice.result.now c.args.query_states.now c.prepare_all.new.query_states c.commit_all.new.query_states c.prepare_all.auto.query_states
+    left_after g.P.Participant.phase c.args.position c.args.activity.now c.commit_all.new.activity c.as_slice.result.now c.args.query_states.now c.prepare_all.new.query_states c.commit_all.new.query_states c.prepare_all.auto.query_states
     (known_after g.P.Participant.phase c.args.event.now c.args.position c.args.query_states.now c.prepare_all.new.query_states c.commit_all.new.query_states c.in-Ok.ensures.kept c.commit_all.ensures.taken c.requires.left.known)
     c.requires.left
     (subst (λ ns. AreUnchanged g.P.Participant.phase ns c.args.query_states.now c.prepare_all.new.query_states) (sym c.as_slice.ensures.value) c.in-Ok.ensures.left)
-    c.commit_all.ensures.others c.commit_all.ensures.rest c.commit_all.ensures.active_queries
+    c.commit_all.ensures.others c.commit_all.ensures.looked
 
 pub returns-in-Err-clause-still_left : goal.returns-in-Err-clause-still_left
 returns-in-Err-clause-still_left g c =
     let same = unchanged_after g.P.Participant.phase c.args.position c.args.marked.now c.args.query_states.now c.prepare_all.new.query_states c.take_back_all.new.query_states c.requires.idle c.prepare_all.ensures.kept c.prepare_all.ensures.others c.take_back_all.ensures in
-    left_again g.P.Participant.phase c.args.position c.args.marked.now c.args.active_queries.now c.unite.new.self c.args.query_states.now c.take_back_all.new.query_states same (λ k unmarked. c.take_back_all.ensures.others k unmarked ∙ c.prepare_all.ensures.others k unmarked) c.requires.left c.unite.ensures.members
+    left_again g.P.Participant.phase c.args.position c.args.marked.now c.args.activity.now (record { active_queries = c.unite.new.self; open_queries = c.unite-in-Err.new.self }) c.args.query_states.now c.take_back_all.new.query_states same (λ k unmarked. c.take_back_all.ensures.others k unmarked ∙ c.prepare_all.ensures.others k unmarked) c.requires.left c.unite.ensures.members c.unite-in-Err.ensures.members

@@ -1,5 +1,5 @@
 -- What a query state is for which the last events were no-ops.
-use Rattle.std.proofs.Common.{◌≡◌, ℕ, ◌+◌, ◌≤◌, ◌⊎◌, inl, inr, Bool, true, List, refl, sym, ap, subst, ◌∙◌, false, All, Option, None}
+use Rattle.std.proofs.Common.{◌≡◌, ℕ, ◌+◌, ◌≤◌, ◌⊎◌, inl, inr, Bool, true, List, [], refl, sym, ap, subst, ◌∙◌, false, All, Option, None}
 use Rattle.stream_schema.specs.Types.{Declared}
 use Rattle.stream_schema.specs.declared.Event.{Event}
 use Rattle.cel_terms.specs.declared.Query.{Query}
@@ -9,9 +9,10 @@ use Rattle.event_update.specs.Dormancy.{HasNoReader, AreDormant}
 use Rattle.window_clock.specs.declared.Source.{Source}
 use Rattle.window_clock.specs.Places.{IsOf}
 use Rattle.query_standing.specs.Clocks.{Reads}
-use Rattle.all_or_none.specs.Phases.{Phase, IsNoOpFor, IsDormant}
+use Rattle.query_standing.specs.Kept.{Rows}
+use Rattle.all_or_none.specs.Phases.{Phase, IsNoOpFor, IsDormant, IsEmpty}
 use Rattle.all_or_none.specs.Dormancy.{here_at, phase_at, LetsPass}
-use Rattle.all_or_none.proofs.Dormancy.{passes_step, quiet_is_dormant}
+use Rattle.all_or_none.proofs.Dormancy.{passes_step, quiet_is_dormant, none_is_empty}
 use Rattle.query_state.specs.declared.matches.Ready.{Ready}
 use Rattle.query_state.specs.declared.matches.Sizes.{Sizes}
 use Rattle.query_state.specs.declared.state.Step.{Step}
@@ -38,6 +39,16 @@ passes_unread schema q event position h n upto le unread =
 pub told_pass : (q : Query) (h : OpenMatches) (skip_insensitive : Bool) → MayBeSkipInsensitive q skip_insensitive → (skip_insensitive ≡ true) ⊎ All (AreDormant h.table) h.rows → LetsPass q (query_state_of h None None)
 told_pass q h skip_insensitive may (inl is) = inl (may is)
 told_pass q h skip_insensitive may (inr all) = inr all
+
+-- Each later event that begins no match is a no-op, where none is open.
+pub query_state_is_empty : (schema : Declared) (q : Query) (source : Source) (step : Option Step) (r : Option Ready) (z : Sizes) (h : OpenMatches) (n : Option ℕ) (upto : ℕ) (p : Phase) → seen_as schema q step r z h n upto ≡ p → HaveClocks schema q source → IsOf schema q.window source → All (λ (rows : Rows). rows ≡ []) h.rows → IsEmpty (λ count. phase_at count p)
+query_state_is_empty schema q source step r z h n upto p view clocks of none = record {
+  passes = λ event position le idle can begins. (
+      let is_empty = subst (λ (x : Phase). IsEmpty (λ count. phase_at count x)) (idle_fields schema q step r z h n upto p view idle)
+      (none_is_empty (sleeper schema q h n upto) refl (have_times schema q source clocks of) none) in
+      is_empty.passes event position le idle can begins
+      );
+}
 
 -- Each later event that no leaf can read is a no-op, where the automaton is skip-insensitive or all lists are dormant.
 pub query_state_is_dormant : (schema : Declared) (q : Query) (source : Source) (step : Option Step) (r : Option Ready) (z : Sizes) (h : OpenMatches) (n : Option ℕ) (upto : ℕ) (p : Phase) → seen_as schema q step r z h n upto ≡ p → HaveClocks schema q source → IsOf schema q.window source → LetsPass q (query_state_of h None None) → IsDormant (λ count. phase_at count p)

@@ -233,6 +233,17 @@ impl Matches {
         self.lists[number as usize].active.len() == 0
     }
 
+    /// Whether no match is open. Where it has more than one key it is not known.
+    pub fn is_empty(&self) -> bool
+        ensures { result ≡ true → All (λ (rows : Rows). rows ≡ []) self.now.rows }
+    {
+        match self.lists.len() {
+            0 => true,
+            1 => self.has_none(0),
+            _ => false,
+        }
+    }
+
     /// Whether no match is open of the key, where it is there.
     pub fn has_none_of(&self, key: &Key) -> bool
         ensures { result ≡ true → HasNoneOf self.now key.now }

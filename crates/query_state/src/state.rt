@@ -402,6 +402,10 @@ impl Participant for QueryState {
         self.matches.lets_pass(self.skip_insensitive)
     }
 
+    fn is_empty(&self) -> bool {
+        self.matches.is_empty()
+    }
+
     fn prepare<L: Ledger>(
         &mut self,
         event: &Event,

@@ -1,13 +1,11 @@
 //! Which query states of an engine an event goes to.
 
-ghost use Rattle.std.specs.Prelude.{◌≡◌, ℕ, ◌≤◌, ◌||◌, false, true, [], Some, length, map, slice_get, slice_index_or, IfOk};
+ghost use Rattle.std.specs.Prelude.{◌≡◌, ℕ, ◌+◌, ◌≤◌, ◌||◌, false, true, [], Some, length, map, slice_get, slice_index_or, IfOk};
 ghost use Rattle.cer_base.specs.Bits.{has, room_for};
-ghost use Rattle.all_or_none.specs.Phases.{Phase, IsDormant};
-ghost use Rattle.all_or_none.specs.Dormancy.{phase_at};
-ghost use Rattle.query_index.specs.Rows.{AreExact, IsLeafIndex, HasRow, AreReaders, HaveRooms};
-ghost use Rattle.query_engine.specs.Dispatch.{leaf_room, AreLeafSets, AreOfEither};
+ghost use Rattle.query_index.specs.Rows.{is_awake, AreExact, AreWaiting, IsLeafIndex, HasRow, AreReaders, HaveRooms};
+ghost use Rattle.query_engine.specs.Dispatch.{leaf_room, AreLeafSets, AreOfEither, HaveLooked};
 
-use all_or_none::Participant;
+use all_or_none::{Activity, look};
 use cel_terms::Query;
 use cer_base::Memory;
 use cer_base::bits::Bits;
@@ -22,8 +20,8 @@ use stream_schema::{Event, Schema};
 pub struct Dispatch {
     /// Which queries an event can concern.
     leaf_index: LeafIndex,
-    /// The query states that are not known to be dormant.
-    pub active_queries: Bits,
+    /// Which query states are not known to be dormant, and which not to have no open match.
+    pub activity: Activity,
     /// The query states that the event goes to, in memory that is used again.
     pub marked: Bits,
     /// Those of them of whose queries a leaf can read the event, likewise.
@@ -39,20 +37,29 @@ impl Dispatch {
             w.leaf_index.leaves) }
         ensures exact { IfOk result (λ w. AreExact schema.now queries.now w.leaf_index.rows
             w.leaf_index.leaves) }
+        ensures waiting { IfOk result (λ w. AreWaiting queries.now w.leaf_index.rows
+            w.leaf_index.leaves) }
         ensures count { IfOk result (λ w. w.leaf_index.count ≡ length queries.now) }
-        ensures room { IfOk result (λ w. length w.active_queries ≡ room_for (length queries.now)) }
-        ensures sets { IfOk result (λ w. length w.marked ≡ length w.active_queries) }
-        ensures reads { IfOk result (λ w. length w.read ≡ length w.active_queries) }
+        ensures room { IfOk result (λ w. length w.activity.active_queries
+            ≡ room_for (length queries.now)) }
+        ensures open { IfOk result (λ w. length w.activity.open_queries
+            ≡ length w.activity.active_queries) }
+        ensures sets { IfOk result (λ w. length w.marked ≡ length w.activity.active_queries) }
+        ensures reads { IfOk result (λ w. length w.read ≡ length w.activity.active_queries) }
         ensures leaves { IfOk result (λ w. AreLeafSets queries.now w.leaves.items) }
     {
         let leaf_index = LeafIndex::of(alloc, schema, queries)?;
         let active_queries = Bits::blank(alloc, queries.len())?;
+        let open_queries = Bits::blank(alloc, queries.len())?;
         let marked = Bits::blank(alloc, queries.len())?;
         let read = Bits::blank(alloc, queries.len())?;
         let leaves = leaf_sets(alloc, schema, queries)?;
         Ok(Dispatch {
             leaf_index,
-            active_queries,
+            activity: Activity {
+                active_queries,
+                open_queries,
+            },
             marked,
             read,
             leaves,
@@ -60,31 +67,34 @@ impl Dispatch {
     }
 
     /// Marks the query states of whose queries a leaf can read the event as read, with the numbers
-    /// of these leaves, and where some query state is not known to be dormant, these and those as
-    /// marked. Whether some query state is not.
+    /// of these leaves, but for those that have no open match where no leaf of the event's type begins
+    /// one; and where some query state is not known to be dormant, these and those as marked. Whether
+    /// some query state is not.
     #[inline(always)]
     pub fn mark(&mut self, event: &Event) -> bool
         requires room { self.old.leaf_index.count ≤ length self.old.read }
-        requires sets { length self.old.marked ≡ length self.old.active_queries }
-        requires reads { length self.old.read ≡ length self.old.active_queries }
+        requires sets { length self.old.marked ≡ length self.old.activity.active_queries }
+        requires reads { length self.old.read ≡ length self.old.activity.active_queries }
         requires leaves { HaveRooms self.old.leaf_index.count self.old.leaf_index.rows
             self.old.leaf_index.leaves
             event.now self.old.leaves.items }
-        ensures read { (k : ℕ) → HasRow self.old.leaf_index.rows self.old.leaf_index.leaves k
-            event.now → has self.new.read k ≡ true }
+        ensures read { (k : ℕ) (h : HasRow self.old.leaf_index.rows self.old.leaf_index.leaves k
+            event.now) → is_awake self.old.activity.open_queries h.row ≡ true
+            → has self.new.read k ≡ true }
         ensures only { (k : ℕ) → has self.new.read k ≡ true → HasRow self.old.leaf_index.rows
             self.old.leaf_index.leaves k event.now }
         ensures leaves { (k : ℕ) → has self.new.read k ≡ true → AreReaders self.old.leaf_index.rows
             self.old.leaf_index.leaves k event.now (slice_index_or self.new.leaves.items k []) }
         ensures marked { result ≡ true → (k : ℕ) → has self.new.read k ≡ true
             → has self.new.marked k ≡ true }
-        ensures active_queries { result ≡ true → (k : ℕ) → has self.old.active_queries k ≡ true
-            → has self.new.marked k ≡ true }
-        ensures either { result ≡ true → AreOfEither self.new.marked self.old.active_queries
-            self.new.read }
-        ensures none { result ≡ false → (k : ℕ) → has self.old.active_queries k ≡ false }
+        ensures active_queries { result ≡ true → (k : ℕ)
+            → has self.old.activity.active_queries k ≡ true → has self.new.marked k ≡ true }
+        ensures either { result ≡ true → AreOfEither self.new.marked
+            self.old.activity.active_queries self.new.read }
+        ensures none { result ≡ false → (k : ℕ)
+            → has self.old.activity.active_queries k ≡ false }
         ensures same { (self.new.leaf_index ≡ self.old.leaf_index)
-            × (self.new.active_queries ≡ self.old.active_queries) }
+            × (self.new.activity ≡ self.old.activity) }
         ensures sets { length self.new.marked ≡ length self.old.marked }
         ensures reads { length self.new.read ≡ length self.old.read }
         ensures rooms { map (λ set. length set) self.new.leaves.items
@@ -92,27 +102,35 @@ impl Dispatch {
     {
         self.read.clear();
         let leaves = self.leaves.as_mut_slice();
-        self.leaf_index.mark(event, &mut self.read, leaves);
-        if self.active_queries.is_empty() {
+        self.leaf_index.mark(
+            event,
+            &self.activity.open_queries,
+            &mut self.read,
+            leaves,
+        );
+        if self.activity.active_queries.is_empty() {
             return false;
         }
         self.marked.clear();
-        put_all(&mut self.marked, &self.active_queries);
+        put_all(&mut self.marked, &self.activity.active_queries);
         put_all(&mut self.marked, &self.read);
         true
     }
 
-    /// Looks at all query states: active are those that are not known to be dormant.
+    /// Looks at all query states.
     pub fn look(&mut self, query_states: &[QueryState])
-        requires { length query_states.now ≤ length self.old.active_queries }
-        ensures rest { (k : ℕ) (p : Phase) → slice_get query_states.now k ≡ Some p
-            → has self.new.active_queries k ≡ false → IsDormant (λ n. phase_at n p) }
+        requires active { length query_states.now ≤ length self.old.activity.active_queries }
+        requires open { length query_states.now ≤ length self.old.activity.open_queries }
+        ensures looked { HaveLooked query_states.now self.new.activity
+            (length query_states.now) }
         ensures same { (self.new.leaf_index ≡ self.old.leaf_index)
             × (self.new.marked ≡ self.old.marked)
             × (self.new.read ≡ self.old.read) × (self.new.leaves ≡ self.old.leaves) }
-        ensures room { length self.new.active_queries ≡ length self.old.active_queries }
+        ensures room { (length self.new.activity.active_queries
+            ≡ length self.old.activity.active_queries)
+            × (length self.new.activity.open_queries ≡ length self.old.activity.open_queries) }
     {
-        look_all(&mut self.active_queries, query_states);
+        look_all(&mut self.activity, query_states);
     }
 }
 
@@ -158,18 +176,17 @@ fn put_all(set: &mut Bits, other: &Bits)
     set.unite(other);
 }
 
-/// Makes the set that of the query states that are not known to be dormant.
-fn look_all(set: &mut Bits, query_states: &[QueryState])
-    requires { length query_states.now ≤ length set.old }
-    ensures rest { (k : ℕ) (p : Phase) → slice_get query_states.now k ≡ Some p
-        → has set.new k ≡ false
-        → IsDormant (λ n. phase_at n p) }
-    ensures room { length set.new ≡ length set.old }
+/// Looks at the query states, and notes what is known of each.
+fn look_all(activity: &mut Activity, query_states: &[QueryState])
+    requires active { length query_states.now ≤ length activity.old.active_queries }
+    requires open { length query_states.now ≤ length activity.old.open_queries }
+    ensures looked { HaveLooked query_states.now activity.new (length query_states.now) }
+    ensures room { (length activity.new.active_queries ≡ length activity.old.active_queries)
+        × (length activity.new.open_queries ≡ length activity.old.open_queries) }
 {
-    set.clear();
+    activity.active_queries.clear();
+    activity.open_queries.clear();
     for k in 0..query_states.len() {
-        if !query_states[k].is_dormant() {
-            set.insert(k);
-        }
+        look(&query_states[k], k, activity);
     }
 }

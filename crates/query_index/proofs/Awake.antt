@@ -151,6 +151,6 @@ only_listed open_queries rows leaves event before after had have m k is = elim (
   | inr h ↦ inr (record { row = h.row; listed = (from_awake open_queries (slice_index_or rows event.ty []) h.row h.listed).0; leaf = h.leaf; at = h.at; numbered = h.numbered; holds = h.holds })
 ]
 
--- where nothing is listed that reads, nothing is looked at that does
-pub nothing_awake : (open_queries : List Bool) {rows : List LeafRow} {leaves : List IndexedLeaf} {event : Event} {before after : List Bool} {had have : List (List Bool)} → Marks rows leaves event before after had have → (k : ℕ) → HaveReader (awake open_queries rows) leaves k event → has after k ≡ true
-nothing_awake open_queries {rows} m k h = m.marked k (record { row = h.row; listed = (from_awake open_queries rows h.row h.listed).0; leaf = h.leaf; at = h.at; numbered = h.numbered; holds = h.holds })
+-- what is listed, looked at, and reads is marked
+pub marked_awake : (open_queries : List Bool) (rows : List (List LeafRow)) (leaves : List IndexedLeaf) (event : Event) (before after : List Bool) (had have : List (List Bool)) → Marks (awake open_queries (slice_index_or rows event.ty [])) leaves event before after had have → (k : ℕ) (h : HaveReader (slice_index_or rows event.ty []) leaves k event) → is_awake open_queries h.row ≡ true → has after k ≡ true
+marked_awake open_queries rows leaves event before after had have m k h is = m.marked k (record { row = h.row; listed = there_awake open_queries (slice_index_or rows event.ty []) h.row h.listed is; leaf = h.leaf; at = h.at; numbered = h.numbered; holds = h.holds })

@@ -8,7 +8,7 @@ ghost use Rattle.query_leaves.specs.Shapes.{each_holds as tests_hold};
 ghost use Rattle.predicate_bits.specs.Ranges.{AsksFor};
 ghost use Rattle.query_index.specs.TextPrefilters.{AsksToOpen};
 ghost use Rattle.query_index.specs.Index.{IsIndex, Suffice, gathered};
-ghost use Rattle.query_index.specs.Rows.{rows_of, awake, is_awake, AreBelow, AreExact, AreWaiting, IsRangeOf, IsRowBelow, IsLeafIndex, HasRow, HaveReader, AreReaders, HaveRoom, HaveRooms, WaitAlike, Marks};
+ghost use Rattle.query_index.specs.Rows.{rows_of, awake, is_awake, AreBelow, AreExact, AreWaiting, IsRangeOf, IsRowBelow, IsLeafIndex, HasRow, AreReaders, HaveRoom, HaveRooms, WaitAlike, Marks};
 
 use crate::index::{Index, few_of, indexes_of};
 use crate::rows::{IndexedLeaf, LeafRow, add_query, is_awake};
@@ -114,9 +114,8 @@ impl LeafIndex {
         requires count { self.now.count ≤ length into.old }
         requires rooms { HaveRooms self.now.count self.now.rows self.now.leaves event.now
             leaves.old }
-        ensures marked { (number : ℕ) → HaveReader (awake open_queries.now
-            (slice_index_or self.now.rows event.now.ty [])) self.now.leaves number event.now
-            → has into.new number ≡ true }
+        ensures marked { (number : ℕ) (h : HasRow self.now.rows self.now.leaves number event.now)
+            → is_awake open_queries.now h.row ≡ true → has into.new number ≡ true }
         ensures only { (k : ℕ) → has into.new k ≡ true → (has into.old k ≡ true)
             ⊎ HasRow self.now.rows self.now.leaves k event.now }
         ensures kept { (k : ℕ) → has into.old k ≡ true → has into.new k ≡ true }

@@ -1,25 +1,25 @@
-use Rattle.std.proofs.Common.{◌≡◌, ◌+◌, ◌∙◌, length, sym, subst, arith}
-use Rattle.query_engine.proofs.Dispatched.{HaveLooked, looked_active_queries, looked_dormant}
-use Rattle.query_engine.proofs.dispatch.look_all.Goals.{then-not-is_dormant, else-not-is_dormant}
+use Rattle.std.proofs.Common.{◌≡◌, ◌+◌, ◌≤◌, ◌∙◌, length, sym, subst, arith}
+use Rattle.query_engine.proofs.Dispatched.{looked_first, looked_next}
 use Rattle.query_engine.proofs.dispatch.look_all.Goals as goal
 
 pub loop-k-init : goal.loop-k-init
-loop-k-init c = record { looked = λ j p less. absurd (omega arith); room = c.clear.ensures.room }
+loop-k-init c = record { looked = looked_first c.args.query_states.now (record { active_queries = c.clear.new.self; open_queries = c.clear-2.new.self }) c.clear.ensures.members; active_room = c.clear.ensures.room; open_room = c.clear-2.ensures.room }
 
-pub insert-requires : goal.insert-requires
-insert-requires c =
-    let room = c.loop-k.invariant.room in
-    let given = c.requires in
+pub look-requires-clause-active : goal.look-requires-clause-active
+look-requires-clause-active c =
+    let room = c.loop-k.invariant.active_room in
+    let given = c.requires.active in
+    omega arith
+
+pub look-requires-clause-open : goal.look-requires-clause-open
+look-requires-clause-open c =
+    let room = c.loop-k.invariant.open_room in
+    let given = c.requires.open in
     omega arith
 
 pub loop-k-preserved : goal.loop-k-preserved
-loop-k-preserved c = elim c.if-not-is_dormant.branch [
-  | then-not-is_dormant w ↦ record {
-    looked = subst (λ b. HaveLooked c.args.query_states.now b (c.loop-k.k + 1)) (sym w.set-is) (looked_active_queries c.args.query_states.now c.loop-k.set w.insert.new.self c.loop-k.k w.insert.ensures.members c.loop-k.invariant.looked);
-    room = subst (λ b. length b ≡ length c.args.set.now) (sym w.set-is) (w.insert.ensures.room ∙ c.loop-k.invariant.room);
-  }
-  | else-not-is_dormant w ↦ record {
-    looked = subst (λ b. HaveLooked c.args.query_states.now b (c.loop-k.k + 1)) (sym w.set-is) (looked_dormant c.args.query_states.now c.loop-k.set c.loop-k.k c.index-query_states-k.result (omega arith) c.index-query_states-k.is (c.is_dormant.ensures w.if-not-is_dormant.false) c.loop-k.invariant.looked);
-    room = subst (λ b. length b ≡ length c.args.set.now) (sym w.set-is) c.loop-k.invariant.room;
-  }
-]
+loop-k-preserved c = record {
+  looked = looked_next c.args.query_states.now c.loop-k.activity c.look.new.activity c.loop-k.k c.index-query_states-k.result (omega arith) c.index-query_states-k.is c.look.ensures c.loop-k.invariant.looked;
+  active_room = c.look.ensures.room.0 ∙ c.loop-k.invariant.active_room;
+  open_room = c.look.ensures.room.1 ∙ c.loop-k.invariant.open_room;
+}

@@ -39,8 +39,11 @@ pub compact_query_states-requires-clause-held : goal.compact_query_states-requir
 compact_query_states-requires-clause-held g c =
     can_hold c.self.inside.schema c.self.inside.count (woken_at c.self.inside.count c.self.inside.query_states.items (clocks_in c.self.inside.times)) (woken_at c.self.inside.count c.as_mut_slice-query_states.result.now (clocks_in c.self.inside.times)) c.self.inside.peaks.items c.args.self.now c.args.held.now (woken_state c.self.inside.schema c.self.inside.count (clocks_in c.self.inside.times) c.self.inside.query_states.items c.self.inside.peaks.items ∙ c.self.view_is) (ap (λ (ps : List Phase). woken_at c.self.inside.count ps (clocks_in c.self.inside.times)) c.as_mut_slice-query_states.ensures.value) c.requires.fits
 
-pub look-requires : goal.look-requires
-look-requires g c = query_states_within c.self.inside.schema (queries_of c.self.inside.query_states.items) c.self.inside.count (length c.compact_query_states.new.query_states) c.self.inside.query_states.items c.self.inside.dispatch.leaf_index c.self.inside.dispatch.active_queries c.self.inside.dispatch.marked c.self.inside.dispatch.read c.self.inside.dispatch.leaves.items refl (let same = ap (λ (ps : List Phase). length ps) c.as_mut_slice-query_states.ensures.value in let long = c.compact_query_states.auto.query_states in omega arith) c.self.invariant.2
+pub look-requires-clause-active : goal.look-requires-clause-active
+look-requires-clause-active g c = (query_states_within c.self.inside.schema (queries_of c.self.inside.query_states.items) c.self.inside.count (length c.compact_query_states.new.query_states) c.self.inside.query_states.items c.self.inside.dispatch.leaf_index c.self.inside.dispatch.activity c.self.inside.dispatch.marked c.self.inside.dispatch.read c.self.inside.dispatch.leaves.items refl (let same = ap (λ (ps : List Phase). length ps) c.as_mut_slice-query_states.ensures.value in let long = c.compact_query_states.auto.query_states in omega arith) c.self.invariant.2).0
+
+pub look-requires-clause-open : goal.look-requires-clause-open
+look-requires-clause-open g c = (query_states_within c.self.inside.schema (queries_of c.self.inside.query_states.items) c.self.inside.count (length c.compact_query_states.new.query_states) c.self.inside.query_states.items c.self.inside.dispatch.leaf_index c.self.inside.dispatch.activity c.self.inside.dispatch.marked c.self.inside.dispatch.read c.self.inside.dispatch.leaves.items refl (let same = ap (λ (ps : List Phase). length ps) c.as_mut_slice-query_states.ensures.value in let long = c.compact_query_states.auto.query_states in omega arith) c.self.invariant.2).1
 
 pub invariant_of-self : goal.invariant_of-self
 invariant_of-self g c =
@@ -57,9 +60,9 @@ invariant_of-self g c =
       keeping c.self.inside.schema c.self.inside.count (clocks_in c.self.inside.times) raw qs (settled_running c.self.inside.schema c.self.inside.count mid after c.self.inside.peaks.items qs c.args.held.now c.compact_query_states.new.held k.running k.zip k.peaks c.args.self.now k.is k.quiet),
       noted_same (queries_of old) (queries_of raw) (map (phase_at c.self.inside.count) old) (map (phase_at c.self.inside.count) raw) c.self.inside.told false c.self.inside.touched.items c.self.inside.touched.items c.self.inside.all.items queries c.self.invariant.1
           (λ told. absurd (false≢true told)),
-      watching_same c.self.inside.schema (queries_of old) (queries_of raw) c.self.inside.count c.self.inside.count c.self.inside.query_states.items raw c.self.inside.dispatch.leaf_index c.look.new.self.leaf_index c.self.inside.dispatch.active_queries c.self.inside.dispatch.marked c.self.inside.dispatch.read c.look.new.self.active_queries c.look.new.self.marked c.look.new.self.read c.self.inside.dispatch.leaves.items c.look.new.self.leaves.items queries
+      watching_same c.self.inside.schema (queries_of old) (queries_of raw) c.self.inside.count c.self.inside.count c.self.inside.query_states.items raw c.self.inside.dispatch.leaf_index c.look.new.self.leaf_index c.self.inside.dispatch.activity c.look.new.self.activity c.self.inside.dispatch.marked c.self.inside.dispatch.read c.look.new.self.marked c.look.new.self.read c.self.inside.dispatch.leaves.items c.look.new.self.leaves.items queries
           c.look.ensures.same.0 c.look.ensures.room (ap (λ (b : List Bool). length b) c.look.ensures.same.1) (ap (λ (b : List Bool). length b) c.look.ensures.same.2) (ap (λ (v : Vec (List Bool) Global). map (λ (set : List Bool). length set) v.items) c.look.ensures.same.3)
-          (left_looked c.self.inside.count c.compact_query_states.new.query_states raw c.look.new.self.active_queries raw_is (compacted_known c.self.inside.count c.compact_query_states.new.query_states (found_upto c.self.inside.count (clocks_in c.self.inside.times) c.as_mut_slice-query_states.result.now c.compact_query_states.new.query_states c.compact_query_states.ensures.query_states)) c.look.ensures.rest) c.self.invariant.2,
+          (left_looked c.self.inside.count c.compact_query_states.new.query_states raw c.look.new.self.activity raw_is (compacted_known c.self.inside.count c.compact_query_states.new.query_states (found_upto c.self.inside.count (clocks_in c.self.inside.times) c.as_mut_slice-query_states.result.now c.compact_query_states.new.query_states c.compact_query_states.ensures.query_states)) c.look.ensures.looked) c.self.invariant.2,
       times_same c.self.inside.schema (queries_of old) (queries_of raw) c.self.inside.times queries c.self.invariant.3,
     )
 

@@ -16,8 +16,8 @@ invariant_of-self c =
       went_keeping c.self.inside.schema c.self.inside.count c.args.position (clocks_in c.self.inside.times) query_states c.self.inside.peaks.items c.args.self.now w,
       noted_same (queries_of query_states) (queries_of query_states) (map (phase_at c.self.inside.count) query_states) (map (phase_at c.args.position) query_states) c.self.inside.told false c.self.inside.touched.items c.self.inside.touched.items c.self.inside.all.items refl c.self.invariant.1
           (λ told. absurd (false≢true told)),
-      watching_same c.self.inside.schema (queries_of query_states) (queries_of query_states) c.self.inside.count c.args.position query_states query_states c.self.inside.dispatch.leaf_index c.self.inside.dispatch.leaf_index c.self.inside.dispatch.active_queries c.self.inside.dispatch.marked c.self.inside.dispatch.read c.self.inside.dispatch.active_queries c.self.inside.dispatch.marked c.self.inside.dispatch.read c.self.inside.dispatch.leaves.items c.self.inside.dispatch.leaves.items refl
-          refl refl refl refl refl (left_on c.self.inside.count c.args.position c.self.inside.dispatch.active_queries query_states (omega arith) c.self.invariant.2.left) c.self.invariant.2,
+      watching_same c.self.inside.schema (queries_of query_states) (queries_of query_states) c.self.inside.count c.args.position query_states query_states c.self.inside.dispatch.leaf_index c.self.inside.dispatch.leaf_index c.self.inside.dispatch.activity c.self.inside.dispatch.activity c.self.inside.dispatch.marked c.self.inside.dispatch.read c.self.inside.dispatch.marked c.self.inside.dispatch.read c.self.inside.dispatch.leaves.items c.self.inside.dispatch.leaves.items refl
+          refl (refl, refl) refl refl refl (left_on c.self.inside.count c.args.position c.self.inside.dispatch.activity query_states (omega arith) c.self.invariant.2.left) c.self.invariant.2,
       c.self.invariant.3,
     )
 

@@ -3,7 +3,8 @@ use Rattle.std.proofs.lemmas.Bool.{false≢true}
 use Rattle.std.specs.Vec.{with_items}
 use Rattle.std.proofs.lemmas.List.{with_items_is}
 use Rattle.cer_base.specs.Bits.{has}
-use Rattle.all_or_none.specs.Phases.{Phase, MayAnswer, AreLeft, AreRead, AreUnread}
+use Rattle.all_or_none.specs.declared.Activity.{Activity}
+use Rattle.all_or_none.specs.Phases.{Phase, MayAnswer, AreLeft, AreRead, AreSpared, AreUnread}
 use Rattle.all_or_none.specs.Dormancy.{phase_at}
 use Rattle.query_engine.specs.Times.{clocks_in, query_states_at}
 use Rattle.query_engine.proofs.Keeping.{keeping, kept_back, state_back, seen_queries, query_states_queries}
@@ -13,17 +14,17 @@ use Rattle.query_engine.proofs.Added.{took_added}
 use Rattle.query_engine.proofs.Keys.{took_keys}
 use Rattle.query_engine.proofs.Growth.{same_queries}
 use Rattle.query_engine.proofs.Named.{noted_same}
-use Rattle.query_engine.proofs.Dispatched.{goes, read_marked, unread_marked, watching_same, room_there, rooms_there, as_many_sets}
+use Rattle.query_engine.proofs.Dispatched.{goes, read_marked, spared_marked, unread_marked, watching_same, room_there, rooms_there, as_many_sets}
 use Rattle.query_engine.proofs.engine.Engine.take.Goals as goal
 
 pub see-requires-clause-can : goal.see-requires-clause-can
 see-requires-clause-can g c = can_take c.self.inside.schema c.self.inside.count (clocks_in c.self.inside.times) c.self.inside.query_states.items c.as_mut_slice-query_states.result.now c.self.inside.peaks.items c.args.self.now c.args.event.now c.self.view_is c.self.invariant.0 c.requires.of_schema c.requires.in_time c.as_mut_slice-query_states.ensures.value
 
 pub mark-some_active_queries-requires-clause-room : goal.mark-some_active_queries-requires-clause-room
-mark-some_active_queries-requires-clause-room g c = room_there c.self.inside.schema (queries_of c.self.inside.query_states.items) c.self.inside.count c.self.inside.query_states.items c.self.inside.dispatch.leaf_index c.self.inside.dispatch.active_queries c.self.inside.dispatch.marked c.self.inside.dispatch.read c.self.inside.dispatch.leaves.items c.self.invariant.2
+mark-some_active_queries-requires-clause-room g c = room_there c.self.inside.schema (queries_of c.self.inside.query_states.items) c.self.inside.count c.self.inside.query_states.items c.self.inside.dispatch.leaf_index c.self.inside.dispatch.activity c.self.inside.dispatch.marked c.self.inside.dispatch.read c.self.inside.dispatch.leaves.items c.self.invariant.2
 
 pub mark-some_active_queries-requires-clause-leaves : goal.mark-some_active_queries-requires-clause-leaves
-mark-some_active_queries-requires-clause-leaves g c = rooms_there c.self.inside.schema (queries_of c.self.inside.query_states.items) c.self.inside.count c.self.inside.query_states.items c.self.inside.dispatch.leaf_index c.self.inside.dispatch.active_queries c.self.inside.dispatch.marked c.self.inside.dispatch.read c.self.inside.dispatch.leaves.items c.args.event.now c.self.invariant.2
+mark-some_active_queries-requires-clause-leaves g c = rooms_there c.self.inside.schema (queries_of c.self.inside.query_states.items) c.self.inside.count c.self.inside.query_states.items c.self.inside.dispatch.leaf_index c.self.inside.dispatch.activity c.self.inside.dispatch.marked c.self.inside.dispatch.read c.self.inside.dispatch.leaves.items c.args.event.now c.self.invariant.2
 
 pub mark-some_active_queries-requires-clause-sets : goal.mark-some_active_queries-requires-clause-sets
 mark-some_active_queries-requires-clause-sets g c = c.self.invariant.2.sets
@@ -33,36 +34,39 @@ mark-some_active_queries-requires-clause-reads g c = c.self.invariant.2.reads
 
 pub see-requires-clause-left : goal.see-requires-clause-left
 see-requires-clause-left g c =
-    subst (λ (b : List Bool). AreLeft phase_at c.self.inside.count b c.as_mut_slice-query_states.result.now) (sym c.mark-some_active_queries.ensures.same.1)
-    (subst (λ (ps : List Phase). AreLeft phase_at c.self.inside.count c.self.inside.dispatch.active_queries ps) (sym c.as_mut_slice-query_states.ensures.value) c.self.invariant.2.left)
+    subst (λ (b : Activity). AreLeft phase_at c.self.inside.count b c.as_mut_slice-query_states.result.now) (sym c.mark-some_active_queries.ensures.same.1)
+    (subst (λ (ps : List Phase). AreLeft phase_at c.self.inside.count c.self.inside.dispatch.activity ps) (sym c.as_mut_slice-query_states.ensures.value) c.self.invariant.2.left)
 
-pub see-requires-clause-active_queries : goal.see-requires-clause-active_queries
-see-requires-clause-active_queries g c k is = (goes c.mark-some_active_queries.result c.self.inside.dispatch.active_queries c.mark-some_active_queries.new.self.marked c.mark-some_active_queries.new.self.read c.goes_to-marked.result.now c.mark-some_active_queries.ensures.active_queries c.mark-some_active_queries.ensures.marked c.mark-some_active_queries.ensures.none (c.mark-some_active_queries.ensures.sets ∙ c.self.invariant.2.sets) (c.mark-some_active_queries.ensures.reads ∙ c.self.invariant.2.reads) c.goes_to-marked.ensures.active_queries c.goes_to-marked.ensures.none).within k (subst (λ (b : List Bool). has b k ≡ true) c.mark-some_active_queries.ensures.same.1 is)
+pub see-requires-clause-active : goal.see-requires-clause-active
+see-requires-clause-active g c k is = (goes c.mark-some_active_queries.result c.self.inside.dispatch.activity.active_queries c.mark-some_active_queries.new.self.marked c.mark-some_active_queries.new.self.read c.goes_to-marked.result.now c.mark-some_active_queries.ensures.active_queries c.mark-some_active_queries.ensures.marked c.mark-some_active_queries.ensures.either c.mark-some_active_queries.ensures.none (c.mark-some_active_queries.ensures.sets ∙ c.self.invariant.2.sets) (c.mark-some_active_queries.ensures.reads ∙ c.self.invariant.2.reads) c.goes_to-marked.ensures.active_queries c.goes_to-marked.ensures.none).within k (subst (λ (b : Activity). has b.active_queries k ≡ true) c.mark-some_active_queries.ensures.same.1 is)
 
-pub see-requires-clause-unread : goal.see-requires-clause-unread
-see-requires-clause-unread g c =
-    subst (λ (ps : List Phase). AreUnread (phase_at c.self.inside.count) c.args.event.now c.goes_to-marked.result.now ps) (sym c.as_mut_slice-query_states.ensures.value)
-    (unread_marked c.self.inside.schema (queries_of c.self.inside.query_states.items) c.self.inside.count c.self.inside.query_states.items c.self.inside.dispatch.leaf_index c.self.inside.dispatch.active_queries c.self.inside.dispatch.marked c.self.inside.dispatch.read c.goes_to-marked.result.now c.self.inside.dispatch.leaves.items c.args.event.now refl c.self.invariant.0.schemas c.self.invariant.2 (λ k row. (goes c.mark-some_active_queries.result c.self.inside.dispatch.active_queries c.mark-some_active_queries.new.self.marked c.mark-some_active_queries.new.self.read c.goes_to-marked.result.now c.mark-some_active_queries.ensures.active_queries c.mark-some_active_queries.ensures.marked c.mark-some_active_queries.ensures.none (c.mark-some_active_queries.ensures.sets ∙ c.self.invariant.2.sets) (c.mark-some_active_queries.ensures.reads ∙ c.self.invariant.2.reads) c.goes_to-marked.ensures.active_queries c.goes_to-marked.ensures.none).reads k (c.mark-some_active_queries.ensures.read k row)))
+pub see-requires-clause-spared : goal.see-requires-clause-spared
+see-requires-clause-spared g c =
+    subst (λ (b : Activity). AreSpared (phase_at c.self.inside.count) c.args.event.now c.goes_to-marked.result.now b.open_queries c.as_mut_slice-query_states.result.now) (sym c.mark-some_active_queries.ensures.same.1)
+    (subst (λ (ps : List Phase). AreSpared (phase_at c.self.inside.count) c.args.event.now c.goes_to-marked.result.now c.self.inside.dispatch.activity.open_queries ps) (sym c.as_mut_slice-query_states.ensures.value)
+    (spared_marked c.self.inside.schema (queries_of c.self.inside.query_states.items) c.self.inside.count c.self.inside.query_states.items c.self.inside.dispatch.leaf_index c.self.inside.dispatch.activity c.self.inside.dispatch.marked c.self.inside.dispatch.read c.self.inside.dispatch.leaves.items c.args.event.now refl c.self.invariant.0.schemas c.self.invariant.2 c.mark-some_active_queries.new.self.read c.mark-some_active_queries.ensures.read c.goes_to-marked.result.now (goes c.mark-some_active_queries.result c.self.inside.dispatch.activity.active_queries c.mark-some_active_queries.new.self.marked c.mark-some_active_queries.new.self.read c.goes_to-marked.result.now c.mark-some_active_queries.ensures.active_queries c.mark-some_active_queries.ensures.marked c.mark-some_active_queries.ensures.either c.mark-some_active_queries.ensures.none (c.mark-some_active_queries.ensures.sets ∙ c.self.invariant.2.sets) (c.mark-some_active_queries.ensures.reads ∙ c.self.invariant.2.reads) c.goes_to-marked.ensures.active_queries c.goes_to-marked.ensures.none).reads))
 
 pub see-requires-clause-reading : goal.see-requires-clause-reading
 see-requires-clause-reading g c =
     subst (λ (sets : List (List Bool)). AreRead (phase_at c.self.inside.count) c.args.event.now c.mark-some_active_queries.new.self.read sets c.as_mut_slice-query_states.result.now) (sym c.as_slice-leaves.ensures.value)
     (subst (λ (ps : List Phase). AreRead (phase_at c.self.inside.count) c.args.event.now c.mark-some_active_queries.new.self.read c.mark-some_active_queries.new.self.leaves.items ps) (sym c.as_mut_slice-query_states.ensures.value)
-    (read_marked c.self.inside.schema (queries_of c.self.inside.query_states.items) c.self.inside.count c.self.inside.query_states.items c.self.inside.dispatch.leaf_index c.self.inside.dispatch.active_queries c.self.inside.dispatch.marked c.self.inside.dispatch.read c.mark-some_active_queries.new.self.read c.self.inside.dispatch.leaves.items c.mark-some_active_queries.new.self.leaves.items c.args.event.now refl c.self.invariant.0.schemas c.self.invariant.2 c.mark-some_active_queries.ensures.rooms c.mark-some_active_queries.ensures.leaves))
+    (read_marked c.self.inside.schema (queries_of c.self.inside.query_states.items) c.self.inside.count c.self.inside.query_states.items c.self.inside.dispatch.leaf_index c.self.inside.dispatch.activity c.self.inside.dispatch.marked c.self.inside.dispatch.read c.mark-some_active_queries.new.self.read c.self.inside.dispatch.leaves.items c.mark-some_active_queries.new.self.leaves.items c.args.event.now refl c.self.invariant.0.schemas c.self.invariant.2 c.mark-some_active_queries.ensures.rooms c.mark-some_active_queries.ensures.leaves))
 
 pub see-requires-clause-leaves : goal.see-requires-clause-leaves
 see-requires-clause-leaves g c =
     ap (λ (sets : List (List Bool)). length sets) c.as_slice-leaves.ensures.value
-    ∙ (as_many_sets c.self.inside.schema (queries_of c.self.inside.query_states.items) c.self.inside.count c.self.inside.query_states.items c.self.inside.dispatch.leaf_index c.self.inside.dispatch.active_queries c.self.inside.dispatch.marked c.self.inside.dispatch.read c.self.inside.dispatch.leaves.items c.mark-some_active_queries.new.self.leaves.items refl c.mark-some_active_queries.ensures.rooms c.self.invariant.2
+    ∙ (as_many_sets c.self.inside.schema (queries_of c.self.inside.query_states.items) c.self.inside.count c.self.inside.query_states.items c.self.inside.dispatch.leaf_index c.self.inside.dispatch.activity c.self.inside.dispatch.marked c.self.inside.dispatch.read c.self.inside.dispatch.leaves.items c.mark-some_active_queries.new.self.leaves.items refl c.mark-some_active_queries.ensures.rooms c.self.invariant.2
     ∙ ap (λ (ps : List Phase). length ps) (sym c.as_mut_slice-query_states.ensures.value))
 
-pub see-requires-clause-told : goal.see-requires-clause-told
-see-requires-clause-told g c =
-    subst (λ (ps : List Phase). AreUnread (phase_at c.self.inside.count) c.args.event.now c.mark-some_active_queries.new.self.read ps) (sym c.as_mut_slice-query_states.ensures.value)
-    (unread_marked c.self.inside.schema (queries_of c.self.inside.query_states.items) c.self.inside.count c.self.inside.query_states.items c.self.inside.dispatch.leaf_index c.self.inside.dispatch.active_queries c.self.inside.dispatch.marked c.self.inside.dispatch.read c.mark-some_active_queries.new.self.read c.self.inside.dispatch.leaves.items c.args.event.now refl c.self.invariant.0.schemas c.self.invariant.2 c.mark-some_active_queries.ensures.read)
+pub see-requires-clause-unread : goal.see-requires-clause-unread
+see-requires-clause-unread g c =
+    subst (λ (ps : List Phase). AreUnread (phase_at c.self.inside.count) c.args.event.now c.goes_to-marked.result.now c.mark-some_active_queries.new.self.read ps) (sym c.as_mut_slice-query_states.ensures.value)
+    (unread_marked c.self.inside.schema (queries_of c.self.inside.query_states.items) c.self.inside.count c.self.inside.query_states.items c.self.inside.dispatch.leaf_index c.self.inside.dispatch.activity c.self.inside.dispatch.marked c.self.inside.dispatch.read c.self.inside.dispatch.leaves.items c.args.event.now refl c.self.invariant.0.schemas c.self.invariant.2 c.mark-some_active_queries.new.self.read c.mark-some_active_queries.ensures.read c.goes_to-marked.result.now (goes c.mark-some_active_queries.result c.self.inside.dispatch.activity.active_queries c.mark-some_active_queries.new.self.marked c.mark-some_active_queries.new.self.read c.goes_to-marked.result.now c.mark-some_active_queries.ensures.active_queries c.mark-some_active_queries.ensures.marked c.mark-some_active_queries.ensures.either c.mark-some_active_queries.ensures.none (c.mark-some_active_queries.ensures.sets ∙ c.self.invariant.2.sets) (c.mark-some_active_queries.ensures.reads ∙ c.self.invariant.2.reads) c.goes_to-marked.ensures.active_queries c.goes_to-marked.ensures.none).only)
 
 pub see-requires-clause-sets : goal.see-requires-clause-sets
-see-requires-clause-sets g c = ap (λ (b : List Bool). length b) c.mark-some_active_queries.ensures.same.1 ∙ sym (goes c.mark-some_active_queries.result c.self.inside.dispatch.active_queries c.mark-some_active_queries.new.self.marked c.mark-some_active_queries.new.self.read c.goes_to-marked.result.now c.mark-some_active_queries.ensures.active_queries c.mark-some_active_queries.ensures.marked c.mark-some_active_queries.ensures.none (c.mark-some_active_queries.ensures.sets ∙ c.self.invariant.2.sets) (c.mark-some_active_queries.ensures.reads ∙ c.self.invariant.2.reads) c.goes_to-marked.ensures.active_queries c.goes_to-marked.ensures.none).room
+see-requires-clause-sets g c =
+    let room = (goes c.mark-some_active_queries.result c.self.inside.dispatch.activity.active_queries c.mark-some_active_queries.new.self.marked c.mark-some_active_queries.new.self.read c.goes_to-marked.result.now c.mark-some_active_queries.ensures.active_queries c.mark-some_active_queries.ensures.marked c.mark-some_active_queries.ensures.either c.mark-some_active_queries.ensures.none (c.mark-some_active_queries.ensures.sets ∙ c.self.invariant.2.sets) (c.mark-some_active_queries.ensures.reads ∙ c.self.invariant.2.reads) c.goes_to-marked.ensures.active_queries c.goes_to-marked.ensures.none).room in
+    (ap (λ (b : Activity). length b.active_queries) c.mark-some_active_queries.ensures.same.1 ∙ sym room, ap (λ (b : Activity). length b.open_queries) c.mark-some_active_queries.ensures.same.1 ∙ (c.self.invariant.2.open_room ∙ sym room))
 
 pub invariant_of-self : goal.invariant_of-self
 invariant_of-self g c =
@@ -80,8 +84,8 @@ invariant_of-self g c =
       keeping c.self.inside.schema (c.self.inside.count + 1) (clocks_in c.note.new.self) new c.self.inside.peaks.items (took_running c.self.inside.schema c.self.inside.count before c.self.inside.peaks.items c.args.event.now after t c.args.self.now c.self.view_is),
       noted_same (queries_of old) (queries_of new) (map (phase_at c.self.inside.count) old) (map (phase_at (c.self.inside.count + 1)) new) c.self.inside.told true c.self.inside.touched.items c.see.new.touched.items c.self.inside.all.items queries c.self.invariant.1
           (λ told. subst (λ (ps : List Phase). MayAnswer c.see.new.touched.items (map (phase_at (c.self.inside.count + 1)) ps)) (sym is) c.in-Ok.ensures.answering),
-      watching_same c.self.inside.schema (queries_of old) (queries_of new) c.self.inside.count (c.self.inside.count + 1) c.self.inside.query_states.items new c.self.inside.dispatch.leaf_index c.mark-some_active_queries.new.self.leaf_index c.self.inside.dispatch.active_queries c.self.inside.dispatch.marked c.self.inside.dispatch.read c.see.new.active_queries c.mark-some_active_queries.new.self.marked c.mark-some_active_queries.new.self.read c.self.inside.dispatch.leaves.items c.mark-some_active_queries.new.self.leaves.items queries
-          c.mark-some_active_queries.ensures.same.0 (c.see.ensures.sets ∙ ap (λ (b : List Bool). length b) c.mark-some_active_queries.ensures.same.1) c.mark-some_active_queries.ensures.sets c.mark-some_active_queries.ensures.reads c.mark-some_active_queries.ensures.rooms (subst (λ (ps : List Phase). AreLeft phase_at (c.self.inside.count + 1) c.see.new.active_queries ps) (sym is) c.in-Ok.ensures.left) c.self.invariant.2,
+      watching_same c.self.inside.schema (queries_of old) (queries_of new) c.self.inside.count (c.self.inside.count + 1) c.self.inside.query_states.items new c.self.inside.dispatch.leaf_index c.mark-some_active_queries.new.self.leaf_index c.self.inside.dispatch.activity c.see.new.activity c.self.inside.dispatch.marked c.self.inside.dispatch.read c.mark-some_active_queries.new.self.marked c.mark-some_active_queries.new.self.read c.self.inside.dispatch.leaves.items c.mark-some_active_queries.new.self.leaves.items queries
+          c.mark-some_active_queries.ensures.same.0 (c.see.ensures.sets.0 ∙ ap (λ (b : Activity). length b.active_queries) c.mark-some_active_queries.ensures.same.1, c.see.ensures.sets.1 ∙ ap (λ (b : Activity). length b.open_queries) c.mark-some_active_queries.ensures.same.1) c.mark-some_active_queries.ensures.sets c.mark-some_active_queries.ensures.reads c.mark-some_active_queries.ensures.rooms (subst (λ (ps : List Phase). AreLeft phase_at (c.self.inside.count + 1) c.see.new.activity ps) (sym is) c.in-Ok.ensures.left) c.self.invariant.2,
       times_same c.self.inside.schema (queries_of old) (queries_of new) c.note.new.self queries (times_on c.self.inside.schema (queries_of old) c.self.inside.times c.self.invariant.3 c.args.event.now of c.self.inside.count c.note.new.self c.note.ensures.moved c.note.ensures.same),
     )
 
@@ -191,8 +195,8 @@ invariant_of-self-in-Err g c =
       kept_back c.self.inside.schema c.self.inside.count (clocks_in c.self.inside.times) c.self.inside.query_states.items c.as_mut_slice-query_states.result.now c.see.new.query_states new c.self.inside.peaks.items c.self.invariant.0 c.as_mut_slice-query_states.ensures.value is c.in-Err.ensures.unchanged,
       noted_same (queries_of old) (queries_of new) (map (phase_at c.self.inside.count) old) (map (phase_at c.self.inside.count) new) c.self.inside.told false c.self.inside.touched.items c.see.new.touched.items c.self.inside.all.items queries c.self.invariant.1
           (λ told. absurd (false≢true told)),
-      watching_same c.self.inside.schema (queries_of old) (queries_of new) c.self.inside.count c.self.inside.count c.self.inside.query_states.items new c.self.inside.dispatch.leaf_index c.mark-some_active_queries.new.self.leaf_index c.self.inside.dispatch.active_queries c.self.inside.dispatch.marked c.self.inside.dispatch.read c.see.new.active_queries c.mark-some_active_queries.new.self.marked c.mark-some_active_queries.new.self.read c.self.inside.dispatch.leaves.items c.mark-some_active_queries.new.self.leaves.items queries
-          c.mark-some_active_queries.ensures.same.0 (c.see.ensures.sets ∙ ap (λ (b : List Bool). length b) c.mark-some_active_queries.ensures.same.1) c.mark-some_active_queries.ensures.sets c.mark-some_active_queries.ensures.reads c.mark-some_active_queries.ensures.rooms (subst (λ (ps : List Phase). AreLeft phase_at c.self.inside.count c.see.new.active_queries ps) (sym is) c.in-Err.ensures.still_left) c.self.invariant.2,
+      watching_same c.self.inside.schema (queries_of old) (queries_of new) c.self.inside.count c.self.inside.count c.self.inside.query_states.items new c.self.inside.dispatch.leaf_index c.mark-some_active_queries.new.self.leaf_index c.self.inside.dispatch.activity c.see.new.activity c.self.inside.dispatch.marked c.self.inside.dispatch.read c.mark-some_active_queries.new.self.marked c.mark-some_active_queries.new.self.read c.self.inside.dispatch.leaves.items c.mark-some_active_queries.new.self.leaves.items queries
+          c.mark-some_active_queries.ensures.same.0 (c.see.ensures.sets.0 ∙ ap (λ (b : Activity). length b.active_queries) c.mark-some_active_queries.ensures.same.1, c.see.ensures.sets.1 ∙ ap (λ (b : Activity). length b.open_queries) c.mark-some_active_queries.ensures.same.1) c.mark-some_active_queries.ensures.sets c.mark-some_active_queries.ensures.reads c.mark-some_active_queries.ensures.rooms (subst (λ (ps : List Phase). AreLeft phase_at c.self.inside.count c.see.new.activity ps) (sym is) c.in-Err.ensures.still_left) c.self.invariant.2,
       times_same c.self.inside.schema (queries_of old) (queries_of new) c.self.inside.times queries c.self.invariant.3,
     )
 

@@ -348,13 +348,7 @@ pub fn see<P: Participant, L: Ledger>(
         steps,
     ) {
         Ok(()) => {
-            commit_all(
-                query_states,
-                touched.as_slice(),
-                activity,
-                event,
-                position,
-            );
+            commit_all(query_states, touched.as_slice(), activity, event, position);
             Ok(())
         }
         Err(refused) => {

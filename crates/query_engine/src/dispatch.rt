@@ -102,12 +102,8 @@ impl Dispatch {
     {
         self.read.clear();
         let leaves = self.leaves.as_mut_slice();
-        self.leaf_index.mark(
-            event,
-            &self.activity.open_queries,
-            &mut self.read,
-            leaves,
-        );
+        self.leaf_index
+            .mark(event, &self.activity.open_queries, &mut self.read, leaves);
         if self.activity.active_queries.is_empty() {
             return false;
         }

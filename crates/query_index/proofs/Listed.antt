@@ -316,15 +316,17 @@ module _ (schema : Declared) (q : Query) (query : ℕ) (old new : List (List Lea
   pub waiting_here : IsWaiting q query new have
   waiting_here event h open_queries out =
       let here = row_here event.ty h.row h.leaf h.listed h.at h.numbered in
-      let told = not_awake a.types query event.ty h.row open_queries here.waits out in
-      (told.0, λ k found. (
-          let n = row_here event.ty found.0.row found.0.leaf found.0.listed found.0.at found.0.numbered in
-          let first = n.own in
-          let same : n.of.leaf ≡ found.0.leaf = (let both = sym n.of.at ∙ found.0.at in cc) in
-          let number : n.of.leaf.number ≡ k = ap (λ (l : IndexedLeaf). l.number) same ∙ found.1 in
-          let place : n.place ≡ k = omega arith in
-          by k n.leaf (subst (λ i. slice_get a.list i ≡ Some n.leaf) place n.listed) (ap (may_be_among a.types) n.type ∙ told.1) ((automaton_of (tree_of q)).first k) refl
-          ))
+      let told = not_awake a.types query event.ty h.row open_queries here.waits out in (
+        told.0,
+        λ k found. (
+            let n = row_here event.ty found.0.row found.0.leaf found.0.listed found.0.at found.0.numbered in
+            let first = n.own in
+            let same : n.of.leaf ≡ found.0.leaf = (let both = sym n.of.at ∙ found.0.at in cc) in
+            let number : n.of.leaf.number ≡ k = ap (λ (l : IndexedLeaf). l.number) same ∙ found.1 in
+            let place : n.place ≡ k = omega arith in
+            by k n.leaf (subst (λ i. slice_get a.list i ≡ Some n.leaf) place n.listed) (ap (may_be_among a.types) n.type ∙ told.1) ((automaton_of (tree_of q)).first k) refl
+            ),
+      )
     where
       by : (k : ℕ) (l : Leaf) → slice_get a.list k ≡ Some l → may_be_among a.types l.ty ≡ false → (b : Bool) → (automaton_of (tree_of q)).first k ≡ b → (automaton_of (tree_of q)).first k ≡ false
       by k l at none true e = absurd (false≢true (sym none ∙ a.first k l at e))

@@ -104,13 +104,7 @@ impl LeafIndex {
     /// numbers. Of each query that was not marked before and is now, the set of its number is then
     /// that of the numbers of its leaves that can read the event; the sets have room for these.
     #[inline(always)]
-    pub fn mark(
-        &self,
-        event: &Event,
-        open_queries: &Bits,
-        into: &mut Bits,
-        leaves: &mut [Bits],
-    )
+    pub fn mark(&self, event: &Event, open_queries: &Bits, into: &mut Bits, leaves: &mut [Bits])
         requires count { self.now.count ≤ length into.old }
         requires rooms { HaveRooms self.now.count self.now.rows self.now.leaves event.now
             leaves.old }

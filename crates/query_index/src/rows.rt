@@ -218,13 +218,6 @@ pub fn add_query(
     let found = leaves_of(alloc, schema, query)?;
     let first = first_of(alloc, &found)?;
     let types = types_of(alloc, schema, found.list.as_slice(), &first)?;
-    add_leaves(
-        rows,
-        leaves,
-        alloc,
-        number,
-        &types,
-        found.list.into_vec(),
-    )?;
+    add_leaves(rows, leaves, alloc, number, &types, found.list.into_vec())?;
     Ok(())
 }

@@ -1,5 +1,4 @@
 use Rattle.std.proofs.Common.{◌≡◌, sym, ap, ◌∙◌, Bool, true, false, not}
-
 use Rattle.all_or_none.proofs.ActiveQueries.{empty_is_dormant, told, untold}
 use Rattle.all_or_none.proofs.look.Goals.{then-is_empty, else-is_empty}
 use Rattle.all_or_none.proofs.look.Goals as goal

@@ -6,3 +6,5 @@ mod Indexed
 mod Found
 -- what tests that ask for a text ask to open with
 mod Opened
+-- runs of numbers, and pieces of rows
+mod Covered

@@ -15,6 +15,7 @@ use std::cmp::Ordering;
 use stream_schema::{Event, Op, Value, is_met_by};
 
 /// Whether the order is one that the operator asks for.
+#[inline(always)]
 fn is_met(op: Op, order: Ordering) -> bool
     ensures { result ≡ meets op order }
 {
@@ -39,14 +40,24 @@ fn texts_compare(op: Op, text: &str, literal: &str) -> bool
     }
 }
 
-/// Whether the value compares so with the literal, whole numbers without their places.
-pub fn compares(op: Op, value: &Value, literal: &Value) -> bool
+/// Whether the value compares so with the literal, where they are not both whole numbers.
+fn others_compare(op: Op, value: &Value, literal: &Value) -> bool
     ensures { result ≡ value_meets op value.now literal.now }
 {
     match (value, literal) {
         (Value::Text(a), Value::Text(b)) => texts_compare(op, a.as_str(), b.as_str()),
-        (Value::Int(a), Value::Int(b)) => is_met(op, a.cmp(b)),
         _ => is_met_by(op, value, literal),
+    }
+}
+
+/// Whether the value compares so with the literal, whole numbers without their places.
+#[inline(always)]
+pub fn compares(op: Op, value: &Value, literal: &Value) -> bool
+    ensures { result ≡ value_meets op value.now literal.now }
+{
+    match (value, literal) {
+        (Value::Int(a), Value::Int(b)) => is_met(op, a.cmp(b)),
+        _ => others_compare(op, value, literal),
     }
 }
 

@@ -1,9 +1,8 @@
 -- Runs of numbers, pieces of rows, and the rows of pieces.
-use Rattle.std.proofs.Common.{◌≡◌, refl, sym, ap, subst, ◌∙◌, ℕ, ◌+◌, ◌<◌, ◌≤◌, inl, inr, ◌⊎◌, ℤ, ◌≤ℤ◌, ◌<ℤ◌, List, [], ◌∷◌, ◌++◌, length, take, slice_get, slice_index_or, Contains, arith}
+use Rattle.std.proofs.Common.{◌≡◌, refl, sym, subst, ◌∙◌, ℕ, ◌+◌, ◌<◌, ◌≤◌, inl, inr, ◌⊎◌, ℤ, ◌≤ℤ◌, ◌<ℤ◌, List, [], ◌∷◌, ◌++◌, length, take, slice_index_or, Contains, arith}
 use Rattle.std.proofs.lemmas.Int.{ints, by_lt_z}
 use Rattle.std.proofs.lemmas.List.Elements.{Contains-append_left, Contains-push, Contains-push_cases}
 use Rattle.std.proofs.lemmas.List.{take_more, take_all}
-use Rattle.stream_schema.specs.declared.Kind.{Kind}
 use Rattle.stream_schema.specs.declared.Event.{Event}
 use Rattle.predicate_bits.specs.declared.spans.Span.{Span}
 use Rattle.predicate_bits.specs.Spans.{IsNumbered, IsAt}

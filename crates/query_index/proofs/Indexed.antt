@@ -2,7 +2,6 @@
 use Rattle.std.proofs.Common.{◌≡◌, refl, sym, ap, subst, ◌∙◌, ℕ, zero, suc, ◌+◌, ◌<◌, ◌≤◌, inl, inr, ℤ, ◌≤ℤ◌, Bool, false, List, [], ◌∷◌, ◌++◌, length, map, take, Some, Result, Ok, Err, IfOk, Vec, slice_get, slice_index_or, Contains, All, arith}
 use Rattle.std.specs.declared.alloc.Global.{Global}
 use Rattle.std.proofs.lemmas.Bool.{false≢true, cases_lt}
-use Rattle.std.proofs.lemmas.Int.{ints}
 use Rattle.std.proofs.lemmas.List.Elements.{All-push, Contains-append_left, Contains-append_right, Contains-append_cases, Contains-push, Contains-push_cases, Contains-get_or}
 use Rattle.std.proofs.lemmas.List.{take_more, take_all}
 use Rattle.std.proofs.lemmas.Option.{slice_get_within, get_or_from_slice_get}
@@ -12,15 +11,14 @@ use Rattle.stream_schema.specs.declared.Event.{Event}
 use Rattle.stream_schema.specs.declared.Value.{Value}
 use Rattle.query_leaves.specs.declared.Test.{Test}
 use Rattle.query_leaves.specs.Shapes.{each_holds}
-use Rattle.predicate_bits.specs.declared.spans.Span.{Span}
-use Rattle.predicate_bits.specs.Spans.{IsNumbered, IsAt}
+use Rattle.predicate_bits.specs.Spans.{IsNumbered}
 use Rattle.query_index.specs.declared.rows.LeafRow.{LeafRow}
 use Rattle.query_index.specs.declared.rows.IndexedLeaf.{IndexedLeaf}
 use Rattle.query_index.specs.declared.buckets.Bucket.{Bucket}
 use Rattle.query_index.specs.declared.index.Index.{Index}
 use Rattle.query_index.specs.Rows.{rows_of, IsRowBelow, HaveReader, HaveRoom, Marks}
 use Rattle.query_index.proofs.Listed.{room_within, marks_more}
-use Rattle.query_index.specs.Index.{IsApart, AreRowsOver, IsWithin, IsBucket, AreBuckets, IsIndex, gathered, HaveSame, AreSplit, AreIndexes, indexes_of, AreIndexed, Suffice}
+use Rattle.query_index.specs.Index.{IsBucket, AreBuckets, IsIndex, gathered, HaveSame, AreSplit, AreIndexes, indexes_of, AreIndexed, Suffice}
 
 -- a leaf whose tests hold of no such event
 pub apart_from : (leaves : List IndexedLeaf) (k : ℕ) (found leaf : IndexedLeaf) (read : List Test) (event : Event) → Some found ≡ slice_get leaves k → read ≡ found.tests.items → each_holds read event ≡ false → slice_get leaves k ≡ Some leaf → each_holds leaf.tests.items event ≡ false

@@ -23,8 +23,9 @@ const MOST_BITS: u32 = 12;
 /// The most spans at the coarsest level, as a power of two.
 const COARSEST_BITS: u32 = 4;
 
-/// About how many of the numbers that a leaf compares with are told apart, at most.
-const MOST_ENDS: usize = 256;
+/// About half as many comparisons as are made, at most, to see which numbers a leaf asks for: where that
+/// would take more, fewer of the numbers that it compares with are told apart.
+const MOST_COMPARISONS: usize = 32_768;
 
 /// At how many levels the values at a place are parted.
 pub const LEVELS: usize = 3;
@@ -71,58 +72,72 @@ fn number_as(kind: Kind, literal: &Value) -> Option<i64> {
     }
 }
 
+/// What the tests of leaves compare the value at a place with.
+#[derive(Drop)]
+struct Compared {
+    numbers: Vec<i64>,
+    /// How many comparisons there are, those at other places among them.
+    comparisons: usize,
+}
+
 /// Puts in the number of the literal, where values of the kind are compared with one.
-fn put_number(numbers: &mut Vec<i64>, kind: Kind, literal: &Value) -> Result<(), Memory> {
+fn put_number(compared: &mut Compared, kind: Kind, literal: &Value) -> Result<(), Memory> {
     if let Some(number) = number_as(kind, literal) {
-        numbers.push(number)?;
+        compared.numbers.push(number)?;
     }
     Ok(())
 }
 
-/// Puts in the numbers that the tests compare the value at the place with, which is of the kind.
+/// Puts in what the tests compare the value at the place with, which is of the kind.
 #[cycle(put_numbers)]
 fn put_all_numbers(
-    numbers: &mut Vec<i64>,
+    compared: &mut Compared,
     place: u64,
     kind: Kind,
     tests: &[Test],
 ) -> Result<(), Memory> {
     for test in tests {
-        put_numbers(numbers, place, kind, test)?;
+        put_numbers(compared, place, kind, test)?;
     }
     Ok(())
 }
 
-/// Puts in the numbers that the test compares the value at the place with, which is of the kind.
+/// Puts in what the test compares the value at the place with, which is of the kind.
 #[cycle(put_numbers)]
-fn put_numbers(numbers: &mut Vec<i64>, place: u64, kind: Kind, test: &Test) -> Result<(), Memory> {
+fn put_numbers(compared: &mut Compared, place: u64, kind: Kind, test: &Test) -> Result<(), Memory> {
     match test {
         Test::No => Ok(()),
         Test::Cmp(at, _, literal) => {
+            compared.comparisons = compared.comparisons.saturating_add(1);
             if *at != place {
                 return Ok(());
             }
-            put_number(numbers, kind, literal)
+            put_number(compared, kind, literal)
         }
-        Test::Not(inner) => put_numbers(numbers, place, kind, inner),
-        Test::All(tests) => put_all_numbers(numbers, place, kind, tests),
-        Test::Any(tests) => put_all_numbers(numbers, place, kind, tests),
+        Test::Not(inner) => put_numbers(compared, place, kind, inner),
+        Test::All(tests) => put_all_numbers(compared, place, kind, tests),
+        Test::Any(tests) => put_all_numbers(compared, place, kind, tests),
     }
 }
 
-/// Puts in the numbers that the tests of the row's leaf compare the value at the place with, which is of
-/// the kind.
-fn put_numbers_of(
-    numbers: &mut Vec<i64>,
-    row: &LeafRow,
+/// What the tests of the rows' leaves compare the value at the place with, which is of the kind.
+fn compared_by(
+    alloc: Global,
+    rows: &[LeafRow],
     leaves: &[IndexedLeaf],
     place: u64,
     kind: Kind,
-) -> Result<(), Memory> {
-    match leaves.get(row.leaf as usize) {
-        Some(leaf) => put_all_numbers(numbers, place, kind, leaf.tests.as_slice()),
-        None => Ok(()),
+) -> Result<Compared, Memory> {
+    let mut compared = Compared {
+        numbers: Vec::new(alloc),
+        comparisons: 0,
+    };
+    for row in rows {
+        if let Some(leaf) = leaves.get(row.leaf as usize) {
+            put_all_numbers(&mut compared, place, kind, leaf.tests.as_slice())?;
+        }
     }
+    Ok(compared)
 }
 
 /// The numbers up to each of which the row's leaf mostly asks for all numbers or for none, in order.
@@ -132,12 +147,13 @@ pub fn ends_of(
     leaves: &[IndexedLeaf],
     parting: &Parting,
 ) -> Result<Vec<i64>, Memory> {
-    let mut numbers = Vec::new(alloc);
-    put_numbers_of(&mut numbers, row, leaves, parting.place, parting.kind)?;
-    numbers.as_mut_slice().sort_unstable();
-    let each = (numbers.len() / MOST_ENDS).saturating_add(1);
+    let mut compared = compared_by(alloc, &[*row], leaves, parting.place, parting.kind)?;
+    compared.numbers.as_mut_slice().sort_unstable();
+    let numbers = compared.numbers.as_slice();
+    let each = (numbers.len().saturating_mul(compared.comparisons)
+        / MOST_COMPARISONS).saturating_add(1);
     let mut ends = Vec::with_capacity(alloc, numbers.len().saturating_mul(2))?;
-    for number in numbers.as_slice().iter().step_by(each) {
+    for number in numbers.iter().step_by(each) {
         ends.push(number.saturating_sub(1))?;
         ends.push(*number)?;
     }
@@ -220,22 +236,6 @@ fn push_levels(
     Ok(())
 }
 
-/// The numbers that the tests of the rows' leaves compare the value at the place with, which is of the
-/// kind.
-fn all_numbers_at(
-    alloc: Global,
-    rows: &[LeafRow],
-    leaves: &[IndexedLeaf],
-    place: u64,
-    kind: Kind,
-) -> Result<Vec<i64>, Memory> {
-    let mut numbers = Vec::new(alloc);
-    for row in rows {
-        put_numbers_of(&mut numbers, row, leaves, place, kind)?;
-    }
-    Ok(numbers)
-}
-
 /// How the values at each place that the rows' leaves ask for are parted, at each level, for a type with
 /// these attributes.
 pub fn partings_of(
@@ -248,8 +248,13 @@ pub fn partings_of(
     let mut partings = Vec::new(alloc);
     for place in places.as_slice() {
         if let Some(attr) = attrs.get(*place as usize) {
-            let numbers = all_numbers_at(alloc, rows, leaves, *place, attr.kind)?;
-            push_levels(&mut partings, *place, attr.kind, numbers.as_slice())?;
+            let compared = compared_by(alloc, rows, leaves, *place, attr.kind)?;
+            push_levels(
+                &mut partings,
+                *place,
+                attr.kind,
+                compared.numbers.as_slice(),
+            )?;
         }
     }
     Ok(partings)

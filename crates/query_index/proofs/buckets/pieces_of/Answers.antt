@@ -1,4 +1,4 @@
-use Rattle.query_index.proofs.Covered.{rows_next, rows_last}
+use Rattle.query_index.proofs.Covered.{rows_next}
 use Rattle.query_index.proofs.buckets.pieces_of.Goals as goal
 
 pub loop-row-preserved : goal.loop-row-preserved

@@ -1,7 +1,7 @@
 use Rattle.std.proofs.Common.{◌+◌, ◌∙◌, sym, ap, subst, take, Vec, Global}
 use Rattle.query_index.specs.declared.buckets.Piece.{Piece}
 use Rattle.query_index.specs.Runs.{AreMeeting}
-use Rattle.query_index.proofs.Covered.{meeting_put, meeting_past, meeting_last}
+use Rattle.query_index.proofs.Covered.{meeting_put, meeting_past}
 use Rattle.query_index.proofs.buckets.pieces_over.Goals.{then-meets+in_ok-push, else-meets}
 use Rattle.query_index.proofs.buckets.pieces_over.Goals as goal
 

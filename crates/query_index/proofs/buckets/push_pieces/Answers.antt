@@ -1,5 +1,5 @@
 use Rattle.std.proofs.Common.{refl}
-use Rattle.query_index.proofs.Covered.{pieces_first, pieces_next, pieces_last}
+use Rattle.query_index.proofs.Covered.{pieces_next}
 use Rattle.query_index.proofs.buckets.push_pieces.Goals as goal
 
 pub loop-run-preserved : goal.loop-run-preserved

@@ -1,7 +1,7 @@
 use Rattle.std.proofs.Common.{◌+◌, ◌∙◌, sym, ap, subst, take, Vec, Global}
 use Rattle.query_index.specs.declared.rows.LeafRow.{LeafRow}
 use Rattle.query_index.specs.Runs.{AreMeetingRows}
-use Rattle.query_index.proofs.Covered.{meeting_rows_put, meeting_rows_past, meeting_rows_last}
+use Rattle.query_index.proofs.Covered.{meeting_rows_put, meeting_rows_past}
 use Rattle.query_index.proofs.buckets.rows_over.Goals.{then-meets+in_ok-push, else-meets}
 use Rattle.query_index.proofs.buckets.rows_over.Goals as goal
 

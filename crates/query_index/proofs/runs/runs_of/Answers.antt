@@ -1,4 +1,4 @@
-use Rattle.std.proofs.Common.{◌≡◌, sym, ap, subst, Vec, Global}
+use Rattle.std.proofs.Common.{sym, subst, Vec, Global}
 use Rattle.predicate_bits.specs.declared.spans.Span.{Span}
 use Rattle.query_index.specs.declared.runs.Run.{Run}
 use Rattle.query_index.proofs.Covered.{IsLeft, left_next, left_last}

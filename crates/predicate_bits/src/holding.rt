@@ -40,24 +40,26 @@ fn texts_compare(op: Op, text: &str, literal: &str) -> bool
     }
 }
 
-/// Whether the value compares so with the literal, where they are not both whole numbers.
-fn others_compare(op: Op, value: &Value, literal: &Value) -> bool
-    ensures { result ≡ value_meets op value.now literal.now }
-{
-    match (value, literal) {
-        (Value::Text(a), Value::Text(b)) => texts_compare(op, a.as_str(), b.as_str()),
-        _ => is_met_by(op, value, literal),
-    }
-}
-
 /// Whether the value compares so with the literal, whole numbers without their places.
-#[inline(always)]
 pub fn compares(op: Op, value: &Value, literal: &Value) -> bool
     ensures { result ≡ value_meets op value.now literal.now }
 {
     match (value, literal) {
+        (Value::Text(a), Value::Text(b)) => texts_compare(op, a.as_str(), b.as_str()),
         (Value::Int(a), Value::Int(b)) => is_met(op, a.cmp(b)),
-        _ => others_compare(op, value, literal),
+        _ => is_met_by(op, value, literal),
+    }
+}
+
+/// Whether the value compares so with the literal. Two whole numbers are compared without a call, for
+/// callers that know the operator.
+#[inline(always)]
+pub fn compares_in_place(op: Op, value: &Value, literal: &Value) -> bool
+    ensures { result ≡ value_meets op value.now literal.now }
+{
+    match (value, literal) {
+        (Value::Int(a), Value::Int(b)) => is_met(op, a.cmp(b)),
+        _ => compares(op, value, literal),
     }
 }
 

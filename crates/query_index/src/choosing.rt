@@ -33,7 +33,7 @@ const MOST_COST: u64 = ALL - ALL / 8;
 const MOST_BUCKETS: u64 = 16;
 
 /// How many rows an index has to spare an event, on the average.
-const WORTH: u64 = 4;
+const WORTH: u64 = 3;
 
 /// For how many events the row with these runs would be looked at, with an index of this parting. All,
 /// where that would not have it.

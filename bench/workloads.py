@@ -127,6 +127,27 @@ def rules(number):
     return made
 
 
+def ranges(number):
+    """So many rules on ranges of prices, narrow ones and wide ones, and on limits that lie at one end of them."""
+
+    def made(dice, count):
+        text = "".join(f"DECLARE EVENT {it}(price INT, symbol STRING)\n" for it in "AB") + "DECLARE STREAM S(A, B)\n"
+        for k in range(number):
+            width = dice.choice([10, 100, 400])
+            low = dice.randint(0, 9999 - width)
+            limit = dice.randint(9000, 9999)
+            test = f"price > {limit}" if k % 4 == 0 else f"price >= {low} AND price <= {low + width}"
+            text += f"SELECT * FROM S WHERE A ; B FILTER A[{test}] AND B[price < {dice.randint(1, 60)} AND NOT symbol = 'S{k % 50}'] WITHIN 20 EVENTS\n"
+
+        def events():
+            for _ in range(count):
+                yield f"{dice.choice('AB')},{dice.randint(0, 9999)},S{dice.randint(0, 49)}"
+
+        return text, events()
+
+    return made
+
+
 def few_types(dice, count):
     """200 rules over eight declared types, of which the stream has seven; one rule in a hundred asks for what comes."""
     types = "ABCDEFGH"
@@ -152,6 +173,8 @@ ALL = {
     "rules-64": rules(64),
     "rules-1000": rules(1000),
     "few-types": few_types,
+    "queries-1000": many(1000),
+    "ranges": ranges(1000),
 }
 
 

@@ -15,6 +15,7 @@ use std::cmp::Ordering;
 use stream_schema::{Event, Op, Value, is_met_by};
 
 /// Whether the order is one that the operator asks for.
+#[inline(always)]
 fn is_met(op: Op, order: Ordering) -> bool
     ensures { result ≡ meets op order }
 {
@@ -47,6 +48,18 @@ pub fn compares(op: Op, value: &Value, literal: &Value) -> bool
         (Value::Text(a), Value::Text(b)) => texts_compare(op, a.as_str(), b.as_str()),
         (Value::Int(a), Value::Int(b)) => is_met(op, a.cmp(b)),
         _ => is_met_by(op, value, literal),
+    }
+}
+
+/// Whether the value compares so with the literal. Two whole numbers are compared without a call, for
+/// callers that know the operator.
+#[inline(always)]
+pub fn compares_in_place(op: Op, value: &Value, literal: &Value) -> bool
+    ensures { result ≡ value_meets op value.now literal.now }
+{
+    match (value, literal) {
+        (Value::Int(a), Value::Int(b)) => is_met(op, a.cmp(b)),
+        _ => compares(op, value, literal),
     }
 }
 

@@ -7,7 +7,7 @@ ghost use Rattle.stream_schema.specs.declared.Op.TheVariants as ops;
 ghost use Rattle.stream_schema.specs.Comparing.{value_meets};
 ghost use Rattle.predicate_bits.specs.Spans.{digest, flag_number, allows, IsNumber, IsNumbered, IsBetween, IsOf};
 
-use crate::holding::compares;
+use crate::holding::{compares, compares_in_place};
 use stream_schema::{Kind, Op, Value};
 
 /// What a byte of a text is multiplied by, so that texts which differ have digests far apart.
@@ -110,10 +110,10 @@ fn equality_over(first: &Value, last: &Value, literal: &Value) -> Outcome
     ensures { (value : ValueData) → IsBetween first.now value last.now
         → allows result (value_meets ops.Eq value literal.now) ≡ true }
 {
-    let begins = compares(Op::Le, first, literal);
-    let ends = compares(Op::Ge, last, literal);
-    let is_least = compares(Op::Ge, first, literal);
-    let is_most = compares(Op::Le, last, literal);
+    let begins = compares_in_place(Op::Le, first, literal);
+    let ends = compares_in_place(Op::Ge, last, literal);
+    let is_least = compares_in_place(Op::Ge, first, literal);
+    let is_most = compares_in_place(Op::Le, last, literal);
     Outcome {
         may_hold: begins & ends,
         may_fail: !(is_least & is_most),
@@ -130,20 +130,20 @@ fn numbers_over(first: &Value, last: &Value, op: Op, literal: &Value) -> Outcome
         Op::Eq => equality_over(first, last, literal),
         Op::Ne => opposite(equality_over(first, last, literal)),
         Op::Lt => Outcome {
-            may_hold: compares(Op::Lt, first, literal),
-            may_fail: !compares(Op::Lt, last, literal),
+            may_hold: compares_in_place(Op::Lt, first, literal),
+            may_fail: !compares_in_place(Op::Lt, last, literal),
         },
         Op::Le => Outcome {
-            may_hold: compares(Op::Le, first, literal),
-            may_fail: !compares(Op::Le, last, literal),
+            may_hold: compares_in_place(Op::Le, first, literal),
+            may_fail: !compares_in_place(Op::Le, last, literal),
         },
         Op::Gt => Outcome {
-            may_hold: compares(Op::Gt, last, literal),
-            may_fail: !compares(Op::Gt, first, literal),
+            may_hold: compares_in_place(Op::Gt, last, literal),
+            may_fail: !compares_in_place(Op::Gt, first, literal),
         },
         Op::Ge => Outcome {
-            may_hold: compares(Op::Ge, last, literal),
-            may_fail: !compares(Op::Ge, first, literal),
+            may_hold: compares_in_place(Op::Ge, last, literal),
+            may_fail: !compares_in_place(Op::Ge, first, literal),
         },
     }
 }

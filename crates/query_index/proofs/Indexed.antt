@@ -2,7 +2,6 @@
 use Rattle.std.proofs.Common.{◌≡◌, refl, sym, ap, subst, ◌∙◌, ℕ, zero, suc, ◌+◌, ◌<◌, ◌≤◌, inl, inr, ℤ, ◌≤ℤ◌, Bool, false, List, [], ◌∷◌, ◌++◌, length, map, take, Some, Result, Ok, Err, IfOk, Vec, slice_get, slice_index_or, Contains, All, arith}
 use Rattle.std.specs.declared.alloc.Global.{Global}
 use Rattle.std.proofs.lemmas.Bool.{false≢true, cases_lt}
-use Rattle.std.proofs.lemmas.Int.{ints}
 use Rattle.std.proofs.lemmas.List.Elements.{All-push, Contains-append_left, Contains-append_right, Contains-append_cases, Contains-push, Contains-push_cases, Contains-get_or}
 use Rattle.std.proofs.lemmas.List.{take_more, take_all}
 use Rattle.std.proofs.lemmas.Option.{slice_get_within, get_or_from_slice_get}
@@ -12,73 +11,20 @@ use Rattle.stream_schema.specs.declared.Event.{Event}
 use Rattle.stream_schema.specs.declared.Value.{Value}
 use Rattle.query_leaves.specs.declared.Test.{Test}
 use Rattle.query_leaves.specs.Shapes.{each_holds}
-use Rattle.predicate_bits.specs.declared.spans.Span.{Span}
-use Rattle.predicate_bits.specs.Spans.{IsNumbered, IsAt}
+use Rattle.predicate_bits.specs.Spans.{IsNumbered}
 use Rattle.query_index.specs.declared.rows.LeafRow.{LeafRow}
 use Rattle.query_index.specs.declared.rows.IndexedLeaf.{IndexedLeaf}
 use Rattle.query_index.specs.declared.buckets.Bucket.{Bucket}
 use Rattle.query_index.specs.declared.index.Index.{Index}
 use Rattle.query_index.specs.Rows.{rows_of, IsRowBelow, HaveReader, HaveRoom, Marks}
 use Rattle.query_index.proofs.Listed.{room_within, marks_more}
-use Rattle.query_index.specs.Index.{IsApart, AreRowsOver, IsWithin, IsBucket, AreBuckets, IsIndex, gathered, HaveSame, AreSplit, AreIndexes, indexes_of, AreIndexed, Suffice}
+use Rattle.query_index.specs.Index.{IsBucket, AreBuckets, IsIndex, gathered, HaveSame, AreSplit, AreIndexes, indexes_of, AreIndexed, Suffice}
 
 -- a leaf whose tests hold of no such event
 pub apart_from : (leaves : List IndexedLeaf) (k : ℕ) (found leaf : IndexedLeaf) (read : List Test) (event : Event) → Some found ≡ slice_get leaves k → read ≡ found.tests.items → each_holds read event ≡ false → slice_get leaves k ≡ Some leaf → each_holds leaf.tests.items event ≡ false
 apart_from leaves k found leaf read event at is none there =
     let same : found ≡ leaf = (let both = at ∙ there in cc) in
     ap (λ (l : IndexedLeaf). each_holds l.tests.items event) (sym same) ∙ (ap (λ ts. each_holds ts event) (sym is) ∙ none)
-
-pub rows_none : (leaves : List IndexedLeaf) (place : ℕ) (span : Span) → AreRowsOver [] leaves place span []
-rows_none leaves place span = record { within = λ r h. h; others = λ r h. inl h }
-
--- one row more, which is put in
-pub rows_put : (rows : List LeafRow) (leaves : List IndexedLeaf) (place : ℕ) (span : Span) (k : ℕ) (d : LeafRow) (some new : List LeafRow) → k < length rows → new ≡ some ++ slice_index_or rows k d ∷ [] → AreRowsOver (take k rows) leaves place span some → AreRowsOver (take (k + 1) rows) leaves place span new
-rows_put rows leaves place span k d some new inside put h = subst (λ xs. AreRowsOver xs leaves place span new) (sym (take_more rows k d inside)) (subst (AreRowsOver (take k rows ++ row ∷ []) leaves place span) (sym put) (record {
-  within = λ r i. elim (Contains-push_cases some row r i) [
-    | inl was ↦ Contains-append_left (take k rows) (row ∷ []) r (h.within r was)
-    | inr one ↦ subst (Contains (take k rows ++ row ∷ [])) one (Contains-push (take k rows) row)
-  ];
-  others = λ r i. elim (Contains-push_cases (take k rows) row r i) [
-    | inl was ↦ elim (h.others r was) [
-      | inl there ↦ inl (Contains-append_left some (row ∷ []) r there)
-      | inr apart ↦ inr apart
-    ]
-    | inr one ↦ inl (subst (Contains (some ++ row ∷ [])) one (Contains-push some row))
-  ];
-}))
-  where
-    row : LeafRow
-    row = slice_index_or rows k d
-
--- and one which is not
-pub rows_past : (rows : List LeafRow) (leaves : List IndexedLeaf) (place : ℕ) (span : Span) (k : ℕ) (d : LeafRow) (some : List LeafRow) → k < length rows → IsApart leaves place span (slice_index_or rows k d) → AreRowsOver (take k rows) leaves place span some → AreRowsOver (take (k + 1) rows) leaves place span some
-rows_past rows leaves place span k d some inside apart h = subst (λ xs. AreRowsOver xs leaves place span some) (sym (take_more rows k d inside)) (record {
-  within = λ r i. Contains-append_left (take k rows) (slice_index_or rows k d ∷ []) r (h.within r i);
-  others = λ r i. elim (Contains-push_cases (take k rows) (slice_index_or rows k d) r i) [
-    | inl was ↦ h.others r was
-    | inr one ↦ inr (subst (IsApart leaves place span) one apart)
-  ];
-})
-
-pub rows_all : (rows : List LeafRow) (leaves : List IndexedLeaf) (place : ℕ) (span : Span) (k : ℕ) (some : List LeafRow) → length rows ≤ k → AreRowsOver (take k rows) leaves place span some → AreRowsOver rows leaves place span some
-rows_all rows leaves place span k some end h = subst (λ xs. AreRowsOver xs leaves place span some) (take_all k rows end) h
-
--- a value of a part of a span is one of the span
-within_at : (wide span : Span) (place : ℕ) (event : Event) → IsWithin wide span → IsAt place span event → IsAt place wide event
-within_at wide span place event w at = (at.0, at.1, (at.2.0, subst (λ k. IsNumbered k at.0 at.2.0) w.kinded at.2.1, below wide.low span.low at.2.0 w.low at.2.2, below at.2.0 span.high wide.high at.2.3 w.high))
-  where
-    below : (a b c : ℤ) → a ≤ℤ b → b ≤ℤ c → a ≤ℤ c
-    below a b c f g = omega (arith, ints)
-
--- the rows of a part of a span, from those of the span
-pub bucket_made : (leaves : List IndexedLeaf) (place : ℕ) (kind : Kind) (wide span : Span) (some few : List LeafRow) → wide.kind ≡ kind → IsWithin wide span → AreRowsOver some leaves place span few → (rows : List LeafRow) → AreRowsOver rows leaves place wide some → AreRowsOver rows leaves place (record { kind = kind; low = span.low; high = span.high }) few
-bucket_made leaves place kind wide span some few is within here rows h = subst (λ k. AreRowsOver rows leaves place (record { kind = k; low = span.low; high = span.high }) few) (within.kinded ∙ is) (record {
-  within = λ r i. h.within r (here.within r i);
-  others = λ r i. elim (h.others r i) [
-    | inl there ↦ here.others r there
-    | inr apart ↦ inr (λ event at. apart event (within_at wide span place event within at))
-  ];
-})
 
 -- one bucket more
 pub buckets_next : (rows : List LeafRow) (leaves : List IndexedLeaf) (place : ℕ) (kind : Kind) (first buckets new : List Bucket) (bucket : Bucket) → new ≡ buckets ++ bucket ∷ [] → (AreBuckets rows leaves place kind first → AreBuckets rows leaves place kind buckets) → IsBucket rows leaves place kind bucket → AreBuckets rows leaves place kind first → AreBuckets rows leaves place kind new
@@ -260,10 +206,7 @@ indexed_all leaves vs k is end h ty = elim (cases_lt ty k) [
 pub suffice_in : (leaves : List IndexedLeaf) (index : Index) (buckets : List Bucket) (k : ℕ) (bucket : Bucket) (event : Event) (v : Value) (number : ℤ) (some : List LeafRow) → IsIndex leaves index → buckets ≡ index.buckets.items → slice_get buckets k ≡ Some bucket → slice_get event.values index.place ≡ Some v → IsNumbered index.kind v number → bucket.low ≤ℤ number → number ≤ℤ bucket.high → some ≡ bucket.rows.items → Suffice leaves index.rows.items event some
 suffice_in leaves index buckets k bucket event v number some is same at there numbered low high read = subst (Suffice leaves index.rows.items event) (sym read) (record {
   within = here.within;
-  others = λ r i. elim (here.others r i) [
-    | inl c ↦ inl c
-    | inr apart ↦ inr (apart event (v, there, (number, numbered, low, high)))
-  ];
+  others = λ r i. here.others r i event (v, there, (number, numbered, low, high));
 })
   where
     at_index : slice_get index.buckets.items k ≡ Some bucket

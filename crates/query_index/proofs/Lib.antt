@@ -8,3 +8,5 @@ mod Found
 mod Opened
 -- rows that are looked at, of those that wait
 mod Awake
+-- runs of numbers, and pieces of rows
+mod Covered

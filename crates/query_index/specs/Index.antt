@@ -19,10 +19,10 @@ ReadsNot leaves event row = (leaf : IndexedLeaf) → slice_get leaves row.leaf �
 abbrev pub IsApart : List IndexedLeaf → ℕ → Span → LeafRow → Type 0
 IsApart leaves place span row = (event : Event) → IsAt place span event → ReadsNot leaves event row
 
--- These are rows of the list, and the others concern no event whose value at the place is one of the span.
+-- These are rows of the list, and the tests of the others do not hold of an event whose value at the place is one of the span.
 pub record AreRowsOver (list : List LeafRow) (leaves : List IndexedLeaf) (place : ℕ) (span : Span) (some : List LeafRow) : Type 0 where
   pub within : (r : LeafRow) → Contains some r → Contains list r
-  pub others : (r : LeafRow) → Contains list r → Contains some r ⊎ IsApart leaves place span r
+  pub others : (r : LeafRow) → Contains list r → (event : Event) → IsAt place span event → Contains some r ⊎ ReadsNot leaves event r
 
 -- The span is of the same kind, and has no number that the other has not.
 pub record IsWithin (wide span : Span) : Type 0 where

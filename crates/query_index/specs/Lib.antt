@@ -1,3 +1,4 @@
 pub mod Index
 pub mod TextPrefilters
 pub mod Rows
+pub mod Runs

@@ -1,22 +1,17 @@
 //! The rows of an index by the values that an event may have at its place.
 
-ghost use Rattle.std.specs.Prelude.{◌≡◌, false, List, IfOk, OnOk, slice_get};
-ghost use Rattle.std.specs.Option.{option_copied};
+ghost use Rattle.std.specs.Prelude.{◌≡◌, ℕ, ℤ, false, List, IfOk, OnOk};
 ghost use Rattle.query_index.specs.declared.rows.LeafRow.{LeafRow as RowData};
-ghost use Rattle.query_index.specs.Index.{IsApart, AreRowsOver, IsBucket, AreBuckets, IsWithin};
+ghost use Rattle.query_index.specs.declared.rows.IndexedLeaf.{IndexedLeaf as IndexedLeafData};
+ghost use Rattle.query_index.specs.Index.{IsBucket, AreBuckets, IsWithin};
+ghost use Rattle.query_index.specs.Runs.{HavePieces, ArePieces, Share, AreMeeting, AreMeetingRows};
 
 use crate::parting::{Parting, high_of, low_of};
 use crate::rows::{IndexedLeaf, LeafRow};
+use crate::runs::{Run, runs_of, whole};
 use cer_base::Memory;
-use predicate_bits::outcomes::may_hold_over;
 use predicate_bits::spans::Span;
 use std::alloc::Global;
-
-/// How many buckets are filled from the rows of one wider span.
-const GROUP: u64 = 32;
-
-/// How many rows all buckets of an index may have, for each row of the index.
-const MOST_ENTRIES: usize = 16;
 
 /// The values whose numbers are from `low` to `high`, and the rows that an event with one of them may
 /// concern.
@@ -27,51 +22,77 @@ pub struct Bucket {
     pub rows: Vec<LeafRow>,
 }
 
-/// The leaf of this number.
-fn leaf_at(leaves: &[IndexedLeaf], number: u64) -> Option<&IndexedLeaf>
-    ensures { option_copied result ≡ slice_get leaves.now number }
-{
-    leaves.get(number as usize)
+/// A row, and numbers of values with which an event may concern it.
+#[derive(Drop, Debug, Clone, Copy)]
+pub struct Piece {
+    pub row: LeafRow,
+    pub run: Run,
 }
 
-/// Whether the row may concern an event whose value at the place is one of the span.
-pub fn may_concern(row: &LeafRow, leaves: &[IndexedLeaf], place: u64, span: &Span) -> bool
-    ensures { result ≡ false → IsApart leaves.now place span.now row.now }
+/// Puts in a piece for each of the row's runs.
+fn push_pieces(pieces: &mut Vec<Piece>, row: &LeafRow, runs: &[Run]) -> Result<(), Memory>
+    ensures { OnOk result (HavePieces row.now runs.now pieces.old.items pieces.new.items) }
 {
-    match leaf_at(leaves, row.leaf) {
-        Some(leaf) => may_hold_over(place, span, leaf.tests.as_slice()),
-        None => true,
+    for run in runs {
+        pieces.push(Piece {
+            row: *row,
+            run: *run,
+        })?;
     }
+    Ok(())
 }
 
-/// The rows that may concern an event whose value at the place is one of the span.
-fn rows_over(
+/// The pieces of the rows, with numbers of the span.
+fn pieces_of(
     alloc: Global,
     rows: &[LeafRow],
     leaves: &[IndexedLeaf],
-    place: u64,
+    parting: &Parting,
     span: &Span,
-) -> Result<Vec<LeafRow>, Memory>
-    ensures { IfOk result (λ some. AreRowsOver rows.now leaves.now place span.now some.items) }
+) -> Result<Vec<Piece>, Memory>
+    ensures { IfOk result (λ pieces. ArePieces rows.now leaves.now parting.now.place span.now
+        pieces.items) }
+{
+    let mut pieces = Vec::new(alloc);
+    for row in rows {
+        let runs = runs_of(alloc, row, leaves, parting, span)?;
+        push_pieces(&mut pieces, row, runs.as_slice())?;
+    }
+    Ok(pieces)
+}
+
+/// Whether the piece has a number of the span.
+#[inline(always)]
+fn meets(piece: &Piece, span: &Span) -> bool
+    ensures { result ≡ false → (number : ℤ) → Share piece.now span.now number → ⊥ }
+{
+    piece.run.low <= span.high && span.low <= piece.run.high
+}
+
+/// The pieces that have a number of the span.
+fn pieces_over(alloc: Global, pieces: &[Piece], span: &Span) -> Result<Vec<Piece>, Memory>
+    ensures { IfOk result (λ some. AreMeeting pieces.now span.now some.items) }
 {
     let mut some = Vec::new(alloc);
-    for row in rows {
-        if may_concern(row, leaves, place, span) {
-            some.push(*row)?;
+    for piece in pieces {
+        if meets(piece, span) {
+            some.push(*piece)?;
         }
     }
     Ok(some)
 }
 
-/// The span from the one of this number to the one of the other.
-fn span_from(parting: &Parting, first: u64, last: u64) -> Span
-    ensures { result.kind ≡ parting.now.kind }
+/// The rows of the pieces that have a number of the span.
+fn rows_over(alloc: Global, pieces: &[Piece], span: &Span) -> Result<Vec<LeafRow>, Memory>
+    ensures { IfOk result (λ rows. AreMeetingRows pieces.now span.now rows.items) }
 {
-    Span {
-        kind: parting.kind,
-        low: low_of(parting, first),
-        high: high_of(parting, last),
+    let mut rows = Vec::new(alloc);
+    for piece in pieces {
+        if meets(piece, span) {
+            rows.push(piece.row)?;
+        }
     }
+    Ok(rows)
 }
 
 /// The part of the span from `low` to `high`.
@@ -89,19 +110,17 @@ fn part_of(span: &Span, low: i64, high: i64) -> Span
 /// concern.
 fn bucket_of(
     alloc: Global,
-    some: &[LeafRow],
-    leaves: &[IndexedLeaf],
+    some: &[Piece],
     parting: &Parting,
     wide: &Span,
     number: u64,
 ) -> Result<Bucket, Memory>
-    requires { wide.now.kind ≡ parting.now.kind }
-    ensures { IfOk result (λ bucket. (rows : List RowData)
-        → AreRowsOver rows leaves.now parting.now.place wide.now some.now
-        → IsBucket rows leaves.now parting.now.place parting.now.kind bucket) }
+    ensures { IfOk result (λ bucket. (rows : List RowData) (leaves : List IndexedLeafData)
+        (place : ℕ) → ArePieces rows leaves place wide.now some.now
+        → IsBucket rows leaves place wide.now.kind bucket) }
 {
     let span = part_of(wide, low_of(parting, number), high_of(parting, number));
-    let rows = rows_over(alloc, some, leaves, parting.place, &span)?;
+    let rows = rows_over(alloc, some, &span)?;
     Ok(Bucket {
         low: span.low,
         high: span.high,
@@ -113,34 +132,36 @@ fn bucket_of(
 fn put_group(
     buckets: &mut Vec<Bucket>,
     alloc: Global,
-    rows: &[LeafRow],
-    leaves: &[IndexedLeaf],
+    pieces: &[Piece],
     parting: &Parting,
+    whole: &Span,
     first: u64,
     end: u64,
 ) -> Result<(), Memory>
-    ensures { OnOk result (AreBuckets rows.now leaves.now parting.now.place parting.now.kind
-        buckets.old.items → AreBuckets rows.now leaves.now parting.now.place parting.now.kind
-        buckets.new.items) }
+    ensures { OnOk result ((rows : List RowData) (leaves : List IndexedLeafData) (place : ℕ)
+        → ArePieces rows leaves place whole.now pieces.now
+        → AreBuckets rows leaves place whole.now.kind buckets.old.items
+        → AreBuckets rows leaves place whole.now.kind buckets.new.items) }
 {
-    let wide = span_from(parting, first, end.saturating_sub(1));
-    let some = rows_over(alloc, rows, leaves, parting.place, &wide)?;
+    let wide = part_of(
+        whole,
+        low_of(parting, first),
+        high_of(parting, end.saturating_sub(1)),
+    );
+    let some = pieces_over(alloc, pieces, &wide)?;
     for number in first..end {
-        buckets.push(bucket_of(alloc, some.as_slice(), leaves, parting, &wide, number)?)?;
+        buckets.push(bucket_of(alloc, some.as_slice(), parting, &wide, number)?)?;
     }
     Ok(())
 }
 
-/// How many rows the buckets have.
-fn entries(buckets: &[Bucket]) -> usize {
-    let mut sum: usize = 0;
-    for bucket in buckets {
-        sum = sum.saturating_add(bucket.rows.len());
-    }
-    sum
+/// How many buckets are filled from the pieces of one wider span, of so many, as a power of two: about
+/// their square root.
+fn group_bits(count: u64) -> u32 {
+    64_u32.saturating_sub(count.leading_zeros()) / 2
 }
 
-/// The buckets that the parting asks for. None where they would have too many rows.
+/// The buckets that the parting asks for.
 pub fn buckets_of(
     alloc: Global,
     rows: &[LeafRow],
@@ -150,16 +171,26 @@ pub fn buckets_of(
     ensures { IfOk result (λ buckets. AreBuckets rows.now leaves.now parting.now.place
         parting.now.kind buckets.items) }
 {
-    let most = rows.len().saturating_mul(MOST_ENTRIES);
-    let groups = parting.count.div_ceil(GROUP);
+    let whole = whole(parting.kind);
+    let pieces = pieces_of(alloc, rows, leaves, parting, &whole)?;
+    let bits = group_bits(parting.count);
+    let last = parting.count.saturating_sub(1).wrapping_shr(bits);
     let mut buckets = Vec::new(alloc);
-    for group in 0..groups {
-        let first = group.saturating_mul(GROUP);
-        let end = first.saturating_add(GROUP).min(parting.count);
-        put_group(&mut buckets, alloc, rows, leaves, parting, first, end)?;
-        if entries(buckets.as_slice()) > most {
-            return Ok(Vec::new(alloc));
-        }
+    for group in 0..last.saturating_add(1) {
+        let first = group.wrapping_shl(bits);
+        let end = group
+            .saturating_add(1)
+            .wrapping_shl(bits)
+            .min(parting.count);
+        put_group(
+            &mut buckets,
+            alloc,
+            pieces.as_slice(),
+            parting,
+            &whole,
+            first,
+            end,
+        )?;
     }
     Ok(buckets)
 }

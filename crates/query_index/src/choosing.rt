@@ -1,15 +1,12 @@
-//! By which attributes the rows of a type are indexed.
+//! By which attributes the rows of a type are indexed, and how finely.
 //!
 //! What is chosen is no promise: a row that no index has is looked at for each event of its type.
 
-ghost use Rattle.std.specs.Prelude.{◌≡◌, ℕ};
-
-use crate::buckets::may_concern;
-use crate::marks::{marks_of, partings_of};
-use crate::parting::{Parting, high_of, low_of};
+use crate::marks::{LEVELS, partings_of};
+use crate::parting::{Parting, span_at};
 use crate::rows::{IndexedLeaf, LeafRow};
+use crate::runs::{Run, runs_of, whole};
 use cer_base::Memory;
-use predicate_bits::spans::Span;
 use std::alloc::Global;
 use stream_schema::Attr;
 
@@ -17,97 +14,127 @@ use stream_schema::Attr;
 const FEWEST: usize = 4;
 
 /// The most indexes of a type.
-const MOST_INDEXES: usize = 4;
+const MOST_INDEXES: usize = 6;
 
-/// How many parts of an index are looked at to see how many of its buckets a row is in.
-const SAMPLES: u64 = 16;
+/// How many events lie in each of the two outer spans, and in all others, of those for which a cost is
+/// told. Nothing is known of the events, so they are taken to lie outside of what is compared with as
+/// often as among it.
+const OUTER: u64 = 256;
+
+const INNER: u64 = 512;
+
+/// What a row costs that is looked at for each event.
+const ALL: u64 = OUTER + INNER + OUTER;
+
+/// What a row may cost with an index, at most.
+const MOST_COST: u64 = ALL - ALL / 8;
+
+/// In how many buckets more than it has runs a row may stand, at most.
+const MOST_BUCKETS: u64 = 16;
 
 /// How many rows an index has to spare an event, on the average.
 const WORTH: u64 = 3;
 
-/// In how many of the samples a row may stand, at most.
-const MOST_SAMPLES: u64 = 6;
-
-/// The values of a sample.
-fn sample(parting: &Parting, number: u64) -> Span {
-    let first = parting.count.saturating_mul(number) / SAMPLES;
-    let end = parting.count.saturating_mul(number.saturating_add(1)) / SAMPLES;
-    Span {
-        kind: parting.kind,
-        low: low_of(parting, first),
-        high: high_of(parting, end.saturating_sub(1)),
-    }
-}
-
-/// In how many of the samples the row would be.
-fn samples_of(row: &LeafRow, leaves: &[IndexedLeaf], parting: &Parting) -> u64 {
-    let mut count: u64 = 0;
-    for number in 0..SAMPLES {
-        if may_concern(row, leaves, parting.place, &sample(parting, number)) {
-            count = count.saturating_add(1);
+/// For how many events the row with these runs would be looked at, with an index of this parting. All,
+/// where that would not have it.
+fn cost_of(runs: &[Run], parting: &Parting) -> u64 {
+    let last_span = parting.count.saturating_sub(1);
+    let mut spans: u64 = 0;
+    let mut next: u64 = 0;
+    let mut outer: u64 = 0;
+    for run in runs {
+        let first = span_at(parting, run.low).max(next);
+        let last = span_at(parting, run.high);
+        if first <= last {
+            spans = spans.saturating_add((last - first).saturating_add(1));
+            next = last.saturating_add(1);
+            outer = outer.saturating_add(u64::from(first == 0));
+            outer = outer.saturating_add(u64::from(last == last_span));
         }
     }
-    count
+    if spans > MOST_BUCKETS.saturating_add(runs.len() as u64) {
+        return ALL;
+    }
+    let inner = spans.saturating_sub(outer).saturating_mul(INNER);
+    let cost = outer
+        .saturating_mul(OUTER)
+        .saturating_add(inner.div_ceil(last_span.max(2) - 1));
+    if cost > MOST_COST {
+        return ALL;
+    }
+    cost
 }
 
-/// In how many samples each row of a type would be, for some partings.
+/// What each row of a type would cost, for some partings.
 #[derive(Drop)]
-struct SampleCounts {
+struct Costs {
     /// How many rows there are.
     rows: usize,
-    /// The counts of all rows for the first parting, then those for the next one.
-    counts: Vec<u64>,
+    /// For each place and each row the costs at each level.
+    costs: Vec<u64>,
 }
 
-/// Puts in the counts for the parting.
-fn push_counts(
-    counts: &mut Vec<u64>,
+/// Puts in what each row would cost at each level, where `levels` are the partings of one place.
+fn push_costs(
+    costs: &mut Vec<u64>,
+    alloc: Global,
     rows: &[LeafRow],
     leaves: &[IndexedLeaf],
-    parting: &Parting,
+    levels: &[Parting],
 ) -> Result<(), Memory> {
+    let Some(finest) = levels.first() else {
+        return Ok(());
+    };
     for row in rows {
-        counts.push(samples_of(row, leaves, parting))?;
+        let runs = runs_of(alloc, row, leaves, finest, &whole(finest.kind))?;
+        for level in levels {
+            costs.push(cost_of(runs.as_slice(), level))?;
+        }
     }
     Ok(())
 }
 
-impl SampleCounts {
-    /// The counts of the rows for the partings.
+impl Costs {
+    /// The costs of the rows for the partings.
     fn of(
         alloc: Global,
         rows: &[LeafRow],
         leaves: &[IndexedLeaf],
         partings: &[Parting],
-    ) -> Result<SampleCounts, Memory> {
-        let mut counts = Vec::new(alloc);
-        for parting in partings {
-            push_counts(&mut counts, rows, leaves, parting)?;
+    ) -> Result<Costs, Memory> {
+        let mut costs = Vec::new(alloc);
+        for levels in partings.chunks(LEVELS) {
+            push_costs(&mut costs, alloc, rows, leaves, levels)?;
         }
-        Ok(SampleCounts {
+        Ok(Costs {
             rows: rows.len(),
-            counts,
+            costs,
         })
     }
 
-    /// In how many samples of the parting of this number the row of this number would be.
-    fn count(&self, parting: usize, row: usize) -> u64 {
-        let place = parting.saturating_mul(self.rows).saturating_add(row);
-        self.counts.get(place).copied().unwrap_or(SAMPLES)
+    /// What the row of this number would cost with an index of the parting of this number.
+    fn cost(&self, parting: usize, row: usize) -> u64 {
+        let first = (parting / LEVELS).saturating_mul(self.rows);
+        let place = first.saturating_add(row).saturating_mul(LEVELS);
+        let found = self.costs.get(place.saturating_add(parting % LEVELS));
+        match found {
+            Some(cost) => *cost,
+            None => ALL,
+        }
     }
 
-    /// How much rarer the rows would be looked at with an index of this parting, in samples.
+    /// How much less the rows would cost with an index of this parting.
     fn gain(&self, costs: &[u64], parting: usize) -> u64 {
         let mut sum: u64 = 0;
         for k in 0..costs.len() {
-            sum = sum.saturating_add(costs[k].saturating_sub(self.count(parting, k)));
+            sum = sum.saturating_add(costs[k].saturating_sub(self.cost(parting, k)));
         }
         sum
     }
 
     /// The number of the parting that spares most of so many, where that is worth it.
     fn best(&self, costs: &[u64], partings: usize) -> Option<usize> {
-        let mut most = WORTH.saturating_mul(SAMPLES);
+        let mut most = WORTH.saturating_mul(ALL);
         let mut found = None;
         for k in 0..partings {
             let spared = self.gain(costs, k);
@@ -122,14 +149,14 @@ impl SampleCounts {
     /// What the rows cost with one index more.
     fn lower(&self, costs: &mut [u64], parting: usize) {
         for k in 0..costs.len() {
-            costs[k] = costs[k].min(self.count(parting, k));
+            costs[k] = costs[k].min(self.cost(parting, k));
         }
     }
 
     /// The numbers of those of so many partings that spare most, the best one first.
     fn best_of(&self, alloc: Global, partings: usize) -> Result<Vec<usize>, Memory> {
         let mut numbers = Vec::new(alloc);
-        let mut costs = vec![in alloc; SAMPLES; self.rows]?;
+        let mut costs = vec![in alloc; ALL; self.rows]?;
         for _round in 0..MOST_INDEXES {
             match self.best(costs.as_slice(), partings) {
                 Some(k) => {
@@ -142,32 +169,19 @@ impl SampleCounts {
         Ok(numbers)
     }
 
-    /// Whether the row, which stands in no earlier index, is to stand in this one of those chosen: it
-    /// is in few of its buckets, and no later one has it in far fewer.
-    fn is_served(&self, row: usize, numbers: &[usize], index: usize) -> bool {
-        let Some(parting) = numbers.get(index) else {
-            return false;
-        };
-        let own = self.count(*parting, row);
-        if own > MOST_SAMPLES {
-            return false;
-        }
-        for later in index.saturating_add(1)..numbers.len() {
-            if self.count(numbers[later], row).saturating_mul(4) < own {
-                return false;
-            }
-        }
-        true
-    }
-
-    /// The number of the index that is to have the row, of those chosen. Their count where none is.
+    /// The number of the index that is to have the row, of those chosen: the first one with which it
+    /// costs least. Their count where none is.
     fn home(&self, row: usize, numbers: &[usize]) -> usize {
+        let mut least = ALL;
+        let mut home = numbers.len();
         for index in 0..numbers.len() {
-            if self.is_served(row, numbers, index) {
-                return index;
+            let cost = self.cost(numbers[index], row);
+            if cost < least {
+                least = cost;
+                home = index;
             }
         }
-        numbers.len()
+        home
     }
 
     /// The numbers of the indexes that are to have the rows.
@@ -199,6 +213,17 @@ fn picked(alloc: Global, partings: &[Parting], numbers: &[usize]) -> Result<Vec<
     Ok(some)
 }
 
+/// Those of the numbers whose index is to have a row.
+fn used(alloc: Global, numbers: &[usize], homes: &[usize]) -> Result<Vec<usize>, Memory> {
+    let mut some = Vec::new(alloc);
+    for index in 0..numbers.len() {
+        if homes.contains(&index) {
+            some.push(numbers[index])?;
+        }
+    }
+    Ok(some)
+}
+
 /// Those of the partings that spare most, and where the rows are to stand.
 fn choice_of(
     alloc: Global,
@@ -206,11 +231,13 @@ fn choice_of(
     leaves: &[IndexedLeaf],
     partings: &[Parting],
 ) -> Result<Choice, Memory> {
-    let counts = SampleCounts::of(alloc, rows, leaves, partings)?;
-    let numbers = counts.best_of(alloc, partings.len())?;
+    let costs = Costs::of(alloc, rows, leaves, partings)?;
+    let best = costs.best_of(alloc, partings.len())?;
+    let homes = costs.homes(alloc, best.as_slice())?;
+    let numbers = used(alloc, best.as_slice(), homes.as_slice())?;
     Ok(Choice {
         partings: picked(alloc, partings, numbers.as_slice())?,
-        homes: counts.homes(alloc, numbers.as_slice())?,
+        homes: costs.homes(alloc, numbers.as_slice())?,
     })
 }
 
@@ -228,8 +255,7 @@ pub fn chosen(
             homes: Vec::new(alloc),
         });
     }
-    let marks = marks_of(alloc, rows, leaves, attrs)?;
-    let partings = partings_of(alloc, marks.as_slice())?;
+    let partings = partings_of(alloc, rows, leaves, attrs)?;
     choice_of(alloc, rows, leaves, partings.as_slice())
 }
 

@@ -1,9 +1,9 @@
 //! The rows of a type by the values of some of its attributes, so that only a few of them are looked at.
 //!
-//! A row stands in one index: that of the attribute by which it is in few buckets. Numbers are parted
-//! into spans, texts by their digests, truth values by what they are. What a row asks of an event is
-//! whatever its leaf's tests do: comparisons, choices of them and their opposites. The rows that no
-//! index has stand in a last one, which has no buckets.
+//! A row stands in one index: that of the attribute, and of the length of spans, with which it is
+//! looked at least often. Numbers are parted into spans, texts by their digests, truth values by what
+//! they are. What a row asks of an event is whatever its leaf's tests do: comparisons, choices of them
+//! and their opposites. The rows that no index has stand in a last one, which has no buckets.
 
 ghost use Rattle.std.specs.Prelude.{◌≡◌, ◌≤ℤ◌, true, List, ◌++◌, All, IfOk, IfSome, slice_get};
 ghost use Rattle.std.specs.Option.{option_copied};

@@ -16,6 +16,7 @@ mod leaf_index;
 mod marks;
 mod parting;
 mod rows;
+mod runs;
 mod text_prefilters;
 
 pub use leaf_index::LeafIndex;

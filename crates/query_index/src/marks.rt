@@ -20,13 +20,15 @@ const FEWEST_BITS_OF_TEXTS: u32 = 2;
 
 const MOST_BITS: u32 = 12;
 
-/// A number that the value at the place is compared with.
-#[derive(Drop, Debug, Clone, Copy)]
-pub struct Mark {
-    place: u64,
-    kind: Kind,
-    number: i64,
-}
+/// The most spans at the coarsest level, as a power of two.
+const COARSEST_BITS: u32 = 4;
+
+/// About half as many comparisons as are made, at most, to see which numbers a leaf asks for: where that
+/// would take more, fewer of the numbers that it compares with are told apart.
+const MOST_COMPARISONS: usize = 32_768;
+
+/// At how many levels the values at a place are parted.
+pub const LEVELS: usize = 3;
 
 /// The number without so many of its last digits.
 fn without(number: i64, digits: u8) -> i64 {
@@ -70,65 +72,129 @@ fn number_as(kind: Kind, literal: &Value) -> Option<i64> {
     }
 }
 
-/// Puts in what the value at the place is compared with.
-fn put_mark(
-    marks: &mut Vec<Mark>,
-    attrs: &[Attr],
+/// What the tests of leaves compare the value at a place with.
+#[derive(Drop)]
+struct Compared {
+    numbers: Vec<i64>,
+    /// How many comparisons there are, those at other places among them.
+    comparisons: usize,
+}
+
+/// Puts in the number of the literal, where values of the kind are compared with one.
+fn put_number(compared: &mut Compared, kind: Kind, literal: &Value) -> Result<(), Memory> {
+    if let Some(number) = number_as(kind, literal) {
+        compared.numbers.push(number)?;
+    }
+    Ok(())
+}
+
+/// Puts in what the tests compare the value at the place with, which is of the kind.
+#[cycle(put_numbers)]
+fn put_all_numbers(
+    compared: &mut Compared,
     place: u64,
-    literal: &Value,
+    kind: Kind,
+    tests: &[Test],
 ) -> Result<(), Memory> {
-    if let Some(attr) = attrs.get(place as usize) {
-        if let Some(number) = number_as(attr.kind, literal) {
-            marks.push(Mark {
-                place,
-                kind: attr.kind,
-                number,
-            })?;
-        }
-    }
-    Ok(())
-}
-
-/// Puts in what the tests compare with.
-#[cycle(put_marks)]
-fn put_all_marks(marks: &mut Vec<Mark>, attrs: &[Attr], tests: &[Test]) -> Result<(), Memory> {
     for test in tests {
-        put_marks(marks, attrs, test)?;
+        put_numbers(compared, place, kind, test)?;
     }
     Ok(())
 }
 
-/// Puts in what the test compares with.
-#[cycle(put_marks)]
-fn put_marks(marks: &mut Vec<Mark>, attrs: &[Attr], test: &Test) -> Result<(), Memory> {
+/// Puts in what the test compares the value at the place with, which is of the kind.
+#[cycle(put_numbers)]
+fn put_numbers(compared: &mut Compared, place: u64, kind: Kind, test: &Test) -> Result<(), Memory> {
     match test {
         Test::No => Ok(()),
-        Test::Cmp(place, _, literal) => put_mark(marks, attrs, *place, literal),
-        Test::Not(inner) => put_marks(marks, attrs, inner),
-        Test::All(tests) => put_all_marks(marks, attrs, tests),
-        Test::Any(tests) => put_all_marks(marks, attrs, tests),
+        Test::Cmp(at, _, literal) => {
+            compared.comparisons = compared.comparisons.saturating_add(1);
+            if *at != place {
+                return Ok(());
+            }
+            put_number(compared, kind, literal)
+        }
+        Test::Not(inner) => put_numbers(compared, place, kind, inner),
+        Test::All(tests) => put_all_numbers(compared, place, kind, tests),
+        Test::Any(tests) => put_all_numbers(compared, place, kind, tests),
     }
 }
 
-/// What the tests of the rows' leaves compare with, for a type with these attributes.
-pub fn marks_of(
+/// What the tests of the rows' leaves compare the value at the place with, which is of the kind.
+fn compared_by(
     alloc: Global,
     rows: &[LeafRow],
     leaves: &[IndexedLeaf],
-    attrs: &[Attr],
-) -> Result<Vec<Mark>, Memory> {
-    let mut marks = Vec::new(alloc);
+    place: u64,
+    kind: Kind,
+) -> Result<Compared, Memory> {
+    let mut compared = Compared {
+        numbers: Vec::new(alloc),
+        comparisons: 0,
+    };
     for row in rows {
         if let Some(leaf) = leaves.get(row.leaf as usize) {
-            put_all_marks(&mut marks, attrs, leaf.tests.as_slice())?;
+            put_all_numbers(&mut compared, place, kind, leaf.tests.as_slice())?;
         }
     }
-    Ok(marks)
+    Ok(compared)
 }
 
-/// Whether one of the partings is of the place.
-fn has_place(partings: &[Parting], place: u64) -> bool {
-    partings.iter().any(|parting| parting.place == place)
+/// The numbers up to each of which the row's leaf mostly asks for all numbers or for none, in order.
+pub fn ends_of(
+    alloc: Global,
+    row: &LeafRow,
+    leaves: &[IndexedLeaf],
+    parting: &Parting,
+) -> Result<Vec<i64>, Memory> {
+    let mut compared = compared_by(alloc, &[*row], leaves, parting.place, parting.kind)?;
+    compared.numbers.as_mut_slice().sort_unstable();
+    let numbers = compared.numbers.as_slice();
+    let each = (numbers.len().saturating_mul(compared.comparisons)
+        / MOST_COMPARISONS).saturating_add(1);
+    let mut ends = Vec::with_capacity(alloc, numbers.len().saturating_mul(2))?;
+    for number in numbers.iter().step_by(each) {
+        ends.push(number.saturating_sub(1))?;
+        ends.push(*number)?;
+    }
+    Ok(ends)
+}
+
+/// Puts in the places of the values that the tests compare with something, the first few.
+#[cycle(put_places)]
+fn put_all_places(places: &mut Vec<u64>, tests: &[Test]) -> Result<(), Memory> {
+    for test in tests {
+        put_places(places, test)?;
+    }
+    Ok(())
+}
+
+/// Puts in the places of the values that the test compares with something, the first few.
+#[cycle(put_places)]
+fn put_places(places: &mut Vec<u64>, test: &Test) -> Result<(), Memory> {
+    match test {
+        Test::No => Ok(()),
+        Test::Cmp(place, _, _) => {
+            if places.len() < MOST_PLACES && !places.contains(place) {
+                places.push(*place)?;
+            }
+            Ok(())
+        }
+        Test::Not(inner) => put_places(places, inner),
+        Test::All(tests) => put_all_places(places, tests),
+        Test::Any(tests) => put_all_places(places, tests),
+    }
+}
+
+/// The places of the values that the rows' leaves compare with something, the first few.
+fn places_of(alloc: Global, rows: &[LeafRow], leaves: &[IndexedLeaf]) -> Result<Vec<u64>, Memory> {
+    let mut places = Vec::new(alloc);
+    for row in rows {
+        if let Some(leaf) = leaves.get(row.leaf as usize) {
+            put_all_places(&mut places, leaf.tests.as_slice())?;
+        }
+    }
+    Ok(places)
 }
 
 /// How many bits tell so many numbers apart.
@@ -146,33 +212,49 @@ fn bits_for(kind: Kind, count: u64) -> u32 {
     bits_of(count.saturating_mul(2)).max(fewest).min(MOST_BITS)
 }
 
-/// How the values at the mark's place are parted.
-fn parting_by(marks: &[Mark], mark: &Mark) -> Parting {
-    let mut least = mark.number;
-    let mut greatest = mark.number;
-    let mut count: u64 = 0;
-    for other in marks {
-        if other.place == mark.place {
-            least = least.min(other.number);
-            greatest = greatest.max(other.number);
-            count = count.saturating_add(1);
-        }
+/// How the values at the place are parted at each level: finely, and then more and more coarsely.
+fn push_levels(
+    partings: &mut Vec<Parting>,
+    place: u64,
+    kind: Kind,
+    numbers: &[i64],
+) -> Result<(), Memory> {
+    let Some(first) = numbers.first() else {
+        return Ok(());
+    };
+    let mut least = *first;
+    let mut greatest = *first;
+    for number in numbers {
+        least = least.min(*number);
+        greatest = greatest.max(*number);
     }
-    parting_of(
-        mark.place,
-        mark.kind,
-        least,
-        greatest,
-        bits_for(mark.kind, count),
-    )
+    let most = bits_for(kind, numbers.len() as u64);
+    let fewest = most.min(COARSEST_BITS);
+    for bits in [most, most.saturating_add(fewest) / 2, fewest] {
+        partings.push(parting_of(place, kind, least, greatest, bits))?;
+    }
+    Ok(())
 }
 
-/// How the values at each place of the marks are parted, for the first few places.
-pub fn partings_of(alloc: Global, marks: &[Mark]) -> Result<Vec<Parting>, Memory> {
+/// How the values at each place that the rows' leaves ask for are parted, at each level, for a type with
+/// these attributes.
+pub fn partings_of(
+    alloc: Global,
+    rows: &[LeafRow],
+    leaves: &[IndexedLeaf],
+    attrs: &[Attr],
+) -> Result<Vec<Parting>, Memory> {
+    let places = places_of(alloc, rows, leaves)?;
     let mut partings = Vec::new(alloc);
-    for mark in marks {
-        if partings.len() < MOST_PLACES && !has_place(partings.as_slice(), mark.place) {
-            partings.push(parting_by(marks, mark))?;
+    for place in places.as_slice() {
+        if let Some(attr) = attrs.get(*place as usize) {
+            let compared = compared_by(alloc, rows, leaves, *place, attr.kind)?;
+            push_levels(
+                &mut partings,
+                *place,
+                attr.kind,
+                compared.numbers.as_slice(),
+            )?;
         }
     }
     Ok(partings)

@@ -5,8 +5,8 @@
 
 use stream_schema::Kind;
 
-/// The numbers of the values at a place, parted into spans of one length, of which the first begins at
-/// the least number and the last ends at the greatest.
+/// The numbers of the values at a place, parted into spans of one length. The first has all numbers below
+/// the least one that is asked for, the last all that lie above the greatest.
 #[derive(Drop, Debug, Clone, Copy)]
 pub struct Parting {
     /// The place of the values in an event.
@@ -24,15 +24,19 @@ pub struct Parting {
 /// How the numbers are parted where those that are asked for are from the least to the greatest, into
 /// spans of which at most two to the power of `bits` lie between these.
 pub fn parting_of(place: u64, kind: Kind, least: i64, greatest: i64, bits: u32) -> Parting {
-    let base = least.saturating_sub(1);
-    let length = greatest.saturating_sub(base).unsigned_abs();
+    let length = greatest.saturating_sub(least).unsigned_abs();
     let shift = (64_u32.saturating_sub(bits)).saturating_sub(length.leading_zeros());
+    let first = i64::try_from(1_u64.wrapping_shl(shift)).unwrap_or(i64::MAX);
+    let base = least.saturating_sub(first);
     Parting {
         place,
         kind,
         base,
         shift,
-        count: length.wrapping_shr(shift).saturating_add(2),
+        count: greatest
+            .abs_diff(base)
+            .wrapping_shr(shift)
+            .saturating_add(2),
     }
 }
 
@@ -71,4 +75,10 @@ pub fn span_of(base: i64, shift: u32, count: usize, number: i64) -> usize {
     let above = number.abs_diff(base);
     let last = count.saturating_sub(1);
     last.min(above.wrapping_shr(shift) as usize)
+}
+
+/// The number of the parting's span where the number may be found.
+#[inline(always)]
+pub fn span_at(parting: &Parting, number: i64) -> u64 {
+    span_of(parting.base, parting.shift, parting.count as usize, number) as u64
 }

@@ -1,6 +1,6 @@
 use Rattle.std.proofs.Common.{take}
-use Rattle.query_index.specs.Index.{AreRowsOver}
+use Rattle.query_index.specs.Runs.{AreMeetingRows}
 use Rattle.query_index.proofs.buckets.rows_over.Given as goal
 
-abbrev pub invariant-loop-row : goal.invariant-loop-row
-invariant-loop-row l = AreRowsOver (take l.row-index l.rows) l.leaves l.place l.span l.some.items
+abbrev pub invariant-loop-piece : goal.invariant-loop-piece
+invariant-loop-piece l = AreMeetingRows (take l.piece-index l.pieces) l.span l.rows.items

@@ -152,12 +152,24 @@ fn is_test_of(schema: &Schema, ty: TypeId, pred: &Pred, test: &Test) -> bool
     }
 }
 
+/// Whether the first predicate's test is the last of the tests: of leaves under the same filters it is
+/// mostly that one which differs.
+fn is_first_tested(schema: &Schema, ty: TypeId, preds: &[&Pred], tests: &[Test]) -> bool {
+    match (preds.first(), tests.last()) {
+        (Some(pred), Some(test)) => is_test_of(schema, ty, *pred, test),
+        _ => true,
+    }
+}
+
 /// Whether the tests are those of the predicates that are referred to, the last one's first.
 pub fn are_tests_of_all(schema: &Schema, ty: TypeId, preds: &[&Pred], tests: &[Test]) -> bool
     ensures { result ≡ true
         → AreTestsOf schema.now ty (map (λ p. p.now) (reverse preds.now)) tests.now }
 {
     if preds.len() != tests.len() {
+        return false;
+    }
+    if !is_first_tested(schema, ty, preds, tests) {
         return false;
     }
     for k in (0..preds.len()).rev() {

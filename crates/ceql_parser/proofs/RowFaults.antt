@@ -69,7 +69,3 @@ pub linked_faults : (types : List DeclaredType) (first : Box Formula Global) (li
 linked_faults types first links =
     let row = links_in (Linked first links) in
     ap (option_or (formula_fault types first.value)) (links_listed types row.0 row.1 ∙ ap (first_in (link_fault types)) (items_hidden-the_row-Link-1 links))
-
--- the first part has no fault
-pub linked_passed : (types : List DeclaredType) (first : Box Formula Global) (links : Vec Link Global) → formula_fault types first.value ≡ None → first_in (link_fault types) links.items ≡ formula_fault types (Linked first links)
-linked_passed types first links passes = sym (linked_faults types first links ∙ ap (λ o. option_or o (first_in (link_fault types) links.items)) passes)

@@ -1,8 +1,9 @@
 //! The faults of a formula, in the order of its tokens, and its names.
 
-ghost use Rattle.std.specs.Prelude.{◌≡◌, ℕ, List, [], ◌∷◌, ◌++◌, map, not, IfOk, OnOk};
+ghost use Rattle.std.specs.Prelude.{◌≡◌, ℕ, List, [], ◌∷◌, ◌++◌, map, not, Option, IfOk, OnOk};
 ghost use Rattle.std.specs.List.{flat_map};
 ghost use Rattle.std.specs.Option.{option_or};
+ghost use Rattle.ceql_grammar.specs.declared.faults.QueryError.{QueryError};
 ghost use Rattle.ceql_grammar.specs.declared.faults.QueryFault.TheVariants.{NameTaken, UnknownType};
 ghost use Rattle.cel_terms.specs.Checked.{names_of, names_after};
 ghost use Rattle.ceql_parser.specs.FirstFaults.{first_in, unless_named, FindsFault};
@@ -197,8 +198,29 @@ fn check_links(alloc: Global, types: &QueryTypes, before: NameSet, links: &[Link
     Ok(names)
 }
 
-/// The names of a formula after its postfixes, or its first fault or theirs. This is a call of its own
-/// so that a nested formula takes no stack for what is done after it.
+/// The names of a formula and of the links after it, or its first fault or theirs, from what the check
+/// of the formula answered. This is a call of its own so that a nested formula takes no stack for it.
+#[inline(never)]
+#[cycle(formulas)]
+fn check_linked(
+    alloc: Global,
+    types: &QueryTypes,
+    first: NamesOrFault,
+    links: &[Link],
+) -> NamesOrFault
+    ensures told { (fault : Option QueryError) → FindsFault first fault → FindsFault result
+        (option_or fault (first_in (link_fault types.now) links.now)) }
+    ensures names { (before : List (List ℕ)) → IfOk first (λ names. HaveSameNames names before)
+        → IfOk result (λ names. HaveSameNames names (before ++ flat_map names_of_link links.now)) }
+{
+    match first {
+        Ok(names) => check_links(alloc, types, names, links),
+        Err(stop) => Err(stop),
+    }
+}
+
+/// The names of a formula after its postfixes, or its first fault or theirs, in a call of its own
+/// likewise.
 #[inline(never)]
 #[cycle(formulas)]
 fn check_changed(
@@ -246,10 +268,10 @@ pub fn check_formula(alloc: Global, types: &QueryTypes, formula: &Formula) -> Na
     match formula {
         Formula::Of(name) => check_named_type(alloc, types, name),
         Formula::Chain(parts) => check_formulas(alloc, types, parts),
-        Formula::Linked(first, links) => match check_formula(alloc, types, first) {
-            Ok(names) => check_links(alloc, types, names, links),
-            Err(stop) => Err(stop),
-        },
+        Formula::Linked(first, links) => {
+            let first = check_formula(alloc, types, first);
+            check_linked(alloc, types, first, links)
+        }
         Formula::Either(choices) => check_formulas(alloc, types, choices),
         Formula::Post(base, postfixes) => check_changed(alloc, types, base, postfixes),
         Formula::Under(base, filters) => check_under(alloc, types, base, filters),

@@ -70,11 +70,11 @@ taken_on (Ok taken) next h = λ is. next (h is)
 taken_on (Err refused) next h = h
 
 -- what is known of the tests of a leaf that is there
-sieve_there : (list : List Leaf) (sieves : List Sieve) (k : ℕ) (d : Sieve) (l : Leaf) (tests : List Test) → AreSieves list sieves → k < length list → slice_get list k ≡ Some l → tests ≡ l.tests.items → IsSieve tests (slice_index_or sieves k d)
+sieve_there : (list : List Leaf) (sieves : List Sieve) (k : ℕ) (d : Sieve) (l : Leaf) (tests : List Test) → AreSieves list sieves → k < length list → slice_get list k ≡ Some l → tests ≡ l.tests → IsSieve tests (slice_index_or sieves k d)
 sieve_there list sieves k d l tests are inside at read = let same = are.count in subst (λ ts. IsSieve ts (slice_index_or sieves k d)) (sym read) (are.each k l (slice_index_or sieves k d) at (slice_get-get_or sieves k d (omega arith)))
 
 -- as the code reads them
-pub sieve_read : (list : List Leaf) (sieves : List Sieve) (k : ℕ) (d : Leaf) (s : Sieve) (tests : List Test) → AreSieves list sieves → k < length list → tests ≡ (slice_index_or list k d).tests.items → s ≡ slice_index_or sieves k s → IsSieve tests s
+pub sieve_read : (list : List Leaf) (sieves : List Sieve) (k : ℕ) (d : Leaf) (s : Sieve) (tests : List Test) → AreSieves list sieves → k < length list → tests ≡ (slice_index_or list k d).tests → s ≡ slice_index_or sieves k s → IsSieve tests s
 sieve_read list sieves k d s tests are inside read is = subst (IsSieve tests) (sym is) (sieve_there list sieves k s (slice_index_or list k d) tests are inside (slice_get-get_or list k d inside) read)
 
 each_more : (P : Leaf → Sieve → Type 0) (xs : List Leaf) (rs : List Sieve) (l : Leaf) (r : Sieve) → length rs ≡ length xs → ((k : ℕ) (m : Leaf) (q : Sieve) → slice_get xs k ≡ Some m → slice_get rs k ≡ Some q → P m q) → P l r → (k : ℕ) (m : Leaf) (q : Sieve) → slice_get (xs ++ l ∷ []) k ≡ Some m → slice_get (rs ++ r ∷ []) k ≡ Some q → P m q
@@ -90,12 +90,12 @@ one_longer [] x = refl
 one_longer (y ∷ ys) x = let rest = one_longer ys x in omega arith
 
 -- of one leaf more
-pub sieves_more : (list : List Leaf) (sieves after : List Sieve) (k : ℕ) (l : Leaf) (s : Sieve) (tests : List Test) → k < length list → l ≡ get_or list k l → tests ≡ l.tests.items → AreSieves (take k list) sieves → IsSieve tests s → after ≡ sieves ++ s ∷ [] → AreSieves (take (k + 1) list) after
+pub sieves_more : (list : List Leaf) (sieves after : List Sieve) (k : ℕ) (l : Leaf) (s : Sieve) (tests : List Test) → k < length list → l ≡ get_or list k l → tests ≡ l.tests → AreSieves (take k list) sieves → IsSieve tests s → after ≡ sieves ++ s ∷ [] → AreSieves (take (k + 1) list) after
 sieves_more list sieves after k l s tests inside at read are one is =
     let first = take k list in
     let both : AreSieves (first ++ l ∷ []) (sieves ++ s ∷ []) = record {
       count = (let a = one_longer sieves s in let b = one_longer first l in let e = are.count in omega arith);
-      each = each_more (λ m q. IsSieve m.tests.items q) first sieves l s are.count are.each (subst (λ ts. IsSieve ts s) read one);
+      each = each_more (λ m q. IsSieve m.tests q) first sieves l s are.count are.each (subst (λ ts. IsSieve ts s) read one);
     } in
     let more : take (k + 1) list ≡ first ++ l ∷ [] = take_more list k l inside ∙ ap (λ x. first ++ x ∷ []) (sym at) in
     subst (λ xs. AreSieves xs after) (sym more) (subst (AreSieves (first ++ l ∷ [])) (sym is) both)

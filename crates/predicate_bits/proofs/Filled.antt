@@ -29,11 +29,11 @@ pub within_list : (list : List Leaf) (ty : ℕ) (numbers : List ℕ) (i n : ℕ)
 within_list list ty numbers i n group less read = let l = leaf_at list ty numbers i n group less read in slice_get_within list n l.0 l.1
 
 -- whether a leaf of the event's type can read it
-bit_is : (list : List Leaf) (event : Event) (n : ℕ) (l : Leaf) → slice_get list n ≡ Some l → l.ty ≡ event.ty → leaf_conditions list event n ≡ each_holds l.tests.items event
-bit_is list event n l at is = ap (λ o. can_read o event) at ∙ ap (λ b. b && each_holds l.tests.items event) (eq-eqb l.ty event.ty is)
+bit_is : (list : List Leaf) (event : Event) (n : ℕ) (l : Leaf) → slice_get list n ≡ Some l → l.ty ≡ event.ty → leaf_conditions list event n ≡ each_holds l.tests event
+bit_is list event n l at is = ap (λ o. can_read o event) at ∙ ap (λ b. b && each_holds l.tests event) (eq-eqb l.ty event.ty is)
 
 -- the bit of a listed number
-pub bit_at : (list : List Leaf) (event : Event) (numbers : List ℕ) (i n : ℕ) (b : Bool) → IsGroup list event.ty numbers → i < length numbers → n ≡ slice_index_or numbers i n → ((l : Leaf) → slice_get list n ≡ Some l → b ≡ each_holds l.tests.items event) → leaf_conditions list event n ≡ b
+pub bit_at : (list : List Leaf) (event : Event) (numbers : List ℕ) (i n : ℕ) (b : Bool) → IsGroup list event.ty numbers → i < length numbers → n ≡ slice_index_or numbers i n → ((l : Leaf) → slice_get list n ≡ Some l → b ≡ each_holds l.tests event) → leaf_conditions list event n ≡ b
 bit_at list event numbers i n b group less read tested =
     let m = leaf_at list event.ty numbers i n group less read in
     bit_is list event n m.0 m.1 m.2 ∙ sym (tested m.0 m.1)
@@ -94,7 +94,7 @@ filled_all i list event numbers set group h end k = one_bool (has set k) (leaf_c
     is_in : leaf_conditions list event k ≡ true → (o : Option Leaf) → slice_get list k ≡ o → has set k ≡ true
     is_in b None e = absurd (false≢true (sym (ap (λ x. can_read x event) e) ∙ b))
     is_in b (Some l) e =
-        let parts = and_parts (eqb l.ty event.ty) (each_holds l.tests.items event) (sym (ap (λ x. can_read x event) e) ∙ b) in
+        let parts = and_parts (eqb l.ty event.ty) (each_holds l.tests event) (sym (ap (λ x. can_read x event) e) ∙ b) in
         listed (group.whole k l e (eqb-true l.ty event.ty parts.0)) b
 
 -- none of the first numbers is that of a leaf that can read the event
@@ -125,7 +125,7 @@ none_all i list event numbers group h end k = by (slice_get list k) refl (leaf_c
     by o e false bit = bit
     by None e true bit = ap (λ x. can_read x event) e
     by (Some l) e true bit =
-        let parts = and_parts (eqb l.ty event.ty) (each_holds l.tests.items event) (sym (ap (λ x. can_read x event) e) ∙ bit) in
+        let parts = and_parts (eqb l.ty event.ty) (each_holds l.tests event) (sym (ap (λ x. can_read x event) e) ∙ bit) in
         listed (group.whole k l e (eqb-true l.ty event.ty parts.0))
 
 -- a type that has no list is that of no leaf
@@ -136,5 +136,5 @@ none_grouped list event find grouped none k = by (slice_get list k) refl (leaf_c
     by o e false bit = bit
     by None e true bit = ap (λ x. can_read x event) e
     by (Some l) e true bit =
-        let parts = and_parts (eqb l.ty event.ty) (each_holds l.tests.items event) (sym (ap (λ x. can_read x event) e) ∙ bit) in
+        let parts = and_parts (eqb l.ty event.ty) (each_holds l.tests event) (sym (ap (λ x. can_read x event) e) ∙ bit) in
         absurd (grouped.whole k l e (ap find (eqb-true l.ty event.ty parts.0) ∙ none))

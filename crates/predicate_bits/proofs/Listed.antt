@@ -1,7 +1,9 @@
 -- What holds of each test in a list.
-use Rattle.std.proofs.Common.{◌≡◌, refl, ap, ◌∙◌, ◌&&◌, ◌||◌, List, [], ◌∷◌}
+use Rattle.std.proofs.Common.{◌≡◌, refl, sym, ap, ◌∙◌, ℕ, ◌<◌, Bool, true, false, ◌&&◌, ◌||◌, List, [], ◌∷◌, length, get_or}
 use Rattle.std.specs.List.{list_all, list_any}
 use Rattle.std.specs.Prelude.{Vec}
+use Rattle.std.proofs.lemmas.Bool.{false≢true}
+use Rattle.std.proofs.lemmas.List.Sums.{AllPass-from_list_all}
 use Rattle.std.specs.declared.alloc.Global.{Global}
 use Rattle.stream_schema.specs.declared.Event.{Event}
 use Rattle.query_leaves.specs.declared.Test.{Test, All, Any, All', Any', Row_of-Test, end_of-Test, more_of-Test, items-the_row-Test, items_hidden-the_row-Test-0}
@@ -33,3 +35,11 @@ holds_any event tests =
 pub each_listed : (event : Event) (tests : List Test) → list_all (λ t. test_holds t event) tests ≡ each_holds tests event
 each_listed event [] = refl
 each_listed event (t ∷ ts) = ap (λ b. test_holds t event && b) (each_listed event ts)
+
+-- where one test fails, not all hold
+pub one_fails : (event : Event) (tests : List Test) (k : ℕ) (test : Test) → k < length tests → test ≡ get_or tests k test → test_holds test event ≡ false → each_holds tests event ≡ false
+one_fails event tests k test inside is none = cases (each_holds tests event) refl
+  where
+    cases : (b : Bool) → each_holds tests event ≡ b → b ≡ false
+    cases false e = refl
+    cases true e = absurd (false≢true (sym none ∙ (ap (λ t. test_holds t event) is ∙ AllPass-from_list_all (λ t. test_holds t event) tests (each_listed event tests ∙ e) k test inside)))

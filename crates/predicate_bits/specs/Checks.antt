@@ -35,4 +35,4 @@ pub record IsSieve (tests : List Test) (sieve : Sieve) : Type 0 where
 -- each leaf has its own
 pub record AreSieves (list : List Leaf) (sieves : List Sieve) : Type 0 where
   pub count : length sieves ≡ length list
-  pub each : (k : ℕ) (l : Leaf) (s : Sieve) → slice_get list k ≡ Some l → slice_get sieves k ≡ Some s → IsSieve l.tests.items s
+  pub each : (k : ℕ) (l : Leaf) (s : Sieve) → slice_get list k ≡ Some l → slice_get sieves k ≡ Some s → IsSieve l.tests s

@@ -25,6 +25,10 @@ pub struct Check {
     pub negated: bool,
 }
 
+/// The most checks that are kept of a leaf. Where it asks more, its tests stand for themselves, and
+/// other leaves may share these.
+const MOST_CHECKS: usize = 64;
+
 /// The range that a leaf's tests ask for, and what is left to test where an event has a number of it.
 #[derive(Drop, Debug)]
 pub struct Sieve {
@@ -82,7 +86,8 @@ fn add_negated(
     }
 }
 
-/// Puts in the test, where it is a comparison, or one that must not hold. Whether it is.
+/// Puts in the test, where it is a comparison, or one that must not hold, and there are not too many.
+/// Whether it is.
 fn add_flat(
     checks: &mut Vec<Check>,
     alloc: Global,
@@ -92,6 +97,9 @@ fn add_flat(
     ensures { IfOk result (λ taken. taken ≡ true → Adds range.now (test_holds test.now)
         checks.old.items checks.new.items) }
 {
+    if checks.len() >= MOST_CHECKS {
+        return Ok(false);
+    }
     match test {
         Test::Cmp(place, op, literal) => {
             add(checks, alloc, range, *place, *op, literal, false)?;
@@ -137,7 +145,7 @@ fn add_joined(
 }
 
 /// What is left to test where an event has a number of the range. `None` where the tests are not all
-/// comparisons, some of which must not hold, or join such.
+/// comparisons, some of which must not hold, or join such, and where they are too many.
 pub fn checks_of(alloc: Global, range: &Range, tests: &[Test]) -> Result<Option<Vec<Check>>, Memory>
     ensures { IfOk result (λ o. IfSome o (λ checks. ComesTo range.now (tests_hold tests.now)
         (all_checks_hold checks.items))) }

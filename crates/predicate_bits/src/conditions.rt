@@ -114,7 +114,7 @@ fn holds_at(list: &[Leaf], sieves: &[Sieve], number: usize, event: &Event) -> bo
     requires inside { number < length list.now }
     requires sieves { AreSieves list.now sieves.now }
     ensures { (l : Leaf) → slice_get list.now number ≡ Some l
-        → result ≡ tests_hold l.tests.items event.now }
+        → result ≡ tests_hold l.tests event.now }
 {
     let sieve = &sieves[number];
     let tests = list[number].tests.as_slice();

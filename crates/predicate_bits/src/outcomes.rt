@@ -85,5 +85,10 @@ pub fn may_hold_over(place: u64, span: &Span, tests: &[Test]) -> bool
     ensures { result ≡ false → (event : EventData) → IsAt place span.now event
         → each_holds tests.now event ≡ false }
 {
-    outcome_of_all(place, span, tests).may_hold
+    for test in tests {
+        if !outcome_of(place, span, test).may_hold {
+            return false;
+        }
+    }
+    true
 }

@@ -21,10 +21,10 @@ use Rattle.query_index.proofs.Listed.{room_within, marks_more}
 use Rattle.query_index.specs.Index.{IsBucket, AreBuckets, IsIndex, gathered, HaveSame, AreSplit, AreIndexes, indexes_of, AreIndexed, Suffice}
 
 -- a leaf whose tests hold of no such event
-pub apart_from : (leaves : List IndexedLeaf) (k : ℕ) (found leaf : IndexedLeaf) (read : List Test) (event : Event) → Some found ≡ slice_get leaves k → read ≡ found.tests.items → each_holds read event ≡ false → slice_get leaves k ≡ Some leaf → each_holds leaf.tests.items event ≡ false
+pub apart_from : (leaves : List IndexedLeaf) (k : ℕ) (found leaf : IndexedLeaf) (read : List Test) (event : Event) → Some found ≡ slice_get leaves k → read ≡ found.tests → each_holds read event ≡ false → slice_get leaves k ≡ Some leaf → each_holds leaf.tests event ≡ false
 apart_from leaves k found leaf read event at is none there =
     let same : found ≡ leaf = (let both = at ∙ there in cc) in
-    ap (λ (l : IndexedLeaf). each_holds l.tests.items event) (sym same) ∙ (ap (λ ts. each_holds ts event) (sym is) ∙ none)
+    ap (λ (l : IndexedLeaf). each_holds l.tests event) (sym same) ∙ (ap (λ ts. each_holds ts event) (sym is) ∙ none)
 
 -- one bucket more
 pub buckets_next : (rows : List LeafRow) (leaves : List IndexedLeaf) (place : ℕ) (kind : Kind) (first buckets new : List Bucket) (bucket : Bucket) → new ≡ buckets ++ bucket ∷ [] → (AreBuckets rows leaves place kind first → AreBuckets rows leaves place kind buckets) → IsBucket rows leaves place kind bucket → AreBuckets rows leaves place kind first → AreBuckets rows leaves place kind new

@@ -121,7 +121,7 @@ of_leaf_later : (waiting : ℕ → ℕ) → (query first : ℕ) (xs ys : List Le
 of_leaf_later waiting query first xs ys have ty row h = record { of = h.of; leaf = h.leaf; place = length xs + h.place; listed = at_right xs ys h.place h.leaf h.listed; own = (let own = h.own in omega arith); type = h.type; tests = h.tests; waits = h.waits }
 
 -- one leaf and its row
-pub added_leaf : (waiting : ℕ → ℕ) → (query number : ℕ) (row : LeafRow) (leaf : IndexedLeaf) (l : Leaf) (old new : List (List LeafRow)) (had have : List IndexedLeaf) → have ≡ had ++ leaf ∷ [] → row.leaf ≡ length had → leaf.query ≡ query → leaf.number ≡ number → leaf.tests.items ≡ l.tests.items → IsRangeOf row.range leaf → AsksToOpen row.text_prefilter (each_holds leaf.tests.items) → row.waits ≡ waiting l.ty → HasPut l.ty row old new → HasAdded waiting query number (l ∷ []) old had new have
+pub added_leaf : (waiting : ℕ → ℕ) → (query number : ℕ) (row : LeafRow) (leaf : IndexedLeaf) (l : Leaf) (old new : List (List LeafRow)) (had have : List IndexedLeaf) → have ≡ had ++ leaf ∷ [] → row.leaf ≡ length had → leaf.query ≡ query → leaf.number ≡ number → leaf.tests ≡ l.tests → IsRangeOf row.range leaf → AsksToOpen row.text_prefilter (each_holds leaf.tests) → row.waits ≡ waiting l.ty → HasPut l.ty row old new → HasAdded waiting query number (l ∷ []) old had new have
 added_leaf waiting query number row leaf l old new had have is placed of own tests range text_prefilter waits p = record {
   kept = p.kept;
   leaves = λ k x at. subst (λ ls. slice_get ls k ≡ Some x) (sym is) (before_last had leaf x k at);
@@ -132,7 +132,7 @@ added_leaf waiting query number row leaf l old new had have is placed of own tes
   ];
 }
 
-pub leaf_row : (query number : ℕ) (row : LeafRow) (leaf : IndexedLeaf) (l : Leaf) (old new : List (List LeafRow)) (had have : List IndexedLeaf) → have ≡ had ++ leaf ∷ [] → row.leaf ≡ length had → leaf.query ≡ query → leaf.number ≡ number → leaf.tests.items ≡ l.tests.items → HasPut l.ty row old new → HasLeafRow query number new have l
+pub leaf_row : (query number : ℕ) (row : LeafRow) (leaf : IndexedLeaf) (l : Leaf) (old new : List (List LeafRow)) (had have : List IndexedLeaf) → have ≡ had ++ leaf ∷ [] → row.leaf ≡ length had → leaf.query ≡ query → leaf.number ≡ number → leaf.tests ≡ l.tests → HasPut l.ty row old new → HasLeafRow query number new have l
 leaf_row query number row leaf l old new had have is placed of own tests p = record {
   row = row;
   listed = p.more;
@@ -161,7 +161,7 @@ leaf_kept : (waiting : ℕ → ℕ) → (query number other first : ℕ) (list :
 leaf_kept waiting query number other first list old new had have l added h = record { row = h.row; listed = added.kept l.ty h.row h.listed; leaf = h.leaf; at = added.leaves h.row.leaf h.leaf h.at; numbered = h.numbered; own = h.own; tests = h.tests }
 
 -- the range of a leaf's tests, as the code reads them
-pub range_of_leaf : (query number : ℕ) (range : Range) (checks : Option (Vec Check Global)) (tests : Vec Test Global) (xs ys : List Test) → xs ≡ tests.items → ys ≡ tests.items → AsksFor range (each_holds xs) → IfSome checks (λ cs. ComesTo range (each_holds ys) (all_checks_hold cs.items)) → IsRangeOf range (record { query = query; number = number; checks = checks; tests = tests })
+pub range_of_leaf : (query number : ℕ) (range : Range) (checks : Option (Vec Check Global)) (tests : List Test) (xs ys : List Test) → xs ≡ tests → ys ≡ tests → AsksFor range (each_holds xs) → IfSome checks (λ cs. ComesTo range (each_holds ys) (all_checks_hold cs.items)) → IsRangeOf range (record { query = query; number = number; checks = checks; tests = tests })
 range_of_leaf query number range checks tests xs ys x_is y_is asks come = record {
   asks = subst (λ ts. AsksFor range (each_holds ts)) x_is asks;
   checks = subst (λ ts. IfSome checks (λ cs. ComesTo range (each_holds ts) (all_checks_hold cs.items))) y_is come;
@@ -189,7 +189,7 @@ watched schema q number list rows leaves of have event k o at reads =
     let l = leaf_there schema (occurrences (tree_of q)) list k o of at in
     let h : HasLeafRow number k rows leaves l.0 = have k l.0 l.1 in
     let does : leaf_reads l.0 event ≡ true = l.2.reads event ∙ reads in
-    let both = and_parts (eqb l.0.ty event.ty) (each_holds l.0.tests.items event) does in
+    let both = and_parts (eqb l.0.ty event.ty) (each_holds l.0.tests event) does in
     let type : l.0.ty ≡ event.ty = eqb-true l.0.ty event.ty both.0 in (
       record {
         row = h.row;
@@ -226,14 +226,14 @@ occurrence_there schema (o ∷ os) (x ∷ ls) zero l of at = let same : x ≡ l 
 occurrence_there schema (o ∷ os) (x ∷ ls) (suc k) l of at = occurrence_there schema os ls k l of.1 at
 
 -- a row of the query's leaves whose tests hold is of one that reads
-exact_here : (waiting : ℕ → ℕ) → (schema : Declared) (q : Query) (number k : ℕ) (list : List Leaf) (have : List IndexedLeaf) (event : Event) (row : LeafRow) → AreLeavesOf schema (occurrences (tree_of q)) list → (n : IsRowOfLeaf waiting number 0 list have event.ty row) → n.of.leaf.number ≡ k → each_holds n.of.leaf.tests.items event ≡ true → (o : Occurrence) × (slice_get (occurrences (tree_of q)) k ≡ Some o) × (occurrence_reads schema o event ≡ true)
+exact_here : (waiting : ℕ → ℕ) → (schema : Declared) (q : Query) (number k : ℕ) (list : List Leaf) (have : List IndexedLeaf) (event : Event) (row : LeafRow) → AreLeavesOf schema (occurrences (tree_of q)) list → (n : IsRowOfLeaf waiting number 0 list have event.ty row) → n.of.leaf.number ≡ k → each_holds n.of.leaf.tests event ≡ true → (o : Occurrence) × (slice_get (occurrences (tree_of q)) k ≡ Some o) × (occurrence_reads schema o event ≡ true)
 exact_here waiting schema q number k list have event row are n own holds =
     let first = n.own in
     let place : n.place ≡ k = omega arith in
     let at : slice_get list k ≡ Some n.leaf = subst (λ i. slice_get list i ≡ Some n.leaf) place n.listed in
     let o = occurrence_there schema (occurrences (tree_of q)) list k n.leaf are at in
-    let tests : each_holds n.leaf.tests.items event ≡ true = ap (λ ts. each_holds ts event) (sym n.tests) ∙ holds in
-    let does : leaf_reads n.leaf event ≡ true = ap (λ b. b && each_holds n.leaf.tests.items event) (eq-eqb n.leaf.ty event.ty n.type) ∙ tests in
+    let tests : each_holds n.leaf.tests event ≡ true = ap (λ ts. each_holds ts event) (sym n.tests) ∙ holds in
+    let does : leaf_reads n.leaf event ≡ true = ap (λ b. b && each_holds n.leaf.tests event) (eq-eqb n.leaf.ty event.ty n.type) ∙ tests in
     (o.0, o.1, sym (o.2.reads event) ∙ does)
 
 nothing_listed : (t : ℕ) (r : LeafRow) → IsListed [] t r → ⊥
@@ -386,7 +386,7 @@ waiting_kept schema q p query j old new had have less below a was event h open_q
     back : HaveReader (slice_index_or new event.ty []) have j event → HaveReader (slice_index_or old event.ty []) had j event
     back x =
         let b = below event.ty x.row (old_row x) in
-        record { row = x.row; listed = old_row x; leaf = b.of.leaf; at = b.of.at; numbered = ap (λ (l : IndexedLeaf). l.query) (same_back x) ∙ x.numbered; holds = ap (λ (l : IndexedLeaf). each_holds l.tests.items event) (same_back x) ∙ x.holds }
+        record { row = x.row; listed = old_row x; leaf = b.of.leaf; at = b.of.at; numbered = ap (λ (l : IndexedLeaf). l.query) (same_back x) ∙ x.numbered; holds = ap (λ (l : IndexedLeaf). each_holds l.tests event) (same_back x) ∙ x.holds }
 
 pub leaf_index_next : (k : ℕ) (schema : Declared) (queries : List Query) (q : Query) (old new : List (List LeafRow)) (had have : List IndexedLeaf) → k < length queries → q ≡ slice_index_or queries k q → IsLeafIndexUpTo k schema queries old had → IsIndexed schema q k new have → HasAddedQuery schema q k old had new have → IsLeafIndexUpTo (k + 1) schema queries new have
 leaf_index_next k schema queries q old new had have less here h watched added = record {
@@ -407,14 +407,14 @@ leaf_index_next k schema queries q old new had have less here h watched added = 
             let low = b.below in
             let one : b.of.leaf ≡ r.leaf = (let both = sym (added.added.leaves r.row.leaf b.of.leaf b.of.at) ∙ r.at in cc) in
             let number : b.query ≡ j = sym b.of.numbered ∙ (ap (λ (l : IndexedLeaf). l.query) one ∙ r.numbered) in
-            h.exact j p (omega arith) at event i (record { row = r.row; listed = was; leaf = b.of.leaf; at = b.of.at; numbered = b.of.numbered ∙ number; holds = ap (λ (l : IndexedLeaf). each_holds l.tests.items event) one ∙ r.holds }, ap (λ (l : IndexedLeaf). l.number) one ∙ found.1)
+            h.exact j p (omega arith) at event i (record { row = r.row; listed = was; leaf = b.of.leaf; at = b.of.at; numbered = b.of.numbered ∙ number; holds = ap (λ (l : IndexedLeaf). each_holds l.tests event) one ∙ r.holds }, ap (λ (l : IndexedLeaf). l.number) one ∙ found.1)
             )
         | inr n ↦ (
             let one : n.of.leaf ≡ r.leaf = (let both = sym n.of.at ∙ r.at in cc) in
             let same : k ≡ j = sym n.of.numbered ∙ (ap (λ (l : IndexedLeaf). l.query) one ∙ r.numbered) in
             let there = slice_get-get_or queries k q less in
             let query : q ≡ p = (let both = sym (subst (λ i. slice_get queries i ≡ Some p) (sym same) at) ∙ there in cc) in
-            exact_here (waits_for added.types k) schema p k i added.list have event r.row (subst (λ z. AreLeavesOf schema (occurrences (tree_of z)) added.list) query added.are) n (ap (λ (l : IndexedLeaf). l.number) one ∙ found.1) (ap (λ (l : IndexedLeaf). each_holds l.tests.items event) one ∙ r.holds)
+            exact_here (waits_for added.types k) schema p k i added.list have event r.row (subst (λ z. AreLeavesOf schema (occurrences (tree_of z)) added.list) query added.are) n (ap (λ (l : IndexedLeaf). l.number) one ∙ found.1) (ap (λ (l : IndexedLeaf). each_holds l.tests event) one ∙ r.holds)
             )
       ]);
   below = λ t r now. elim (added.added.only t r now) [
@@ -486,11 +486,11 @@ both_true : (a b : Bool) → a ≡ true → b ≡ true → (a && b) ≡ true
 both_true a b p q = ap (λ x. x && b) p ∙ q
 
 -- the set of the leaf's query has room for the leaf, where it reads
-pub room_of_leaf : (row : LeafRow) (leaves : List IndexedLeaf) (event : Event) (sets : List (List Bool)) (leaf : IndexedLeaf) → slice_get leaves row.leaf ≡ Some leaf → each_holds leaf.tests.items event ≡ true → HaveRoom (row ∷ []) leaves event sets → leaf.number < length (slice_index_or sets leaf.query [])
+pub room_of_leaf : (row : LeafRow) (leaves : List IndexedLeaf) (event : Event) (sets : List (List Bool)) (leaf : IndexedLeaf) → slice_get leaves row.leaf ≡ Some leaf → each_holds leaf.tests event ≡ true → HaveRoom (row ∷ []) leaves event sets → leaf.number < length (slice_index_or sets leaf.query [])
 room_of_leaf row leaves event sets leaf at holds h = h leaf.query leaf.number (record { row = row; listed = Contains-push [] row; leaf = leaf; at = at; numbered = refl; holds = holds }, refl)
 
 -- a row whose leaf reads the event
-pub marks_row : (row : LeafRow) (leaves : List IndexedLeaf) (event : Event) (before after : List Bool) (had have : List (List Bool)) (leaf : IndexedLeaf) → slice_get leaves row.leaf ≡ Some leaf → each_holds leaf.tests.items event ≡ true → ((j : ℕ) → has after j ≡ (eqb j leaf.query || has before j)) → length after ≡ length before → ((k : ℕ) → has (slice_index_or have leaf.query []) k ≡ (eqb k leaf.number || (has before leaf.query && has (slice_index_or had leaf.query []) k))) → ((j : ℕ) → j ≢ leaf.query → slice_index_or have j [] ≡ slice_index_or had j []) → map (λ (set : List Bool). length set) have ≡ map (λ (set : List Bool). length set) had → Marks (row ∷ []) leaves event before after had have
+pub marks_row : (row : LeafRow) (leaves : List IndexedLeaf) (event : Event) (before after : List Bool) (had have : List (List Bool)) (leaf : IndexedLeaf) → slice_get leaves row.leaf ≡ Some leaf → each_holds leaf.tests event ≡ true → ((j : ℕ) → has after j ≡ (eqb j leaf.query || has before j)) → length after ≡ length before → ((k : ℕ) → has (slice_index_or have leaf.query []) k ≡ (eqb k leaf.number || (has before leaf.query && has (slice_index_or had leaf.query []) k))) → ((j : ℕ) → j ≢ leaf.query → slice_index_or have j [] ≡ slice_index_or had j []) → map (λ (set : List Bool). length set) have ≡ map (λ (set : List Bool). length set) had → Marks (row ∷ []) leaves event before after had have
 marks_row row leaves event before after had have leaf at holds members room set others rooms = record {
   marked = λ k h. members k ∙ or_left (eqb k leaf.query) (has before k) (eq-eqb k leaf.query (sym h.numbered ∙ ap (λ (l : IndexedLeaf). l.query) (sym (same_leaf row leaves k event leaf at h))));
   only = λ k is. elim (or_cases (eqb k leaf.query) (has before k) (sym (members k) ∙ is)) [
@@ -529,7 +529,7 @@ marks_row row leaves event before after had have leaf at holds members room set 
     reader k numbered = record { row = row; listed = Contains-push [] row; leaf = leaf; at = at; numbered = numbered; holds = holds }
 
 -- one whose leaf does not
-pub marks_not : (row : LeafRow) (leaves : List IndexedLeaf) (event : Event) (set : List Bool) (sets : List (List Bool)) (leaf : IndexedLeaf) → slice_get leaves row.leaf ≡ Some leaf → each_holds leaf.tests.items event ≡ false → Marks (row ∷ []) leaves event set set sets sets
+pub marks_not : (row : LeafRow) (leaves : List IndexedLeaf) (event : Event) (set : List Bool) (sets : List (List Bool)) (leaf : IndexedLeaf) → slice_get leaves row.leaf ≡ Some leaf → each_holds leaf.tests event ≡ false → Marks (row ∷ []) leaves event set set sets sets
 marks_not row leaves event set sets leaf at fails = record {
   marked = λ k h. absurd (none k h);
   only = λ k is. inl is;
@@ -542,11 +542,11 @@ marks_not row leaves event set sets leaf at fails = record {
 }
   where
     none : (k : ℕ) → HaveReader (row ∷ []) leaves k event → ⊥
-    none k h = false≢true (sym fails ∙ (ap (λ (l : IndexedLeaf). each_holds l.tests.items event) (same_leaf row leaves k event leaf at h) ∙ h.holds))
+    none k h = false≢true (sym fails ∙ (ap (λ (l : IndexedLeaf). each_holds l.tests event) (same_leaf row leaves k event leaf at h) ∙ h.holds))
 
 -- and one whose range the event is not in, or whose text it does not have
 pub marks_past : (count : ℕ) (row : LeafRow) (leaves : List IndexedLeaf) (event : Event) (set : List Bool) (sets : List (List Bool)) → IsRowBelow count leaves row → ((holds : Event → Bool) → AsksFor row.range holds → AsksToOpen row.text_prefilter holds → holds event ≡ false) → Marks (row ∷ []) leaves event set set sets sets
-marks_past count row leaves event set sets h none = marks_not row leaves event set sets h.of.leaf h.of.at (none (each_holds h.of.leaf.tests.items) h.of.range.asks h.of.text_prefilter)
+marks_past count row leaves event set sets h none = marks_not row leaves event set sets h.of.leaf h.of.at (none (each_holds h.of.leaf.tests) h.of.range.asks h.of.text_prefilter)
 
 pub marks_none : (leaves : List IndexedLeaf) (event : Event) (set : List Bool) (sets : List (List Bool)) → Marks [] leaves event set set sets sets
 marks_none leaves event set sets = record {

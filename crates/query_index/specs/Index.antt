@@ -13,7 +13,7 @@ use Rattle.query_index.specs.declared.index.Index.{Index}
 
 -- the tests of the row's leaf do not hold of the event
 abbrev pub ReadsNot : List IndexedLeaf → Event → LeafRow → Type 0
-ReadsNot leaves event row = (leaf : IndexedLeaf) → slice_get leaves row.leaf ≡ Some leaf → each_holds leaf.tests.items event ≡ false
+ReadsNot leaves event row = (leaf : IndexedLeaf) → slice_get leaves row.leaf ≡ Some leaf → each_holds leaf.tests event ≡ false
 
 -- they hold of no event whose value at the place is one of the span
 abbrev pub IsApart : List IndexedLeaf → ℕ → Span → LeafRow → Type 0

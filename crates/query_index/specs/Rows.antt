@@ -64,15 +64,15 @@ pub record HasPut (ty : ℕ) (row : LeafRow) (old new : List (List LeafRow)) : T
 
 -- The range is one that the leaf's tests ask for, and what they come to there are the leaf's checks, where it has them.
 pub record IsRangeOf (range : Range) (leaf : IndexedLeaf) : Type 0 where
-  pub asks : AsksFor range (each_holds leaf.tests.items)
-  pub checks : IfSome leaf.checks (λ cs. ComesTo range (each_holds leaf.tests.items) (all_checks_hold cs.items))
+  pub asks : AsksFor range (each_holds leaf.tests)
+  pub checks : IfSome leaf.checks (λ cs. ComesTo range (each_holds leaf.tests) (all_checks_hold cs.items))
 
 -- The row is of a leaf of this query, which is there, and its range and its prefilter are ones that the leaf's tests ask for.
 pub record IsRowOf (query : ℕ) (leaves : List IndexedLeaf) (row : LeafRow) : Type 0 where
   pub leaf : IndexedLeaf
   pub at : slice_get leaves row.leaf ≡ Some leaf
   pub range : IsRangeOf row.range leaf
-  pub text_prefilter : AsksToOpen row.text_prefilter (each_holds leaf.tests.items)
+  pub text_prefilter : AsksToOpen row.text_prefilter (each_holds leaf.tests)
   pub numbered : leaf.query ≡ query
 
 -- The row in the list of the type is of one of these leaves of the query, which are numbered from this number on, and the leaf has this type and these tests. It waits for what its type does.
@@ -83,7 +83,7 @@ pub record IsRowOfLeaf (waiting : ℕ → ℕ) (query first : ℕ) (list : List 
   pub listed : slice_get list place ≡ Some leaf
   pub own : of.leaf.number ≡ first + place
   pub type : leaf.ty ≡ ty
-  pub tests : of.leaf.tests.items ≡ leaf.tests.items
+  pub tests : of.leaf.tests ≡ leaf.tests
   pub waits : row.waits ≡ waiting ty
 
 -- These leaves of one query came, numbered from this number on, and their rows.
@@ -101,7 +101,7 @@ pub record HasLeafRow (query number : ℕ) (rows : List (List LeafRow)) (leaves 
   pub at : slice_get leaves row.leaf ≡ Some leaf
   pub numbered : leaf.query ≡ query
   pub own : leaf.number ≡ number
-  pub tests : leaf.tests.items ≡ l.tests.items
+  pub tests : leaf.tests ≡ l.tests
 
 -- each leaf has such a row, by its place in the list
 abbrev pub HaveRows : ℕ → List Leaf → List (List LeafRow) → List IndexedLeaf → Type 0
@@ -114,7 +114,7 @@ pub record HaveReader (rows : List LeafRow) (leaves : List IndexedLeaf) (query :
   pub leaf : IndexedLeaf
   pub at : slice_get leaves row.leaf ≡ Some leaf
   pub numbered : leaf.query ≡ query
-  pub holds : each_holds leaf.tests.items event ≡ true
+  pub holds : each_holds leaf.tests event ≡ true
 
 -- and that leaf has this number among those of the query
 abbrev pub HaveLeaf : List LeafRow → List IndexedLeaf → ℕ → ℕ → Event → Type 0

@@ -142,7 +142,7 @@ fn list_of(indexes: &[Vec<Index>], ty: TypeId) -> Option<&Vec<Index>>
 /// Whether the leaf's tests hold of the event.
 fn holds_of(range: &Range, leaf: &IndexedLeaf, event: &Event) -> bool
     requires { IsRangeOf range.now leaf.now }
-    ensures { result ≡ tests_hold leaf.now.tests.items event.now }
+    ensures { result ≡ tests_hold leaf.now.tests event.now }
 {
     hold_by(range, &leaf.checks, leaf.tests.as_slice(), event)
 }

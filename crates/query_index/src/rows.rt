@@ -12,7 +12,7 @@ use cer_base::Memory;
 use cer_base::bits::Bits;
 use predicate_bits::checks::{Check, checks_of};
 use predicate_bits::ranges::{Range, range_of};
-use query_leaves::{Leaf, Test, leaves_of};
+use query_leaves::{Leaf, Tests, leaves_of};
 use std::alloc::Global;
 use stream_schema::{Schema, TypeId};
 
@@ -42,7 +42,7 @@ pub fn is_awake(row: &LeafRow, open_queries: &Bits) -> bool
 }
 
 /// What is looked at of a leaf where its row lets an event through.
-#[derive(Drop, Debug)]
+#[derive(Drop)]
 pub struct IndexedLeaf {
     /// Its query's number, from 0.
     pub query: u64,
@@ -50,7 +50,7 @@ pub struct IndexedLeaf {
     pub number: u64,
     /// What is left to test where an event has a number of the range, where that is known.
     pub checks: Option<Vec<Check>>,
-    pub tests: Vec<Test>,
+    pub tests: Tests,
 }
 
 /// The number after that of the type. Where there is none, no memory has a list for each type.

@@ -1,7 +1,5 @@
 -- Which events a leaf reads that is made of an occurrence.
 use Rattle.std.proofs.Common.{◌≡◌, refl, sym, ap, ap₂, ◌∙◌, ℕ, Bool, true, false, ◌&&◌, eqb, List, [], ◌∷◌, Option, Some, None, bytes_eq, option_map}
-use Rattle.std.specs.Prelude.{Vec}
-use Rattle.std.specs.declared.alloc.Global.{Global}
 use Rattle.std.proofs.lemmas.Slice.Eq.{bytes_eq-Decides}
 use Rattle.std.proofs.lemmas.Bool.Decides.{Decides-eqb}
 use Rattle.stream_schema.specs.Types.{Declared, DeclaredType, name_of_type}
@@ -55,16 +53,16 @@ tests_same schema ty event at [] (t ∷ ts) are = absurd are
 tests_same schema ty event at (p ∷ ps) [] are = absurd are
 tests_same schema ty event at (p ∷ ps) (t ∷ ts) are = ap₂ (λ a b. a && b) (are.0.holds event at) (tests_same schema ty event at ps ts are.1)
 
-pub leaf_made : (schema : Declared) (o : Occurrence) (ty : ℕ) (tests : Vec Test Global) (marked : Bool) → marked ≡ is_bound o.names → Some ty ≡ type_number schema.types o.type → ((k : ℕ) → name_of_type schema.types k ≡ Some o.type → Some ty ≡ Some k) → AreTestsOf schema ty o.tests tests.items → IsMadeOf schema o (record { ty = ty; tests = tests; marked = marked })
+pub leaf_made : (schema : Declared) (o : Occurrence) (ty : ℕ) (tests : List Test) (marked : Bool) → marked ≡ is_bound o.names → Some ty ≡ type_number schema.types o.type → ((k : ℕ) → name_of_type schema.types k ≡ Some o.type → Some ty ≡ Some k) → AreTestsOf schema ty o.tests tests → IsMadeOf schema o (record { ty = ty; tests = tests; marked = marked })
 leaf_made schema o ty tests marked m e only are = record {
   leaf = record {
     marked = m;
     reads = λ event.
-        and_same (eqb ty event.ty) (is_typed (event_type_name schema event) o.type) (each_holds tests.items event) (all_hold schema o.tests event)
+        and_same (eqb ty event.ty) (is_typed (event_type_name schema event) o.type) (each_holds tests event) (all_hold schema o.tests event)
         (typed_is schema o.type ty event e only)
-        (λ same. tests_same schema ty event (sym ((Decides-eqb ty event.ty).0 same)) o.tests tests.items are);
+        (λ same. tests_same schema ty event (sym ((Decides-eqb ty event.ty).0 same)) o.tests tests are);
   };
-  places = few_places schema ty o.tests tests.items are;
+  places = few_places schema ty o.tests tests are;
 }
 
 never_typed : (b : Bool) → (b ≡ true → ⊥) → b ≡ false
@@ -76,13 +74,13 @@ and_false true b e = e
 and_false false b e = refl
 
 -- the leaf of an occurrence whose type is not declared
-pub nothing_made : (schema : Declared) (o : Occurrence) (ty : ℕ) (tests : Vec Test Global) (marked : Bool) → marked ≡ is_bound o.names → HoldNever tests.items → ((k : ℕ) → name_of_type schema.types k ≡ Some o.type → None ≡ Some k) → IsMadeOf schema o (record { ty = ty; tests = tests; marked = marked })
+pub nothing_made : (schema : Declared) (o : Occurrence) (ty : ℕ) (tests : List Test) (marked : Bool) → marked ≡ is_bound o.names → HoldNever tests → ((k : ℕ) → name_of_type schema.types k ≡ Some o.type → None ≡ Some k) → IsMadeOf schema o (record { ty = ty; tests = tests; marked = marked })
 nothing_made schema o ty tests marked m never only = record {
   leaf = record {
     marked = m;
     reads = λ event.
         let untyped = never_typed (is_typed (event_type_name schema event) o.type) (λ named. let k = only event.ty (name_is (event_type_name schema event) o.type named) in cc) in
-        and_false (eqb ty event.ty) (each_holds tests.items event) (never.never event) ∙ sym (ap (λ b. b && all_hold schema o.tests event) untyped);
+        and_false (eqb ty event.ty) (each_holds tests event) (never.never event) ∙ sym (ap (λ b. b && all_hold schema o.tests event) untyped);
   };
   places = λ h. never.places;
 }

@@ -50,11 +50,11 @@ as_many schema [] (l ∷ ls) h = absurd h
 as_many schema (o ∷ os) [] h = absurd h
 as_many schema (o ∷ os) (l ∷ ls) h = ap (λ n. suc n) (as_many schema os ls h.1)
 
-few_made : (schema : Declared) (os : List Occurrence) (ls : List Leaf) → AreMadeOf schema os ls → AllByRecursion OccurrenceHasFewPlaces os → AllByRecursion (λ l. All TestHasFewPlaces l.tests.items) ls
+few_made : (schema : Declared) (os : List Occurrence) (ls : List Leaf) → AreMadeOf schema os ls → AllByRecursion OccurrenceHasFewPlaces os → AllByRecursion (λ l. All TestHasFewPlaces l.tests) ls
 few_made schema [] [] h few = tt
 few_made schema [] (l ∷ ls) h few = absurd h
 few_made schema (o ∷ os) [] h few = absurd h
-few_made schema (o ∷ os) (l ∷ ls) h few = (All-from_recursion TestHasFewPlaces l.tests.items (h.0.places few.0), few_made schema os ls h.1 few.1)
+few_made schema (o ∷ os) (l ∷ ls) h few = (All-from_recursion TestHasFewPlaces l.tests (h.0.places few.0), few_made schema os ls h.1 few.1)
 
 pub numbered_leaves : (schema : Declared) (q : Query) (leaves : Leaves) → tree_of_shape leaves.shape ≡ numbered 0 (tree_of q) → AreMadeOf schema (occurrences (tree_of q)) leaves.list → AreNumbered leaves
 numbered_leaves schema q leaves shaped made = ap numbers shaped ∙ (numbers_in_turn (tree_of q) 0 ∙ ap (range_with_len 0) (sym (as_many schema (occurrences (tree_of q)) leaves.list made)))
@@ -67,5 +67,5 @@ lawful schema q leaves checked shaped made =
     record {
       count = omega arith;
       order = ap numbers shaped ∙ (numbers_in_turn (tree_of q) 0 ∙ ap (range_with_len 0) (sym many));
-      places = All-from_recursion (λ l. All TestHasFewPlaces l.tests.items) leaves.list (few_made schema (occurrences (tree_of q)) leaves.list made (checked_few schema q checked));
+      places = All-from_recursion (λ l. All TestHasFewPlaces l.tests) leaves.list (few_made schema (occurrences (tree_of q)) leaves.list made (checked_few schema q checked));
     }

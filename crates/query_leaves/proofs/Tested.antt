@@ -8,12 +8,14 @@ use Rattle.stream_schema.specs.Names.{attr_index, attr_at}
 use Rattle.stream_schema.specs.declared.Attr.{Attr}
 use Rattle.stream_schema.specs.declared.AttrAt.{AttrAt}
 use Rattle.stream_schema.specs.declared.Event.{Event}
+use Rattle.stream_schema.specs.declared.Op.{Op}
 use Rattle.stream_schema.specs.declared.Value.{Value}
-use Rattle.cel_terms.specs.declared.Pred.{Pred, All, Any, All', Any', Row_of-Pred, end_of-Pred, more_of-Pred, items-the_row-Pred, items_hidden-the_row-Pred-0}
+use Rattle.cel_terms.specs.declared.Name.{Name}
+use Rattle.cel_terms.specs.declared.Pred.{Pred, Cmp, All, Any, All', Any', Row_of-Pred, end_of-Pred, more_of-Pred, items-the_row-Pred, items_hidden-the_row-Pred-0}
 use Rattle.query_leaves.specs.declared.Test.{Test, Row_of-Test, end_of-Test, more_of-Test, items-the_row-Test, items_hidden-the_row-Test-0}
 use Rattle.query_leaves.specs.declared.Test as test
 use Rattle.query_leaves.proofs.FirstPlace.{found}
-use Rattle.cel_terms.specs.Predicate.{attr_value, holds, all_hold, any_holds}
+use Rattle.cel_terms.specs.Predicate.{attr_value, some_meets, holds, all_hold, any_holds}
 use Rattle.query_leaves.specs.Shapes.{test_holds, all_tests_hold, any_test_holds}
 use Rattle.query_leaves.specs.Lawful.{TestHasFewPlaces, TestsHaveFewPlaces}
 use Rattle.query_leaves.specs.Tests.{PredHasFewPlaces, PredsHaveFewPlaces, IsTestOf, AreTestsOf}
@@ -40,8 +42,36 @@ no_value (Some t) name values e = step (attr_index name t.attrs) refl e
         let h : None ≡ option_map (λ (a : Attr). at k a) (Some r.0) = e ∙ ap (option_map (at k)) r.1 in
         absurd cc
 
-pub lacks : (schema : Declared) (ty : ℕ) (name : List ℕ) (event : Event) → None ≡ attr_at schema ty name → event.ty ≡ ty → attr_value schema event name ≡ None
+lacks : (schema : Declared) (ty : ℕ) (name : List ℕ) (event : Event) → None ≡ attr_at schema ty name → event.ty ≡ ty → attr_value schema event name ≡ None
 lacks schema ty name event e at = no_value (slice_get schema.types event.ty) name event.values (e ∙ ap (λ n. attr_at schema n name) (sym at))
+
+-- where it has, the event has the value that stands there
+abbrev index_in : Option AttrAt → ℕ
+index_in None = 0
+index_in (Some a) = a.index
+
+has_value : (type : Option DeclaredType) (name : List ℕ) (values : List Value) (a : AttrAt) → Some a ≡ option_and_then (place_in name) type → option_and_then (λ t. option_and_then (λ i. slice_get values i) (attr_index name t.attrs)) type ≡ slice_get values a.index
+has_value None name values a e = absurd cc
+has_value (Some t) name values a e = step (attr_index name t.attrs) refl e
+  where
+    step : (o : Option ℕ) → attr_index name t.attrs ≡ o → Some a ≡ place_of t o → option_and_then (λ i. slice_get values i) o ≡ slice_get values a.index
+    step None f e = absurd cc
+    step (Some k) f e =
+        let r = found (λ b. bytes_eq b.name name) t.attrs k f in
+        ap (slice_get values) (sym (ap index_in (e ∙ ap (option_map (at k)) r.1)))
+
+-- the tests of a comparison
+pub compared : (schema : Declared) (ty : ℕ) (name : Name) (op : Op) (literal : Value) (a : AttrAt) → Some a ≡ attr_at schema ty name.text → IsTestOf schema ty (Cmp name op literal) (test.Cmp a.index op literal)
+compared schema ty name op literal a e = record {
+  holds = λ event same. ap (λ v. some_meets op v literal) (sym (has_value (slice_get schema.types event.ty) name.text event.values a (e ∙ ap (λ n. attr_at schema n name.text) (sym same))));
+  places = λ h. h;
+}
+
+pub not_compared : (schema : Declared) (ty : ℕ) (name : Name) (op : Op) (literal : Value) → None ≡ attr_at schema ty name.text → IsTestOf schema ty (Cmp name op literal) test.No
+not_compared schema ty name op literal e = record {
+  holds = λ event same. sym (ap (λ v. some_meets op v literal) (lacks schema ty name.text event e same));
+  places = λ h. tt;
+}
 
 preds_listed : (schema : Declared) (event : Event) (n : _) (row : Row_of-Pred n) → all_hold schema row event ≡ list_all (λ p. holds schema p event) (items-the_row-Pred n row)
 preds_listed schema event n end_of-Pred = refl

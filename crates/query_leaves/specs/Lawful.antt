@@ -37,4 +37,4 @@ AreNumbered leaves = numbers (tree_of_shape leaves.shape) ≡ range_with_len 0 (
 pub record IsLawful (leaves : Leaves) : Type 0 where
   pub count : length leaves.list ≤ MOST_LEAVES
   pub order : AreNumbered leaves
-  pub places : All (λ l. All TestHasFewPlaces l.tests.items) leaves.list
+  pub places : All (λ l. All TestHasFewPlaces l.tests) leaves.list

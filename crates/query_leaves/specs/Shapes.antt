@@ -55,7 +55,7 @@ each_holds (test ∷ tests) event = test_holds test event && each_holds tests ev
 
 -- the leaf can read the event: its type is the event's, and its tests hold
 abbrev pub leaf_reads : Leaf → Event → Bool
-leaf_reads l event = eqb l.ty event.ty && each_holds l.tests.items event
+leaf_reads l event = eqb l.ty event.ty && each_holds l.tests event
 
 -- A leaf is the occurrence's: it is marked where the position stays in the set of some name, and reads the same events.
 pub record IsLeafOf (schema : Declared) (o : Occurrence) (l : Leaf) : Type 0 where

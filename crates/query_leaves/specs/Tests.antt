@@ -37,7 +37,7 @@ abbrev pub OccurrenceHasFewPlaces : Occurrence → Type 0
 OccurrenceHasFewPlaces o = AllByRecursion PredHasFewPlaces o.tests
 
 abbrev pub LeafHasFewPlaces : Leaf → Type 0
-LeafHasFewPlaces l = AllByRecursion TestHasFewPlaces l.tests.items
+LeafHasFewPlaces l = AllByRecursion TestHasFewPlaces l.tests
 
 -- The leaf is the occurrence's, and has no more decimal places.
 pub record IsMadeOf (schema : Declared) (o : Occurrence) (l : Leaf) : Type 0 where

@@ -1,17 +1,19 @@
 //! The tree of leaves of a formula: filters and names are carried to the types that they speak of.
 
 ghost use Rattle.std.specs.Prelude.{◌≡◌, ◌∷◌, false, IfOk, fold, map};
-ghost use Rattle.query_leaves.specs.LeafTree.{choice_of};
-ghost use Rattle.query_leaves.specs.Expand.{filtered, postfixed, expand, tree_of};
+ghost use Rattle.cel_terms.specs.declared.Formula.{Of};
+ghost use Rattle.query_leaves.specs.LeafTree.{LeafTree, chain_of, choice_of, linked_to};
+ghost use Rattle.query_leaves.specs.Expand.{Occurrence as Occurs, filtered, postfixed, expand, tree_of};
 ghost use Rattle.query_leaves.specs.Drafts.{tree_of_draft, draft_part, part_of, link_of};
 
 use crate::draft::{Draft, DraftPart, changed, copied, one_or_more};
 use crate::occurrence::{Change, Occurrence};
-use cel_terms::{Filter, Formula, Link, Postfix, Query};
+use cel_terms::{Filter, Formula, Link, Name, Postfix, Query};
 use cer_base::Memory;
 use std::alloc::Global;
 
-/// One filter after another.
+/// One filter after another, in a call of its own so that other filters take no stack for it.
+#[inline(never)]
 #[cycle(filtered)]
 fn filtered_by_all<'q>(
     alloc: Global,
@@ -46,7 +48,8 @@ fn filtered_copies<'q>(
     Ok(copies)
 }
 
-/// A choice between a copy for each filter.
+/// A choice between a copy for each filter, in a call of its own likewise.
+#[inline(never)]
 #[cycle(filtered)]
 fn filtered_by_any<'q>(
     alloc: Global,
@@ -73,6 +76,7 @@ fn filtered<'q>(alloc: Global, filter: &'q Filter, draft: Draft<'q>) -> Result<D
 }
 
 /// The tree under each of the filters.
+#[inline(never)]
 fn under_all<'q>(
     alloc: Global,
     filters: &'q [Filter],
@@ -101,6 +105,7 @@ fn postfixed<'q>(alloc: Global, postfix: &'q Postfix, draft: Draft<'q>) -> Resul
 }
 
 /// The tree with the postfixes, which apply from the left.
+#[inline(never)]
 fn postfixed_by_all<'q>(
     alloc: Global,
     postfixes: &'q [Postfix],
@@ -166,27 +171,90 @@ fn expanded_each<'q>(alloc: Global, formulas: &'q [Formula]) -> Result<Vec<Draft
     Ok(drafts)
 }
 
+/// A chain of the formulas. This and the calls after it stand apart so that a formula takes stack for
+/// its own kind alone while what nests in it is expanded.
+#[inline(never)]
+#[cycle(expand)]
+fn chain<'q>(alloc: Global, formulas: &'q [Formula]) -> Result<Draft<'q>, Memory>
+    ensures { IfOk result (λ draft. tree_of_draft draft ≡ chain_of (map part_of formulas.now)) }
+{
+    Ok(Draft::Chain(chained(alloc, formulas)?))
+}
+
+/// A chain of the tree, where there was memory for it, and the links after it.
+#[inline(never)]
+#[cycle(expand)]
+fn linked_chain<'q>(
+    alloc: Global,
+    links: &'q [Link],
+    first: Result<Draft<'q>, Memory>,
+) -> Result<Draft<'q>, Memory>
+    ensures { (before : LeafTree Occurs) → IfOk first.entry (λ draft. tree_of_draft draft ≡ before)
+        → IfOk result (λ draft. tree_of_draft draft ≡ linked_to before (map link_of links.now)) }
+{
+    let first = first?;
+    Ok(Draft::Chain(linked(alloc, links, first)?))
+}
+
+/// A choice between the formulas.
+#[inline(never)]
+#[cycle(expand)]
+fn choice<'q>(alloc: Global, formulas: &'q [Formula]) -> Result<Draft<'q>, Memory>
+    ensures { IfOk result (λ draft. tree_of_draft draft ≡ choice_of (map expand formulas.now)) }
+{
+    Ok(Draft::Either(expanded_each(alloc, formulas)?))
+}
+
+/// The tree of the formula with the postfixes.
+#[inline(never)]
+#[cycle(expand)]
+fn changed_base<'q>(
+    alloc: Global,
+    base: &'q Formula,
+    postfixes: &'q [Postfix],
+) -> Result<Draft<'q>, Memory>
+    ensures { IfOk result (λ draft. tree_of_draft draft
+        ≡ fold (λ t p. postfixed p t) (expand base.now) postfixes.now) }
+{
+    let draft = expand(alloc, base)?;
+    postfixed_by_all(alloc, postfixes, draft)
+}
+
+/// The tree of the formula under the filters.
+#[inline(never)]
+#[cycle(expand)]
+fn filtered_base<'q>(
+    alloc: Global,
+    base: &'q Formula,
+    filters: &'q [Filter],
+) -> Result<Draft<'q>, Memory>
+    ensures { IfOk result (λ draft. tree_of_draft draft
+        ≡ fold (λ t c. filtered c t) (expand base.now) filters.now) }
+{
+    let draft = expand(alloc, base)?;
+    under_all(alloc, filters, draft)
+}
+
+/// A leaf of the type.
+#[inline(never)]
+fn leaf<'q>(alloc: Global, name: &'q Name) -> Result<Draft<'q>, Memory>
+    ensures { IfOk result (λ draft. tree_of_draft draft ≡ expand (Of name.now)) }
+{
+    Ok(Draft::Leaf(Occurrence::of(alloc, name.text.as_str())?))
+}
+
 /// The tree of the formula.
 #[cycle(expand)]
 fn expand<'q>(alloc: Global, formula: &'q Formula) -> Result<Draft<'q>, Memory>
     ensures { IfOk result (λ draft. tree_of_draft draft ≡ expand formula.now) }
 {
     match formula {
-        Formula::Of(name) => Ok(Draft::Leaf(Occurrence::of(alloc, name.text.as_str())?)),
-        Formula::Chain(parts) => Ok(Draft::Chain(chained(alloc, parts)?)),
-        Formula::Linked(first, links) => {
-            let first = expand(alloc, first)?;
-            Ok(Draft::Chain(linked(alloc, links, first)?))
-        }
-        Formula::Either(choices) => Ok(Draft::Either(expanded_each(alloc, choices)?)),
-        Formula::Post(base, postfixes) => {
-            let draft = expand(alloc, base)?;
-            postfixed_by_all(alloc, postfixes, draft)
-        }
-        Formula::Under(base, filters) => {
-            let draft = expand(alloc, base)?;
-            under_all(alloc, filters, draft)
-        }
+        Formula::Of(name) => leaf(alloc, name),
+        Formula::Chain(parts) => chain(alloc, parts),
+        Formula::Linked(first, links) => linked_chain(alloc, links, expand(alloc, first)),
+        Formula::Either(choices) => choice(alloc, choices),
+        Formula::Post(base, postfixes) => changed_base(alloc, base, postfixes),
+        Formula::Under(base, filters) => filtered_base(alloc, base, filters),
     }
 }
 

@@ -17,9 +17,11 @@ mod leaf_of;
 mod numbering;
 mod occurrence;
 mod query;
+mod shared_tests;
 mod test_of;
 
 pub use query::leaves_of;
+pub use shared_tests::Tests;
 
 /// A test of one event, whose type's attributes are known by their places.
 #[derive(Drop, Debug)]
@@ -34,11 +36,11 @@ pub enum Test {
 }
 
 /// An occurrence of a type in a formula.
-#[derive(Drop, Debug)]
+#[derive(Drop)]
 pub struct Leaf {
     pub ty: TypeId,
-    /// All of them hold of each event that it reads.
-    pub tests: Vec<Test>,
+    /// All of them hold of each event that it reads. Other leaves may have them too.
+    pub tests: Tests,
     /// Whether the position that it reads is in the set of some name in the end.
     pub marked: bool,
 }
@@ -67,7 +69,7 @@ pub struct ShapePart {
 }
 
 /// The leaves of a query, from left to right, and its shape over their numbers.
-#[derive(Drop, Debug)]
+#[derive(Drop)]
 pub struct Leaves {
     pub list: Listed<Leaf>,
     pub shape: Shape,

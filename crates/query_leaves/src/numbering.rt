@@ -71,7 +71,7 @@ fn numbered_leaf(
         list.new.items) }
 {
     let number = list.len() as u64;
-    let leaf = leaf_of(alloc, schema, occurrence)?;
+    let leaf = leaf_of(alloc, schema, occurrence, list.as_slice())?;
     list.push(leaf)?;
     Ok(number)
 }

@@ -9,8 +9,8 @@ use Rattle.ceql_parser.proofs.FirstFound.{told_at, kept_at}
 use Rattle.ceql_parser.specs.FormulaFaults.{formula_fault, filter_fault, postfixes_fault}
 use Rattle.ceql_parser.specs.LinksAndCounts.{link_fault}
 use Rattle.ceql_parser.proofs.NamesListed.{chain_names, choice_names, linked_names}
-use Rattle.ceql_parser.proofs.NameSetLemmas.{same_self, same_then, same_both, same_as, same_more, same_all, ok_same, after_same, postfixes_same, all_filters_same}
-use Rattle.ceql_parser.proofs.RowFaults.{chain_faults, choice_faults, linked_passed}
+use Rattle.ceql_parser.proofs.NameSetLemmas.{same_self, same_then, same_both, same_more, same_all, ok_same, after_same, postfixes_same, all_filters_same}
+use Rattle.ceql_parser.proofs.RowFaults.{chain_faults, choice_faults, linked_faults}
 use Rattle.ceql_parser.proofs.formula_checks.+formulas.Goals as goal
 
 pub add_formula-returns-in-Ok-join-clause-names : goal.add_formula-returns-in-Ok-join-clause-names
@@ -88,25 +88,33 @@ check_under-returns-in-Ok-clause-told t c =
     (all_filters_same types c.in-Ok.names (names_of c.args.base.now) c.in-Ok.ensures.names c.args.filters.now ∙ ap (λ (o : Option QueryError). option_or o after) (sym c.in-Ok.ensures.told))
     c.check_filtered.ensures.told
 
-pub check_formula-returns-in-Ok-clause-told : goal.check_formula-returns-in-Ok-clause-told
-check_formula-returns-in-Ok-clause-told t c =
-    let types = c.args.types.now in
-    let passes : formula_fault types c.deref-in-Linked.result.now ≡ None = c.in-Ok.ensures.told in
-    subst (λ (o : Option QueryError). FindsFault c.check_links.result o)
-    (ap (first_in (link_fault types)) c.deref-in-Ok.ensures.value
-    ∙ linked_passed types c.in-Linked.first c.in-Linked.links (ap (formula_fault types) (sym c.deref-in-Linked.ensures) ∙ passes)
-    ∙ sym (ap (formula_fault types) c.in-Linked.is))
-    c.check_links.ensures.told
+pub check_linked-returns-in-Ok-clause-told : goal.check_linked-returns-in-Ok-clause-told
+check_linked-returns-in-Ok-clause-told t c = λ fault e.
+    let after = first_in (link_fault c.args.types.now) c.args.links.now in
+    let none : fault ≡ None = rw c.in-Ok.is at e in
+    subst (λ (o : Option QueryError). FindsFault c.check_links.result (option_or o after)) (sym none) c.check_links.ensures.told
 
-pub check_formula-returns-in-Ok-clause-names : goal.check_formula-returns-in-Ok-clause-names
-check_formula-returns-in-Ok-clause-names t c =
-    let later = flat_map names_of_link c.deref-in-Ok.result.now in
-    let first = names_of c.deref-in-Linked.result.now in
-    ok_same c.check_links.result (c.in-Ok.names ++ later) (names_of c.args.formula.now)
-    (same_as (c.in-Ok.names ++ later) (first ++ later) (names_of c.args.formula.now)
-    (same_both c.in-Ok.names first later later c.in-Ok.ensures.names (same_self later))
-    (ap₂ (λ f ls. names_of f ++ flat_map names_of_link ls) c.deref-in-Linked.ensures c.deref-in-Ok.ensures.value ∙ sym (linked_names c.in-Linked.first c.in-Linked.links) ∙ sym (ap names_of c.in-Linked.is)))
+pub check_linked-returns-in-Ok-clause-names : goal.check_linked-returns-in-Ok-clause-names
+check_linked-returns-in-Ok-clause-names t c = λ before e.
+    let later = flat_map names_of_link c.args.links.now in
+    ok_same c.check_links.result (c.in-Ok.names ++ later) (before ++ later)
+    (same_both c.in-Ok.names before later later (rw c.in-Ok.is at e) (same_self later))
     c.check_links.ensures.names
+
+pub check_formula-returns-in-Linked : goal.check_formula-returns-in-Linked
+check_formula-returns-in-Linked t c =
+    let types = c.args.types.now in
+    let first = c.deref-in-Linked.result.now in
+    record {
+      told = subst (λ (o : Option QueryError). FindsFault c.check_linked.result o)
+          (ap₂ (λ f ls. option_or (formula_fault types f) (first_in (link_fault types) ls)) c.deref-in-Linked.ensures c.deref-in-Linked-2.ensures.value
+          ∙ sym (linked_faults types c.in-Linked.first c.in-Linked.links) ∙ sym (ap (formula_fault types) c.in-Linked.is))
+          (c.check_linked.ensures.told (formula_fault types first) c.check_formula-first.ensures.told);
+      names = subst (λ (l : List (List ℕ)). IfOk c.check_linked.result (λ names. HaveSameNames names l))
+          (ap₂ (λ f ls. names_of f ++ flat_map names_of_link ls) c.deref-in-Linked.ensures c.deref-in-Linked-2.ensures.value
+          ∙ sym (linked_names c.in-Linked.first c.in-Linked.links) ∙ sym (ap names_of c.in-Linked.is))
+          (c.check_linked.ensures.names (names_of first) c.check_formula-first.ensures.names);
+    }
 
 pub check_formula-returns-in-Post : goal.check_formula-returns-in-Post
 check_formula-returns-in-Post t c =

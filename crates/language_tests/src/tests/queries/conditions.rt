@@ -2,7 +2,7 @@
 
 use cer_base::{Listed, Memory};
 use predicate_bits::Conditions;
-use query_leaves::{Leaf, Test};
+use query_leaves::{Leaf, Test, Tests};
 use std::alloc::Global;
 use std::test::*;
 use stream_schema::{Event, Op, Value};
@@ -20,7 +20,7 @@ fn leaf(alloc: Global, ty: u64, number: Option<i64>) -> Result<Leaf, Memory> {
     }
     Ok(Leaf {
         ty,
-        tests,
+        tests: Tests::of(alloc, tests)?,
         marked: true,
     })
 }

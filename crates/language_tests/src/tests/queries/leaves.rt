@@ -19,7 +19,13 @@ fn write_leaves(text: &mut String, leaves: &Leaves) -> Result<(), AllocError> {
         text.push_str("strict; ")?;
     }
     for leaf in leaves.list.as_slice() {
-        write!(text, "{} {} {:?}; ", leaf.ty, leaf.marked, leaf.tests)?;
+        write!(
+            text,
+            "{} {} {:?}; ",
+            leaf.ty,
+            leaf.marked,
+            leaf.tests.as_slice()
+        )?;
     }
     write!(text, "{:?}", leaves.shape)
 }

@@ -11,7 +11,7 @@ returns-in_ok-tests-in-Some c =
     leaf_made schema c.args.occurrence.now c.in-Some.ty tests c.is_bound-marked.result c.is_bound-marked.ensures
     (c.in-Some.ensures.place ∙ ap (type_number schema.types) c.ty.ensures)
     (λ k has. c.in-Some.ensures.only k (has ∙ ap (λ n. Some n) (sym c.ty.ensures)))
-    (subst (λ ps. AreTestsOf schema c.in-Some.ty ps tests.items) c.tests.ensures c.in_ok-tests-in-Some.ensures)
+    (subst (λ ps. AreTestsOf schema c.in-Some.ty ps tests) c.tests.ensures c.in_ok-tests-in-Some.ensures)
 
 pub returns-in_ok-tests-in-None : goal.returns-in_ok-tests-in-None
 returns-in_ok-tests-in-None c =

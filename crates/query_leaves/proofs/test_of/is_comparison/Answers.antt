@@ -1,0 +1,20 @@
+use Rattle.std.proofs.Common.{ap, sym, subst, ◌∙◌}
+use Rattle.stream_schema.specs.Names.{attr_at}
+use Rattle.cel_terms.specs.declared.Pred.{Cmp}
+use Rattle.query_leaves.specs.Tests.{IsTestOf}
+use Rattle.query_leaves.proofs.Tested.{compared, not_compared}
+use Rattle.query_leaves.proofs.test_of.is_comparison.Goals as goal
+
+pub returns-in-Some : goal.returns-in-Some
+returns-in-Some c = λ same.
+    let schema = c.args.schema.now in
+    subst (IsTestOf schema c.args.ty (Cmp c.args.name.now c.args.op c.args.literal.now)) (sym (c.compares.ensures same))
+    (compared schema c.args.ty c.args.name.now c.args.op c.args.literal.now c.in-Some.at
+    (sym c.in-Some.is ∙ c.attr.ensures.place ∙ ap (attr_at schema c.args.ty) c.as_str.ensures))
+
+pub returns-in-No : goal.returns-in-No
+returns-in-No c = λ same.
+    let schema = c.args.schema.now in
+    subst (IsTestOf schema c.args.ty (Cmp c.args.name.now c.args.op c.args.literal.now)) (sym c.in-No.is)
+    (not_compared schema c.args.ty c.args.name.now c.args.op c.args.literal.now
+    (sym c.in-None.is ∙ c.attr.ensures.place ∙ ap (attr_at schema c.args.ty) c.as_str.ensures))

@@ -1,0 +1,56 @@
+//! Tests that several leaves may have in common.
+
+ghost use Rattle.std.specs.Prelude.{◌≡◌, IfOk};
+
+use crate::Test;
+use cer_base::Memory;
+use std::alloc::Global;
+use std::marker::Model;
+use std::rc::Rc;
+
+/// Tests, seen as the list of them. A share of them takes no memory for the tests.
+#[derive(Drop)]
+pub struct Tests {
+    list: Rc<Vec<Test>>,
+}
+
+impl Model for Tests {
+    ghost use Rattle.std.specs.Prelude.{List};
+    ghost use Rattle.query_leaves.specs.declared.Test.{Test};
+    ghost use Rattle.query_leaves.specs.contracts.Test as test;
+    ghost use Rattle.std.specs.Coded.{codes};
+
+    ghost Value = { List Test };
+
+    ghost coded = { Prim.hlevel (codes, test.the_row.coded) };
+
+    ghost view = { λ t. t.list.value.items };
+}
+
+impl Tests {
+    /// These tests.
+    pub fn of(alloc: Global, list: Vec<Test>) -> Result<Tests, Memory>
+        ensures { IfOk result (λ tests. tests ≡ list.items) }
+    {
+        match Rc::new(alloc, list) {
+            Ok(list) => Ok(Tests { list }),
+            Err(_) => Err(Memory),
+        }
+    }
+
+    /// The same ones.
+    pub fn share(&self) -> Result<Tests, Memory>
+        ensures { IfOk result (λ tests. tests ≡ self.now) }
+    {
+        Ok(Tests {
+            list: self.list.clone()?,
+        })
+    }
+
+    /// The tests, in order.
+    pub fn as_slice(&self) -> &[Test]
+        ensures value { result.now ≡ self.now }
+    {
+        self.list.as_slice()
+    }
+}

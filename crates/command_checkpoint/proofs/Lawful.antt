@@ -15,7 +15,7 @@ use Rattle.command_words.specs.declared.ResumeWords.{ResumeWords}
 use Rattle.command_base.proofs.Lawful.{IsLawful}
 use Rattle.command_base.proofs.SameCheckpoint.{checkpoint_alike}
 use Rattle.command_base.proofs.StepClauses.{Forgets}
-use Rattle.command_checkpoint.specs.declared.saving.TheConstants.{MOST_BYTES}
+use Rattle.command_base.specs.declared.files.TheConstants.{MOST_BYTES}
 use Rattle.command_checkpoint.specs.Resumed.{AfterEach}
 use Rattle.command_checkpoint.specs.Saving.{save_task}
 use Rattle.command_checkpoint.specs.GoingOn.{WroteAllResumed, WrotePartResumed, resume_task}

@@ -17,7 +17,7 @@ use Rattle.command_base.proofs.Told.{not_missing, text_not_missing, source_told,
 use Rattle.command_base.proofs.TextEnds.{whole_or_stop, took_at_end, read_lines}
 use Rattle.command_base.proofs.Lawful.{takes_accepted}
 use Rattle.command_base.proofs.Ends.{Meets, two_files_ended}
-use Rattle.command_checkpoint.specs.declared.saving.TheConstants.{MOST_BYTES}
+use Rattle.command_base.specs.declared.files.TheConstants.{MOST_BYTES}
 use Rattle.command_checkpoint.specs.Saved.{IsCheckpointOver, saved_said}
 use Rattle.command_checkpoint.specs.Saving.{save_asked, IsFileCheckpoint, save_task}
 

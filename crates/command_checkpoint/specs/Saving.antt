@@ -10,7 +10,7 @@ use Rattle.command_words.specs.declared.SaveWords.{SaveWords}
 use Rattle.command_base.specs.Accepted.{SaysOf}
 use Rattle.command_base.specs.ReadLines.{whole_said}
 use Rattle.command_base.specs.Tasks.{Task}
-use Rattle.command_checkpoint.specs.declared.saving.TheConstants.{MOST_BYTES}
+use Rattle.command_base.specs.declared.files.TheConstants.{MOST_BYTES}
 use Rattle.command_checkpoint.specs.Saved.{IsCheckpointOf}
 
 -- what is asked where a checkpoint is to be written

@@ -17,7 +17,7 @@ use Rattle.command_base.proofs.Told.{not_missing, text_not_missing, source_told,
 use Rattle.command_base.proofs.Lawful.{takes_accepted}
 use Rattle.command_base.proofs.Ends.{Meets, queries_ended, two_files_ended}
 use Rattle.command_base.proofs.TextEnds.{whole_or_stop, took_at_end, read_lines}
-use Rattle.command_explain.specs.declared.written.TheConstants.{MOST_BYTES}
+use Rattle.command_base.specs.declared.files.TheConstants.{MOST_BYTES}
 use Rattle.command_explain.specs.ExplanationOutput.{ExplainRequest, IsExplanationOver, explained_said}
 use Rattle.command_explain.specs.Explained.{AreFileExplanation, explain_task}
 

@@ -2,7 +2,7 @@
 use Rattle.event_run.proofs.ForCallers.{one_run_of_trees}
 use Rattle.command_words.specs.declared.ExplainWords.{ExplainWords}
 use Rattle.command_base.proofs.Lawful.{IsLawful}
-use Rattle.command_explain.specs.declared.written.TheConstants.{MOST_BYTES}
+use Rattle.command_base.specs.declared.files.TheConstants.{MOST_BYTES}
 use Rattle.command_explain.specs.Explained.{explain_task}
 
 pub explain_is_lawful : (x : ExplainWords) → IsLawful (explain_task x)

@@ -10,7 +10,7 @@ use Rattle.command_words.specs.declared.ExplainWords.{ExplainWords}
 use Rattle.command_base.specs.Accepted.{Accepts}
 use Rattle.command_base.specs.ReadLines.{whole_said}
 use Rattle.command_base.specs.Tasks.{Task}
-use Rattle.command_explain.specs.declared.written.TheConstants.{MOST_BYTES}
+use Rattle.command_base.specs.declared.files.TheConstants.{MOST_BYTES}
 use Rattle.command_explain.specs.Explanations.{IsExplanation}
 
 -- The bytes are the explanation that is asked for, over all events of the file.

@@ -5,7 +5,7 @@ ghost use Rattle.std.specs.Prelude.{◌≡◌, ℕ, ◌⊎◌, true, List, [], N
 ghost use Rattle.cer_outside.specs.Content.{Holds};
 ghost use Rattle.query_engine.specs.Engine.{StandsFor, SameQueries, count_of, peak_of};
 ghost use Rattle.reorder_gate.specs.AttributeClock.{clock_fits};
-ghost use Rattle.command_base.specs.Ending.{TaskEnded, FileStop, IsAskedFor};
+ghost use Rattle.command_base.specs.Ending.{outside, TaskEnded, FileStop, IsAskedFor};
 ghost use Rattle.command_base.specs.Leaving.{IsLeftBy};
 ghost use Rattle.command_base.specs.StepCounts.{StepsBy, counts_where};
 ghost use Rattle.command_reorder.specs.LateOutput.{late_said, StandsForLate};
@@ -35,15 +35,7 @@ pub fn reorder<H: Host, K: Sink, L: Ledger>(
     steps: &mut Steps<L>,
 ) -> Stop<H::Src>
     ensures ended { TaskEnded (record { faults = H.Src.faults; left = H.Src.left }) H.opens
-        (record {
-          content = H.content host.old;
-          old = H.faults host.old;
-          new = H.faults host.new;
-          out_old = K.faults out.old;
-          out_new = K.faults out.new;
-          before = K.taken out.old;
-          after = K.taken out.new;
-        })
+        (outside H.content H.faults K.faults K.taken host.old host.new out.old out.new)
         (reorder_task words.now) host.old host.new result.cause result.failed }
     ensures steps { StepsBy result.cause (reorder_steps words.now (H.content host.old))
         (K.taken out.old) (K.taken out.new) steps.old steps.new }
@@ -91,15 +83,7 @@ fn reorder_file<H: Host, K: Sink, L: Ledger>(
         (λ source. late_said (feed_of words.now engine.old.schema engine.old.queries) source
         (K.taken out.old) (K.taken out.new))
         words.now.events
-        (record {
-          content = H.content host.old;
-          old = H.faults host.old;
-          new = H.faults host.new;
-          out_old = K.faults out.old;
-          out_new = K.faults out.new;
-          before = K.taken out.old;
-          after = K.taken out.new;
-        })
+        (outside H.content H.faults K.faults K.taken host.old host.new out.old out.new)
         result.cause result.failed }
     ensures steps { StepsBy result.cause
         (counts_where (λ bytes. H.content host.old words.now.events ≡ Holds bytes)

@@ -4,7 +4,7 @@ ghost use Rattle.std.specs.Prelude.{◌≡◌, ℕ, List, [], None};
 ghost use Rattle.cer_outside.specs.Content.{Holds};
 ghost use Rattle.query_engine.specs.Engine.{StandsFor, SameQueries, count_of, peak_of};
 ghost use Rattle.stream_answers.specs.Streams.{asked_by, answers_said, StandsForAll};
-ghost use Rattle.command_base.specs.Ending.{TaskEnded, FileStop, IsAskedFor};
+ghost use Rattle.command_base.specs.Ending.{outside, TaskEnded, FileStop, IsAskedFor};
 ghost use Rattle.command_base.specs.StepCounts.{StepsBy, counts_where};
 ghost use Rattle.command_base.specs.Leaving.{IsLeftBy};
 ghost use Rattle.command_run.specs.Runs.{run_task};
@@ -29,15 +29,7 @@ pub fn run<H: Host, K: Sink, L: Ledger>(
     steps: &mut Steps<L>,
 ) -> Stop<H::Src>
     ensures ended { TaskEnded (record { faults = H.Src.faults; left = H.Src.left }) H.opens
-        (record {
-          content = H.content host.old;
-          old = H.faults host.old;
-          new = H.faults host.new;
-          out_old = K.faults out.old;
-          out_new = K.faults out.new;
-          before = K.taken out.old;
-          after = K.taken out.new;
-        })
+        (outside H.content H.faults K.faults K.taken host.old host.new out.old out.new)
         (run_task words.now) host.old host.new result.cause result.failed }
     ensures steps { StepsBy result.cause (run_steps words.now (H.content host.old))
         (K.taken out.old) (K.taken out.new) steps.old steps.new }
@@ -74,15 +66,7 @@ fn answer_file<H: Host, K: Sink, L: Ledger>(
         (λ source. answers_said [] (asked_by options engine.old) source (K.taken out.old)
         (K.taken out.new))
         events.now
-        (record {
-          content = H.content host.old;
-          old = H.faults host.old;
-          new = H.faults host.new;
-          out_old = K.faults out.old;
-          out_new = K.faults out.new;
-          before = K.taken out.old;
-          after = K.taken out.new;
-        })
+        (outside H.content H.faults K.faults K.taken host.old host.new out.old out.new)
         result.cause result.failed }
     ensures steps { StepsBy result.cause
         (counts_where (λ bytes. H.content host.old events.now ≡ Holds bytes)

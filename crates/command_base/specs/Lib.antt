@@ -8,5 +8,6 @@ pub mod Opening
 pub mod Output
 pub mod StepCounts
 pub mod Leaving
+pub mod Answering
 pub mod Notes
 pub mod Ending

@@ -1,4 +1,4 @@
-use Rattle.std.proofs.Common.{◌≡◌, ◌+◌, ◌^◌, ◌<◌, ◌≤◌, ◌++◌, ◌∷◌, ℕ, Bool, [], length, refl, sym, ap, ◌∙◌, Ok, Err, arith}
+use Rattle.std.proofs.Common.{◌+◌, ◌++◌, ◌∷◌, ℕ, [], refl, sym, ap, ◌∙◌, Ok, Err, arith}
 use Rattle.event_run.specs.declared.NextEvent.TheVariants as taken
 use Rattle.event_run.proofs.Given.{room_within}
 use Rattle.stream_answers.specs.Streams.{RunRequest}

@@ -1,10 +1,9 @@
-use Rattle.std.proofs.Common.{◌≡◌, ◌+◌, ◌^◌, ◌<◌, ◌≤◌, ℕ, List, [], length, Option, refl, sym, ap, subst, ◌∙◌, arith}
+use Rattle.std.proofs.Common.{◌≡◌, ◌+◌, ◌≤◌, ℕ, List, [], length, Option, sym, ap, subst, ◌∙◌, arith}
 use Rattle.stream_schema.specs.Types.{Declared}
 use Rattle.stream_schema.specs.declared.Event.{Event}
 use Rattle.cel_terms.specs.declared.Query.{Query}
 use Rattle.answer_text.specs.declared.Order.{Order}
-use Rattle.query_engine.specs.Engine.{EngineState, StandsFor, SameQueries}
-use Rattle.query_engine.specs.Windows.{IsDense}
+use Rattle.query_engine.specs.Engine.{EngineState, SameQueries}
 use Rattle.stream_answers.specs.Counting.{HasBegun}
 use Rattle.stream_answers.specs.Schedules.{Timing, Plan, WithNoNumber, saved, first_compaction, IsOnTime}
 use Rattle.stream_answers.specs.Streams.{RunRequest, WroteStreamAfter, StandsForAllAfter}

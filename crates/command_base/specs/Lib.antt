@@ -9,5 +9,6 @@ pub mod Output
 pub mod StepCounts
 pub mod Leaving
 pub mod Answering
+pub mod Reporting
 pub mod Notes
 pub mod Ending

@@ -156,6 +156,11 @@ pub ok_then : {T E : Type 0} (r : Result T E) (P : Type 0) → P → OnOk r P
 ok_then (Ok done) P p = p
 ok_then (Err why) P p = tt
 
+-- what follows where all was well, from each fact of that case
+pub on_end : {T E : Type 0} (r : Result T E) (P : Type 0) → (((Q : Type 0) → OnOk r Q → Q) → P) → OnOk r P
+on_end (Ok done) P from = from (λ Q q. q)
+on_end (Err why) P from = tt
+
 -- nothing of what was to come after a fault
 pub none_ok : {T : Type 0} (middle after : Option (List ℕ)) (old new : ℕ) (buffer : List ℕ) (why : OrMemory StreamFault) (result : Result T (OrMemory StreamFault)) (P : Type 0) → Finished middle after old new buffer (Err why) result → OnOk result P
 none_ok {T} middle after old new buffer why result P finished =

@@ -2,7 +2,7 @@
 use Rattle.std.proofs.Common.{◌≡◌, ℕ, inl, inr, true, List, map, Option, Some, None, refl, sym, ◌∙◌, subst, IsSomeAnd}
 use Rattle.std.proofs.Math.Path.{fun_ext}
 use Rattle.cer_outside.specs.Causes.{AllStay}
-use Rattle.cer_outside.specs.Content.{Content, Untold, Missing, Holds, HasOpened, OfOpened}
+use Rattle.cer_outside.specs.Content.{Content, Holds, HasOpened, OfOpened}
 use Rattle.cer_outside.specs.Bytes.{TookAll, TookPart}
 use Rattle.answer_blocks.specs.SinkBytes.{TookPrefix}
 use Rattle.answer_text.specs.Output.{IsOutput}
@@ -21,9 +21,9 @@ use Rattle.command_base.specs.Accepted.{Accepts}
 use Rattle.command_base.specs.Answering.{Answering, AreAnswers, AreFileAnswers, AreReadAnswers, StandsForFile, StandsForLines, answering_task, answering_steps, answering_leaves, asked_of, source_said}
 use Rattle.command_base.specs.Ending.{Outside, FileStop, TaskEnded}
 use Rattle.command_base.specs.Leaving.{IsLeftBy}
-use Rattle.command_base.specs.SourceBytes.{IsRest, IsRestOf}
+use Rattle.command_base.specs.SourceBytes.{IsRest}
 use Rattle.command_base.specs.Sources.{Sources}
-use Rattle.command_base.proofs.Told.{not_missing, text_not_missing, source_told, text_told}
+use Rattle.command_base.proofs.Told.{not_missing, text_not_missing, source_told, text_told, rest_of}
 use Rattle.command_base.proofs.Lawful.{IsLawful, takes_accepted}
 use Rattle.command_base.proofs.Ends.{Meets, two_files_ended, left_by_end}
 use Rattle.command_base.proofs.StepClauses.{Forgets}
@@ -95,12 +95,6 @@ module _ (content : List ℕ → Content) (w : Answering) (schema : Declared) (q
     wrote.took,
   )
 
--- what a source that failed has left is the last part of the file
-rest_of : (w : Answering) (law : GivesEvents w) (schema : Declared) (queries : List Query) (content : Content) (source left : Option (List ℕ)) (events : List Event) → HasOpened content source → ((lines : List ℕ) → source ≡ Some lines → w.read schema queries left lines events) → IsRestOf content left
-rest_of w law schema queries Untold source left events opened read = tt
-rest_of w law schema queries Missing source left events opened read = opened
-rest_of w law schema queries (Holds lines) source left events opened read = law.rest schema queries left lines events (read lines opened)
-
 -- what is said over a source is what the command makes of its files
 meets : (o : Outside) (w : Answering) (law : GivesEvents w) (schema : Declared) (queries : List Query) (source : Option (List ℕ)) → w.fits schema ≡ true → OfOpened (o.content w.queries) (λ text. Accepts text schema queries) → HasOpened (o.content w.events) source →
     Meets o (answering_task w) (source_said w schema queries source o.before o.after)
@@ -115,7 +109,7 @@ meets o w law schema queries source fits accepted opened = record {
     stops = (all.events, all.are lines (source_told (o.content w.events) source lines opened second));
   };
   wrote = λ halt all. wrote_all o.content w schema queries source o.before o.after fits accepted opened halt all;
-  rest = λ left read. rest_of w law schema queries (o.content w.events) source left read.events opened read.are;
+  rest = λ left read. rest_of (o.content w.events) source left opened (λ lines told. law.rest schema queries left lines read.events (read.are lines told));
   read = λ left read. wrote_read o.content w schema queries source o.before o.after fits accepted opened left read;
   part = λ part. wrote_part o.content w schema queries source o.before o.after fits accepted opened (TookPart o.before o.after) part;
   some = λ some. inr (wrote_part o.content w schema queries source o.before o.after fits accepted opened (TookPrefix o.before o.after) some);

@@ -19,7 +19,7 @@ use Rattle.command_base.specs.Reporting.{Reporting, IsOfAll, IsReportOver, IsFil
 use Rattle.command_base.specs.Sources.{Sources}
 use Rattle.command_base.proofs.Ends.{Meets, two_files_ended}
 use Rattle.command_base.proofs.Lawful.{IsLawful, takes_accepted}
-use Rattle.command_base.proofs.Told.{not_missing, text_not_missing, source_told, text_told, read_so_far, rest_of}
+use Rattle.command_base.proofs.Told.{not_missing, text_not_missing, source_told, text_told, read_so_far, read_behind, rest_of}
 
 -- the text goes with a stop at the end
 whole_or_stop : (schema : Declared) (queries : List Query) (most_bytes : ℕ) (source before after : Option (List ℕ)) (Tells : List ℕ → Type 0) (halt : RunStop) → ((text : List ℕ) → Tells text → StopsOver schema queries most_bytes source stop.End) →
@@ -78,7 +78,7 @@ meets o w all schema queries source accepted opened = record {
     stops = whole_or_stop schema queries MOST_BYTES source o.before o.after (IsReportOver w schema queries source) halt (λ bytes over them same. all schema queries them bytes (over them same)) wrote lines (source_told (o.content w.events) source lines opened second);
   };
   wrote = λ halt wrote. took_at_end (IsReportOver w schema queries source) (IsFileReport o.content w) (StopsOver schema queries MOST_BYTES source) o.before o.after halt (of_files o.content w schema queries source accepted opened) wrote;
-  rest = λ left read. rest_of schema queries MOST_BYTES (o.content w.events) source left opened read.1;
+  rest = λ left read. rest_of (o.content w.events) source left opened (λ lines told. let it = read.1 lines told in read_behind schema queries MOST_BYTES left lines it.0 it.1);
   read = λ left read. (read.0, read_lines o.content w.queries w.events schema queries MOST_BYTES source left accepted opened read.1);
   part = λ part. (part.0, of_files o.content w schema queries source accepted opened part.0 part.1, part.2);
   some = λ some. some;

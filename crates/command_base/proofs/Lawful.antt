@@ -1,5 +1,5 @@
 -- What holds of each task, which its command proves, and what follows for every task. For commands and `core_top`.
-use Rattle.std.proofs.Common.{◌≡◌, ℕ, true, false, true≢false, List, map, Option, Some, sym, ◌∙◌, ap, subst}
+use Rattle.std.proofs.Common.{◌≡◌, ℕ, true, true≢false, List, map, Option, Some, sym, ◌∙◌, ap, subst}
 use Rattle.cer_base.specs.declared.Location.{Location}
 use Rattle.stream_schema.specs.Types.{Declared}
 use Rattle.cel_terms.specs.declared.Query.{Query}

@@ -15,5 +15,7 @@ pub mod Ends
 pub mod StepClauses
 -- how what ran over a source ended, and the cause
 pub mod Sources
+-- what holds of a command that writes the answers over events
+pub mod Answering
 -- how a command ends that writes a text once all events are read
 pub mod TextEnds

@@ -1,11 +1,11 @@
 -- What is told of a file that was opened. For commands.
-use Rattle.std.proofs.Common.{◌≡◌, ◌≢◌, ℕ, List, Option, Some, None, subst}
+use Rattle.std.proofs.Common.{◌≡◌, ◌≢◌, ℕ, List, [], Option, Some, None, subst}
 use Rattle.cer_outside.specs.Content.{Content, Untold, Missing, Holds, HasOpened, OfOpened}
 use Rattle.stream_schema.specs.Types.{Declared}
 use Rattle.stream_schema.specs.declared.Event.{Event}
 use Rattle.cel_terms.specs.declared.Query.{Query}
-use Rattle.event_run.specs.Taking.{AreEventsRead}
-use Rattle.command_base.specs.SourceBytes.{IsRestOf}
+use Rattle.event_run.specs.Taking.{AreEventsRead, AreEventsReadAfter}
+use Rattle.command_base.specs.SourceBytes.{IsRest, IsRestOf}
 
 -- a file that was opened is not missing
 pub not_missing : (content : Content) (source : Option (List ℕ)) → HasOpened content source → content ≢ Missing
@@ -32,10 +32,17 @@ pub read_so_far : (schema : Declared) (queries : List Query) (most_bytes : ℕ) 
     AreEventsRead schema queries most_bytes lines (Some rest) events
 read_so_far schema queries most_bytes lines rest left events read same = let P : Option (List ℕ) → Type 0 = λ l. AreEventsRead schema queries most_bytes lines l events in subst P same read
 
--- what a source that failed has left is the last part of the file
-pub rest_of : (schema : Declared) (queries : List Query) (most_bytes : ℕ) (content : Content) (source left : Option (List ℕ)) → HasOpened content source →
-    ((lines : List ℕ) → source ≡ Some lines → (events : List Event) × AreEventsRead schema queries most_bytes lines left events) → IsRestOf content left
-rest_of schema queries most_bytes Untold source left opened read = tt
-rest_of schema queries most_bytes Missing source left opened read = opened
-rest_of schema queries most_bytes (Holds lines) source None opened read = (read lines opened).1
-rest_of schema queries most_bytes (Holds lines) source (Some rest) opened read = let r = (read lines opened).1 in (r.cut.taken, r.cut.whole)
+-- what is left behind the lines that were read
+pub left_behind : (earlier : List Event) (schema : Declared) (queries : List Query) (most_bytes : ℕ) (left : Option (List ℕ)) (lines : List ℕ) (events : List Event) → AreEventsReadAfter earlier schema queries most_bytes lines left events → IsRest (Some lines) left
+left_behind earlier schema queries most_bytes None lines events read = read
+left_behind earlier schema queries most_bytes (Some rest) lines events read = (read.cut.taken, read.cut.whole)
+
+pub read_behind : (schema : Declared) (queries : List Query) (most_bytes : ℕ) (left : Option (List ℕ)) (lines : List ℕ) (events : List Event) → AreEventsRead schema queries most_bytes lines left events → IsRest (Some lines) left
+read_behind schema queries most_bytes None lines events read = read
+read_behind schema queries most_bytes (Some rest) lines events read = left_behind [] schema queries most_bytes (Some rest) lines events read
+
+-- what a source that failed has left is the last part of the file, where it is that of bytes which are told
+pub rest_of : (content : Content) (source left : Option (List ℕ)) → HasOpened content source → ((lines : List ℕ) → source ≡ Some lines → IsRest (Some lines) left) → IsRestOf content left
+rest_of Untold source left opened last = tt
+rest_of Missing source left opened last = opened
+rest_of (Holds lines) source left opened last = last lines opened

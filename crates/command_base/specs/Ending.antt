@@ -34,6 +34,18 @@ pub record Outside : Type 0 where
   pub before : Option (List ℕ)
   pub after : Option (List ℕ)
 
+-- those of a host and an output, by what the two tell of themselves
+abbrev pub outside : {H K : Type 0} → (H → List ℕ → Content) → (H → List ℕ → ℕ) → (K → ℕ) → (K → Option (List ℕ)) → H → H → K → K → Outside
+outside content faults writes taken host_old host_new out_old out_new = record {
+  content = content host_old;
+  old = faults host_old;
+  new = faults host_new;
+  out_old = writes out_old;
+  out_new = writes out_new;
+  before = taken out_old;
+  after = taken out_new;
+}
+
 -- The source's count rose from 0 to after, and it has left the last part of what there was.
 pub record FailedWith {S : Type 0} (sources : Sources S) (whole : Content) (after : ℕ) (source : S) : Type 0 where
   pub told : sources.faults source ≡ after

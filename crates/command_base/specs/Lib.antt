@@ -8,5 +8,7 @@ pub mod Opening
 pub mod Output
 pub mod StepCounts
 pub mod Leaving
+pub mod Answering
+pub mod Reporting
 pub mod Notes
 pub mod Ending

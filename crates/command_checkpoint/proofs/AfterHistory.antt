@@ -1,5 +1,5 @@
 -- What the answers over a source after a history are of the host's three files, and how the run ends.
-use Rattle.std.proofs.Common.{◌≡◌, ℕ, inl, inr, List, Option, Some, None, Ok, refl, sym, subst}
+use Rattle.std.proofs.Common.{◌≡◌, ℕ, inl, inr, List, Option, Ok, refl, sym, subst}
 use Rattle.cer_outside.specs.Causes.{AllStay}
 use Rattle.cer_outside.specs.Content.{Content, Untold, Missing, Holds, HasOpened, OfOpened}
 use Rattle.cer_outside.specs.Bytes.{TookPart}
@@ -16,11 +16,11 @@ use Rattle.stream_answers.specs.Streams.{WroteOverAfter, WroteAllAfter, WrotePar
 use Rattle.command_words.specs.declared.ResumeWords.{ResumeWords}
 use Rattle.command_base.specs.declared.Cause.{Cause}
 use Rattle.command_base.specs.Accepted.{Accepts}
-use Rattle.command_base.specs.SourceBytes.{told_of, IsRestOf}
+use Rattle.command_base.specs.SourceBytes.{told_of}
 use Rattle.command_base.specs.Tasks.{IsTakenUp}
 use Rattle.command_base.specs.Sources.{Sources}
 use Rattle.command_base.specs.Ending.{Outside, FileStop, TaskEnded}
-use Rattle.command_base.proofs.Told.{not_missing, text_not_missing, source_told, text_told}
+use Rattle.command_base.proofs.Told.{not_missing, text_not_missing, source_told, text_told, left_behind, rest_of}
 use Rattle.command_base.proofs.Lawful.{takes_accepted}
 use Rattle.command_base.proofs.Ends.{Meets, opened_three, file_ended}
 use Rattle.command_checkpoint.specs.Resumed.{AfterEach, resumed_said}
@@ -94,14 +94,6 @@ Read r left before after schema queries earlier source =
 abbrev Part : ResumeWords → (List ℕ → Type 0) → Declared → List Query → List Event → Option (List ℕ) → Type 0
 Part r Took schema queries earlier source = WrotePartOfAfter earlier (resume_asked_of r schema queries) source Took
 
--- what a source that failed has left is the last part of the file
-rest_after : (earlier : List Event) (schema : Declared) (queries : List Query) (most_bytes : ℕ) (content : Content) (source left : Option (List ℕ)) (events : List Event) → HasOpened content source →
-    ((lines : List ℕ) → source ≡ Some lines → AreEventsReadAfter earlier schema queries most_bytes lines left events) → IsRestOf content left
-rest_after earlier schema queries most_bytes Untold source left events opened read = tt
-rest_after earlier schema queries most_bytes Missing source left events opened read = opened
-rest_after earlier schema queries most_bytes (Holds lines) source None events opened read = read lines opened
-rest_after earlier schema queries most_bytes (Holds lines) source (Some rest) events opened read = let r = read lines opened in (r.cut.taken, r.cut.whole)
-
 -- what is said over its source is what the run makes of its files
 resume_meets : (o : Outside) (r : ResumeWords) (schema : Declared) (queries : List Query) (history : History) (source : Option (List ℕ)) → OfOpened (o.content r.queries) (λ text. Accepts text schema queries) → OfOpened (o.content r.checkpoint) (Tells schema queries history) →
     IsHistory schema queries history → HasOpened (o.content r.events) source → Meets o (resume_task r) (resumed_said history (resume_asked_of r schema queries) source o.before o.after)
@@ -117,7 +109,7 @@ resume_meets o r schema queries history source accepted told is opened = record 
         stops = (history, tells, λ earlier at. let these = all earlier at in (these.events, these.are lines (source_told (o.content r.events) source lines opened third)));
       };
   wrote = λ halt all. over_history o.content r schema queries history source (All r halt o.before o.after) accepted told opened all;
-  rest = λ left read. let over = read (stream_for schema history) (is_stream schema queries history is) in rest_after (stream_for schema history) schema queries r.most_bytes (o.content r.events) source left over.events opened over.are;
+  rest = λ left read. let over = read (stream_for schema history) (is_stream schema queries history is) in rest_of (o.content r.events) source left opened (λ lines at. left_behind (stream_for schema history) schema queries r.most_bytes left lines over.events (over.are lines at));
   read = λ left read. over_history o.content r schema queries history source (Read r left o.before o.after) accepted told opened read;
   part = λ part. over_history o.content r schema queries history source (Part r (TookPart o.before o.after)) accepted told opened part;
   some = λ some. inr (over_history o.content r schema queries history source (Part r (TookPrefix o.before o.after)) accepted told opened some);

@@ -1,4 +1,4 @@
--- What holds of a command that saves, and of a run that goes on from a checkpoint, as tasks. For `core_top`.
+-- What holds of a run that goes on from a checkpoint as a task. For `core_top`.
 use Rattle.std.proofs.Common.{◌≡◌, ℕ, inl, inr, List, map, Option, Ok, sym, ◌∙◌, subst}
 use Rattle.cer_outside.specs.Content.{Content}
 use Rattle.answer_blocks.specs.SinkBytes.{TookPrefix}
@@ -7,28 +7,16 @@ use Rattle.stream_schema.specs.declared.Event.{Event as StreamEvent}
 use Rattle.cel_terms.specs.declared.Query.{Query}
 use Rattle.ceql_parser.specs.QueryTrees.{query_tree}
 use Rattle.event_run.specs.Runs.{RunStop, Event, InputTooLong, RunsAfter}
-use Rattle.event_run.proofs.ForCallers.{one_run_of_trees}
 use Rattle.checkpoint_text.specs.declared.history.History.{History}
 use Rattle.stream_answers.proofs.Portions.{prefix_of_all}
-use Rattle.command_words.specs.declared.SaveWords.{SaveWords}
 use Rattle.command_words.specs.declared.ResumeWords.{ResumeWords}
 use Rattle.command_base.proofs.Lawful.{IsLawful}
 use Rattle.command_base.proofs.SameCheckpoint.{checkpoint_alike}
 use Rattle.command_base.proofs.StepClauses.{Forgets}
-use Rattle.command_checkpoint.specs.declared.saving.TheConstants.{MOST_BYTES}
 use Rattle.command_checkpoint.specs.Resumed.{AfterEach}
-use Rattle.command_checkpoint.specs.Saving.{save_task}
 use Rattle.command_checkpoint.specs.GoingOn.{WroteAllResumed, WrotePartResumed, resume_task}
 use Rattle.command_checkpoint.specs.StepCounts.{resume_steps}
 use Rattle.command_checkpoint.proofs.OneStream.{one_stop_after}
-
-pub save_is_lawful : (s : SaveWords) → IsLawful (save_task s)
-save_is_lawful s = record {
-  one = λ schema p q kept lines halt other same one two. (one_run_of_trees schema p q MOST_BYTES lines one.0 two.0 halt other same one.1 two.1).1;
-  refused = λ content before after line fault none. none;
-  too_long = λ content before after taken none. none;
-  nothing = λ content before after none. none;
-}
 
 -- all answers are a first part of them
 some_part : (content : List ℕ → Content) (r : ResumeWords) (halt : RunStop) (before after : Option (List ℕ)) → WroteAllResumed content r halt before after → WrotePartResumed content r (TookPrefix before after)

@@ -9,8 +9,6 @@ mod Resuming
 mod Level
 -- a run over two files, and one that goes on from what was saved of the first
 mod TwoRuns
--- what the checkpoint of a source's events is of the files
-mod SavedFiles
 -- a stream of a history, and that the events after one stop in one way
 mod OneStream
 -- how a run ends that finds no history
@@ -19,5 +17,5 @@ mod HistoryEnds
 mod AfterHistory
 -- the steps, and the engine that is left
 mod ThreeFiles
--- what is said of the ends of both commands follows from them; for `core_top`
+-- what is said of the end of a run that goes on follows from them; for `core_top`
 pub mod Lawful

@@ -3,18 +3,17 @@ use Rattle.std.proofs.Common.{◌≡◌, ℕ, List, Option, Some, None, Ok, sym,
 use Rattle.std.proofs.Math.Path.{fun_ext}
 use Rattle.stream_schema.specs.Types.{Declared}
 use Rattle.cel_terms.specs.declared.Query.{Query}
-use Rattle.cer_outside.specs.Content.{Content, Holds, HasOpened, OfOpened}
+use Rattle.cer_outside.specs.Content.{Content, Holds, OfOpened}
 use Rattle.query_engine.specs.Engine.{EngineState, SameQueries, peak_of}
 use Rattle.checkpoint_text.specs.declared.history.History.{History}
 use Rattle.checkpoint_text.specs.Checkpoints.{checkpoint_of}
-use Rattle.stream_answers.specs.Streams.{RunRequest}
 use Rattle.command_words.specs.declared.ResumeWords.{ResumeWords}
 use Rattle.command_base.specs.declared.Cause.{Cause}
 use Rattle.command_base.specs.declared.Cause.TheVariants as cause
 use Rattle.command_base.specs.Accepted.{Accepts}
 use Rattle.command_base.specs.Leaving.{IsLeftBy}
 use Rattle.command_base.specs.StepCounts.{StepsBy, counts_where}
-use Rattle.command_base.proofs.Told.{source_told, text_told}
+use Rattle.command_base.proofs.Told.{text_told}
 use Rattle.command_base.proofs.Ends.{left_by_end}
 use Rattle.command_base.proofs.StepClauses.{steps_map}
 use Rattle.command_checkpoint.specs.Resumed.{StandsForResumed}
@@ -46,11 +45,6 @@ steps_of_three content lines_of r schema queries history given before after old 
       told = text_told (content r.checkpoint) kept (Tells schema queries history) second told;
       says = at lines (same ∙ third);
     }) given before after old now h
-
--- the engine over a source that was opened, and so over the file
-pub resumed_left_of_source : (every : Option ℕ) (peaks : ℕ → ℕ) (content : Content) (source : Option (List ℕ)) (history : History) (a : RunRequest) (engine : EngineState) → HasOpened content source →
-    ((bytes : List ℕ) → source ≡ Some bytes → StandsForResumed every peaks history a bytes engine) → (bytes : List ℕ) → content ≡ Holds bytes → StandsForResumed every peaks history a bytes engine
-resumed_left_of_source every peaks content source history a engine opened stands bytes told = stands bytes (source_told content source bytes opened told)
 
 -- over all three files; an engine that is new had no peak
 stands_for_three : (content : List ℕ → Content) (lines_of : Content) (r : ResumeWords) (history : History) (old engine : EngineState) → lines_of ≡ content r.events → OfOpened (content r.queries) (λ text. Accepts text old.schema old.queries) →

@@ -19,4 +19,4 @@ mod saving;
 pub use resume_command::resume;
 pub use resumed::resume_answers;
 pub use save_command::save;
-pub use saving::{MOST_BYTES, save_events};
+pub use saving::save_events;

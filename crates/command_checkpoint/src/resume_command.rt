@@ -8,9 +8,10 @@ ghost use Rattle.cer_outside.specs.Content.{Holds, OfOpened};
 ghost use Rattle.stream_schema.specs.Events.{IsOfSchema};
 ghost use Rattle.query_engine.specs.Engine.{StandsFor, SameQueries, count_of, peak_of};
 ghost use Rattle.stream_answers.specs.Streams.{asked_by};
+ghost use Rattle.checkpoint_text.specs.declared.numbers.TheConstants as most;
 ghost use Rattle.checkpoint_text.specs.Checkpoints.{checkpoint_of};
 ghost use Rattle.checkpoint_text.specs.Spelling.{IsHistory};
-ghost use Rattle.command_base.specs.Ending.{TaskEnded, FileStop, NotRead, IsAskedFor};
+ghost use Rattle.command_base.specs.Ending.{outside, TaskEnded, FileStop, NotRead, IsAskedFor};
 ghost use Rattle.command_base.specs.StepCounts.{StepsBy, counts_where};
 ghost use Rattle.command_base.specs.Leaving.{IsLeftBy};
 ghost use Rattle.command_checkpoint.specs.Resumed.{resumed_said, StandsForResumed};
@@ -43,17 +44,9 @@ pub fn resume<H: Host, K: Sink, L: Ledger>(
     out: &mut K,
     steps: &mut Steps<L>,
 ) -> Stop<H::Src>
-    requires { words.now.most_bytes ≤ 4611686018427387904 }
+    requires { words.now.most_bytes ≤ most.MOST_POSITIONS }
     ensures ended { TaskEnded (record { faults = H.Src.faults; left = H.Src.left }) H.opens
-        (record {
-          content = H.content host.old;
-          old = H.faults host.old;
-          new = H.faults host.new;
-          out_old = K.faults out.old;
-          out_new = K.faults out.new;
-          before = K.taken out.old;
-          after = K.taken out.new;
-        })
+        (outside H.content H.faults K.faults K.taken host.old host.new out.old out.new)
         (resume_task words.now) host.old host.new result.cause result.failed }
     ensures steps { StepsBy result.cause (resume_steps words.now (H.content host.old))
         (K.taken out.old) (K.taken out.new) steps.old steps.new }
@@ -174,20 +167,12 @@ fn resume_file<H: Host, K: Sink, L: Ledger>(
     requires history { IsHistory engine.old.schema engine.old.queries history.now }
     requires of_schema { AllByRecursion (λ e. IsOfSchema engine.old.schema e.event)
         history.now.events }
-    requires room { options.most_bytes ≤ 4611686018427387904 }
+    requires room { options.most_bytes ≤ most.MOST_POSITIONS }
     ensures stop { FileStop (record { faults = H.Src.faults; left = H.Src.left })
         (λ source. resumed_said history.now (asked_by options engine.old) source
         (K.taken out.old) (K.taken out.new))
         events.now
-        (record {
-          content = H.content host.old;
-          old = H.faults host.old;
-          new = H.faults host.new;
-          out_old = K.faults out.old;
-          out_new = K.faults out.new;
-          before = K.taken out.old;
-          after = K.taken out.new;
-        })
+        (outside H.content H.faults K.faults K.taken host.old host.new out.old out.new)
         result.cause result.failed }
     ensures steps { StepsBy result.cause
         (counts_where (λ bytes. H.content host.old events.now ≡ Holds bytes)

@@ -2,14 +2,14 @@
 
 ghost use Rattle.std.specs.Prelude.{◌≡◌, ℕ, List, All, None};
 ghost use Rattle.cel_terms.specs.Checked.{IsChecked};
-ghost use Rattle.command_base.specs.Ending.{TaskEnded, FileStop, IsAskedFor};
+ghost use Rattle.command_base.specs.Ending.{outside, TaskEnded, FileStop, IsAskedFor};
 ghost use Rattle.command_checkpoint.specs.Saved.{saved_said};
 ghost use Rattle.command_checkpoint.specs.Saving.{save_asked, save_task};
 
-use crate::saving::{MOST_BYTES, save_events};
+use crate::saving::save_events;
 use ceql_parser::Accepted;
 use cer_outside::{Host, Sink, Source};
-use command_base::{File, Stop, open, read_accepted, stop_of};
+use command_base::{File, MOST_BYTES, Stop, open, read_accepted, stop_of};
 use command_words::SaveWords;
 use std::alloc::Global;
 
@@ -21,15 +21,7 @@ pub fn save<H: Host, K: Sink>(
     out: &mut K,
 ) -> Stop<H::Src>
     ensures ended { TaskEnded (record { faults = H.Src.faults; left = H.Src.left }) H.opens
-        (record {
-          content = H.content host.old;
-          old = H.faults host.old;
-          new = H.faults host.new;
-          out_old = K.faults out.old;
-          out_new = K.faults out.new;
-          before = K.taken out.old;
-          after = K.taken out.new;
-        })
+        (outside H.content H.faults K.faults K.taken host.old host.new out.old out.new)
         (save_task words.now) host.old host.new result.cause result.failed }
     ensures none_left { result.left ≡ None }
     ensures kept { (any : List ℕ) → H.content host.new any ≡ H.content host.old any }
@@ -55,15 +47,7 @@ fn save_file<H: Host, K: Sink>(
         (λ source. saved_said (save_asked accepted.now.schema accepted.now.queries) source
         (K.taken out.old) (K.taken out.new))
         events.now
-        (record {
-          content = H.content host.old;
-          old = H.faults host.old;
-          new = H.faults host.new;
-          out_old = K.faults out.old;
-          out_new = K.faults out.new;
-          before = K.taken out.old;
-          after = K.taken out.new;
-        })
+        (outside H.content H.faults K.faults K.taken host.old host.new out.old out.new)
         result.cause result.failed }
     ensures none_left { result.left ≡ None }
     ensures asked { IsAskedFor H.opens H.content events.now host.old host.new }

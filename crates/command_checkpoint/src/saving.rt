@@ -22,9 +22,6 @@ use std::alloc::Global;
 use stream_answers::{StreamFault, stream_fault};
 use stream_schema::{Event, Schema};
 
-/// So many bytes of events are too many for the command that saves them.
-pub const MOST_BYTES: u64 = 1_099_511_627_776;
-
 /// Reads all events of the source, of which `most_bytes` bytes are too many, and writes a checkpoint:
 /// how many events came, and those that the windows of the queries still need, each with its
 /// position and its line.

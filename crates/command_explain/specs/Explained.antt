@@ -1,41 +1,20 @@
 -- What an explanation makes of its query file and its event file.
-use Rattle.std.specs.Prelude.{◌≡◌, ◌≢◌, ℕ, true, List, None}
-use Rattle.cer_outside.specs.Content.{Content, Missing, Holds}
+use Rattle.std.specs.Prelude.{List}
 use Rattle.stream_schema.specs.Types.{Declared}
-use Rattle.stream_schema.specs.declared.Event.{Event}
 use Rattle.cel_terms.specs.declared.Query.{Query}
-use Rattle.event_run.specs.Runs.{End, RunsTo}
-use Rattle.command_words.specs.declared.Question.{Question}
 use Rattle.command_words.specs.declared.ExplainWords.{ExplainWords}
-use Rattle.command_base.specs.Accepted.{Accepts}
-use Rattle.command_base.specs.ReadLines.{whole_said}
+use Rattle.command_base.specs.Reporting.{Reporting, reporting_task}
 use Rattle.command_base.specs.Tasks.{Task}
-use Rattle.command_explain.specs.declared.written.TheConstants.{MOST_BYTES}
-use Rattle.command_explain.specs.Explanations.{IsExplanation}
+use Rattle.command_explain.specs.ExplanationOutput.{ExplainRequest, IsExplanationOf}
 
--- The bytes are the explanation that is asked for, over all events of the file.
-pub record IsExplained (text lines : List ℕ) (question : Question) (bytes : List ℕ) : Type 0 where
-  pub schema : Declared
-  pub queries : List Query
-  pub events : List Event
-  pub accepted : Accepts text schema queries
-  pub runs : RunsTo schema queries MOST_BYTES lines events End
-  pub explanation : IsExplanation schema queries events question bytes
+-- what is asked of the events
+abbrev pub asked_of : ExplainWords → Declared → List Query → ExplainRequest
+asked_of x schema queries = record { schema = schema; queries = queries; question = x.question }
 
--- The host lacks neither file, and where it tells their bytes, these are the explanation over them.
-pub record AreFileExplanation (content : List ℕ → Content) (x : ExplainWords) (bytes : List ℕ) : Type 0 where
-  pub has_queries : content x.queries ≢ Missing
-  pub has_events : content x.events ≢ Missing
-  pub explained : (text lines : List ℕ) → content x.queries ≡ Holds text → content x.events ≡ Holds lines → IsExplained text lines x.question bytes
+-- it writes the explanation that is asked for, over all events of the file
+abbrev pub report_of : ExplainWords → Reporting
+report_of x = record { queries = x.queries; events = x.events; reports = λ schema queries lines bytes. IsExplanationOf (asked_of x schema queries) lines bytes }
 
 -- what an explanation is to the program
 abbrev pub explain_task : ExplainWords → Task
-explain_task x = record {
-  queries = x.queries;
-  checkpoint = None;
-  events = x.events;
-  clock = None;
-  fits = λ schema. true;
-  stops = λ schema queries kept lines halt. (events : List Event) × RunsTo schema queries MOST_BYTES lines events halt;
-  said = λ content. whole_said content x.queries x.events MOST_BYTES (AreFileExplanation content x);
-}
+explain_task x = reporting_task (report_of x)

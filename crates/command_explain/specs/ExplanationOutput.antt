@@ -9,7 +9,7 @@ use Rattle.event_run.specs.Runs as stop
 use Rattle.stream_answers.specs.declared.StreamFault.{StreamFault}
 use Rattle.stream_answers.specs.AtEnd.{text_said}
 use Rattle.stream_answers.specs.RunEnds.{EndClaims, ByEnd}
-use Rattle.command_explain.specs.declared.written.TheConstants.{MOST_BYTES}
+use Rattle.command_base.specs.declared.files.TheConstants.{MOST_BYTES}
 use Rattle.command_words.specs.declared.Question.{Question}
 use Rattle.command_explain.specs.Explanations.{IsExplanation}
 
@@ -19,10 +19,13 @@ pub record ExplainRequest : Type 0 where
   pub queries : List Query
   pub question : Question
 
--- The bytes are the explanation over all events of a source that is read to its end.
+-- the bytes are the explanation over all events of a file of these bytes
+abbrev pub IsExplanationOf : ExplainRequest → List ℕ → List ℕ → Type 0
+IsExplanationOf a lines bytes = (events : List StreamEvent) × RunsTo a.schema a.queries MOST_BYTES lines events stop.End × IsExplanation a.schema a.queries events a.question bytes
+
+-- and of a source
 abbrev pub IsExplanationOver : ExplainRequest → Option (List ℕ) → List ℕ → Type 0
-IsExplanationOver a source bytes = (lines : List ℕ) → source ≡ Some lines →
-    (events : List StreamEvent) × RunsTo a.schema a.queries MOST_BYTES lines events stop.End × IsExplanation a.schema a.queries events a.question bytes
+IsExplanationOver a source bytes = (lines : List ℕ) → source ≡ Some lines → IsExplanationOf a lines bytes
 
 -- all of the explanation, or a proper part of it after a fault of the sink; else nothing
 abbrev pub explained_said : ExplainRequest → Option (List ℕ) → Option (List ℕ) → Option (List ℕ) → EndClaims

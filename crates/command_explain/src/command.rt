@@ -1,7 +1,7 @@
 //! The order of work of an explanation: the query file, the event file, what explains the answer.
 
 ghost use Rattle.std.specs.Prelude.{◌≡◌, ℕ, List, None};
-ghost use Rattle.command_base.specs.Ending.{TaskEnded, FileStop, IsAskedFor};
+ghost use Rattle.command_base.specs.Ending.{outside, TaskEnded, FileStop, IsAskedFor};
 ghost use Rattle.command_explain.specs.ExplanationOutput.{explained_said};
 ghost use Rattle.command_explain.specs.Explained.{explain_task};
 
@@ -20,15 +20,7 @@ pub fn explain<H: Host, K: Sink>(
     out: &mut K,
 ) -> Stop<H::Src>
     ensures ended { TaskEnded (record { faults = H.Src.faults; left = H.Src.left }) H.opens
-        (record {
-          content = H.content host.old;
-          old = H.faults host.old;
-          new = H.faults host.new;
-          out_old = K.faults out.old;
-          out_new = K.faults out.new;
-          before = K.taken out.old;
-          after = K.taken out.new;
-        })
+        (outside H.content H.faults K.faults K.taken host.old host.new out.old out.new)
         (explain_task words.now) host.old host.new result.cause result.failed }
     ensures none_left { result.left ≡ None }
     ensures kept { (any : List ℕ) → H.content host.new any ≡ H.content host.old any }
@@ -57,15 +49,7 @@ fn explain_file<H: Host, K: Sink>(
           question = question.now;
         }) source (K.taken out.old) (K.taken out.new))
         events.now
-        (record {
-          content = H.content host.old;
-          old = H.faults host.old;
-          new = H.faults host.new;
-          out_old = K.faults out.old;
-          out_new = K.faults out.new;
-          before = K.taken out.old;
-          after = K.taken out.new;
-        })
+        (outside H.content H.faults K.faults K.taken host.old host.new out.old out.new)
         result.cause result.failed }
     ensures none_left { result.left ≡ None }
     ensures asked { IsAskedFor H.opens H.content events.now host.old host.new }

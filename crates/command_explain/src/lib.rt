@@ -14,4 +14,4 @@ mod explanation;
 mod written;
 
 pub use command::explain;
-pub use written::{MOST_BYTES, write_explanation};
+pub use written::write_explanation;

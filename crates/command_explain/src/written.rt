@@ -8,14 +8,12 @@ use cel_terms::Query;
 use cer_base::{Memory, OrMemory};
 use cer_outside::writing::put_all;
 use cer_outside::{Sink, Source, WriteFault};
+use command_base::MOST_BYTES;
 use command_words::Question;
 use event_run::read_events;
 use std::alloc::Global;
 use stream_answers::{StreamFault, stream_fault};
 use stream_schema::Schema;
-
-/// So many bytes of events are too many.
-pub const MOST_BYTES: u64 = 1_099_511_627_776;
 
 /// Reads all events of the source and writes what explains the complex event: the line of the
 /// answer and a line for each name with its positions, or `none` where the query has no such answer.

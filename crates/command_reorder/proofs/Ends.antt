@@ -1,5 +1,5 @@
 -- How a late feed ends.
-use Rattle.std.proofs.Common.{◌≡◌, ℕ, ◌+◌, true, false, cond, inl, inr, List, [], ◌∷◌, ◌++◌, Option, Some, None, Result, Ok, Err, OnOk, refl, sym, ◌∙◌, ap, subst, append_assoc, append-nil}
+use Rattle.std.proofs.Common.{◌≡◌, ℕ, ◌+◌, true, false, cond, inl, inr, List, [], ◌∷◌, ◌++◌, Option, Some, None, Result, Ok, Err, OnOk, refl, sym, ◌∙◌, ap, subst, arith, append_assoc, append-nil}
 use Rattle.cer_base.specs.declared.OrMemory.{OrMemory}
 use Rattle.cer_base.specs.declared.OrMemory.TheVariants.{Fault, Memory}
 use Rattle.cer_outside.specs.Bytes.{TookAll, TookPart}
@@ -21,7 +21,8 @@ use Rattle.stream_answers.specs.Gathering.{OutputState, PassesOn, Finished}
 use Rattle.stream_answers.specs.Schedules.{Plan, saved_by, IsOnTime, KeepsUp}
 use Rattle.stream_answers.specs.Steps.{AreBounded}
 use Rattle.stream_answers.specs.Streams.{WroteOver}
-use Rattle.stream_answers.proofs.Totals.{none_taken, walk_or_sorted}
+use Rattle.stream_answers.proofs.RunEnds as run
+use Rattle.stream_answers.proofs.Totals.{counts_held, counts_stopped, steps_end, walk_or_sorted}
 use Rattle.stream_answers.proofs.Growing.{with_none, keeps_up}
 use Rattle.stream_answers.proofs.Windows.{windows_behind}
 use Rattle.stream_answers.proofs.Portions.{took_none, took_both, took_then_part, part_of_more, prefix_of_more, prefix_of_all}
@@ -31,7 +32,7 @@ use Rattle.command_reorder.specs.LateSteps.{LateCountsAll, LateCounts, LateSteps
 use Rattle.command_reorder.specs.LateProgress.{from_first, IsGateOf, HasFedOf, AreFedRead, Feeds, AfterPut, GoFirst, Counting, LateProgress, Unwritten, Ended, Closed, is_write_fault, AfterRelease, Running, IsFresh}
 use Rattle.command_reorder.proofs.FedLines.{first_open, first_closed}
 use Rattle.command_reorder.proofs.Takings.{takes_end}
-use Rattle.command_reorder.proofs.Counts.{counted_so, counts_whole, counts_stopped, counts_held}
+use Rattle.command_reorder.proofs.Counts.{counted_so, counts_whole}
 use Rattle.command_reorder.proofs.Flows.{part_of_late, begins_at, flow_begins, whole}
 
 -- what a source that failed was read of
@@ -104,53 +105,25 @@ module _ (every : Option ℕ) (peaks : ℕ → ℕ) where
   -- What was held is written, or a write failed: then a part of the answers over the whole file was.
   closing : {T : Type 0} (a : LateRequest) (source left before middle after : Option (List ℕ)) (buffer : List ℕ) (old new first now : ℕ) (Are : List ℕ → List StreamEvent → Type 0) (end result : Result T (OrMemory StreamFault)) →
       Unwritten every a source before middle buffer [] first now Are → Finished middle after old new buffer end result → (WroteOver (asked a) source Are before after → WroteLate a source left before after end) → WroteLate a source left before after result
-  closing {T} a source left before middle after buffer old new first now Are end result u finished well =
-      let P : Result T (OrMemory StreamFault) → Type 0 = λ r. WroteLate a source left before after r in
+  closing a source left before middle after buffer old new first now Are end result u finished well =
       let O : List ℕ → Type 0 = λ h. IsOutput a.order a.schema a.queries u.events (u.written ++ h) in
       let output : O buffer = subst O (append-nil buffer) u.output in
-      elim finished.way [
-        | inl fine ↦ subst P (sym fine.0) (well (record { events = u.events; bytes = u.written ++ buffer; output = output; took = took_both before middle after u.written buffer u.took fine.1; are = u.are }))
-        | inr failed ↦
-            let part = took_then_part before middle after u.written buffer u.took failed.1 in
-            subst P (sym failed.0) (part_of_late a source u.events (u.written ++ buffer) (TookPart before after) output u.begins (λ rest p. part_of_more before after (u.written ++ buffer) rest p) part)
-      ]
-
-  -- the same where memory ran out
-  closing_short : {T : Type 0} (a : LateRequest) (source left before middle after : Option (List ℕ)) (buffer rest : List ℕ) (old new first now : ℕ) (Are : List ℕ → List StreamEvent → Type 0) (result : Result T (OrMemory StreamFault)) →
-      Unwritten every a source before middle buffer rest first now Are → Finished middle after old new buffer (Err Memory) result → WroteLate a source left before after result
-  closing_short {T} a source left before middle after buffer rest old new first now Are result u finished =
-      let P : Result T (OrMemory StreamFault) → Type 0 = λ r. WroteLate a source left before after r in
-      let O : List ℕ → Type 0 = IsOutput a.order a.schema a.queries u.events in
-      let output : O ((u.written ++ buffer) ++ rest) = subst O (sym (append_assoc u.written buffer rest)) u.output in
-      elim finished.way [
-        | inl fine ↦
-            let all = prefix_of_all before after (u.written ++ buffer) (took_both before middle after u.written buffer u.took fine.1) in
-            subst P (sym fine.0) (part_of_late a source u.events ((u.written ++ buffer) ++ rest) (TookPrefix before after) output u.begins (λ more p. prefix_of_more before after ((u.written ++ buffer) ++ rest) more p) (prefix_of_more before after (u.written ++ buffer) rest all))
-        | inr failed ↦
-            let part = took_then_part before middle after u.written buffer u.took failed.1 in
-            subst P (sym failed.0) (part_of_late a source u.events ((u.written ++ buffer) ++ rest) (TookPart before after) output u.begins (λ more p. part_of_more before after ((u.written ++ buffer) ++ rest) more p) (part_of_more before after (u.written ++ buffer) rest part))
-      ]
+      run.closes (RunsLate a) (AreReleasedRead a) 0 (asked a) source left before middle after buffer u.written old new u.events end result u.took (omega arith) output u.begins finished
+      (λ all. well (record { events = u.events; bytes = u.written ++ buffer; output = output; took = all; are = u.are }))
 
   -- The steps of a feed whose lines were gathered: a write that fails at its end fails in sorted order alone.
   closing_steps : {T : Type 0} (a : LateRequest) (source before middle after : Option (List ℕ)) (buffer rest : List ℕ) (old new first now : ℕ) (Are : List ℕ → List StreamEvent → Type 0) (end result : Result T (OrMemory StreamFault)) (bytes : List ℕ) → source ≡ Some bytes →
       Unwritten every a source before middle buffer rest first now Are → Finished middle after old new buffer end result → (buffer ≡ [] → result ≡ end) → (LateCounts every a bytes first now → TookAll middle after buffer → LateStepsOver every a bytes before after first now end) →
       LateStepsOver every a bytes before after first now result
-  closing_steps {T} a source before middle after buffer rest old new first now Are end result bytes told u finished none well =
-      let P : Result T (OrMemory StreamFault) → Type 0 = λ r. LateStepsOver every a bytes before after first now r in
+  closing_steps a source before middle after buffer rest old new first now Are end result bytes told u finished none well =
       let counts = counts_whole every a bytes u.events u.rows first now (u.begins bytes told) u.are_rows u.bounded in
-      elim finished.way [
-        | inl fine ↦ subst P (sym fine.0) (well counts fine.1)
-        | inr failed ↦ elim (walk_or_sorted (from_first every) a.order) [
-          | inl walk ↦ let empty = u.none_waits walk in subst P (sym (none empty)) (well counts (none_taken (from_first every) middle after buffer empty failed.1))
-          | inr is ↦ subst P (sym failed.0) (counts_held every a bytes before after first now is counts)
-        ]
-      ]
+      steps_end (from_first every) (RunsLate a) 0 (asked a) bytes before middle after buffer old new end result first now finished (λ walk. let empty = u.none_waits walk in (empty, none empty)) counts (λ all. well counts all)
 
   -- all was written, where nothing was left out
   stopped : (a : LateRequest) (source before middle after : Option (List ℕ)) (buffer : List ℕ) (first now : ℕ) (halt : RunStop) (bytes : List ℕ) → source ≡ Some bytes →
       Unwritten every a source before middle buffer [] first now (λ lines events. RunsLate a lines events halt) → TookAll middle after buffer → LateCountsAll every a bytes (λ h. h ≡ halt) (TookAll before after) first now
   stopped a source before middle after buffer first now halt bytes told u all =
-      counts_stopped every a bytes before after (u.written ++ buffer) u.events halt u.rows first now (u.are bytes told) u.are_rows (ap (λ (h : List ℕ). u.written ++ h) (sym (append-nil buffer)) ∙ u.lines) u.bounded (took_both before middle after u.written buffer u.took all)
+      counts_stopped (from_first every) (RunsLate a) 0 (asked a) bytes before after (u.written ++ buffer) u.events halt u.rows first now (u.are bytes told) u.are_rows (ap (λ (h : List ℕ). u.written ++ h) (sym (append-nil buffer)) ∙ u.lines) u.bounded (took_both before middle after u.written buffer u.took all)
 
   -- the engine stands as it did, where that ended well
   closing_stands : {T : Type 0} (middle after : Option (List ℕ)) (buffer : List ℕ) (old new : ℕ) (Stands : Type 0) (end result : Result T (OrMemory StreamFault)) → OnOk end Stands → Finished middle after old new buffer end result → OnOk result Stands
@@ -188,7 +161,7 @@ module _ (every : Option ℕ) (peaks : ℕ → ℕ) where
   }
   closes a source left before middle after buffer engine old new first now (Err (Fault fault.WriteFault)) result no_fault ended finished none = absurd cc
   closes a source left before middle after buffer engine old new first now (Err Memory) result no_fault ended finished none = record {
-    wrote = closing_short a source left before middle after buffer ended.0 old new first now (λ bytes events. Unit {0}) result ended.1 finished;
+    wrote = run.closes_short (RunsLate a) (AreReleasedRead a) 0 (asked a) source left before middle after buffer ended.0 ended.1.written old new ended.1.events result ended.1.took (omega arith) (subst (IsOutput a.order a.schema a.queries ended.1.events) (sym (append_assoc ended.1.written buffer ended.0)) ended.1.output) ended.1.begins finished;
     steps = λ bytes told.
         closing_steps a source before middle after buffer ended.0 old new first now (λ lines events. Unit {0}) (Err Memory) result bytes told ended.1 finished none (λ counts all. counts);
     stands = closing_stands middle after buffer old new ((bytes : List ℕ) → source ≡ Some bytes → StandsForLate every peaks a bytes engine) (Err Memory) result tt finished;
@@ -272,7 +245,7 @@ module _ (every : Option ℕ) (plan : Plan) (peaks : ℕ → ℕ) where
             let counts = counts_whole every a bytes f.events so.rows first steps (begins bytes told) so.are_rows so.bounded in
             elim (walk_or_sorted (from_first every) a.order) [
               | inl walk ↦ absurd (some (f.none_waits walk))
-              | inr is ↦ counts_held every a bytes before after first steps is counts
+              | inr is ↦ counts_held (from_first every) (RunsLate a) 0 (asked a) bytes before after first steps is counts
             ];
         stands = tt;
       }

@@ -1,5 +1,5 @@
 -- A late feed from event to event.
-use Rattle.std.proofs.Common.{◌≡◌, ℕ, ◌+◌, ◌-◌, ◌≤◌, inr, inl, List, [], ◌∷◌, ◌++◌, length, Option, Some, None, Ok, Err, refl, sym, ◌∙◌, ap, subst, append_assoc, append-nil, arith}
+use Rattle.std.proofs.Common.{◌≡◌, ℕ, ◌+◌, ◌-◌, ◌≤◌, inr, inl, List, [], ◌∷◌, ◌++◌, length, Option, Some, Ok, Err, refl, sym, ◌∙◌, ap, subst, append_assoc, append-nil, arith}
 use Rattle.cer_base.specs.declared.OrMemory.TheVariants.{Fault, Memory}
 use Rattle.cer_outside.specs.Bytes.{TookAll, TookPart}
 use Rattle.stream_schema.specs.Types.{Declared}
@@ -12,7 +12,6 @@ use Rattle.answer_text.specs.OutputRows.{Row, lines_of, AreRowsAt}
 use Rattle.answer_text.proofs.RowLists.{lines_both, blocks_of_rows, rows_of_blocks}
 use Rattle.answer_blocks.specs.RowSteps.{row_delays}
 use Rattle.answer_blocks.proofs.Blocks.{some_blocks_are}
-use Rattle.output_laws.proofs.Growth.{output_grows}
 use Rattle.output_laws.proofs.RowsGrow.{rows_grow_at_last}
 use Rattle.event_reader.specs.declared.EventFault.{EventFault}
 use Rattle.query_engine.specs.Bounds.{update_bound}
@@ -37,28 +36,21 @@ use Rattle.stream_answers.specs.Counting.{IsCompacted, StepsAtFault}
 use Rattle.stream_answers.proofs.Portions.{took_both, took_then_part, part_of_more}
 use Rattle.stream_answers.proofs.Running.{Came, output_with}
 use Rattle.stream_answers.proofs.Compacted.{compacted, pays_for}
-use Rattle.stream_answers.proofs.Totals.{bounded_on, bounded_more, bounded_wanting}
+use Rattle.stream_answers.proofs.Totals.{bounded_on, bounded_more, bounded_wanting, counts_at_fault}
 use Rattle.stream_answers.proofs.Windows.{windows_due}
+use Rattle.stream_answers.proofs.Wholes.{part_over}
 use Rattle.command_reorder.specs.Late.{NumberedEvent, LateRequest, fed, let_go, TakesOn, RunsLate}
-use Rattle.command_reorder.specs.LateOutput.{asked, AreLateAnswers, WroteLatePart}
+use Rattle.command_reorder.specs.LateOutput.{asked, WroteLatePart}
 use Rattle.command_reorder.specs.LateSteps.{LateCountsAtFault}
 use Rattle.command_reorder.specs.LateProgress.{from_first, IsGateOf, GoFirst, Counting, LateProgress, Owing, BeginsLate, Unwritten, Ended, AfterAnswer}
 use Rattle.command_reorder.proofs.Takings.{takes_then, some_takes}
-use Rattle.command_reorder.proofs.Counts.{counted_so, Pays, counts_at_fault}
+use Rattle.command_reorder.proofs.Counts.{counted_so, Pays}
 
 -- A part of the answers over the first events is one of the answers over all.
 pub part_of_late : (a : LateRequest) (source : Option (List ℕ)) (events : List StreamEvent) (bytes : List ℕ) (Took : List ℕ → Type 0) → IsOutput a.order a.schema a.queries events bytes →
     ((lines : List ℕ) → source ≡ Some lines → BeginsLate a lines events) → ((rest : List ℕ) → Took bytes → Took (bytes ++ rest)) → Took bytes → WroteLatePart a source Took
-part_of_late a None events bytes Took output begins more took = record { bytes = bytes; took = took; are = λ lines same. absurd cc }
-part_of_late a (Some lines) events bytes Took output begins more took =
-    let run = begins lines refl in
-    let grown = output_grows a.order a.schema a.queries events run.more bytes (λ end. some_blocks_are a.order a.schema 1 a.queries (events ++ run.more) end) output in
-    let P : List ℕ → Type 0 = λ l. AreLateAnswers a l (bytes ++ grown.0) in
-    record {
-      bytes = bytes ++ grown.0;
-      took = more grown.0 took;
-      are = λ other same. let is : lines ≡ other = cc in subst P is (record { events = events ++ run.more; halt = run.halt; runs = run.runs; output = grown.1 });
-    }
+part_of_late a source events bytes Took output begins more took =
+    part_over (RunsLate a) 0 (asked a) source events bytes Took (omega arith) output begins more took
 
 -- where the run over the file begins, by what goes first of it
 pub begins_at : (a : LateRequest) (bytes : List ℕ) (gone rest : List NumberedEvent) (events : List StreamEvent) → let_go a (fed a bytes).put (fed a bytes).stop ≡ gone ++ rest → TakesOn a.schema a.queries [] gone stop.End events stop.End →
@@ -66,11 +58,7 @@ pub begins_at : (a : LateRequest) (bytes : List ℕ) (gone rest : List NumberedE
 begins_at a bytes gone rest events is taken =
     let some = some_takes a.schema a.queries events rest (fed a bytes).stop in
     let P : List NumberedEvent → Type 0 = λ l. TakesOn a.schema a.queries [] l (fed a bytes).stop (events ++ some.more) some.halt in
-    record {
-      more = some.more;
-      halt = some.halt;
-      runs = subst P (sym is) (takes_then a.schema a.queries [] gone rest (fed a bytes).stop events (events ++ some.more) some.halt taken some.takes);
-    }
+    (some.more, some.halt, subst P (sym is) (takes_then a.schema a.queries [] gone rest (fed a bytes).stop events (events ++ some.more) some.halt taken some.takes))
 
 -- what was written and what is held, after one another
 in_turn : (written buffer blocks more now rest : List ℕ) → buffer ++ blocks ≡ more ++ (now ++ rest) → written ++ (buffer ++ blocks) ≡ (written ++ more) ++ (now ++ rest)
@@ -381,6 +369,7 @@ module _ (every : Option ℕ) (plan : Plan) (peaks : ℕ → ℕ) where
     part_of_late a source (t.events ++ t.next ∷ []) (t.written ++ (o.buffer ++ lines_of more)) (TookPart before after) (output_with [] (asked a) t.events t.next t.written o.buffer (lines_of more) (omega arith) t.output (came_of a (t.events ++ t.next ∷ []) more are_more))
         (taken_begins a source put g o engine before middle first seen t) (λ rest p. part_of_more before after (t.written ++ (o.buffer ++ lines_of more)) rest p) (took_then_part before middle after t.written (o.buffer ++ lines_of more) t.took part),
     λ bytes told.
-        counts_at_fault every a bytes before middle after t.written o.buffer engine t.events t.next t.counting.rows more first t.steps (saved_by every t.was plan.bases) (saved_by every engine plan.bases) seen steps (taken_begins a source put g o engine before middle first seen t bytes told)
-        t.schema t.queries t.stands t.took t.none_waits are_more t.counting.are_rows t.counting.lines t.counting.bounded t.pays t.cost (subst (λ (x : Order). StepsAtFault x middle after more (seen + cursor_bounds engine) steps) t.order cost),
+        let begun = taken_begins a source put g o engine before middle first seen t bytes told in
+        counts_at_fault (from_first every) (RunsLate a) 0 (asked a) bytes before middle after t.written o.buffer engine t.events t.next begun.0 begun.1 t.counting.rows more first t.steps (saved_by every t.was plan.bases) (saved_by every engine plan.bases) seen steps (omega arith) begun.2
+        t.schema t.queries t.stands t.took t.none_waits are_more t.counting.are_rows t.counting.lines t.counting.bounded t.cost t.pays (subst (λ (x : Order). StepsAtFault x middle after more (seen + cursor_bounds engine) steps) t.order cost),
   )

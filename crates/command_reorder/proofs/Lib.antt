@@ -15,13 +15,7 @@ pub mod ForCallers
 mod FaultCounts
 -- how a feed ends
 mod Ends
--- what the answers over a source are of the files
-mod Answered
 -- where some type lacks the clock
 mod Unfit
--- what is said of its end follows from them; for `core_top`
+-- what holds of it as a task; for `core_top`
 pub mod Lawful
--- the engine that it leaves
-mod EngineLeft
--- how the command ends
-mod CommandEnds

@@ -13,7 +13,6 @@ use Rattle.stream_answers.specs.Gathering.{OutputState}
 use Rattle.stream_answers.specs.Schedules.{Timing, Plan, saved, saved_by, first_compaction, WithNoNumber, IsOnTime}
 use Rattle.stream_answers.specs.Steps.{AreBounded}
 use Rattle.stream_answers.specs.Windows.{FollowsEvents}
-use Rattle.stream_answers.proofs.Growing.{with_none}
 use Rattle.stream_answers.proofs.Totals.{bounded_first}
 use Rattle.stream_answers.proofs.Windows.{follows_none}
 use Rattle.command_reorder.specs.Late.{LateRequest}

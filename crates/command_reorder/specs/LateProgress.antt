@@ -152,10 +152,8 @@ pub record Owing (every : Option ℕ) (plan : Plan) (peaks : ℕ → ℕ) (a : L
   pub none_waits : a.order ≡ Walk → o.buffer ≡ []
 
 -- The run over the file begins with these events.
-pub record BeginsLate (a : LateRequest) (bytes : List ℕ) (events : List StreamEvent) : Type 0 where
-  pub more : List StreamEvent
-  pub halt : RunStop
-  pub runs : RunsLate a bytes (events ++ more) halt
+abbrev pub BeginsLate : LateRequest → List ℕ → List StreamEvent → Type 0
+BeginsLate a bytes events = (more : List StreamEvent) × (halt : RunStop) × RunsLate a bytes (events ++ more) halt
 
 -- Of the answers over some events the first were written, what is held follows, and then the rest; what the source was tells of these events.
 pub record Unwritten (every : Option ℕ) (a : LateRequest) (source before after : Option (List ℕ)) (buffer rest : List ℕ) (first now : ℕ) (Are : List ℕ → List StreamEvent → Type 0) : Type 0 where

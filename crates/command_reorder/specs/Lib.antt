@@ -4,5 +4,3 @@ pub mod LateSteps
 pub mod Laws
 pub mod LateProgress
 pub mod Reordered
-pub mod StepCounts
-pub mod LeftEngine

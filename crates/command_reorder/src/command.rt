@@ -5,13 +5,11 @@ ghost use Rattle.std.specs.Prelude.{◌≡◌, ℕ, ◌⊎◌, true, List, [], N
 ghost use Rattle.cer_outside.specs.Content.{Holds};
 ghost use Rattle.query_engine.specs.Engine.{StandsFor, SameQueries, count_of, peak_of};
 ghost use Rattle.reorder_gate.specs.AttributeClock.{clock_fits};
-ghost use Rattle.command_base.specs.Ending.{TaskEnded, FileStop, IsAskedFor};
+ghost use Rattle.command_base.specs.Ending.{outside, TaskEnded, FileStop, IsAskedFor};
 ghost use Rattle.command_base.specs.Leaving.{IsLeftBy};
 ghost use Rattle.command_base.specs.StepCounts.{StepsBy, counts_where};
-ghost use Rattle.command_reorder.specs.LateOutput.{late_said, StandsForLate};
-ghost use Rattle.command_reorder.specs.Reordered.{feed_of, reorder_task};
-ghost use Rattle.command_reorder.specs.StepCounts.{reorder_counts, reorder_steps};
-ghost use Rattle.command_reorder.specs.LeftEngine.{reorder_leaves};
+ghost use Rattle.command_base.specs.Answering.{StandsForLines, answering_counts, answering_steps, answering_leaves, source_said};
+ghost use Rattle.command_reorder.specs.Reordered.{answers_of, reorder_task};
 
 use crate::late::write_late;
 use cer_base::steps::Steps;
@@ -35,19 +33,11 @@ pub fn reorder<H: Host, K: Sink, L: Ledger>(
     steps: &mut Steps<L>,
 ) -> Stop<H::Src>
     ensures ended { TaskEnded (record { faults = H.Src.faults; left = H.Src.left }) H.opens
-        (record {
-          content = H.content host.old;
-          old = H.faults host.old;
-          new = H.faults host.new;
-          out_old = K.faults out.old;
-          out_new = K.faults out.new;
-          before = K.taken out.old;
-          after = K.taken out.new;
-        })
+        (outside H.content H.faults K.faults K.taken host.old host.new out.old out.new)
         (reorder_task words.now) host.old host.new result.cause result.failed }
-    ensures steps { StepsBy result.cause (reorder_steps words.now (H.content host.old))
+    ensures steps { StepsBy result.cause (answering_steps (answers_of words.now) (H.content host.old))
         (K.taken out.old) (K.taken out.new) steps.old steps.new }
-    ensures left { IsLeftBy result.cause (reorder_leaves words.now (H.content host.old))
+    ensures left { IsLeftBy result.cause (answering_leaves (answers_of words.now) (H.content host.old))
         result.left }
     ensures kept { (any : List ℕ) → H.content host.new any ≡ H.content host.old any }
 {
@@ -88,28 +78,19 @@ fn reorder_file<H: Host, K: Sink, L: Ledger>(
     requires fresh { StandsFor engine.old [] }
     requires none { count_of engine.old ≡ 0 }
     ensures stop { FileStop (record { faults = H.Src.faults; left = H.Src.left })
-        (λ source. late_said (feed_of words.now engine.old.schema engine.old.queries) source
+        (λ source. source_said (answers_of words.now) engine.old.schema engine.old.queries source
         (K.taken out.old) (K.taken out.new))
         words.now.events
-        (record {
-          content = H.content host.old;
-          old = H.faults host.old;
-          new = H.faults host.new;
-          out_old = K.faults out.old;
-          out_new = K.faults out.new;
-          before = K.taken out.old;
-          after = K.taken out.new;
-        })
+        (outside H.content H.faults K.faults K.taken host.old host.new out.old out.new)
         result.cause result.failed }
     ensures steps { StepsBy result.cause
         (counts_where (λ bytes. H.content host.old words.now.events ≡ Holds bytes)
-        (reorder_counts words.now.compact_every (feed_of words.now engine.old.schema
-        engine.old.queries)))
+        (answering_counts (answers_of words.now) engine.old.schema engine.old.queries))
         (K.taken out.old) (K.taken out.new) steps.old steps.new }
     ensures left { result.cause ≡ Cause.Fine → (bytes : List ℕ)
         → H.content host.old words.now.events ≡ Holds bytes
-        → StandsForLate words.now.compact_every (peak_of engine.old) (feed_of words.now
-        engine.old.schema engine.old.queries) bytes engine.new }
+        → StandsForLines (answers_of words.now) engine.old.schema engine.old.queries
+        (peak_of engine.old) bytes engine.new }
     ensures none_left { result.left ≡ None }
     ensures same { SameQueries engine.old engine.new }
     ensures asked { IsAskedFor H.opens H.content words.now.events host.old host.new }

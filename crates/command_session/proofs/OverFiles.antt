@@ -1,7 +1,7 @@
 -- What the steps of a script over a source are of the host's files, and how the session ends.
 use Rattle.std.proofs.Common.{◌≡◌, ℕ, inl, inr, List, Option, Some, None, refl}
 use Rattle.cer_outside.specs.Causes.{AllStay}
-use Rattle.cer_outside.specs.Content.{Content, Untold, Missing, Holds, HasOpened, OfOpened}
+use Rattle.cer_outside.specs.Content.{Content, HasOpened, OfOpened}
 use Rattle.cer_outside.specs.Bytes.{TookAll, TookPart}
 use Rattle.answer_blocks.specs.SinkBytes.{TookPrefix}
 use Rattle.stream_schema.specs.Types.{Declared}
@@ -10,13 +10,13 @@ use Rattle.event_run.specs.Runs.{RunStop}
 use Rattle.command_words.specs.declared.SessionWords.{SessionWords}
 use Rattle.command_base.specs.declared.Cause.{Cause}
 use Rattle.command_base.specs.Accepted.{Accepts, SaysOf}
-use Rattle.command_base.specs.SourceBytes.{IsRestOf}
+use Rattle.command_base.specs.SourceBytes.{IsRest}
 use Rattle.command_base.specs.Sources.{Sources}
 use Rattle.command_base.specs.Ending.{Outside, FileStop, TaskEnded}
-use Rattle.command_base.proofs.Told.{not_missing, text_not_missing, source_told, text_told}
+use Rattle.command_base.proofs.Told.{not_missing, text_not_missing, source_told, text_told, rest_of}
 use Rattle.command_base.proofs.Lawful.{takes_accepted}
 use Rattle.command_base.proofs.Ends.{Meets, two_files_ended}
-use Rattle.command_session.specs.declared.script.TheConstants.{MOST_BYTES}
+use Rattle.command_base.specs.declared.files.TheConstants.{MOST_BYTES}
 use Rattle.command_session.specs.Scripts.{PlaysTo, BeginsPlay, WritesRead, WroteOver, play_said}
 use Rattle.command_session.specs.Played.{WroteSteps, session_task}
 use Rattle.command_session.specs.StepCounts.{script_asked}
@@ -48,13 +48,10 @@ over_files content s schema queries source Are Took accepted opened wrote = reco
   };
 }
 
--- what a source that failed has left is the last part of the file
-rest_left : (schema : Declared) (queries : List Query) (content : Content) (source left : Option (List ℕ)) (bytes : List ℕ) → HasOpened content source →
-    ((script : List ℕ) → source ≡ Some script → WritesRead schema queries MOST_BYTES script left bytes) → IsRestOf content left
-rest_left schema queries Untold source left bytes opened read = tt
-rest_left schema queries Missing source left bytes opened read = opened
-rest_left schema queries (Holds script) source None bytes opened read = read script opened
-rest_left schema queries (Holds script) source (Some rest) bytes opened read = let r = read script opened in (r.read, r.whole)
+-- what is left behind the lines that were read
+script_behind : (schema : Declared) (queries : List Query) (left : Option (List ℕ)) (script bytes : List ℕ) → WritesRead schema queries MOST_BYTES script left bytes → IsRest (Some script) left
+script_behind schema queries None script bytes read = read
+script_behind schema queries (Some rest) script bytes read = (read.read, read.whole)
 
 -- what is said over its source is what a session makes of its files
 meets : (o : Outside) (s : SessionWords) (schema : Declared) (queries : List Query) (source : Option (List ℕ)) → OfOpened (o.content s.queries) (λ text. Accepts text schema queries) → HasOpened (o.content s.script) source →
@@ -70,7 +67,7 @@ meets o s schema queries source accepted opened = record {
     stops = (all.bytes, all.are script (source_told (o.content s.script) source script opened second));
   };
   wrote = λ halt all. over_files o.content s schema queries source (Plays halt) (TookAll o.before o.after) accepted opened all;
-  rest = λ left read. rest_left schema queries (o.content s.script) source left read.bytes opened read.are;
+  rest = λ left read. rest_of (o.content s.script) source left opened (λ script told. script_behind schema queries left script read.bytes (read.are script told));
   read = λ left read. over_files o.content s schema queries source (Reads left) (TookAll o.before o.after) accepted opened read;
   part = λ part. over_files o.content s schema queries source Begins (TookPart o.before o.after) accepted opened part;
   some = λ some. inr (over_files o.content s schema queries source Begins (TookPrefix o.before o.after) accepted opened some);

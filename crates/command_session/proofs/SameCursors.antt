@@ -1,5 +1,5 @@
 -- Two models that took the same events and have cursors of the same numbers, whatever answers these have left, are such models after the same command.
-use Rattle.std.proofs.Common.{◌≡◌, ℕ, zero, suc, ◌+◌, ◌-◌, ◌==◌, ◌<◌, cond, not, nat_lt, List, [], ◌∷◌, ◌++◌, length, map, position, remove, slice_get, slice_set, Some, None, refl, sym, ◌∙◌, ap, ap₂, subst, arith}
+use Rattle.std.proofs.Common.{◌≡◌, ℕ, zero, suc, ◌+◌, ◌==◌, ◌<◌, cond, not, nat_lt, List, [], ◌∷◌, ◌++◌, length, map, position, remove, slice_get, slice_set, Some, None, refl, sym, ◌∙◌, ap, ap₂, subst, arith}
 use Rattle.std.specs.List.{position_or_len}
 use Rattle.std.proofs.lemmas.List.Quantifiers.{position-Some}
 use Rattle.stream_schema.specs.Types.{Declared}

@@ -22,6 +22,6 @@ mod session_command;
 
 pub use command::{CommandFault, ScriptCommand, command_text, read_command};
 pub use numbers::{MOST_CURSORS, MOST_PULLED};
-pub use script::{MOST_BYTES, play_script};
+pub use script::play_script;
 pub use session::{Refusal, RunFault, Session};
 pub use session_command::play;

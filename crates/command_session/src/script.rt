@@ -5,6 +5,7 @@ ghost use Rattle.cel_terms.specs.Checked.{IsChecked};
 ghost use Rattle.event_reader.specs.LineReaders.{HasGiven};
 ghost use Rattle.query_engine.specs.Engine.{count_of};
 ghost use Rattle.stream_answers.specs.RunEnds.{HasReadCause, HasWriteCause};
+ghost use Rattle.command_base.specs.declared.files.TheConstants as most;
 ghost use Rattle.command_session.specs.SessionModel.{at_first};
 ghost use Rattle.command_session.specs.Sessions.{Stands, put_by_in};
 ghost use Rattle.command_session.specs.Scripts.{WrotePlay};
@@ -17,15 +18,13 @@ use cer_base::seed::Seed;
 use cer_base::steps::Steps;
 use cer_base::{Memory, OrMemory};
 use cer_outside::{Sink, Source};
+use command_base::MOST_BYTES;
 use event_reader::{EventFault, LineFault, Lines, Next};
 use query_engine::Queries;
 use std::alloc::Global;
 use std::sync::ledger::Ledger;
 use stream_answers::StreamFault;
 use stream_schema::Schema;
-
-/// So many bytes of a script are too many.
-pub const MOST_BYTES: u64 = 1_099_511_627_776;
 
 /// Carries out the lines of the source in order, on a session that begins with no event and no open
 /// cursor, and whose engine's tables hash by the seed. The queries are checked for the schema. A
@@ -57,14 +56,14 @@ pub fn play_script<Q: Source, K: Sink, L: Ledger>(
     ensures wrote { WrotePlay (record {
       schema = schema;
       queries = queries;
-      most_bytes = MOST_BYTES;
+      most_bytes = most.MOST_BYTES;
     })
         (Q.left source.old) (Q.left source.new) (K.taken out.old) (K.taken out.new) result }
     ensures steps { (script : List ℕ) → Q.left source.old ≡ Some script
         → StepsOverPlay (record {
           schema = schema;
           queries = queries;
-          most_bytes = MOST_BYTES;
+          most_bytes = most.MOST_BYTES;
         })
         script (K.taken out.old) (K.taken out.new) steps.old steps.new result }
     ensures read_cause { HasReadCause (Q.faults source.old) (Q.faults source.new) result }

@@ -3,7 +3,7 @@
 ghost use Rattle.std.specs.Prelude.{◌≡◌, ℕ, List, All, None};
 ghost use Rattle.cer_outside.specs.Content.{Holds};
 ghost use Rattle.cel_terms.specs.Checked.{IsChecked};
-ghost use Rattle.command_base.specs.Ending.{TaskEnded, FileStop, IsAskedFor};
+ghost use Rattle.command_base.specs.Ending.{outside, TaskEnded, FileStop, IsAskedFor};
 ghost use Rattle.command_base.specs.StepCounts.{StepsBy, counts_where};
 ghost use Rattle.command_session.specs.Scripts.{play_said};
 ghost use Rattle.command_session.specs.Played.{session_task};
@@ -27,15 +27,7 @@ pub fn play<H: Host, K: Sink, L: Ledger>(
     steps: &mut Steps<L>,
 ) -> Stop<H::Src>
     ensures ended { TaskEnded (record { faults = H.Src.faults; left = H.Src.left }) H.opens
-        (record {
-          content = H.content host.old;
-          old = H.faults host.old;
-          new = H.faults host.new;
-          out_old = K.faults out.old;
-          out_new = K.faults out.new;
-          before = K.taken out.old;
-          after = K.taken out.new;
-        })
+        (outside H.content H.faults K.faults K.taken host.old host.new out.old out.new)
         (session_task words.now) host.old host.new result.cause result.failed }
     ensures steps { StepsBy result.cause (session_steps words.now (H.content host.old))
         (K.taken out.old) (K.taken out.new) steps.old steps.new }
@@ -64,15 +56,7 @@ fn play_file<H: Host, K: Sink, L: Ledger>(
         (λ source. play_said (script_asked accepted.schema accepted.queries) source
         (K.taken out.old) (K.taken out.new))
         script.now
-        (record {
-          content = H.content host.old;
-          old = H.faults host.old;
-          new = H.faults host.new;
-          out_old = K.faults out.old;
-          out_new = K.faults out.new;
-          before = K.taken out.old;
-          after = K.taken out.new;
-        })
+        (outside H.content H.faults K.faults K.taken host.old host.new out.old out.new)
         result.cause result.failed }
     ensures steps { StepsBy result.cause
         (counts_where (λ bytes. H.content host.old script.now ≡ Holds bytes)

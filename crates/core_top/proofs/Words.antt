@@ -8,11 +8,16 @@ use Rattle.command_words.proofs.ForCallers.{one_command}
 use Rattle.cer_outside.specs.Content.{Content}
 use Rattle.command_base.proofs.Lawful.{IsLawful}
 use Rattle.command_base.proofs.StepClauses.{Forgets}
-use Rattle.command_run.proofs.Lawful.{run_is_lawful, run_forgets}
-use Rattle.command_reorder.proofs.Lawful.{reorder_is_lawful, reorder_forgets}
-use Rattle.command_explain.proofs.Lawful.{explain_is_lawful}
+use Rattle.command_base.proofs.TextEnds.{reporting_is_lawful}
+use Rattle.command_base.proofs.Answering.{answering_is_lawful, answering_forgets}
+use Rattle.command_run.specs.Runs as run
+use Rattle.command_run.proofs.Lawful.{run_gives}
+use Rattle.command_reorder.specs.Reordered as late
+use Rattle.command_reorder.proofs.Lawful.{reorder_gives}
+use Rattle.command_explain.specs.Explained as explained
 use Rattle.command_session.proofs.Lawful.{session_is_lawful, session_forgets}
-use Rattle.command_checkpoint.proofs.Lawful.{save_is_lawful, resume_is_lawful, resume_forgets}
+use Rattle.command_checkpoint.specs.Saving as saved
+use Rattle.command_checkpoint.proofs.Lawful.{resume_is_lawful, resume_forgets}
 use Rattle.core_top.specs.StepCounts.{steps_of}
 use Rattle.core_top.specs.Jobs.{Job, running, reordering, explaining, playing, resuming, saving, command_of, task_of, AsksJob, AsksSample}
 
@@ -60,17 +65,17 @@ asks_something words job ask asked = ask (command_of job) asked
 
 -- each job is lawful
 pub lawful : (job : Job) → IsLawful (task_of job)
-lawful (running r) = run_is_lawful r
-lawful (reordering w) = reorder_is_lawful w
-lawful (explaining x) = explain_is_lawful x
+lawful (running r) = answering_is_lawful (run.answers_of r) (run_gives r)
+lawful (reordering w) = answering_is_lawful (late.answers_of w) (reorder_gives w)
+lawful (explaining x) = reporting_is_lawful (explained.report_of x)
 lawful (playing s) = session_is_lawful s
 lawful (resuming r) = resume_is_lawful r
-lawful (saving s) = save_is_lawful s
+lawful (saving s) = reporting_is_lawful (saved.report_of s)
 
 -- and its steps are counted whatever stop and output they are told with
 pub forgets : (job : Job) (content : List ℕ → Content) → Forgets (steps_of job content)
-forgets (running r) content = run_forgets r content
-forgets (reordering w) content = reorder_forgets w content
+forgets (running r) content = answering_forgets (run.answers_of r) content
+forgets (reordering w) content = answering_forgets (late.answers_of w) content
 forgets (explaining x) content = record { all = λ Stops Took old now h. h }
 forgets (playing s) content = session_forgets s content
 forgets (resuming r) content = resume_forgets r content

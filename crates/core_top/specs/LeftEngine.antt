@@ -2,15 +2,16 @@
 use Rattle.std.specs.Prelude.{◌≡◌, ℕ, List, Option, None}
 use Rattle.cer_outside.specs.Content.{Content}
 use Rattle.query_engine.specs.Engine.{EngineState}
-use Rattle.command_run.specs.LeftEngine.{run_leaves}
-use Rattle.command_reorder.specs.LeftEngine.{reorder_leaves}
+use Rattle.command_base.specs.Answering.{answering_leaves}
+use Rattle.command_run.specs.Runs as run
+use Rattle.command_reorder.specs.Reordered as late
 use Rattle.command_checkpoint.specs.LeftEngine.{resume_leaves}
 use Rattle.core_top.specs.Jobs.{Job, running, reordering, explaining, playing, resuming, saving}
 
 -- over its files; an explanation, a session and what saves events leave none
 abbrev pub leaves_of : Job → (List ℕ → Content) → Option EngineState → Type 0
-leaves_of (running r) = run_leaves r
-leaves_of (reordering w) = reorder_leaves w
+leaves_of (running r) = answering_leaves (run.answers_of r)
+leaves_of (reordering w) = answering_leaves (late.answers_of w)
 leaves_of (explaining x) = λ content left. left ≡ None
 leaves_of (playing s) = λ content left. left ≡ None
 leaves_of (resuming r) = resume_leaves r

@@ -15,6 +15,7 @@ ghost use Rattle.command_base.specs.Tasks.{ReadsFile, CheckpointHolds, LacksItsC
 ghost use Rattle.command_base.specs.Causes.{status_of, Exactly, IsFineOrOutside, IsReading, CountsOpens, CountsWrites, EndsWithout};
 ghost use Rattle.command_base.specs.Opening.{OpensInTurn};
 ghost use Rattle.command_base.specs.Output.{WroteBy};
+ghost use Rattle.command_base.specs.Ending.{outside};
 ghost use Rattle.command_base.specs.Leaving.{IsLeftBy};
 ghost use Rattle.command_base.specs.StepCounts.{StepsBy};
 ghost use Rattle.command_base.specs.Notes.{note_of, TookNote};
@@ -194,15 +195,7 @@ fn obey<H: Host, K: Sink, L: Ledger>(
 ) -> Stop<H::Src>
     ensures finished { CallEnded (record { faults = H.Src.faults; left = H.Src.left }) H.opens
         (map string_bytes words.now)
-        (record {
-          content = H.content host.old;
-          old = H.faults host.old;
-          new = H.faults host.new;
-          out_old = K.faults out.old;
-          out_new = K.faults out.new;
-          before = K.taken out.old;
-          after = K.taken out.new;
-        })
+        (outside H.content H.faults K.faults K.taken host.old host.new out.old out.new)
         host.old host.new result.cause result.failed }
     ensures steps { (job : Job) → AsksJob (map string_bytes words.now) job
         → StepsBy result.cause (steps_of job (H.content host.old)) (K.taken out.old)

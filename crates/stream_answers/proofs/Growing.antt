@@ -1,19 +1,19 @@
 -- Queries that are compacted as they grow: what is put by for that, and how much is kept of each.
-use Rattle.std.proofs.Common.{◌≡◌, ℕ, zero, suc, ◌+◌, ◌-◌, ◌*◌, ◌≤◌, List, [], ◌∷◌, ◌++◌, length, Option, Some, None, slice_get, refl, sym, ap, subst, ◌∙◌, arith, length-append}
+use Rattle.std.proofs.Common.{◌≡◌, ℕ, zero, suc, ◌+◌, ◌-◌, ◌*◌, ◌≤◌, List, [], ◌∷◌, ◌++◌, length, Option, Some, None, sym, ap, subst, ◌∙◌, arith, length-append}
 use Rattle.std.proofs.Math.Nat.{mul-le-mul_right}
 use Rattle.stream_schema.specs.declared.Event.{Event}
 use Rattle.cel_terms.specs.declared.Query.{Query}
 use Rattle.query_engine.specs.declared.sizes.Size.{Size}
 use Rattle.query_engine.specs.Bounds.{update_bound, for_each_query}
-use Rattle.query_engine.specs.Counts.{MeetMost, HasFewNodes, event_bound, compaction_bound}
-use Rattle.query_engine.specs.Engine.{EngineState, StandsFor, SameQueries, found_of, len_of}
+use Rattle.query_engine.specs.Counts.{MeetMost, event_bound, compaction_bound}
+use Rattle.query_engine.specs.Engine.{EngineState, StandsFor, SameQueries, found_of}
 use Rattle.query_engine.specs.Keys.{HasAddedKeys}
 use Rattle.query_engine.specs.Sizes.{steady_bound, AreTended, AreKeptSmall}
 use Rattle.query_engine.specs.Windows.{HasAdded}
 use Rattle.query_engine.proofs.Counting.{each_at_most, each_of_both}
 use Rattle.query_engine.proofs.SmallSizes.{event_puts_by, event_keeps_small, tending_keeps_small}
 use Rattle.stream_answers.specs.declared.schedule.TheConstants.{LEAST_SIZE, EVENTS_A_QUERY}
-use Rattle.stream_answers.specs.Schedules.{Timing, Plan, WithNoNumber, pace, saved_by, first_compaction, events_between, IsGoingOn, IsOnTime, IsSmall, KeepsUp}
+use Rattle.stream_answers.specs.Schedules.{Plan, WithNoNumber, pace, saved_by, first_compaction, events_between, IsGoingOn, IsOnTime, KeepsUp}
 
 -- WHERE NO NUMBER IS GIVEN
 

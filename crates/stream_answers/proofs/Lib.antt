@@ -13,7 +13,7 @@ pub mod Growing
 pub mod Compacted
 -- the nodes that follow the windows, from event to event; for callers
 pub mod Windows
--- how a run ends
-mod RunEnds
+-- how a run ends; for callers
+pub mod RunEnds
 -- the steps, from event to event and at the end; for callers
 pub mod Totals

@@ -1,9 +1,8 @@
 -- Bytes that a sink took in turn. For callers too.
-use Rattle.std.proofs.Common.{◌≡◌, ℕ, suc, ◌+◌, ◌<◌, ◌≤◌, List, [], ◌∷◌, ◌++◌, zero-add, length, take, drop, Option, Some, None, refl, sym, ◌∙◌, ap, subst, append_assoc, length-append, arith}
-use Rattle.std.proofs.Math.Seq.{take-append_seam}
+use Rattle.std.proofs.Common.{◌≡◌, ℕ, suc, ◌+◌, List, [], ◌∷◌, ◌++◌, zero-add, length, take, Option, Some, None, refl, sym, ◌∙◌, ap, subst, append_assoc, length-append, arith}
 use Rattle.std.proofs.lemmas.List.{append-nil, take-append-le, take_all}
-use Rattle.cer_outside.specs.Bytes.{TookAll, TookPart, IsProperPart}
-use Rattle.answer_blocks.specs.SinkBytes.{TookPrefix, IsPart}
+use Rattle.cer_outside.specs.Bytes.{TookAll, TookPart}
+use Rattle.answer_blocks.specs.SinkBytes.{TookPrefix}
 
 -- nothing was taken
 pub took_none : (before : Option (List ℕ)) → TookAll before before []

@@ -1,5 +1,5 @@
 -- The blocks of one position, put after what is held.
-use Rattle.std.proofs.Common.{◌≡◌, ℕ, List, [], ◌++◌, take, drop, Option, Some, None, Result, Ok, Err, refl, sym, ◌∙◌, ap, subst, append_assoc}
+use Rattle.std.proofs.Common.{◌≡◌, ℕ, List, [], ◌++◌, take, drop, Option, Some, None, Result, Ok, Err, refl, sym, ◌∙◌, ap, subst}
 use Rattle.std.proofs.lemmas.List.{append-nil, take-append-drop}
 use Rattle.cer_base.specs.declared.OrMemory.{OrMemory}
 use Rattle.cer_base.specs.declared.OrMemory.TheVariants.{Fault, Memory}
@@ -9,7 +9,7 @@ use Rattle.cel_terms.specs.declared.Query.{Query}
 use Rattle.answer_text.specs.declared.Order.{Order}
 use Rattle.answer_text.specs.declared.Order.TheVariants.{Walk}
 use Rattle.answer_text.specs.Output.{AreBlocks}
-use Rattle.answer_blocks.specs.SinkBytes.{TookPrefix, IsPart, TookBy}
+use Rattle.answer_blocks.specs.SinkBytes.{TookPrefix, TookBy}
 use Rattle.answer_blocks.proofs.Blocks.{some_blocks_are}
 use Rattle.stream_answers.specs.Gathering.{OutputState, PassesOn, Passed}
 use Rattle.stream_answers.proofs.Portions.{took_none}

@@ -1,5 +1,5 @@
 -- How a run ends.
-use Rattle.std.proofs.Common.{◌≡◌, ℕ, ◌+◌, ◌≤◌, ◌⊎◌, List, [], ◌∷◌, ◌++◌, length, Option, Some, None, Result, Ok, Err, inl, inr, refl, sym, ◌∙◌, ap, subst, append_assoc, length-append, arith}
+use Rattle.std.proofs.Common.{◌≡◌, ℕ, ◌≤◌, ◌⊎◌, List, [], ◌∷◌, ◌++◌, length, Option, Some, Result, Ok, Err, inl, inr, sym, subst, length-append, arith}
 use Rattle.std.specs.Prelude.{OnOk}
 use Rattle.std.proofs.lemmas.List.{append-nil}
 use Rattle.cer_base.specs.declared.OrMemory.{OrMemory}
@@ -10,7 +10,7 @@ use Rattle.cer_outside.specs.Bytes.{TookAll, TookPart}
 use Rattle.output_laws.specs.After.{IsOutputAfter}
 use Rattle.answer_blocks.specs.SinkBytes.{TookPrefix}
 use Rattle.event_reader.specs.LineReaders.{LineReader}
-use Rattle.query_engine.specs.Engine.{EngineState, StandsFor}
+use Rattle.query_engine.specs.Engine.{EngineState}
 use Rattle.event_run.specs.declared.NextEvent.{NextEvent}
 use Rattle.event_run.specs.declared.NextEvent.TheVariants as taken
 use Rattle.event_run.specs.declared.RunFault.{RunFault}
@@ -23,24 +23,47 @@ use Rattle.stream_answers.specs.declared.StreamFault.TheVariants as fault
 use Rattle.stream_answers.specs.Windows.{last_of, FollowsWindowsBy}
 use Rattle.stream_answers.specs.Schedules.{Timing, due_by, WithNoNumber, KeepsUp}
 use Rattle.stream_answers.specs.Gathering.{PassesOn, Running, Finished, stream_fault}
-use Rattle.stream_answers.specs.RunEnds.{HasReadCause}
-use Rattle.stream_answers.specs.Streams.{RunRequest, StandsForAllAfter, WroteOverAfter, WroteAllAfter, WrotePartOfAfter, WroteStreamAfter}
+use Rattle.stream_answers.specs.RunEnds.{ByEnd, HasReadCause}
+use Rattle.stream_answers.specs.Streams.{RunRequest, said_by, StandsForAllAfter, WroteAllAfter, WrotePartOfAfter, WroteStreamAfter}
 use Rattle.stream_answers.proofs.Portions.{took_both, took_then_part, part_of_more, prefix_of_more, prefix_of_all}
-use Rattle.stream_answers.proofs.Wholes.{part_of_run}
+use Rattle.stream_answers.proofs.Wholes.{part_over, part_of_run}
 use Rattle.stream_answers.proofs.Running.{Owing, Came, output_with, in_turn, begins_so}
 
 -- What was held is written, or a write failed: then a part of the answers over the whole file was.
-ends : (earlier : List StreamEvent) {T : Type 0} (a : RunRequest) (source left before middle after : Option (List ℕ)) (buffer written : List ℕ) (old new : ℕ) (events : List StreamEvent) (end result : Result T (OrMemory StreamFault)) →
-    TookAll before middle written → length earlier ≤ length events → IsOutputAfter (length earlier) a.order a.schema a.queries events (written ++ buffer) → ((lines : List ℕ) → source ≡ Some lines → BeginsRunAfter earlier a.schema a.queries a.most_bytes lines events) →
-    Finished middle after old new buffer end result → (TookAll before after (written ++ buffer) → WroteStreamAfter earlier a source left before after end) → WroteStreamAfter earlier a source left before after result
-ends earlier {T} a source left before middle after buffer written old new events end result took behind output begins finished well =
-    let P : Result T (OrMemory StreamFault) → Type 0 = λ r. WroteStreamAfter earlier a source left before after r in
+pub closes : {T : Type 0} (Takes : List ℕ → List StreamEvent → RunStop → Type 0) (Read : Option (List ℕ) → List ℕ → List StreamEvent → Type 0) (from : ℕ) (a : RunRequest) (source left before middle after : Option (List ℕ)) (buffer written : List ℕ) (old new : ℕ) (events : List StreamEvent) (end result : Result T (OrMemory StreamFault)) →
+    TookAll before middle written → from ≤ length events → IsOutputAfter from a.order a.schema a.queries events (written ++ buffer) → ((lines : List ℕ) → source ≡ Some lines → (more : List StreamEvent) × (halt : RunStop) × Takes lines (events ++ more) halt) →
+    Finished middle after old new buffer end result → (TookAll before after (written ++ buffer) → ByEnd (said_by Takes Read from a source before after) left end) → ByEnd (said_by Takes Read from a source before after) left result
+closes {T} Takes Read from a source left before middle after buffer written old new events end result took behind output begins finished well =
+    let P : Result T (OrMemory StreamFault) → Type 0 = λ r. ByEnd (said_by Takes Read from a source before after) left r in
     elim finished.way [
       | inl fine ↦ subst P (sym fine.0) (well (took_both before middle after written buffer took fine.1))
       | inr failed ↦
           let part = took_then_part before middle after written buffer took failed.1 in
-          subst P (sym failed.0) (part_of_run earlier a source events (written ++ buffer) (TookPart before after) behind output begins (λ rest p. part_of_more before after (written ++ buffer) rest p) part)
+          subst P (sym failed.0) (part_over Takes from a source events (written ++ buffer) (TookPart before after) behind output begins (λ rest p. part_of_more before after (written ++ buffer) rest p) part)
     ]
+
+-- and where memory ran out, after some of the answers
+pub closes_short : {T : Type 0} (Takes : List ℕ → List StreamEvent → RunStop → Type 0) (Read : Option (List ℕ) → List ℕ → List StreamEvent → Type 0) (from : ℕ) (a : RunRequest) (source left before middle after : Option (List ℕ)) (buffer rest written : List ℕ) (old new : ℕ) (events : List StreamEvent) (result : Result T (OrMemory StreamFault)) →
+    TookAll before middle written → from ≤ length events → IsOutputAfter from a.order a.schema a.queries events ((written ++ buffer) ++ rest) → ((lines : List ℕ) → source ≡ Some lines → (more : List StreamEvent) × (halt : RunStop) × Takes lines (events ++ more) halt) →
+    Finished middle after old new buffer (Err Memory) result → ByEnd (said_by Takes Read from a source before after) left result
+closes_short {T} Takes Read from a source left before middle after buffer rest written old new events result took behind output begins finished =
+    let P : Result T (OrMemory StreamFault) → Type 0 = λ r. ByEnd (said_by Takes Read from a source before after) left r in
+    elim finished.way [
+      | inl fine ↦
+          let all = prefix_of_all before after (written ++ buffer) (took_both before middle after written buffer took fine.1) in
+          subst P (sym fine.0) (part_over Takes from a source events ((written ++ buffer) ++ rest) (TookPrefix before after) behind output begins (λ more p. prefix_of_more before after ((written ++ buffer) ++ rest) more p) (prefix_of_more before after (written ++ buffer) rest all))
+      | inr failed ↦
+          let part = took_then_part before middle after written buffer took failed.1 in
+          subst P (sym failed.0) (part_over Takes from a source events ((written ++ buffer) ++ rest) (TookPart before after) behind output begins (λ more p. part_of_more before after ((written ++ buffer) ++ rest) more p) (part_of_more before after (written ++ buffer) rest part))
+    ]
+
+-- over a file, after other events
+ends : (earlier : List StreamEvent) {T : Type 0} (a : RunRequest) (source left before middle after : Option (List ℕ)) (buffer written : List ℕ) (old new : ℕ) (events : List StreamEvent) (end result : Result T (OrMemory StreamFault)) →
+    TookAll before middle written → length earlier ≤ length events → IsOutputAfter (length earlier) a.order a.schema a.queries events (written ++ buffer) → ((lines : List ℕ) → source ≡ Some lines → BeginsRunAfter earlier a.schema a.queries a.most_bytes lines events) →
+    Finished middle after old new buffer end result → (TookAll before after (written ++ buffer) → WroteStreamAfter earlier a source left before after end) → WroteStreamAfter earlier a source left before after result
+ends earlier a source left before middle after buffer written old new events end result took behind output begins finished well =
+    closes (RunsAfter earlier a.schema a.queries a.most_bytes) (λ l lines es. AreEventsReadAfter earlier a.schema a.queries a.most_bytes lines l es) (length earlier) a source left before middle after buffer written old new events end result took behind output
+    (λ lines same. let b = begins lines same in (b.more, b.stop, b.runs)) finished well
 
 -- the run stops
 stops : (earlier : List StreamEvent) {T : Type 0} (a : RunRequest) (source left before middle after : Option (List ℕ)) (buffer written : List ℕ) (old new : ℕ) (events : List StreamEvent) (halt : RunStop) (end result : Result T (OrMemory StreamFault)) →
@@ -91,24 +114,15 @@ ends_by earlier a source old_reader reader had left before middle after buffer o
 pub ends_for_memory : (earlier : List StreamEvent) {T : Type 0} (a : RunRequest) (source : Option (List ℕ)) (reader : LineReader) (left before middle later after : Option (List ℕ)) (buffer blocks now : List ℕ) (old new : ℕ) (engine : EngineState) (result : Result T (OrMemory StreamFault)) →
     reader.budget ≡ a.most_bytes → (o : Owing earlier a source reader left before middle buffer engine) → Came a (o.events ++ o.next ∷ []) blocks → (rest : List ℕ) × PassesOn middle later buffer blocks now rest →
     Finished later after old new now (Err Memory) result → WroteStreamAfter earlier a source left before after result
-ends_for_memory earlier {T} a source reader left before middle later after buffer blocks now old new engine result budget o came put finished =
+ends_for_memory earlier a source reader left before middle later after buffer blocks now old new engine result budget o came put finished =
     let passed = put.1 in
     let events = o.events ++ o.next ∷ [] in
     let written = o.written ++ passed.written in
-    let took = took_both before middle later o.written passed.written o.took passed.took in
     let O : List ℕ → Type 0 = IsOutputAfter (length earlier) a.order a.schema a.queries events in
     let output : O (written ++ now ++ put.0) = subst O (in_turn o.written buffer blocks passed.written now put.0 passed.whole) (output_with earlier a o.events o.next o.written buffer blocks o.behind o.output came) in
-    let begun = begins_so earlier a source reader left events budget o.taken in
-    let behind : length earlier ≤ length events = (let long = length-append o.events (o.next ∷ []) in let b = o.behind in omega (arith, long, b)) in
-    let P : Result T (OrMemory StreamFault) → Type 0 = λ r. WroteStreamAfter earlier a source left before after r in
-    elim finished.way [
-      | inl fine ↦
-          let all = prefix_of_all before after (written ++ now) (took_both before later after written now took fine.1) in
-          subst P (sym fine.0) (part_of_run earlier a source events (written ++ now ++ put.0) (TookPrefix before after) behind output begun (λ rest p. prefix_of_more before after (written ++ now ++ put.0) rest p) (prefix_of_more before after (written ++ now) put.0 all))
-      | inr failed ↦
-          let part = took_then_part before later after written now took failed.1 in
-          subst P (sym failed.0) (part_of_run earlier a source events (written ++ now ++ put.0) (TookPart before after) behind output begun (λ rest p. part_of_more before after (written ++ now ++ put.0) rest p) (part_of_more before after (written ++ now) put.0 part))
-    ]
+    closes_short (RunsAfter earlier a.schema a.queries a.most_bytes) (λ l lines es. AreEventsReadAfter earlier a.schema a.queries a.most_bytes lines l es) (length earlier) a source left before later after now put.0 written old new events result
+    (took_both before middle later o.written passed.written o.took passed.took) (let long = length-append o.events (o.next ∷ []) in let b = o.behind in omega (arith, long, b)) output
+    (λ lines same. let b = begins_so earlier a source reader left events budget o.taken lines same in (b.more, b.stop, b.runs)) finished
 
 -- memory ran out while the engine was compacted
 pub ends_for_compaction : (earlier : List StreamEvent) {T : Type 0} (a : RunRequest) (source : Option (List ℕ)) (reader : LineReader) (left before middle after : Option (List ℕ)) (buffer : List ℕ) (old new : ℕ) (engine : EngineState) (result : Result T (OrMemory StreamFault)) →
@@ -141,6 +155,11 @@ stands_at_end earlier timing peaks a source old_reader reader had left before mi
 pub ok_then : {T E : Type 0} (r : Result T E) (P : Type 0) → P → OnOk r P
 ok_then (Ok done) P p = p
 ok_then (Err why) P p = tt
+
+-- what follows where all was well, from each fact of that case
+pub on_end : {T E : Type 0} (r : Result T E) (P : Type 0) → (((Q : Type 0) → OnOk r Q → Q) → P) → OnOk r P
+on_end (Ok done) P from = from (λ Q q. q)
+on_end (Err why) P from = tt
 
 -- nothing of what was to come after a fault
 pub none_ok : {T : Type 0} (middle after : Option (List ℕ)) (old new : ℕ) (buffer : List ℕ) (why : OrMemory StreamFault) (result : Result T (OrMemory StreamFault)) (P : Type 0) → Finished middle after old new buffer (Err why) result → OnOk result P

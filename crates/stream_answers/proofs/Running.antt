@@ -1,5 +1,5 @@
 -- A run from event to event.
-use Rattle.std.proofs.Common.{◌≡◌, ℕ, ◌-◌, ◌≤◌, List, [], ◌∷◌, ◌++◌, length, Option, Some, None, Result, Ok, Err, refl, sym, ◌∙◌, ap, subst, append_assoc, length-append, arith}
+use Rattle.std.proofs.Common.{◌≡◌, ℕ, ◌-◌, ◌≤◌, List, [], ◌∷◌, ◌++◌, length, Option, Some, Result, Ok, refl, sym, ◌∙◌, ap, subst, append_assoc, length-append, arith}
 use Rattle.std.proofs.lemmas.List.{append-nil}
 use Rattle.cer_base.specs.declared.OrMemory.{OrMemory}
 use Rattle.stream_schema.specs.Types.{Declared}
@@ -9,7 +9,7 @@ use Rattle.cer_outside.specs.Bytes.{TookAll}
 use Rattle.answer_text.specs.declared.Order.{Order}
 use Rattle.answer_text.specs.Output.{AreBlocks}
 use Rattle.event_reader.specs.LineReaders.{LineReader, HasGiven}
-use Rattle.query_engine.specs.Engine.{EngineState, StandsFor, SameQueries}
+use Rattle.query_engine.specs.Engine.{EngineState, StandsFor}
 use Rattle.event_run.specs.declared.NextEvent.{NextEvent}
 use Rattle.event_run.specs.declared.NextEvent.TheVariants as taken
 use Rattle.event_run.specs.declared.RunFault.{RunFault}

@@ -1,8 +1,7 @@
 -- The steps of a run, from event to event and at its end.
-use Rattle.std.proofs.Common.{◌≡◌, ℕ, zero, suc, ◌+◌, ◌-◌, ◌*◌, ◌<◌, ◌≤◌, ◌⊎◌, inl, inr, Bool, List, [], ◌∷◌, ◌++◌, length, take, Contains, Option, Some, None, Result, Ok, Err, refl, sym, ◌∙◌, ap, subst, append_assoc, length-append, arith}
+use Rattle.std.proofs.Common.{◌≡◌, ℕ, ◌+◌, ◌-◌, ◌*◌, ◌≤◌, ◌⊎◌, inl, inr, List, [], ◌∷◌, ◌++◌, length, Contains, Option, Some, None, Result, Ok, Err, refl, sym, ◌∙◌, ap, subst, append_assoc, length-append, arith}
 use Rattle.std.proofs.lemmas.List.{append-nil}
 use Rattle.std.proofs.lemmas.List.Elements.{Contains-append_right}
-use Rattle.std.proofs.Math.Nat.{mul-le-mul_left}
 use Rattle.cer_base.specs.declared.OrMemory.{OrMemory}
 use Rattle.cer_base.specs.declared.OrMemory.TheVariants.{Fault, Memory}
 use Rattle.stream_schema.specs.Types.{Declared}
@@ -19,8 +18,6 @@ use Rattle.answer_blocks.specs.RowSteps.{row_delays, HasRowsAt, StopsAmong, Wrot
 use Rattle.answer_blocks.proofs.Blocks.{some_blocks_are}
 use Rattle.answer_blocks.proofs.Counting.{delays_both}
 use Rattle.event_reader.specs.LineReaders.{LineReader, HasGiven}
-use Rattle.event_reader.specs.Lines.{file_lines}
-use Rattle.query_engine.specs.Bounds.{update_bound, for_each_query}
 use Rattle.query_engine.specs.Engine.{EngineState, StandsFor, update_bounds}
 use Rattle.query_engine.specs.Windows.{IsDense}
 use Rattle.query_engine.specs.Counts.{MeetMost, HasFewNodes, event_bound, cursor_bounds}
@@ -37,10 +34,10 @@ use Rattle.event_run.specs.Wanting.{OnMemory, AreWantingSteps, WantsSteps}
 use Rattle.output_laws.proofs.After.{rows_after_none, rows_after_grow, rows_after_grow_at_last}
 use Rattle.stream_answers.specs.declared.StreamFault.{StreamFault}
 use Rattle.stream_answers.specs.declared.StreamFault.TheVariants as fault
-use Rattle.stream_answers.specs.Gathering.{OutputState, PassesOn, Passed, Running, Finished, stream_fault}
+use Rattle.stream_answers.specs.Gathering.{OutputState, PassesOn, Passed, Finished, stream_fault}
 use Rattle.stream_answers.specs.Streams.{RunRequest}
 use Rattle.stream_answers.specs.Schedules.{Timing, due_by, pace, first_compaction}
-use Rattle.stream_answers.specs.Steps.{compaction_by, compactions, run_bound, AreBoundedBy, AreOfEvents, CountsAllAfter, CountsAfter, CountsUpToAfter, CountsAtFaultAfter, StepsOverAfter}
+use Rattle.stream_answers.specs.Steps.{compaction_by, compactions, AreBoundedBy, AreOfEvents, CountsTaken, CountsUpTo, CountsAtFaultBy, StepsTaken, CountsAllAfter, CountsAfter, CountsAtFaultAfter, StepsOverAfter}
 use Rattle.stream_answers.specs.Counting.{Counted, IsCompacted, StepsAtFault, StepsPut}
 use Rattle.stream_answers.proofs.Compacted.{met_here}
 use Rattle.stream_answers.proofs.Growing.{pace_least, paced_first}
@@ -196,20 +193,25 @@ module _ (timing : Timing) where
       omega (arith, few, product, both, grown)
 
   -- the same over a whole file
-  pub counts_whole : (earlier : List StreamEvent) (a : RunRequest) (lines : List ℕ) (events : List StreamEvent) (rows : List Row) (before now : ℕ) → length earlier ≤ length events → BeginsRunAfter earlier a.schema a.queries a.most_bytes lines events → AreRowsAfter (length earlier) a.order a.schema a.queries events rows →
-      AreBoundedBy timing a.schema a.queries events rows before now → CountsAfter timing earlier a lines before now
-  counts_whole earlier a lines events rows before now behind begun are_rows bounded =
-      let all = events ++ begun.more in
-      let grown = rows_after_grow (length earlier) a.order a.schema a.queries events begun.more rows behind (λ end. some_blocks_are a.order a.schema 1 a.queries all end) are_rows in record {
+  pub counts_over : (Takes : List ℕ → List StreamEvent → RunStop → Type 0) (from : ℕ) (a : RunRequest) (lines : List ℕ) (events more : List StreamEvent) (halt : RunStop) (rows : List Row) (before now : ℕ) → from ≤ length events → Takes lines (events ++ more) halt → AreRowsAfter from a.order a.schema a.queries events rows →
+      AreBoundedBy timing a.schema a.queries events rows before now → CountsTaken Takes timing from a lines (λ h. Unit {0}) (λ bytes. Unit {0}) before now
+  counts_over Takes from a lines events more halt rows before now behind runs are_rows bounded =
+      let all = events ++ more in
+      let grown = rows_after_grow from a.order a.schema a.queries events more rows behind (λ end. some_blocks_are a.order a.schema 1 a.queries all end) are_rows in record {
         events = all;
-        stop = begun.stop;
-        runs = begun.runs;
+        stop = halt;
+        runs = runs;
         stops = tt;
         rows = rows ++ grown.0;
         are_rows = grown.1;
         took = tt;
-        bounded = bounded_all a events begun.more rows grown.0 before now bounded;
+        bounded = bounded_all a events more rows grown.0 before now bounded;
       }
+
+  counts_whole : (earlier : List StreamEvent) (a : RunRequest) (lines : List ℕ) (events : List StreamEvent) (rows : List Row) (before now : ℕ) → length earlier ≤ length events → BeginsRunAfter earlier a.schema a.queries a.most_bytes lines events → AreRowsAfter (length earlier) a.order a.schema a.queries events rows →
+      AreBoundedBy timing a.schema a.queries events rows before now → CountsAfter timing earlier a lines before now
+  counts_whole earlier a lines events rows before now behind begun are_rows bounded =
+      counts_over (RunsAfter earlier a.schema a.queries a.most_bytes) (length earlier) a lines events begun.more begun.stop rows before now behind begun.runs are_rows bounded
 
   -- no event was taken after those before
   pub counts_none : (earlier : List StreamEvent) (a : RunRequest) (lines : List ℕ) (first now : ℕ) → AreBoundedBy timing a.schema a.queries earlier [] first now → CountsAfter timing earlier a lines first now
@@ -264,37 +266,37 @@ module _ (timing : Timing) where
   none_taken (Some m) None buffer none part = absurd part
   none_taken (Some m) (Some n) buffer none part = absurd (let within = part.within in let l = ap length none in omega arith)
 
-  at_fault : (earlier : List StreamEvent) (a : RunRequest) (lines : List ℕ) (before after : Option (List ℕ)) (first now : ℕ) (o : Order) → o ≡ Sorted → CountsAfter timing earlier a lines first now → CountsAtFaultAfter timing earlier o a lines before after first now
-  at_fault earlier a lines before after first now o sorted counts = subst (λ (x : Order). CountsAtFaultAfter timing earlier x a lines before after first now) (sym sorted) counts
+  -- a write failed while what was held was written
+  pub counts_held : (Takes : List ℕ → List StreamEvent → RunStop → Type 0) (from : ℕ) (a : RunRequest) (lines : List ℕ) (before after : Option (List ℕ)) (first now : ℕ) → a.order ≡ Sorted → CountsTaken Takes timing from a lines (λ h. Unit {0}) (λ bytes. Unit {0}) first now → CountsAtFaultBy Takes timing from a.order a lines before after first now
+  counts_held Takes from a lines before after first now sorted counts = subst (λ (x : Order). CountsAtFaultBy Takes timing from x a lines before after first now) (sym sorted) counts
 
   pub walk_or_sorted : (o : Order) → (o ≡ Walk) ⊎ (o ≡ Sorted)
   walk_or_sorted Walk = inl refl
   walk_or_sorted Sorted = inr refl
 
-  steps_end : (earlier : List StreamEvent) {T : Type 0} (a : RunRequest) (lines : List ℕ) (before middle after : Option (List ℕ)) (buffer : List ℕ) (old new : ℕ) (end result : Result T (OrMemory StreamFault)) (first now : ℕ) →
-      Finished middle after old new buffer end result → (a.order ≡ Walk → (buffer ≡ []) × (result ≡ end)) → CountsAfter timing earlier a lines first now → (TookAll middle after buffer → StepsOverAfter timing earlier a lines before after first now end) → StepsOverAfter timing earlier a lines before after first now result
-  steps_end earlier {T} a lines before middle after buffer old new end result first now finished walk counts well =
-      let P : Result T (OrMemory StreamFault) → Type 0 = λ r. StepsOverAfter timing earlier a lines before after first now r in
+  pub steps_end : {T : Type 0} (Takes : List ℕ → List StreamEvent → RunStop → Type 0) (from : ℕ) (a : RunRequest) (lines : List ℕ) (before middle after : Option (List ℕ)) (buffer : List ℕ) (old new : ℕ) (end result : Result T (OrMemory StreamFault)) (first now : ℕ) →
+      Finished middle after old new buffer end result → (a.order ≡ Walk → (buffer ≡ []) × (result ≡ end)) → CountsTaken Takes timing from a lines (λ h. Unit {0}) (λ bytes. Unit {0}) first now → (TookAll middle after buffer → StepsTaken Takes timing from a lines before after first now end) → StepsTaken Takes timing from a lines before after first now result
+  steps_end {T} Takes from a lines before middle after buffer old new end result first now finished walk counts well =
+      let P : Result T (OrMemory StreamFault) → Type 0 = λ r. StepsTaken Takes timing from a lines before after first now r in
       elim finished.way [
         | inl fine ↦ subst P (sym fine.0) (well fine.1)
         | inr failed ↦ elim (walk_or_sorted a.order) [
           | inl is ↦ let w = walk is in subst P (sym w.1) (well (none_taken middle after buffer w.0 failed.1))
-          | inr is ↦ subst P (sym failed.0) (at_fault earlier a lines before after first now a.order is counts)
+          | inr is ↦ subst P (sym failed.0) (counts_held Takes from a lines before after first now is counts)
         ]
       ]
 
-  -- the run ended by itself
-  stopped : (earlier : List StreamEvent) (a : RunRequest) (lines : List ℕ) (before middle after : Option (List ℕ)) (buffer written : List ℕ) (events : List StreamEvent) (halt : RunStop) (rows : List Row) (first now : ℕ) →
-      RunsAfter earlier a.schema a.queries a.most_bytes lines events halt → AreRowsAfter (length earlier) a.order a.schema a.queries events rows → written ++ buffer ≡ lines_of rows → AreBoundedBy timing a.schema a.queries events rows first now →
-      TookAll before middle written → TookAll middle after buffer → CountsAllAfter timing earlier a lines (λ h. h ≡ halt) (TookAll before after) first now
-  stopped earlier a lines before middle after buffer written events halt rows first now runs are_rows same bounded took all = record {
+  -- it ended by itself, and all was written
+  pub counts_stopped : (Takes : List ℕ → List StreamEvent → RunStop → Type 0) (from : ℕ) (a : RunRequest) (lines : List ℕ) (before after : Option (List ℕ)) (bytes : List ℕ) (events : List StreamEvent) (halt : RunStop) (rows : List Row) (first now : ℕ) → Takes lines events halt → AreRowsAfter from a.order a.schema a.queries events rows →
+      bytes ≡ lines_of rows → AreBoundedBy timing a.schema a.queries events rows first now → TookAll before after bytes → CountsTaken Takes timing from a lines (λ h. h ≡ halt) (TookAll before after) first now
+  counts_stopped Takes from a lines before after bytes events halt rows first now runs are_rows same bounded took = record {
     events = events;
     stop = halt;
     runs = runs;
     stops = refl;
     rows = rows;
     are_rows = are_rows;
-    took = subst (TookAll before after) same (took_both before middle after written buffer took all);
+    took = subst (TookAll before after) same took;
     bounded = bounded;
   }
 
@@ -313,8 +315,8 @@ module _ (timing : Timing) where
       TookAll before middle written → Finished middle after old new buffer end result → (a.order ≡ Walk → (buffer ≡ []) × (result ≡ end)) →
       (CountsAllAfter timing earlier a lines (λ h. h ≡ halt) (TookAll before after) first now → StepsOverAfter timing earlier a lines before after first now end) → StepsOverAfter timing earlier a lines before after first now result
   halts earlier a lines before middle after buffer written old new events halt rows end result first now behind runs are_rows same bounded took finished walk well =
-      steps_end earlier a lines before middle after buffer old new end result first now finished walk (counts_whole earlier a lines events rows first now behind (whole_run earlier a lines events halt runs) are_rows bounded)
-      (λ all. well (stopped earlier a lines before middle after buffer written events halt rows first now runs are_rows same bounded took all))
+      steps_end (RunsAfter earlier a.schema a.queries a.most_bytes) (length earlier) a lines before middle after buffer old new end result first now finished walk (counts_whole earlier a lines events rows first now behind (whole_run earlier a lines events halt runs) are_rows bounded)
+      (λ all. well (counts_stopped (RunsAfter earlier a.schema a.queries a.most_bytes) (length earlier) a lines before after (written ++ buffer) events halt rows first now runs are_rows same bounded (took_both before middle after written buffer took all)))
 
   pub steps_at_end : (earlier : List StreamEvent) {T : Type 0} (a : RunRequest) (source : Option (List ℕ)) (lines : List ℕ) (old_reader reader : LineReader) (had left before middle after : Option (List ℕ)) (buffer : List ℕ) (old new : ℕ) (engine now_engine : EngineState) (done : T) (result : Result T (OrMemory StreamFault)) (first before_steps now : ℕ) →
       source ≡ Some lines → reader.budget ≡ a.most_bytes → (c : Counted timing earlier a source old_reader had before middle buffer engine first before_steps) →
@@ -339,11 +341,11 @@ module _ (timing : Timing) where
         | inr some ↦ counts_wanting earlier a lines c.running.events some.0 c.rows first before_steps had_by now c.running.behind
             (subst (λ n. BeginsRunAfter earlier a.schema a.queries n lines (c.running.events ++ some.0 ∷ [])) budget (some.1 lines (c.running.taken lines told))) c.are_rows c.bounded some.2
       ] in
-      steps_end earlier a lines before middle after buffer old new (Err Memory) result first now finished walk counts (λ all. counts)
+      steps_end (RunsAfter earlier a.schema a.queries a.most_bytes) (length earlier) a lines before middle after buffer old new (Err Memory) result first now finished walk counts (λ all. counts)
   steps_by earlier a source lines old_reader reader had left before middle after buffer old new engine now_engine (Fault run.ReadFault) result first before_steps had_by now told budget same_budget same alike c took steps wants finished walk =
       let begun = begins_so earlier a source old_reader had c.running.events same_budget c.running.taken lines told in
       let counts = counts_whole earlier a lines c.running.events c.rows first now c.running.behind begun c.are_rows (bounded_same a c.running.events c.rows first (before_steps + had_by) now (omega (arith, steps)) c.bounded) in
-      steps_end earlier a lines before middle after buffer old new (Err (Fault fault.ReadFault)) result first now finished walk counts (λ all. counts)
+      steps_end (RunsAfter earlier a.schema a.queries a.most_bytes) (length earlier) a lines before middle after buffer old new (Err (Fault fault.ReadFault)) result first now finished walk counts (λ all. counts)
   steps_by earlier a source lines old_reader reader had left before middle after buffer old new engine now_engine (Fault (run.Event line refusal)) result first before_steps had_by now told budget same_budget same alike c took steps wants finished walk =
       let runs = runs_as earlier a reader.budget lines c.running.events (stop.Event line refusal) budget (took.1 lines (c.running.taken lines told)) in
       halts earlier a lines before middle after buffer c.running.written old new c.running.events (stop.Event line refusal) c.rows (Err (Fault (fault.Event line refusal))) result first now c.running.behind runs c.are_rows c.lines
@@ -365,7 +367,7 @@ module _ (timing : Timing) where
       let begun = begins_so earlier a source reader left all budget o.taken lines told in
       let counts = counts_whole earlier a lines all (rows ++ more) first now (let long = length-append o.events (o.next ∷ []) in let b = o.behind in omega (arith, long, b)) begun (rows_after_grow_at_last (length earlier) a.order a.schema a.queries o.events o.next rows more o.behind are_rows are_more)
       (bounded_more a engine o.events o.next rows more first before_steps had mid seen now same alike o.stands bounded took put paid) in
-      steps_end earlier a lines before later after now_held old new (Err Memory) result first now finished walk counts (λ taken. counts)
+      steps_end (RunsAfter earlier a.schema a.queries a.most_bytes) (length earlier) a lines before later after now_held old new (Err Memory) result first now finished walk counts (λ taken. counts)
 
   -- memory ran out while the engine was compacted
   pub steps_for_compaction : (earlier : List StreamEvent) {T : Type 0} (a : RunRequest) (source : Option (List ℕ)) (lines : List ℕ) (reader : LineReader) (left before middle after : Option (List ℕ)) (buffer : List ℕ) (old new : ℕ) (engine : EngineState) (result : Result T (OrMemory StreamFault)) (first all now : ℕ) →
@@ -374,7 +376,7 @@ module _ (timing : Timing) where
   steps_for_compaction earlier a source lines reader left before middle after buffer old new engine result first all now told budget less c finished walk =
       let begun = begins_so earlier a source reader left c.running.events budget c.running.taken lines told in
       let counts = counts_whole earlier a lines c.running.events c.rows first now c.running.behind begun c.are_rows (bounded_same a c.running.events c.rows first all now less c.bounded) in
-      steps_end earlier a lines before middle after buffer old new (Err Memory) result first now finished walk counts (λ taken. counts)
+      steps_end (RunsAfter earlier a.schema a.queries a.most_bytes) (length earlier) a lines before middle after buffer old new (Err Memory) result first now finished walk counts (λ taken. counts)
 
   -- the answer whose line was not written is one of its position
   pub one_ends : (a : RunRequest) (events : List StreamEvent) (whole later : List Row) (one : Row) (rows : List Row) → rows ≡ whole ++ one ∷ later → AreRowsAt a.order a.schema 1 a.queries events (length events - 1) rows → one.end ≡ length events - 1
@@ -382,34 +384,48 @@ module _ (timing : Timing) where
       let has : Contains (whole ++ one ∷ later) one = Contains-append_right whole (one ∷ later) one (0, omega arith, refl) in
       ends_at a.order a.schema 1 a.queries events (length events - 1) rows are one (subst (λ (l : List Row). Contains l one) (sym is) has)
 
-  -- a write failed meanwhile
-  counts_up_to : (earlier : List StreamEvent) (a : RunRequest) (source : Option (List ℕ)) (lines : List ℕ) (reader : LineReader) (left before middle after : Option (List ℕ)) (buffer : List ℕ) (engine : EngineState) → (o : Owing earlier a source reader left before middle buffer engine) →
-      (rows more : List Row) (first before_steps had mid seen now : ℕ) → BeginsRunAfter earlier a.schema a.queries a.most_bytes lines (o.events ++ o.next ∷ []) → engine.schema ≡ a.schema → engine.queries ≡ a.queries → buffer ≡ [] →
-      AreRowsAt a.order a.schema 1 a.queries (o.events ++ o.next ∷ []) (length (o.events ++ o.next ∷ []) - 1) more → AreRowsAfter (length earlier) a.order a.schema a.queries o.events rows → o.written ++ buffer ≡ lines_of rows →
-      AreBoundedBy timing a.schema a.queries o.events rows first (before_steps + had) → seen ≤ before_steps + update_bounds engine →
-      ((most : ℕ → ℕ) → MeetMost a.schema a.queries (o.events ++ o.next ∷ []) most → event_bound (length a.queries) most + mid ≤ had + pace timing.every (length a.queries) most) →
-      StopsAmong middle after more (seen + cursor_bounds engine) now → CountsUpToAfter timing earlier a lines before after first now
-  counts_up_to earlier a source lines reader left before middle after buffer engine o rows more first before_steps had mid seen now begun same alike none are_more are_rows so_far bounded took paid s =
-      let all = o.events ++ o.next ∷ [] in
-      let P : List Row → Type 0 = AreRowsAfter (length earlier) a.order a.schema a.queries all in
-      let whole : rows ++ more ≡ (rows ++ s.whole) ++ s.one ∷ s.later = ap (λ (l : List Row). rows ++ l) s.rows_are ∙ sym (append_assoc rows s.whole (s.one ∷ s.later)) in
-      let written : o.written ≡ lines_of rows = sym (append-nil o.written) ∙ (ap (λ (l : List ℕ). o.written ++ l) (sym none) ∙ so_far) in
-      let count : length all ≡ length o.events + 1 = length-append o.events (o.next ∷ []) in
+  -- a write failed while the answers of an event were put
+  counts_up_to : (Takes : List ℕ → List StreamEvent → RunStop → Type 0) (from : ℕ) (a : RunRequest) (lines : List ℕ) (before middle after : Option (List ℕ)) (written buffer : List ℕ) (engine : EngineState) (events : List StreamEvent) (next : StreamEvent) (further : List StreamEvent) (halt : RunStop) (rows more : List Row) (first old had mid seen now : ℕ) →
+      from ≤ length events → Takes lines ((events ++ next ∷ []) ++ further) halt → engine.schema ≡ a.schema → engine.queries ≡ a.queries → StandsFor engine (events ++ next ∷ []) → TookAll before middle written → buffer ≡ [] →
+      AreRowsAt a.order a.schema 1 a.queries (events ++ next ∷ []) (length (events ++ next ∷ []) - 1) more → AreRowsAfter from a.order a.schema a.queries events rows → written ++ buffer ≡ lines_of rows →
+      AreBoundedBy timing a.schema a.queries events rows first (old + had) → seen ≤ old + update_bounds engine →
+      ((most : ℕ → ℕ) → MeetMost a.schema a.queries (events ++ next ∷ []) most → event_bound (length a.queries) most + mid ≤ had + pace timing.every (length a.queries) most) →
+      StopsAmong middle after more (seen + cursor_bounds engine) now → CountsUpTo Takes timing from a lines before after first now
+  counts_up_to Takes from a lines before middle after written buffer engine events next further halt rows more first old had mid seen now behind runs same alike stands took none are_more are_rows so_far bounded cost pays s =
+      let all = events ++ next ∷ [] in
+      let P : List Row → Type 0 = AreRowsAfter from a.order a.schema a.queries all in
+      let split : rows ++ more ≡ (rows ++ s.whole) ++ s.one ∷ s.later = ap (λ (l : List Row). rows ++ l) s.rows_are ∙ sym (append_assoc rows s.whole (s.one ∷ s.later)) in
+      let so_written : written ≡ lines_of rows = sym (append-nil written) ∙ (ap (λ (l : List ℕ). written ++ l) (sym none) ∙ so_far) in
+      let count : length all ≡ length events + 1 = length-append events (next ∷ []) in
       let B : List Row → Type 0 = λ r. AreBoundedBy timing a.schema a.queries all r first now in record {
         events = all;
-        more = begun.more;
-        stop = begun.stop;
-        runs = begun.runs;
+        more = further;
+        stop = halt;
+        runs = runs;
         whole = rows ++ s.whole;
         one = s.one;
         later = s.later;
-        are_rows = subst P whole (rows_after_grow_at_last (length earlier) a.order a.schema a.queries o.events o.next rows more o.behind are_rows are_more);
+        are_rows = subst P split (rows_after_grow_at_last from a.order a.schema a.queries events next rows more behind are_rows are_more);
         last = let at = one_ends a all s.whole s.later s.one more s.rows_are are_more in omega arith;
         middle = s.middle;
-        took = subst (TookAll before s.middle) (sym (lines_both rows s.whole)) (took_both before middle s.middle (lines_of rows) (lines_of s.whole) (subst (TookAll before middle) written o.took) s.took);
+        took = subst (TookAll before s.middle) (sym (lines_both rows s.whole)) (took_both before middle s.middle (lines_of rows) (lines_of s.whole) (subst (TookAll before middle) so_written took) s.took);
         part = s.part;
-        bounded = subst B (sym (append_assoc rows s.whole (s.one ∷ []))) (bounded_more a engine o.events o.next rows (s.whole ++ s.one ∷ []) first before_steps had mid seen now same alike o.stands bounded took s.steps paid);
+        bounded = subst B (sym (append_assoc rows s.whole (s.one ∷ []))) (bounded_more a engine events next rows (s.whole ++ s.one ∷ []) first old had mid seen now same alike stands bounded cost s.steps pays);
       }
+
+  pub counts_at_fault : (Takes : List ℕ → List StreamEvent → RunStop → Type 0) (from : ℕ) (a : RunRequest) (lines : List ℕ) (before middle after : Option (List ℕ)) (written buffer : List ℕ) (engine : EngineState) (events : List StreamEvent) (next : StreamEvent) (further : List StreamEvent) (halt : RunStop) (rows more : List Row) (first old had mid seen now : ℕ) →
+      from ≤ length events → Takes lines ((events ++ next ∷ []) ++ further) halt → engine.schema ≡ a.schema → engine.queries ≡ a.queries → StandsFor engine (events ++ next ∷ []) → TookAll before middle written → (a.order ≡ Walk → buffer ≡ []) →
+      AreRowsAt a.order a.schema 1 a.queries (events ++ next ∷ []) (length (events ++ next ∷ []) - 1) more → AreRowsAfter from a.order a.schema a.queries events rows → written ++ buffer ≡ lines_of rows →
+      AreBoundedBy timing a.schema a.queries events rows first (old + had) → seen ≤ old + update_bounds engine →
+      ((most : ℕ → ℕ) → MeetMost a.schema a.queries (events ++ next ∷ []) most → event_bound (length a.queries) most + mid ≤ had + pace timing.every (length a.queries) most) →
+      StepsAtFault a.order middle after more (seen + cursor_bounds engine) now → CountsAtFaultBy Takes timing from a.order a lines before after first now
+  counts_at_fault Takes from a lines before middle after written buffer engine events next further halt rows more first old had mid seen now behind runs same alike stands took none are_more are_rows so_far bounded cost pays put = over a.order refl put
+    where
+      over : (x : Order) → a.order ≡ x → StepsAtFault x middle after more (seen + cursor_bounds engine) now → CountsAtFaultBy Takes timing from x a lines before after first now
+      over Walk walk steps = counts_up_to Takes from a lines before middle after written buffer engine events next further halt rows more first old had mid seen now behind runs same alike stands took (none walk) are_more are_rows so_far bounded cost pays steps
+      over Sorted sorted steps =
+          counts_over Takes from a lines (events ++ next ∷ []) further halt (rows ++ more) first now (let long = length-append events (next ∷ []) in omega (arith, long, behind)) runs (rows_after_grow_at_last from a.order a.schema a.queries events next rows more behind are_rows are_more)
+          (bounded_more a engine events next rows more first old had mid seen now same alike stands bounded cost steps pays)
 
   pub steps_for_fault : (earlier : List StreamEvent) (a : RunRequest) (source : Option (List ℕ)) (lines : List ℕ) (reader : LineReader) (left before middle after : Option (List ℕ)) (buffer : List ℕ) (engine : EngineState) → (o : Owing earlier a source reader left before middle buffer engine) →
       (rows more : List Row) (first before_steps had mid seen now : ℕ) (order : Order) → source ≡ Some lines → reader.budget ≡ a.most_bytes → engine.schema ≡ a.schema → engine.queries ≡ a.queries → order ≡ a.order →
@@ -419,12 +435,6 @@ module _ (timing : Timing) where
       StepsAtFault order middle after more (seen + cursor_bounds engine) now → (a.order ≡ Walk → buffer ≡ []) →
       CountsAtFaultAfter timing earlier a.order a lines before after first now
   steps_for_fault earlier a source lines reader left before middle after buffer engine o rows more first before_steps had mid seen now order told budget same alike is are_more are_rows so_far bounded took paid put none =
-      over a.order refl (subst (λ (x : Order). StepsAtFault x middle after more (seen + cursor_bounds engine) now) is put)
-    where
-      over : (x : Order) → a.order ≡ x → StepsAtFault x middle after more (seen + cursor_bounds engine) now → CountsAtFaultAfter timing earlier x a lines before after first now
-      over Walk walk steps =
-          counts_up_to earlier a source lines reader left before middle after buffer engine o rows more first before_steps had mid seen now (begins_so earlier a source reader left (o.events ++ o.next ∷ []) budget o.taken lines told) same alike (none walk)
-          are_more are_rows so_far bounded took paid steps
-      over Sorted sorted steps =
-          counts_whole earlier a lines (o.events ++ o.next ∷ []) (rows ++ more) first now (let long = length-append o.events (o.next ∷ []) in let b = o.behind in omega (arith, long, b)) (begins_so earlier a source reader left (o.events ++ o.next ∷ []) budget o.taken lines told) (rows_after_grow_at_last (length earlier) a.order a.schema a.queries o.events o.next rows more o.behind are_rows are_more)
-          (bounded_more a engine o.events o.next rows more first before_steps had mid seen now same alike o.stands bounded took steps paid)
+      let begun = begins_so earlier a source reader left (o.events ++ o.next ∷ []) budget o.taken lines told in
+      counts_at_fault (RunsAfter earlier a.schema a.queries a.most_bytes) (length earlier) a lines before middle after o.written buffer engine o.events o.next begun.more begun.stop rows more first before_steps had mid seen now o.behind begun.runs same alike o.stands o.took none
+      are_more are_rows so_far bounded took paid (subst (λ (x : Order). StepsAtFault x middle after more (seen + cursor_bounds engine) now) is put)

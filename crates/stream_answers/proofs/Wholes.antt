@@ -1,29 +1,35 @@
 -- A part of the answers over all events that the queries take of a file.
-use Rattle.std.proofs.Common.{◌≡◌, ℕ, ◌+◌, ◌≤◌, List, [], ◌++◌, length, Option, Some, None, refl, sym, ◌∙◌, ap, subst, arith}
+use Rattle.std.proofs.Common.{◌≡◌, ℕ, ◌≤◌, List, [], ◌++◌, length, Option, Some, None, refl, sym, subst, arith}
 use Rattle.std.proofs.lemmas.List.{append-nil}
 use Rattle.stream_schema.specs.declared.Event.{Event}
 use Rattle.output_laws.specs.After.{IsOutputAfter}
-use Rattle.answer_blocks.specs.SinkBytes.{TookPrefix, IsPart}
+use Rattle.answer_blocks.specs.SinkBytes.{TookPrefix}
 use Rattle.answer_blocks.proofs.Blocks.{some_blocks_are}
 use Rattle.event_reader.specs.Lines.{file_lines}
+use Rattle.event_run.specs.Runs.{RunStop, RunsAfter}
 use Rattle.event_run.specs.Taking.{BeginsRunAfter}
-use Rattle.event_run.proofs.ForCallers.{HasRun, some_run}
+use Rattle.event_run.proofs.ForCallers.{some_run}
 use Rattle.output_laws.proofs.After.{after_none, after_grows}
-use Rattle.stream_answers.specs.Streams.{RunRequest, AreAnswersAfter, WrotePartOfAfter}
+use Rattle.stream_answers.specs.Streams.{RunRequest, AreAnswersBy, WrotePartBy, WrotePartOfAfter}
 
 -- A part of the answers over the first events is one of the answers over all.
-pub part_of_run : (earlier : List Event) (a : RunRequest) (source : Option (List ℕ)) (events : List Event) (bytes : List ℕ) (Took : List ℕ → Type 0) → length earlier ≤ length events → IsOutputAfter (length earlier) a.order a.schema a.queries events bytes →
-    ((lines : List ℕ) → source ≡ Some lines → BeginsRunAfter earlier a.schema a.queries a.most_bytes lines events) → ((rest : List ℕ) → Took bytes → Took (bytes ++ rest)) → Took bytes → WrotePartOfAfter earlier a source Took
-part_of_run earlier a None events bytes Took behind output begins more took = record { bytes = bytes; took = took; are = λ lines same. absurd cc }
-part_of_run earlier a (Some lines) events bytes Took behind output begins more took =
+pub part_over : (Takes : List ℕ → List Event → RunStop → Type 0) (from : ℕ) (a : RunRequest) (source : Option (List ℕ)) (events : List Event) (bytes : List ℕ) (Took : List ℕ → Type 0) → from ≤ length events → IsOutputAfter from a.order a.schema a.queries events bytes →
+    ((lines : List ℕ) → source ≡ Some lines → (more : List Event) × (halt : RunStop) × Takes lines (events ++ more) halt) → ((rest : List ℕ) → Took bytes → Took (bytes ++ rest)) → Took bytes → WrotePartBy Takes from a source Took
+part_over Takes from a None events bytes Took behind output begins more took = record { bytes = bytes; took = took; are = λ lines same. absurd cc }
+part_over Takes from a (Some lines) events bytes Took behind output begins more took =
     let run = begins lines refl in
-    let grown = after_grows (length earlier) a.order a.schema a.queries events run.more bytes behind (λ end. some_blocks_are a.order a.schema 1 a.queries (events ++ run.more) end) output in
-    let P : List ℕ → Type 0 = λ l. AreAnswersAfter earlier a l (bytes ++ grown.0) in
+    let grown = after_grows from a.order a.schema a.queries events run.0 bytes behind (λ end. some_blocks_are a.order a.schema 1 a.queries (events ++ run.0) end) output in
+    let P : List ℕ → Type 0 = λ l. AreAnswersBy Takes from a l (bytes ++ grown.0) in
     record {
       bytes = bytes ++ grown.0;
       took = more grown.0 took;
-      are = λ other same. let is : lines ≡ other = cc in subst P is (record { events = events ++ run.more; stop = run.stop; runs = run.runs; output = grown.1 });
+      are = λ other same. let is : lines ≡ other = cc in subst P is (record { events = events ++ run.0; stop = run.1; runs = run.2; output = grown.1 });
     }
+
+pub part_of_run : (earlier : List Event) (a : RunRequest) (source : Option (List ℕ)) (events : List Event) (bytes : List ℕ) (Took : List ℕ → Type 0) → length earlier ≤ length events → IsOutputAfter (length earlier) a.order a.schema a.queries events bytes →
+    ((lines : List ℕ) → source ≡ Some lines → BeginsRunAfter earlier a.schema a.queries a.most_bytes lines events) → ((rest : List ℕ) → Took bytes → Took (bytes ++ rest)) → Took bytes → WrotePartOfAfter earlier a source Took
+part_of_run earlier a source events bytes Took behind output begins more took =
+    part_over (RunsAfter earlier a.schema a.queries a.most_bytes) (length earlier) a source events bytes Took behind output (λ lines same. let run = begins lines same in (run.more, run.stop, run.runs)) more took
 
 -- every run begins with the events before it
 pub begins_at_first : (earlier : List Event) (a : RunRequest) (lines : List ℕ) → BeginsRunAfter earlier a.schema a.queries a.most_bytes lines earlier

@@ -8,7 +8,6 @@ use Rattle.std.proofs.lemmas.List.{append-nil, take-append-le, take_all}
 use Rattle.stream_schema.specs.Types.{Declared}
 use Rattle.stream_schema.specs.declared.Event.{Event}
 use Rattle.cel_terms.specs.declared.Query.{Query}
-use Rattle.query_engine.specs.Clocks.{HasClockAt, IsLastClock}
 use Rattle.query_engine.specs.Engine.{EngineState, Open, StandsFor, SameQueries, found_of, len_of, peak_of}
 use Rattle.query_engine.specs.Keys.{HasAddedKeys, KeysFollowWindows, KeysFollowWindowsSince}
 use Rattle.query_engine.specs.Windows.{IsBoundedBy, IsReadFrom, IsDense, FollowsWindow, IsRecentAt, FollowsWindowSince, HasAdded}
@@ -257,15 +256,6 @@ compaction_follows (Ok x) due old new held count counted has_come none same foun
     windows_compacted due before (last_of due (length events - 1)) old new held events (subst (λ (n : ℕ). due n ≡ true) (counted events at) has_come) none same found peak (stands events at) (dense events w.dense) (window events at w.dense) (keyed events at) w
 
 -- AT THE END
-
--- the same with the peaks that there were by another name
-pub windows_before : (due : ℕ → Bool) (before others : ℕ → ℕ) (first : ℕ) (events : List Event) (engine : EngineState) → ((query : ℕ) → before query ≤ others query) → FollowsWindowsBy due before first events engine → FollowsWindowsBy due others first events engine
-windows_before due before others first events engine less w = record {
-  dense = w.dense;
-  nodes = w.nodes;
-  keys = w.keys;
-  peaks = λ k q at. (let le = less (k + 1) in elim (w.peaks k q at) [ inl was ↦ inl (omega arith) | inr had ↦ inr had ]);
-}
 
 -- a fact that follows, where all was well
 pub on_ok : {T E : Type 0} (r : Result T E) (P Q : Type 0) → (P → Q) → OnOk r P → OnOk r Q

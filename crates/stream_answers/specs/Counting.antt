@@ -1,5 +1,5 @@
 -- How the steps of a run stand from event to event. Private clauses alone cite this file.
-use Rattle.std.specs.Prelude.{◌≡◌, ℕ, ◌+◌, ◌≤◌, List, ◌++◌, length, Option, Result, Ok, Err}
+use Rattle.std.specs.Prelude.{◌≡◌, ℕ, ◌+◌, ◌≤◌, List, ◌++◌, length, Option, Result, Ok, Err, Some, OnOk}
 use Rattle.cer_base.specs.declared.OrMemory.{OrMemory}
 use Rattle.cer_base.specs.declared.OrMemory.TheVariants.{Fault, Memory}
 use Rattle.answer_text.specs.declared.Order.{Order}
@@ -13,9 +13,10 @@ use Rattle.query_engine.specs.Engine.{EngineState, StandsFor}
 use Rattle.query_engine.specs.Counts.{MeetMost, HasFewNodes}
 use Rattle.stream_answers.specs.Gathering.{Running}
 use Rattle.stream_answers.specs.Windows.{last_of, FollowsEvents, FollowsWindowsBy}
-use Rattle.stream_answers.specs.Steps.{AreBoundedBy, compaction_by}
+use Rattle.stream_answers.specs.declared.StreamFault.{StreamFault}
+use Rattle.stream_answers.specs.Steps.{AreBoundedBy, StepsOverAfter, compaction_by}
 use Rattle.stream_answers.specs.Schedules.{Timing, Plan, due_by, saved_by, WithNoNumber, IsOnTime}
-use Rattle.stream_answers.specs.Streams.{RunRequest}
+use Rattle.stream_answers.specs.Streams.{RunRequest, StandsForAllAfter, WroteStreamAfter}
 
 -- What is written or held are the lines of the output's rows, the steps are bounded by these and the events, and the nodes by the events.
 pub record Counted (timing : Timing) (earlier : List Event) (a : RunRequest) (source : Option (List ℕ)) (reader : LineReader) (left before after : Option (List ℕ)) (buffer : List ℕ) (engine : EngineState) (first now : ℕ) : Type 0 where
@@ -54,3 +55,9 @@ abbrev pub StepsPut : {T F : Type 0} → Order → Option (List ℕ) → Option 
 StepsPut order before after rows most now (Ok done) = now ≤ most + row_delays rows
 StepsPut order before after rows most now (Err Memory) = now ≤ most + row_delays rows
 StepsPut order before after rows most now (Err (Fault f)) = StepsAtFault order before after rows most now
+
+-- How a run ended over a source: what was written, how many steps there are, and what the engine stands for where it ended well.
+pub record RunEnded (timing : Timing) (peaks : ℕ → ℕ) (earlier : List Event) (a : RunRequest) (source left before after : Option (List ℕ)) (engine : EngineState) (first now : ℕ) {T : Type 0} (result : Result T (OrMemory StreamFault)) : Type 0 where
+  pub wrote : WroteStreamAfter earlier a source left before after result
+  pub steps : (bytes : List ℕ) → source ≡ Some bytes → StepsOverAfter timing earlier a bytes before after first now result
+  pub stands : OnOk result ((bytes : List ℕ) → source ≡ Some bytes → StandsForAllAfter timing peaks earlier a bytes engine)

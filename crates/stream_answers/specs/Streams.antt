@@ -35,56 +35,75 @@ pub record RunRequest : Type 0 where
 abbrev pub asked_by : RunOptions → EngineState → RunRequest
 asked_by options engine = record { order = options.order; schema = engine.schema; queries = engine.queries; most_bytes = options.most_bytes }
 
--- WHAT COMES AFTER OTHER EVENTS
--- `earlier` are events that came before and whose answers are not asked for; `events` are these and then those of the file.
+-- OVER ANY SOURCE
+-- `Takes lines events stop`: where the queries take the events of a file of these bytes and stop so, these are all events. The answers at the `first` ones are not asked for.
 
--- The bytes are the answers over the events that come after those before, as the queries take them of a file of these bytes.
-pub record AreAnswersAfter (earlier : List StreamEvent) (a : RunRequest) (lines bytes : List ℕ) : Type 0 where
+-- The bytes are the answers over the events of a file of these bytes.
+pub record AreAnswersBy (Takes : List ℕ → List StreamEvent → RunStop → Type 0) (first : ℕ) (a : RunRequest) (lines bytes : List ℕ) : Type 0 where
   pub events : List StreamEvent
   pub stop : RunStop
-  pub runs : RunsAfter earlier a.schema a.queries a.most_bytes lines events stop
-  pub output : IsOutputAfter (length earlier) a.order a.schema a.queries events bytes
+  pub runs : Takes lines events stop
+  pub output : IsOutputAfter first a.order a.schema a.queries events bytes
 
--- The sink took the answers over the events that come after those before, and what the source was tells which these are.
-pub record WroteOverAfter (earlier : List StreamEvent) (a : RunRequest) (source : Option (List ℕ)) (Are : List ℕ → List StreamEvent → Type 0) (old new : Option (List ℕ)) : Type 0 where
+-- The sink took the answers over events, and what the source was tells which these are.
+pub record WroteOverFrom (first : ℕ) (a : RunRequest) (source : Option (List ℕ)) (Are : List ℕ → List StreamEvent → Type 0) (old new : Option (List ℕ)) : Type 0 where
   pub events : List StreamEvent
   pub bytes : List ℕ
-  pub output : IsOutputAfter (length earlier) a.order a.schema a.queries events bytes
+  pub output : IsOutputAfter first a.order a.schema a.queries events bytes
   pub took : TookAll old new bytes
   pub are : (lines : List ℕ) → source ≡ Some lines → Are lines events
 
--- The engine stands for exactly the events before and those that the queries take of a file of these bytes, which is read to its end. It was compacted where that was due, and its nodes follow the windows; these were its peaks before. Where its queries are compacted as they grow, each is kept small.
-pub record StandsForAllAfter (timing : Timing) (peaks : ℕ → ℕ) (earlier : List StreamEvent) (a : RunRequest) (lines : List ℕ) (engine : EngineState) : Type 0 where
+-- The sink took a part of bytes, and where the source told its own, these are the answers over its events.
+pub record WrotePartBy (Takes : List ℕ → List StreamEvent → RunStop → Type 0) (first : ℕ) (a : RunRequest) (source : Option (List ℕ)) (Took : List ℕ → Type 0) : Type 0 where
+  pub bytes : List ℕ
+  pub took : Took bytes
+  pub are : (lines : List ℕ) → source ≡ Some lines → AreAnswersBy Takes first a lines bytes
+
+-- The engine stands for exactly the events of a file of these bytes, which is read to its end. It was compacted where that was due, and its nodes follow the windows; these were its peaks before. Where its queries are compacted as they grow, each is kept small.
+pub record StandsForTaken (Takes : List ℕ → List StreamEvent → RunStop → Type 0) (timing : Timing) (peaks : ℕ → ℕ) (lines : List ℕ) (engine : EngineState) : Type 0 where
   pub events : List StreamEvent
-  pub runs : RunsAfter earlier a.schema a.queries a.most_bytes lines events stop.End
+  pub runs : Takes lines events stop.End
   pub stands : StandsFor engine events
   pub windows : FollowsWindowsBy (due_by timing) peaks (last_of (due_by timing) (length events)) events engine
   pub keeps_up : WithNoNumber timing.every (KeepsUp engine events)
+
+-- all answers up to the stop; those over what was read, by what is left; a proper part after a fault of the sink; a first part where memory ran out
+abbrev pub said_by : (List ℕ → List StreamEvent → RunStop → Type 0) → (Option (List ℕ) → List ℕ → List StreamEvent → Type 0) → ℕ → RunRequest → Option (List ℕ) → Option (List ℕ) → Option (List ℕ) → EndClaims
+said_by Takes Read first a source old new = record {
+  stops = λ halt. WroteOverFrom first a source (λ lines events. Takes lines events halt) old new;
+  unread = λ left. WroteOverFrom first a source (Read left) old new;
+  unwritten = WrotePartBy Takes first a source (TookPart old new);
+  wants = WrotePartBy Takes first a source (TookPrefix old new);
+}
+
+-- OVER A FILE WHOSE EVENTS COME AFTER OTHERS
+-- `earlier` are events that came before and whose answers are not asked for; `events` are these and then those of the file.
+
+abbrev pub AreAnswersAfter : List StreamEvent → RunRequest → List ℕ → List ℕ → Type 0
+AreAnswersAfter earlier a lines bytes = AreAnswersBy (RunsAfter earlier a.schema a.queries a.most_bytes) (length earlier) a lines bytes
+
+abbrev pub WroteOverAfter : List StreamEvent → RunRequest → Option (List ℕ) → (List ℕ → List StreamEvent → Type 0) → Option (List ℕ) → Option (List ℕ) → Type 0
+WroteOverAfter earlier a source Are old new = WroteOverFrom (length earlier) a source Are old new
+
+abbrev pub StandsForAllAfter : Timing → (ℕ → ℕ) → List StreamEvent → RunRequest → List ℕ → EngineState → Type 0
+StandsForAllAfter timing peaks earlier a lines engine = StandsForTaken (RunsAfter earlier a.schema a.queries a.most_bytes) timing peaks lines engine
 
 -- it took those over all events that the queries take, which stop so
 abbrev pub WroteAllAfter : List StreamEvent → RunRequest → Option (List ℕ) → RunStop → Option (List ℕ) → Option (List ℕ) → Type 0
 WroteAllAfter earlier a source stop old new =
     WroteOverAfter earlier a source (λ lines events. RunsAfter earlier a.schema a.queries a.most_bytes lines events stop) old new
 
--- The sink took a part of bytes, and where the source told its own, these are the answers over its events.
-pub record WrotePartOfAfter (earlier : List StreamEvent) (a : RunRequest) (source : Option (List ℕ)) (Took : List ℕ → Type 0) : Type 0 where
-  pub bytes : List ℕ
-  pub took : Took bytes
-  pub are : (lines : List ℕ) → source ≡ Some lines → AreAnswersAfter earlier a lines bytes
+abbrev pub WrotePartOfAfter : List StreamEvent → RunRequest → Option (List ℕ) → (List ℕ → Type 0) → Type 0
+WrotePartOfAfter earlier a source Took = WrotePartBy (RunsAfter earlier a.schema a.queries a.most_bytes) (length earlier) a source Took
 
--- all answers up to the stop; those over the lines that were read; a proper part after a fault of the sink; a first part where memory ran out
 abbrev pub answers_said : List StreamEvent → RunRequest → Option (List ℕ) → Option (List ℕ) → Option (List ℕ) → EndClaims
-answers_said earlier a source old new = record {
-  stops = λ halt. WroteAllAfter earlier a source halt old new;
-  unread = λ left. WroteOverAfter earlier a source (λ lines events. AreEventsReadAfter earlier a.schema a.queries a.most_bytes lines left events) old new;
-  unwritten = WrotePartOfAfter earlier a source (TookPart old new);
-  wants = WrotePartOfAfter earlier a source (TookPrefix old new);
-}
+answers_said earlier a source old new =
+    said_by (RunsAfter earlier a.schema a.queries a.most_bytes) (λ left lines events. AreEventsReadAfter earlier a.schema a.queries a.most_bytes lines left events) (length earlier) a source old new
 
 abbrev pub WroteStreamAfter : List StreamEvent → RunRequest → Option (List ℕ) → Option (List ℕ) → Option (List ℕ) → Option (List ℕ) → {T : Type 0} → Result T (OrMemory StreamFault) → Type 0
 WroteStreamAfter earlier a source left old new result = ByEnd (answers_said earlier a source old new) left result
 
--- THE SAME WITH NO EVENT BEFORE
+-- WITH NO EVENT BEFORE
 
 -- The bytes are the answers over the events that the queries take of a file of these bytes.
 abbrev pub AreAnswersOver : RunRequest → List ℕ → List ℕ → Type 0

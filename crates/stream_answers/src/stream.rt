@@ -6,7 +6,7 @@ ghost use Rattle.event_reader.specs.LineReaders.{HasGiven};
 ghost use Rattle.query_engine.specs.Engine.{StandsFor, SameQueries, count_of, len_of, peak_of};
 ghost use Rattle.query_engine.specs.Counts.{MeetMost, HasFewNodes};
 ghost use Rattle.stream_answers.specs.Gathering.{Finished, stream_fault};
-ghost use Rattle.stream_answers.specs.Counting.{HasBegun};
+ghost use Rattle.stream_answers.specs.Counting.{HasBegun, RunEnded};
 ghost use Rattle.stream_answers.specs.Schedules.{saved};
 ghost use Rattle.stream_answers.specs.Steps.{AreBoundedBy, AreOfEvents, StepsOver, StepsOverAfter};
 ghost use Rattle.stream_answers.specs.Windows.{FollowsEvents};
@@ -147,35 +147,18 @@ fn answer_events<Q: Source, K: Sink, L: Ledger>(
     requires given { (bytes : List ℕ) → HasGiven lines.old bytes (Some bytes) [] }
     requires empty { output.old.buffer ≡ [] }
     requires bases { length schedule.old.bases ≡ length engine.old.queries }
-    ensures wrote { (peaks : ℕ → ℕ) (earlier : List Event)
+    ensures ended { (peaks : ℕ → ℕ) (earlier : List Event) (begun : ℕ)
         → HasBegun schedule.old peaks earlier engine.old
-        → WroteStreamAfter earlier (record {
+        → AreBoundedBy schedule.old.timing engine.old.schema engine.old.queries earlier [] begun
+        (steps.old + saved schedule.old engine.old)
+        → RunEnded schedule.old.timing peaks earlier (record {
           order = output.old.order;
           schema = engine.old.schema;
           queries = engine.old.queries;
           most_bytes = lines.old.budget;
         })
-        (Q.left source.old) (Q.left source.new) (K.taken out.old) (K.taken out.new) result }
-    ensures steps { (peaks : ℕ → ℕ) (earlier : List Event) (begun : ℕ)
-        → HasBegun schedule.old peaks earlier engine.old
-        → AreBoundedBy schedule.old.timing engine.old.schema engine.old.queries earlier [] begun
-        (steps.old + saved schedule.old engine.old)
-        → (bytes : List ℕ) → Q.left source.old ≡ Some bytes
-        → StepsOverAfter schedule.old.timing earlier (record {
-          order = output.old.order;
-          schema = engine.old.schema;
-          queries = engine.old.queries;
-          most_bytes = lines.old.budget;
-        }) bytes (K.taken out.old) (K.taken out.new) begun steps.new result }
-    ensures stands { OnOk result ((peaks : ℕ → ℕ) (earlier : List Event)
-        → HasBegun schedule.old peaks earlier engine.old
-        → (bytes : List ℕ) → Q.left source.old ≡ Some bytes
-        → StandsForAllAfter schedule.old.timing peaks earlier (record {
-          order = output.old.order;
-          schema = engine.old.schema;
-          queries = engine.old.queries;
-          most_bytes = lines.old.budget;
-        }) bytes engine.new) }
+        (Q.left source.old) (Q.left source.new) (K.taken out.old) (K.taken out.new) engine.new
+        begun steps.new result }
     ensures same { SameQueries engine.old engine.new }
     ensures read_cause { HasReadCause (Q.faults source.old) (Q.faults source.new) result }
     ensures write_cause { HasWriteCause (K.faults out.old) (K.faults out.new) result }

@@ -2,8 +2,8 @@ use Rattle.std.proofs.Common.{ℕ, List, Option, refl, subst}
 use Rattle.cel_terms.specs.declared.Query.{Query}
 use Rattle.stream_answers.specs.RunEnds.{EndClaims, ByEnd}
 use Rattle.command_base.specs.Sources.{Sources}
-use Rattle.command_base.proofs.Ends.{file_unopened, file_opened}
-use Rattle.command_base.proofs.Sources.{source_stops, source_writes}
+use Rattle.command_base.proofs.Ends.{file_unopened}
+use Rattle.command_base.proofs.Sources.{file_ran}
 use Rattle.command_checkpoint.specs.Saved.{saved_said}
 use Rattle.command_checkpoint.specs.Saving.{save_asked}
 use Rattle.command_checkpoint.proofs.save_command.save_file.Goals as goal
@@ -16,7 +16,5 @@ returns-clause-stop g c =
     let sources : Sources _ = record { faults = g.H.Src.Source.faults; left = g.H.Src.Source.left } in
     let said : List Query → Option (List ℕ) → EndClaims = λ queries source. saved_said (save_asked c.args.accepted.now.schema queries) source (g.K.Sink.taken c.args.out.now) (g.K.Sink.taken c.save_events-end.new.out) in
     let wrote = subst (λ (queries : List Query). ByEnd (said queries (g.H.Src.Source.left c.in-Ok.source)) (g.H.Src.Source.left c.save_events-end.new.source) c.save_events-end.result) c.as_slice-queries.ensures c.save_events-end.ensures.wrote in
-    file_opened sources (said c.args.accepted.now.queries) _ _ _ _ _ c.in-Ok.ensures.bytes c.in-Ok.ensures.counts
-    (rw (c.stop_of.ensures.cause, c.stop_of.ensures.failed, c.fault_count-before.ensures) (source_stops sources (said c.args.accepted.now.queries (g.H.Src.Source.left c.in-Ok.source)) c.save_events-end.new.source (g.H.Src.Source.faults c.in-Ok.source) (g.K.Sink.faults c.args.out.now) (g.K.Sink.faults c.save_events-end.new.out)
-    c.save_events-end.result c.in-Ok.ensures.fresh wrote c.save_events-end.ensures.read_cause c.save_events-end.ensures.write_cause))
-    (rw (c.stop_of.ensures.cause, c.fault_count-before.ensures) (source_writes (g.K.Sink.faults c.args.out.now) (g.K.Sink.faults c.save_events-end.new.out) (g.H.Src.Source.faults c.save_events-end.new.source) c.save_events-end.result c.save_events-end.ensures.write_cause))
+    file_ran sources (said c.args.accepted.now.queries) _ _ c.in-Ok.source c.save_events-end.new.source c.save_events-end.result _ _ _ c.in-Ok.ensures.bytes c.in-Ok.ensures.counts c.in-Ok.ensures.fresh wrote c.save_events-end.ensures.read_cause c.save_events-end.ensures.write_cause c.fault_count-before.ensures
+    c.stop_of.ensures.cause c.stop_of.ensures.failed

@@ -2,8 +2,8 @@ use Rattle.std.proofs.Common.{ℕ, List, Option, refl, subst}
 use Rattle.cel_terms.specs.declared.Query.{Query}
 use Rattle.stream_answers.specs.RunEnds.{EndClaims, ByEnd}
 use Rattle.command_base.specs.Sources.{Sources}
-use Rattle.command_base.proofs.Ends.{file_unopened, file_opened}
-use Rattle.command_base.proofs.Sources.{source_stops, source_writes}
+use Rattle.command_base.proofs.Ends.{file_unopened}
+use Rattle.command_base.proofs.Sources.{file_ran}
 use Rattle.command_explain.specs.ExplanationOutput.{explained_said}
 use Rattle.command_explain.proofs.command.explain_file.Goals as goal
 
@@ -16,7 +16,5 @@ returns-clause-stop g c =
     let said : Option (List ℕ) → List Query → EndClaims = λ source queries.
     explained_said (record { schema = c.args.accepted.now.schema; queries = queries; question = c.args.question.now }) source (g.K.Sink.taken c.args.out.now) (g.K.Sink.taken c.write_explanation-end.new.out) in
     let wrote = subst (λ (queries : List Query). ByEnd (said (g.H.Src.Source.left c.in-Ok.source) queries) (g.H.Src.Source.left c.write_explanation-end.new.source) c.write_explanation-end.result) c.as_slice-queries.ensures c.write_explanation-end.ensures.wrote in
-    file_opened sources (λ source. said source c.args.accepted.now.queries) _ _ _ _ _ c.in-Ok.ensures.bytes c.in-Ok.ensures.counts
-    (rw (c.stop_of.ensures.cause, c.stop_of.ensures.failed, c.fault_count-before.ensures) (source_stops sources (said (g.H.Src.Source.left c.in-Ok.source) c.args.accepted.now.queries) c.write_explanation-end.new.source (g.H.Src.Source.faults c.in-Ok.source) (g.K.Sink.faults c.args.out.now) (g.K.Sink.faults c.write_explanation-end.new.out) c.write_explanation-end.result
-    c.in-Ok.ensures.fresh wrote c.write_explanation-end.ensures.read_cause c.write_explanation-end.ensures.write_cause))
-    (rw (c.stop_of.ensures.cause, c.fault_count-before.ensures) (source_writes (g.K.Sink.faults c.args.out.now) (g.K.Sink.faults c.write_explanation-end.new.out) (g.H.Src.Source.faults c.write_explanation-end.new.source) c.write_explanation-end.result c.write_explanation-end.ensures.write_cause))
+    file_ran sources (λ source. said source c.args.accepted.now.queries) _ _ c.in-Ok.source c.write_explanation-end.new.source c.write_explanation-end.result _ _ _ c.in-Ok.ensures.bytes c.in-Ok.ensures.counts c.in-Ok.ensures.fresh wrote c.write_explanation-end.ensures.read_cause c.write_explanation-end.ensures.write_cause c.fault_count-before.ensures
+    c.stop_of.ensures.cause c.stop_of.ensures.failed

@@ -1,9 +1,9 @@
 use Rattle.std.proofs.Common.{ℕ, List, Option, refl}
 use Rattle.stream_answers.specs.RunEnds.{EndClaims}
 use Rattle.command_base.specs.Sources.{Sources}
-use Rattle.command_base.proofs.Ends.{file_unopened, file_opened}
+use Rattle.command_base.proofs.Ends.{file_unopened}
 use Rattle.command_base.proofs.StepClauses.{is_opening, early_steps, steps_of_source}
-use Rattle.command_base.proofs.Sources.{source_stops, source_writes, source_steps}
+use Rattle.command_base.proofs.Sources.{file_ran, source_steps}
 use Rattle.command_session.specs.Scripts.{play_said}
 use Rattle.command_session.specs.StepCounts.{script_asked, script_counts}
 use Rattle.command_session.proofs.TurnsCounted.{turns_counted}
@@ -19,10 +19,8 @@ pub returns-clause-stop : goal.returns-clause-stop
 returns-clause-stop g c =
     let sources : Sources _ = record { faults = g.H.Src.Source.faults; left = g.H.Src.Source.left } in
     let said : Option (List ℕ) → EndClaims = λ source. play_said (script_asked c.args.accepted.schema c.args.accepted.queries) source (g.K.Sink.taken c.args.out.now) (g.K.Sink.taken c.play_script-end.new.out) in
-    file_opened sources said _ _ _ _ _ c.in-Ok.ensures.bytes c.in-Ok.ensures.counts
-    (rw (c.stop_of.ensures.cause, c.stop_of.ensures.failed, c.fault_count-before.ensures) (source_stops sources (said (g.H.Src.Source.left c.in-Ok.source)) c.play_script-end.new.source (g.H.Src.Source.faults c.in-Ok.source) (g.K.Sink.faults c.args.out.now) (g.K.Sink.faults c.play_script-end.new.out)
-    c.play_script-end.result c.in-Ok.ensures.fresh c.play_script-end.ensures.wrote c.play_script-end.ensures.read_cause c.play_script-end.ensures.write_cause))
-    (rw (c.stop_of.ensures.cause, c.fault_count-before.ensures) (source_writes (g.K.Sink.faults c.args.out.now) (g.K.Sink.faults c.play_script-end.new.out) (g.H.Src.Source.faults c.play_script-end.new.source) c.play_script-end.result c.play_script-end.ensures.write_cause))
+    file_ran sources said _ _ c.in-Ok.source c.play_script-end.new.source c.play_script-end.result _ _ _ c.in-Ok.ensures.bytes c.in-Ok.ensures.counts c.in-Ok.ensures.fresh c.play_script-end.ensures.wrote c.play_script-end.ensures.read_cause c.play_script-end.ensures.write_cause c.fault_count-before.ensures
+    c.stop_of.ensures.cause c.stop_of.ensures.failed
 
 pub returns-clause-steps : goal.returns-clause-steps
 returns-clause-steps g c =

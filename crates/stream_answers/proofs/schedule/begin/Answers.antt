@@ -1,7 +1,6 @@
-use Rattle.std.proofs.Common.{◌≡◌, ℕ, List, length, sym, subst, arith}
+use Rattle.std.proofs.Common.{◌≡◌, List, length, sym, subst, arith}
 use Rattle.std.proofs.lemmas.List.{with_items_is}
 use Rattle.query_engine.specs.declared.sizes.Size.{Size}
-use Rattle.query_engine.specs.Engine.{Open}
 use Rattle.query_engine.specs.Sizes.{AreKeptSmall}
 use Rattle.query_engine.specs.Windows.{FollowsWindow}
 use Rattle.query_engine.proofs.SmallSizes.{compacted_are_small}

@@ -3,7 +3,7 @@ use Rattle.stream_schema.specs.declared.Event.{Event}
 use Rattle.answer_text.specs.declared.Order.TheVariants.{Walk}
 use Rattle.query_engine.specs.Engine.{count_of, SameQueries}
 use Rattle.stream_answers.specs.Counting.{HasBegun, Following}
-use Rattle.stream_answers.specs.Schedules.{saved, WithNoNumber}
+use Rattle.stream_answers.specs.Schedules.{saved}
 use Rattle.stream_answers.specs.Steps.{AreBoundedBy}
 use Rattle.stream_answers.proofs.stream.answer_events.Given as goal
 

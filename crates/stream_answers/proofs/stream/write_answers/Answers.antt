@@ -1,4 +1,4 @@
-use Rattle.std.proofs.Common.{◌+◌, ◌^◌, ◌<◌, [], arith}
+use Rattle.std.proofs.Common.{[], arith}
 use Rattle.query_engine.specs.Engine.{peak_of}
 use Rattle.stream_answers.proofs.Windows.{follows_none, on_ok}
 use Rattle.stream_answers.proofs.stream.write_answers.Goals as goal

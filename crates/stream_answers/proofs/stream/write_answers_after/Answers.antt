@@ -1,18 +1,17 @@
-use Rattle.std.proofs.Common.{◌≡◌, ◌+◌, ◌^◌, ◌<◌, ◌≤◌, ℕ, List, [], length, Option, refl, sym, ap, subst, ◌∙◌, arith}
+use Rattle.std.proofs.Common.{◌≡◌, ◌+◌, ◌≤◌, ℕ, List, [], length, Option, sym, ap, subst, ◌∙◌, arith}
 use Rattle.stream_schema.specs.Types.{Declared}
 use Rattle.stream_schema.specs.declared.Event.{Event}
 use Rattle.cel_terms.specs.declared.Query.{Query}
 use Rattle.answer_text.specs.declared.Order.{Order}
-use Rattle.query_engine.specs.Engine.{EngineState, StandsFor, SameQueries}
-use Rattle.query_engine.specs.Windows.{IsDense}
+use Rattle.query_engine.specs.Engine.{EngineState, SameQueries}
 use Rattle.stream_answers.specs.Counting.{HasBegun}
 use Rattle.stream_answers.specs.Schedules.{Timing, Plan, WithNoNumber, saved, first_compaction, IsOnTime}
 use Rattle.stream_answers.specs.Streams.{RunRequest, WroteStreamAfter, StandsForAllAfter}
 use Rattle.stream_answers.specs.Steps.{AreBoundedBy, StepsOverAfter}
 use Rattle.stream_answers.specs.Windows.{FollowsEvents}
-use Rattle.stream_answers.proofs.Windows.{on_ok}
+use Rattle.stream_answers.proofs.RunEnds.{on_end}
 use Rattle.stream_answers.proofs.Wholes.{wrote_none}
-use Rattle.stream_answers.proofs.Totals.{bounded_first, counts_none}
+use Rattle.stream_answers.proofs.Totals.{bounded_first, bounded_none, counts_none}
 use Rattle.stream_answers.proofs.stream.write_answers_after.Goals as goal
 
 -- what is asked, as the reader, the lines and the engine tell it
@@ -68,10 +67,11 @@ answer_events-requires-clause-room g c = let room = c.requires.room in let budge
 pub returns-clause-wrote : goal.returns-clause-wrote
 returns-clause-wrote g c = λ peaks earlier f.
     let did = c.in-Ok-new.ensures in
+    let now : ℕ = c.new-2.new.steps + saved c.in-Ok-new.schedule c.new-2.new.engine in
     let has_begun = begins c.in-Ok-new.schedule c.args.options.compact_every _ peaks earlier c.new-2.new.engine did.timing (did.follows peaks earlier f) (did.first earlier f.stands) (did.on_time earlier f.stands f.dense) in
     let asked = asked_is c.args.options.order c.new-output.result.order c.args.engine.now c.new-2.new.engine c.args.options.most_bytes c.in-Ok.lines.budget (ap (λ o. o.order) c.new-output.ensures) did.same c.in-Ok.ensures.budget in
     subst (λ (a : RunRequest). WroteStreamAfter earlier a (g.Q.Source.left c.args.source.now) (g.Q.Source.left c.answer_events.new.source) (g.K.Sink.taken c.args.out.now) (g.K.Sink.taken c.answer_events.new.out) c.answer_events.result) asked
-    (c.answer_events.ensures.wrote peaks earlier has_begun)
+    (c.answer_events.ensures.ended peaks earlier now has_begun (bounded_none c.in-Ok-new.schedule.timing c.new-2.new.engine.schema c.new-2.new.engine.queries earlier [] now)).wrote
 
 pub returns-clause-steps : goal.returns-clause-steps
 returns-clause-steps g c = λ peaks earlier begun f paid bytes same.
@@ -88,7 +88,7 @@ returns-clause-steps g c = λ peaks earlier begun f paid bytes same.
     first_as plan.timing.every c.args.options.compact_every (length c.args.engine.now.queries) (length earlier) most c.args.steps.now now (ap (λ (r : Timing). r.every) did.timing) (did.steps earlier most f.stands meet few))) in
     subst (λ (a : RunRequest). StepsOverAfter t earlier a bytes (g.K.Sink.taken c.args.out.now) (g.K.Sink.taken c.answer_events.new.out) begun c.answer_events.new.steps c.answer_events.result) asked (
     subst (λ (r : Timing). StepsOverAfter r earlier there bytes (g.K.Sink.taken c.args.out.now) (g.K.Sink.taken c.answer_events.new.out) begun c.answer_events.new.steps c.answer_events.result) is
-    (c.answer_events.ensures.steps peaks earlier begun has_begun so_far bytes same))
+    ((c.answer_events.ensures.ended peaks earlier begun has_begun so_far).steps bytes same))
 
 pub returns-clause-stands : goal.returns-clause-stands
 returns-clause-stands g c =
@@ -96,10 +96,11 @@ returns-clause-stands g c =
     let there : RunRequest = record { order = c.new-output.result.order; schema = c.new-2.new.engine.schema; queries = c.new-2.new.engine.queries; most_bytes = c.in-Ok.lines.budget } in
     let plan = c.in-Ok-new.schedule in
     let asked = asked_is c.args.options.order c.new-output.result.order c.args.engine.now c.new-2.new.engine c.args.options.most_bytes c.in-Ok.lines.budget (ap (λ o. o.order) c.new-output.ensures) did.same c.in-Ok.ensures.budget in
-    on_ok c.answer_events.result _ _ (λ stands peaks earlier f bytes same.
+    let now : ℕ = c.new-2.new.steps + saved plan c.new-2.new.engine in
+    on_end c.answer_events.result _ (λ well peaks earlier f bytes same.
     let has_begun = begins plan c.args.options.compact_every _ peaks earlier c.new-2.new.engine did.timing (did.follows peaks earlier f) (did.first earlier f.stands) (did.on_time earlier f.stands f.dense) in
     let t : Timing = record { every = c.args.options.compact_every; first = length earlier } in
     let is : plan.timing ≡ t = timing_is plan.timing c.args.options.compact_every _ (length earlier) did.timing (did.first earlier f.stands) in
     subst (λ (a : RunRequest). StandsForAllAfter t peaks earlier a bytes c.answer_events.new.engine) asked (
-    subst (λ (r : Timing). StandsForAllAfter r peaks earlier there bytes c.answer_events.new.engine) is (stands peaks earlier has_begun bytes same)))
-    c.answer_events.ensures.stands
+    subst (λ (r : Timing). StandsForAllAfter r peaks earlier there bytes c.answer_events.new.engine) is
+    (well _ (c.answer_events.ensures.ended peaks earlier now has_begun (bounded_none plan.timing c.new-2.new.engine.schema c.new-2.new.engine.queries earlier [] now)).stands bytes same)))

@@ -1,4 +1,4 @@
-use Rattle.std.proofs.Common.{◌≡◌, ℕ, [], true, false, None, refl, sym, subst}
+use Rattle.std.proofs.Common.{◌≡◌, [], true, false, None, refl}
 use Rattle.stream_answers.specs.Windows.{is_due_after}
 use Rattle.stream_answers.proofs.Windows.{never_due, compaction_follows, windows_stay, windows_looked, on_ok}
 use Rattle.stream_answers.proofs.schedule.Schedule.keep_up.Goals as goal

@@ -1,4 +1,4 @@
-use Rattle.std.proofs.Common.{◌+◌, ◌≤◌, arith}
+use Rattle.std.proofs.Common.{arith}
 use Rattle.query_engine.proofs.SmallSizes.{nothing_is_put_by}
 use Rattle.stream_answers.proofs.schedule.Schedule.new.Goals as goal
 

@@ -1,35 +1,29 @@
-use crate::tests::events::{event_words, five_types, push_values};
-use cer_base::{Listed, OrMemory, Text};
+use crate::tests::input::declare;
+use crate::tests::input::events::{event_words, five_types, push_values};
+use crate::tests::same;
+use cer_base::OrMemory;
 use event_reader::EventBuffer;
 use std::alloc::{AllocError, Global};
 use std::test::Fail;
-use stream_schema::{Attr, Event, Kind, Schema, SchemaFault};
+use stream_schema::{Event, Kind, Schema, SchemaFault};
+
+/// Three whole numbers.
+const THREE: &[(&str, Kind)] = &[("v", Kind::Int), ("w", Kind::Int), ("x", Kind::Int)];
+
+/// An attribute of each kind.
+const EACH: &[(&str, Kind)] = &[
+    ("v", Kind::Int),
+    ("w", Kind::Text),
+    ("x", Kind::Flag),
+    ("y", Kind::Dec(2)),
+];
 
 // The five types, and two of more attributes: `P` of three whole numbers, `M` of each kind.
 fn seven_types(alloc: Global) -> Result<Schema, OrMemory<SchemaFault>> {
     let mut schema = five_types(alloc)?;
-    declare(alloc, &mut schema, "P", &[Kind::Int, Kind::Int, Kind::Int])?;
-    let each = [Kind::Int, Kind::Text, Kind::Flag, Kind::Dec(2)];
-    declare(alloc, &mut schema, "M", &each)?;
+    declare(alloc, &mut schema, "P", THREE)?;
+    declare(alloc, &mut schema, "M", EACH)?;
     Ok(schema)
-}
-
-fn declare(
-    alloc: Global,
-    schema: &mut Schema,
-    name: &str,
-    kinds: &[Kind],
-) -> Result<(), OrMemory<SchemaFault>> {
-    let mut attrs = Vec::new(alloc);
-    for (i, kind) in kinds.iter().enumerate() {
-        let word = format!(in alloc; "v{i}")?;
-        attrs.push(Attr {
-            name: Text::copy_of(alloc, word.as_str())?,
-            kind: *kind,
-        })?;
-    }
-    schema.declare_event(name, &Listed::of(attrs))?;
-    Ok(())
 }
 
 // What reading the line into the row answers, and the event that the row then holds.
@@ -87,7 +81,7 @@ fn read_wrong(alloc: Global, table: &str) -> Result<String, AllocError> {
     first_wrong(alloc, &schema, &mut row, table)
 }
 
-/// Each line, and what is read of it.
+/// Each line, and what is read of it by one row in turn: the row holds the last line alone.
 const ONE_ROW: &str = "A,1|0 1\n\
 A,x|field 1 is of another kind\n\
 N,abc|1 abc\n\
@@ -119,15 +113,7 @@ N,\u{e9}|1 \u{e9}\n\
 ,|unknown type\n\
 A,3|0 3";
 
-#[test]
-fn one_row_holds_the_last_line_alone(rt: HostRuntime) -> Result<(), Fail> {
-    let alloc = rt.alloc();
-    let wrong = read_wrong(alloc, ONE_ROW)?;
-    assert_eq!(rt; wrong.as_str(), "");
-    Ok(())
-}
-
-/// Each line, and what is read of it.
+/// The same of whole numbers of any length.
 const WHOLE_NUMBERS: &str = "A,-0|0 0\n\
 A,+0|0 0\n\
 A,000|0 0\n\
@@ -152,14 +138,6 @@ A, 1|field 1 is of another kind\n\
 A,1.0|field 1 is of another kind\n\
 A,/|field 1 is of another kind\n\
 A,:|field 1 is of another kind";
-
-#[test]
-fn whole_numbers_of_any_length(rt: HostRuntime) -> Result<(), Fail> {
-    let alloc = rt.alloc();
-    let wrong = read_wrong(alloc, WHOLE_NUMBERS)?;
-    assert_eq!(rt; wrong.as_str(), "");
-    Ok(())
-}
 
 /// Lines with a text, of bytes below 128 and others, and what is read of each.
 const TEXTS: &[(&[u8], &str)] = &[
@@ -204,10 +182,17 @@ fn texts_wrong(alloc: Global, table: &[(&[u8], &str)]) -> Result<String, AllocEr
     first_wrong_text(alloc, &schema, &mut row, table)
 }
 
+/// The two tables.
+const TABLES: &[&str] = &[ONE_ROW, WHOLE_NUMBERS];
+
 #[test]
-fn texts_of_any_bytes(rt: HostRuntime) -> Result<(), Fail> {
+fn one_row_holds_the_last_line_alone(rt: HostRuntime) -> Result<(), Fail> {
     let alloc = rt.alloc();
+    for &table in TABLES {
+        let wrong = read_wrong(alloc, table)?;
+        same(&rt, wrong.as_str(), "", "the first wrong row");
+    }
     let wrong = texts_wrong(alloc, TEXTS)?;
-    assert_eq!(rt; wrong.as_str(), "");
+    same(&rt, wrong.as_str(), "", "the first wrong text");
     Ok(())
 }

@@ -1,7 +1,7 @@
 ghost use Rattle.std.specs.Prelude.{◌≡◌, ◌<◌, ℕ, List, map, Some, IfOk};
 ghost use Rattle.event_reader.specs.LineReaders.{HasTold};
 
-use crate::tests::events::answer;
+use crate::tests::input::events::answer;
 use crate::tests::same;
 use cer_base::Memory;
 use cer_outside::Source;

@@ -2,7 +2,7 @@ use Rattle.std.proofs.Common.{◌≡◌, ℕ, List, [], ◌∷◌, ◌++◌, map
 use Rattle.std.proofs.lemmas.List.{map-append}
 use Rattle.event_reader.specs.Lines.{file_lines}
 use Rattle.event_reader.specs.LineReaders.{HasGiven}
-use Rattle.input_tests.proofs.tests.lines.read_lines.Goals as goal
+use Rattle.language_tests.proofs.tests.input.lines.read_lines.Goals as goal
 
 -- one more text was seen
 seen : {A : Type 0} (view : A → List ℕ) (old new : List A) (item : A) (text : List ℕ) → new ≡ old ++ item ∷ [] → view item ≡ text → map view old ++ text ∷ [] ≡ map view new

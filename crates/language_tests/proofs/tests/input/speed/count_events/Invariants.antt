@@ -1,6 +1,6 @@
 -- The reader is not closed, and each line takes room.
 use Rattle.std.proofs.Common.{◌≡◌, false}
-use Rattle.input_tests.proofs.tests.speed.count_events.Given as goal
+use Rattle.language_tests.proofs.tests.input.speed.count_events.Given as goal
 
 abbrev pub invariant-loop-lines : goal.invariant-loop-lines
 invariant-loop-lines g l = l.lines.closed ≡ false

@@ -1,7 +1,7 @@
 -- What the reader has given so far is what was seen.
 use Rattle.std.proofs.Common.{◌≡◌, ℕ, List, map, Some, false}
 use Rattle.event_reader.specs.LineReaders.{HasGiven}
-use Rattle.input_tests.proofs.tests.lines.read_lines.Given as goal
+use Rattle.language_tests.proofs.tests.input.lines.read_lines.Given as goal
 
 abbrev pub invariant-loop-lines : goal.invariant-loop-lines
 invariant-loop-lines g l = record {

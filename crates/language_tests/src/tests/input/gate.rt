@@ -2,30 +2,14 @@ ghost use Rattle.std.specs.Prelude.{ℕ};
 ghost use Rattle.stream_schema.specs.declared.Event.{Event};
 ghost use Rattle.reorder_gate.specs.ReleaseLaws.{SortingKeepsParts, ReleasedIsFinal};
 
+use crate::tests::input::declare;
 use crate::tests::same;
 use cer_base::{Listed, OrMemory, Text};
 use reorder_gate::laws::{released_is_final, sorting_keeps_parts};
 use reorder_gate::{Gate, TooLate, clock_fits};
 use std::alloc::{AllocError, Global};
 use std::test::Fail;
-use stream_schema::{Attr, Event, Kind, Schema, SchemaFault, Value};
-
-fn declare(
-    alloc: Global,
-    schema: &mut Schema,
-    name: &str,
-    attrs: &[(&str, Kind)],
-) -> Result<(), OrMemory<SchemaFault>> {
-    let mut list = Vec::new(alloc);
-    for (name, kind) in attrs {
-        list.push(Attr {
-            name: Text::copy_of(alloc, name)?,
-            kind: *kind,
-        })?;
-    }
-    schema.declare_event(name, &Listed::of(list))?;
-    Ok(())
-}
+use stream_schema::{Event, Kind, Schema, SchemaFault, Value};
 
 // A(t INT) and B(v STRING, t INT).
 fn declare_two(alloc: Global, schema: &mut Schema) -> Result<(), OrMemory<SchemaFault>> {

@@ -1,7 +1,7 @@
 //! How fast lines and events are read. The gate reads a few; for a measure set `EVENTS` to
 //! 1,000,000 and run `rt test` in the crate's folder, which prints the figures.
 
-use crate::tests::events::five_types;
+use crate::tests::input::events::five_types;
 use cer_base::Memory;
 use cer_outside::Source;
 use cer_outside::sources::SureSource;

@@ -1,13 +1,14 @@
 //! All lines of up to `LONGEST` bytes of six: what the event reader answers is what `csv`'s own
 //! reader makes of the line.
 
-use crate::tests::events::answer_under;
-use cer_base::{Listed, Memory, OrMemory, Text};
+use crate::tests::input::declare;
+use crate::tests::input::events::answer_under;
+use cer_base::OrMemory;
 use csv::{ByteRecord, Error, ReaderBuilder};
 use std::alloc::{AllocError, Global};
 use std::process::Abort;
 use std::test::Fail;
-use stream_schema::{Attr, Kind, Schema, SchemaFault};
+use stream_schema::{Kind, Schema, SchemaFault};
 
 /// A quote, what parts fields, a byte that a line may have at its end alone, two others, and one that
 /// is no text.
@@ -96,36 +97,26 @@ fn wanted(alloc: Global, line: &[u8]) -> Result<String, AllocError> {
     words_of(alloc, text)
 }
 
-// A type with so many texts.
-fn declare_texts(
-    alloc: Global,
-    schema: &mut Schema,
-    name: &str,
-    count: usize,
-) -> Result<(), OrMemory<SchemaFault>> {
-    let mut attrs = Vec::new(alloc);
-    for i in 0..count {
-        let name = match format!(in alloc; "v{i}") {
-            Ok(name) => name,
-            Err(_) => return Err(OrMemory::Memory),
-        };
-        attrs.push(Attr {
-            name: Text::copy_of(alloc, name.as_str())?,
-            kind: Kind::Text,
-        })?;
-    }
-    schema.declare_event(name, &Listed::of(attrs))?;
-    Ok(())
-}
-
 /// A name for each number of fields.
 const NAMES: &[&str] = &["A", "B", "C", "D", "E", "F", "G", "H"];
+
+/// As many texts as a line has at most.
+const FIELDS: &[(&str, Kind)] = &[
+    ("a", Kind::Text),
+    ("b", Kind::Text),
+    ("c", Kind::Text),
+    ("d", Kind::Text),
+    ("e", Kind::Text),
+    ("f", Kind::Text),
+    ("g", Kind::Text),
+    ("h", Kind::Text),
+];
 
 // The types with one text to eight.
 fn text_types(alloc: Global) -> Result<Schema, OrMemory<SchemaFault>> {
     let mut schema = Schema::new(alloc);
     for (i, name) in NAMES.iter().enumerate() {
-        declare_texts(alloc, &mut schema, name, i + 1)?;
+        declare(alloc, &mut schema, name, FIELDS.get(..=i).unwrap_or(FIELDS))?;
     }
     Ok(schema)
 }

@@ -1,32 +1,18 @@
+use crate::tests::input::declare;
 use crate::tests::same;
-use cer_base::{Listed, Memory, OrMemory, Text};
+use cer_base::OrMemory;
 use event_reader::read_event;
 use std::alloc::{AllocError, Global};
 use std::test::Fail;
-use stream_schema::{Attr, Event, Kind, Schema, SchemaFault, Value};
-
-fn declare(
-    alloc: Global,
-    schema: &mut Schema,
-    name: &str,
-    kind: Kind,
-) -> Result<(), OrMemory<SchemaFault>> {
-    let mut attrs = Vec::new(alloc);
-    attrs.push(Attr {
-        name: Text::copy_of(alloc, "v")?,
-        kind,
-    })?;
-    schema.declare_event(name, &Listed::of(attrs))?;
-    Ok(())
-}
+use stream_schema::{Event, Kind, Schema, SchemaFault, Value};
 
 pub fn five_types(alloc: Global) -> Result<Schema, OrMemory<SchemaFault>> {
     let mut schema = Schema::new(alloc);
-    declare(alloc, &mut schema, "A", Kind::Int)?;
-    declare(alloc, &mut schema, "N", Kind::Text)?;
-    declare(alloc, &mut schema, "F", Kind::Flag)?;
-    declare(alloc, &mut schema, "D", Kind::Dec(2))?;
-    declare(alloc, &mut schema, "Z", Kind::Dec(0))?;
+    declare(alloc, &mut schema, "A", &[("v", Kind::Int)])?;
+    declare(alloc, &mut schema, "N", &[("v", Kind::Text)])?;
+    declare(alloc, &mut schema, "F", &[("v", Kind::Flag)])?;
+    declare(alloc, &mut schema, "D", &[("v", Kind::Dec(2))])?;
+    declare(alloc, &mut schema, "Z", &[("v", Kind::Dec(0))])?;
     Ok(schema)
 }
 

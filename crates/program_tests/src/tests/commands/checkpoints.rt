@@ -1,5 +1,8 @@
+//! Texts of checkpoints, and what is kept of events.
+
 ghost use Rattle.std.specs.Prelude.{◌≡◌};
 
+use crate::tests::same;
 use cel_terms::{Formula, Name, Query, Window};
 use cer_base::{Listed, Location, Memory, OrMemory, Text};
 use cer_outside::sinks::MemSink;
@@ -11,7 +14,7 @@ use std::test::Fail;
 use stream_schema::{Attr, Kind, Schema, SchemaFault};
 
 // The types A(t INT) and B(t INT), and the stream S(A).
-pub fn two_types(alloc: Global) -> Result<Schema, OrMemory<SchemaFault>> {
+fn two_types(alloc: Global) -> Result<Schema, OrMemory<SchemaFault>> {
     let mut schema = Schema::new(alloc);
     let mut attrs = Vec::new(alloc);
     attrs.push(Attr {
@@ -51,7 +54,7 @@ fn query_in(alloc: Global, window: Window) -> Result<Query, Memory> {
 }
 
 // That query WITHIN 5 [t].
-pub fn by_time(alloc: Global) -> Result<Vec<Query>, Memory> {
+fn by_time(alloc: Global) -> Result<Vec<Query>, Memory> {
     let mut queries = Vec::new(alloc);
     queries.push(query_in(alloc, Window::Clock(name(alloc, "t")?, 5))?)?;
     Ok(queries)
@@ -76,7 +79,7 @@ fn history_words(alloc: Global, history: &History) -> Result<String, AllocError>
 }
 
 // What reading these bytes answers, in pieces, where the read of this number fails.
-pub fn words_of(
+fn words_of(
     alloc: Global,
     schema: &Schema,
     queries: &[Query],
@@ -92,37 +95,38 @@ pub fn words_of(
     }
 }
 
-// The first row of the table of which something else is read than what stands after it.
-fn first_wrong(
+fn read_with(
     alloc: Global,
     schema: &Schema,
-    queries: &[Query],
-    table: &str,
+    bytes: Vec<u8>,
+    fails: u64,
 ) -> Result<String, AllocError> {
+    match by_time(alloc) {
+        Ok(queries) => words_of(alloc, schema, queries.as_slice(), bytes, fails),
+        Err(Memory) => "memory".to_string(alloc),
+    }
+}
+
+// What is read of these bytes, in pieces of seven, where the read of this number fails.
+pub fn read(alloc: Global, bytes: Vec<u8>, fails: u64) -> Result<String, AllocError> {
+    match two_types(alloc) {
+        Ok(schema) => read_with(alloc, &schema, bytes, fails),
+        Err(_) => "two types".to_string(alloc),
+    }
+}
+
+// The first row of the table of which something else is read than what stands after it.
+fn first_wrong(alloc: Global, table: &str) -> Result<String, AllocError> {
     for row in table.split('\n') {
         let Some((text, wanted)) = row.split_once('|') else {
             return row.to_string(alloc);
         };
-        let words = words_of(alloc, schema, queries, bytes_of(alloc, text)?, 0)?;
+        let words = read(alloc, bytes_of(alloc, text)?, 0)?;
         if words.as_str() != wanted {
             return format!(in alloc; "{text}: {}", words.as_str());
         }
     }
     Ok(String::new(alloc))
-}
-
-fn wrong_with(alloc: Global, schema: &Schema, table: &str) -> Result<String, AllocError> {
-    match by_time(alloc) {
-        Ok(queries) => first_wrong(alloc, schema, queries.as_slice(), table),
-        Err(Memory) => "memory".to_string(alloc),
-    }
-}
-
-fn read_wrong(alloc: Global, table: &str) -> Result<String, AllocError> {
-    match two_types(alloc) {
-        Ok(schema) => wrong_with(alloc, &schema, table),
-        Err(_) => "two types".to_string(alloc),
-    }
 }
 
 /// Each text, with a semicolon for each line feed, and what is read of it.
@@ -184,14 +188,6 @@ core checkpoint 1;events 2 1;at 1;\"A;|line 4: bad event\n\
 core checkpoint 1;events 4 2;at 1;A,2;at 1;A,3;|line 5: bad position\n\
 core checkpoint 1;events 4 2;at 2;A,2;at 1;A,3;|line 5: bad position";
 
-#[test]
-fn texts_are_their_histories(rt: HostRuntime) -> Result<(), Fail> {
-    let alloc = rt.alloc();
-    let wrong = read_wrong(alloc, TEXTS)?;
-    assert_eq!(rt; wrong.as_str(), "");
-    Ok(())
-}
-
 /// Checkpoints and what they tell where clocks stand still, rise, or fall: of a type that the query
 /// reads, and of another.
 const CLOCKS: &str = "core checkpoint 1;events 9 3;at 1;A,2;at 2;A,2;at 4;A,3;|9: 1 2 4\n\
@@ -201,55 +197,36 @@ core checkpoint 1;events 9 3;at 1;A,2;at 2;B,9;at 3;A,2;|9: 1 2 3\n\
 core checkpoint 1;events 9 3;at 1;A,2;at 2;B,1;at 3;A,1;|line 8: bad event\n\
 core checkpoint 1;events 9 2;at 1;B,2;at 2;B,1;|9: 1 2";
 
+const TABLES: &[&str] = &[TEXTS, CLOCKS];
+
 #[test]
-fn clocks_may_not_fall(rt: HostRuntime) -> Result<(), Fail> {
-    let alloc = rt.alloc();
-    let wrong = read_wrong(alloc, CLOCKS)?;
-    assert_eq!(rt; wrong.as_str(), "");
+fn texts_are_their_histories(rt: HostRuntime) -> Result<(), Fail> {
+    for &table in TABLES {
+        let wrong = first_wrong(rt.alloc(), table)?;
+        same(&rt, wrong.as_str(), "", "the first wrong row");
+    }
     Ok(())
 }
 
 /// The text whose parts stand in the table below, cut at each of its bytes.
 const WHOLE: &str = "core checkpoint 1;events 3 2;at 1;A,2;at 2;A,3;";
 
-// The first cut from one place to another after which something else is read.
-fn wrong_cut(
+// The first cut of the bytes from one place to another after which something else is read.
+fn first_wrong_cut(
     alloc: Global,
-    schema: &Schema,
-    queries: &[Query],
+    bytes: &[u8],
     from: usize,
     to: usize,
     wanted: &str,
 ) -> Result<String, AllocError> {
-    let bytes = bytes_of(alloc, WHOLE)?;
     for cut in from..to {
-        let front = Vec::from_slice(alloc, bytes.as_slice().get(..cut).unwrap_or(&[]))?;
-        let words = words_of(alloc, schema, queries, front, 0)?;
+        let front = Vec::from_slice(alloc, bytes.get(..cut).unwrap_or(&[]))?;
+        let words = read(alloc, front, 0)?;
         if words.as_str() != wanted {
             return format!(in alloc; "{cut}: {}", words.as_str());
         }
     }
     Ok(String::new(alloc))
-}
-
-fn wrong_cut_with(
-    alloc: Global,
-    schema: &Schema,
-    from: usize,
-    to: usize,
-    wanted: &str,
-) -> Result<String, AllocError> {
-    match by_time(alloc) {
-        Ok(queries) => wrong_cut(alloc, schema, queries.as_slice(), from, to, wanted),
-        Err(Memory) => "memory".to_string(alloc),
-    }
-}
-
-fn cut_wrong(alloc: Global, from: usize, to: usize, wanted: &str) -> Result<String, AllocError> {
-    match two_types(alloc) {
-        Ok(schema) => wrong_cut_with(alloc, &schema, from, to, wanted),
-        Err(_) => "two types".to_string(alloc),
-    }
 }
 
 /// From which length of the text up to which one it is refused so.
@@ -271,10 +248,10 @@ const CUTS: &[(usize, usize, &str)] = &[
 
 #[test]
 fn a_text_is_cut_at_every_byte(rt: HostRuntime) -> Result<(), Fail> {
-    let alloc = rt.alloc();
-    for &(from, to, wanted) in CUTS {
-        let wrong = cut_wrong(alloc, from, to, wanted)?;
-        assert_eq!(rt; wrong.as_str(), "", "from {from}");
+    let bytes = bytes_of(rt.alloc(), WHOLE)?;
+    for &(from, to, line) in CUTS {
+        let wrong = first_wrong_cut(rt.alloc(), bytes.as_slice(), from, to, line)?;
+        same(&rt, wrong.as_str(), "", line);
     }
     Ok(())
 }
@@ -306,7 +283,7 @@ fn add_line(
 }
 
 // Takes the events of the lines between semicolons.
-pub fn add_lines(
+fn add_lines(
     alloc: Global,
     schema: &Schema,
     keep: &mut Keep,
@@ -322,35 +299,37 @@ pub fn add_lines(
     Ok(true)
 }
 
-// What is written of the lines, with semicolons for line feeds.
-fn written(alloc: Global, keep: &Keep) -> Result<String, AllocError> {
-    let Ok(mut sink) = MemSink::new(alloc, 5, 1 << 20, Vec::new(alloc)) else {
+// What a sink takes of the checkpoint, with semicolons for line feeds. It has room for so many bytes,
+// takes five at a time, and fails at the call of this number. A stroke at the end tells a fault.
+fn taken(alloc: Global, keep: &Keep, room: usize, fails: u64) -> Result<String, AllocError> {
+    let fails = Vec::from_slice(alloc, &[fails])?;
+    let Ok(mut sink) = MemSink::new(alloc, 5, room, fails) else {
         return Err(AllocError);
     };
-    match keep.write(alloc, &mut sink) {
-        Ok(()) => {
-            let mut words = String::new(alloc);
-            for byte in sink.as_slice() {
-                words.push(if *byte == b'\n' { ';' } else { *byte as char })?;
-            }
-            Ok(words)
-        }
-        Err(_) => "no write".to_string(alloc),
+    let wrote = keep.write(alloc, &mut sink);
+    let mut words = String::new(alloc);
+    for byte in sink.as_slice() {
+        words.push(if *byte == b'\n' { ';' } else { *byte as char })?;
     }
+    if wrote.is_err() {
+        words.push('/')?;
+    }
+    Ok(words)
 }
 
-// What is written of the lines where the query has this window.
 fn kept_words(
     alloc: Global,
     schema: &Schema,
     queries: &[Query],
     lines: &str,
+    room: usize,
+    fails: u64,
 ) -> Result<String, AllocError> {
     let Ok(mut keep) = Keep::new(alloc, schema, queries) else {
         return Err(AllocError);
     };
     match add_lines(alloc, schema, &mut keep, lines) {
-        Ok(true) => written(alloc, &keep),
+        Ok(true) => taken(alloc, &keep, room, fails),
         Ok(false) => "no event".to_string(alloc),
         Err(_) => "refused".to_string(alloc),
     }
@@ -361,17 +340,26 @@ fn kept_in(
     schema: &Schema,
     window: Window,
     lines: &str,
+    room: usize,
+    fails: u64,
 ) -> Result<String, AllocError> {
     let Ok(query) = query_in(alloc, window) else {
         return Err(AllocError);
     };
     let mut queries = Vec::new(alloc);
     queries.push(query)?;
-    kept_words(alloc, schema, queries.as_slice(), lines)
+    kept_words(alloc, schema, queries.as_slice(), lines, room, fails)
 }
 
-// What is written of the lines where the query has the window of this name.
-fn kept(alloc: Global, window: &str, lines: &str) -> Result<String, AllocError> {
+// What a sink of this room, whose write of this number fails, takes of the lines, where the query has
+// the window of this name.
+pub fn kept(
+    alloc: Global,
+    window: &str,
+    lines: &str,
+    room: usize,
+    fails: u64,
+) -> Result<String, AllocError> {
     let Ok(schema) = two_types(alloc) else {
         return Err(AllocError);
     };
@@ -384,8 +372,11 @@ fn kept(alloc: Global, window: &str, lines: &str) -> Result<String, AllocError> 
         },
         _ => Window::Free,
     };
-    kept_in(alloc, &schema, window, lines)
+    kept_in(alloc, &schema, window, lines, room, fails)
 }
+
+/// More room than a checkpoint takes.
+const AMPLE: usize = 1 << 20;
 
 /// A window, lines of events, and the checkpoint.
 const KEPT: &[(&str, &str, &str)] = &[
@@ -432,23 +423,27 @@ const KEPT: &[(&str, &str, &str)] = &[
 fn windows_keep_what_they_need(rt: HostRuntime) -> Result<(), Fail> {
     let alloc = rt.alloc();
     for &(window, lines, wanted) in KEPT {
-        let words = kept(alloc, window, lines)?;
-        assert_eq!(rt; words.as_str(), wanted, "at {lines}");
+        let words = kept(alloc, window, lines, AMPLE, 0)?;
+        same(&rt, words.as_str(), wanted, lines);
     }
     Ok(())
 }
 
+// So many times the line, semicolons between.
+fn times(alloc: Global, line: &str, count: u64) -> Result<String, AllocError> {
+    let mut lines = line.to_string(alloc)?;
+    for _ in 1..count {
+        lines.push(';')?;
+        lines.push_str(line)?;
+    }
+    Ok(lines)
+}
+
 #[test]
 fn a_long_stream_is_given_up(rt: HostRuntime) -> Result<(), Fail> {
-    let alloc = rt.alloc();
-    let mut lines = "A,1".to_string(alloc)?;
-    for _ in 0..199 {
-        lines.push_str(";A,1")?;
-    }
-    let words = kept(alloc, "1 EVENTS", lines.as_str())?;
-    assert_eq!(rt;
-        words.as_str(),
-        "core checkpoint 1;events 200 2;at 198;A,1;at 199;A,1;"
-    );
+    let lines = times(rt.alloc(), "A,1", 200)?;
+    let words = kept(rt.alloc(), "1 EVENTS", lines.as_str(), AMPLE, 0)?;
+    let wanted = "core checkpoint 1;events 200 2;at 198;A,1;at 199;A,1;";
+    same(&rt, words.as_str(), wanted, "200 events");
     Ok(())
 }

@@ -4,6 +4,8 @@ ghost use Rattle.std.specs.Prelude.{◌≡◌, ◌<◌, [], IfOk};
 ghost use Rattle.query_engine.specs.Engine.{StandsFor, count_of};
 ghost use Rattle.reorder_gate.specs.AttributeClock.{clock_fits};
 
+use crate::tests::commands::{sink, source, stream_words};
+use crate::tests::same;
 use answer_text::Order;
 use ceql_parser::read_queries;
 use cer_base::steps::{Opening, Steps};
@@ -48,29 +50,6 @@ fn engine_of(alloc: Global, queries: &str) -> Result<Engine, Memory>
     }
 }
 
-/// What was written, and how the feed ended.
-fn words_of(
-    alloc: Global,
-    end: Result<(), OrMemory<StreamFault>>,
-    out: &MemSink,
-) -> Result<String, AllocError> {
-    let Ok(lines) = str::from_utf8(out.as_slice()) else {
-        return format!(in alloc; "no text");
-    };
-    match end {
-        Ok(()) => format!(in alloc; "{lines}end"),
-        Err(OrMemory::Memory) => format!(in alloc; "{lines}memory"),
-        Err(OrMemory::Fault(StreamFault::Event { line, fault })) => {
-            format!(in alloc; "{lines}line {line}: {fault}")
-        }
-        Err(OrMemory::Fault(StreamFault::InputTooLong { taken })) => {
-            format!(in alloc; "{lines}longer than {taken}")
-        }
-        Err(OrMemory::Fault(StreamFault::ReadFault)) => format!(in alloc; "{lines}cannot read"),
-        Err(OrMemory::Fault(StreamFault::WriteFault)) => format!(in alloc; "{lines}cannot write"),
-    }
-}
-
 /// The answers over the source, into the sink. The steps count in the ledger of the opening.
 fn run_over<L: Ledger>(
     alloc: Global,
@@ -99,6 +78,35 @@ fn run_over<L: Ledger>(
     write_late(alloc, "t", late, options, engine, source, out, &mut steps)
 }
 
+/// The answers of an engine of these queries, which is let go here.
+fn answered(
+    alloc: Global,
+    order: Order,
+    queries: &str,
+    late: u64,
+    most_bytes: u64,
+    source: &mut MemSource,
+    out: &mut MemSink,
+    runtime: &HostRuntime,
+) -> Result<(), OrMemory<StreamFault>> {
+    let opening = Opening::new(runtime);
+    match engine_of(alloc, queries) {
+        Ok(mut engine) => {
+            run_over::<Brand>(
+                alloc,
+                order,
+                late,
+                most_bytes,
+                &mut engine,
+                source,
+                out,
+                opening,
+            )
+        }
+        Err(Memory) => Err(OrMemory::Memory),
+    }
+}
+
 /// What is answered over these bytes by an engine of these queries, where an event may come `late`
 /// and so many bytes are too many. A read brings five bytes. The read and the write of these numbers
 /// fail, from 1; none fails at 0.
@@ -112,27 +120,19 @@ fn feed_words(
     fails: (u64, u64),
     runtime: &HostRuntime,
 ) -> Result<String, AllocError> {
-    let Ok(mut engine) = engine_of(alloc, queries) else {
-        return Err(AllocError);
-    };
-    let read_fails = Vec::from_slice(alloc, &[fails.0])?;
-    let write_fails = Vec::from_slice(alloc, &[fails.1])?;
-    let bytes = Vec::from_slice(alloc, bytes.as_bytes())?;
-    let mut source = MemSource::new(bytes, 5, read_fails);
-    let Ok(mut out) = MemSink::new(alloc, 4096, 4096, write_fails) else {
-        return Err(AllocError);
-    };
-    let end = run_over::<Brand>(
+    let mut source = source(alloc, bytes, 5, fails.0)?;
+    let mut out = sink(alloc, 4096, fails.1)?;
+    let end = answered(
         alloc,
         order,
+        queries,
         late,
         most_bytes,
-        &mut engine,
         &mut source,
         &mut out,
-        Opening::new(runtime),
+        runtime,
     );
-    words_of(alloc, end, &out)
+    stream_words(alloc, end, &out)
 }
 
 /// Queries, how late an event may come, an event file, and the answers.
@@ -142,53 +142,53 @@ const BY_CLOCKS: &[(&str, u64, &str, &str)] = &[
         PAIRS,
         5,
         "A,10\nB,14\nA,9\nB,16\n",
-        "1 [0,2] {0,2}\n1 [1,2] {1,2}\n1 [0,3] {0,3}\n1 [1,3] {1,3}\nend",
+        "1 [0,2] {0,2}\n1 [1,2] {1,2}\n1 [0,3] {0,3}\n1 [1,3] {1,3}\n|end",
     ),
     // Of one clock they go as they came.
-    (PAIRS, 9, "A,5\nB,5\n", "1 [0,1] {0,1}\nend"),
-    (PAIRS, 9, "B,5\nA,5\n", "end"),
-    (EACH, 0, "", "end"),
-    (EACH, 3, "\nA,1", "1 [0,0] {0}\nend"),
+    (PAIRS, 9, "A,5\nB,5\n", "1 [0,1] {0,1}\n|end"),
+    (PAIRS, 9, "B,5\nA,5\n", "|end"),
+    (EACH, 0, "", "|end"),
+    (EACH, 3, "\nA,1", "1 [0,0] {0}\n|end"),
     // At the bound, and one below it.
-    (EACH, 5, "A,10\nA,5\n", "1 [0,0] {0}\n1 [1,1] {1}\nend"),
+    (EACH, 5, "A,10\nA,5\n", "1 [0,0] {0}\n1 [1,1] {1}\n|end"),
     (
         EACH,
         5,
         "A,10\nA,4\n",
-        "line 2: time 4 comes too late after 10",
+        "|line 2: time 4 comes too late after 10",
     ),
     (
         EACH,
         0,
         "A,10\nA,9\n",
-        "1 [0,0] {0}\nline 2: time 9 comes too late after 10",
+        "1 [0,0] {0}\n|line 2: time 9 comes too late after 10",
     ),
-    (EACH, 2, "B,-3\nA,-5\n", "1 [0,0] {0}\nend"),
+    (EACH, 2, "B,-3\nA,-5\n", "1 [0,0] {0}\n|end"),
     (
         EACH,
         2,
         "B,-3\nA,-6\n",
-        "line 2: time -6 comes too late after -3",
+        "|line 2: time -6 comes too late after -3",
     ),
     // The greatest clock counts, and not the last one.
     (
         EACH,
         5,
         "B,10\nB,6\nA,4\n",
-        "line 3: time 4 comes too late after 10",
+        "|line 3: time 4 comes too late after 10",
     ),
     // The greatest bound, from 10 on.
     (
         EACH,
         MOST,
         "B,10\nA,-9223372036854775797\n",
-        "1 [0,0] {0}\nend",
+        "1 [0,0] {0}\n|end",
     ),
     (
         EACH,
         MOST,
         "B,10\nA,-9223372036854775798\n",
-        "line 2: time -9223372036854775798 comes too late after 10",
+        "|line 2: time -9223372036854775798 comes too late after 10",
     ),
 ];
 
@@ -206,7 +206,7 @@ fn events_are_answered_by_their_clocks(rt: HostRuntime) -> Result<(), Fail> {
             (0, 0),
             &rt,
         )?;
-        assert_eq!(rt; words.as_str(), wanted, "{bytes} late by {late}");
+        same(&rt, words.as_str(), wanted, bytes);
     }
     Ok(())
 }
@@ -221,7 +221,7 @@ const CUT_OFF: &[(&str, u64, u64, &str, (u64, u64), &str)] = &[
         AMPLE,
         "A,10\nA,11\nC,12\n",
         (0, 0),
-        "1 [0,0] {0}\nline 3: unknown type",
+        "1 [0,0] {0}\n|line 3: unknown type",
     ),
     (
         EACH,
@@ -229,18 +229,18 @@ const CUT_OFF: &[(&str, u64, u64, &str, (u64, u64), &str)] = &[
         5,
         "A,10\nA,11\n",
         (0, 0),
-        "1 [0,0] {0}\nlonger than 5",
+        "1 [0,0] {0}\n|5 bytes are too many",
     ),
-    (EACH, 1, 5, "A,10\nA,11\n", (0, 0), "longer than 5"),
+    (EACH, 1, 5, "A,10\nA,11\n", (0, 0), "|5 bytes are too many"),
     (
         EACH,
         0,
         AMPLE,
         "A,10\nA,11\n",
         (2, 0),
-        "1 [0,0] {0}\ncannot read",
+        "1 [0,0] {0}\n|cannot read",
     ),
-    (EACH, 1, AMPLE, "A,10\nA,11\n", (2, 0), "cannot read"),
+    (EACH, 1, AMPLE, "A,10\nA,11\n", (2, 0), "|cannot read"),
     // The query's own clock falls from 2 to 1 along the feed's: at the line of that event.
     (
         TWO_CLOCKS,
@@ -248,7 +248,7 @@ const CUT_OFF: &[(&str, u64, u64, &str, (u64, u64), &str)] = &[
         AMPLE,
         "A,10,1\nA,9,2\n",
         (0, 0),
-        "1 [0,0] {0}\nline 1: time falls from 2 to 1 in query 1",
+        "1 [0,0] {0}\n|line 1: time falls from 2 to 1 in query 1",
     ),
     // It falls before the next line is read.
     (
@@ -257,18 +257,20 @@ const CUT_OFF: &[(&str, u64, u64, &str, (u64, u64), &str)] = &[
         AMPLE,
         "A,10,1\nA,9,2\nA,15,3\nC\n",
         (0, 0),
-        "1 [0,0] {0}\nline 1: time falls from 2 to 1 in query 1",
+        "1 [0,0] {0}\n|line 1: time falls from 2 to 1 in query 1",
     ),
-    (EACH, 5, AMPLE, "A,10\nA,9\n", (0, 1), "cannot write"),
+    (EACH, 5, AMPLE, "A,10\nA,9\n", (0, 1), "|cannot write"),
 ];
+
+const ORDERS: &[Order] = &[Order::Sorted, Order::Walk];
 
 #[test]
 fn only_the_end_lets_all_events_go(rt: HostRuntime) -> Result<(), Fail> {
     let alloc = rt.alloc();
     for &(queries, late, most_bytes, bytes, fails, wanted) in CUT_OFF {
-        for order in [Order::Sorted, Order::Walk] {
+        for &order in ORDERS {
             let words = feed_words(alloc, order, queries, late, most_bytes, bytes, fails, &rt)?;
-            assert_eq!(rt; words.as_str(), wanted, "{bytes} late by {late}");
+            same(&rt, words.as_str(), wanted, bytes);
         }
     }
     Ok(())

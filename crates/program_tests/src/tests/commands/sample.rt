@@ -1,5 +1,6 @@
 //! The schema and the queries of the sample beside the text that they stand for.
 
+use crate::tests::same;
 use ceql_parser::read_queries;
 use command_sample::{sample_queries, sample_schema};
 use query_engine::Queries;
@@ -43,6 +44,6 @@ fn built(alloc: Global) -> Result<String, AllocError> {
 fn the_terms_are_those_of_the_text(rt: HostRuntime) -> Result<(), Fail> {
     let read = read(rt.alloc())?;
     let built = built(rt.alloc())?;
-    assert_eq!(rt; built.as_str(), read.as_str());
+    same(&rt, built.as_str(), read.as_str(), "the sample");
     Ok(())
 }

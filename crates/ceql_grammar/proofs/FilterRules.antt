@@ -47,9 +47,9 @@ reads_on_name n = reads_bind no_mark name_rule bracket_rule (λ _. no_mark) (λ 
 pub a_unit : Filled IsFilterUnit
 a_unit = record { tokens = _; value = _; derived = to_unit _ _ (right (bound (one {t = a_name} refl) (a_bracket (token_name a_name)).derived)) }
 
-pub reads_unit : (n : ℕ) (inner : TokenReader FilterTree) → Reads no_mark n IsFilter (λ _. among or_marks) inner → Reads no_mark (suc n) IsFilterUnit (λ _. no_mark) (reading.filter_unit inner)
-unfolding reading.filter_unit
-reads_unit n inner h = reads_other no_mark unit_rule IsFilterUnit (λ _. no_mark) (suc n) (reading.filter_unit inner) to_unit from_unit
+pub reads_unit : (n : ℕ) (inner : TokenReader FilterTree) → Reads no_mark n IsFilter (λ _. among or_marks) inner → Reads no_mark (suc n) IsFilterUnit (λ _. no_mark) (reading.unit reading.filter_parts inner)
+unfolding reading.unit reading.atom
+reads_unit n inner h = reads_other no_mark unit_rule IsFilterUnit (λ _. no_mark) (suc n) (reading.unit reading.filter_parts inner) to_unit from_unit
     (reads_branch no_mark (is (codes "(")) reading.no_value (λ _. closed_rule (codes ")") IsFilter) (Bind name_rule bracket_rule) (λ _. no_mark) n (λ _. reading.closed (codes ")") inner) reading.on_name (a_sign (codes "(")) refl
     (shuns_name bracket_rule (λ _. no_mark) (codes "(") (name_apart (codes "(" ∷ []) refl))
     (λ _. record { tokens = _; value = _; derived = bound (filter (filter_conjunction a_unit.derived and_filters_end) or_filters_end) (mapped (one {t = a_sign (codes ")")} refl)) })
@@ -75,10 +75,10 @@ from_conjunction _ _ (filter_conjunction h m) = bound h (mapped (from_ands _ _ m
 pub a_conjunction : Filled IsFilterConjunction
 a_conjunction = record { tokens = _; value = _; derived = filter_conjunction a_unit.derived and_filters_end }
 
-pub reads_conjunction : (n : ℕ) (inner : TokenReader FilterTree) → Reads no_mark n IsFilter (λ _. among or_marks) inner → Reads no_mark (suc n) IsFilterConjunction (λ _. among and_marks) (reading.filter_conjunction inner)
-unfolding reading.filter_conjunction reading.more_filter_units
-reads_conjunction n inner h = reads_other no_mark (list_rule (codes "AND") all_filters IsFilterUnit) IsFilterConjunction (λ _. among and_marks) (suc n) (reading.filter_conjunction inner) to_conjunction from_conjunction
-    (reads_list no_mark (codes "AND") [] all_filters IsFilterUnit (suc n) (reading.filter_unit inner) (a_word (codes "AND")) refl refl refl refl refl a_unit (reads_unit n inner h) (reads_unit n inner h))
+pub reads_conjunction : (n : ℕ) (inner : TokenReader FilterTree) → Reads no_mark n IsFilter (λ _. among or_marks) inner → Reads no_mark (suc n) IsFilterConjunction (λ _. among and_marks) (reading.conjunction reading.filter_parts inner)
+unfolding reading.conjunction reading.more_units
+reads_conjunction n inner h = reads_other no_mark (list_rule (codes "AND") all_filters IsFilterUnit) IsFilterConjunction (λ _. among and_marks) (suc n) (reading.conjunction reading.filter_parts inner) to_conjunction from_conjunction
+    (reads_list no_mark (codes "AND") [] all_filters IsFilterUnit (suc n) (reading.unit reading.filter_parts inner) (a_word (codes "AND")) refl refl refl refl refl a_unit (reads_unit n inner h) (reads_unit n inner h))
 
 -- FILTERS
 
@@ -99,16 +99,16 @@ from_filter _ _ (filter h m) = bound h (mapped (from_ors _ _ m))
 pub a_filter : Filled IsFilter
 a_filter = record { tokens = _; value = _; derived = filter a_conjunction.derived or_filters_end }
 
-reads_step : (n : ℕ) (inner : TokenReader FilterTree) → Reads no_mark n IsFilter (λ _. among or_marks) inner → Reads no_mark (suc n) IsFilter (λ _. among or_marks) (reading.filter_step inner)
-unfolding reading.filter_step reading.more_filter_conjunctions
-reads_step n inner h = reads_other no_mark (list_rule (codes "OR") any_filter IsFilterConjunction) IsFilter (λ _. among or_marks) (suc n) (reading.filter_step inner) to_filter from_filter
-    (reads_list no_mark (codes "OR") and_marks any_filter IsFilterConjunction (suc n) (reading.filter_conjunction inner) (a_word (codes "OR")) refl refl refl refl refl a_conjunction (reads_conjunction n inner h) (reads_conjunction n inner h))
+reads_step : (n : ℕ) (inner : TokenReader FilterTree) → Reads no_mark n IsFilter (λ _. among or_marks) inner → Reads no_mark (suc n) IsFilter (λ _. among or_marks) (reading.disjunction_step reading.filter_parts inner)
+unfolding reading.disjunction_step reading.more_conjunctions
+reads_step n inner h = reads_other no_mark (list_rule (codes "OR") any_filter IsFilterConjunction) IsFilter (λ _. among or_marks) (suc n) (reading.disjunction_step reading.filter_parts inner) to_filter from_filter
+    (reads_list no_mark (codes "OR") and_marks any_filter IsFilterConjunction (suc n) (reading.conjunction reading.filter_parts inner) (a_word (codes "OR")) refl refl refl refl refl a_conjunction (reads_conjunction n inner h) (reads_conjunction n inner h))
 
 -- a filter is read exactly
 pub reads_filter : (n : ℕ) → Reads no_mark n IsFilter (λ _. among or_marks) reading.filter
-unfolding reading.filter
-reads_filter n = fixpoint_reads no_mark IsFilter (λ _. among or_marks) reading.filter_step n (λ k r _. reads_step k r)
+unfolding reading.disjunction
+reads_filter n = fixpoint_reads no_mark IsFilter (λ _. among or_marks) (reading.disjunction_step reading.filter_parts) n (λ k r _. reads_step k r)
 
-pub filter_is : (ts : List Token) → reading.filter ts ≡ reading.filter_step reading.filter ts
-unfolding reading.filter
-filter_is ts = fixpoint_is no_mark IsFilter (λ _. among or_marks) reading.filter_step reads_step ts (stops_ends {X = ℕ} 0 ts)
+pub filter_is : (ts : List Token) → reading.filter ts ≡ reading.disjunction_step reading.filter_parts reading.filter ts
+unfolding reading.disjunction
+filter_is ts = fixpoint_is no_mark IsFilter (λ _. among or_marks) (reading.disjunction_step reading.filter_parts) reads_step ts (stops_ends {X = ℕ} 0 ts)

@@ -1,7 +1,7 @@
 -- What reading functions that put values behind a list need, over plain values.
-use Rattle.std.proofs.Common.{◌≡◌, refl, sym, ◌∙◌, ap, subst, ℕ, List, [], ◌∷◌, ◌++◌, map, length, length-append, arith, ◌≤◌, Bor}
+use Rattle.std.proofs.Common.{◌≡◌, refl, sym, ◌∙◌, ap, subst, ℕ, List, [], ◌∷◌, ◌++◌, map, length, length-append, arith, ◌≤◌, Bor, Bool}
 use Rattle.std.proofs.lemmas.List.{length-map}
-use Rattle.std.specs.Prelude.{Option, Some, None, Result, Ok, Err}
+use Rattle.std.specs.Prelude.{Option, Some, None, Result, Ok, Err, if◌then◌else◌}
 use Rattle.cer_base.specs.declared.OrMemory.{OrMemory}
 use Rattle.cer_base.specs.declared.OrMemory.TheVariants as wanted
 use Rattle.ceql_lexer.specs.declared.Token.{Token}
@@ -44,6 +44,10 @@ module _ {X Y : Type 0} (view : X → Y) (old new : List X) (mark : List ℕ) (r
 
   pub without_mark : first_token (is mark) no_value ts ≡ None → (q : Rest) → ReadsBehind view old new q (s ts) → ReadsBehind view old new q (led_or mark r s ts)
   without_mark k q h = subst (ReadsBehind view old new q) (sym (ap (λ o. when o (λ _. r) (s ts)) k)) h
+
+-- a reader that a truth value picks
+pub picked : {X Y : Type 0} (view : X → Y) (old new : List X) (r s : TokenReader Y) (ts : List Token) (q : Rest) (b c : Bool) → b ≡ c → ReadsBehind view old new q ((if c then r else s) ts) → ReadsBehind view old new q ((if b then r else s) ts)
+picked view old new r s ts q b c e h = subst (λ b. ReadsBehind view old new q ((if b then r else s) ts)) (sym e) h
 
 -- what stands between two signs, the first of which stands in front
 module _ {X Y : Type 0} (view : X → Y) (old new : List X) (opening closing : List ℕ) (r s : TokenReader Y) (ts : List Token) where

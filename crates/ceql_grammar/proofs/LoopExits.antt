@@ -8,7 +8,8 @@ use Rattle.ceql_grammar.specs.ReadResults.{ReadsAs, ReadsAllAs, StopsAs}
 use Rattle.ceql_grammar.specs.PartlyRead.{with_front}
 use Rattle.ceql_grammar.specs.RuleReaders.{any_token}
 use Rattle.ceql_grammar.specs.RuleForms.{Out, TokenReader, ◌>>=◌, Test, bind, map_read, one_token, many, first_token, starts}
-use Rattle.ceql_grammar.proofs.RepeatedReading.{Again, ends_here, fails_here, goes_here, ends_led, fails_led, goes_led}
+use Rattle.ceql_grammar.specs.ConditionLaws.{Again}
+use Rattle.ceql_grammar.proofs.RepeatedReading.{ends_here, fails_here, goes_here, ends_led, fails_led, goes_led}
 
 -- the exit of a `?`
 pub exit : {X Y : Type 0} (view : X → Y) (r : Result (X × Bor (List Token)) (OrMemory (Bor (List Token)))) (x e : OrMemory (Bor (List Token))) → r ≡ Err x → x ≡ e → (out : Out Y) → StopsAs e out → ReadsAs view r out

@@ -24,7 +24,8 @@ use Rattle.ceql_grammar.proofs.FormulaRules.{link_rule, link_loops, reads_link, 
 use Rattle.ceql_grammar.proofs.DeclarationRules.{begin_marks, an_attr, reads_attr}
 use Rattle.ceql_grammar.proofs.StatementRules.{reads_statement}
 use Rattle.ceql_grammar.proofs.TextRules.{text_loops}
-use Rattle.ceql_grammar.proofs.RepeatedReading.{Again, again}
+use Rattle.ceql_grammar.specs.ConditionLaws.{Again, AreLawful}
+use Rattle.ceql_grammar.proofs.RepeatedReading.{again}
 
 led_again : {X : Type 0} (mark : List ℕ) (marks : List (List ℕ)) (R : Rule X) (r : TokenReader X) (s : Token) → is mark s ≡ true → disjoint (mark ∷ []) marks ≡ true → covered marks (mark ∷ marks) [] ≡ true → covered (mark ∷ []) (mark ∷ marks) [] ≡ true → covered (mark ∷ marks) (mark ∷ []) marks ≡ true → Filled R → ((n : ℕ) → Reads no_mark n R (λ _. among marks) r) → Again (is mark) (led mark r)
 led_again mark marks R r s e d f g h filled reads = again (among marks) (led_rule mark R) (λ _. among marks) (is mark) (is mark) (among (mark ∷ marks)) (loops mark marks R d f g h) (led mark r)
@@ -33,17 +34,21 @@ led_again mark marks R r s e d f g h filled reads = again (among marks) (led_rul
 pub names_again : Again (is (codes ",")) (led (codes ",") reading.name)
 names_again = led_again (codes ",") [] name_rule reading.name (a_sign (codes ",")) refl refl refl refl refl a_name_rule (reads_name no_mark)
 
-pub units_again : Again (is (codes "AND")) (led (codes "AND") (reading.unit reading.pred))
-units_again = led_again (codes "AND") [] IsUnit (reading.unit reading.pred) (a_word (codes "AND")) refl refl refl refl refl predicates.a_unit (λ n. reads_fewer no_mark IsUnit (λ _. no_mark) n (suc n) (reading.unit reading.pred) (omega arith) (predicates.reads_unit n reading.pred (reads_pred n)))
+pub preds_are_lawful : AreLawful reading.pred_parts
+preds_are_lawful = record {
+  step = predicates.pred_is;
+  units = led_again (codes "AND") [] IsUnit (reading.unit reading.pred_parts reading.pred) (a_word (codes "AND")) refl refl refl refl refl predicates.a_unit (λ n. reads_fewer no_mark IsUnit (λ _. no_mark) n (suc n) (reading.unit reading.pred_parts reading.pred) (omega arith) (predicates.reads_unit n reading.pred (reads_pred n)));
+  conjunctions = led_again (codes "OR") and_marks IsConjunction (reading.conjunction reading.pred_parts reading.pred) (a_word (codes "OR")) refl refl refl refl refl predicates.a_conjunction (λ n. reads_fewer no_mark IsConjunction (λ _. among and_marks) n (suc n) (reading.conjunction reading.pred_parts reading.pred) (omega arith) (predicates.reads_conjunction n reading.pred (reads_pred n)));
+  alone = λ p. refl;
+}
 
-pub conjunctions_again : Again (is (codes "OR")) (led (codes "OR") (reading.conjunction reading.pred))
-conjunctions_again = led_again (codes "OR") and_marks IsConjunction (reading.conjunction reading.pred) (a_word (codes "OR")) refl refl refl refl refl predicates.a_conjunction (λ n. reads_fewer no_mark IsConjunction (λ _. among and_marks) n (suc n) (reading.conjunction reading.pred) (omega arith) (predicates.reads_conjunction n reading.pred (reads_pred n)))
-
-pub filter_units_again : Again (is (codes "AND")) (led (codes "AND") (reading.filter_unit reading.filter))
-filter_units_again = led_again (codes "AND") [] IsFilterUnit (reading.filter_unit reading.filter) (a_word (codes "AND")) refl refl refl refl refl filters.a_unit (λ n. reads_fewer no_mark IsFilterUnit (λ _. no_mark) n (suc n) (reading.filter_unit reading.filter) (omega arith) (filters.reads_unit n reading.filter (reads_filter n)))
-
-pub filter_conjunctions_again : Again (is (codes "OR")) (led (codes "OR") (reading.filter_conjunction reading.filter))
-filter_conjunctions_again = led_again (codes "OR") and_marks IsFilterConjunction (reading.filter_conjunction reading.filter) (a_word (codes "OR")) refl refl refl refl refl filters.a_conjunction (λ n. reads_fewer no_mark IsFilterConjunction (λ _. among and_marks) n (suc n) (reading.filter_conjunction reading.filter) (omega arith) (filters.reads_conjunction n reading.filter (reads_filter n)))
+pub filters_are_lawful : AreLawful reading.filter_parts
+filters_are_lawful = record {
+  step = filters.filter_is;
+  units = led_again (codes "AND") [] IsFilterUnit (reading.unit reading.filter_parts reading.filter) (a_word (codes "AND")) refl refl refl refl refl filters.a_unit (λ n. reads_fewer no_mark IsFilterUnit (λ _. no_mark) n (suc n) (reading.unit reading.filter_parts reading.filter) (omega arith) (filters.reads_unit n reading.filter (reads_filter n)));
+  conjunctions = led_again (codes "OR") and_marks IsFilterConjunction (reading.conjunction reading.filter_parts reading.filter) (a_word (codes "OR")) refl refl refl refl refl filters.a_conjunction (λ n. reads_fewer no_mark IsFilterConjunction (λ _. among and_marks) n (suc n) (reading.conjunction reading.filter_parts reading.filter) (omega arith) (filters.reads_conjunction n reading.filter (reads_filter n)));
+  alone = λ c. refl;
+}
 
 pub filters_again : Again (is (codes "FILTER")) (led (codes "FILTER") reading.filter)
 filters_again = led_again (codes "FILTER") or_marks IsFilter reading.filter (a_word (codes "FILTER")) refl refl refl refl refl a_filter reads_filter

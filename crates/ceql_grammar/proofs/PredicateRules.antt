@@ -71,9 +71,9 @@ pub shuns_name : {X : Type 0} (S : Name → Rule X) (d : Goes X) (c : List ℕ) 
 shuns_name S d c free = shuns_apart (Bind name_rule S) d is_name_token (is c) free (begins_bind name_rule S is_name_token (begins_one is_name_token token_name))
 
 module _ (n : ℕ) (inner : TokenReader PredTree) (h : Reads no_mark n IsPred (λ _. among or_marks) inner) where
-  reads_atom : Reads no_mark (suc n) IsAtom (λ _. no_mark) (reading.atom inner)
+  reads_atom : Reads no_mark (suc n) IsAtom (λ _. no_mark) (reading.atom reading.pred_parts inner)
   unfolding reading.atom
-  reads_atom = reads_other no_mark atom_rule IsAtom (λ _. no_mark) (suc n) (reading.atom inner) to_atom from_atom
+  reads_atom = reads_other no_mark atom_rule IsAtom (λ _. no_mark) (suc n) (reading.atom reading.pred_parts inner) to_atom from_atom
       (reads_branch no_mark (is (codes "(")) reading.no_value (λ _. closed_rule (codes ")") IsPred) comparison_rule (λ _. no_mark) n (λ _. reading.closed (codes ")") inner) reading.comparison (a_sign (codes "(")) refl
       (shuns_name compared_rule (λ _. no_mark) (codes "(") (name_apart (codes "(" ∷ []) refl))
       (λ _. record { tokens = _; value = _; derived = bound (pred (conjunction (affirmed an_atom) and_end) or_end) (mapped (one {t = a_sign (codes ")")} refl)) })
@@ -102,13 +102,13 @@ from_unit _ _ (affirmed h) = right h
 pub a_unit : Filled IsUnit
 a_unit = record { tokens = _; value = _; derived = affirmed an_atom }
 
-pub reads_unit : (n : ℕ) (inner : TokenReader PredTree) → Reads no_mark n IsPred (λ _. among or_marks) inner → Reads no_mark (suc n) IsUnit (λ _. no_mark) (reading.unit inner)
+pub reads_unit : (n : ℕ) (inner : TokenReader PredTree) → Reads no_mark n IsPred (λ _. among or_marks) inner → Reads no_mark (suc n) IsUnit (λ _. no_mark) (reading.unit reading.pred_parts inner)
 unfolding reading.unit
-reads_unit n inner h = reads_other no_mark unit_rule IsUnit (λ _. no_mark) (suc n) (reading.unit inner) to_unit from_unit
-    (reads_branch no_mark (is (codes "NOT")) reading.no_value (λ _. Mapped negates IsAtom) IsAtom (λ _. no_mark) n (λ _. map_read negates (reading.atom inner)) (reading.atom inner) (a_word (codes "NOT")) refl
+reads_unit n inner h = reads_other no_mark unit_rule IsUnit (λ _. no_mark) (suc n) (reading.unit reading.pred_parts inner) to_unit from_unit
+    (reads_branch no_mark (is (codes "NOT")) reading.no_value (λ _. Mapped negates IsAtom) IsAtom (λ _. no_mark) n (λ _. map_read negates (reading.atom reading.pred_parts inner)) (reading.atom reading.pred_parts inner) (a_word (codes "NOT")) refl
     (shuns_atom (codes "NOT") (apart (codes "(" ∷ []) (codes "NOT" ∷ []) refl) (name_apart (codes "NOT" ∷ []) refl))
     (λ _. record { tokens = _; value = _; derived = mapped an_atom })
-    (λ _. reads_mapped no_mark negates IsAtom (λ _. no_mark) n (reading.atom inner) (reads_fewer no_mark IsAtom (λ _. no_mark) n (suc n) (reading.atom inner) (omega arith) (reads_atom n inner h)))
+    (λ _. reads_mapped no_mark negates IsAtom (λ _. no_mark) n (reading.atom reading.pred_parts inner) (reads_fewer no_mark IsAtom (λ _. no_mark) n (suc n) (reading.atom reading.pred_parts inner) (omega arith) (reads_atom n inner h)))
     (reads_atom n inner h))
 
 -- CONJUNCTIONS
@@ -130,10 +130,10 @@ from_conjunction _ _ (conjunction h m) = bound h (mapped (from_ands _ _ m))
 pub a_conjunction : Filled IsConjunction
 a_conjunction = record { tokens = _; value = _; derived = conjunction (affirmed an_atom) and_end }
 
-pub reads_conjunction : (n : ℕ) (inner : TokenReader PredTree) → Reads no_mark n IsPred (λ _. among or_marks) inner → Reads no_mark (suc n) IsConjunction (λ _. among and_marks) (reading.conjunction inner)
+pub reads_conjunction : (n : ℕ) (inner : TokenReader PredTree) → Reads no_mark n IsPred (λ _. among or_marks) inner → Reads no_mark (suc n) IsConjunction (λ _. among and_marks) (reading.conjunction reading.pred_parts inner)
 unfolding reading.conjunction reading.more_units
-reads_conjunction n inner h = reads_other no_mark (list_rule (codes "AND") all_preds IsUnit) IsConjunction (λ _. among and_marks) (suc n) (reading.conjunction inner) to_conjunction from_conjunction
-    (reads_list no_mark (codes "AND") [] all_preds IsUnit (suc n) (reading.unit inner) (a_word (codes "AND")) refl refl refl refl refl a_unit (reads_unit n inner h) (reads_unit n inner h))
+reads_conjunction n inner h = reads_other no_mark (list_rule (codes "AND") all_preds IsUnit) IsConjunction (λ _. among and_marks) (suc n) (reading.conjunction reading.pred_parts inner) to_conjunction from_conjunction
+    (reads_list no_mark (codes "AND") [] all_preds IsUnit (suc n) (reading.unit reading.pred_parts inner) (a_word (codes "AND")) refl refl refl refl refl a_unit (reads_unit n inner h) (reads_unit n inner h))
 
 -- PREDICATES
 
@@ -154,16 +154,16 @@ from_pred _ _ (pred h m) = bound h (mapped (from_ors _ _ m))
 pub a_pred : Filled IsPred
 a_pred = record { tokens = _; value = _; derived = pred (conjunction (affirmed an_atom) and_end) or_end }
 
-reads_step : (n : ℕ) (inner : TokenReader PredTree) → Reads no_mark n IsPred (λ _. among or_marks) inner → Reads no_mark (suc n) IsPred (λ _. among or_marks) (reading.pred_step inner)
-unfolding reading.pred_step reading.more_conjunctions
-reads_step n inner h = reads_other no_mark (list_rule (codes "OR") any_pred IsConjunction) IsPred (λ _. among or_marks) (suc n) (reading.pred_step inner) to_pred from_pred
-    (reads_list no_mark (codes "OR") and_marks any_pred IsConjunction (suc n) (reading.conjunction inner) (a_word (codes "OR")) refl refl refl refl refl a_conjunction (reads_conjunction n inner h) (reads_conjunction n inner h))
+reads_step : (n : ℕ) (inner : TokenReader PredTree) → Reads no_mark n IsPred (λ _. among or_marks) inner → Reads no_mark (suc n) IsPred (λ _. among or_marks) (reading.disjunction_step reading.pred_parts inner)
+unfolding reading.disjunction_step reading.more_conjunctions
+reads_step n inner h = reads_other no_mark (list_rule (codes "OR") any_pred IsConjunction) IsPred (λ _. among or_marks) (suc n) (reading.disjunction_step reading.pred_parts inner) to_pred from_pred
+    (reads_list no_mark (codes "OR") and_marks any_pred IsConjunction (suc n) (reading.conjunction reading.pred_parts inner) (a_word (codes "OR")) refl refl refl refl refl a_conjunction (reads_conjunction n inner h) (reads_conjunction n inner h))
 
 -- a predicate is read exactly
 pub reads_pred : (n : ℕ) → Reads no_mark n IsPred (λ _. among or_marks) reading.pred
-unfolding reading.pred
-reads_pred n = fixpoint_reads no_mark IsPred (λ _. among or_marks) reading.pred_step n (λ k r _. reads_step k r)
+unfolding reading.disjunction
+reads_pred n = fixpoint_reads no_mark IsPred (λ _. among or_marks) (reading.disjunction_step reading.pred_parts) n (λ k r _. reads_step k r)
 
-pub pred_is : (ts : List Token) → reading.pred ts ≡ reading.pred_step reading.pred ts
-unfolding reading.pred
-pred_is ts = fixpoint_is no_mark IsPred (λ _. among or_marks) reading.pred_step reads_step ts (stops_ends {X = ℕ} 0 ts)
+pub pred_is : (ts : List Token) → reading.pred ts ≡ reading.disjunction_step reading.pred_parts reading.pred ts
+unfolding reading.disjunction
+pred_is ts = fixpoint_is no_mark IsPred (λ _. among or_marks) (reading.disjunction_step reading.pred_parts) reads_step ts (stops_ends {X = ℕ} 0 ts)

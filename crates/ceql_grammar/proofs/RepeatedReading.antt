@@ -4,12 +4,9 @@ use Rattle.std.specs.Prelude.{Some, None, Ok, Err, if◌then◌else◌}
 use Rattle.ceql_lexer.specs.declared.Token.{Token}
 use Rattle.ceql_grammar.specs.PartlyRead.{with_front}
 use Rattle.ceql_grammar.specs.RuleForms.{Rule, Out, TokenReader, ◌>>=◌, Test, Many, many, many_step, fixpoint, iterate, bind, map_read, starts, first_token, one_token}
+use Rattle.ceql_grammar.specs.ConditionLaws.{Again}
 use Rattle.ceql_grammar.proofs.RuleReaders.{Goes, ReadTo, Outcome, Reads, shorter_rest, agree, stops_ends}
 use Rattle.ceql_grammar.proofs.Fixpoints.{Loops, reads_under, many_steps, iterate_reads, fixpoint_reads}
-
--- a loop is one step and then the loop again
-pub record Again {X : Type 0} (p : Test) (r : TokenReader X) : Type 0 where
-  pub step : (ts : List Token) → many p r ts ≡ many_step p r (many p r) ts
 
 module _ {X : Type 0} (a : Test) (R : Rule X) (c : Goes X) (p q d : Test) (loop : Loops a R c p q d) (r : TokenReader X) (free : (n : ℕ) → Reads (λ t. false) n R c r) where
   reads : (n : ℕ) → Reads a n R c r

@@ -1,6 +1,7 @@
 pub mod WordsAndSigns
 pub mod Values
 pub mod Trees
+pub mod ConditionLaws
 pub mod Conditions
 pub mod Formulas
 pub mod RuleForms

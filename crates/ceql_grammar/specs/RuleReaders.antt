@@ -17,7 +17,7 @@ use Rattle.ceql_grammar.specs.declared.terms.AttrDecl.{AttrDecl}
 use Rattle.ceql_grammar.specs.WordsAndSigns.{among, is, is_name_token, token_name}
 use Rattle.ceql_grammar.specs.Values.{is_op, op_of, is_literal, literal_of, is_number, is_count, unsigned_number, is_unit, seconds_in}
 use Rattle.ceql_grammar.specs.Trees.{PredTree, compares, negates, FilterTree, on, FormulaTree, of_type}
-use Rattle.ceql_grammar.specs.Conditions.{all_preds, any_pred, all_filters, any_filter}
+use Rattle.ceql_grammar.specs.MemberLists.{all_preds_of, any_pred_of, all_filters_of, any_filter_of}
 use Rattle.ceql_grammar.specs.Formulas.{post_of, chain_tree, either_of, under_of, is_link}
 use Rattle.ceql_grammar.specs.Statements.{StatementTree, event, stream, select, placed_number, is_events}
 use Rattle.ceql_grammar.specs.RuleForms.{TokenReader, bind, map_read, one_token, starts, give, fixpoint, many, branch}
@@ -57,7 +57,37 @@ names = bind name (λ a. map_read (λ ns. a ∷ ns) more_names)
 unfoldable pub bracketed_names : TokenReader (List Name)
 bracketed_names = led (codes "[") (closed (codes "]") names)
 
--- PREDICATES AND FILTERS, parentheses in them being read by the reader that is given
+-- CONDITIONS: predicates and filters, parentheses in them being read by the reader that is given
+
+-- what is read of a condition where no parenthesis stands, members joined by AND and by OR, whether a
+-- NOT may stand before a unit, and what it makes of it
+pub record Parts (X : Type 0) : Type 0 where
+  pub leaf : TokenReader X
+  pub all_of : List X → X
+  pub any_of : List X → X
+  pub takes_not : Bool
+  pub negated : X → X
+
+unfoldable pub atom : {X : Type 0} → Parts X → TokenReader X → TokenReader X
+atom parts inner = led_or (codes "(") (closed (codes ")") inner) parts.leaf
+
+unfoldable pub unit : {X : Type 0} → Parts X → TokenReader X → TokenReader X
+unit parts inner = if parts.takes_not then led_or (codes "NOT") (map_read parts.negated (atom parts inner)) (atom parts inner) else atom parts inner
+
+unfoldable pub more_units : {X : Type 0} → Parts X → TokenReader X → TokenReader (List X)
+more_units parts inner = many_after (codes "AND") (unit parts inner)
+
+unfoldable pub conjunction : {X : Type 0} → Parts X → TokenReader X → TokenReader X
+conjunction parts inner = bind (unit parts inner) (λ x. map_read (λ xs. parts.all_of (x ∷ xs)) (more_units parts inner))
+
+unfoldable pub more_conjunctions : {X : Type 0} → Parts X → TokenReader X → TokenReader (List X)
+more_conjunctions parts inner = many_after (codes "OR") (conjunction parts inner)
+
+unfoldable pub disjunction_step : {X : Type 0} → Parts X → TokenReader X → TokenReader X
+disjunction_step parts inner = bind (conjunction parts inner) (λ x. map_read (λ xs. parts.any_of (x ∷ xs)) (more_conjunctions parts inner))
+
+unfoldable pub disjunction : {X : Type 0} → Parts X → TokenReader X
+disjunction parts = fixpoint (disjunction_step parts)
 
 abbrev pub op : TokenReader Op
 op = one_token is_op op_of
@@ -68,47 +98,20 @@ literal = one_token is_literal literal_of
 unfoldable pub comparison : TokenReader PredTree
 comparison = bind name (λ a. bind op (λ o. map_read (compares a o) literal))
 
-unfoldable pub atom : TokenReader PredTree → TokenReader PredTree
-atom inner = led_or (codes "(") (closed (codes ")") inner) comparison
+abbrev pub pred_parts : Parts PredTree
+pred_parts = record { leaf = comparison; all_of = all_preds_of; any_of = any_pred_of; takes_not = true; negated = negates }
 
-unfoldable pub unit : TokenReader PredTree → TokenReader PredTree
-unit inner = led_or (codes "NOT") (map_read negates (atom inner)) (atom inner)
-
-unfoldable pub more_units : TokenReader PredTree → TokenReader (List PredTree)
-more_units inner = many_after (codes "AND") (unit inner)
-
-unfoldable pub conjunction : TokenReader PredTree → TokenReader PredTree
-conjunction inner = bind (unit inner) (λ p. map_read (all_preds p) (more_units inner))
-
-unfoldable pub more_conjunctions : TokenReader PredTree → TokenReader (List PredTree)
-more_conjunctions inner = many_after (codes "OR") (conjunction inner)
-
-unfoldable pub pred_step : TokenReader PredTree → TokenReader PredTree
-pred_step inner = bind (conjunction inner) (λ p. map_read (any_pred p) (more_conjunctions inner))
-
-unfoldable pub pred : TokenReader PredTree
-pred = fixpoint pred_step
+abbrev pub pred : TokenReader PredTree
+pred = disjunction pred_parts
 
 unfoldable pub on_name : TokenReader FilterTree
 on_name = bind name (λ x. map_read (on x) (led (codes "[") (closed (codes "]") pred)))
 
-unfoldable pub filter_unit : TokenReader FilterTree → TokenReader FilterTree
-filter_unit inner = led_or (codes "(") (closed (codes ")") inner) on_name
+abbrev pub filter_parts : Parts FilterTree
+filter_parts = record { leaf = on_name; all_of = all_filters_of; any_of = any_filter_of; takes_not = false; negated = λ c. c }
 
-unfoldable pub more_filter_units : TokenReader FilterTree → TokenReader (List FilterTree)
-more_filter_units inner = many_after (codes "AND") (filter_unit inner)
-
-unfoldable pub filter_conjunction : TokenReader FilterTree → TokenReader FilterTree
-filter_conjunction inner = bind (filter_unit inner) (λ c. map_read (all_filters c) (more_filter_units inner))
-
-unfoldable pub more_filter_conjunctions : TokenReader FilterTree → TokenReader (List FilterTree)
-more_filter_conjunctions inner = many_after (codes "OR") (filter_conjunction inner)
-
-unfoldable pub filter_step : TokenReader FilterTree → TokenReader FilterTree
-filter_step inner = bind (filter_conjunction inner) (λ c. map_read (any_filter c) (more_filter_conjunctions inner))
-
-unfoldable pub filter : TokenReader FilterTree
-filter = fixpoint filter_step
+abbrev pub filter : TokenReader FilterTree
+filter = disjunction filter_parts
 
 -- FORMULAS
 

@@ -8,6 +8,7 @@
 //! It stands on `ceql_lexer` for tokens and on `cel_terms` for terms.
 #![tactic(auto)]
 
+mod conditions;
 mod declarations;
 mod depth;
 mod faults;

@@ -1,7 +1,7 @@
 //! One query text over some lines, and the answers as a text.
-ghost use Rattle.std.specs.Prelude.{◌≡◌, ◌+◌, ◌^◌, ◌<◌, ◌≤◌, length, IfOk, OnOk};
+ghost use Rattle.std.specs.Prelude.{◌≡◌, ◌+◌, ◌^◌, ◌<◌, ◌≤◌, [], length, IfOk, OnOk};
 ghost use Rattle.stream_schema.specs.Events.{IsOfSchema};
-ghost use Rattle.query_engine.specs.Engine.{count_of, IsNumber, SameQueries};
+ghost use Rattle.query_engine.specs.Engine.{StandsFor, count_of, IsNumber, SameQueries};
 
 use ceql_parser::{Accepted, read_queries};
 use cer_base::Memory;
@@ -45,12 +45,18 @@ impl<T: Drop> From<AllocFailed<T>> for CaseFault {
 }
 
 /// The engine of the queries of a text.
-pub fn engine_of(alloc: Global, text: &str) -> Result<Engine, CaseFault> {
+pub fn engine_of(alloc: Global, text: &str) -> Result<Engine, CaseFault>
+    ensures fresh { IfOk result (λ engine. StandsFor engine []) }
+    ensures none { IfOk result (λ engine. count_of engine ≡ 0) }
+{
     seeded_engine_of(alloc, Seed::default(), text)
 }
 
 /// An engine for the text, with tables that hash by the seed.
-pub fn seeded_engine_of(alloc: Global, seed: Seed, text: &str) -> Result<Engine, CaseFault> {
+pub fn seeded_engine_of(alloc: Global, seed: Seed, text: &str) -> Result<Engine, CaseFault>
+    ensures fresh { IfOk result (λ engine. StandsFor engine []) }
+    ensures none { IfOk result (λ engine. count_of engine ≡ 0) }
+{
     match read_queries(alloc, text.as_bytes()) {
         Ok(Accepted { schema, queries }) => Ok(Engine::seeded(alloc, seed, schema, queries)?),
         Err(_) => Err(CaseFault::Query),

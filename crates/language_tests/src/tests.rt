@@ -1,4 +1,5 @@
 mod grammar;
+mod input;
 mod parser;
 mod queries;
 mod schema;

@@ -1,5 +1,6 @@
 //! The rows, by what they show.
 
+mod commands;
 mod compactions;
 mod explaining;
 mod faults;
@@ -13,3 +14,10 @@ mod saving;
 mod sessions;
 mod texts;
 mod words;
+
+use std::process::Abort;
+
+/// Holds what is shown against what is wanted of the row.
+pub fn same(rt: &impl Abort, shown: &str, wanted: &str, row: &str) {
+    assert_eq!(rt; shown, wanted, "at {row}");
+}

@@ -2,7 +2,7 @@
 
 use crate::held::{held_over_a_compaction, most_after_compactions};
 use crate::rows::{CaseFault, engine_of};
-use crate::tests::engine_after;
+use crate::tests::by_hand::engine_after;
 use cer_base::steps::Opening;
 use query_engine::Engine;
 use std::alloc::Global;

@@ -24,6 +24,10 @@ const OUTPUT: &str = "\
 1 [2,2] {2}
 ";
 
+const CANNOT_READ: &str = "core: cannot read events\n";
+
+const CANNOT_WRITE: &str = "core: cannot write\n";
+
 /// The number of the call of each kind that fails, from 1; at 0 none does.
 #[derive(Clone, Copy, Debug)]
 struct Failing {
@@ -118,28 +122,6 @@ fn words_hold(
     Ok(())
 }
 
-/// There is no third open.
-#[test]
-fn each_open_fails(rt: HostRuntime) -> Result<(), Fail> {
-    let alloc = rt.alloc();
-    for (open, status, output, note) in [
-        (1, 5, "", "core: cannot open queries\n"),
-        (2, 5, "", "core: cannot open events\n"),
-        (3, 0, OUTPUT, ""),
-    ] {
-        holds(
-            &rt,
-            alloc,
-            Failing { open, ..NONE },
-            status,
-            output,
-            note,
-            &rt,
-        )?;
-    }
-    Ok(())
-}
-
 /// The last read finds the end.
 #[test]
 fn each_read_of_the_query_file_fails(rt: HostRuntime) -> Result<(), Fail> {
@@ -174,15 +156,14 @@ fn each_read_of_the_query_file_fails(rt: HostRuntime) -> Result<(), Fail> {
 #[test]
 fn each_read_of_the_event_file_fails(rt: HostRuntime) -> Result<(), Fail> {
     let alloc = rt.alloc();
-    let note = "core: cannot read events\n";
     let reads = EVENTS.len().div_ceil(4);
     for well in 0..=reads {
         let event_read = after(well);
         let output = answers_among(alloc, well.saturating_mul(4))?;
         let failing = Failing { event_read, ..NONE };
-        holds(&rt, alloc, failing, 5, output.as_str(), note, &rt)?;
-        for written in 0..note.len().div_ceil(7) {
-            let told = first_bytes(alloc, note, written.saturating_mul(7))?;
+        holds(&rt, alloc, failing, 5, output.as_str(), CANNOT_READ, &rt)?;
+        for written in 0..CANNOT_READ.len().div_ceil(7) {
+            let told = first_bytes(alloc, CANNOT_READ, written.saturating_mul(7))?;
             let failing = Failing {
                 event_read,
                 note: after(written),
@@ -203,103 +184,85 @@ fn each_read_of_the_event_file_fails(rt: HostRuntime) -> Result<(), Fail> {
     )
 }
 
+/// How many bytes stand where each write in turn fails.
+const STANDING: &[usize] = &[
+    0, 5, 10, 12, 17, 22, 27, 32, 37, 38, 43, 48, 53, 58, 63, 68, 73, 78, 83, 88, 93,
+];
+
 /// A first part of the lines stands. Those over the three events are 12, 26 and 56 bytes, and since a
 /// read gives one event, the lines over an event are written before the next is asked for.
 #[test]
 fn each_write_fails(rt: HostRuntime) -> Result<(), Fail> {
     let alloc = rt.alloc();
-    let mut write = 0u64;
-    for standing in [
-        0, 5, 10, 12, 17, 22, 27, 32, 37, 38, 43, 48, 53, 58, 63, 68, 73, 78, 83, 88, 93,
-    ] {
-        write = write.saturating_add(1);
+    for (well, &standing) in STANDING.iter().enumerate() {
         let output = first_bytes(alloc, OUTPUT, standing)?;
+        let write = after(well);
         let failing = Failing { write, ..NONE };
-        holds(
-            &rt,
-            alloc,
-            failing,
-            6,
-            output.as_str(),
-            "core: cannot write\n",
-            &rt,
-        )?;
+        holds(&rt, alloc, failing, 6, output.as_str(), CANNOT_WRITE, &rt)?;
     }
-    let write = write.saturating_add(1);
+    let write = after(STANDING.len());
     holds(&rt, alloc, Failing { write, ..NONE }, 0, OUTPUT, "", &rt)
 }
 
-/// Words, which write fails, from 1, and what the output has taken.
-const WRITES: &[(&str, u64, &str)] = &[
-    ("reorder q e v 0", 4, "1 [0,0] {0}\n"),
-    ("reorder q e v 9", 2, "1 [0,"),
-    ("reorder --order walk q e v 9", 4, "1 [0,0] {0}\n"),
-    ("explain q e 1 0 1 0 1", 1, ""),
-    ("explain q e 1 0 1 0 1", 5, "1 [0,1] {0,1}\nA {0,1"),
-    ("save q e", 1, ""),
-    ("save q e", 3, "core check"),
+/// The events as a checkpoint.
+const SAVED: &str = "core checkpoint 1\nevents 3 3\nat 0\nA,1\nat 1\nA,2\nat 2\nA,3\n";
+
+/// Words, which open, which read of the event file and which write fails, from 1, and the status, the
+/// output and the note.
+const COMMANDS: &[(&str, u64, u64, u64, u8, &str, &str)] = &[
+    // There is no third open.
+    ("run q e", 1, 0, 0, 5, "", "core: cannot open queries\n"),
+    ("run q e", 2, 0, 0, 5, "", "core: cannot open events\n"),
+    ("run q e", 3, 0, 0, 0, OUTPUT, ""),
+    // Late events are answered as they go, or at the end.
+    ("reorder q e v 0", 0, 0, 4, 6, "1 [0,0] {0}\n", CANNOT_WRITE),
+    ("reorder q e v 9", 0, 0, 2, 6, "1 [0,", CANNOT_WRITE),
+    (
+        "reorder --order walk q e v 9",
+        0,
+        0,
+        4,
+        6,
+        "1 [0,0] {0}\n",
+        CANNOT_WRITE,
+    ),
+    // An explanation and a checkpoint are written at their end.
+    ("explain q e 1 0 1 0 1", 0, 0, 1, 6, "", CANNOT_WRITE),
+    (
+        "explain q e 1 0 1 0 1",
+        0,
+        0,
+        5,
+        6,
+        "1 [0,1] {0,1}\nA {0,1",
+        CANNOT_WRITE,
+    ),
+    ("save q e", 0, 0, 1, 6, "", CANNOT_WRITE),
+    ("save q e", 0, 0, 3, 6, "core check", CANNOT_WRITE),
+    // Each read gives one event. With a bound of 1 the event before the last one may go.
+    ("reorder q e v 0", 0, 2, 0, 5, "1 [0,0] {0}\n", CANNOT_READ),
+    ("reorder q e v 1", 0, 2, 0, 5, "", CANNOT_READ),
+    ("reorder q e v 1", 0, 3, 0, 5, "1 [0,0] {0}\n", CANNOT_READ),
+    // Three reads give the events, and a fourth finds the end. Nothing is saved where one fails.
+    ("save q e", 0, 1, 0, 5, "", CANNOT_READ),
+    ("save q e", 0, 2, 0, 5, "", CANNOT_READ),
+    ("save q e", 0, 3, 0, 5, "", CANNOT_READ),
+    ("save q e", 0, 4, 0, 5, "", CANNOT_READ),
+    ("save q e", 0, 5, 0, 0, SAVED, ""),
 ];
 
-/// Late events are answered as they go, or at the end; an explanation and a checkpoint are written at
-/// their end.
 #[test]
-fn a_write_fails_in_each_command(rt: HostRuntime) -> Result<(), Fail> {
-    let alloc = rt.alloc();
-    for &(words, write, output) in WRITES {
-        let failing = Failing { write, ..NONE };
-        words_hold(
-            &rt,
-            alloc,
-            words,
-            failing,
-            6,
-            output,
-            "core: cannot write\n",
-            &rt,
-        )?;
+fn calls_fail_in_each_command(rt: HostRuntime) -> Result<(), Fail> {
+    for &(words, open, event_read, write, status, output, note) in COMMANDS {
+        let failing = Failing {
+            open,
+            event_read,
+            write,
+            ..NONE
+        };
+        words_hold(&rt, rt.alloc(), words, failing, status, output, note, &rt)?;
     }
     Ok(())
-}
-
-/// Each read gives one event. With a bound of 1 the event before the last one may go.
-#[test]
-fn a_read_of_late_events_fails(rt: HostRuntime) -> Result<(), Fail> {
-    let alloc = rt.alloc();
-    for (words, event_read, output) in [
-        ("reorder q e v 0", 2, "1 [0,0] {0}\n"),
-        ("reorder q e v 1", 2, ""),
-        ("reorder q e v 1", 3, "1 [0,0] {0}\n"),
-    ] {
-        let failing = Failing { event_read, ..NONE };
-        words_hold(
-            &rt,
-            alloc,
-            words,
-            failing,
-            5,
-            output,
-            "core: cannot read events\n",
-            &rt,
-        )?;
-    }
-    Ok(())
-}
-
-/// Three reads give the events, and a fourth finds the end.
-#[test]
-fn nothing_is_saved_where_a_read_fails(rt: HostRuntime) -> Result<(), Fail> {
-    let alloc = rt.alloc();
-    let note = "core: cannot read events\n";
-    for event_read in 1..=4u64 {
-        let failing = Failing { event_read, ..NONE };
-        words_hold(&rt, alloc, "save q e", failing, 5, "", note, &rt)?;
-    }
-    let saved = "core checkpoint 1\nevents 3 3\nat 0\nA,1\nat 1\nA,2\nat 2\nA,3\n";
-    let failing = Failing {
-        event_read: 5,
-        ..NONE
-    };
-    words_hold(&rt, alloc, "save q e", failing, 0, saved, "", &rt)
 }
 
 /// A sink with room for 20 bytes keeps as many.

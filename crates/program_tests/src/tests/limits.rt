@@ -75,18 +75,21 @@ fn first_parts_of_a_quoted_line(rt: HostRuntime) -> Result<(), Fail> {
     Ok(())
 }
 
-/// A chain of so many parts after the first, and what stands after it.
+const TOO_MANY: &str = "3||core: queries 4:1: more than 2048 leaves\n";
+
+/// Of a chain, how many parts come after the first, and what stands after them; and what is answered.
+const CHAINS: &[(usize, &str, &str)] = &[
+    (63, "\n", "0||"),
+    (2047, "\n", "0||"),
+    (2048, "\n", TOO_MANY),
+    (1023, " FILTER A[v = 1] OR A[v = 2]\n", "0||"),
+    (1024, " FILTER A[v = 1] OR A[v = 2]\n", TOO_MANY),
+];
+
 #[test]
 fn formulas_at_their_limits(rt: HostRuntime) -> Result<(), Fail> {
     let alloc = rt.alloc();
-    let too_many = "3||core: queries 4:1: more than 2048 leaves\n";
-    for (times, behind, wanted) in [
-        (63usize, "\n", "0||"),
-        (2047, "\n", "0||"),
-        (2048, "\n", too_many),
-        (1023, " FILTER A[v = 1] OR A[v = 2]\n", "0||"),
-        (1024, " FILTER A[v = 1] OR A[v = 2]\n", too_many),
-    ] {
+    for &(times, behind, wanted) in CHAINS {
         let query = repeated(alloc, "SELECT * FROM S WHERE A", " ; A", times, behind)?;
         let text = format!(in alloc; "{PLAIN}{query}")?;
         holds(&rt, alloc, text.as_str(), "A,1\n", wanted, &rt)?;
@@ -94,14 +97,17 @@ fn formulas_at_their_limits(rt: HostRuntime) -> Result<(), Fail> {
     Ok(())
 }
 
+/// How many parentheses there are, and what is answered.
+const PARENTHESES: &[(usize, &str)] = &[
+    (64, "0|1 [0,0] {0}\n|"),
+    (65, "3||core: queries 4:87: nested too deeply\n"),
+];
+
 /// Parentheses and queries of a text.
 #[test]
 fn texts_at_their_limits(rt: HostRuntime) -> Result<(), Fail> {
     let alloc = rt.alloc();
-    for (times, wanted) in [
-        (64usize, "0|1 [0,0] {0}\n|"),
-        (65, "3||core: queries 4:87: nested too deeply\n"),
-    ] {
+    for &(times, wanted) in PARENTHESES {
         let opened = repeated(alloc, "SELECT * FROM S WHERE ", "(", times, "A")?;
         let query = repeated(alloc, opened.as_str(), ")", times, "\n")?;
         let text = format!(in alloc; "{PLAIN}{query}")?;
@@ -112,34 +118,32 @@ fn texts_at_their_limits(rt: HostRuntime) -> Result<(), Fail> {
     holds(&rt, alloc, queries.as_str(), "A,1\n", wanted, &rt)
 }
 
-/// The longest text, and one byte more.
+/// How many blanks a text has, the longest and one more, and what is answered.
+const BLANKS: &[(usize, &str)] = &[
+    (1_048_576, "3||core: queries 1:1048577: no query\n"),
+    (
+        1_048_577,
+        "3||core: queries 1:1: text longer than 1048576 bytes\n",
+    ),
+];
+
+/// How many bytes a line's text has, the longest and one more, and what is answered.
+const LONG_LINES: &[(usize, &str)] = &[
+    (65_534, "0|1 [0,0] {0}\n|"),
+    (
+        65_535,
+        "4||core: events line 1: line longer than 65536 bytes\n",
+    ),
+];
+
 #[test]
 fn bytes_at_their_limit(rt: HostRuntime) -> Result<(), Fail> {
     let alloc = rt.alloc();
-    for (times, wanted) in [
-        (1_048_576usize, "3||core: queries 1:1048577: no query\n"),
-        (
-            1_048_577,
-            "3||core: queries 1:1: text longer than 1048576 bytes\n",
-        ),
-    ] {
+    for &(times, wanted) in BLANKS {
         let text = repeated(alloc, "", " ", times, "")?;
         holds(&rt, alloc, text.as_str(), "A,1\n", wanted, &rt)?;
     }
-    Ok(())
-}
-
-/// The longest line, and one byte more.
-#[test]
-fn lines_at_their_limit(rt: HostRuntime) -> Result<(), Fail> {
-    let alloc = rt.alloc();
-    for (times, wanted) in [
-        (65_534usize, "0|1 [0,0] {0}\n|"),
-        (
-            65_535,
-            "4||core: events line 1: line longer than 65536 bytes\n",
-        ),
-    ] {
+    for &(times, wanted) in LONG_LINES {
         let events = repeated(alloc, "N,", "x", times, "\n")?;
         holds(&rt, alloc, ALL_TEXTS, events.as_str(), wanted, &rt)?;
     }

@@ -5,7 +5,7 @@ use Rattle.ceql_grammar.specs.WordsAndSigns.{is}
 use Rattle.ceql_grammar.specs.RuleReaders.{filter, more_filters, no_value}
 use Rattle.ceql_grammar.specs.Trees.{filter_tree}
 use Rattle.ceql_grammar.proofs.LoopExits.{exit, front_none, turn_fails, turn_goes_plain, turn_ends}
-use Rattle.ceql_grammar.proofs.LoopRules.{filters_again}
+use Rattle.ceql_grammar.proofs.LoopRules.{filters_again, filters_are_lawful}
 use Rattle.ceql_grammar.proofs.filters.filters.Goals as goal
 
 pub loop-later-init : goal.loop-later-init
@@ -22,10 +22,13 @@ pub loop-later-preserved : goal.loop-later-preserved
 unfolding more_filters
 loop-later-preserved c =
     let read = c.in_ok-behind_next.ensures.value in (
-      turn_goes_plain (is (codes "FILTER")) no_value (λ _. filter) filters_again (map filter_tree c.loop-later.filters.items) (map filter_tree c.filter.new.filters.items) c.loop-later.rest.now (more_filters c.args.tokens.now) tt c.in-Some.later.now read.0 c.in_ok-behind_next.behind_next.now c.loop-later.invariant.0 c.in-Some.ensures.value read.1.1 read.1.0,
+      turn_goes_plain (is (codes "FILTER")) no_value (λ _. filter) filters_again (map filter_tree c.loop-later.filters.items) (map filter_tree c.disjunction.new.conditions.items) c.loop-later.rest.now (more_filters c.args.tokens.now) tt c.in-Some.later.now read.0 c.in_ok-behind_next.behind_next.now c.loop-later.invariant.0 c.in-Some.ensures.value read.1.1 read.1.0,
       omega (arith, c.loop-later.invariant.1, c.in-Some.ensures.shorter, c.in_ok-behind_next.ensures.shorter),
     )
 
 pub returns-clause-value : goal.returns-clause-value
 unfolding more_filters
 returns-clause-value c = turn_ends (is (codes "FILTER")) no_value (λ _. filter) filters_again (map filter_tree c.loop-later.filters.items) c.loop-later.rest.now (more_filters c.args.tokens.now) c.loop-later.invariant.0 c.in_default.ensures.value
+
+pub disjunction-requires : goal.disjunction-requires
+disjunction-requires c = record { lawful = filters_are_lawful }

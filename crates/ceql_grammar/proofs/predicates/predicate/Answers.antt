@@ -1,4 +1,4 @@
-use Rattle.std.proofs.Common.{refl, sym, ap, ◌∙◌, arith, map}
+use Rattle.std.proofs.Common.{sym, ap, ◌∙◌}
 use Rattle.std.specs.Prelude.{Ok}
 use Rattle.std.proofs.lemmas.Result.{err_from_is_err_and}
 use Rattle.ceql_grammar.specs.MemberLists.{all_preds_of}
@@ -6,6 +6,7 @@ use Rattle.ceql_grammar.specs.RuleReaders.{pred}
 use Rattle.ceql_grammar.specs.Trees.{pred_tree}
 use Rattle.ceql_grammar.proofs.LoopExits.{exit}
 use Rattle.ceql_grammar.proofs.InPlaceReading.{only_behind}
+use Rattle.ceql_grammar.proofs.LoopRules.{preds_are_lawful}
 use Rattle.ceql_grammar.proofs.predicates.predicate.Goals as goal
 
 pub returns-in_err-rest-clause-value : goal.returns-in_err-rest-clause-value
@@ -16,4 +17,7 @@ returns-in_err-rest-clause-value c =
 pub returns-clause-value : goal.returns-clause-value
 returns-clause-value c =
     let read = c.in_ok-rest.ensures.value in
-    read.1.1 ∙ ap (λ y. Ok (y, c.in_ok-rest.rest.now)) (sym (c.all_preds_of.ensures ∙ ap all_preds_of (only_behind pred_tree c.new-preds.result.items c.add_predicate.new.preds.items read.0 c.new-preds.ensures.items read.1.0)))
+    read.1.1 ∙ ap (λ y. Ok (y, c.in_ok-rest.rest.now)) (sym (c.all_of.ensures.value ∙ ap all_preds_of (only_behind pred_tree c.new-preds.result.items c.disjunction.new.conditions.items read.0 c.new-preds.ensures.items read.1.0)))
+
+pub disjunction-requires : goal.disjunction-requires
+disjunction-requires c = record { lawful = preds_are_lawful }

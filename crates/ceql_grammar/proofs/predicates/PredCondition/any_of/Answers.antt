@@ -1,0 +1,6 @@
+use Rattle.std.proofs.Common.{◌∙◌}
+use Rattle.ceql_grammar.proofs.JoinedTerms.{any_many}
+use Rattle.ceql_grammar.proofs.predicates.PredCondition.any_of.Goals as goal
+
+pub returns-then-len-ne1 : goal.returns-then-len-ne1
+returns-then-len-ne1 c = record { value = any_many c.args.members c.requires.some (λ e. c.if-len-ne1.true (c.len.ensures ∙ c.args.members.ok.0 ∙ e)) }

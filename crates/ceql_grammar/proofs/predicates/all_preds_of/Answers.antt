@@ -1,6 +1,0 @@
-use Rattle.std.proofs.Common.{◌∙◌}
-use Rattle.ceql_grammar.proofs.JoinedTerms.{all_many}
-use Rattle.ceql_grammar.proofs.predicates.all_preds_of.Goals as goal
-
-pub returns-then-len-ne1 : goal.returns-then-len-ne1
-returns-then-len-ne1 c = all_many c.args.members c.requires (λ e. c.if-len-ne1.true (c.len.ensures ∙ c.args.members.ok.0 ∙ e))

@@ -1,6 +1,0 @@
-mod checkpoints;
-mod late;
-mod outside;
-mod sample;
-mod saving;
-mod words;

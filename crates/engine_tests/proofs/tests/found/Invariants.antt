@@ -1,5 +1,0 @@
-use Rattle.engine_tests.proofs.tests.found.Given as goal
-
--- the count has the ledger of its opening
-abbrev pub ghosts-answers_after_each : goal.ghosts-answers_after_each
-ghosts-answers_after_each a = record { name = a.opening.name; parts = a.opening.parts }

@@ -1,5 +1,0 @@
--- The count has the ledger of its opening.
-use Rattle.stream_tests.proofs.tests.runs.run_words.Given as goal
-
-abbrev pub ghosts-run_over : goal.ghosts-run_over
-ghosts-run_over a = record { name = a.opening.name; parts = a.opening.parts }

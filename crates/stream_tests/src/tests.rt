@@ -1,6 +1,0 @@
-mod blocks;
-mod commands;
-mod lines;
-mod runs;
-mod sessions;
-mod streams;

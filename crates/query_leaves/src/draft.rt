@@ -123,7 +123,7 @@ fn change_each<'q>(
 
 /// Makes the change at each leaf. Where memory runs out, nothing is said of what is left.
 #[cycle(change)]
-fn change_leaves<'q>(
+pub fn change_leaves<'q>(
     alloc: Global,
     draft: &mut Draft<'q>,
     change: &Change<'q>,

@@ -1,38 +1,56 @@
 //! The tree of leaves of a formula: filters and names are carried to the types that they speak of.
 
-ghost use Rattle.std.specs.Prelude.{◌≡◌, ◌∷◌, false, IfOk, fold, map};
+ghost use Rattle.std.specs.Prelude.{◌≡◌, ◌∷◌, [], ◌++◌, false, IfOk, OnOk, fold, map};
 ghost use Rattle.cel_terms.specs.declared.Formula.{Of};
 ghost use Rattle.query_leaves.specs.LeafTree.{LeafTree, chain_of, choice_of, linked_to};
 ghost use Rattle.query_leaves.specs.Expand.{Occurrence as Occurs, filtered, postfixed, expand, tree_of};
 ghost use Rattle.query_leaves.specs.Drafts.{tree_of_draft, draft_part, part_of, link_of};
 
-use crate::draft::{Draft, DraftPart, changed, copied, one_or_more};
+use crate::draft::{Draft, DraftPart, change_leaves, changed, copied, one_or_more};
 use crate::occurrence::{Change, Occurrence};
 use cel_terms::{Filter, Formula, Link, Name, Postfix, Query};
 use cer_base::Memory;
 use std::alloc::Global;
 
-/// One filter after another, in a call of its own so that other filters take no stack for it.
+/// Puts the tree under the filters, one after another, in a call of its own so that other filters take
+/// no stack for it.
 #[inline(never)]
-#[cycle(filtered)]
-fn filtered_by_all<'q>(
+#[cycle(put_under)]
+fn put_under_all<'q>(
     alloc: Global,
     filters: &'q [Filter],
-    draft: Draft<'q>,
-) -> Result<Draft<'q>, Memory>
-    ensures { IfOk result (λ after. tree_of_draft after
-        ≡ fold (λ t c. filtered c t) (tree_of_draft draft.entry) filters.now) }
+    draft: &mut Draft<'q>,
+) -> Result<(), Memory>
+    ensures { OnOk result (tree_of_draft draft.new
+        ≡ fold (λ t c. filtered c t) (tree_of_draft draft.old) filters.now) }
 {
-    let mut after = draft;
-    for part in filters {
-        after = filtered(alloc, part, after)?;
+    for filter in filters {
+        put_under(alloc, filter, draft)?;
     }
-    Ok(after)
+    Ok(())
 }
 
-/// A copy for each filter.
-#[cycle(filtered)]
-fn filtered_copies<'q>(
+/// Puts in a copy of the tree under the filter, in a call of its own likewise.
+#[inline(never)]
+#[cycle(put_under)]
+fn push_under<'q>(
+    alloc: Global,
+    filter: &'q Filter,
+    draft: &Draft<'q>,
+    copies: &mut Vec<Draft<'q>>,
+) -> Result<(), Memory>
+    ensures { OnOk result (map tree_of_draft copies.new.items
+        ≡ map tree_of_draft copies.old.items ++ filtered filter.now (tree_of_draft draft.now) ∷ []) }
+{
+    let mut copy = copied(alloc, draft)?;
+    put_under(alloc, filter, &mut copy)?;
+    copies.push(copy)?;
+    Ok(())
+}
+
+/// A copy of the tree under each filter.
+#[cycle(put_under)]
+fn copies_under<'q>(
     alloc: Global,
     filters: &'q [Filter],
     draft: &Draft<'q>,
@@ -42,36 +60,37 @@ fn filtered_copies<'q>(
 {
     let mut copies = Vec::new(alloc);
     for filter in filters {
-        let copy = copied(alloc, draft)?;
-        copies.push(filtered(alloc, filter, copy)?)?;
+        push_under(alloc, filter, draft, &mut copies)?;
     }
     Ok(copies)
 }
 
-/// A choice between a copy for each filter, in a call of its own likewise.
+/// Puts a choice between a copy for each filter in the place of the tree, in a call of its own likewise.
 #[inline(never)]
-#[cycle(filtered)]
-fn filtered_by_any<'q>(
+#[cycle(put_under)]
+fn put_under_any<'q>(
     alloc: Global,
     filters: &'q [Filter],
-    draft: &Draft<'q>,
-) -> Result<Draft<'q>, Memory>
-    ensures { IfOk result (λ after. tree_of_draft after
-        ≡ choice_of (map (λ c. filtered c (tree_of_draft draft.now)) filters.now)) }
+    draft: &mut Draft<'q>,
+) -> Result<(), Memory>
+    ensures { OnOk result (tree_of_draft draft.new
+        ≡ choice_of (map (λ c. filtered c (tree_of_draft draft.old)) filters.now)) }
 {
-    Ok(Draft::Either(filtered_copies(alloc, filters, draft)?))
+    let copies = copies_under(alloc, filters, draft)?;
+    *draft = Draft::Either(copies);
+    Ok(())
 }
 
-/// The tree under the filter.
-#[cycle(filtered)]
-fn filtered<'q>(alloc: Global, filter: &'q Filter, draft: Draft<'q>) -> Result<Draft<'q>, Memory>
-    ensures { IfOk result (λ after. tree_of_draft after
-        ≡ filtered filter.now (tree_of_draft draft.entry)) }
+/// Puts the tree under the filter, in its place. Where memory runs out, nothing is said of what is left.
+#[cycle(put_under)]
+fn put_under<'q>(alloc: Global, filter: &'q Filter, draft: &mut Draft<'q>) -> Result<(), Memory>
+    ensures { OnOk result (tree_of_draft draft.new
+        ≡ filtered filter.now (tree_of_draft draft.old)) }
 {
     match filter {
-        Filter::On(name, pred) => changed(alloc, draft, &Change::Test(name, pred)),
-        Filter::All(filters) => filtered_by_all(alloc, filters, draft),
-        Filter::Any(filters) => filtered_by_any(alloc, filters, &draft),
+        Filter::On(name, pred) => change_leaves(alloc, draft, &Change::Test(name, pred)),
+        Filter::All(filters) => put_under_all(alloc, filters, draft),
+        Filter::Any(filters) => put_under_any(alloc, filters, draft),
     }
 }
 
@@ -86,9 +105,7 @@ fn under_all<'q>(
         ≡ fold (λ t c. filtered c t) (tree_of_draft draft.entry) filters.now) }
 {
     let mut after = draft;
-    for filter in filters {
-        after = filtered(alloc, filter, after)?;
-    }
+    put_under_all(alloc, filters, &mut after)?;
     Ok(after)
 }
 

@@ -4,7 +4,7 @@ use Rattle.std.specs.List.{list_all, list_any, AllByRecursion}
 use Rattle.std.specs.Prelude.{Vec}
 use Rattle.std.specs.declared.alloc.Global.{Global}
 use Rattle.stream_schema.specs.Types.{Declared, DeclaredType}
-use Rattle.stream_schema.specs.Names.{attr_index, attr_at}
+use Rattle.stream_schema.specs.Names.{attr_index, attr_at, attr_of}
 use Rattle.stream_schema.specs.declared.Attr.{Attr}
 use Rattle.stream_schema.specs.declared.AttrAt.{AttrAt}
 use Rattle.stream_schema.specs.declared.Event.{Event}
@@ -152,3 +152,11 @@ any_tested schema ty preds tests are =
           few_tests_listed made.0 made.1 (subst (AllByRecursion TestHasFewPlaces) (sym (items_hidden-the_row-Test-0 tests))
           (few_places schema ty preds.items tests.items are (subst (AllByRecursion PredHasFewPlaces) (items_hidden-the_row-Pred-0 preds) (few_preds_listed row.0 row.1 h))));
     }
+
+-- the attribute that is found by its type's number and its place
+pub attr_found : (types : List DeclaredType) (ty i : ℕ) (attrs : List Attr) (a : Attr) → Some attrs ≡ option_map (λ (t : DeclaredType). t.attrs) (slice_get types ty) → slice_get attrs i ≡ Some a → attr_of types ty i ≡ Some a
+attr_found types ty i attrs a at is = by (slice_get types ty) at
+  where
+    by : (o : Option DeclaredType) → Some attrs ≡ option_map (λ (t : DeclaredType). t.attrs) o → option_and_then (λ (t : DeclaredType). slice_get t.attrs i) o ≡ Some a
+    by None e = absurd cc
+    by (Some t) e = let same : attrs ≡ t.attrs = cc in ap (λ xs. slice_get xs i) (sym same) ∙ is

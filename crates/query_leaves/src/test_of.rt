@@ -1,6 +1,9 @@
 //! The tests of predicates, for the events of one type.
 
-ghost use Rattle.std.specs.Prelude.{◌≡◌, true, IfOk, map, reverse};
+ghost use Rattle.std.specs.Prelude.{◌≡◌, Some, None, true, IfOk, IfSome, map, reverse, slice_get};
+ghost use Rattle.std.specs.Option.{option_copied};
+ghost use Rattle.stream_schema.specs.Names.{attr_at};
+ghost use Rattle.stream_schema.specs.declared.Kind.{Kind};
 ghost use Rattle.cel_terms.specs.declared.Pred.{Cmp};
 ghost use Rattle.query_leaves.specs.declared.Test.{Cmp as Compared};
 ghost use Rattle.query_leaves.specs.Tests.{IsTestOf, AreTestsOf};
@@ -9,7 +12,7 @@ use crate::Test;
 use cel_terms::{Name, Op, Pred};
 use cer_base::Memory;
 use std::alloc::Global;
-use stream_schema::{Schema, TypeId, Value, copy_value, same_value};
+use stream_schema::{Attr, Schema, TypeId, Value, copy_value, same_value};
 
 /// The test of a comparison. Where the type lacks the attribute it holds of no event.
 fn comparison(
@@ -82,18 +85,54 @@ pub fn tests_of_all(
     Ok(tests)
 }
 
-/// Whether the test compares the value at the place so with the literal.
-fn compares(test: &Test, place: u64, op: Op, literal: &Value) -> bool
-    ensures { result ≡ true → test.now ≡ Compared place op literal.now }
+/// The attribute at the place.
+fn attr_there(attrs: &[Attr], place: u64) -> Option<&Attr>
+    ensures { option_copied result ≡ slice_get attrs.now place }
+{
+    attrs.get(place as usize)
+}
+
+/// Whether the attribute at the place has the name.
+fn is_named(schema: &Schema, ty: TypeId, place: u64, name: &str) -> bool
+    ensures { result ≡ true → (kind : Kind) × (attr_at schema.now ty name.now
+        ≡ Some (record { index = place; kind = kind })) }
+{
+    schema.well_declared();
+    let Some(attrs) = schema.attrs(ty) else {
+        return false;
+    };
+    match attr_there(attrs, place) {
+        Some(attr) => attr.name.as_str() == name,
+        None => false,
+    }
+}
+
+/// Whether the type lacks the attribute.
+fn lacks(schema: &Schema, ty: TypeId, name: &str) -> bool
+    ensures { result ≡ true → attr_at schema.now ty name.now ≡ None }
+{
+    match schema.attr(ty, name) {
+        Some(_) => false,
+        None => true,
+    }
+}
+
+/// The place of which the test compares the value so with the literal.
+fn compared_place(test: &Test, op: Op, literal: &Value) -> Option<u64>
+    ensures { IfSome result (λ place. test.now ≡ Compared place op literal.now) }
 {
     match test {
-        Test::Cmp(at, by, other) => {
-            if *at != place || *by != op {
-                return false;
+        Test::Cmp(place, by, other) => {
+            if *by != op {
+                return None;
             }
-            same_value(other, literal)
+            if same_value(other, literal) {
+                Some(*place)
+            } else {
+                None
+            }
         }
-        _ => false,
+        _ => None,
     }
 }
 
@@ -108,9 +147,12 @@ fn is_comparison(
 ) -> bool
     ensures { result ≡ true → IsTestOf schema.now ty (Cmp name.now op literal.now) test.now }
 {
-    match schema.attr(ty, name.text.as_str()) {
-        Some(at) => compares(test, at.index, op, literal),
-        None => matches!(test, Test::No),
+    match test {
+        Test::No => lacks(schema, ty, name.text.as_str()),
+        _ => match compared_place(test, op, literal) {
+            Some(place) => is_named(schema, ty, place, name.text.as_str()),
+            None => false,
+        },
     }
 }
 

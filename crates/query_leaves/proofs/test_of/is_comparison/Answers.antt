@@ -6,15 +6,16 @@ use Rattle.query_leaves.proofs.Tested.{compared, not_compared}
 use Rattle.query_leaves.proofs.test_of.is_comparison.Goals as goal
 
 pub returns-in-Some : goal.returns-in-Some
-returns-in-Some c = λ same.
+returns-in-Some c is =
     let schema = c.args.schema.now in
-    subst (IsTestOf schema c.args.ty (Cmp c.args.name.now c.args.op c.args.literal.now)) (sym (c.compares.ensures same))
-    (compared schema c.args.ty c.args.name.now c.args.op c.args.literal.now c.in-Some.at
-    (sym c.in-Some.is ∙ c.attr.ensures.place ∙ ap (attr_at schema c.args.ty) c.as_str.ensures))
+    let named = c.is_named.ensures is in
+    subst (IsTestOf schema c.args.ty (Cmp c.args.name.now c.args.op c.args.literal.now)) (sym c.in-Some.ensures)
+    (compared schema c.args.ty c.args.name.now c.args.op c.args.literal.now (record { index = c.in-Some.place; kind = named.0 })
+    (sym named.1 ∙ ap (attr_at schema c.args.ty) c.as_str-in-Some.ensures))
 
 pub returns-in-No : goal.returns-in-No
-returns-in-No c = λ same.
+returns-in-No c is =
     let schema = c.args.schema.now in
     subst (IsTestOf schema c.args.ty (Cmp c.args.name.now c.args.op c.args.literal.now)) (sym c.in-No.is)
     (not_compared schema c.args.ty c.args.name.now c.args.op c.args.literal.now
-    (sym c.in-None.is ∙ c.attr.ensures.place ∙ ap (attr_at schema c.args.ty) c.as_str.ensures))
+    (sym (c.lacks.ensures is) ∙ ap (attr_at schema c.args.ty) c.as_str.ensures))

@@ -6,7 +6,7 @@ use Rattle.query_leaves.specs.declared.draft.Draft.{Draft, Chain, Chain', Either
 use Rattle.query_leaves.specs.declared.draft.DraftPart.{DraftPart}
 use Rattle.query_leaves.specs.LeafTree as tree
 use Rattle.query_leaves.specs.LeafTree.{LeafTree, sequence, plus, linked_to, chain_of, choice_of}
-use Rattle.query_leaves.specs.Expand.{Occurrence, at_leaves, one_or_more}
+use Rattle.query_leaves.specs.Expand.{Occurrence, one_or_more}
 use Rattle.query_leaves.specs.Drafts.{tree_of_draft, chain_of_drafts, linked_drafts, choice_of_drafts, draft_part}
 
 linked_listed : (t : LeafTree Occurrence) (n : _) (row : Row_of-DraftPart n) → linked_drafts t row ≡ linked_to t (map draft_part (items-the_row-DraftPart n row))
@@ -38,22 +38,6 @@ pub choices_are : (choices : Vec Draft Global) → tree_of_draft (Either choices
 choices_are choices =
     let row = choices_in (Either choices) in
     choices_listed row.0 row.1 ∙ ap (λ ds. choice_of (map tree_of_draft ds)) (items_hidden-the_row-Draft-1 choices)
-
--- a change of each leaf is one of each part
-abbrev at_part : (Occurrence → Occurrence) → Bool × LeafTree Occurrence → Bool × LeafTree Occurrence
-at_part change p = (p.0, at_leaves change p.1)
-
-linked_changed : (change : Occurrence → Occurrence) (t : LeafTree Occurrence) (ps : List (Bool × LeafTree Occurrence)) → at_leaves change (linked_to t ps) ≡ linked_to (at_leaves change t) (map (at_part change) ps)
-linked_changed change t [] = refl
-linked_changed change t (p ∷ ps) = linked_changed change (sequence p.0 t p.1) ps
-
-pub chain_changed : (change : Occurrence → Occurrence) (ps : List (Bool × LeafTree Occurrence)) → at_leaves change (chain_of ps) ≡ chain_of (map (at_part change) ps)
-chain_changed change [] = refl
-chain_changed change (p ∷ ps) = linked_changed change p.1 ps
-
-pub choice_changed : (change : Occurrence → Occurrence) (ts : List (LeafTree Occurrence)) → at_leaves change (choice_of ts) ≡ choice_of (map (at_leaves change) ts)
-choice_changed change [] = refl
-choice_changed change (t ∷ ts) = ap (λ u. tree.either (at_leaves change t) u) (choice_changed change ts)
 
 -- what repeats further: neither a chain of several parts, nor a choice
 linked_repeats : (tight u : Bool) (a b : LeafTree Occurrence) (ps : List (Bool × LeafTree Occurrence)) → one_or_more tight (linked_to (sequence u a b) ps) ≡ plus tight (linked_to (sequence u a b) ps)

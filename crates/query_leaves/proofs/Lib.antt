@@ -4,6 +4,8 @@ pub mod Naming
 pub mod Changes
 -- the tree of a draft, by the lists in it
 pub mod Drafted
+-- changes that stand above a tree
+pub mod Above
 -- the tree of a shape, by the lists in it
 pub mod Shaped
 -- how the leaves of a chain and of a choice are numbered

@@ -13,9 +13,11 @@ use Rattle.query_leaves.specs.LeafTree.{LeafTree, sequence, linked_to, chain_of,
 use Rattle.query_leaves.specs.Expand.{Occurrence}
 use Rattle.query_leaves.specs.Leaves.{occurrences, numbered}
 use Rattle.query_leaves.specs.Shapes.{tree_of_shape}
-use Rattle.query_leaves.specs.Drafts.{tree_of_draft, draft_part}
+use Rattle.query_leaves.specs.Drafts.{tree_of_draft, draft_part, change_all}
+use Rattle.query_leaves.specs.declared.occurrence.Change.{Change}
+use Rattle.query_leaves.specs.declared.leaf_under.LeafOfType.{LeafOfType}
 use Rattle.query_leaves.specs.Tests.{IsMadeOf, AreMadeOf}
-use Rattle.query_leaves.specs.Numbering.{HasNumbered, shape_part, occurrences_of_part, number_parts, number_each}
+use Rattle.query_leaves.specs.Numbering.{AreMadeUnder, HasNumbered, shape_part, occurrences_of_part, number_parts, number_each}
 use Rattle.query_leaves.proofs.Pairs.{zip_append}
 
 abbrev Part : Type 0
@@ -67,22 +69,27 @@ one_more_choice base (u ∷ us) t =
     ∙ ap (λ n. number_each (base + length (occurrences u)) us ++ numbered n t ∷ []) further)
 
 -- leaves put in one after another
-pub none_numbered : (schema : Declared) (ls : List Leaf) → HasNumbered schema [] ls ls
-none_numbered schema ls = record {
+pub none_numbered : (schema : Declared) (above : List Change) (ls : List Leaf) (made : List LeafOfType) → HasNumbered schema above [] ls ls made made
+none_numbered schema above ls made = record {
   count = omega arith;
-  list = λ earlier made. subst (λ os. AreMadeOf schema os ls) (sym (append-nil earlier)) made;
+  list = λ are earlier h. subst (λ os. AreMadeOf schema os ls) (sym (append-nil earlier)) h;
+  kept = λ are. are;
 }
 
-pub then_numbered : (schema : Declared) (os ps : List Occurrence) (a b c : List Leaf) → HasNumbered schema os a b → HasNumbered schema ps b c → HasNumbered schema (os ++ ps) a c
-then_numbered schema os ps a b c first next = record {
+pub then_numbered : (schema : Declared) (above : List Change) (os ps : List Occurrence) (a b c : List Leaf) (x y z : List LeafOfType) → HasNumbered schema above os a b x y → HasNumbered schema above ps b c y z → HasNumbered schema above (os ++ ps) a c x z
+then_numbered schema above os ps a b c x y z first next = record {
   count = omega (arith, length-append os ps, first.count, next.count);
-  list = λ earlier made. subst (λ qs. AreMadeOf schema qs c) (append_assoc earlier os ps) (next.list (earlier ++ os) (first.list earlier made));
+  list = λ are earlier h.
+      subst (λ qs. AreMadeOf schema qs c) (append_assoc earlier (map (change_all above) os) (map (change_all above) ps) ∙ ap (λ qs. earlier ++ qs) (sym (map-append (change_all above) os ps)))
+      (next.list (first.kept are) (earlier ++ map (change_all above) os) (first.list are earlier h));
+  kept = λ are. next.kept (first.kept are);
 }
 
-pub one_numbered : (schema : Declared) (o : Occurrence) (l : Leaf) (before after : List Leaf) → after ≡ before ++ l ∷ [] → IsMadeOf schema o l → HasNumbered schema (o ∷ []) before after
-one_numbered schema o l before after put made = record {
+pub one_numbered : (schema : Declared) (above : List Change) (o : Occurrence) (l : Leaf) (before after : List Leaf) (old new : List LeafOfType) → after ≡ before ++ l ∷ [] → (AreMadeUnder schema above old → IsMadeOf schema (change_all above o) l) → (AreMadeUnder schema above old → AreMadeUnder schema above new) → HasNumbered schema above (o ∷ []) before after old new
+one_numbered schema above o l before after old new put is keeps = record {
   count = ap length put ∙ length-append before (l ∷ []);
-  list = λ earlier h. subst (AreMadeOf schema (earlier ++ o ∷ [])) (sym put) (zip_append (IsMadeOf schema) earlier (o ∷ []) before (l ∷ []) h (made, tt));
+  list = λ are earlier h. subst (AreMadeOf schema (earlier ++ change_all above o ∷ [])) (sym put) (zip_append (IsMadeOf schema) earlier (change_all above o ∷ []) before (l ∷ []) h (is are, tt));
+  kept = keeps;
 }
 
 flat_more : {A B : Type 0} (f : A → List B) (xs : List A) (x : A) → flat_map f (xs ++ x ∷ []) ≡ flat_map f xs ++ f x
@@ -102,12 +109,12 @@ part_shaped xs i x base now done s less at so_far count made =
     ∙ ap₂ (λ a b. a ++ b ∷ []) so_far (made ∙ ap (λ n. ((draft_part x).0, numbered n (draft_part x).1)) count)
     ∙ sym (ap (number_parts base) (mapped_more draft_part xs i x less at) ∙ one_more_part base ps (draft_part x))
 
-pub part_numbered : (schema : Declared) (xs : List DraftPart) (i : ℕ) (x : DraftPart) (before now after : List Leaf) → i < length xs → x ≡ get_or xs i x → HasNumbered schema (flat_map occurrences_of_part (map draft_part (take i xs))) before now → HasNumbered schema (occurrences (draft_part x).1) now after → HasNumbered schema (flat_map occurrences_of_part (map draft_part (take (i + 1) xs))) before after
-part_numbered schema xs i x before now after less at so_far next =
+pub part_numbered : (schema : Declared) (above : List Change) (xs : List DraftPart) (i : ℕ) (d : DraftPart) (before now after : List Leaf) (x y z : List LeafOfType) → i < length xs → d ≡ get_or xs i d → HasNumbered schema above (flat_map occurrences_of_part (map draft_part (take i xs))) before now x y → HasNumbered schema above (occurrences (draft_part d).1) now after y z → HasNumbered schema above (flat_map occurrences_of_part (map draft_part (take (i + 1) xs))) before after x z
+part_numbered schema above xs i d before now after x y z less at so_far next =
     let ps = map draft_part (take i xs) in
-    subst (λ os. HasNumbered schema os before after)
-    (sym (ap (flat_map occurrences_of_part) (mapped_more draft_part xs i x less at) ∙ flat_more occurrences_of_part ps (draft_part x)))
-    (then_numbered schema (flat_map occurrences_of_part ps) (occurrences (draft_part x).1) before now after so_far next)
+    subst (λ os. HasNumbered schema above os before after x z)
+    (sym (ap (flat_map occurrences_of_part) (mapped_more draft_part xs i d less at) ∙ flat_more occurrences_of_part ps (draft_part d)))
+    (then_numbered schema above (flat_map occurrences_of_part ps) (occurrences (draft_part d).1) before now after x y z so_far next)
 
 pub choice_shaped : (xs : List Draft) (i : ℕ) (x : Draft) (base now : ℕ) (done : List Shape) (s : Shape) → i < length xs → x ≡ get_or xs i x → map tree_of_shape done ≡ number_each base (map tree_of_draft (take i xs)) → now ≡ base + length (flat_map occurrences (map tree_of_draft (take i xs))) → tree_of_shape s ≡ numbered now (tree_of_draft x) → map tree_of_shape (done ++ s ∷ []) ≡ number_each base (map tree_of_draft (take (i + 1) xs))
 choice_shaped xs i x base now done s less at so_far count made =
@@ -116,9 +123,9 @@ choice_shaped xs i x base now done s less at so_far count made =
     ∙ ap₂ (λ a b. a ++ b ∷ []) so_far (made ∙ ap (λ n. numbered n (tree_of_draft x)) count)
     ∙ sym (ap (number_each base) (mapped_more tree_of_draft xs i x less at) ∙ one_more_choice base ts (tree_of_draft x))
 
-pub each_numbered : (schema : Declared) (xs : List Draft) (i : ℕ) (x : Draft) (before now after : List Leaf) → i < length xs → x ≡ get_or xs i x → HasNumbered schema (flat_map occurrences (map tree_of_draft (take i xs))) before now → HasNumbered schema (occurrences (tree_of_draft x)) now after → HasNumbered schema (flat_map occurrences (map tree_of_draft (take (i + 1) xs))) before after
-each_numbered schema xs i x before now after less at so_far next =
+pub each_numbered : (schema : Declared) (above : List Change) (xs : List Draft) (i : ℕ) (d : Draft) (before now after : List Leaf) (x y z : List LeafOfType) → i < length xs → d ≡ get_or xs i d → HasNumbered schema above (flat_map occurrences (map tree_of_draft (take i xs))) before now x y → HasNumbered schema above (occurrences (tree_of_draft d)) now after y z → HasNumbered schema above (flat_map occurrences (map tree_of_draft (take (i + 1) xs))) before after x z
+each_numbered schema above xs i d before now after x y z less at so_far next =
     let ts = map tree_of_draft (take i xs) in
-    subst (λ os. HasNumbered schema os before after)
-    (sym (ap (flat_map occurrences) (mapped_more tree_of_draft xs i x less at) ∙ flat_more occurrences ts (tree_of_draft x)))
-    (then_numbered schema (flat_map occurrences ts) (occurrences (tree_of_draft x)) before now after so_far next)
+    subst (λ os. HasNumbered schema above os before after x z)
+    (sym (ap (flat_map occurrences) (mapped_more tree_of_draft xs i d less at) ∙ flat_more occurrences ts (tree_of_draft d)))
+    (then_numbered schema above (flat_map occurrences ts) (occurrences (tree_of_draft d)) before now after x y z so_far next)

@@ -1,6 +1,7 @@
 -- How the leaves of a draft are numbered, part by part.
 -- Nobody needs to believe these; the public contracts speak of the tree of leaves alone.
-use Rattle.std.specs.Prelude.{◌≡◌, ℕ, ◌+◌, Bool, List, [], ◌∷◌, ◌++◌, length}
+use Rattle.std.specs.Prelude.{◌≡◌, ℕ, ◌+◌, Bool, List, [], ◌∷◌, ◌++◌, length, map}
+use Rattle.std.specs.List.{AllByRecursion}
 use Rattle.stream_schema.specs.Types.{Declared}
 use Rattle.query_leaves.specs.declared.Leaf.{Leaf}
 use Rattle.query_leaves.specs.declared.ShapePart.{ShapePart, out-ShapePart}
@@ -8,12 +9,24 @@ use Rattle.query_leaves.specs.LeafTree.{LeafTree}
 use Rattle.query_leaves.specs.Expand.{Occurrence}
 use Rattle.query_leaves.specs.Leaves.{occurrences, numbered}
 use Rattle.query_leaves.specs.Shapes.{tree_of_shape}
-use Rattle.query_leaves.specs.Tests.{AreMadeOf}
+use Rattle.query_leaves.specs.Tests.{IsMadeOf, AreMadeOf}
+use Rattle.query_leaves.specs.Drafts.{change_all, occurrence_of}
+use Rattle.query_leaves.specs.declared.occurrence.Change.{Change}
+use Rattle.query_leaves.specs.declared.leaf_under.LeafOfType.{LeafOfType}
 
--- The leaves of so many occurrences stand behind those before.
-pub record HasNumbered (schema : Declared) (os : List Occurrence) (before after : List Leaf) : Type 0 where
+-- the occurrence of a type under the changes
+abbrev pub occurrence_under : List Change → List ℕ → Occurrence
+occurrence_under above name = change_all above (occurrence_of name)
+
+-- Each leaf is that of its type under the changes.
+pub record AreMadeUnder (schema : Declared) (above : List Change) (made : List LeafOfType) : Type 0 where
+  pub each : AllByRecursion (λ m. IsMadeOf schema (occurrence_under above m.name.now) m.leaf) made
+
+-- The leaves of so many occurrences, under the changes above, stand behind those before. So do those of each type that are at hand.
+pub record HasNumbered (schema : Declared) (above : List Change) (os : List Occurrence) (before after : List Leaf) (old new : List LeafOfType) : Type 0 where
   pub count : length after ≡ length before + length os
-  pub list : (earlier : List Occurrence) → AreMadeOf schema earlier before → AreMadeOf schema (earlier ++ os) after
+  pub list : AreMadeUnder schema above old → (earlier : List Occurrence) → AreMadeOf schema earlier before → AreMadeOf schema (earlier ++ map (change_all above) os) after
+  pub kept : AreMadeUnder schema above old → AreMadeUnder schema above new
 
 -- whether a part of a chain is tight, and its tree
 abbrev pub shape_part : ShapePart → Bool × LeafTree ℕ

@@ -1,25 +1,35 @@
 //! The tree of occurrences while a formula is expanded.
 
-ghost use Rattle.std.specs.Prelude.{◌≡◌, IfOk, OnOk, map};
+ghost use Rattle.std.specs.Prelude.{◌≡◌, IfOk, OnOk, map, ◌++◌, ◌∷◌, []};
 ghost use Rattle.query_leaves.specs.LeafTree.{plus, chain_of};
 ghost use Rattle.query_leaves.specs.Expand.{at_leaves, one_or_more};
-ghost use Rattle.query_leaves.specs.Drafts.{tree_of_draft, draft_part, change_leaf, change_part};
+ghost use Rattle.query_leaves.specs.Drafts.{tree_of_draft, draft_part, change_leaf, change_all};
 
-use crate::occurrence::{Change, Occurrence};
+use crate::occurrence::Change;
 use cer_base::Memory;
 use std::alloc::Global;
 use std::mem;
 
-/// A tree of occurrences. It nests as the formula and its filters do: chains and choices are lists.
+/// A tree of occurrences. It nests as the formula and its filters do: chains and choices are lists. What
+/// changes the leaves of a part stands above it once, for all of them.
 #[derive(Drop, Debug)]
 #[cycle(draft)]
 pub enum Draft<'q> {
-    Leaf(Occurrence<'q>),
+    /// The type of this name.
+    Leaf(&'q str),
     /// One part after another; where there is none it reads nothing.
     Chain(Vec<DraftPart<'q>>),
     /// One of them; where there is none it reads nothing.
     Either(Vec<Draft<'q>>),
-    Plus { tight: bool, part: Box<Draft<'q>> },
+    Plus {
+        tight: bool,
+        part: Box<Draft<'q>>,
+    },
+    /// The part with the changes made at each of its leaves, one after another.
+    Changed {
+        part: Box<Draft<'q>>,
+        changes: Vec<Change<'q>>,
+    },
 }
 
 /// A part of a chain. Where tight, no event of the substream lies between it and the part before;
@@ -37,6 +47,21 @@ fn plus<'q>(alloc: Global, tight: bool, part: Draft<'q>) -> Result<Draft<'q>, Me
     Ok(Draft::Plus {
         tight,
         part: Box::new(alloc, part)?,
+    })
+}
+
+/// The tree under the changes.
+fn with_changes<'q>(
+    alloc: Global,
+    part: Draft<'q>,
+    changes: Vec<Change<'q>>,
+) -> Result<Draft<'q>, Memory>
+    ensures { IfOk result (λ after. tree_of_draft after
+        ≡ at_leaves (change_all changes.entry.items) (tree_of_draft part.entry)) }
+{
+    Ok(Draft::Changed {
+        part: Box::new(alloc, part)?,
+        changes,
     })
 }
 
@@ -60,7 +85,8 @@ fn one_or_more_in_turn<'q>(
     }
 }
 
-/// One or more of the tree. One that repeats already repeats no further, and is tight where both are.
+/// One or more of the tree. One that repeats already repeats no further, and is tight where both are;
+/// what is changed repeats below its changes.
 #[cycle(one_or_more)]
 pub fn one_or_more<'q>(alloc: Global, tight: bool, part: Draft<'q>) -> Result<Draft<'q>, Memory>
     ensures { IfOk result (λ some. tree_of_draft some
@@ -73,94 +99,64 @@ pub fn one_or_more<'q>(alloc: Global, tight: bool, part: Draft<'q>) -> Result<Dr
         }),
         Draft::Chain(parts) => one_or_more_in_turn(alloc, tight, parts),
         Draft::Either(choices) => plus(alloc, tight, Draft::Either(choices)),
-        Draft::Leaf(occurrence) => plus(alloc, tight, Draft::Leaf(occurrence)),
+        Draft::Leaf(name) => plus(alloc, tight, Draft::Leaf(name)),
+        Draft::Changed { part, changes } => {
+            let some = one_or_more(alloc, tight, Box::into_inner(part))?;
+            with_changes(alloc, some, changes)
+        }
     }
 }
 
-/// Makes the change at each leaf of each part.
-#[cycle(change)]
-fn change_parts<'q>(
-    alloc: Global,
-    parts: &mut Vec<DraftPart<'q>>,
-    change: &Change<'q>,
-) -> Result<(), Memory>
-    ensures { OnOk result (map draft_part parts.new.items
-        ≡ map (change_part change.now) (map draft_part parts.old.items)) }
+/// The changes, with one more behind them.
+fn with_change<'q>(changes: Vec<Change<'q>>, change: Change<'q>) -> Result<Vec<Change<'q>>, Memory>
+    ensures { IfOk result (λ all. all.items ≡ changes.entry.items ++ change.entry ∷ []) }
 {
-    for k in 0..parts.len() {
-        change_part(alloc, &mut parts[k], change)?;
-    }
-    Ok(())
+    let mut all = changes;
+    all.push(change)?;
+    Ok(all)
 }
 
-/// Makes the change at each leaf of the part.
-#[cycle(change)]
-fn change_part<'q>(
-    alloc: Global,
-    part: &mut DraftPart<'q>,
-    change: &Change<'q>,
-) -> Result<(), Memory>
-    ensures { OnOk result (draft_part part.new ≡ change_part change.now (draft_part part.old)) }
+/// The tree under the change.
+fn under_one<'q>(alloc: Global, part: Draft<'q>, change: Change<'q>) -> Result<Draft<'q>, Memory>
+    ensures { IfOk result (λ after. tree_of_draft after
+        ≡ at_leaves (change_leaf change.entry) (tree_of_draft part.entry)) }
 {
-    change_leaves(alloc, &mut part.part, change)
+    let mut changes = Vec::new(alloc);
+    changes.push(change)?;
+    with_changes(alloc, part, changes)
 }
 
-/// Makes the change at each leaf of each tree.
-#[cycle(change)]
-fn change_each<'q>(
-    alloc: Global,
-    drafts: &mut Vec<Draft<'q>>,
-    change: &Change<'q>,
-) -> Result<(), Memory>
-    ensures { OnOk result (map tree_of_draft drafts.new.items
-        ≡ map (at_leaves (change_leaf change.now)) (map tree_of_draft drafts.old.items)) }
+/// The tree with the change made at each leaf. It stands above the tree, behind the changes that do so
+/// already.
+pub fn changed<'q>(alloc: Global, draft: Draft<'q>, change: Change<'q>) -> Result<Draft<'q>, Memory>
+    ensures { IfOk result (λ after. tree_of_draft after
+        ≡ at_leaves (change_leaf change.entry) (tree_of_draft draft.entry)) }
 {
-    for k in 0..drafts.len() {
-        change_leaves(alloc, &mut drafts[k], change)?;
+    match draft {
+        Draft::Changed { part, changes } => Ok(Draft::Changed {
+            part,
+            changes: with_change(changes, change)?,
+        }),
+        Draft::Leaf(name) => under_one(alloc, Draft::Leaf(name), change),
+        Draft::Chain(parts) => under_one(alloc, Draft::Chain(parts), change),
+        Draft::Either(choices) => under_one(alloc, Draft::Either(choices), change),
+        Draft::Plus { tight, part } => under_one(alloc, Draft::Plus { tight, part }, change),
     }
-    Ok(())
 }
 
 /// Makes the change at each leaf. Where memory runs out, nothing is said of what is left.
-#[cycle(change)]
+#[inline(never)]
 pub fn change_leaves<'q>(
     alloc: Global,
     draft: &mut Draft<'q>,
-    change: &Change<'q>,
+    change: Change<'q>,
 ) -> Result<(), Memory>
     ensures { OnOk result (tree_of_draft draft.new
-        ≡ at_leaves (change_leaf change.now) (tree_of_draft draft.old)) }
+        ≡ at_leaves (change_leaf change.entry) (tree_of_draft draft.old)) }
 {
-    match draft {
-        Draft::Leaf(occurrence) => occurrence.change(change),
-        Draft::Chain(parts) => {
-            let mut taken = mem::replace(parts, Vec::new(alloc));
-            change_parts(alloc, &mut taken, change)?;
-            *draft = Draft::Chain(taken);
-            Ok(())
-        }
-        Draft::Either(choices) => {
-            let mut taken = mem::replace(choices, Vec::new(alloc));
-            change_each(alloc, &mut taken, change)?;
-            *draft = Draft::Either(taken);
-            Ok(())
-        }
-        Draft::Plus { part, .. } => change_leaves(alloc, part, change),
-    }
-}
-
-/// The tree with the change made at each leaf, in the memory that it has.
-pub fn changed<'q>(
-    alloc: Global,
-    draft: Draft<'q>,
-    change: &Change<'q>,
-) -> Result<Draft<'q>, Memory>
-    ensures { IfOk result (λ after. tree_of_draft after
-        ≡ at_leaves (change_leaf change.now) (tree_of_draft draft.entry)) }
-{
-    let mut after = draft;
-    change_leaves(alloc, &mut after, change)?;
-    Ok(after)
+    let taken = mem::replace(draft, Draft::Either(Vec::new(alloc)));
+    *draft = changed(alloc, taken, change)?;
+    Ok(())
 }
 
 /// Parts of their own that equal those given.
@@ -198,9 +194,13 @@ pub fn copied<'q>(alloc: Global, draft: &Draft<'q>) -> Result<Draft<'q>, Memory>
     ensures { IfOk result (λ copy. tree_of_draft copy ≡ tree_of_draft draft.now) }
 {
     match draft {
-        Draft::Leaf(occurrence) => Ok(Draft::Leaf(occurrence.copy(alloc)?)),
+        Draft::Leaf(name) => Ok(Draft::Leaf(*name)),
         Draft::Chain(parts) => Ok(Draft::Chain(copied_parts(alloc, parts)?)),
         Draft::Either(choices) => Ok(Draft::Either(copied_each(alloc, choices)?)),
         Draft::Plus { tight, part } => plus(alloc, *tight, copied(alloc, part)?),
+        Draft::Changed { part, changes } => {
+            let part = copied(alloc, part)?;
+            with_changes(alloc, part, Vec::from_slice(alloc, changes.as_slice())?)
+        }
     }
 }

@@ -1,14 +1,13 @@
 //! The tree of leaves of a formula: filters and names are carried to the types that they speak of.
 
 ghost use Rattle.std.specs.Prelude.{◌≡◌, ◌∷◌, [], ◌++◌, false, IfOk, OnOk, fold, map};
-ghost use Rattle.cel_terms.specs.declared.Formula.{Of};
 ghost use Rattle.query_leaves.specs.LeafTree.{LeafTree, chain_of, choice_of, linked_to};
 ghost use Rattle.query_leaves.specs.Expand.{Occurrence as Occurs, filtered, postfixed, expand, tree_of};
 ghost use Rattle.query_leaves.specs.Drafts.{tree_of_draft, draft_part, part_of, link_of};
 
 use crate::draft::{Draft, DraftPart, change_leaves, changed, copied, one_or_more};
-use crate::occurrence::{Change, Occurrence};
-use cel_terms::{Filter, Formula, Link, Name, Postfix, Query};
+use crate::occurrence::Change;
+use cel_terms::{Filter, Formula, Link, Postfix, Query};
 use cer_base::Memory;
 use std::alloc::Global;
 
@@ -88,7 +87,7 @@ fn put_under<'q>(alloc: Global, filter: &'q Filter, draft: &mut Draft<'q>) -> Re
         ≡ filtered filter.now (tree_of_draft draft.old)) }
 {
     match filter {
-        Filter::On(name, pred) => change_leaves(alloc, draft, &Change::Test(name, pred)),
+        Filter::On(name, pred) => change_leaves(alloc, draft, Change::Test(name, pred)),
         Filter::All(filters) => put_under_all(alloc, filters, draft),
         Filter::Any(filters) => put_under_any(alloc, filters, draft),
     }
@@ -116,8 +115,8 @@ fn postfixed<'q>(alloc: Global, postfix: &'q Postfix, draft: Draft<'q>) -> Resul
     match postfix {
         Postfix::Plus => one_or_more(alloc, false, draft),
         Postfix::NextPlus => one_or_more(alloc, true, draft),
-        Postfix::Named(name) => changed(alloc, draft, &Change::Named(name)),
-        Postfix::Keep(names) => changed(alloc, draft, &Change::Keep(names.as_slice())),
+        Postfix::Named(name) => changed(alloc, draft, Change::Named(name)),
+        Postfix::Keep(names) => changed(alloc, draft, Change::Keep(names.as_slice())),
     }
 }
 
@@ -252,21 +251,13 @@ fn filtered_base<'q>(
     under_all(alloc, filters, draft)
 }
 
-/// A leaf of the type.
-#[inline(never)]
-fn leaf<'q>(alloc: Global, name: &'q Name) -> Result<Draft<'q>, Memory>
-    ensures { IfOk result (λ draft. tree_of_draft draft ≡ expand (Of name.now)) }
-{
-    Ok(Draft::Leaf(Occurrence::of(alloc, name.text.as_str())?))
-}
-
 /// The tree of the formula.
 #[cycle(expand)]
 fn expand<'q>(alloc: Global, formula: &'q Formula) -> Result<Draft<'q>, Memory>
     ensures { IfOk result (λ draft. tree_of_draft draft ≡ expand formula.now) }
 {
     match formula {
-        Formula::Of(name) => leaf(alloc, name),
+        Formula::Of(name) => Ok(Draft::Leaf(name.text.as_str())),
         Formula::Chain(parts) => chain(alloc, parts),
         Formula::Linked(first, links) => linked_chain(alloc, links, expand(alloc, first)),
         Formula::Either(choices) => choice(alloc, choices),
@@ -282,6 +273,6 @@ pub fn tree_of<'q>(alloc: Global, query: &'q Query) -> Result<Draft<'q>, Memory>
     let draft = expand(alloc, &query.formula)?;
     match &query.select {
         None => Ok(draft),
-        Some(names) => changed(alloc, draft, &Change::Keep(names.as_slice())),
+        Some(names) => changed(alloc, draft, Change::Keep(names.as_slice())),
     }
 }

@@ -14,6 +14,7 @@ use stream_schema::{TypeId, Value};
 mod draft;
 mod expand;
 mod leaf_of;
+mod leaf_under;
 mod numbering;
 mod occurrence;
 mod query;

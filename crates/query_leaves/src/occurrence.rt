@@ -6,7 +6,7 @@ ghost use Rattle.std.specs.List.{list_any};
 ghost use Rattle.cel_terms.specs.Meaning.{lists_name, with_name, only_names};
 ghost use Rattle.query_leaves.specs.Expand.{rename_leaf, test_leaf};
 ghost use Rattle.cel_terms.specs.Answers.{is_bound};
-ghost use Rattle.query_leaves.specs.Drafts.{change_leaf};
+ghost use Rattle.query_leaves.specs.Drafts.{change_leaf, occurrence_of};
 
 use cel_terms::{Name, Pred};
 use cer_base::Memory;
@@ -41,7 +41,7 @@ impl<'q> Model for Occurrence<'q> {
 }
 
 /// What is done to an occurrence.
-#[derive(Drop, Debug)]
+#[derive(Drop, Debug, Clone, Copy)]
 pub enum Change<'q> {
     /// It has one more name, where it has any.
     Named(&'q Name),
@@ -54,7 +54,7 @@ pub enum Change<'q> {
 impl<'q> Occurrence<'q> {
     /// The occurrence of a type as it stands in a formula.
     pub fn of(alloc: Global, ty: &'q str) -> Result<Occurrence<'q>, Memory>
-        ensures { IfOk result (λ o. o ≡ record { type = ty.now; tests = []; names = ty.now ∷ [] }) }
+        ensures { IfOk result (λ o. o ≡ occurrence_of ty.now) }
     {
         let mut names = Vec::new(alloc);
         names.push(ty)?;
@@ -84,17 +84,6 @@ impl<'q> Occurrence<'q> {
         ensures { result ≡ is_bound self.now.names }
     {
         !self.names.is_empty()
-    }
-
-    /// A copy of its own.
-    pub fn copy(&self, alloc: Global) -> Result<Occurrence<'q>, Memory>
-        ensures { IfOk result (λ o. o ≡ self.now) }
-    {
-        Ok(Occurrence {
-            ty: self.ty,
-            tests: Vec::from_slice(alloc, self.tests.as_slice())?,
-            names: Vec::from_slice(alloc, self.names.as_slice())?,
-        })
     }
 
     /// Makes the change.

@@ -28,7 +28,8 @@ pub fn leaves_of(alloc: Global, schema: &Schema, query: &Query) -> Result<Leaves
 {
     let draft = tree_of(alloc, query)?;
     let mut list = Vec::new(alloc);
-    let shape = numbered(alloc, schema, &draft, &mut list)?;
+    let mut made = Vec::new(alloc);
+    let shape = numbered(alloc, schema, &draft, &[], &mut list, &mut made)?;
     Ok(Leaves {
         list: Listed::of(list),
         shape,

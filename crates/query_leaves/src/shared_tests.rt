@@ -53,4 +53,10 @@ impl Tests {
     {
         self.list.as_slice()
     }
+
+    /// Whether these are the very same ones as the others, of which one is then a share. Where they are
+    /// not, they may be alike all the same.
+    pub fn is_shared_with(&self, other: &Tests) -> bool {
+        Rc::ptr_eq(&self.list, &other.list)
+    }
 }

@@ -31,10 +31,6 @@ filtered_base-returns t c =
     (ap (λ before. fold (λ t f. filtered f t) before c.args.filters.now) c.in_ok-draft.ensures)
     c.under_all.ensures
 
-pub expand-returns-in-Of : goal.expand-returns-in-Of
-expand-returns-in-Of t c =
-    subst (λ (u : LeafTree Occurrence). IfOk c.leaf.result (λ draft. tree_of_draft draft ≡ u)) (sym (ap expand c.in-Of.is)) c.leaf.ensures
-
 pub expand-returns-in-Chain : goal.expand-returns-in-Chain
 expand-returns-in-Chain t c =
     subst (λ (u : LeafTree Occurrence). IfOk c.chain.result (λ draft. tree_of_draft draft ≡ u))

@@ -9,11 +9,11 @@ use Rattle.query_leaves.proofs.numbering.+numbered.Given as goal
 abbrev pub invariant-numbered_parts-loop-part : goal.invariant-numbered_parts-loop-part
 invariant-numbered_parts-loop-part l = record {
   shapes : map shape_part l.shapes.items ≡ number_parts (length l.initial.list.items) (map draft_part (take l.part-index l.parts));
-  leaves : HasNumbered l.schema (flat_map occurrences_of_part (map draft_part (take l.part-index l.parts))) l.initial.list.items l.list.items;
+  leaves : HasNumbered l.schema l.above (flat_map occurrences_of_part (map draft_part (take l.part-index l.parts))) l.initial.list.items l.list.items l.initial.made.items l.made.items;
 }
 
 abbrev pub invariant-numbered_each-loop-draft : goal.invariant-numbered_each-loop-draft
 invariant-numbered_each-loop-draft l = record {
   shapes : map tree_of_shape l.shapes.items ≡ number_each (length l.initial.list.items) (map tree_of_draft (take l.draft-index l.drafts));
-  leaves : HasNumbered l.schema (flat_map occurrences (map tree_of_draft (take l.draft-index l.drafts))) l.initial.list.items l.list.items;
+  leaves : HasNumbered l.schema l.above (flat_map occurrences (map tree_of_draft (take l.draft-index l.drafts))) l.initial.list.items l.list.items l.initial.made.items l.made.items;
 }

@@ -1,5 +1,5 @@
 -- What holds of each test in a list.
-use Rattle.std.proofs.Common.{◌≡◌, refl, sym, ap, ◌∙◌, ℕ, ◌<◌, Bool, true, false, ◌&&◌, ◌||◌, List, [], ◌∷◌, length, get_or}
+use Rattle.std.proofs.Common.{◌≡◌, refl, sym, ap, ◌∙◌, ℕ, zero, suc, ◌<◌, Bool, true, false, ◌&&◌, ◌||◌, List, [], ◌∷◌, length, take, get_or}
 use Rattle.std.specs.List.{list_all, list_any}
 use Rattle.std.specs.Prelude.{Vec}
 use Rattle.std.proofs.lemmas.Bool.{false≢true}
@@ -43,3 +43,13 @@ one_fails event tests k test inside is none = cases (each_holds tests event) ref
     cases : (b : Bool) → each_holds tests event ≡ b → b ≡ false
     cases false e = refl
     cases true e = absurd (false≢true (sym none ∙ (ap (λ t. test_holds t event) is ∙ AllPass-from_list_all (λ t. test_holds t event) tests (each_listed event tests ∙ e) k test inside)))
+
+-- what fails of the first ones fails of all
+pub fewer_hold : (event : Event) (n : ℕ) (tests : List Test) → each_holds (take n tests) event ≡ false → each_holds tests event ≡ false
+fewer_hold event zero tests fails = absurd cc
+fewer_hold event (suc n) [] fails = absurd cc
+fewer_hold event (suc n) (t ∷ ts) fails = step (test_holds t event) (fewer_hold event n ts) fails
+  where
+    step : (b : Bool) → (each_holds (take n ts) event ≡ false → each_holds ts event ≡ false) → (b && each_holds (take n ts) event) ≡ false → (b && each_holds ts event) ≡ false
+    step true more e = more e
+    step false more e = refl

@@ -29,6 +29,10 @@ pub struct Check {
 /// other leaves may share these.
 const MOST_CHECKS: usize = 64;
 
+/// The most tests of a query's leaves together of which checks are kept. The leaves behind them are tested
+/// as they stand, so that memory does not grow as leaves and filters do together.
+pub const MOST_TESTS: usize = 1_024;
+
 /// The range that a leaf's tests ask for, and what is left to test where an event has a number of it.
 #[derive(Drop, Debug)]
 pub struct Sieve {
@@ -159,6 +163,40 @@ pub fn checks_of(alloc: Global, range: &Range, tests: &[Test]) -> Result<Option<
     Ok(Some(checks))
 }
 
+/// How many tests there are, those that one of them joins counted each.
+fn count_of(tests: &[Test]) -> usize {
+    let mut count: usize = 0;
+    for test in tests {
+        count = count.saturating_add(match test {
+            Test::All(joined) => joined.len(),
+            _ => 1,
+        });
+    }
+    count
+}
+
+/// How many tests are left of so many behind those of the leaf.
+pub fn left_of(room: usize, leaf: &Leaf) -> usize {
+    room.saturating_sub(count_of(leaf.tests.as_slice()))
+}
+
+/// What is left to test where an event has a number of the range. `None` where that is not known, or where
+/// there are more than so many tests.
+pub fn checks_within(
+    alloc: Global,
+    range: &Range,
+    tests: &[Test],
+    room: usize,
+) -> Result<Option<Vec<Check>>, Memory>
+    ensures { IfOk result (λ o. IfSome o (λ checks. ComesTo range.now (tests_hold tests.now)
+        (all_checks_hold checks.items))) }
+{
+    if tests.len() > room || count_of(tests) > room {
+        return Ok(None);
+    }
+    checks_of(alloc, range, tests)
+}
+
 /// Whether the check holds of the event.
 #[inline(always)]
 fn check_holds(check: &Check, event: &Event) -> bool
@@ -215,22 +253,24 @@ pub fn hold_by(range: &Range, checks: &Option<Vec<Check>>, tests: &[Test], event
     each_holds(tests, event)
 }
 
-/// The sieve of a leaf's tests.
-fn sieve_of(alloc: Global, tests: &[Test]) -> Result<Sieve, Memory>
+/// The sieve of a leaf's tests, with checks where there are no more than so many tests.
+fn sieve_of(alloc: Global, tests: &[Test], room: usize) -> Result<Sieve, Memory>
     ensures { IfOk result (IsSieve tests.now) }
 {
     let range = range_of(tests);
-    let checks = checks_of(alloc, &range, tests)?;
+    let checks = checks_within(alloc, &range, tests, room)?;
     Ok(Sieve { range, checks })
 }
 
-/// The sieve of each leaf, by the leaf's number.
+/// The sieve of each leaf, by the leaf's number. Checks are kept of the first ones, for `MOST_TESTS` tests.
 pub fn sieves_of(alloc: Global, list: &[Leaf]) -> Result<Vec<Sieve>, Memory>
     ensures { IfOk result (λ sieves. AreSieves list.now sieves.items) }
 {
     let mut sieves = Vec::with_capacity(alloc, list.len())?;
+    let mut room = MOST_TESTS;
     for leaf in list {
-        sieves.push(sieve_of(alloc, leaf.tests.as_slice())?)?;
+        sieves.push(sieve_of(alloc, leaf.tests.as_slice(), room)?)?;
+        room = left_of(room, leaf);
     }
     Ok(sieves)
 }

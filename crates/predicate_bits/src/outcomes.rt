@@ -7,6 +7,7 @@ ghost use Rattle.query_leaves.specs.declared.Test.{Cmp};
 ghost use Rattle.query_leaves.specs.Shapes.{test_holds, each_holds};
 ghost use Rattle.predicate_bits.specs.Spans.{allows, IsAt};
 
+use crate::checks::MOST_TESTS;
 use crate::spans::{Outcome, Span, comparison_over, opposite, unknown};
 use query_leaves::Test;
 use stream_schema::{Op, Value};
@@ -80,8 +81,8 @@ fn outcome_of(place: u64, span: &Span, test: &Test) -> Outcome
     }
 }
 
-/// Whether all of a leaf's tests may hold of an event whose value at the place is one of the span.
-pub fn may_hold_over(place: u64, span: &Span, tests: &[Test]) -> bool
+/// Whether all of the tests may hold of an event whose value at the place is one of the span.
+fn may_all_hold(place: u64, span: &Span, tests: &[Test]) -> bool
     ensures { result ≡ false → (event : EventData) → IsAt place span.now event
         → each_holds tests.now event ≡ false }
 {
@@ -91,4 +92,24 @@ pub fn may_hold_over(place: u64, span: &Span, tests: &[Test]) -> bool
         }
     }
     true
+}
+
+/// The first `MOST_TESTS` of the tests.
+fn first_few(tests: &[Test]) -> &[Test]
+    ensures { (event : EventData) → each_holds result.now event ≡ false
+        → each_holds tests.now event ≡ false }
+{
+    if tests.len() <= MOST_TESTS {
+        return tests;
+    }
+    &tests[..MOST_TESTS]
+}
+
+/// Whether all of a leaf's tests may hold of an event whose value at the place is one of the span. The first
+/// `MOST_TESTS` are looked at.
+pub fn may_hold_over(place: u64, span: &Span, tests: &[Test]) -> bool
+    ensures { result ≡ false → (event : EventData) → IsAt place span.now event
+        → each_holds tests.now event ≡ false }
+{
+    may_all_hold(place, span, first_few(tests))
 }

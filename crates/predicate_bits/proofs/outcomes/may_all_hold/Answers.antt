@@ -2,7 +2,7 @@ use Rattle.std.proofs.Common.{refl}
 use Rattle.std.proofs.lemmas.Bool.{not-true}
 use Rattle.predicate_bits.proofs.Listed.{one_fails}
 use Rattle.predicate_bits.proofs.Spanned.{not_held}
-use Rattle.predicate_bits.proofs.outcomes.may_hold_over.Goals as goal
+use Rattle.predicate_bits.proofs.outcomes.may_all_hold.Goals as goal
 
 pub returns-then-not-outcome_of : goal.returns-then-not-outcome_of
 returns-then-not-outcome_of c = λ none event at.

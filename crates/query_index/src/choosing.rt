@@ -2,7 +2,7 @@
 //!
 //! What is chosen is no promise: a row that no index has is looked at for each event of its type.
 
-use crate::marks::{LEVELS, partings_of};
+use crate::marks::{LEVELS, is_alike, partings_of};
 use crate::parting::{Parting, span_at};
 use crate::rows::{IndexedLeaf, LeafRow};
 use crate::runs::{Run, runs_of, whole};
@@ -74,7 +74,39 @@ struct Costs {
     costs: Vec<u64>,
 }
 
-/// Puts in what each row would cost at each level, where `levels` are the partings of one place.
+/// Puts in once more the last costs, one for each of so many levels.
+fn push_again(costs: &mut Vec<u64>, levels: usize) -> Result<(), Memory> {
+    for _level in 0..levels {
+        let place = costs.len().saturating_sub(levels);
+        let cost = match costs.get(place) {
+            Some(cost) => *cost,
+            None => ALL,
+        };
+        costs.push(cost)?;
+    }
+    Ok(())
+}
+
+/// Puts in what the row would cost at each level.
+fn push_cost(
+    costs: &mut Vec<u64>,
+    alloc: Global,
+    row: &LeafRow,
+    leaves: &[IndexedLeaf],
+    levels: &[Parting],
+) -> Result<(), Memory> {
+    let Some(finest) = levels.first() else {
+        return Ok(());
+    };
+    let runs = runs_of(alloc, row, leaves, finest, &whole(finest.kind))?;
+    for level in levels {
+        costs.push(cost_of(runs.as_slice(), level))?;
+    }
+    Ok(())
+}
+
+/// Puts in what each row would cost at each level, where `levels` are the partings of one place. Rows of
+/// leaves that have the very same tests cost the same.
 fn push_costs(
     costs: &mut Vec<u64>,
     alloc: Global,
@@ -82,13 +114,11 @@ fn push_costs(
     leaves: &[IndexedLeaf],
     levels: &[Parting],
 ) -> Result<(), Memory> {
-    let Some(finest) = levels.first() else {
-        return Ok(());
-    };
-    for row in rows {
-        let runs = runs_of(alloc, row, leaves, finest, &whole(finest.kind))?;
-        for level in levels {
-            costs.push(cost_of(runs.as_slice(), level))?;
+    for k in 0..rows.len() {
+        if is_alike(rows, k, leaves) {
+            push_again(costs, levels.len())?;
+        } else {
+            push_cost(costs, alloc, &rows[k], leaves, levels)?;
         }
     }
     Ok(())

@@ -5,6 +5,7 @@
 use crate::parting::{Parting, parting_of};
 use crate::rows::{IndexedLeaf, LeafRow};
 use cer_base::Memory;
+use predicate_bits::checks::MOST_TESTS;
 use predicate_bits::spans::number_of;
 use query_leaves::Test;
 use std::alloc::Global;
@@ -76,12 +77,18 @@ fn number_as(kind: Kind, literal: &Value) -> Option<i64> {
 #[derive(Drop)]
 struct Compared {
     numbers: Vec<i64>,
+    /// How many numbers there may be.
+    most: usize,
     /// How many comparisons there are, those at other places among them.
     comparisons: usize,
 }
 
-/// Puts in the number of the literal, where values of the kind are compared with one.
+/// Puts in the number of the literal, where values of the kind are compared with one and there are not too
+/// many.
 fn put_number(compared: &mut Compared, kind: Kind, literal: &Value) -> Result<(), Memory> {
+    if compared.numbers.len() >= compared.most {
+        return Ok(());
+    }
     if let Some(number) = number_as(kind, literal) {
         compared.numbers.push(number)?;
     }
@@ -120,7 +127,40 @@ fn put_numbers(compared: &mut Compared, place: u64, kind: Kind, test: &Test) -> 
     }
 }
 
-/// What the tests of the rows' leaves compare the value at the place with, which is of the kind.
+/// Whether the leaves of the rows have the very same tests in common.
+fn are_shared(row: &LeafRow, before: &LeafRow, leaves: &[IndexedLeaf]) -> bool {
+    match (
+        leaves.get(row.leaf as usize),
+        leaves.get(before.leaf as usize),
+    ) {
+        (Some(leaf), Some(other)) => leaf.tests.is_shared_with(&other.tests),
+        _ => false,
+    }
+}
+
+/// Whether the row's leaf has the very same tests as that of the row before, where there is one.
+pub fn is_alike(rows: &[LeafRow], place: usize, leaves: &[IndexedLeaf]) -> bool {
+    place > 0 && place < rows.len() && are_shared(&rows[place], &rows[place - 1], leaves)
+}
+
+/// Puts in what the tests of the row's leaf compare the value at the place with, which is of the kind: at
+/// most `MOST_TESTS` numbers.
+fn put_leaf(
+    compared: &mut Compared,
+    row: &LeafRow,
+    leaves: &[IndexedLeaf],
+    place: u64,
+    kind: Kind,
+) -> Result<(), Memory> {
+    if let Some(leaf) = leaves.get(row.leaf as usize) {
+        compared.most = compared.numbers.len().saturating_add(MOST_TESTS);
+        put_all_numbers(compared, place, kind, leaf.tests.as_slice())?;
+    }
+    Ok(())
+}
+
+/// What the tests of the rows' leaves compare the value at the place with, which is of the kind. Tests that
+/// leaves of rows behind one another have in common are looked at once.
 fn compared_by(
     alloc: Global,
     rows: &[LeafRow],
@@ -130,11 +170,12 @@ fn compared_by(
 ) -> Result<Compared, Memory> {
     let mut compared = Compared {
         numbers: Vec::new(alloc),
+        most: 0,
         comparisons: 0,
     };
-    for row in rows {
-        if let Some(leaf) = leaves.get(row.leaf as usize) {
-            put_all_numbers(&mut compared, place, kind, leaf.tests.as_slice())?;
+    for k in 0..rows.len() {
+        if !is_alike(rows, k, leaves) {
+            put_leaf(&mut compared, &rows[k], leaves, place, kind)?;
         }
     }
     Ok(compared)
@@ -189,8 +230,11 @@ fn put_places(places: &mut Vec<u64>, test: &Test) -> Result<(), Memory> {
 /// The places of the values that the rows' leaves compare with something, the first few.
 fn places_of(alloc: Global, rows: &[LeafRow], leaves: &[IndexedLeaf]) -> Result<Vec<u64>, Memory> {
     let mut places = Vec::new(alloc);
-    for row in rows {
-        if let Some(leaf) = leaves.get(row.leaf as usize) {
+    for k in 0..rows.len() {
+        if is_alike(rows, k, leaves) {
+            continue;
+        }
+        if let Some(leaf) = leaves.get(rows[k].leaf as usize) {
             put_all_places(&mut places, leaf.tests.as_slice())?;
         }
     }

@@ -10,7 +10,7 @@ use cea_compile::first_of;
 use cel_terms::Query;
 use cer_base::Memory;
 use cer_base::bits::Bits;
-use predicate_bits::checks::{Check, checks_of};
+use predicate_bits::checks::{Check, MOST_TESTS, checks_within, left_of};
 use predicate_bits::ranges::{Range, range_of};
 use query_leaves::{Leaf, Tests, leaves_of};
 use std::alloc::Global;
@@ -94,7 +94,7 @@ fn put(rows: &mut Vec<Vec<LeafRow>>, alloc: Global, ty: TypeId, row: LeafRow) ->
 }
 
 /// Puts in a row for the leaf of the query of this number, and the leaf's own number and its tests. The
-/// row waits for this query, or for `NONE`.
+/// row waits for this query, or for `NONE`. Checks are kept where the leaf has no more than so many tests.
 fn add_leaf(
     rows: &mut Vec<Vec<LeafRow>>,
     leaves: &mut Vec<IndexedLeaf>,
@@ -102,6 +102,7 @@ fn add_leaf(
     query: u64,
     number: u64,
     waits: u64,
+    room: usize,
     leaf: Leaf,
 ) -> Result<(), Memory>
     ensures row { OnOk result (HasLeafRow query number (rows_of rows.new.items)
@@ -114,7 +115,7 @@ fn add_leaf(
     let tests = leaf.tests;
     let range = range_of(tests.as_slice());
     let text_prefilter = text_prefilter_of(tests.as_slice());
-    let checks = checks_of(alloc, &range, tests.as_slice())?;
+    let checks = checks_within(alloc, &range, tests.as_slice(), room)?;
     let place = leaves.len() as u64;
     leaves.push(IndexedLeaf {
         query,
@@ -177,7 +178,7 @@ fn waits_for(types: &Bits, query: u64, ty: TypeId) -> u64
 }
 
 /// Puts in a row for each leaf of the query of this number, the leaves being numbered from 0. The first
-/// event of its matches has one of the types.
+/// event of its matches has one of the types. Checks are kept of the first leaves, for `MOST_TESTS` tests.
 fn add_leaves(
     rows: &mut Vec<Vec<LeafRow>>,
     leaves: &mut Vec<IndexedLeaf>,
@@ -193,10 +194,13 @@ fn add_leaves(
         leaves.old.items (rows_of rows.new.items) leaves.new.items) }
 {
     let first = leaves.len();
+    let mut room = MOST_TESTS;
     for leaf in list {
         let number = (leaves.len() - first) as u64;
         let waits = waits_for(types, query, leaf.ty);
-        add_leaf(rows, leaves, alloc, query, number, waits, leaf)?;
+        let left = left_of(room, &leaf);
+        add_leaf(rows, leaves, alloc, query, number, waits, room, leaf)?;
+        room = left;
     }
     Ok(())
 }

@@ -204,7 +204,7 @@ fn looks_at(row: &LeafRow, event: &Event, open_queries: &Bits) -> bool
         → AsksToOpen row.now.text_prefilter holds → result ≡ false
         → is_awake open_queries.now row.now ≡ true → holds event.now ≡ false }
 {
-    may_read(row, event) && is_awake(row, open_queries)
+    is_awake(row, open_queries) && may_read(row, event)
 }
 
 /// Puts in the numbers of the query and of the leaf of each row that is looked at, if the leaf's tests hold

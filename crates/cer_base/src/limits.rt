@@ -16,5 +16,9 @@ pub const MOST_QUERIES: u64 = 1_024;
 /// The most places after the point of a decimal number.
 pub const MOST_PLACES: u8 = 9;
 
+/// So many bytes of an event file, a script or a checkpoint are too many, where no option says
+/// another number: 2 to the 40.
+pub const MOST_BYTES: u64 = 1_099_511_627_776;
+
 /// The most bytes of one line of an event file, its line feed not counted.
 pub const LONGEST_LINE: usize = 65_536;

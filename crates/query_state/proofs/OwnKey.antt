@@ -26,6 +26,9 @@ use Rattle.all_or_none.specs.Dormancy.{here_at, phase_at, HasTimes}
 use Rattle.all_or_none.proofs.Dormancy.{passes_step}
 use Rattle.query_state.specs.KeyPlaces.{values_there, key_there, AreKeyPlaces}
 use Rattle.query_state.specs.Matches.{OpenMatches, HasKeyThere, HasNoneOf, OwnRest, MayPass, Stays, IsOwnReady, HasOwnWorked}
+use Rattle.query_state.specs.Own.{HasOwnNumber, HasNumberThere, IsOwn}
+use Rattle.query_state.specs.declared.own.Own.{Own}
+use Rattle.query_state.specs.declared.own.Own.TheVariants.{NoOp, Passes, At, Unknown}
 use Rattle.query_state.specs.QueryStates.{query_state_of, put_in, AreFirst, MayBeSkipInsensitive}
 use Rattle.query_state.proofs.Prepare.{Idle, sleeper, key_through, values_are}
 use Rattle.query_state.proofs.Cases.{no_key_step, dormant_step, no_op_step, nothing_step, keyed_step}
@@ -45,6 +48,13 @@ at_some P (Some y) x e h = (let same : y ≡ x = cc in subst P same h)
 -- the key that the event has, where one of the values at its places is found
 pub own_key : (table : List (Option (List ℕ))) (event : Event) (places : List ℕ) (key : List Value) → slice_index_or table event.ty None ≡ Some places → are_at key places event.values ≡ true → key_there table event ≡ Some key
 own_key table event places key here at = ap (option_and_then (λ ps. values_there ps event.values)) here ∙ values_are key places event.values at
+
+-- where it may pass, the number is that of lists
+pub number_there : (o : Own) (h : OpenMatches) (table : List (Option (List ℕ))) (event : Event) (first bits : List Bool) (skip_insensitive : Bool) → IsOwn o h table event first bits skip_insensitive → HasNumberThere o h
+number_there NoOp h table event first bits skip_insensitive is = tt
+number_there (Passes number) h table event first bits skip_insensitive is = is.1.there.inside
+number_there (At number) h table event first bits skip_insensitive is = tt
+number_there Unknown h table event first bits skip_insensitive is = tt
 
 -- where those of its own key are dormant
 one_rest : (h : OpenMatches) (own : Option (List Value)) (bits : List Bool) (key : List Value) (number : ℕ) (rows : Rows) → HasNoReader bits → own ≡ Some key → slice_get h.keys number ≡ Some key → slice_get h.rows number ≡ Some rows → AreDormant h.table rows → OwnRest h own bits

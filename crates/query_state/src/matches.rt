@@ -35,7 +35,7 @@ use cer_base::steps::Steps;
 use cer_base::store::NodeStore;
 use cer_base::time::LowTime;
 use event_update::dormancy::some_accepts;
-use event_update::{Stage, Staged, prepare, roots};
+use event_update::{Stage, Staged, are_recent, prepare, roots};
 use partition_table::{Key, Keys};
 use std::alloc::Global;
 use std::marker::Model;
@@ -223,6 +223,14 @@ impl Matches {
         let lists = &self.lists[number as usize];
         lists.let_pass(self.no_op_sets.as_slice(), bits)
             && !some_accepts(&lists.active, &self.lazy_dfa)
+    }
+
+    /// Whether each list of the key of this number has a start at the low clock or later.
+    #[inline(always)]
+    pub fn are_recent(&self, number: u64, low: &LowTime) -> bool
+        requires { number < length self.now.rows }
+    {
+        are_recent(&self.lists[number as usize].active, low)
     }
 
     /// Whether no match is open of the key of this number.

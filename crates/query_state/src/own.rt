@@ -1,13 +1,14 @@
 //! The lists of the key that an event has.
 
-ghost use Rattle.std.specs.Prelude.{◌≡◌, ◌+◌, ◌<◌, ◌≤◌, ◌⊎◌, ◌&&◌, Bool, true, false, List, [], ◌∷◌, ◌++◌, length, Some, None, slice_get, slice_index_or, IfOk, IfSome, IfNone, OnOk, OnErr, ℕ};
+ghost use Rattle.std.specs.Prelude.{◌≡◌, ◌+◌, ◌<◌, ◌≤◌, ◌⊎◌, ◌&&◌, Bool, true, false, List, [], ◌∷◌, ◌++◌, length, Option, Some, None, slice_get, slice_index_or, IfOk, IfSome, IfNone, OnOk, OnErr, ℕ};
 ghost use Rattle.cer_base.specs.Bits.{has, room_for};
 ghost use Rattle.cer_base.specs.Nodes.{AreInStep, WellFormed};
 ghost use Rattle.cer_base.specs.declared.node.Node.TheVariants.{Bottom};
 ghost use Rattle.event_update.specs.Update.{work_bound};
 ghost use Rattle.query_state.specs.KeyPlaces.{key_there};
 ghost use Rattle.query_state.specs.Matches.{HasKeyThere, CanTake, cut, CanCut, Stays, OwnNone, IsOwnReady, HasOwnWorked};
-ghost use Rattle.query_state.specs.Own.{IsOwn};
+ghost use Rattle.query_state.specs.Own.{HasNumberThere, IsOwn};
+ghost use Rattle.stream_schema.specs.declared.Event.{Event as EventData};
 
 use crate::matches::{Matches, Ready, Sizes};
 use crate::reading::{Places, key_of, places_of};
@@ -44,6 +45,8 @@ fn known(matches: &Matches, table: &[Option<Places>], whole: bool, event: &Event
 pub enum Own {
     /// It changes no list.
     NoOp,
+    /// It changes no list, but some may have no start in the window. Its key has this number.
+    Passes(u64),
     /// Its key has this number.
     At(u64),
     /// Nothing more.
@@ -102,9 +105,9 @@ fn is_nothing_unfound(
 
 /// What is known of the event, by the set of the leaves that can read it. It changes no list where
 /// it has no key, where no leaf can read it and its key's lists are known to be dormant, or the
-/// automaton is told to be skip-insensitive, where it is known to be a no-op for its key's lists,
-/// none of which accepts, and where it begins no match and none is open of its key. It is told
-/// whether the query has no partition, and which leaves may read the first event of a match. It
+/// automaton is told to be skip-insensitive, and where it begins no match and none is open of its
+/// key. It passes where it is known to be a no-op for its key's lists, none of which accepts. It is
+/// told whether the query has no partition, and which leaves may read the first event of a match. It
 /// takes no step and no memory.
 #[inline(always)]
 pub fn look(
@@ -138,16 +141,37 @@ pub fn look(
                 return Own::NoOp;
             }
             if matches.lets_own_pass(number, bits) {
-                return Own::NoOp;
+                return Own::Passes(number);
             }
             Own::At(number)
         }
     }
 }
 
+/// What is known of the event once the low clock is known: one that passes changes no list where each
+/// of its key's has a start from that clock on. Else the lists are worked out, and the others go.
+#[inline(always)]
+fn settled(own: Own, matches: &Matches, low: &LowTime) -> Own
+    requires { HasNumberThere own matches.now }
+    ensures { (table : List (Option (List ℕ))) (event : EventData) (first bits : List Bool)
+        (skip_insensitive : Bool)
+        → IsOwn own matches.now table event first bits skip_insensitive
+        → IsOwn result matches.now table event first bits skip_insensitive }
+{
+    match own {
+        Own::Passes(number) => {
+            if matches.are_recent(number, low) {
+                return Own::NoOp;
+            }
+            Own::At(number)
+        }
+        _ => own,
+    }
+}
+
 /// Works out the lists of the event's key, by the set of the leaves that can read the event, and by what
-/// is known of it. `None` where no list changes: where that is known, where it has no key, and where it
-/// begins no match and none is open of its key. After `Memory` nothing has changed. Where some list may change, the sizes are then those from before.
+/// is known of it. `None` where no list changes: where that is known and each list has a start in the
+/// window, where it has no key, and where it begins no match and none is open of its key. After `Memory` nothing has changed. Where some list may change, the sizes are then those from before.
 #[inline(always)]
 pub fn advance_own<L: Ledger>(
     own: Own,
@@ -182,8 +206,8 @@ pub fn advance_own<L: Ledger>(
     ensures worked { (steps.new ≡ steps.old) ⊎ HasOwnWorked bits.now
         (key_there table.now event.now) matches.old steps.old steps.new }
 {
-    match own {
-        Own::NoOp => Ok(None),
+    match settled(own, matches, &low) {
+        Own::NoOp | Own::Passes(_) => Ok(None),
         Own::At(number) => {
             let ready = matches.advance_at(sizes, number, bits, stamp, low, steps)?;
             Ok(Some(ready))

@@ -12,7 +12,7 @@ pub returns-then-lets_own_pass : goal.returns-then-lets_own_pass
 returns-then-lets_own_pass c =
     let k = c.in-Some.ensures in
     let known : c.lets_own_pass.result ≡ true = search rules in
-    one_passes c.args.matches.now c.args.table.now c.args.event.now c.args.first.now c.args.bits.now c.args.skip_insensitive k.0 c.in-Some.number k.1 k.2 (c.lets_own_pass.ensures known)
+    (one_passes c.args.matches.now c.args.table.now c.args.event.now c.args.first.now c.args.bits.now c.args.skip_insensitive k.0 c.in-Some.number k.1 k.2 (c.lets_own_pass.ensures known), record { places = k.0; places_are = k.1; there = k.2 })
 
 pub returns-then-is_nothing_at : goal.returns-then-is_nothing_at
 returns-then-is_nothing_at c =

@@ -26,7 +26,7 @@ use Rattle.all_or_none.specs.Dormancy.{here_at, phase_at, HasTimes}
 use Rattle.all_or_none.proofs.Dormancy.{passes_step}
 use Rattle.query_state.specs.KeyPlaces.{values_there, key_there, AreKeyPlaces}
 use Rattle.query_state.specs.Matches.{OpenMatches, HasKeyThere, HasNoneOf, OwnRest, MayPass, Stays, IsOwnReady, HasOwnWorked}
-use Rattle.query_state.specs.Own.{HasOwnNumber, HasNumberThere, IsOwn}
+use Rattle.query_state.specs.Own.{HasNumberThere, IsOwn}
 use Rattle.query_state.specs.declared.own.Own.{Own}
 use Rattle.query_state.specs.declared.own.Own.TheVariants.{NoOp, Passes, At, Unknown}
 use Rattle.query_state.specs.QueryStates.{query_state_of, put_in, AreFirst, MayBeSkipInsensitive}

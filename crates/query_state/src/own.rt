@@ -171,7 +171,8 @@ fn settled(own: Own, matches: &Matches, low: &LowTime) -> Own
 
 /// Works out the lists of the event's key, by the set of the leaves that can read the event, and by what
 /// is known of it. `None` where no list changes: where that is known and each list has a start in the
-/// window, where it has no key, and where it begins no match and none is open of its key. After `Memory` nothing has changed. Where some list may change, the sizes are then those from before.
+/// window, where it has no key, and where it begins no match and none is open of its key. After
+/// `Memory` nothing has changed. Where some list may change, the sizes are then those from before.
 #[inline(always)]
 pub fn advance_own<L: Ledger>(
     own: Own,

@@ -42,8 +42,8 @@ use window_clock::Clock;
 pub enum Step {
     /// It changes no list: it is not read, or it has no key, or no leaf can read it and its key's
     /// lists are dormant or the automaton is skip-insensitive, or it is a no-op for its key's
-    /// lists, none of which accepts or is of the time before the window alone, or it begins no match
-    /// and none is open of its key.
+    /// lists, none of which accepts and each of which has a start in the window, or it begins no
+    /// match and none is open of its key.
     NoChange,
     /// It has a key, whose lists are ready.
     Keyed,

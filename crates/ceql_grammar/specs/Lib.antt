@@ -14,3 +14,4 @@ pub mod LinkViews
 pub mod ReadResults
 pub mod LawfulTexts
 pub mod TokenFaults
+pub mod FaultWords

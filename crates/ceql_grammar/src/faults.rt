@@ -1,6 +1,8 @@
 //! Why a query text is refused.
 
-ghost use Rattle.std.specs.Prelude.{◌≡◌};
+ghost use Rattle.std.specs.Prelude.{◌≡◌, Some};
+ghost use Rattle.std.specs.Fmt.{DisplaysOnOk};
+ghost use Rattle.ceql_grammar.specs.FaultWords.{literal_kind, query_words};
 ghost use Rattle.ceql_grammar.specs.TokenFaults.{token_error, token_fault};
 
 use ceql_lexer::{LexError, LexFault};
@@ -61,7 +63,9 @@ pub enum QueryFault {
 }
 
 /// The word of a query text for the kind.
-fn kind_word(kind: Kind) -> &'static str {
+fn kind_word(kind: Kind) -> &'static str
+    ensures { result.now ≡ literal_kind kind }
+{
     match kind {
         Kind::Int => "INT",
         Kind::Text => "STRING",
@@ -70,10 +74,20 @@ fn kind_word(kind: Kind) -> &'static str {
     }
 }
 
+/// What is wrong with the byte, in words.
+fn write_bad_byte<W: Write>(f: &mut Formatter<W>, byte: u8) -> Result<(), Error>
+    ensures { DisplaysOnOk W.write_str_gives f.old result
+        (Some (query_words (QueryFault.BadByte byte))) f.new }
+{
+    write!(f, "byte {byte:02x} not allowed")
+}
+
 impl Display for QueryFault {
+    ghost output = { λ fault. Some (query_words fault) };
+
     fn fmt<W: Write>(&self, f: &mut Formatter<W>) -> Result<(), Error> {
         match self {
-            QueryFault::BadByte { byte } => write!(f, "byte {byte:02x} not allowed"),
+            QueryFault::BadByte { byte } => write_bad_byte(f, *byte),
             QueryFault::OpenString => write!(f, "string not closed"),
             QueryFault::NumberTooLarge => write!(f, "number too large"),
             QueryFault::NotUtf8 => write!(f, "string is not UTF-8"),
@@ -96,10 +110,11 @@ impl Display for QueryFault {
             QueryFault::TooManyLeaves => write!(f, "more than {MOST_LEAVES} leaves"),
             QueryFault::NoQuery => write!(f, "no query"),
             QueryFault::TooManyQueries => write!(f, "more than {MOST_QUERIES} queries"),
-            QueryFault::WindowKind { name } => {
-                let name = name.as_str();
-                write!(f, "window attribute {name} is not INT in every type")
-            }
+            QueryFault::WindowKind { name } => write!(
+                f,
+                "window attribute {} is not INT in every type",
+                name.as_str()
+            ),
             QueryFault::TextTooLong => write!(f, "text longer than {LONGEST_TEXT} bytes"),
             QueryFault::BadScale => write!(f, "DECIMAL takes 0 to {MOST_PLACES}"),
             QueryFault::BadCount => write!(f, "ANY takes 1 to 4294967295"),

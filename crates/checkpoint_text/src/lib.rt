@@ -23,62 +23,51 @@ pub use keeping::{Keep, KeptLine};
 pub use numbers::MOST_POSITIONS;
 pub use reading::{MOST_BYTES, read_checkpoint};
 pub use replaying::replay;
-use thiserror::Error;
 
 /// Why a line is refused.
-#[derive(Drop, Debug, Clone, Copy, PartialEq, Eq, Error)]
+#[derive(Drop, Debug, Clone, Copy, PartialEq, Eq)]
 pub enum CheckpointFault {
     /// It has more than 65,536 bytes.
-    #[error("line too long")]
     LongLine,
     /// The first line is not `core checkpoint 1`.
-    #[error("bad header")]
     BadHeader,
     /// The second line is not `events P K` with P at most 2 to the 62 and K at most P.
-    #[error("bad count")]
     BadCount,
     /// It is not `at N` with N below P and above each N before.
-    #[error("bad position")]
     BadPosition,
     /// It is no event, or with its event the clock of a query falls.
-    #[error("bad event")]
     BadEvent,
     /// The text ends before this line, which is missing.
-    #[error("missing line")]
     Short,
     /// The line stands after the last one.
-    #[error("extra line")]
     Extra,
     /// This many lines and no end are in the bytes that may be read; the line is the next one.
-    #[error("too long")]
     TooLong,
 }
 
 impl CheckpointFault {
     /// What is wrong with the line, in words.
-    pub fn words(self) -> &'static [u8]
+    pub fn words(self) -> &'static str
         ensures { result.now ≡ fault_words self }
     {
         match self {
-            CheckpointFault::LongLine => b"line too long",
-            CheckpointFault::BadHeader => b"bad header",
-            CheckpointFault::BadCount => b"bad count",
-            CheckpointFault::BadPosition => b"bad position",
-            CheckpointFault::BadEvent => b"bad event",
-            CheckpointFault::Short => b"missing line",
-            CheckpointFault::Extra => b"extra line",
-            CheckpointFault::TooLong => b"too long",
+            CheckpointFault::LongLine => "line too long",
+            CheckpointFault::BadHeader => "bad header",
+            CheckpointFault::BadCount => "bad count",
+            CheckpointFault::BadPosition => "bad position",
+            CheckpointFault::BadEvent => "bad event",
+            CheckpointFault::Short => "missing line",
+            CheckpointFault::Extra => "extra line",
+            CheckpointFault::TooLong => "too long",
         }
     }
 }
 
 /// Why a text has no history.
-#[derive(Drop, Debug, Clone, Copy, PartialEq, Eq, Error)]
+#[derive(Drop, Debug, Clone, Copy, PartialEq, Eq)]
 pub enum HistoryFault {
     /// The line of this number, from 1, is the first that is refused.
-    #[error("line {line}: {fault}")]
     Bad { line: u64, fault: CheckpointFault },
     /// The source failed, and its count of faults rose.
-    #[error("cannot read")]
     ReadFault,
 }

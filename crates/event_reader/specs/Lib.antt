@@ -9,3 +9,4 @@ pub mod CommonLines
 pub mod QuotedLines
 pub mod LineAnswers
 pub mod LineWords
+pub mod FaultWords

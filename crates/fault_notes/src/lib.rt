@@ -2,14 +2,13 @@
 //!
 //! Promised: each call gives exactly the bytes that `specs/Notes` says, with their line feed, or
 //! memory ran out. The texts that hold nothing of a run are slices and take no memory.
-//! It stands on `itoa` for numbers, and on `ceql_grammar` and `event_reader` for the faults.
+//! It stands on `ceql_grammar` and `event_reader` for the faults and their words.
 #![tactic(auto)]
 
 mod checkpoints;
 mod events;
 mod fixed;
 mod queries;
-mod words;
 
 pub use checkpoints::checkpoint_note;
 pub use events::{event_note, too_long_note};

@@ -77,27 +77,27 @@ const LINES: &[(&str, &str)] = &[
     ("A,x,2", "2 fields where 1 is wanted"),
     ("A,\"1", "open quote"),
     ("\"A\",1", "0 1"),
-    ("A,x", "field 1 is of another kind"),
+    ("A,x", "field 1 is no INT"),
     ("A,+1", "0 1"),
     ("A,-0", "0 0"),
     ("A,9223372036854775807", "0 9223372036854775807"),
-    ("A,9223372036854775808", "field 1 is of another kind"),
+    ("A,9223372036854775808", "field 1 is no INT"),
     ("A,-9223372036854775808", "0 -9223372036854775808"),
-    ("A,18446744073709551617", "field 1 is of another kind"),
-    ("A,1.0", "field 1 is of another kind"),
-    ("A,+-1", "field 1 is of another kind"),
+    ("A,18446744073709551617", "field 1 is no INT"),
+    ("A,1.0", "field 1 is no INT"),
+    ("A,+-1", "field 1 is no INT"),
     ("F,TRUE", "2 true"),
     ("F,fAlse", "2 false"),
-    ("F,tru", "field 1 is of another kind"),
+    ("F,tru", "field 1 is no BOOL"),
     ("D,1", "3 100/2"),
     ("D,1.5", "3 150/2"),
     ("D,-1.49", "3 -149/2"),
-    ("D,1.505", "field 1 is of another kind"),
-    ("D,1.", "field 1 is of another kind"),
-    ("D,.5", "field 1 is of another kind"),
-    ("D,92233720368547758.08", "field 1 is of another kind"),
+    ("D,1.505", "field 1 is no DECIMAL(2)"),
+    ("D,1.", "field 1 is no DECIMAL(2)"),
+    ("D,.5", "field 1 is no DECIMAL(2)"),
+    ("D,92233720368547758.08", "field 1 is no DECIMAL(2)"),
     ("Z,7", "4 7/0"),
-    ("Z,7.0", "field 1 is of another kind"),
+    ("Z,7.0", "field 1 is no DECIMAL(0)"),
     ("N", "0 fields where 1 is wanted"),
     ("N,", "1 "),
     ("N,\"", "open quote"),
@@ -122,11 +122,6 @@ fn lines_become_events_or_refusals(rt: HostRuntime) -> Result<(), Fail> {
         same(&rt, words.as_str(), wanted, line);
     }
     let words = answer(alloc, NO_UTF8)?;
-    same(
-        &rt,
-        words.as_str(),
-        "field 1 is of another kind",
-        "of no text",
-    );
+    same(&rt, words.as_str(), "field 1 is no STRING", "of no text");
     Ok(())
 }

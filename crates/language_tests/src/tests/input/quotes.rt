@@ -65,7 +65,7 @@ fn record_words(alloc: Global, record: &ByteRecord) -> Result<String, AllocError
     for i in 1..record.len() {
         match str::from_utf8(record.get(i).unwrap_or(b"")) {
             Ok(text) => words.push_str(format!(in alloc; " {text}")?.as_str())?,
-            Err(_) => return format!(in alloc; "field {i} is of another kind"),
+            Err(_) => return format!(in alloc; "field {i} is no STRING"),
         }
     }
     Ok(words)

@@ -83,7 +83,7 @@ fn read_wrong(alloc: Global, table: &str) -> Result<String, AllocError> {
 
 /// Each line, and what is read of it by one row in turn: the row holds the last line alone.
 const ONE_ROW: &str = "A,1|0 1\n\
-A,x|field 1 is of another kind\n\
+A,x|field 1 is no INT\n\
 N,abc|1 abc\n\
 |none\n\
 P,1,-2,+3|5 1 -2 3\n\
@@ -93,16 +93,16 @@ P,4,5,6|5 4 5 6\n\
 P,1,2|2 fields where 3 is wanted\n\
 P,1,2,3,4|4 fields where 3 is wanted\n\
 P,1,2,3,|4 fields where 3 is wanted\n\
-P,1,,3|field 2 is of another kind\n\
+P,1,,3|field 2 is no INT\n\
 P|0 fields where 3 is wanted\n\
 M,-1,x y,tRUE,-1.5\r|6 -1 x y true -150/2\n\
-M,-1,x,true,1.505|field 4 is of another kind\n\
+M,-1,x,true,1.505|field 4 is no DECIMAL(2)\n\
 M,1,,false,0|6 1  false 0/2\n\
 M,1,\"a,b\",false,0|6 1 a,b false 0/2\n\
 M,1,\"a,b,false,0|open quote\n\
 \"A\",2|0 2\n\
 A,\"2\"|0 2\n\
-A,2\"|field 1 is of another kind\n\
+A,2\"|field 1 is no INT\n\
 A,3\r\r|carriage return or byte order mark in the line\n\
 A\r,3|carriage return or byte order mark in the line\n\
 \u{feff}A,3|carriage return or byte order mark in the line\n\
@@ -123,21 +123,21 @@ A,999999999999999999|0 999999999999999999\n\
 A,-999999999999999999|0 -999999999999999999\n\
 A,1000000000000000000|0 1000000000000000000\n\
 A,9223372036854775807|0 9223372036854775807\n\
-A,9223372036854775808|field 1 is of another kind\n\
+A,9223372036854775808|field 1 is no INT\n\
 A,-9223372036854775808|0 -9223372036854775808\n\
-A,-9223372036854775809|field 1 is of another kind\n\
-A,18446744073709551617|field 1 is of another kind\n\
+A,-9223372036854775809|field 1 is no INT\n\
+A,18446744073709551617|field 1 is no INT\n\
 A,00000000000000000000000012|0 12\n\
-A,|field 1 is of another kind\n\
-A,+|field 1 is of another kind\n\
-A,-|field 1 is of another kind\n\
-A,--1|field 1 is of another kind\n\
-A,1-|field 1 is of another kind\n\
-A,1 |field 1 is of another kind\n\
-A, 1|field 1 is of another kind\n\
-A,1.0|field 1 is of another kind\n\
-A,/|field 1 is of another kind\n\
-A,:|field 1 is of another kind";
+A,|field 1 is no INT\n\
+A,+|field 1 is no INT\n\
+A,-|field 1 is no INT\n\
+A,--1|field 1 is no INT\n\
+A,1-|field 1 is no INT\n\
+A,1 |field 1 is no INT\n\
+A, 1|field 1 is no INT\n\
+A,1.0|field 1 is no INT\n\
+A,/|field 1 is no INT\n\
+A,:|field 1 is no INT";
 
 /// Lines with a text, of bytes below 128 and others, and what is read of each.
 const TEXTS: &[(&[u8], &str)] = &[
@@ -147,14 +147,14 @@ const TEXTS: &[(&[u8], &str)] = &[
     (b"N,caf\xc3\xa9", "1 caf\u{e9}"),
     (b"N,\xe2\x82\xac 5", "1 \u{20ac} 5"),
     (b"N,abc", "1 abc"),
-    (b"N,ab\x80", "field 1 is of another kind"),
-    (b"N,ab\xff", "field 1 is of another kind"),
-    (b"N,ab\xc3", "field 1 is of another kind"),
-    (b"N,\xe2\x82 5", "field 1 is of another kind"),
+    (b"N,ab\x80", "field 1 is no STRING"),
+    (b"N,ab\xff", "field 1 is no STRING"),
+    (b"N,ab\xc3", "field 1 is no STRING"),
+    (b"N,\xe2\x82 5", "field 1 is no STRING"),
     (b"M,1,ab,true,0", "6 1 ab true 0/2"),
     (b"M,1,\xc3\xbcb,true,0", "6 1 \u{fc}b true 0/2"),
-    (b"M,1,a\xffb,true,0", "field 2 is of another kind"),
-    (b"M,1,ab\xc3,true,0", "field 2 is of another kind"),
+    (b"M,1,a\xffb,true,0", "field 2 is no STRING"),
+    (b"M,1,ab\xc3,true,0", "field 2 is no STRING"),
     (b"M,1,,true,0", "6 1  true 0/2"),
 ];
 

@@ -1,5 +1,5 @@
 -- What a reading function returned is what its reader gives, unless memory ran out.
-use Rattle.std.specs.Prelude.{◌≡◌, List, [], ◌∷◌, ◌++◌, map, Option, Some, None, Result, Ok, Err}
+use Rattle.std.specs.Prelude.{◌≡◌, ◌<◌, ◌≤◌, List, [], ◌∷◌, ◌++◌, length, map, Option, Some, None, Result, Ok, Err, IfOk}
 use denote.Ref.{Bor}
 use Rattle.cer_base.specs.declared.OrMemory.{OrMemory}
 use Rattle.cer_base.specs.declared.OrMemory.TheVariants as wanted
@@ -15,6 +15,16 @@ StopsAs (wanted.Fault rest) out = out ≡ Err rest.now
 abbrev pub ReadsAs : {X Y : Type 0} → (X → Y) → Result (X × Bor (List Token)) (OrMemory (Bor (List Token))) → Out Y → Type 0
 ReadsAs view (Ok p) out = out ≡ Ok (view p.0, p.1.now)
 ReadsAs view (Err e) out = StopsAs e out
+
+-- of these tokens a value is read as the reader does, and one of them at least
+pub record Reads {X Y : Type 0} (view : X → Y) (tokens : List Token) (result : Result (X × Bor (List Token)) (OrMemory (Bor (List Token)))) (out : Out Y) : Type 0 where
+  pub value : ReadsAs view result out
+  pub shorter : IfOk result (λ p. length p.1.now < length tokens)
+
+-- of these tokens a value is read as the reader does, of none of them perhaps
+pub record MayRead {X Y : Type 0} (view : X → Y) (tokens : List Token) (result : Result (X × Bor (List Token)) (OrMemory (Bor (List Token)))) (out : Out Y) : Type 0 where
+  pub value : ReadsAs view result out
+  pub no_longer : IfOk result (λ p. length p.1.now ≤ length tokens)
 
 -- one value more stands behind the old ones, each seen by view, and it and the tokens after it are those
 -- of the reader

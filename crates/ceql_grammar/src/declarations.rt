@@ -1,10 +1,10 @@
 //! Declarations of types and streams.
 
-ghost use Rattle.ceql_grammar.specs.ReadResults.{ReadsAs, Stays, StopsAs};
+ghost use Rattle.ceql_grammar.specs.ReadResults.{MayRead, Reads, Stays, StopsAs};
 ghost use Rattle.ceql_grammar.specs.PartlyRead.{with_front};
 ghost use Rattle.ceql_grammar.specs.RuleReaders.{attr, attr_kind, attrs_closed, decimal_kind, declaration, ended, event_declared, more_attrs, some_attrs, stream_declared};
 ghost use Rattle.ceql_grammar.specs.Statements.{statement_tree};
-ghost use Rattle.std.specs.Prelude.{◌≡◌, ◌<◌, ◌≤◌, IfErr, IfOk, Ok, length};
+ghost use Rattle.std.specs.Prelude.{◌≡◌, ◌≤◌, IfErr, IfOk, Ok, length};
 
 use crate::names::names_within;
 use crate::terms::{AttrDecl, AttrDecls, KindDecl, Statement};
@@ -44,8 +44,7 @@ pub fn ending<'a>(statement: Statement, tokens: &'a [Token]) -> Read<'a, Stateme
 /// The number of a DECIMAL, in parentheses.
 #[tactic(auto, unfolding(crate::specs::RuleReaders::decimal_kind))]
 fn decimal_kind<'a>(tokens: &'a [Token]) -> Read<'a, KindDecl>
-    ensures value { ReadsAs (λ k. k) result (decimal_kind tokens.now) }
-    ensures shorter { IfOk result (λ p. length p.1.now < length tokens.now) }
+    ensures { Reads (λ k. k) tokens.now result (decimal_kind tokens.now) }
 {
     let inside = expect(tokens, b"(")?;
     let (places, rest) = whole_number(inside)?;
@@ -55,8 +54,7 @@ fn decimal_kind<'a>(tokens: &'a [Token]) -> Read<'a, KindDecl>
 /// What an attribute is declared to hold.
 #[tactic(auto, unfolding(crate::specs::RuleReaders::attr_kind))]
 fn attr_kind<'a>(tokens: &'a [Token]) -> Read<'a, KindDecl>
-    ensures value { ReadsAs (λ k. k) result (attr_kind tokens.now) }
-    ensures shorter { IfOk result (λ p. length p.1.now < length tokens.now) }
+    ensures { Reads (λ k. k) tokens.now result (attr_kind tokens.now) }
 {
     if let Some(rest) = skip(tokens, b"INT") {
         return Ok((KindDecl::Int, rest));
@@ -74,8 +72,7 @@ fn attr_kind<'a>(tokens: &'a [Token]) -> Read<'a, KindDecl>
 /// An attribute.
 #[tactic(auto, unfolding(crate::specs::RuleReaders::attr))]
 fn attr<'a>(alloc: Global, tokens: &'a [Token]) -> Read<'a, AttrDecl>
-    ensures value { ReadsAs (λ a. a) result (attr tokens.now) }
-    ensures shorter { IfOk result (λ p. length p.1.now < length tokens.now) }
+    ensures { Reads (λ a. a) tokens.now result (attr tokens.now) }
 {
     let (name, rest) = name(alloc, tokens)?;
     let (kind, rest) = attr_kind(rest)?;
@@ -88,8 +85,8 @@ fn more_attrs<'a>(
     attrs: Vec<AttrDecl>,
     tokens: &'a [Token],
 ) -> Read<'a, Vec<AttrDecl>>
-    ensures value { ReadsAs (λ v. v.items) result (with_front attrs.items (more_attrs tokens.now)) }
-    ensures no_longer { IfOk result (λ p. length p.1.now ≤ length tokens.now) }
+    ensures { MayRead (λ v. v.items) tokens.now result
+        (with_front attrs.items (more_attrs tokens.now)) }
 {
     let mut attrs = attrs;
     let mut rest = tokens;
@@ -104,8 +101,7 @@ fn more_attrs<'a>(
 /// Attributes with commas between them.
 #[tactic(auto, unfolding(crate::specs::RuleReaders::some_attrs))]
 fn some_attrs<'a>(alloc: Global, tokens: &'a [Token]) -> Read<'a, AttrDecls>
-    ensures value { ReadsAs (λ l. l) result (some_attrs tokens.now) }
-    ensures shorter { IfOk result (λ p. length p.1.now < length tokens.now) }
+    ensures { Reads (λ l. l) tokens.now result (some_attrs tokens.now) }
 {
     let (first, rest) = attr(alloc, tokens)?;
     let mut attrs = Vec::new(alloc);
@@ -117,8 +113,7 @@ fn some_attrs<'a>(alloc: Global, tokens: &'a [Token]) -> Read<'a, AttrDecls>
 /// Attributes, of which there may be none, and the `)` after them.
 #[tactic(auto, unfolding(crate::specs::RuleReaders::attrs_closed))]
 fn attrs_closed<'a>(alloc: Global, tokens: &'a [Token]) -> Read<'a, AttrDecls>
-    ensures value { ReadsAs (λ l. l) result (attrs_closed tokens.now) }
-    ensures shorter { IfOk result (λ p. length p.1.now < length tokens.now) }
+    ensures { Reads (λ l. l) tokens.now result (attrs_closed tokens.now) }
 {
     match skip(tokens, b")") {
         Some(rest) => Ok((Listed::of(Vec::new(alloc)), rest)),
@@ -132,8 +127,7 @@ fn attrs_closed<'a>(alloc: Global, tokens: &'a [Token]) -> Read<'a, AttrDecls>
 /// The name and the attributes of a type.
 #[tactic(auto, unfolding(crate::specs::RuleReaders::event_declared))]
 fn event<'a>(alloc: Global, tokens: &'a [Token]) -> Read<'a, Statement>
-    ensures value { ReadsAs statement_tree result (event_declared tokens.now) }
-    ensures shorter { IfOk result (λ p. length p.1.now < length tokens.now) }
+    ensures { Reads statement_tree tokens.now result (event_declared tokens.now) }
 {
     let (name, rest) = name(alloc, tokens)?;
     let inside = expect(rest, b"(")?;
@@ -144,8 +138,7 @@ fn event<'a>(alloc: Global, tokens: &'a [Token]) -> Read<'a, Statement>
 /// The name and the types of a stream.
 #[tactic(auto, unfolding(crate::specs::RuleReaders::stream_declared))]
 fn stream<'a>(alloc: Global, tokens: &'a [Token]) -> Read<'a, Statement>
-    ensures value { ReadsAs statement_tree result (stream_declared tokens.now) }
-    ensures shorter { IfOk result (λ p. length p.1.now < length tokens.now) }
+    ensures { Reads statement_tree tokens.now result (stream_declared tokens.now) }
 {
     let (name, rest) = name(alloc, tokens)?;
     let (types, rest) = names_within(alloc, rest, b"(", b")")?;
@@ -155,8 +148,7 @@ fn stream<'a>(alloc: Global, tokens: &'a [Token]) -> Read<'a, Statement>
 /// What stands after DECLARE.
 #[tactic(auto, unfolding(crate::specs::RuleReaders::declaration))]
 pub fn declaration<'a>(alloc: Global, tokens: &'a [Token]) -> Read<'a, Statement>
-    ensures value { ReadsAs statement_tree result (declaration tokens.now) }
-    ensures shorter { IfOk result (λ p. length p.1.now < length tokens.now) }
+    ensures { Reads statement_tree tokens.now result (declaration tokens.now) }
 {
     match skip(tokens, b"EVENT") {
         Some(later) => event(alloc, later),

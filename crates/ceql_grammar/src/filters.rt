@@ -1,10 +1,10 @@
 //! Filters: predicates on names, joined by AND and OR.
 
 ghost use Rattle.ceql_grammar.specs.MemberLists.{all_filters_of, any_filter_of};
-ghost use Rattle.ceql_grammar.specs.ReadResults.{ReadsAs, ReadsBehind};
+ghost use Rattle.ceql_grammar.specs.ReadResults.{MayRead, Reads, ReadsBehind};
 ghost use Rattle.ceql_grammar.specs.RuleReaders.{filter_parts, more_filters, on_name};
 ghost use Rattle.ceql_grammar.specs.Trees.{FilterTree, filter_tree};
-ghost use Rattle.std.specs.Prelude.{◌≡◌, ◌<◌, ◌≤◌, IfOk, length, map};
+ghost use Rattle.std.specs.Prelude.{◌≡◌, ◌<◌, length, map};
 
 use crate::conditions::{Condition, disjunction};
 use crate::predicates::predicate;
@@ -17,8 +17,7 @@ use std::alloc::Global;
 /// A name with a predicate in brackets.
 #[tactic(auto, unfolding(crate::specs::RuleReaders::on_name))]
 fn on_name<'a>(alloc: Global, tokens: &'a [Token]) -> Read<'a, Filter>
-    ensures value { ReadsAs filter_tree result (on_name tokens.now) }
-    ensures shorter { IfOk result (λ p. length p.1.now < length tokens.now) }
+    ensures { Reads filter_tree tokens.now result (on_name tokens.now) }
 {
     let (name, rest) = name(alloc, tokens)?;
     let inside = expect(rest, b"[")?;
@@ -81,8 +80,7 @@ impl Condition for Filter {
 
 /// Filters with a FILTER before each, of which there may be none.
 pub fn filters<'a>(alloc: Global, tokens: &'a [Token]) -> Read<'a, Vec<Filter>>
-    ensures value { ReadsAs (λ v. map filter_tree v.items) result (more_filters tokens.now) }
-    ensures no_longer { IfOk result (λ p. length p.1.now ≤ length tokens.now) }
+    ensures { MayRead (λ v. map filter_tree v.items) tokens.now result (more_filters tokens.now) }
 {
     let mut filters = Vec::new(alloc);
     let mut rest = tokens;

@@ -2,7 +2,7 @@
 //!
 //! What is read is put behind a list, as filters are.
 
-ghost use Rattle.ceql_grammar.specs.ReadResults.{ReadsAs, ReadsBehind, ReadsOnto, SkipsTo};
+ghost use Rattle.ceql_grammar.specs.ReadResults.{MayRead, Reads, ReadsBehind, ReadsOnto, SkipsTo};
 ghost use Rattle.ceql_grammar.specs.MemberLists.{any_formula_of};
 ghost use Rattle.ceql_grammar.specs.PartlyRead.{with_front};
 ghost use Rattle.ceql_grammar.specs.Formulas.{chain_tree, is_link, post_of, under_of};
@@ -24,8 +24,7 @@ use std::alloc::Global;
 /// AS with a name, or KEEP with names in brackets.
 #[tactic(auto, unfolding(crate::specs::RuleReaders::word_postfix))]
 fn word_postfix<'a>(alloc: Global, tokens: &'a [Token]) -> Read<'a, Postfix>
-    ensures value { ReadsAs (λ p. p) result (word_postfix tokens.now) }
-    ensures shorter { IfOk result (λ p. length p.1.now < length tokens.now) }
+    ensures { Reads (λ p. p) tokens.now result (word_postfix tokens.now) }
 {
     match skip(tokens, b"AS") {
         Some(later) => {
@@ -43,8 +42,7 @@ fn word_postfix<'a>(alloc: Global, tokens: &'a [Token]) -> Read<'a, Postfix>
 /// A postfix.
 #[tactic(auto, unfolding(crate::specs::RuleReaders::postfix))]
 fn postfix<'a>(alloc: Global, tokens: &'a [Token]) -> Read<'a, Postfix>
-    ensures value { ReadsAs (λ p. p) result (postfix tokens.now) }
-    ensures shorter { IfOk result (λ p. length p.1.now < length tokens.now) }
+    ensures { Reads (λ p. p) tokens.now result (postfix tokens.now) }
 {
     if let Some(rest) = skip(tokens, b"+") {
         return Ok((Postfix::Plus, rest));
@@ -69,8 +67,7 @@ fn begins_postfix(tokens: &[Token]) -> bool
 
 /// Postfixes, of which there may be none.
 fn postfixes<'a>(alloc: Global, tokens: &'a [Token]) -> Read<'a, Vec<Postfix>>
-    ensures value { ReadsAs (λ v. v.items) result (postfixes tokens.now) }
-    ensures no_longer { IfOk result (λ p. length p.1.now ≤ length tokens.now) }
+    ensures { MayRead (λ v. v.items) tokens.now result (postfixes tokens.now) }
 {
     let mut postfixes = Vec::new(alloc);
     let mut rest = tokens;
@@ -357,8 +354,7 @@ fn add_formula<'a>(alloc: Global, formulas: &mut Vec<Formula>, tokens: &'a [Toke
 
 /// Alternatives and their filters, as one formula.
 pub fn formula<'a>(alloc: Global, tokens: &'a [Token]) -> Read<'a, Formula>
-    ensures value { ReadsAs formula_tree result (map_read parts_tree formula tokens.now) }
-    ensures shorter { IfOk result (λ p. length p.1.now < length tokens.now) }
+    ensures { Reads formula_tree tokens.now result (map_read parts_tree formula tokens.now) }
 {
     let mut formulas = Vec::new(alloc);
     let rest = add_formula(alloc, &mut formulas, tokens)?;

@@ -1,8 +1,7 @@
 //! Lists of names.
 
-ghost use Rattle.ceql_grammar.specs.ReadResults.{ReadsAs};
+ghost use Rattle.ceql_grammar.specs.ReadResults.{Reads};
 ghost use Rattle.ceql_grammar.specs.RuleReaders.{bracketed_names, closed, led, names};
-ghost use Rattle.std.specs.Prelude.{◌≡◌, ◌<◌, IfOk, length};
 
 use crate::tokens::{Read, closed, expect, name, skip};
 use cel_terms::Names;
@@ -13,8 +12,7 @@ use std::alloc::Global;
 /// Names with commas between them.
 #[tactic(auto, unfolding(crate::specs::RuleReaders::names))]
 pub fn names<'a>(alloc: Global, tokens: &'a [Token]) -> Read<'a, Names>
-    ensures value { ReadsAs (λ ns. ns) result (names tokens.now) }
-    ensures shorter { IfOk result (λ p. length p.1.now < length tokens.now) }
+    ensures { Reads (λ ns. ns) tokens.now result (names tokens.now) }
 {
     let (first, behind_first) = name(alloc, tokens)?;
     let mut names = Vec::new(alloc);
@@ -35,9 +33,8 @@ pub fn names_within<'a>(
     opening: &[u8],
     closing: &[u8],
 ) -> Read<'a, Names>
-    ensures value { ReadsAs (λ ns. ns) result
+    ensures { Reads (λ ns. ns) tokens.now result
         (led opening.now (closed closing.now names) tokens.now) }
-    ensures shorter { IfOk result (λ p. length p.1.now < length tokens.now) }
 {
     let inside = expect(tokens, opening)?;
     let (names, rest) = names(alloc, inside)?;
@@ -47,8 +44,7 @@ pub fn names_within<'a>(
 /// Names with commas between them, in brackets.
 #[tactic(auto, unfolding(crate::specs::RuleReaders::bracketed_names))]
 pub fn bracketed_names<'a>(alloc: Global, tokens: &'a [Token]) -> Read<'a, Names>
-    ensures value { ReadsAs (λ ns. ns) result (bracketed_names tokens.now) }
-    ensures shorter { IfOk result (λ p. length p.1.now < length tokens.now) }
+    ensures { Reads (λ ns. ns) tokens.now result (bracketed_names tokens.now) }
 {
     names_within(alloc, tokens, b"[", b"]")
 }

@@ -1,6 +1,6 @@
 //! A whole text.
 
-ghost use Rattle.ceql_grammar.specs.ReadResults.{ReadsAs, ReadsAllAs};
+ghost use Rattle.ceql_grammar.specs.ReadResults.{Reads, ReadsAllAs};
 ghost use Rattle.ceql_grammar.specs.LawfulTexts.{IsLawfulStatement};
 ghost use Rattle.ceql_grammar.specs.RuleReaders.{one_statement, text};
 ghost use Rattle.ceql_grammar.specs.Statements.{statement_tree};
@@ -20,8 +20,7 @@ use std::alloc::Global;
 /// A statement.
 #[tactic(auto, unfolding(crate::specs::RuleReaders::one_statement))]
 fn statement<'a>(alloc: Global, tokens: &'a [Token]) -> Read<'a, Statement>
-    ensures value { ReadsAs statement_tree result (one_statement tokens.now) }
-    ensures shorter { IfOk result (λ p. length p.1.now < length tokens.now) }
+    ensures { Reads statement_tree tokens.now result (one_statement tokens.now) }
 {
     match skip(tokens, b"DECLARE") {
         Some(later) => declaration(alloc, later),

@@ -1,10 +1,10 @@
 //! Predicates: comparisons joined by AND and OR.
 
 ghost use Rattle.ceql_grammar.specs.MemberLists.{all_preds_of, any_pred_of};
-ghost use Rattle.ceql_grammar.specs.ReadResults.{ReadsAs, ReadsBehind};
+ghost use Rattle.ceql_grammar.specs.ReadResults.{Reads, ReadsBehind};
 ghost use Rattle.ceql_grammar.specs.RuleReaders.{comparison, pred, pred_parts};
 ghost use Rattle.ceql_grammar.specs.Trees.{PredTree, pred_tree};
-ghost use Rattle.std.specs.Prelude.{◌≡◌, ◌<◌, IfOk, length, map};
+ghost use Rattle.std.specs.Prelude.{◌≡◌, ◌<◌, length, map};
 
 use crate::conditions::{Condition, disjunction};
 use crate::tokens::{Read, Rest, name};
@@ -17,8 +17,7 @@ use std::alloc::Global;
 /// A comparison.
 #[tactic(auto, unfolding(crate::specs::RuleReaders::comparison))]
 fn comparison<'a>(alloc: Global, tokens: &'a [Token]) -> Read<'a, Pred>
-    ensures value { ReadsAs pred_tree result (comparison tokens.now) }
-    ensures shorter { IfOk result (λ p. length p.1.now < length tokens.now) }
+    ensures { Reads pred_tree tokens.now result (comparison tokens.now) }
 {
     let (name, rest) = name(alloc, tokens)?;
     let (op, rest) = op(rest)?;
@@ -80,8 +79,7 @@ impl Condition for Pred {
 
 /// Conjunctions joined by OR, as one predicate.
 pub fn predicate<'a>(alloc: Global, tokens: &'a [Token]) -> Read<'a, Pred>
-    ensures value { ReadsAs pred_tree result (pred tokens.now) }
-    ensures shorter { IfOk result (λ p. length p.1.now < length tokens.now) }
+    ensures { Reads pred_tree tokens.now result (pred tokens.now) }
 {
     let mut preds = Vec::new(alloc);
     let rest = disjunction(alloc, &mut preds, tokens)?;

@@ -1,11 +1,11 @@
 //! SELECT statements.
 
-ghost use Rattle.ceql_grammar.specs.ReadResults.{ReadsAs, Skips};
+ghost use Rattle.ceql_grammar.specs.ReadResults.{MayRead, Reads, Skips};
 ghost use Rattle.ceql_grammar.specs.RuleReaders.{any_number, clock, condition, mode, no_value, partition, scope, select_statement, select_rest, select_list, streams, parts_tree, unit_or_none, window, within};
 ghost use Rattle.ceql_grammar.specs.RuleForms.{map_read, first_token};
 ghost use Rattle.ceql_grammar.specs.Statements.{is_events, statement_tree};
 ghost use Rattle.ceql_grammar.specs.Trees.{formula_tree};
-ghost use Rattle.std.specs.Prelude.{◌≡◌, ◌<◌, ◌≤◌, ◌^◌, IfOk, IfSome, length};
+ghost use Rattle.std.specs.Prelude.{◌≡◌, ◌<◌, ◌≤◌, ◌^◌, IfSome, length};
 
 use crate::declarations::ending;
 use crate::formulas::formula;
@@ -32,8 +32,7 @@ fn mode<'a>(tokens: &'a [Token]) -> (bool, &'a [Token])
 /// The number after ANY, where that stands here.
 #[tactic(auto, unfolding(crate::specs::RuleReaders::any_number))]
 fn any_number<'a>(tokens: &'a [Token]) -> Read<'a, Option<NumberAt>>
-    ensures value { ReadsAs (λ n. n) result (any_number tokens.now) }
-    ensures no_longer { IfOk result (λ p. length p.1.now ≤ length tokens.now) }
+    ensures { MayRead (λ n. n) tokens.now result (any_number tokens.now) }
 {
     match skip(tokens, b"ANY") {
         Some(later) => {
@@ -47,8 +46,7 @@ fn any_number<'a>(tokens: &'a [Token]) -> Read<'a, Option<NumberAt>>
 /// The names of the SELECT list, or None for `*`.
 #[tactic(auto, unfolding(crate::specs::RuleReaders::select_list))]
 fn select_list<'a>(alloc: Global, tokens: &'a [Token]) -> Read<'a, Option<Names>>
-    ensures value { ReadsAs (λ s. s) result (select_list tokens.now) }
-    ensures shorter { IfOk result (λ p. length p.1.now < length tokens.now) }
+    ensures { Reads (λ s. s) tokens.now result (select_list tokens.now) }
 {
     match skip(tokens, b"*") {
         Some(rest) => Ok((None, rest)),
@@ -62,8 +60,7 @@ fn select_list<'a>(alloc: Global, tokens: &'a [Token]) -> Read<'a, Option<Names>
 /// FROM and the names of streams.
 #[tactic(auto, unfolding(crate::specs::RuleReaders::streams))]
 fn streams<'a>(alloc: Global, tokens: &'a [Token]) -> Read<'a, Names>
-    ensures value { ReadsAs (λ ns. ns) result (streams tokens.now) }
-    ensures shorter { IfOk result (λ p. length p.1.now < length tokens.now) }
+    ensures { Reads (λ ns. ns) tokens.now result (streams tokens.now) }
 {
     let rest = expect(tokens, b"FROM")?;
     names(alloc, rest)
@@ -72,8 +69,7 @@ fn streams<'a>(alloc: Global, tokens: &'a [Token]) -> Read<'a, Names>
 /// WHERE and a formula.
 #[tactic(auto, unfolding(crate::specs::RuleReaders::condition))]
 fn condition<'a>(alloc: Global, tokens: &'a [Token]) -> Read<'a, Formula>
-    ensures value { ReadsAs formula_tree result (map_read parts_tree condition tokens.now) }
-    ensures shorter { IfOk result (λ p. length p.1.now < length tokens.now) }
+    ensures { Reads formula_tree tokens.now result (map_read parts_tree condition tokens.now) }
 {
     let rest = expect(tokens, b"WHERE")?;
     formula(alloc, rest)
@@ -82,8 +78,7 @@ fn condition<'a>(alloc: Global, tokens: &'a [Token]) -> Read<'a, Formula>
 /// The names after PARTITION BY, none where that does not stand here.
 #[tactic(auto, unfolding(crate::specs::RuleReaders::partition))]
 fn partition<'a>(alloc: Global, tokens: &'a [Token]) -> Read<'a, Names>
-    ensures value { ReadsAs (λ ns. ns) result (partition tokens.now) }
-    ensures no_longer { IfOk result (λ p. length p.1.now ≤ length tokens.now) }
+    ensures { MayRead (λ ns. ns) tokens.now result (partition tokens.now) }
 {
     match skip(tokens, b"PARTITION") {
         Some(later) => {
@@ -111,8 +106,7 @@ fn unit_or_none<'a>(tokens: &'a [Token]) -> (u64, &'a [Token])
 #[tactic(auto, unfolding(crate::specs::RuleReaders::clock))]
 fn clock<'a>(alloc: Global, number: u64, tokens: &'a [Token]) -> Read<'a, Window>
     requires { number < 2 ^ 63 }
-    ensures value { ReadsAs (λ w. w) result (clock number tokens.now) }
-    ensures shorter { IfOk result (λ p. length p.1.now < length tokens.now) }
+    ensures { Reads (λ w. w) tokens.now result (clock number tokens.now) }
 {
     let (seconds, rest) = unit_or_none(tokens);
     let inside = expect(rest, b"[")?;
@@ -135,8 +129,7 @@ fn events<'a>(tokens: &'a [Token]) -> Option<&'a [Token]>
 /// A window.
 #[tactic(auto, unfolding(crate::specs::RuleReaders::window))]
 fn window<'a>(alloc: Global, tokens: &'a [Token]) -> Read<'a, Window>
-    ensures value { ReadsAs (λ w. w) result (window tokens.now) }
-    ensures shorter { IfOk result (λ p. length p.1.now < length tokens.now) }
+    ensures { Reads (λ w. w) tokens.now result (window tokens.now) }
 {
     let (number, rest) = count(tokens)?;
     match events(rest) {
@@ -148,8 +141,7 @@ fn window<'a>(alloc: Global, tokens: &'a [Token]) -> Read<'a, Window>
 /// The window after WITHIN, the free one where that does not stand here.
 #[tactic(auto, unfolding(crate::specs::RuleReaders::within))]
 fn within<'a>(alloc: Global, tokens: &'a [Token]) -> Read<'a, Window>
-    ensures value { ReadsAs (λ w. w) result (within tokens.now) }
-    ensures no_longer { IfOk result (λ p. length p.1.now ≤ length tokens.now) }
+    ensures { MayRead (λ w. w) tokens.now result (within tokens.now) }
 {
     match skip(tokens, b"WITHIN") {
         Some(later) => window(alloc, later),
@@ -168,9 +160,8 @@ fn scope<'a>(
     streams: Names,
     tokens: &'a [Token],
 ) -> Read<'a, Statement>
-    ensures value { ReadsAs statement_tree result
+    ensures { Reads statement_tree tokens.now result
         (scope place strict number select streams tokens.now) }
-    ensures shorter { IfOk result (λ p. length p.1.now < length tokens.now) }
 {
     let (formula, rest) = condition(alloc, tokens)?;
     let (partition, rest) = partition(alloc, rest)?;
@@ -191,8 +182,7 @@ fn scope<'a>(
 /// What stands after the SELECT at the place.
 #[tactic(auto, unfolding(crate::specs::RuleReaders::select_rest))]
 fn select_rest<'a>(alloc: Global, place: Location, tokens: &'a [Token]) -> Read<'a, Statement>
-    ensures value { ReadsAs statement_tree result (select_rest place tokens.now) }
-    ensures shorter { IfOk result (λ p. length p.1.now < length tokens.now) }
+    ensures { Reads statement_tree tokens.now result (select_rest place tokens.now) }
 {
     let (strict, rest) = mode(tokens);
     let (number, rest) = any_number(rest)?;
@@ -204,8 +194,7 @@ fn select_rest<'a>(alloc: Global, place: Location, tokens: &'a [Token]) -> Read<
 /// A SELECT statement.
 #[tactic(auto, unfolding(crate::specs::RuleReaders::select_statement))]
 pub fn select_statement<'a>(alloc: Global, tokens: &'a [Token]) -> Read<'a, Statement>
-    ensures value { ReadsAs statement_tree result (select_statement tokens.now) }
-    ensures shorter { IfOk result (λ p. length p.1.now < length tokens.now) }
+    ensures { Reads statement_tree tokens.now result (select_statement tokens.now) }
 {
     match tokens.split_first() {
         Some((first, rest)) => {

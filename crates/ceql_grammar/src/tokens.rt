@@ -1,6 +1,6 @@
 //! Single tokens: words, signs and names.
 
-ghost use Rattle.ceql_grammar.specs.ReadResults.{ReadsAs, ReadsPast, Skips, StopsAs};
+ghost use Rattle.ceql_grammar.specs.ReadResults.{Reads, ReadsPast, Skips, StopsAs};
 ghost use Rattle.ceql_grammar.specs.WordsAndSigns.{among, is, is_name_token, token_name, spelled};
 ghost use Rattle.ceql_grammar.specs.RuleReaders.{name, no_value, mark_token};
 ghost use Rattle.ceql_grammar.specs.RuleForms.{first_token};
@@ -94,8 +94,7 @@ pub fn expect<'a>(tokens: &'a [Token], mark: &[u8]) -> Rest<'a>
 
 /// A name at the front.
 pub fn name<'a>(alloc: Global, tokens: &'a [Token]) -> Read<'a, Name>
-    ensures value { ReadsAs (λ n. n) result (name tokens.now) }
-    ensures shorter { IfOk result (λ p. length p.1.now < length tokens.now) }
+    ensures { Reads (λ n. n) tokens.now result (name tokens.now) }
 {
     match tokens.split_first() {
         Some((first, rest)) => {

@@ -1,6 +1,6 @@
 //! Numbers, literals and the signs of comparisons.
 
-ghost use Rattle.ceql_grammar.specs.ReadResults.{ReadsAs, SkipsTo};
+ghost use Rattle.ceql_grammar.specs.ReadResults.{Reads, ReadsAs, SkipsTo};
 ghost use Rattle.ceql_grammar.specs.WordsAndSigns.{among};
 ghost use Rattle.ceql_grammar.specs.RuleReaders.{count, literal, whole_number, op};
 ghost use Rattle.ceql_grammar.specs.RuleForms.{first_token};
@@ -74,8 +74,7 @@ fn places(text: &[u8]) -> usize
 
 /// A whole number at the front, and its place.
 pub fn whole_number<'a>(tokens: &'a [Token]) -> Read<'a, NumberAt>
-    ensures value { ReadsAs (λ n. n) result (whole_number tokens.now) }
-    ensures shorter { IfOk result (λ p. length p.1.now < length tokens.now) }
+    ensures { Reads (λ n. n) tokens.now result (whole_number tokens.now) }
 {
     match tokens.split_first() {
         Some((first, rest)) => match (first.kind, signed_number(first.text.as_str().as_bytes())) {
@@ -178,8 +177,7 @@ fn literal_of(alloc: Global, token: &Token) -> Result<Option<Value>, Memory>
 
 /// A literal at the front.
 pub fn literal<'a>(alloc: Global, tokens: &'a [Token]) -> Read<'a, Value>
-    ensures value { ReadsAs (λ v. v) result (literal tokens.now) }
-    ensures shorter { IfOk result (λ p. length p.1.now < length tokens.now) }
+    ensures { Reads (λ v. v) tokens.now result (literal tokens.now) }
 {
     match tokens.split_first() {
         Some((first, rest)) => match literal_of(alloc, first)? {
@@ -214,8 +212,7 @@ fn op_of(token: &Token) -> Option<Op>
 
 /// The sign of a comparison at the front.
 pub fn op<'a>(tokens: &'a [Token]) -> Read<'a, Op>
-    ensures value { ReadsAs (λ o. o) result (op tokens.now) }
-    ensures shorter { IfOk result (λ p. length p.1.now < length tokens.now) }
+    ensures { Reads (λ o. o) tokens.now result (op tokens.now) }
 {
     match tokens.split_first() {
         Some((first, rest)) => match op_of(first) {

@@ -1,4 +1,4 @@
-use Rattle.std.proofs.Common.{ap, arith, map}
+use Rattle.std.proofs.Common.{ap, arith, map, rules}
 use Rattle.std.specs.Prelude.{codes}
 use Rattle.std.proofs.lemmas.Result.{err_from_is_err_and}
 use Rattle.ceql_grammar.specs.WordsAndSigns.{is}
@@ -11,12 +11,15 @@ use Rattle.ceql_grammar.proofs.filters.filters.Goals as goal
 pub loop-later-init : goal.loop-later-init
 loop-later-init c = (front_none (map filter_tree c.new-filters.result.items) (more_filters c.args.tokens.now) (ap (map filter_tree) c.new-filters.ensures.items), omega arith)
 
-pub returns-in_err-behind_next-clause-value : goal.returns-in_err-behind_next-clause-value
+pub returns-in_err-behind_next : goal.returns-in_err-behind_next
 unfolding more_filters
-returns-in_err-behind_next-clause-value c =
+returns-in_err-behind_next c =
     let p = err_from_is_err_and c.from_residual.result c.from_residual.ensures.1 in
-    exit (λ v. map filter_tree v.items) c.from_residual.result p.0 c.in_err-behind_next.field-0.0 p.1 p.2 (more_filters c.args.tokens.now)
-    (turn_fails (is (codes "FILTER")) no_value (λ _. filter) filters_again (map filter_tree c.loop-later.filters.items) c.loop-later.rest.now (more_filters c.args.tokens.now) tt c.in-Some.later.now c.in_err-behind_next.field-0.0 c.loop-later.invariant.0 c.in-Some.ensures.value c.in_err-behind_next.ensures.value)
+    record {
+      value = exit (λ v. map filter_tree v.items) c.from_residual.result p.0 c.in_err-behind_next.field-0.0 p.1 p.2 (more_filters c.args.tokens.now)
+          (turn_fails (is (codes "FILTER")) no_value (λ _. filter) filters_again (map filter_tree c.loop-later.filters.items) c.loop-later.rest.now (more_filters c.args.tokens.now) tt c.in-Some.later.now c.in_err-behind_next.field-0.0 c.loop-later.invariant.0 c.in-Some.ensures.value c.in_err-behind_next.ensures.value);
+      no_longer = search rules;
+    }
 
 pub loop-later-preserved : goal.loop-later-preserved
 unfolding more_filters
@@ -26,9 +29,9 @@ loop-later-preserved c =
       omega (arith, c.loop-later.invariant.1, c.in-Some.ensures.shorter, c.in_ok-behind_next.ensures.shorter),
     )
 
-pub returns-clause-value : goal.returns-clause-value
+pub returns : goal.returns
 unfolding more_filters
-returns-clause-value c = turn_ends (is (codes "FILTER")) no_value (λ _. filter) filters_again (map filter_tree c.loop-later.filters.items) c.loop-later.rest.now (more_filters c.args.tokens.now) c.loop-later.invariant.0 c.in_default.ensures.value
+returns c = record { value = turn_ends (is (codes "FILTER")) no_value (λ _. filter) filters_again (map filter_tree c.loop-later.filters.items) c.loop-later.rest.now (more_filters c.args.tokens.now) c.loop-later.invariant.0 c.in_default.ensures.value; no_longer = search rules }
 
 pub disjunction-requires : goal.disjunction-requires
 disjunction-requires c = record { lawful = filters_are_lawful }

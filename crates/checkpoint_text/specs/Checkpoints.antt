@@ -13,7 +13,7 @@ use Rattle.checkpoint_text.specs.declared.CheckpointFault.TheVariants as fault
 use Rattle.checkpoint_text.specs.declared.stand.NextLine.{NextLine}
 use Rattle.checkpoint_text.specs.declared.stand.NextLine.TheVariants.{Header, Counts, Position, EventOf}
 use Rattle.checkpoint_text.specs.declared.stand.LineState.{LineState}
-use Rattle.checkpoint_text.specs.declared.reading.TheConstants.{MOST_BYTES}
+use Rattle.cer_base.specs.declared.limits.TheConstants.{MOST_BYTES}
 use Rattle.checkpoint_text.specs.declared.history.EventAt.{EventAt}
 use Rattle.checkpoint_text.specs.declared.history.History.{History}
 use Rattle.checkpoint_text.specs.QueryClocks.{some_falls}

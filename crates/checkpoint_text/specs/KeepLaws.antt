@@ -8,7 +8,7 @@ use Rattle.cel_terms.specs.declared.Query.{Query}
 use Rattle.event_reader.specs.Events.{event_of_line}
 use Rattle.event_reader.specs.LineBuffers.{IsShort}
 use Rattle.checkpoint_text.specs.declared.numbers.TheConstants.{MOST_POSITIONS}
-use Rattle.checkpoint_text.specs.declared.reading.TheConstants.{MOST_BYTES}
+use Rattle.cer_base.specs.declared.limits.TheConstants.{MOST_BYTES}
 use Rattle.checkpoint_text.specs.declared.history.EventAt.{EventAt}
 use Rattle.checkpoint_text.specs.declared.history.History.{History}
 use Rattle.checkpoint_text.specs.declared.keeping.KeptLine.{KeptLine}

@@ -11,7 +11,7 @@ use Rattle.event_reader.specs.LineReaders.{LineReader, HasGiven, IsCutOff}
 use Rattle.checkpoint_text.specs.declared.CheckpointFault.TheVariants as fault
 use Rattle.checkpoint_text.specs.declared.HistoryFault.{HistoryFault}
 use Rattle.checkpoint_text.specs.declared.HistoryFault.TheVariants.{Bad, ReadFault}
-use Rattle.checkpoint_text.specs.declared.reading.TheConstants.{MOST_BYTES}
+use Rattle.cer_base.specs.declared.limits.TheConstants.{MOST_BYTES}
 use Rattle.checkpoint_text.specs.declared.history.EventAt.{EventAt}
 use Rattle.checkpoint_text.specs.declared.history.History.{History}
 use Rattle.checkpoint_text.specs.Checkpoints.{ParseState, Refusal, told_by, checkpoint_of}

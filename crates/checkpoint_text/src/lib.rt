@@ -21,7 +21,7 @@ pub use clocks::Fall;
 pub use history::{EventAt, History};
 pub use keeping::{Keep, KeptLine};
 pub use numbers::MOST_POSITIONS;
-pub use reading::{MOST_BYTES, read_checkpoint};
+pub use reading::read_checkpoint;
 pub use replaying::replay;
 
 /// Why a line is refused.

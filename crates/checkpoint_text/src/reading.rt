@@ -4,7 +4,7 @@ ghost use Rattle.std.specs.Prelude.{◌≡◌, ◌≤◌, ℕ, List, [], false, 
 ghost use Rattle.std.specs.List.{AllByRecursion};
 ghost use Rattle.stream_schema.specs.Events.{IsOfSchema};
 ghost use Rattle.checkpoint_text.specs.declared.history.EventAt.{EventAt};
-ghost use Rattle.checkpoint_text.specs.declared.reading.TheConstants as bytes;
+ghost use Rattle.cer_base.specs.declared.limits.TheConstants as bytes;
 ghost use Rattle.event_reader.specs.LineReaders.{HasGiven};
 ghost use Rattle.checkpoint_text.specs.LastClocks.{last_clocks};
 ghost use Rattle.checkpoint_text.specs.Checkpoints.{at_stop};
@@ -15,14 +15,12 @@ use crate::clocks::no_clocks;
 use crate::stand::{LineState, NextLine, take_line};
 use crate::{CheckpointFault, EventAt, History, HistoryFault};
 use cel_terms::Query;
+use cer_base::limits::MOST_BYTES;
 use cer_base::{Listed, Memory, OrMemory};
 use cer_outside::Source;
 use event_reader::{LineFault, Lines, Next};
 use std::alloc::Global;
 use stream_schema::Schema;
-
-/// A text has fewer bytes: 2 to the 40.
-pub const MOST_BYTES: u64 = 1099511627776;
 
 /// The history that the text of a checkpoint tells.
 ///

@@ -17,7 +17,7 @@ use Rattle.checkpoint_text.specs.declared.CheckpointFault.TheVariants as fault
 use Rattle.checkpoint_text.specs.declared.stand.NextLine.{NextLine}
 use Rattle.checkpoint_text.specs.declared.stand.NextLine.TheVariants.{Header, Counts, Position, EventOf}
 use Rattle.checkpoint_text.specs.declared.history.EventAt.{EventAt}
-use Rattle.checkpoint_text.specs.declared.reading.TheConstants.{MOST_BYTES}
+use Rattle.cer_base.specs.declared.limits.TheConstants.{MOST_BYTES}
 use Rattle.checkpoint_text.specs.QueryClocks.{later_clock, is_back, falls_with, some_falls}
 use Rattle.checkpoint_text.specs.Checkpoints.{ParseState, Refusal, nothing, with_event, after_text, after_line, at_line, told_on, at_stop, checkpoint_of}
 

@@ -11,7 +11,7 @@ use Rattle.event_run.specs.Taking.{AreEventsRead}
 use Rattle.event_run.proofs.ForCallers.{one_run_of_trees}
 use Rattle.stream_answers.specs.AtEnd.{StopsOver, TextOrStop}
 use Rattle.command_base.specs.declared.Cause.{Cause}
-use Rattle.command_base.specs.declared.files.TheConstants.{MOST_BYTES}
+use Rattle.cer_base.specs.declared.limits.TheConstants.{MOST_BYTES}
 use Rattle.command_base.specs.Accepted.{Accepts}
 use Rattle.command_base.specs.Ending.{Outside, FileStop, TaskEnded}
 use Rattle.command_base.specs.ReadLines.{AreReadLines, TookAtEnd}

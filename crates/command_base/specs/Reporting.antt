@@ -7,7 +7,7 @@ use Rattle.cel_terms.specs.declared.Query.{Query}
 use Rattle.event_run.specs.Runs.{End, RunsTo}
 use Rattle.stream_answers.specs.AtEnd.{text_said}
 use Rattle.stream_answers.specs.RunEnds.{EndClaims}
-use Rattle.command_base.specs.declared.files.TheConstants.{MOST_BYTES}
+use Rattle.cer_base.specs.declared.limits.TheConstants.{MOST_BYTES}
 use Rattle.command_base.specs.Accepted.{SaysOf}
 use Rattle.command_base.specs.ReadLines.{whole_said}
 use Rattle.command_base.specs.Tasks.{Task}

@@ -13,9 +13,6 @@ use std::alloc::Global;
 /// The most bytes of a file that are read: one more than a query text may have.
 pub const MOST_READ: usize = LONGEST_TEXT + 1;
 
-/// So many bytes of events, or of a script, are too many for a command that takes no other number.
-pub const MOST_BYTES: u64 = 1_099_511_627_776;
-
 /// The most bytes that one read asks for.
 const PIECE: usize = 65_536;
 

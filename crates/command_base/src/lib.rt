@@ -14,7 +14,7 @@ use cer_base::{Location, Text};
 use checkpoint_text::CheckpointFault;
 use event_reader::EventFault;
 pub use fault_notes::File;
-pub use files::{MOST_BYTES, MOST_READ};
+pub use files::MOST_READ;
 pub use opening::{Stop, leaving, open, stop_of, take_whole};
 pub use queries::{read_accepted, read_engine};
 

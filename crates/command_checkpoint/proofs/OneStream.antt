@@ -11,7 +11,7 @@ use Rattle.event_run.specs.Runs.{RunStop, RunsAfter}
 use Rattle.event_run.proofs.ForCallers.{one_run_after_of_trees}
 use Rattle.checkpoint_text.specs.declared.history.EventAt.{EventAt}
 use Rattle.checkpoint_text.specs.declared.history.History.{History}
-use Rattle.checkpoint_text.specs.declared.reading.TheConstants.{MOST_BYTES}
+use Rattle.cer_base.specs.declared.limits.TheConstants.{MOST_BYTES}
 use Rattle.checkpoint_text.specs.Checkpoints.{checkpoint_of}
 use Rattle.checkpoint_text.specs.Histories.{AreAscendingFrom}
 use Rattle.checkpoint_text.specs.Spelling.{IsHistory}

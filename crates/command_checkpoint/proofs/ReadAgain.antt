@@ -25,7 +25,7 @@ use Rattle.event_run.proofs.FirstFalls.{not_both}
 use Rattle.checkpoint_text.specs.declared.clocks.Fall.{Fall}
 use Rattle.checkpoint_text.specs.declared.history.EventAt.{EventAt}
 use Rattle.checkpoint_text.specs.declared.numbers.TheConstants.{MOST_POSITIONS}
-use Rattle.checkpoint_text.specs.declared.reading.TheConstants.{MOST_BYTES}
+use Rattle.cer_base.specs.declared.limits.TheConstants.{MOST_BYTES}
 use Rattle.checkpoint_text.specs.QueryClocks.{clock_at, is_back}
 use Rattle.checkpoint_text.specs.LastClocks.{any_back, fall_of, fall_or, first_back}
 use Rattle.checkpoint_text.specs.Checkpoints.{checkpoint_of}

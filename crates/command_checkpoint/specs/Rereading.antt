@@ -4,7 +4,7 @@ use Rattle.stream_schema.specs.Types.{Declared, IsWellDeclared}
 use Rattle.cel_terms.specs.declared.Query.{Query}
 use Rattle.cel_terms.specs.Checked.{IsChecked}
 use Rattle.checkpoint_text.specs.declared.numbers.TheConstants.{MOST_POSITIONS}
-use Rattle.checkpoint_text.specs.declared.reading.TheConstants.{MOST_BYTES}
+use Rattle.cer_base.specs.declared.limits.TheConstants.{MOST_BYTES}
 use Rattle.checkpoint_text.specs.Checkpoints.{checkpoint_of}
 use Rattle.checkpoint_text.specs.KeepLaws.{placed_lines, kept_lines, told_stream}
 use Rattle.command_checkpoint.specs.Saved.{IsCheckpointOf}

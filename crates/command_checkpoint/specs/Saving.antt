@@ -6,7 +6,7 @@ use Rattle.stream_answers.specs.Streams.{EventsRequest}
 use Rattle.command_words.specs.declared.SaveWords.{SaveWords}
 use Rattle.command_base.specs.Reporting.{Reporting, reporting_task}
 use Rattle.command_base.specs.Tasks.{Task}
-use Rattle.command_base.specs.declared.files.TheConstants.{MOST_BYTES}
+use Rattle.cer_base.specs.declared.limits.TheConstants.{MOST_BYTES}
 use Rattle.command_checkpoint.specs.Saved.{IsCheckpointOf}
 
 -- what is asked where a checkpoint is to be written

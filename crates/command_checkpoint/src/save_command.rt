@@ -8,8 +8,9 @@ ghost use Rattle.command_checkpoint.specs.Saving.{save_asked, save_task};
 
 use crate::saving::save_events;
 use ceql_parser::Accepted;
+use cer_base::limits::MOST_BYTES;
 use cer_outside::{Host, Sink, Source};
-use command_base::{File, MOST_BYTES, Stop, open, read_accepted, stop_of};
+use command_base::{File, Stop, open, read_accepted, stop_of};
 use command_words::SaveWords;
 use std::alloc::Global;
 

@@ -6,7 +6,7 @@ use Rattle.cer_base.specs.Answers.{OnFault}
 use Rattle.event_run.specs.declared.RunFault.{RunFault}
 use Rattle.event_run.specs.declared.RunFault.TheVariants as run
 use Rattle.event_run.specs.Listing.{StopsBy}
-use Rattle.command_base.specs.declared.files.TheConstants.{MOST_BYTES}
+use Rattle.cer_base.specs.declared.limits.TheConstants.{MOST_BYTES}
 use Rattle.stream_answers.specs.Gathering.{stream_fault}
 use Rattle.command_explain.specs.ExplanationOutput.{ExplainRequest, WroteExplanation}
 

@@ -9,7 +9,7 @@ use Rattle.event_run.specs.Runs as stop
 use Rattle.stream_answers.specs.declared.StreamFault.{StreamFault}
 use Rattle.stream_answers.specs.AtEnd.{text_said}
 use Rattle.stream_answers.specs.RunEnds.{EndClaims, ByEnd}
-use Rattle.command_base.specs.declared.files.TheConstants.{MOST_BYTES}
+use Rattle.cer_base.specs.declared.limits.TheConstants.{MOST_BYTES}
 use Rattle.command_words.specs.declared.Question.{Question}
 use Rattle.command_explain.specs.Explanations.{IsExplanation}
 

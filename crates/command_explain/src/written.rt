@@ -5,10 +5,10 @@ ghost use Rattle.command_explain.specs.ExplanationOutput.{WroteExplanation};
 
 use crate::explanation::explanation;
 use cel_terms::Query;
+use cer_base::limits::MOST_BYTES;
 use cer_base::{Memory, OrMemory};
 use cer_outside::writing::put_all;
 use cer_outside::{Sink, Source, WriteFault};
-use command_base::MOST_BYTES;
 use command_words::Question;
 use event_run::read_events;
 use std::alloc::Global;

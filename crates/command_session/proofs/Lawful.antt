@@ -8,7 +8,7 @@ use Rattle.stream_answers.proofs.Portions.{prefix_of_all}
 use Rattle.command_words.specs.declared.SessionWords.{SessionWords}
 use Rattle.command_base.proofs.Lawful.{IsLawful}
 use Rattle.command_base.proofs.StepClauses.{Forgets}
-use Rattle.command_base.specs.declared.files.TheConstants.{MOST_BYTES}
+use Rattle.cer_base.specs.declared.limits.TheConstants.{MOST_BYTES}
 use Rattle.command_session.specs.Played.{ScriptWrites, ScriptBegins, WroteSteps, session_task}
 use Rattle.command_session.specs.StepCounts.{script_asked, session_steps}
 use Rattle.command_session.proofs.StopsOnce.{stops_once, whole_begins}

@@ -16,7 +16,7 @@ use Rattle.command_base.specs.Ending.{Outside, FileStop, TaskEnded}
 use Rattle.command_base.proofs.Told.{not_missing, text_not_missing, source_told, text_told, rest_of}
 use Rattle.command_base.proofs.Lawful.{takes_accepted}
 use Rattle.command_base.proofs.Ends.{Meets, two_files_ended}
-use Rattle.command_base.specs.declared.files.TheConstants.{MOST_BYTES}
+use Rattle.cer_base.specs.declared.limits.TheConstants.{MOST_BYTES}
 use Rattle.command_session.specs.Scripts.{PlaysTo, BeginsPlay, WritesRead, WroteOver, play_said}
 use Rattle.command_session.specs.Played.{WroteSteps, session_task}
 use Rattle.command_session.specs.StepCounts.{script_asked}

@@ -8,7 +8,7 @@ use Rattle.stream_answers.specs.RunEnds.{EndClaims}
 use Rattle.command_words.specs.declared.SessionWords.{SessionWords}
 use Rattle.command_base.specs.Accepted.{SaysOf}
 use Rattle.command_base.specs.Tasks.{Task}
-use Rattle.command_base.specs.declared.files.TheConstants.{MOST_BYTES}
+use Rattle.cer_base.specs.declared.limits.TheConstants.{MOST_BYTES}
 use Rattle.command_session.specs.Scripts.{PlaysTo, BeginsPlay, WritesRead}
 
 -- the bytes are those of the steps that a session makes by the script over the text's queries, which stops so

@@ -6,7 +6,7 @@ use Rattle.cel_terms.specs.declared.Query.{Query}
 use Rattle.stream_answers.specs.Streams.{EventsRequest}
 use Rattle.command_words.specs.declared.SessionWords.{SessionWords}
 use Rattle.command_base.specs.StepCounts.{Counts, counts_of_files}
-use Rattle.command_base.specs.declared.files.TheConstants.{MOST_BYTES}
+use Rattle.cer_base.specs.declared.limits.TheConstants.{MOST_BYTES}
 use Rattle.command_session.specs.Turns.{CountsTurns, CountsBegun, TookFirst}
 
 -- what is asked of a script

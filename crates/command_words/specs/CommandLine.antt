@@ -7,6 +7,7 @@ use Rattle.std.specs.Str.{bytes_eq}
 use Rattle.std.specs.Str.Parse.{digits_value, without_leading_plus}
 use Rattle.clap.specs.ValueTests.{is_unsigned_in}
 use Rattle.clap.specs.Words.{Kinds, Row, Text, all_of, fault_of, first_of, one_of, subcommand_of}
+use Rattle.cer_base.specs.declared.limits.TheConstants.{MOST_BYTES}
 use Rattle.answer_text.specs.declared.Order.{Order}
 use Rattle.answer_text.specs.declared.Order.TheVariants.{Walk, Sorted}
 use Rattle.command_words.specs.declared.Command.{Command}
@@ -48,7 +49,7 @@ run_with rows order = Run (record {
   events = text_in (codes "events") rows;
   order = order;
   compact_every = number_under (codes "compact-every") rows;
-  most_bytes = number_in 1099511627776 (codes "max-bytes") rows;
+  most_bytes = number_in MOST_BYTES (codes "max-bytes") rows;
 })
 
 -- what was found after `run`, as a run; none where the order is of neither name
@@ -71,7 +72,7 @@ reorder_with rows order = Reorder (record {
   late = number_in 0 (codes "late") rows;
   order = order;
   compact_every = number_under (codes "compact-every") rows;
-  most_bytes = number_in 1099511627776 (codes "max-bytes") rows;
+  most_bytes = number_in MOST_BYTES (codes "max-bytes") rows;
 })
 
 -- what was found after `reorder`; none where the order is of neither name
@@ -97,7 +98,7 @@ save_in rows = Save (record { queries = text_in (codes "queries") rows; events =
 
 -- how many bytes are too many; clap takes no number above this bound
 abbrev pub bytes_in : List Row → ℕ
-bytes_in rows = min (number_in 1099511627776 (codes "max-bytes") rows) 4611686018427387904
+bytes_in rows = min (number_in MOST_BYTES (codes "max-bytes") rows) 4611686018427387904
 
 abbrev pub resume_with : List Row → Order → Command
 resume_with rows order = Resume (record {

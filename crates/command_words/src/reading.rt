@@ -11,11 +11,10 @@ use crate::{
     SessionWords, Usage,
 };
 use answer_text::Order;
+use cer_base::limits::MOST_BYTES;
 use cer_base::{Listed, Memory, OrMemory, Text};
 use clap::ArgMatches;
 use std::alloc::Global;
-
-const MOST_BYTES: u64 = 1099511627776;
 
 /// The greatest number of `--max-bytes`: 2^62.
 const GREATEST_BYTES: u64 = 4611686018427387904;

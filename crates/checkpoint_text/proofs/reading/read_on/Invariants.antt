@@ -1,6 +1,6 @@
 use Rattle.std.proofs.Common.{◌≡◌, ℕ, ◌+◌, ◌≤◌, List, [], false}
 use Rattle.event_reader.specs.LineReaders.{HasGiven}
-use Rattle.checkpoint_text.specs.declared.reading.TheConstants.{MOST_BYTES}
+use Rattle.cer_base.specs.declared.limits.TheConstants.{MOST_BYTES}
 use Rattle.checkpoint_text.specs.LastClocks.{last_clocks}
 use Rattle.checkpoint_text.specs.ReaderAnswers.{HasTold, SomeTold}
 use Rattle.checkpoint_text.proofs.reading.read_on.Given as goal

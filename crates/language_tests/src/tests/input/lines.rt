@@ -4,6 +4,7 @@ ghost use Rattle.event_reader.specs.LineReaders.{HasTold};
 use crate::tests::input::events::answer;
 use crate::tests::same;
 use cer_base::Memory;
+use cer_base::limits::MOST_BYTES;
 use cer_outside::Source;
 use cer_outside::sources::MemSource;
 use event_reader::{LineFault, Lines, Next};
@@ -185,7 +186,7 @@ fn end_of_long(
 ) -> Result<String, AllocError> {
     let mut bytes = with_xs(alloc, front.as_bytes(), count)?;
     bytes.extend_from_slice(end.as_bytes())?;
-    let words = lines_of(alloc, bytes.as_slice(), piece, 0, 1 << 40)?;
+    let words = lines_of(alloc, bytes.as_slice(), piece, 0, MOST_BYTES)?;
     last_part(alloc, words.as_str())
 }
 

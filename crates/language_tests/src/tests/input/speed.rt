@@ -3,6 +3,7 @@
 
 use crate::tests::input::events::five_types;
 use cer_base::Memory;
+use cer_base::limits::MOST_BYTES;
 use cer_outside::Source;
 use cer_outside::sources::SureSource;
 use event_reader::{Lines, Next, read_event};
@@ -26,7 +27,7 @@ fn event_lines(alloc: Global, count: usize, quote: &str) -> Result<String, Alloc
 
 // Reads all lines, and says how many there were.
 fn count_lines<Q: Source>(alloc: Global, source: &mut Q) -> Result<u64, Memory> {
-    let mut lines = Lines::new(alloc, 1 << 40)?;
+    let mut lines = Lines::new(alloc, MOST_BYTES)?;
     loop {
         match lines.next(source) {
             Ok(Next::Line) => {}
@@ -37,7 +38,7 @@ fn count_lines<Q: Source>(alloc: Global, source: &mut Q) -> Result<u64, Memory> 
 
 // Reads all lines and their events, and says how many lines came before the first that is no event.
 fn count_events<Q: Source>(alloc: Global, schema: &Schema, source: &mut Q) -> Result<u64, Memory> {
-    let mut lines = Lines::new(alloc, 1 << 40)?;
+    let mut lines = Lines::new(alloc, MOST_BYTES)?;
     loop {
         match lines.next(source) {
             Ok(Next::Line) if is_event(alloc, schema, &lines) => {}

@@ -6,6 +6,8 @@ pub mod Changes
 pub mod Drafted
 -- changes that stand above a tree
 pub mod Above
+-- a leaf with a name of its own that nothing above it reads
+pub mod Apart
 -- the tree of a shape, by the lists in it
 pub mod Shaped
 -- how the leaves of a chain and of a choice are numbered

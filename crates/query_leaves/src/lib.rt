@@ -17,6 +17,7 @@ mod leaf_of;
 mod leaf_under;
 mod numbering;
 mod occurrence;
+mod own_name;
 mod query;
 mod shared_tests;
 mod test_of;

@@ -10,6 +10,7 @@ ghost use Rattle.query_leaves.specs.Numbering.{HasNumbered, shape_part, occurren
 use crate::draft::{Draft, DraftPart};
 use crate::leaf_under::{LeafOfType, leaf_for};
 use crate::occurrence::Change;
+use crate::own_name::type_apart;
 use crate::{Leaf, Shape, ShapePart};
 use cer_base::Memory;
 use std::alloc::Global;
@@ -155,8 +156,12 @@ pub fn numbered<'q>(
                 part: Box::new(alloc, part)?,
             })
         }
-        Draft::Changed { part, changes } => {
-            numbered_under(alloc, schema, part, changes.as_slice(), above, list)
-        }
+        Draft::Changed { part, changes } => match type_apart(part, changes.as_slice(), above) {
+            Some(name) => {
+                let number = numbered_leaf(alloc, schema, name, above, list, made)?;
+                Ok(Shape::Leaf(number))
+            }
+            None => numbered_under(alloc, schema, part, changes.as_slice(), above, list),
+        },
     }
 }

@@ -143,7 +143,7 @@ fn some_is(names: &[&str], name: &str) -> bool
 
 /// Whether one of the names has this text.
 #[tactic(auto, using(crate::proofs::Naming::listed_is))]
-fn lists(listed: &[Name], name: &str) -> bool
+pub fn lists(listed: &[Name], name: &str) -> bool
     ensures { result ≡ lists_name (map (λ n. n.text) listed.now) name.now }
 {
     some_has_text(listed, name)

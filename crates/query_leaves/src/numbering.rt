@@ -66,7 +66,9 @@ fn numbered_each<'q>(
     Ok(shapes)
 }
 
-/// Puts the leaf of the type under the changes at the end of the list, and answers its number there.
+/// Puts the leaf of the type under the changes at the end of the list, and answers its number there, in a
+/// call of its own so that trees take no stack for it.
+#[inline(never)]
 fn numbered_leaf<'q>(
     alloc: Global,
     schema: &Schema,

@@ -68,6 +68,7 @@ fn own_name<'q>(changes: &[Change<'q>]) -> Option<&'q Name>
 
 /// The name of the type, where the part is a leaf to which the changes give a name that no change above
 /// reads.
+#[inline(never)]
 pub fn type_apart<'q>(
     part: &Draft<'q>,
     changes: &[Change<'q>],

@@ -23,10 +23,10 @@ takes_then schema queries before (e ∷ gone) later end events all halt (inl x) 
 takes_then schema queries before (e ∷ gone) later end events all halt (inr x) rest = absurd (not_stopped schema queries before e.1 e.0 x.1)
 
 -- and no more
-pub takes_end : (schema : Declared) (queries : List Query) (gone : List NumberedEvent) (end : RunStop) (events : List StreamEvent) → TakesOn schema queries [] gone stop.End events stop.End → TakesOn schema queries [] gone end events end
-takes_end schema queries gone end events taken =
-    let P : List NumberedEvent → Type 0 = λ l. TakesOn schema queries [] l end events end in
-    subst P (append-nil gone) (takes_then schema queries [] gone [] end events events end taken (refl, refl))
+pub takes_end : (schema : Declared) (queries : List Query) (before : List StreamEvent) (gone : List NumberedEvent) (end : RunStop) (events : List StreamEvent) → TakesOn schema queries before gone stop.End events stop.End → TakesOn schema queries before gone end events end
+takes_end schema queries before gone end events taken =
+    let P : List NumberedEvent → Type 0 = λ l. TakesOn schema queries before l end events end in
+    subst P (append-nil gone) (takes_then schema queries before gone [] end events events end taken (refl, refl))
 
 -- Some events and a stop are those that are taken, after the events before.
 pub record SomeTakes (schema : Declared) (queries : List Query) (before : List StreamEvent) (list : List NumberedEvent) (end : RunStop) : Type 0 where

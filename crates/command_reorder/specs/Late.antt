@@ -35,6 +35,17 @@ pub record LateRequest : Type 0 where
 abbrev pub when : LateRequest → NumberedEvent → ℤ
 when a e = attribute_clock a.schema a.clock e.1
 
+-- How a file is fed: what its lines are read by, the clock of an event, by how much one may come late, and how many bytes are too many.
+pub record Feed : Type 0 where
+  pub schema : Declared
+  pub clock : NumberedEvent → ℤ
+  pub late : ℕ
+  pub most_bytes : ℕ
+
+-- what is asked, but for the answers
+abbrev pub feed_for : LateRequest → Feed
+feed_for a = record { schema = a.schema; clock = when a; late = a.late; most_bytes = a.most_bytes }
+
 -- The events that come in time, in the order of their lines, and why there are no more.
 pub record LateEvents : Type 0 where
   pub put : List NumberedEvent
@@ -43,30 +54,30 @@ pub record LateEvents : Type 0 where
 -- the event is one more, unless it comes too late
 abbrev pub unless_late : ℕ → List NumberedEvent → LateEvents → Option TooLate → LateEvents
 unless_late number before more None = more
-unless_late number before more (Some f) = record { put = before; stop = stop.Event number (event.TooLate f.high f.now) }
+unless_late number before more (Some late) = record { put = before; stop = stop.Event number (event.TooLate late.high late.now) }
 
 -- what follows from a line of this number with this event, none, or a refusal
-abbrev pub fed_after_line : LateRequest → ℕ → List NumberedEvent → LateEvents → (NumberedEvent → LateEvents) → Result (Option StreamEvent) EventFault → LateEvents
-fed_after_line a number before skip more (Ok None) = skip
-fed_after_line a number before skip more (Ok (Some next)) =
-    unless_late number before (more (number, next)) (lateness (greatest (when a) before) a.late (when a (number, next)))
-fed_after_line a number before skip more (Err refusal) = record { put = before; stop = stop.Event number refusal }
+abbrev pub fed_after_line : Feed → ℕ → List NumberedEvent → LateEvents → (NumberedEvent → LateEvents) → Result (Option StreamEvent) EventFault → LateEvents
+fed_after_line f number before skip more (Ok None) = skip
+fed_after_line f number before skip more (Ok (Some next)) =
+    unless_late number before (more (number, next)) (lateness (greatest f.clock before) f.late (f.clock (number, next)))
+fed_after_line f number before skip more (Err refusal) = record { put = before; stop = stop.Event number refusal }
 
 -- after these events come these lines, the first of which has this number, and then this fault
-abbrev pub fed_from : LateRequest → ℕ → List NumberedEvent → List (List ℕ) → Option LineFault → LateEvents
-fed_from a number before [] fault = record { put = before; stop = stop_of fault }
-fed_from a number before (text ∷ texts) fault =
-    fed_after_line a number before (fed_from a (number + 1) before texts fault) (λ e. fed_from a (number + 1) (before ++ e ∷ []) texts fault) (event_of_line a.schema text)
+abbrev pub fed_from : Feed → ℕ → List NumberedEvent → List (List ℕ) → Option LineFault → LateEvents
+fed_from f number before [] fault = record { put = before; stop = stop_of fault }
+fed_from f number before (text ∷ texts) fault =
+    fed_after_line f number before (fed_from f (number + 1) before texts fault) (λ e. fed_from f (number + 1) (before ++ e ∷ []) texts fault) (event_of_line f.schema text)
 
 -- what a file of these bytes feeds
-abbrev pub fed : LateRequest → List ℕ → LateEvents
-fed a bytes = fed_from a 1 [] (file_lines a.most_bytes bytes).texts (file_lines a.most_bytes bytes).fault
+abbrev pub fed : Feed → List ℕ → LateEvents
+fed f bytes = fed_from f 1 [] (file_lines f.most_bytes bytes).texts (file_lines f.most_bytes bytes).fault
 
 -- the events that may go, in the order in which they go: at the end of the file all by their clocks, else those before which no event can come that is not too late
-abbrev pub let_go : LateRequest → List NumberedEvent → RunStop → List NumberedEvent
-let_go a put stop.End = sorted (when a) put
-let_go a put (stop.Event line refusal) = released (when a) a.late put
-let_go a put (stop.InputTooLong taken) = released (when a) a.late put
+abbrev pub let_go : Feed → List NumberedEvent → RunStop → List NumberedEvent
+let_go f put stop.End = sorted f.clock put
+let_go f put (stop.Event line refusal) = released f.clock f.late put
+let_go f put (stop.InputTooLong taken) = released f.clock f.late put
 
 -- After the events before, the queries take these in turn, up to the first with which the clock of a query falls, which stops the run at its own line; where none does, the run ends so.
 abbrev pub TakesOn : Declared → List Query → List StreamEvent → List NumberedEvent → RunStop → List StreamEvent → RunStop → Type 0
@@ -75,10 +86,14 @@ TakesOn schema queries before (e ∷ later) end events halt =
     (NoneFallsBack schema queries before e.1 × TakesOn schema queries (before ++ e.1 ∷ []) later end events halt)
     ⊎ ((events ≡ before) × StopsInTime schema queries before e.1 e.0 halt)
 
+-- The same of a file of these bytes: after the earlier events the queries take those of the file, these are all, and they stop so.
+abbrev pub TakesFed : Feed → List Query → List StreamEvent → List ℕ → List StreamEvent → RunStop → Type 0
+TakesFed f queries earlier bytes events halt = TakesOn f.schema queries earlier (let_go f (fed f bytes).put (fed f bytes).stop) (fed f bytes).stop events halt
+
 -- The queries take these events of a file of these bytes, and stop so.
 abbrev pub RunsLate : LateRequest → List ℕ → List StreamEvent → RunStop → Type 0
-RunsLate a bytes events halt = TakesOn a.schema a.queries [] (let_go a (fed a bytes).put (fed a bytes).stop) (fed a bytes).stop events halt
+RunsLate a bytes events halt = TakesFed (feed_for a) a.queries [] bytes events halt
 
 -- the lines are good, and these are their events: none is refused, and none comes too late
-abbrev pub AreFed : LateRequest → List (List ℕ) → List NumberedEvent → Type 0
-AreFed a texts put = fed_from a 1 [] texts None ≡ record { put = put; stop = stop.End }
+abbrev pub AreFed : Feed → List (List ℕ) → List NumberedEvent → Type 0
+AreFed f texts put = fed_from f 1 [] texts None ≡ record { put = put; stop = stop.End }

@@ -2,6 +2,7 @@
 use Rattle.std.specs.Prelude.{ℕ, List, [], Option, Some, None, Result}
 use Rattle.cer_base.specs.declared.OrMemory.{OrMemory}
 use Rattle.stream_schema.specs.declared.Event.{Event as StreamEvent}
+use Rattle.cel_terms.specs.declared.Query.{Query}
 use Rattle.event_reader.specs.LineReaders.{IsCutOff}
 use Rattle.query_engine.specs.Engine.{EngineState}
 use Rattle.event_run.specs.Runs as stop
@@ -9,8 +10,8 @@ use Rattle.reorder_gate.specs.Releasing.{released}
 use Rattle.stream_answers.specs.declared.StreamFault.{StreamFault}
 use Rattle.stream_answers.specs.declared.RunOptions.{RunOptions}
 use Rattle.stream_answers.specs.RunEnds.{EndClaims, ByEnd}
-use Rattle.stream_answers.specs.Streams.{RunRequest, StandsForTaken, WrotePartBy, said_by}
-use Rattle.command_reorder.specs.Late.{NumberedEvent, LateRequest, when, TakesOn, RunsLate, AreFed}
+use Rattle.stream_answers.specs.Streams.{RunRequest, StandsForTaken, said_by}
+use Rattle.command_reorder.specs.Late.{NumberedEvent, LateRequest, Feed, feed_for, TakesOn, RunsLate, AreFed}
 
 -- what is asked of the answers, but for the clock
 abbrev pub asked : LateRequest → RunRequest
@@ -25,22 +26,21 @@ abbrev pub StandsForLate : Option ℕ → (ℕ → ℕ) → LateRequest → List
 StandsForLate every peaks a lines engine = StandsForTaken (RunsLate a) (record { every = every; first = 0 }) peaks lines engine
 
 -- All lines that end among the bytes that are no longer left are good, and first lines of the file, none too long and none past the bytes that it may have;
--- these are the events of them before which none can come that is not too late, in their order, and with none of them a clock falls.
-pub record AreReleasedBefore (a : LateRequest) (bytes rest : List ℕ) (events : List StreamEvent) : Type 0 where
+-- after the earlier events come those of them before which none can come that is not too late, in their order, and with none of them a clock falls.
+pub record AreReleasedBefore (f : Feed) (queries : List Query) (earlier : List StreamEvent) (bytes rest : List ℕ) (events : List StreamEvent) : Type 0 where
   pub texts : List (List ℕ)
-  pub cut : IsCutOff a.most_bytes bytes rest texts
+  pub cut : IsCutOff f.most_bytes bytes rest texts
   pub put : List NumberedEvent
-  pub good : AreFed a texts put
-  pub taken : TakesOn a.schema a.queries [] (released (when a) a.late put) stop.End events stop.End
+  pub good : AreFed f texts put
+  pub taken : TakesOn f.schema queries earlier (released f.clock f.late put) stop.End events stop.End
 
 -- the same of a source that tells what it has left
-abbrev pub AreReleasedRead : LateRequest → Option (List ℕ) → List ℕ → List StreamEvent → Type 0
-AreReleasedRead a None bytes events = ⊥
-AreReleasedRead a (Some rest) bytes events = AreReleasedBefore a bytes rest events
+abbrev pub ReadsFed : Feed → List Query → List StreamEvent → Option (List ℕ) → List ℕ → List StreamEvent → Type 0
+ReadsFed f queries earlier None bytes events = ⊥
+ReadsFed f queries earlier (Some rest) bytes events = AreReleasedBefore f queries earlier bytes rest events
 
--- the sink took a part of bytes, and where the source told its own, these are the answers over its events
-abbrev pub WroteLatePart : LateRequest → Option (List ℕ) → (List ℕ → Type 0) → Type 0
-WroteLatePart a source Took = WrotePartBy (RunsLate a) 0 (asked a) source Took
+abbrev pub AreReleasedRead : LateRequest → Option (List ℕ) → List ℕ → List StreamEvent → Type 0
+AreReleasedRead a left bytes events = ReadsFed (feed_for a) a.queries [] left bytes events
 
 -- all answers up to the stop; those over what the lines that were read released; a proper part after a fault of the sink; a first part where memory ran out
 abbrev pub late_said : LateRequest → Option (List ℕ) → Option (List ℕ) → Option (List ℕ) → EndClaims

@@ -2,5 +2,5 @@ pub mod Late
 pub mod LateOutput
 pub mod LateSteps
 pub mod Laws
-pub mod LateProgress
+pub mod Gated
 pub mod Reordered

@@ -1,13 +1,13 @@
 //! One more line of a file, whose event is put into a gate.
 
-ghost use Rattle.std.specs.Prelude.{◌≡◌, ◌+◌, ◌≤◌, ℕ, List, Option, false, Some, Ok, length};
+ghost use Rattle.std.specs.Prelude.{◌≡◌, ◌+◌, ◌≤◌, ℕ, List, false, Some, Ok, length};
 ghost use Rattle.stream_schema.specs.Events.{IsOfSchema};
 ghost use Rattle.stream_schema.specs.declared.Event.{Event};
 ghost use Rattle.event_reader.specs.Events.{event_of_line};
+ghost use Rattle.event_run.specs.Taking.{HasSourceCause};
 ghost use Rattle.reorder_gate.specs.Gates.{StandsFor};
-ghost use Rattle.stream_answers.specs.RunEnds.{HasReadCause, HasWriteCause};
-ghost use Rattle.command_reorder.specs.Late.{LateRequest};
-ghost use Rattle.command_reorder.specs.LateProgress.{AfterPut, AfterText, AreOfSchema, HasFedOf, IsGateOf, TakesRoom};
+ghost use Rattle.command_reorder.specs.Late.{Feed};
+ghost use Rattle.command_reorder.specs.Gated.{AfterPut, AfterText, AreOfSchema, HasFed, IsGateOf, TakesRoom};
 
 use cer_base::OrMemory;
 use cer_outside::Source;
@@ -15,7 +15,6 @@ use event_reader::{EventFault, Lines, Next, read_event};
 use event_run::{RunFault, fault_of};
 use reorder_gate::{Gate, TooLate};
 use std::alloc::Global;
-use stream_answers::{StreamFault, stream_fault};
 use stream_schema::{Event, Schema};
 
 /// Reads the next line and puts its event, where it has one, into the gate, which is not finished.
@@ -27,33 +26,32 @@ pub fn put_line<Q: Source>(
     gate: &mut Gate,
     schema: &Schema,
     source: &mut Q,
-) -> Result<bool, OrMemory<StreamFault>>
+) -> Result<bool, OrMemory<RunFault>>
     requires open { lines.old.closed ≡ false }
     requires going { gate.old.is_finished ≡ false }
     requires of_schema { AreOfSchema schema.now gate.old }
-    ensures put { (a : LateRequest) (told : Option (List ℕ)) (put gone : List (ℕ × Event))
-        → IsGateOf a gate.old → a.schema ≡ schema.now → a.most_bytes ≡ lines.old.budget
-        → StandsFor gate.old put gone → HasFedOf a told lines.old (Q.left source.old) put
-        → AfterPut a told lines.new (Q.left source.new) gate.new put gone result }
-    ensures sits { (a : LateRequest) → IsGateOf a gate.old → IsGateOf a gate.new }
+    ensures put { (f : Feed) (bytes : List ℕ) (put gone : List (ℕ × Event))
+        → IsGateOf f gate.old → f.schema ≡ schema.now → f.most_bytes ≡ lines.old.budget
+        → StandsFor gate.old put gone → HasFed f lines.old bytes (Q.left source.old) put
+        → AfterPut f lines.new (Q.left source.new) gate.new bytes put gone result }
+    ensures clock { (f : Feed) → IsGateOf f gate.old → IsGateOf f gate.new }
     ensures going { gate.new.is_finished ≡ false }
     ensures of_schema { AreOfSchema schema.now gate.new }
     ensures budget { lines.new.budget ≡ lines.old.budget }
     ensures room { TakesRoom lines.old lines.new gate.old gate.new result }
-    ensures cause { HasReadCause (Q.faults source.old) (Q.faults source.new) result }
-    ensures write_cause { (now : ℕ) → HasWriteCause now now result }
+    ensures cause { HasSourceCause (Q.faults source.old) (Q.faults source.new) result }
 {
     match lines.next(source) {
         Ok(Next::Line) => {}
         Ok(Next::End) => return Ok(false),
-        Err(fault) => return Err(stream_fault(OrMemory::Fault(fault_of(fault)))),
+        Err(fault) => return Err(OrMemory::Fault(fault_of(fault))),
     }
     match put_text(alloc, lines, gate, schema) {
         Ok(()) => Ok(true),
         Err(OrMemory::Memory) => Err(OrMemory::Memory),
         Err(OrMemory::Fault(fault)) => {
             let line = lines.number();
-            Err(stream_fault(OrMemory::Fault(RunFault::Event { line, fault })))
+            Err(OrMemory::Fault(RunFault::Event { line, fault }))
         }
     }
 }
@@ -67,10 +65,10 @@ fn put_text(
 ) -> Result<(), OrMemory<EventFault>>
     requires going { gate.old.is_finished ≡ false }
     requires of_schema { AreOfSchema schema.now gate.old }
-    ensures put { (a : LateRequest) (put gone : List (ℕ × Event)) → IsGateOf a gate.old
-        → a.schema ≡ schema.now → StandsFor gate.old put gone
-        → AfterText a lines.now.number lines.now.text gate.new put gone result }
-    ensures sits { (a : LateRequest) → IsGateOf a gate.old → IsGateOf a gate.new }
+    ensures put { (f : Feed) (put gone : List (ℕ × Event)) → IsGateOf f gate.old
+        → f.schema ≡ schema.now → StandsFor gate.old put gone
+        → AfterText f lines.now.number lines.now.text gate.new put gone result }
+    ensures clock { (f : Feed) → IsGateOf f gate.old → IsGateOf f gate.new }
     ensures going { gate.new.is_finished ≡ false }
     ensures of_schema { AreOfSchema schema.now gate.new }
     ensures buffer { length gate.new.events ≤ length gate.old.events + 1 }
@@ -92,11 +90,11 @@ fn put_event(
     requires going { gate.old.is_finished ≡ false }
     requires of_schema { AreOfSchema schema.now gate.old }
     requires one_of_schema { IsOfSchema schema.now event }
-    ensures put { (a : LateRequest) (text : List ℕ) (put gone : List (ℕ × Event))
-        → IsGateOf a gate.old
-        → event_of_line a.schema text ≡ Ok (Some event) → StandsFor gate.old put gone
-        → AfterText a line text gate.new put gone result }
-    ensures sits { (a : LateRequest) → IsGateOf a gate.old → IsGateOf a gate.new }
+    ensures put { (f : Feed) (text : List ℕ) (put gone : List (ℕ × Event))
+        → IsGateOf f gate.old
+        → event_of_line f.schema text ≡ Ok (Some event) → StandsFor gate.old put gone
+        → AfterText f line text gate.new put gone result }
+    ensures clock { (f : Feed) → IsGateOf f gate.old → IsGateOf f gate.new }
     ensures going { gate.new.is_finished ≡ false }
     ensures of_schema { AreOfSchema schema.now gate.new }
     ensures buffer { length gate.new.events ≤ length gate.old.events + 1 }

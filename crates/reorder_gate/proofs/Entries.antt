@@ -11,8 +11,8 @@ use Rattle.stream_schema.specs.declared.Event.{Event}
 use Rattle.reorder_gate.specs.declared.gate.ReleaseKey.{ReleaseKey}
 use Rattle.reorder_gate.specs.Sorting.{placed, Ascends}
 use Rattle.reorder_gate.specs.Releasing.{is_due}
-use Rattle.reorder_gate.specs.Gates.{GateState, clock_at}
-use Rattle.reorder_gate.specs.Holding.{any_due, IsKept}
+use Rattle.reorder_gate.specs.Gates.{GateState, clock_at, any_due}
+use Rattle.reorder_gate.specs.Holding.{IsKept}
 use Rattle.reorder_gate.proofs.Placing.{all_by, all_placed, ascends_placed}
 use Rattle.reorder_gate.proofs.Parts.{placed_parts}
 

@@ -8,8 +8,7 @@ use Rattle.stream_schema.specs.declared.Event.{Event}
 use Rattle.reorder_gate.specs.declared.gate.TooLate.{TooLate}
 use Rattle.reorder_gate.specs.Sorting.{placed, sorted, Ascends}
 use Rattle.reorder_gate.specs.Releasing.{raised, is_late, is_due, greatest, IsInTime, released, BeginsWith}
-use Rattle.reorder_gate.specs.Gates.{GateState, clock_at, lateness, with_event, may_go, StandsFor, all_due}
-use Rattle.reorder_gate.specs.Holding.{first_due, any_due}
+use Rattle.reorder_gate.specs.Gates.{GateState, clock_at, lateness, with_event, may_go, StandsFor, all_due, first_due, any_due}
 use Rattle.reorder_gate.proofs.Placing.{onto, all_by, all_append, not_less_test}
 use Rattle.reorder_gate.proofs.OnlyOne.{no_item}
 use Rattle.reorder_gate.proofs.Fronts.{upto_test, not_upto_test, test_upto, keeps_high, placed_behind, one_more_in_time, over, some_highest, one_cut, sorted_splits, all_released, all_kept, front_stays, front_is_released}

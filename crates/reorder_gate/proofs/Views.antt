@@ -5,8 +5,8 @@ use Rattle.std.specs.List.{AllByRecursion}
 use Rattle.stream_schema.specs.declared.Event.{Event}
 use Rattle.reorder_gate.specs.declared.gate.ReleaseKey.{ReleaseKey}
 use Rattle.reorder_gate.specs.Releasing.{raised, is_due}
-use Rattle.reorder_gate.specs.Gates.{GateState, clock_at, lateness, with_event, may_go, StandsFor}
-use Rattle.reorder_gate.specs.Holding.{any_due, IsKept}
+use Rattle.reorder_gate.specs.Gates.{GateState, clock_at, lateness, with_event, may_go, StandsFor, any_due}
+use Rattle.reorder_gate.specs.Holding.{IsKept}
 use Rattle.reorder_gate.proofs.Entries.{turn_cmp, events_with, first_is_due}
 use Rattle.reorder_gate.proofs.Standing.{put_stands, take_stands, none_goes}
 

@@ -1,5 +1,5 @@
 -- What contracts see of a gate, and what it stands for.
-use Rattle.std.specs.Prelude.{◌≡◌, ℕ, ℤ, Bool, true, if◌then◌else◌, List, ◌++◌, Option, Some, None}
+use Rattle.std.specs.Prelude.{◌≡◌, ℕ, ℤ, Bool, true, false, if◌then◌else◌, List, [], ◌∷◌, ◌++◌, Option, Some, None}
 use Rattle.std.specs.List.{AllByRecursion}
 use Rattle.stream_schema.specs.declared.Event.{Event}
 use Rattle.reorder_gate.specs.declared.gate.TooLate.{TooLate}
@@ -31,6 +31,14 @@ with_event g e = record g { high = Some (raised g.high (clock_at g.places e)); e
 -- the event may go: all may at the end, before it those whose clock is at least `late` below the greatest
 abbrev pub may_go : GateState → ℕ × Event → Bool
 may_go g e = if g.is_finished then true else is_due g.late g.high (clock_at g.places e)
+
+abbrev pub first_due : GateState → List (ℕ × Event) → Bool
+first_due g [] = false
+first_due g (e ∷ events) = may_go g e
+
+-- the first of the held events may go
+abbrev pub any_due : GateState → Bool
+any_due g = first_due g g.events
 
 -- The events of the first list were put, in this order and none too late, and those of the second have gone, in this order. These and then the held ones are the sorted events that were put; each that has gone is due.
 pub record StandsFor (g : GateState) (put gone : List (ℕ × Event)) : Type 0 where

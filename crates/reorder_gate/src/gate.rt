@@ -103,8 +103,7 @@ fn raised(high: Option<i64>, now: i64) -> i64
 impl Gate {
     ghost use Rattle.reorder_gate.specs.AttributeClock.{clock_fits, IsClock};
     ghost use Rattle.reorder_gate.specs.Sorting.{Ascends};
-    ghost use Rattle.reorder_gate.specs.Gates.{clock_at, with_event, may_go, StandsFor, all_due};
-    ghost use Rattle.reorder_gate.specs.Holding.{any_due};
+    ghost use Rattle.reorder_gate.specs.Gates.{clock_at, with_event, may_go, any_due, StandsFor, all_due};
 
     /// A gate with nothing put. Its clock is the attribute of this name, which fits the schema, and
     /// an event may come late by `late`.
@@ -211,8 +210,8 @@ impl Gate {
         self.waiting.len()
     }
 
-    /// Whether the first of the held events may go.
-    fn has_due(&self) -> bool
+    /// Whether a held event may go: `take` then gives one.
+    pub fn has_due(&self) -> bool
         ensures { result ≡ any_due self.now }
     {
         match self.waiting.first_key_value() {

@@ -13,6 +13,8 @@ pub mod Growing
 pub mod Compacted
 -- the nodes that follow the windows, from event to event; for callers
 pub mod Windows
+-- a step over the lines of a file; for callers
+pub mod LineSteps
 -- how a run ends; for callers
 pub mod RunEnds
 -- the steps, from event to event and at the end; for callers

@@ -17,34 +17,33 @@ use Rattle.answer_blocks.specs.SinkBytes.{TookBy}
 use Rattle.answer_blocks.specs.RowSteps.{row_delays, HasRowsAt, StopsAmong, WroteRows}
 use Rattle.answer_blocks.proofs.Blocks.{some_blocks_are}
 use Rattle.answer_blocks.proofs.Counting.{delays_both}
-use Rattle.event_reader.specs.LineReaders.{LineReader, HasGiven}
 use Rattle.query_engine.specs.Engine.{EngineState, StandsFor, update_bounds}
 use Rattle.query_engine.specs.Windows.{IsDense}
 use Rattle.query_engine.specs.Counts.{MeetMost, HasFewNodes, event_bound, cursor_bounds}
 use Rattle.query_engine.proofs.Counting.{first_meet_fewer, event_is_bounded, refused_is_bounded, one_query_more, fewer_queries}
 use Rattle.query_engine.proofs.DenseNodes.{dense_has_few}
-use Rattle.event_run.specs.declared.NextEvent.{NextEvent}
-use Rattle.event_run.specs.declared.NextEvent.TheVariants as taken
 use Rattle.event_run.specs.declared.RunFault.{RunFault}
 use Rattle.event_run.specs.declared.RunFault.TheVariants as run
 use Rattle.event_run.specs.Runs.{RunStop, RunsAfter}
 use Rattle.event_run.specs.Runs as stop
-use Rattle.event_run.specs.Taking.{HasTakenAfter, BeginsRunAfter, AfterCall, TakesSteps}
 use Rattle.event_run.specs.Wanting.{OnMemory, AreWantingSteps, WantsSteps}
 use Rattle.output_laws.proofs.After.{rows_after_none, rows_after_grow, rows_after_grow_at_last}
 use Rattle.stream_answers.specs.declared.StreamFault.{StreamFault}
 use Rattle.stream_answers.specs.declared.StreamFault.TheVariants as fault
+use Rattle.stream_answers.specs.declared.events.Step.{Step}
+use Rattle.stream_answers.specs.declared.events.Step.TheVariants as step
+use Rattle.stream_answers.specs.Events.{Begins, Lasts, AfterStep, TakesSteps}
 use Rattle.stream_answers.specs.Gathering.{OutputState, PassesOn, Passed, Finished, stream_fault}
 use Rattle.stream_answers.specs.Streams.{RunRequest}
 use Rattle.stream_answers.specs.Schedules.{Timing, due_by, pace, first_compaction}
-use Rattle.stream_answers.specs.Steps.{compaction_by, compactions, AreBoundedBy, AreOfEvents, CountsTaken, CountsUpTo, CountsAtFaultBy, StepsTaken, CountsAllAfter, CountsAfter, CountsAtFaultAfter, StepsOverAfter}
+use Rattle.stream_answers.specs.Steps.{compaction_by, compactions, AreBoundedBy, AreOfEvents, CountsTaken, CountsUpTo, CountsAtFaultBy, StepsTaken, CountsAllAfter}
 use Rattle.stream_answers.specs.Counting.{Counted, IsCompacted, StepsAtFault, StepsPut}
 use Rattle.stream_answers.proofs.Compacted.{met_here}
 use Rattle.stream_answers.proofs.Growing.{pace_least, paced_first}
 use Rattle.stream_answers.proofs.Portions.{took_none, took_both, took_then_part, part_of_more}
 use Rattle.stream_answers.proofs.Putting.{passed_walk}
 use Rattle.stream_answers.proofs.Wholes.{begins_at_first}
-use Rattle.stream_answers.proofs.Running.{starts, Owing, Came, owes_still, runs_on, begins_so}
+use Rattle.stream_answers.proofs.Running.{begins_first, starts, Owing, Came, owes_still, runs_on, passed_lines, waits_on}
 
 -- PUTTING
 
@@ -139,11 +138,11 @@ module _ (timing : Timing) where
       subst Q q (subst S s (subst O o are))
 
   -- at the beginning
-  abbrev pub counts_start : (earlier : List StreamEvent) (a : RunRequest) (source before : Option (List ℕ)) (reader : LineReader) (buffer : List ℕ) (engine : EngineState) (first now : ℕ) → engine.schema ≡ a.schema → engine.queries ≡ a.queries →
+  abbrev pub counts_start : (Takes : List ℕ → List StreamEvent → RunStop → Type 0) (Has : List ℕ → List StreamEvent → Type 0) (earlier : List StreamEvent) (a : RunRequest) (source before : Option (List ℕ)) (buffer : List ℕ) (engine : EngineState) (first now : ℕ) → engine.schema ≡ a.schema → engine.queries ≡ a.queries →
       StandsFor engine earlier → IsDense engine earlier → AreBoundedBy timing a.schema a.queries earlier [] first now →
-      ((bytes : List ℕ) → HasGiven reader bytes (Some bytes) []) → buffer ≡ [] → Counted timing earlier a source reader source before before buffer engine first now
-  counts_start earlier a source before reader buffer engine first now same alike stands dense bounded given empty = record {
-    running = starts earlier a source before reader buffer engine stands given empty;
+      ((lines : List ℕ) → source ≡ Some lines → Has lines earlier) → ((lines : List ℕ) → Begins Takes lines earlier) → buffer ≡ [] → Counted Takes Has timing earlier a source before before buffer engine first now
+  counts_start Takes Has earlier a source before buffer engine first now same alike stands dense bounded given begins empty = record {
+    running = starts Takes Has earlier a source before buffer engine stands given begins empty;
     rows = [];
     are_rows = rows_after_none (length earlier) a.order a.schema a.queries earlier refl;
     lines = empty;
@@ -158,22 +157,34 @@ module _ (timing : Timing) where
       ∙ (sym (append_assoc written buffer came) ∙ ap (λ (l : List ℕ). l ++ came) so_far)))
 
   -- the answers were put, and the engine is compacted where that is due
-  abbrev pub counts_on : (earlier : List StreamEvent) (a : RunRequest) (source : Option (List ℕ)) (reader : LineReader) (left before middle after : Option (List ℕ)) (buffer now_held : List ℕ) (engine compacted : EngineState) → (o : Owing earlier a source reader left before middle buffer engine) →
+  abbrev pub counts_on : (Takes : List ℕ → List StreamEvent → RunStop → Type 0) (Has : List ℕ → List StreamEvent → Type 0) (earlier : List StreamEvent) (a : RunRequest) (source before middle after : Option (List ℕ)) (buffer now_held : List ℕ) (engine compacted : EngineState) → (o : Owing Takes Has earlier a source before middle buffer engine) →
       (rows more : List Row) (first old had mid seen paused now : ℕ) → engine.schema ≡ a.schema → engine.queries ≡ a.queries → AreRowsAt a.order a.schema 1 a.queries (o.events ++ o.next ∷ []) (length (o.events ++ o.next ∷ []) - 1) more →
       PassesOn middle after buffer (lines_of more) now_held [] → AreRowsAfter (length earlier) a.order a.schema a.queries o.events rows → o.written ++ buffer ≡ lines_of rows →
       AreBoundedBy timing a.schema a.queries o.events rows first (old + had) → seen ≤ old + update_bounds engine → paused ≤ seen + cursor_bounds engine + row_delays more →
       ((most : ℕ → ℕ) → MeetMost a.schema a.queries (o.events ++ o.next ∷ []) most → event_bound (length a.queries) most + mid ≤ had + pace timing.every (length a.queries) most) →
-      IsCompacted timing a (o.events ++ o.next ∷ []) compacted (paused + mid) now → Counted timing earlier a source reader left before after now_held compacted first now
-  counts_on earlier a source reader left before middle after buffer now_held engine compacted o rows more first old had mid seen paused now same alike are_more passed are_rows lines bounded took put paid c =
+      IsCompacted timing a (o.events ++ o.next ∷ []) compacted (paused + mid) now → Counted Takes Has timing earlier a source before after now_held compacted first now
+  counts_on Takes Has earlier a source before middle after buffer now_held engine compacted o rows more first old had mid seen paused now same alike are_more passed are_rows lines bounded took put paid c =
       let came : Came a (o.events ++ o.next ∷ []) (lines_of more) =
       record { blocks_are = blocks_of_rows a.order a.schema 1 a.queries (o.events ++ o.next ∷ []) (length (o.events ++ o.next ∷ []) - 1) more are_more } in record {
-        running = runs_on earlier a source reader left before middle after buffer (lines_of more) now_held compacted (owes_still earlier a source reader left before middle buffer engine compacted o c.stands) came passed;
+        running = runs_on Takes Has earlier a source before middle after buffer (lines_of more) now_held compacted (owes_still Takes Has earlier a source before middle buffer engine compacted o c.stands) came passed;
         rows = rows ++ more;
         are_rows = rows_after_grow_at_last (length earlier) a.order a.schema a.queries o.events o.next rows more o.behind are_rows are_more;
         lines = lines_more rows o.written buffer (lines_of more) passed.written now_held passed.whole lines ∙ sym (lines_both rows more);
         bounded = bounded_on a engine o.events o.next rows more first old had mid seen paused now same alike o.stands bounded took put paid c.steps;
         few = c.few;
       }
+
+  -- a step gave no event, and what was held was written, or waits on
+  abbrev pub counts_waiting : (Takes : List ℕ → List StreamEvent → RunStop → Type 0) (Had Has : List ℕ → List StreamEvent → Type 0) (earlier : List StreamEvent) (a : RunRequest) (source before middle after : Option (List ℕ)) (buffer now_held : List ℕ) (engine last : EngineState) (first old now : ℕ) → last ≡ engine → now ≡ old →
+      (c : Counted Takes Had timing earlier a source before middle buffer engine first old) → ((bytes : List ℕ) → Had bytes c.running.events → Has bytes c.running.events) → PassesOn middle after buffer [] now_held [] → Counted Takes Has timing earlier a source before after now_held last first now
+  counts_waiting Takes Had Has earlier a source before middle after buffer now_held engine last first old now kept steps c gives passed = record {
+    running = waits_on Takes Had Has earlier a source before middle after buffer now_held engine last kept c.running gives passed;
+    rows = c.rows;
+    are_rows = c.are_rows;
+    lines = sym (passed_lines c.running.written buffer passed.written now_held passed.whole) ∙ c.lines;
+    bounded = subst (λ (n : ℕ). AreBoundedBy timing a.schema a.queries c.running.events c.rows first n) (sym steps) c.bounded;
+    few = subst (λ (e : EngineState). (most : ℕ → ℕ) → MeetMost a.schema a.queries c.running.events most → HasFewNodes e (length c.running.events) most) (sym kept) c.few;
+  }
 
   -- OVER A WHOLE FILE
 
@@ -193,7 +204,7 @@ module _ (timing : Timing) where
       omega (arith, few, product, both, grown)
 
   -- the same over a whole file
-  pub counts_over : (Takes : List ℕ → List StreamEvent → RunStop → Type 0) (from : ℕ) (a : RunRequest) (lines : List ℕ) (events more : List StreamEvent) (halt : RunStop) (rows : List Row) (before now : ℕ) → from ≤ length events → Takes lines (events ++ more) halt → AreRowsAfter from a.order a.schema a.queries events rows →
+  counts_over : (Takes : List ℕ → List StreamEvent → RunStop → Type 0) (from : ℕ) (a : RunRequest) (lines : List ℕ) (events more : List StreamEvent) (halt : RunStop) (rows : List Row) (before now : ℕ) → from ≤ length events → Takes lines (events ++ more) halt → AreRowsAfter from a.order a.schema a.queries events rows →
       AreBoundedBy timing a.schema a.queries events rows before now → CountsTaken Takes timing from a lines (λ h. Unit {0}) (λ bytes. Unit {0}) before now
   counts_over Takes from a lines events more halt rows before now behind runs are_rows bounded =
       let all = events ++ more in
@@ -208,14 +219,17 @@ module _ (timing : Timing) where
         bounded = bounded_all a events more rows grown.0 before now bounded;
       }
 
-  counts_whole : (earlier : List StreamEvent) (a : RunRequest) (lines : List ℕ) (events : List StreamEvent) (rows : List Row) (before now : ℕ) → length earlier ≤ length events → BeginsRunAfter earlier a.schema a.queries a.most_bytes lines events → AreRowsAfter (length earlier) a.order a.schema a.queries events rows →
-      AreBoundedBy timing a.schema a.queries events rows before now → CountsAfter timing earlier a lines before now
-  counts_whole earlier a lines events rows before now behind begun are_rows bounded =
-      counts_over (RunsAfter earlier a.schema a.queries a.most_bytes) (length earlier) a lines events begun.more begun.stop rows before now behind begun.runs are_rows bounded
+  counts_whole : (Takes : List ℕ → List StreamEvent → RunStop → Type 0) (from : ℕ) (a : RunRequest) (lines : List ℕ) (events : List StreamEvent) (rows : List Row) (before now : ℕ) → from ≤ length events → Begins Takes lines events → AreRowsAfter from a.order a.schema a.queries events rows →
+      AreBoundedBy timing a.schema a.queries events rows before now → CountsTaken Takes timing from a lines (λ h. Unit {0}) (λ bytes. Unit {0}) before now
+  counts_whole Takes from a lines events rows before now behind begun are_rows bounded =
+      counts_over Takes from a lines events begun.0 begun.1 rows before now behind begun.2 are_rows bounded
 
   -- no event was taken after those before
-  pub counts_none : (earlier : List StreamEvent) (a : RunRequest) (lines : List ℕ) (first now : ℕ) → AreBoundedBy timing a.schema a.queries earlier [] first now → CountsAfter timing earlier a lines first now
-  counts_none earlier a lines first now bounded = counts_whole earlier a lines earlier [] first now (omega arith) (begins_at_first earlier a lines) (rows_after_none (length earlier) a.order a.schema a.queries earlier refl) bounded
+  pub counts_none_of : (Takes : List ℕ → List StreamEvent → RunStop → Type 0) (earlier : List StreamEvent) (a : RunRequest) (lines : List ℕ) (first now : ℕ) → Begins Takes lines earlier → AreBoundedBy timing a.schema a.queries earlier [] first now → CountsTaken Takes timing (length earlier) a lines (λ h. Unit {0}) (λ bytes. Unit {0}) first now
+  counts_none_of Takes earlier a lines first now begun bounded = counts_whole Takes (length earlier) a lines earlier [] first now (omega arith) begun (rows_after_none (length earlier) a.order a.schema a.queries earlier refl) bounded
+
+  pub counts_none : (earlier : List StreamEvent) (a : RunRequest) (lines : List ℕ) (first now : ℕ) → AreBoundedBy timing a.schema a.queries earlier [] first now → CountsAllAfter timing earlier a lines (λ halt. Unit {0}) (λ bytes. Unit {0}) first now
+  counts_none earlier a lines first now bounded = counts_none_of (RunsAfter earlier a.schema a.queries a.most_bytes) earlier a lines first now (begins_at_first earlier a lines) bounded
 
   -- nothing was paid yet
   pub bounded_none : (schema : Declared) (queries : List Query) (events : List StreamEvent) (rows : List Row) (now : ℕ) → AreBoundedBy timing schema queries events rows now now
@@ -232,7 +246,7 @@ module _ (timing : Timing) where
       omega (arith, of_events, one, paced)
 
   -- memory ran out while an event was taken
-  pub bounded_wanting : (a : RunRequest) (events : List StreamEvent) (next : StreamEvent) (rows more : List Row) (first old had seen : ℕ) → AreBoundedBy timing a.schema a.queries events rows first (old + had) →
+  bounded_wanting : (a : RunRequest) (events : List StreamEvent) (next : StreamEvent) (rows more : List Row) (first old had seen : ℕ) → AreBoundedBy timing a.schema a.queries events rows first (old + had) →
       AreWantingSteps a.schema a.queries (events ++ next ∷ []) old seen → AreBoundedBy timing a.schema a.queries (events ++ next ∷ []) (rows ++ more) first seen
   bounded_wanting a events next rows more first old had seen bounded wants = λ most meet.
       let all = events ++ next ∷ [] in
@@ -249,13 +263,13 @@ module _ (timing : Timing) where
       subst (λ (n : ℕ). compactions (due_by timing) (length a.queries) most (length events) ≤ compactions (due_by timing) (length a.queries) most n) (sym count) (fewer_queries (length events) 1 f) in
       omega (arith, before, here, within, paced, product, both, later)
 
-  counts_wanting : (earlier : List StreamEvent) (a : RunRequest) (lines : List ℕ) (events : List StreamEvent) (next : StreamEvent) (rows : List Row) (first old had seen : ℕ) → length earlier ≤ length events → BeginsRunAfter earlier a.schema a.queries a.most_bytes lines (events ++ next ∷ []) →
-      AreRowsAfter (length earlier) a.order a.schema a.queries events rows → AreBoundedBy timing a.schema a.queries events rows first (old + had) → AreWantingSteps a.schema a.queries (events ++ next ∷ []) old seen → CountsAfter timing earlier a lines first seen
-  counts_wanting earlier a lines events next rows first old had seen behind begun are_rows bounded wants =
+  counts_wanting : (Takes : List ℕ → List StreamEvent → RunStop → Type 0) (from : ℕ) (a : RunRequest) (lines : List ℕ) (events : List StreamEvent) (next : StreamEvent) (rows : List Row) (first old had seen : ℕ) → from ≤ length events → Begins Takes lines (events ++ next ∷ []) →
+      AreRowsAfter from a.order a.schema a.queries events rows → AreBoundedBy timing a.schema a.queries events rows first (old + had) → AreWantingSteps a.schema a.queries (events ++ next ∷ []) old seen → CountsTaken Takes timing from a lines (λ h. Unit {0}) (λ bytes. Unit {0}) first seen
+  counts_wanting Takes from a lines events next rows first old had seen behind begun are_rows bounded wants =
       let all = events ++ next ∷ [] in
       let blocks = some_blocks_are a.order a.schema 1 a.queries all (length all - 1) in
       let more = rows_of_blocks a.order a.schema 1 a.queries all (length all - 1) blocks.0 blocks.1 in
-      counts_whole earlier a lines all (rows ++ more.0) first seen (let long = length-append events (next ∷ []) in omega (arith, long, behind)) begun (rows_after_grow_at_last (length earlier) a.order a.schema a.queries events next rows more.0 behind are_rows more.1)
+      counts_whole Takes from a lines all (rows ++ more.0) first seen (let long = length-append events (next ∷ []) in omega (arith, long, behind)) begun (rows_after_grow_at_last from a.order a.schema a.queries events next rows more.0 behind are_rows more.1)
       (bounded_wanting a events next rows more.0 first old had seen bounded wants)
 
   -- HOW A RUN ENDS
@@ -267,10 +281,10 @@ module _ (timing : Timing) where
   none_taken (Some m) (Some n) buffer none part = absurd (let within = part.within in let l = ap length none in omega arith)
 
   -- a write failed while what was held was written
-  pub counts_held : (Takes : List ℕ → List StreamEvent → RunStop → Type 0) (from : ℕ) (a : RunRequest) (lines : List ℕ) (before after : Option (List ℕ)) (first now : ℕ) → a.order ≡ Sorted → CountsTaken Takes timing from a lines (λ h. Unit {0}) (λ bytes. Unit {0}) first now → CountsAtFaultBy Takes timing from a.order a lines before after first now
+  counts_held : (Takes : List ℕ → List StreamEvent → RunStop → Type 0) (from : ℕ) (a : RunRequest) (lines : List ℕ) (before after : Option (List ℕ)) (first now : ℕ) → a.order ≡ Sorted → CountsTaken Takes timing from a lines (λ h. Unit {0}) (λ bytes. Unit {0}) first now → CountsAtFaultBy Takes timing from a.order a lines before after first now
   counts_held Takes from a lines before after first now sorted counts = subst (λ (x : Order). CountsAtFaultBy Takes timing from x a lines before after first now) (sym sorted) counts
 
-  pub walk_or_sorted : (o : Order) → (o ≡ Walk) ⊎ (o ≡ Sorted)
+  walk_or_sorted : (o : Order) → (o ≡ Walk) ⊎ (o ≡ Sorted)
   walk_or_sorted Walk = inl refl
   walk_or_sorted Sorted = inr refl
 
@@ -300,83 +314,82 @@ module _ (timing : Timing) where
     bounded = bounded;
   }
 
-  whole_run : (earlier : List StreamEvent) (a : RunRequest) (lines : List ℕ) (events : List StreamEvent) (halt : RunStop) → RunsAfter earlier a.schema a.queries a.most_bytes lines events halt → BeginsRunAfter earlier a.schema a.queries a.most_bytes lines events
-  whole_run earlier a lines events halt runs = let P : List StreamEvent → Type 0 = λ e. RunsAfter earlier a.schema a.queries a.most_bytes lines e halt in record { more = []; stop = halt; runs = subst P (sym (append-nil events)) runs }
-
-  -- the run over the file, with the bytes that are too many by another name
-  runs_as : (earlier : List StreamEvent) (a : RunRequest) (most : ℕ) (lines : List ℕ) (events : List StreamEvent) (halt : RunStop) → most ≡ a.most_bytes → RunsAfter earlier a.schema a.queries most lines events halt → RunsAfter earlier a.schema a.queries a.most_bytes lines events halt
-  runs_as earlier a most lines events halt same runs = subst (λ n. RunsAfter earlier a.schema a.queries n lines events halt) same runs
-
   bounded_same : (a : RunRequest) (events : List StreamEvent) (rows : List Row) (first old now : ℕ) → now ≤ old → AreBoundedBy timing a.schema a.queries events rows first old → AreBoundedBy timing a.schema a.queries events rows first now
   bounded_same a events rows first old now less bounded = λ most meet. let b = bounded most meet in omega (arith, less, b)
 
-  halts : (earlier : List StreamEvent) {T : Type 0} (a : RunRequest) (lines : List ℕ) (before middle after : Option (List ℕ)) (buffer written : List ℕ) (old new : ℕ) (events : List StreamEvent) (halt : RunStop) (rows : List Row) (end result : Result T (OrMemory StreamFault)) (first now : ℕ) → length earlier ≤ length events →
-      RunsAfter earlier a.schema a.queries a.most_bytes lines events halt → AreRowsAfter (length earlier) a.order a.schema a.queries events rows → written ++ buffer ≡ lines_of rows → AreBoundedBy timing a.schema a.queries events rows first now →
-      TookAll before middle written → Finished middle after old new buffer end result → (a.order ≡ Walk → (buffer ≡ []) × (result ≡ end)) →
-      (CountsAllAfter timing earlier a lines (λ h. h ≡ halt) (TookAll before after) first now → StepsOverAfter timing earlier a lines before after first now end) → StepsOverAfter timing earlier a lines before after first now result
-  halts earlier a lines before middle after buffer written old new events halt rows end result first now behind runs are_rows same bounded took finished walk well =
-      steps_end (RunsAfter earlier a.schema a.queries a.most_bytes) (length earlier) a lines before middle after buffer old new end result first now finished walk (counts_whole earlier a lines events rows first now behind (whole_run earlier a lines events halt runs) are_rows bounded)
-      (λ all. well (counts_stopped (RunsAfter earlier a.schema a.queries a.most_bytes) (length earlier) a lines before after (written ++ buffer) events halt rows first now runs are_rows same bounded (took_both before middle after written buffer took all)))
+  halts : (Takes : List ℕ → List StreamEvent → RunStop → Type 0) (Has : List ℕ → List StreamEvent → Type 0) (earlier : List StreamEvent) {T : Type 0} (a : RunRequest) (source : Option (List ℕ)) (lines : List ℕ) (before middle after : Option (List ℕ)) (buffer : List ℕ) (old new : ℕ) (engine : EngineState) (halt : RunStop) (end result : Result T (OrMemory StreamFault)) (first all now : ℕ) → source ≡ Some lines → now ≤ all →
+      (c : Counted Takes Has timing earlier a source before middle buffer engine first all) → Takes lines c.running.events halt → Finished middle after old new buffer end result → (a.order ≡ Walk → (buffer ≡ []) × (result ≡ end)) →
+      (CountsTaken Takes timing (length earlier) a lines (λ h. h ≡ halt) (TookAll before after) first now → StepsTaken Takes timing (length earlier) a lines before after first now end) → StepsTaken Takes timing (length earlier) a lines before after first now result
+  halts Takes Has earlier a source lines before middle after buffer old new engine halt end result first all now told less c runs finished walk well =
+      let r = c.running in
+      let bounded = bounded_same a r.events c.rows first all now less c.bounded in
+      steps_end Takes (length earlier) a lines before middle after buffer old new end result first now finished walk (counts_whole Takes (length earlier) a lines r.events c.rows first now r.behind (r.begins lines told) c.are_rows bounded)
+      (λ taken. well (counts_stopped Takes (length earlier) a lines before after (r.written ++ buffer) r.events halt c.rows first now runs c.are_rows c.lines bounded (took_both before middle after r.written buffer r.took taken)))
 
-  pub steps_at_end : (earlier : List StreamEvent) {T : Type 0} (a : RunRequest) (source : Option (List ℕ)) (lines : List ℕ) (old_reader reader : LineReader) (had left before middle after : Option (List ℕ)) (buffer : List ℕ) (old new : ℕ) (engine now_engine : EngineState) (done : T) (result : Result T (OrMemory StreamFault)) (first before_steps now : ℕ) →
-      source ≡ Some lines → reader.budget ≡ a.most_bytes → (c : Counted timing earlier a source old_reader had before middle buffer engine first before_steps) →
-      AfterCall earlier a.schema a.queries reader engine now_engine (λ bytes. HasTakenAfter earlier a.schema a.queries old_reader bytes had c.running.events) left c.running.events (Ok taken.End) → now ≤ before_steps →
-      Finished middle after old new buffer (Ok done) result → (a.order ≡ Walk → (buffer ≡ []) × (result ≡ Ok done)) → StepsOverAfter timing earlier a lines before after first now result
-  steps_at_end earlier a source lines old_reader reader had left before middle after buffer old new engine now_engine done result first before_steps now told budget c took same finished walk =
-      let runs = runs_as earlier a reader.budget lines c.running.events stop.End budget (took.1 lines (c.running.taken lines told)) in
-      halts earlier a lines before middle after buffer c.running.written old new c.running.events stop.End c.rows (Ok done) result first now c.running.behind runs c.are_rows c.lines
-      (bounded_same a c.running.events c.rows first before_steps now same c.bounded) c.running.took finished walk (λ all. all)
+  -- whatever ended it, where less was written than there is
+  breaks_off : (Takes : List ℕ → List StreamEvent → RunStop → Type 0) (Has : List ℕ → List StreamEvent → Type 0) (earlier : List StreamEvent) {T : Type 0} (a : RunRequest) (source : Option (List ℕ)) (lines : List ℕ) (before middle after : Option (List ℕ)) (buffer : List ℕ) (old new : ℕ) (engine : EngineState) (end result : Result T (OrMemory StreamFault)) (first all now : ℕ) → source ≡ Some lines → now ≤ all →
+      (c : Counted Takes Has timing earlier a source before middle buffer engine first all) → Finished middle after old new buffer end result → (a.order ≡ Walk → (buffer ≡ []) × (result ≡ end)) →
+      (CountsTaken Takes timing (length earlier) a lines (λ h. Unit {0}) (λ bytes. Unit {0}) first now → StepsTaken Takes timing (length earlier) a lines before after first now end) → StepsTaken Takes timing (length earlier) a lines before after first now result
+  breaks_off Takes Has earlier a source lines before middle after buffer old new engine end result first all now told less c finished walk well =
+      let counts = counts_whole Takes (length earlier) a lines c.running.events c.rows first now c.running.behind (c.running.begins lines told) c.are_rows (bounded_same a c.running.events c.rows first all now less c.bounded) in
+      steps_end Takes (length earlier) a lines before middle after buffer old new end result first now finished walk counts (λ taken. well counts)
 
-  pub steps_by : (earlier : List StreamEvent) {T : Type 0} (a : RunRequest) (source : Option (List ℕ)) (lines : List ℕ) (old_reader reader : LineReader) (had left before middle after : Option (List ℕ)) (buffer : List ℕ) (old new : ℕ) (engine now_engine : EngineState) (why : OrMemory RunFault) (result : Result T (OrMemory StreamFault)) (first before_steps had_by now : ℕ) →
-      source ≡ Some lines → reader.budget ≡ a.most_bytes → old_reader.budget ≡ a.most_bytes → engine.schema ≡ a.schema → engine.queries ≡ a.queries → (c : Counted timing earlier a source old_reader had before middle buffer engine first (before_steps + had_by)) →
-      AfterCall earlier a.schema a.queries reader engine now_engine (λ bytes. HasTakenAfter earlier a.schema a.queries old_reader bytes had c.running.events) left c.running.events (Err why) → TakesSteps (update_bounds now_engine) before_steps now (Err why) →
-      OnMemory {T = NextEvent} (Err why) (WantsSteps engine.schema engine.queries c.running.events (λ next. (bytes : List ℕ) → HasTakenAfter earlier engine.schema engine.queries old_reader bytes had c.running.events → BeginsRunAfter earlier engine.schema engine.queries reader.budget bytes (c.running.events ++ next ∷ [])) before_steps now) →
-      Finished middle after old new buffer (Err (stream_fault why)) result → (a.order ≡ Walk → (buffer ≡ []) × (result ≡ Err (stream_fault why))) → StepsOverAfter timing earlier a lines before after first now result
-  steps_by earlier a source lines old_reader reader had left before middle after buffer old new engine now_engine Memory result first before_steps had_by now told budget same_budget same alike c took steps wants finished walk =
-      let begun = begins_so earlier a source old_reader had c.running.events same_budget c.running.taken lines told in
-      let Wants : Declared → List Query → Type 0 = λ s qs. WantsSteps s qs c.running.events (λ next. (bytes : List ℕ) → HasTakenAfter earlier s qs old_reader bytes had c.running.events → BeginsRunAfter earlier s qs reader.budget bytes (c.running.events ++ next ∷ [])) before_steps now in
-      let w : Wants a.schema a.queries = subst (λ (qs : List Query). Wants a.schema qs) alike (subst (λ (s : Declared). Wants s engine.queries) same wants) in
-      let counts : CountsAfter timing earlier a lines first now = elim w [
-        | inl none ↦ counts_whole earlier a lines c.running.events c.rows first now c.running.behind begun c.are_rows (bounded_same a c.running.events c.rows first (before_steps + had_by) now (omega (arith, none)) c.bounded)
-        | inr some ↦ counts_wanting earlier a lines c.running.events some.0 c.rows first before_steps had_by now c.running.behind
-            (subst (λ n. BeginsRunAfter earlier a.schema a.queries n lines (c.running.events ++ some.0 ∷ [])) budget (some.1 lines (c.running.taken lines told))) c.are_rows c.bounded some.2
+  pub steps_at_end : (First Takes : List ℕ → List StreamEvent → RunStop → Type 0) (Had Has Reads : List ℕ → List StreamEvent → Type 0) (earlier : List StreamEvent) {T : Type 0} (a : RunRequest) (source : Option (List ℕ)) (lines : List ℕ) (before middle after : Option (List ℕ)) (buffer : List ℕ) (old new : ℕ) (engine now_engine : EngineState) (done : T) (result : Result T (OrMemory StreamFault)) (first all now : ℕ) →
+      source ≡ Some lines → Lasts First Takes → (c : Counted First Had timing earlier a source before middle buffer engine first all) → AfterStep Had Has Takes Reads engine now_engine c.running.events (Ok step.End) → now ≤ all →
+      Finished middle after old new buffer (Ok done) result → (a.order ≡ Walk → (buffer ≡ []) × (result ≡ Ok done)) → StepsTaken First timing (length earlier) a lines before after first now result
+  steps_at_end First Takes Had Has Reads earlier a source lines before middle after buffer old new engine now_engine done result first all now told lasts c took less finished walk =
+      halts First Had earlier a source lines before middle after buffer old new engine stop.End (Ok done) result first all now told less c (lasts lines c.running.events stop.End (took lines (c.running.given lines told))) finished walk (λ taken. taken)
+
+  pub steps_by : (First Takes : List ℕ → List StreamEvent → RunStop → Type 0) (Had Has Reads : List ℕ → List StreamEvent → Type 0) (earlier : List StreamEvent) {T : Type 0} (a : RunRequest) (source : Option (List ℕ)) (lines : List ℕ) (before middle after : Option (List ℕ)) (buffer : List ℕ) (old new : ℕ) (engine now_engine : EngineState) (why : OrMemory RunFault) (result : Result T (OrMemory StreamFault)) (first before_steps had_by now : ℕ) →
+      source ≡ Some lines → Lasts First Takes → (c : Counted First Had timing earlier a source before middle buffer engine first (before_steps + had_by)) →
+      AfterStep Had Has Takes Reads engine now_engine c.running.events (Err why) → TakesSteps (update_bounds now_engine) before_steps now (Err why) →
+      OnMemory {T = Step} (Err why) (WantsSteps a.schema a.queries c.running.events (λ next. (bytes : List ℕ) → Had bytes c.running.events → Begins Takes bytes (c.running.events ++ next ∷ [])) before_steps now) →
+      Finished middle after old new buffer (Err (stream_fault why)) result → (a.order ≡ Walk → (buffer ≡ []) × (result ≡ Err (stream_fault why))) → StepsTaken First timing (length earlier) a lines before after first now result
+  steps_by First Takes Had Has Reads earlier a source lines before middle after buffer old new engine now_engine Memory result first before_steps had_by now told lasts c took steps wants finished walk =
+      let counts : CountsTaken First timing (length earlier) a lines (λ h. Unit {0}) (λ bytes. Unit {0}) first now = elim wants [
+        | inl none ↦ counts_whole First (length earlier) a lines c.running.events c.rows first now c.running.behind (c.running.begins lines told) c.are_rows (bounded_same a c.running.events c.rows first (before_steps + had_by) now (omega (arith, none)) c.bounded)
+        | inr some ↦ counts_wanting First (length earlier) a lines c.running.events some.0 c.rows first before_steps had_by now c.running.behind
+            (begins_first First Takes lines (c.running.events ++ some.0 ∷ []) lasts (some.1 lines (c.running.given lines told))) c.are_rows c.bounded some.2
       ] in
-      steps_end (RunsAfter earlier a.schema a.queries a.most_bytes) (length earlier) a lines before middle after buffer old new (Err Memory) result first now finished walk counts (λ all. counts)
-  steps_by earlier a source lines old_reader reader had left before middle after buffer old new engine now_engine (Fault run.ReadFault) result first before_steps had_by now told budget same_budget same alike c took steps wants finished walk =
-      let begun = begins_so earlier a source old_reader had c.running.events same_budget c.running.taken lines told in
-      let counts = counts_whole earlier a lines c.running.events c.rows first now c.running.behind begun c.are_rows (bounded_same a c.running.events c.rows first (before_steps + had_by) now (omega (arith, steps)) c.bounded) in
-      steps_end (RunsAfter earlier a.schema a.queries a.most_bytes) (length earlier) a lines before middle after buffer old new (Err (Fault fault.ReadFault)) result first now finished walk counts (λ all. counts)
-  steps_by earlier a source lines old_reader reader had left before middle after buffer old new engine now_engine (Fault (run.Event line refusal)) result first before_steps had_by now told budget same_budget same alike c took steps wants finished walk =
-      let runs = runs_as earlier a reader.budget lines c.running.events (stop.Event line refusal) budget (took.1 lines (c.running.taken lines told)) in
-      halts earlier a lines before middle after buffer c.running.written old new c.running.events (stop.Event line refusal) c.rows (Err (Fault (fault.Event line refusal))) result first now c.running.behind runs c.are_rows c.lines
-      (bounded_same a c.running.events c.rows first (before_steps + had_by) now (omega (arith, steps)) c.bounded) c.running.took finished walk (λ all. all)
-  steps_by earlier a source lines old_reader reader had left before middle after buffer old new engine now_engine (Fault (run.InputTooLong most)) result first before_steps had_by now told budget same_budget same alike c took steps wants finished walk =
-      let runs = runs_as earlier a reader.budget lines c.running.events (stop.InputTooLong most) budget (took.1 lines (c.running.taken lines told)) in
-      halts earlier a lines before middle after buffer c.running.written old new c.running.events (stop.InputTooLong most) c.rows (Err (Fault (fault.InputTooLong most))) result first now c.running.behind runs c.are_rows c.lines
-      (bounded_same a c.running.events c.rows first (before_steps + had_by) now (omega (arith, steps)) c.bounded) c.running.took finished walk (λ all. all)
+      steps_end First (length earlier) a lines before middle after buffer old new (Err Memory) result first now finished walk counts (λ taken. counts)
+  steps_by First Takes Had Has Reads earlier a source lines before middle after buffer old new engine now_engine (Fault run.ReadFault) result first before_steps had_by now told lasts c took steps wants finished walk =
+      breaks_off First Had earlier a source lines before middle after buffer old new engine (Err (Fault fault.ReadFault)) result first (before_steps + had_by) now told (omega (arith, steps)) c finished walk (λ counts. counts)
+  steps_by First Takes Had Has Reads earlier a source lines before middle after buffer old new engine now_engine (Fault (run.Event line refusal)) result first before_steps had_by now told lasts c took steps wants finished walk =
+      halts First Had earlier a source lines before middle after buffer old new engine (stop.Event line refusal) (Err (Fault (fault.Event line refusal))) result first (before_steps + had_by) now told (omega (arith, steps)) c
+      (lasts lines c.running.events (stop.Event line refusal) (took lines (c.running.given lines told))) finished walk (λ taken. taken)
+  steps_by First Takes Had Has Reads earlier a source lines before middle after buffer old new engine now_engine (Fault (run.InputTooLong most)) result first before_steps had_by now told lasts c took steps wants finished walk =
+      halts First Had earlier a source lines before middle after buffer old new engine (stop.InputTooLong most) (Err (Fault (fault.InputTooLong most))) result first (before_steps + had_by) now told (omega (arith, steps)) c
+      (lasts lines c.running.events (stop.InputTooLong most) (took lines (c.running.given lines told))) finished walk (λ taken. taken)
 
   -- memory ran out while the answers of an event were put
-  pub steps_for_memory : (earlier : List StreamEvent) {T : Type 0} (a : RunRequest) (source : Option (List ℕ)) (lines : List ℕ) (reader : LineReader) (left before middle later after : Option (List ℕ)) (buffer now_held : List ℕ) (old new : ℕ) (engine : EngineState) → (o : Owing earlier a source reader left before middle buffer engine) →
-      (rows more : List Row) (first before_steps had mid seen now : ℕ) (result : Result T (OrMemory StreamFault)) → source ≡ Some lines → reader.budget ≡ a.most_bytes → engine.schema ≡ a.schema → engine.queries ≡ a.queries →
+  pub steps_for_memory : (Takes : List ℕ → List StreamEvent → RunStop → Type 0) (Has : List ℕ → List StreamEvent → Type 0) (earlier : List StreamEvent) {T : Type 0} (a : RunRequest) (source : Option (List ℕ)) (lines : List ℕ) (before middle later after : Option (List ℕ)) (buffer now_held : List ℕ) (old new : ℕ) (engine : EngineState) → (o : Owing Takes Has earlier a source before middle buffer engine) →
+      (rows more : List Row) (first before_steps had mid seen now : ℕ) (result : Result T (OrMemory StreamFault)) → source ≡ Some lines → engine.schema ≡ a.schema → engine.queries ≡ a.queries →
       AreRowsAt a.order a.schema 1 a.queries (o.events ++ o.next ∷ []) (length (o.events ++ o.next ∷ []) - 1) more → AreRowsAfter (length earlier) a.order a.schema a.queries o.events rows → o.written ++ buffer ≡ lines_of rows →
       AreBoundedBy timing a.schema a.queries o.events rows first (before_steps + had) → seen ≤ before_steps + update_bounds engine → now ≤ seen + cursor_bounds engine + row_delays more →
       ((most : ℕ → ℕ) → MeetMost a.schema a.queries (o.events ++ o.next ∷ []) most → event_bound (length a.queries) most + mid ≤ had + pace timing.every (length a.queries) most) →
-      Finished later after old new now_held (Err Memory) result → (a.order ≡ Walk → (now_held ≡ []) × (result ≡ Err Memory)) → StepsOverAfter timing earlier a lines before after first now result
-  steps_for_memory earlier a source lines reader left before middle later after buffer now_held old new engine o rows more first before_steps had mid seen now result told budget same alike are_more are_rows so_far bounded took put paid finished walk =
+      Finished later after old new now_held (Err Memory) result → (a.order ≡ Walk → (now_held ≡ []) × (result ≡ Err Memory)) → StepsTaken Takes timing (length earlier) a lines before after first now result
+  steps_for_memory Takes Has earlier a source lines before middle later after buffer now_held old new engine o rows more first before_steps had mid seen now result told same alike are_more are_rows so_far bounded took put paid finished walk =
       let all = o.events ++ o.next ∷ [] in
-      let begun = begins_so earlier a source reader left all budget o.taken lines told in
-      let counts = counts_whole earlier a lines all (rows ++ more) first now (let long = length-append o.events (o.next ∷ []) in let b = o.behind in omega (arith, long, b)) begun (rows_after_grow_at_last (length earlier) a.order a.schema a.queries o.events o.next rows more o.behind are_rows are_more)
+      let counts = counts_whole Takes (length earlier) a lines all (rows ++ more) first now (let long = length-append o.events (o.next ∷ []) in let b = o.behind in omega (arith, long, b)) (o.begins lines told) (rows_after_grow_at_last (length earlier) a.order a.schema a.queries o.events o.next rows more o.behind are_rows are_more)
       (bounded_more a engine o.events o.next rows more first before_steps had mid seen now same alike o.stands bounded took put paid) in
-      steps_end (RunsAfter earlier a.schema a.queries a.most_bytes) (length earlier) a lines before later after now_held old new (Err Memory) result first now finished walk counts (λ taken. counts)
+      steps_end Takes (length earlier) a lines before later after now_held old new (Err Memory) result first now finished walk counts (λ taken. counts)
 
   -- memory ran out while the engine was compacted
-  pub steps_for_compaction : (earlier : List StreamEvent) {T : Type 0} (a : RunRequest) (source : Option (List ℕ)) (lines : List ℕ) (reader : LineReader) (left before middle after : Option (List ℕ)) (buffer : List ℕ) (old new : ℕ) (engine : EngineState) (result : Result T (OrMemory StreamFault)) (first all now : ℕ) →
-      source ≡ Some lines → reader.budget ≡ a.most_bytes → now ≤ all → Counted timing earlier a source reader left before middle buffer engine first all → Finished middle after old new buffer (Err Memory) result →
-      (a.order ≡ Walk → (buffer ≡ []) × (result ≡ Err Memory)) → StepsOverAfter timing earlier a lines before after first now result
-  steps_for_compaction earlier a source lines reader left before middle after buffer old new engine result first all now told budget less c finished walk =
-      let begun = begins_so earlier a source reader left c.running.events budget c.running.taken lines told in
-      let counts = counts_whole earlier a lines c.running.events c.rows first now c.running.behind begun c.are_rows (bounded_same a c.running.events c.rows first all now less c.bounded) in
-      steps_end (RunsAfter earlier a.schema a.queries a.most_bytes) (length earlier) a lines before middle after buffer old new (Err Memory) result first now finished walk counts (λ taken. counts)
+  pub steps_for_compaction : (Takes : List ℕ → List StreamEvent → RunStop → Type 0) (Has : List ℕ → List StreamEvent → Type 0) (earlier : List StreamEvent) {T : Type 0} (a : RunRequest) (source : Option (List ℕ)) (lines : List ℕ) (before middle after : Option (List ℕ)) (buffer : List ℕ) (old new : ℕ) (engine : EngineState) (result : Result T (OrMemory StreamFault)) (first all now : ℕ) →
+      source ≡ Some lines → now ≤ all → Counted Takes Has timing earlier a source before middle buffer engine first all → Finished middle after old new buffer (Err Memory) result →
+      (a.order ≡ Walk → (buffer ≡ []) × (result ≡ Err Memory)) → StepsTaken Takes timing (length earlier) a lines before after first now result
+  steps_for_compaction Takes Has earlier a source lines before middle after buffer old new engine result first all now told less c finished walk =
+      breaks_off Takes Has earlier a source lines before middle after buffer old new engine (Err Memory) result first all now told less c finished walk (λ counts. counts)
+
+  -- a write failed while what was held was written, which in walk order is nothing
+  pub steps_held : (Takes : List ℕ → List StreamEvent → RunStop → Type 0) (Has : List ℕ → List StreamEvent → Type 0) (earlier : List StreamEvent) (a : RunRequest) (source : Option (List ℕ)) (lines : List ℕ) (before middle after : Option (List ℕ)) (buffer : List ℕ) (engine : EngineState) (first all now : ℕ) →
+      source ≡ Some lines → now ≤ all → Counted Takes Has timing earlier a source before middle buffer engine first all → (a.order ≡ Walk → ⊥) → CountsAtFaultBy Takes timing (length earlier) a.order a lines before after first now
+  steps_held Takes Has earlier a source lines before middle after buffer engine first all now told less c some =
+      let counts = counts_whole Takes (length earlier) a lines c.running.events c.rows first now c.running.behind (c.running.begins lines told) c.are_rows (bounded_same a c.running.events c.rows first all now less c.bounded) in
+      elim (walk_or_sorted a.order) [
+        | inl walk ↦ absurd (some walk)
+        | inr is ↦ counts_held Takes (length earlier) a lines before after first now is counts
+      ]
 
   -- the answer whose line was not written is one of its position
   pub one_ends : (a : RunRequest) (events : List StreamEvent) (whole later : List Row) (one : Row) (rows : List Row) → rows ≡ whole ++ one ∷ later → AreRowsAt a.order a.schema 1 a.queries events (length events - 1) rows → one.end ≡ length events - 1
@@ -413,7 +426,7 @@ module _ (timing : Timing) where
         bounded = subst B (sym (append_assoc rows s.whole (s.one ∷ []))) (bounded_more a engine events next rows (s.whole ++ s.one ∷ []) first old had mid seen now same alike stands bounded cost s.steps pays);
       }
 
-  pub counts_at_fault : (Takes : List ℕ → List StreamEvent → RunStop → Type 0) (from : ℕ) (a : RunRequest) (lines : List ℕ) (before middle after : Option (List ℕ)) (written buffer : List ℕ) (engine : EngineState) (events : List StreamEvent) (next : StreamEvent) (further : List StreamEvent) (halt : RunStop) (rows more : List Row) (first old had mid seen now : ℕ) →
+  counts_at_fault : (Takes : List ℕ → List StreamEvent → RunStop → Type 0) (from : ℕ) (a : RunRequest) (lines : List ℕ) (before middle after : Option (List ℕ)) (written buffer : List ℕ) (engine : EngineState) (events : List StreamEvent) (next : StreamEvent) (further : List StreamEvent) (halt : RunStop) (rows more : List Row) (first old had mid seen now : ℕ) →
       from ≤ length events → Takes lines ((events ++ next ∷ []) ++ further) halt → engine.schema ≡ a.schema → engine.queries ≡ a.queries → StandsFor engine (events ++ next ∷ []) → TookAll before middle written → (a.order ≡ Walk → buffer ≡ []) →
       AreRowsAt a.order a.schema 1 a.queries (events ++ next ∷ []) (length (events ++ next ∷ []) - 1) more → AreRowsAfter from a.order a.schema a.queries events rows → written ++ buffer ≡ lines_of rows →
       AreBoundedBy timing a.schema a.queries events rows first (old + had) → seen ≤ old + update_bounds engine →
@@ -427,14 +440,14 @@ module _ (timing : Timing) where
           counts_over Takes from a lines (events ++ next ∷ []) further halt (rows ++ more) first now (let long = length-append events (next ∷ []) in omega (arith, long, behind)) runs (rows_after_grow_at_last from a.order a.schema a.queries events next rows more behind are_rows are_more)
           (bounded_more a engine events next rows more first old had mid seen now same alike stands bounded cost steps pays)
 
-  pub steps_for_fault : (earlier : List StreamEvent) (a : RunRequest) (source : Option (List ℕ)) (lines : List ℕ) (reader : LineReader) (left before middle after : Option (List ℕ)) (buffer : List ℕ) (engine : EngineState) → (o : Owing earlier a source reader left before middle buffer engine) →
-      (rows more : List Row) (first before_steps had mid seen now : ℕ) (order : Order) → source ≡ Some lines → reader.budget ≡ a.most_bytes → engine.schema ≡ a.schema → engine.queries ≡ a.queries → order ≡ a.order →
+  pub steps_for_fault : (Takes : List ℕ → List StreamEvent → RunStop → Type 0) (Has : List ℕ → List StreamEvent → Type 0) (earlier : List StreamEvent) (a : RunRequest) (source : Option (List ℕ)) (lines : List ℕ) (before middle after : Option (List ℕ)) (buffer : List ℕ) (engine : EngineState) → (o : Owing Takes Has earlier a source before middle buffer engine) →
+      (rows more : List Row) (first before_steps had mid seen now : ℕ) (order : Order) → source ≡ Some lines → engine.schema ≡ a.schema → engine.queries ≡ a.queries → order ≡ a.order →
       AreRowsAt a.order a.schema 1 a.queries (o.events ++ o.next ∷ []) (length (o.events ++ o.next ∷ []) - 1) more → AreRowsAfter (length earlier) a.order a.schema a.queries o.events rows → o.written ++ buffer ≡ lines_of rows →
       AreBoundedBy timing a.schema a.queries o.events rows first (before_steps + had) → seen ≤ before_steps + update_bounds engine →
       ((most : ℕ → ℕ) → MeetMost a.schema a.queries (o.events ++ o.next ∷ []) most → event_bound (length a.queries) most + mid ≤ had + pace timing.every (length a.queries) most) →
       StepsAtFault order middle after more (seen + cursor_bounds engine) now → (a.order ≡ Walk → buffer ≡ []) →
-      CountsAtFaultAfter timing earlier a.order a lines before after first now
-  steps_for_fault earlier a source lines reader left before middle after buffer engine o rows more first before_steps had mid seen now order told budget same alike is are_more are_rows so_far bounded took paid put none =
-      let begun = begins_so earlier a source reader left (o.events ++ o.next ∷ []) budget o.taken lines told in
-      counts_at_fault (RunsAfter earlier a.schema a.queries a.most_bytes) (length earlier) a lines before middle after o.written buffer engine o.events o.next begun.more begun.stop rows more first before_steps had mid seen now o.behind begun.runs same alike o.stands o.took none
+      CountsAtFaultBy Takes timing (length earlier) a.order a lines before after first now
+  steps_for_fault Takes Has earlier a source lines before middle after buffer engine o rows more first before_steps had mid seen now order told same alike is are_more are_rows so_far bounded took paid put none =
+      let begun = o.begins lines told in
+      counts_at_fault Takes (length earlier) a lines before middle after o.written buffer engine o.events o.next begun.0 begun.1 rows more first before_steps had mid seen now o.behind begun.2 same alike o.stands o.took none
       are_more are_rows so_far bounded took paid (subst (λ (x : Order). StepsAtFault x middle after more (seen + cursor_bounds engine) now) is put)

@@ -1,4 +1,4 @@
--- How the steps of a run stand from event to event. Private clauses alone cite this file.
+-- How the steps of a run stand from event to event, and how a run ended over any source of events.
 use Rattle.std.specs.Prelude.{◌≡◌, ℕ, ◌+◌, ◌≤◌, List, ◌++◌, length, Option, Result, Ok, Err, Some, OnOk}
 use Rattle.cer_base.specs.declared.OrMemory.{OrMemory}
 use Rattle.cer_base.specs.declared.OrMemory.TheVariants.{Fault, Memory}
@@ -7,20 +7,21 @@ use Rattle.answer_text.specs.declared.Order.TheVariants.{Walk, Sorted}
 use Rattle.answer_text.specs.OutputRows.{Row, lines_of}
 use Rattle.output_laws.specs.After.{AreRowsAfter}
 use Rattle.answer_blocks.specs.RowSteps.{row_delays, StopsAmong}
-use Rattle.event_reader.specs.LineReaders.{LineReader}
+use Rattle.event_run.specs.Runs.{RunStop}
 use Rattle.stream_schema.specs.declared.Event.{Event}
 use Rattle.query_engine.specs.Engine.{EngineState, StandsFor}
 use Rattle.query_engine.specs.Counts.{MeetMost, HasFewNodes}
 use Rattle.stream_answers.specs.Gathering.{Running}
 use Rattle.stream_answers.specs.Windows.{last_of, FollowsEvents, FollowsWindowsBy}
 use Rattle.stream_answers.specs.declared.StreamFault.{StreamFault}
-use Rattle.stream_answers.specs.Steps.{AreBoundedBy, StepsOverAfter, compaction_by}
+use Rattle.stream_answers.specs.RunEnds.{ByEnd}
+use Rattle.stream_answers.specs.Steps.{AreBoundedBy, StepsTaken, compaction_by}
 use Rattle.stream_answers.specs.Schedules.{Timing, Plan, due_by, saved_by, WithNoNumber, IsOnTime}
-use Rattle.stream_answers.specs.Streams.{RunRequest, StandsForAllAfter, WroteStreamAfter}
+use Rattle.stream_answers.specs.Streams.{RunRequest, said_by, StandsForTaken}
 
 -- What is written or held are the lines of the output's rows, the steps are bounded by these and the events, and the nodes by the events.
-pub record Counted (timing : Timing) (earlier : List Event) (a : RunRequest) (source : Option (List ℕ)) (reader : LineReader) (left before after : Option (List ℕ)) (buffer : List ℕ) (engine : EngineState) (first now : ℕ) : Type 0 where
-  pub running : Running earlier a source reader left before after buffer engine
+pub record Counted (Takes : List ℕ → List Event → RunStop → Type 0) (Has : List ℕ → List Event → Type 0) (timing : Timing) (earlier : List Event) (a : RunRequest) (source before after : Option (List ℕ)) (buffer : List ℕ) (engine : EngineState) (first now : ℕ) : Type 0 where
+  pub running : Running Takes Has earlier a source before after buffer engine
   pub rows : List Row
   pub are_rows : AreRowsAfter (length earlier) a.order a.schema a.queries running.events rows
   pub lines : running.written ++ buffer ≡ lines_of rows
@@ -34,8 +35,8 @@ pub record HasBegun (plan : Plan) (peaks : ℕ → ℕ) (earlier : List Event) (
   pub on_time : WithNoNumber plan.timing.every (IsOnTime plan engine earlier)
 
 -- The steps are counted so far, with those that the plan of this timing has put by, the nodes follow the windows of the queries, and the engine is kept by the plan; these were the peaks before any event.
-pub record Following (timing : Timing) (plan : Plan) (earlier : List Event) (a : RunRequest) (source : Option (List ℕ)) (reader : LineReader) (left before after : Option (List ℕ)) (buffer : List ℕ) (engine : EngineState) (first now : ℕ) (peaks : ℕ → ℕ) : Type 0 where
-  pub counting : Counted timing earlier a source reader left before after buffer engine first (now + saved_by timing.every engine plan.bases)
+pub record Following (Takes : List ℕ → List Event → RunStop → Type 0) (Has : List ℕ → List Event → Type 0) (timing : Timing) (plan : Plan) (earlier : List Event) (a : RunRequest) (source before after : Option (List ℕ)) (buffer : List ℕ) (engine : EngineState) (first now : ℕ) (peaks : ℕ → ℕ) : Type 0 where
+  pub counting : Counted Takes Has timing earlier a source before after buffer engine first (now + saved_by timing.every engine plan.bases)
   pub windows : FollowsWindowsBy (due_by timing) peaks (last_of (due_by timing) (length counting.running.events)) counting.running.events engine
   pub on_time : WithNoNumber timing.every (IsOnTime plan engine counting.running.events)
 
@@ -57,7 +58,7 @@ StepsPut order before after rows most now (Err Memory) = now ≤ most + row_dela
 StepsPut order before after rows most now (Err (Fault f)) = StepsAtFault order before after rows most now
 
 -- How a run ended over a source: what was written, how many steps there are, and what the engine stands for where it ended well.
-pub record RunEnded (timing : Timing) (peaks : ℕ → ℕ) (earlier : List Event) (a : RunRequest) (source left before after : Option (List ℕ)) (engine : EngineState) (first now : ℕ) {T : Type 0} (result : Result T (OrMemory StreamFault)) : Type 0 where
-  pub wrote : WroteStreamAfter earlier a source left before after result
-  pub steps : (bytes : List ℕ) → source ≡ Some bytes → StepsOverAfter timing earlier a bytes before after first now result
-  pub stands : OnOk result ((bytes : List ℕ) → source ≡ Some bytes → StandsForAllAfter timing peaks earlier a bytes engine)
+pub record RunEnded (Takes : List ℕ → List Event → RunStop → Type 0) (Read : Option (List ℕ) → List ℕ → List Event → Type 0) (timing : Timing) (peaks : ℕ → ℕ) (earlier : List Event) (a : RunRequest) (source left before after : Option (List ℕ)) (engine : EngineState) (first now : ℕ) {T : Type 0} (result : Result T (OrMemory StreamFault)) : Type 0 where
+  pub wrote : ByEnd (said_by Takes Read (length earlier) a source before after) left result
+  pub steps : (bytes : List ℕ) → source ≡ Some bytes → StepsTaken Takes timing (length earlier) a bytes before after first now result
+  pub stands : OnOk result ((bytes : List ℕ) → source ≡ Some bytes → StandsForTaken Takes timing peaks bytes engine)

@@ -1,5 +1,5 @@
--- Lines that are gathered before they are written, and how a run stands meanwhile. Private clauses cite this file, and those of `Output` and `finish`, which are public for `command_reorder`.
-use Rattle.std.specs.Prelude.{◌≡◌, ℕ, ◌≤◌, ◌⊎◌, true, false, List, [], ◌++◌, length, Option, Some, Result, Ok, Err}
+-- Lines that are gathered before they are written, and how a run stands meanwhile. Private clauses alone cite this file.
+use Rattle.std.specs.Prelude.{◌≡◌, ℕ, ◌≤◌, ◌⊎◌, List, [], ◌++◌, length, Option, Some, Result, Ok, Err}
 use Rattle.cer_base.specs.declared.OrMemory.{OrMemory}
 use Rattle.cer_base.specs.declared.OrMemory.TheVariants.{Fault, Memory}
 use Rattle.cer_outside.specs.Causes.{Rose}
@@ -7,14 +7,13 @@ use Rattle.cer_outside.specs.Bytes.{TookAll, TookPart}
 use Rattle.stream_schema.specs.declared.Event.{Event}
 use Rattle.answer_text.specs.declared.Order.{Order}
 use Rattle.output_laws.specs.After.{IsOutputAfter}
-use Rattle.event_reader.specs.Lines.{has_line_feed, begins_with_end}
-use Rattle.event_reader.specs.LineReaders.{LineReader}
 use Rattle.query_engine.specs.Engine.{EngineState, StandsFor}
 use Rattle.event_run.specs.declared.RunFault.{RunFault}
 use Rattle.event_run.specs.declared.RunFault.TheVariants as run
-use Rattle.event_run.specs.Taking.{HasTakenAfter}
+use Rattle.event_run.specs.Runs.{RunStop}
 use Rattle.stream_answers.specs.declared.StreamFault.{StreamFault}
 use Rattle.stream_answers.specs.declared.StreamFault.TheVariants as fault
+use Rattle.stream_answers.specs.Events.{Begins}
 use Rattle.stream_answers.specs.Streams.{RunRequest}
 
 -- what is gathered, and how the lines of one position are ordered
@@ -34,19 +33,20 @@ Passed before after buffer came now (Ok done) = PassesOn before after buffer cam
 Passed before after buffer came now (Err (Fault f)) = TookPart before after (buffer ++ came)
 Passed before after buffer came now (Err Memory) = (rest : List ℕ) × PassesOn before after buffer came now rest
 
--- Nothing is held, or the next line, one that is not empty, lies complete among the bytes that the reader has taken: it asks its source nothing for it.
-abbrev pub MayWait : List ℕ → List ℕ → Type 0
-MayWait buffer pending = (buffer ≡ []) ⊎ ((begins_with_end pending ≡ false) × (has_line_feed pending ≡ true))
+-- Nothing is held, or the next event is at hand: the source is asked nothing for it.
+abbrev pub MayWait : List ℕ → Type 0 → Type 0
+MayWait buffer IsAtHand = (buffer ≡ []) ⊎ IsAtHand
 
--- The engine stands for events, of which those after the earlier ones have their answers written or held; `lines` are those of the source, where it tells them.
-pub record Running (earlier : List Event) (a : RunRequest) (source : Option (List ℕ)) (reader : LineReader) (left before after : Option (List ℕ)) (buffer : List ℕ) (engine : EngineState) : Type 0 where
+-- The engine stands for events, of which those after the earlier ones have their answers written or held; of the source, where it tells its bytes, these were given, and its run begins with them.
+pub record Running (Takes : List ℕ → List Event → RunStop → Type 0) (Has : List ℕ → List Event → Type 0) (earlier : List Event) (a : RunRequest) (source before after : Option (List ℕ)) (buffer : List ℕ) (engine : EngineState) : Type 0 where
   pub events : List Event
   pub stands : StandsFor engine events
   pub written : List ℕ
   pub took : TookAll before after written
   pub behind : length earlier ≤ length events
   pub output : IsOutputAfter (length earlier) a.order a.schema a.queries events (written ++ buffer)
-  pub taken : (lines : List ℕ) → source ≡ Some lines → HasTakenAfter earlier a.schema a.queries reader lines left events
+  pub given : (lines : List ℕ) → source ≡ Some lines → Has lines events
+  pub begins : (lines : List ℕ) → source ≡ Some lines → Begins Takes lines events
 
 -- What was held was written, and the answer is the one that was to come; or a write failed, and that is the answer.
 pub record Finished {T : Type 0} (before after : Option (List ℕ)) (old new : ℕ) (buffer : List ℕ) (end result : Result T (OrMemory StreamFault)) : Type 0 where

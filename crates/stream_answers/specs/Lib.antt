@@ -2,6 +2,7 @@ pub mod RunEnds
 pub mod Windows
 pub mod Streams
 pub mod Steps
+pub mod Events
 pub mod Gathering
 pub mod Counting
 pub mod AtEnd

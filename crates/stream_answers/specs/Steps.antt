@@ -17,15 +17,10 @@ use Rattle.stream_answers.specs.declared.StreamFault.{StreamFault}
 use Rattle.stream_answers.specs.RunEnds.{EndClaims, ByEnd}
 use Rattle.stream_answers.specs.Streams.{RunRequest}
 use Rattle.stream_answers.specs.Schedules.{Timing, due_by, pace}
-pub use Rattle.stream_answers.specs.Windows.{is_due}
 
 -- the steps of the compaction after so many events, none where none is due
 abbrev pub compaction_by : (ℕ → Bool) → ℕ → (ℕ → ℕ) → ℕ → ℕ
 compaction_by due queries most events = cond (due events) (compaction_bound queries most events) 0
-
--- the bound of a compaction after so many events, where one is due after every N-th
-abbrev pub compaction_at : Option ℕ → ℕ → (ℕ → ℕ) → ℕ → ℕ
-compaction_at every queries most events = compaction_by (is_due every) queries most events
 
 -- for each compaction among so many events, which are counted from 1
 abbrev pub compactions : (ℕ → Bool) → ℕ → (ℕ → ℕ) → ℕ → ℕ
@@ -39,10 +34,6 @@ run_bound timing queries most events rows = events * pace timing.every queries m
 abbrev pub AreBoundedBy : Timing → Declared → List Query → List StreamEvent → List Row → ℕ → ℕ → Type 0
 AreBoundedBy timing schema queries events rows before now = (most : ℕ → ℕ) → MeetMost schema queries events most →
     now ≤ before + run_bound timing (length queries) most (length events) rows
-
--- the same where all events count
-abbrev pub AreBounded : Option ℕ → Declared → List Query → List StreamEvent → List Row → ℕ → ℕ → Type 0
-AreBounded every schema queries events rows before now = AreBoundedBy (record { every = every; first = 0 }) schema queries events rows before now
 
 -- OVER ANY SOURCE, as `Streams` has it
 
@@ -102,10 +93,6 @@ AreOfEvents schema queries events before now = (most : ℕ → ℕ) → MeetMost
 abbrev pub CountsAllAfter : Timing → List StreamEvent → RunRequest → List ℕ → (RunStop → Type 0) → (List ℕ → Type 0) → ℕ → ℕ → Type 0
 CountsAllAfter timing earlier a lines Stops Took before now = CountsTaken (RunsAfter earlier a.schema a.queries a.most_bytes) timing (length earlier) a lines Stops Took before now
 
--- whatever ended the run, and whatever was written
-abbrev pub CountsAfter : Timing → List StreamEvent → RunRequest → List ℕ → ℕ → ℕ → Type 0
-CountsAfter timing earlier a lines before now = CountsAllAfter timing earlier a lines (λ halt. Unit {0}) (λ bytes. Unit {0}) before now
-
 abbrev pub CountsAtFaultAfter : Timing → List StreamEvent → Order → RunRequest → List ℕ → Option (List ℕ) → Option (List ℕ) → ℕ → ℕ → Type 0
 CountsAtFaultAfter timing earlier order a lines before after old now = CountsAtFaultBy (RunsAfter earlier a.schema a.queries a.most_bytes) timing (length earlier) order a lines before after old now
 
@@ -113,13 +100,6 @@ abbrev pub StepsOverAfter : Timing → List StreamEvent → RunRequest → List 
 StepsOverAfter timing earlier a lines before after old now result = StepsTaken (RunsAfter earlier a.schema a.queries a.most_bytes) timing (length earlier) a lines before after old now result
 
 -- WITH NO EVENT BEFORE
-
--- The steps are bounded by the events that the queries take of a file of these bytes, and by the rows of their output.
-abbrev pub CountsAll : Option ℕ → RunRequest → List ℕ → (RunStop → Type 0) → (List ℕ → Type 0) → ℕ → ℕ → Type 0
-CountsAll every a lines Stops Took before now = CountsAllAfter (record { every = every; first = 0 }) [] a lines Stops Took before now
-
-abbrev pub CountsAtFault : Option ℕ → Order → RunRequest → List ℕ → Option (List ℕ) → Option (List ℕ) → ℕ → ℕ → Type 0
-CountsAtFault every order a lines before after old now = CountsAtFaultAfter (record { every = every; first = 0 }) [] order a lines before after old now
 
 -- by how the run ended
 abbrev pub StepsOver : Option ℕ → RunRequest → List ℕ → Option (List ℕ) → Option (List ℕ) → ℕ → ℕ → {T : Type 0} → Result T (OrMemory StreamFault) → Type 0

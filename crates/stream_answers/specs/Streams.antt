@@ -79,9 +79,6 @@ said_by Takes Read first a source old new = record {
 -- OVER A FILE WHOSE EVENTS COME AFTER OTHERS
 -- `earlier` are events that came before and whose answers are not asked for; `events` are these and then those of the file.
 
-abbrev pub AreAnswersAfter : List StreamEvent → RunRequest → List ℕ → List ℕ → Type 0
-AreAnswersAfter earlier a lines bytes = AreAnswersBy (RunsAfter earlier a.schema a.queries a.most_bytes) (length earlier) a lines bytes
-
 abbrev pub WroteOverAfter : List StreamEvent → RunRequest → Option (List ℕ) → (List ℕ → List StreamEvent → Type 0) → Option (List ℕ) → Option (List ℕ) → Type 0
 WroteOverAfter earlier a source Are old new = WroteOverFrom (length earlier) a source Are old new
 
@@ -105,10 +102,6 @@ WroteStreamAfter earlier a source left old new result = ByEnd (answers_said earl
 
 -- WITH NO EVENT BEFORE
 
--- The bytes are the answers over the events that the queries take of a file of these bytes.
-abbrev pub AreAnswersOver : RunRequest → List ℕ → List ℕ → Type 0
-AreAnswersOver a lines bytes = AreAnswersAfter [] a lines bytes
-
 -- The sink took the answers over these events, and what the source was tells which these are.
 abbrev pub WroteOver : RunRequest → Option (List ℕ) → (List ℕ → List StreamEvent → Type 0) → Option (List ℕ) → Option (List ℕ) → Type 0
 WroteOver a source Are old new = WroteOverAfter [] a source Are old new
@@ -119,9 +112,6 @@ StandsForAll every peaks a lines engine = StandsForAllAfter (record { every = ev
 
 abbrev pub WroteAll : RunRequest → Option (List ℕ) → RunStop → Option (List ℕ) → Option (List ℕ) → Type 0
 WroteAll a source stop old new = WroteAllAfter [] a source stop old new
-
-abbrev pub WrotePartOf : RunRequest → Option (List ℕ) → (List ℕ → Type 0) → Type 0
-WrotePartOf a source Took = WrotePartOfAfter [] a source Took
 
 -- all answers up to the stop, or those over what was read, or a part of them
 abbrev pub WroteStream : RunRequest → Option (List ℕ) → Option (List ℕ) → Option (List ℕ) → Option (List ℕ) → {T : Type 0} → Result T (OrMemory StreamFault) → Type 0

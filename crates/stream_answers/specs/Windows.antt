@@ -22,10 +22,6 @@ abbrev pub last_of : (ℕ → Bool) → ℕ → ℕ
 last_of due zero = 0
 last_of due (suc n) = cond (due (suc n)) (suc n) (last_of due n)
 
--- after how many events the last one was due, where one is due after every N-th
-abbrev pub last_due : Option ℕ → ℕ → ℕ
-last_due every events = last_of (is_due every) events
-
 -- After one of the events there were as many nodes as at most ever: they are bounded by the events up to it that came after the compaction before it, and those in the windows that this left.
 pub record HasPeak (due : ℕ → Bool) (events : List Event) (engine : EngineState) (k : ℕ) (q : Query) : Type 0 where
   pub count : ℕ
@@ -38,10 +34,6 @@ pub record FollowsWindowsBy (due : ℕ → Bool) (before : ℕ → ℕ) (first :
   pub nodes : FollowsWindowSince first engine events
   pub keys : KeysFollowWindowsSince first engine events
   pub peaks : (k : ℕ) (q : Query) → slice_get engine.queries k ≡ Some q → (peak_of engine (k + 1) ≤ before (k + 1)) ⊎ HasPeak due events engine k q
-
--- the windows are followed with a compaction after every N-th event
-abbrev pub FollowsWindows : Option ℕ → (ℕ → ℕ) → ℕ → List Event → EngineState → Type 0
-FollowsWindows every before first events engine = FollowsWindowsBy (is_due every) before first events engine
 
 -- What an engine is that goes on with events after these: it stands for them, and its nodes and its peaks follow them; these were its peaks before any of them.
 pub record FollowsEvents (peaks : ℕ → ℕ) (engine : EngineState) (events : List Event) : Type 0 where

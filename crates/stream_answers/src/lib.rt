@@ -1,24 +1,24 @@
 //! The answers over the events of a source, written to a sink.
 //!
-//! Promised: `write_answers` gives an engine the events of a file one after the other and writes,
-//! after each, the answers of all queries there, as `specs/Streams` says: all of them up to the
-//! end or to the first fault, and where the sink fails or memory runs out a first part of them.
-//! `write_answers_after` does so with an engine that has events already, and writes none at these.
-//! In sorted order lines are gathered until they fill a piece or the source has to be asked; in walk
-//! order each line is written before the next answer is asked for. `Output` gathers and writes the
-//! lines of whatever gives an engine its events.
-//! It stands on `event_run` for the events and on `answer_blocks` for the answers.
+//! Promised: `write_events` gives an engine the events of any source of events one after the other
+//! and writes, after each, the answers of all queries there, as `specs/Streams` says: all of them up
+//! to the end or to the first fault, and where the sink fails or memory runs out a first part of them.
+//! `write_answers` does so with the events of a file as they come, and `write_answers_after` with an
+//! engine that has events already: none is written at these. In sorted order lines are gathered until
+//! they fill a piece or the source has to be asked; in walk order each is written before the next
+//! answer is asked for. It stands on `event_run` for the events, on `answer_blocks` for the answers.
 #![tactic(auto)]
 
+mod events;
 mod output;
 pub mod schedule;
 mod stream;
 
 use answer_text::Order;
 use event_reader::EventFault;
-pub use output::Output;
+pub use events::{Events, Step};
 pub use schedule::Schedule;
-pub use stream::{finish, stream_fault, write_answers, write_answers_after};
+pub use stream::{stream_fault, write_answers, write_answers_after, write_events};
 
 /// What a run is told besides its queries and its events.
 #[derive(Drop, Clone, Copy)]

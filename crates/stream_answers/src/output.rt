@@ -1,6 +1,6 @@
 //! The lines of a run, gathered and written.
 
-ghost use Rattle.std.specs.Prelude.{◌≡◌, ◌+◌, ◌-◌, ◌<◌, ◌⊎◌, ℕ, List, [], true, length, IsOk, OnOk, OnErr};
+ghost use Rattle.std.specs.Prelude.{◌≡◌, ◌+◌, ◌-◌, ◌<◌, ℕ, List, [], true, length, IsOk, OnOk, OnErr};
 ghost use Rattle.stream_schema.specs.declared.Event.{Event};
 ghost use Rattle.cer_outside.specs.Bytes.{TookAll, TookPart};
 ghost use Rattle.cer_outside.specs.Causes.{HasCause, HasCauseOrMemory};
@@ -13,13 +13,13 @@ ghost use Rattle.answer_blocks.specs.RowSteps.{HasRowsAt};
 ghost use Rattle.stream_answers.specs.Counting.{StepsPut};
 ghost use Rattle.stream_answers.specs.Gathering.{PassesOn, Passed, MayWait};
 
+use crate::events::Events;
 use answer_blocks::{push_blocks, write_blocks};
 use answer_text::Order;
 use cer_base::steps::Steps;
 use cer_base::{Memory, OrMemory};
 use cer_outside::writing::put_all;
 use cer_outside::{Sink, WriteFault};
-use event_reader::Lines;
 use query_engine::Engine;
 use std::alloc::Global;
 use std::marker::Model;
@@ -65,17 +65,17 @@ impl Output {
 
     /// The answers of all queries at the engine's last position. In walk order each line is written
     /// before the next answer is pulled. In sorted order lines wait only while few are held and the
-    /// reader has its next line at hand, so none waits while the source is asked.
-    pub fn put<K: Sink, L: Ledger>(
+    /// next event is at hand, so none waits while the source is asked.
+    pub fn put<E: Events, K: Sink, L: Ledger>(
         &mut self,
         engine: &Engine,
-        lines: &mut Lines,
+        events: &mut E,
         out: &mut K,
         steps: &mut Steps<L>,
     ) -> Result<(), OrMemory<WriteFault>>
         requires seen { 0 < count_of engine.now }
-        ensures lines { lines.new ≡ lines.old }
-        ensures waits { OnOk result (MayWait self.new.buffer lines.old.pending) }
+        ensures events { events.new ≡ events.old }
+        ensures waits { OnOk result (MayWait self.new.buffer (E.asks_nothing events.old)) }
         ensures order { self.new.order ≡ self.old.order }
         ensures passed { (events : List Event) → StandsFor engine.now events → (bytes : List ℕ)
             × AreBlocks self.old.order engine.now.schema 1 engine.now.queries events
@@ -97,7 +97,7 @@ impl Output {
                     Ok(()) => {}
                     Err(Memory) => return Err(OrMemory::Memory),
                 }
-                if self.may_wait(lines) {
+                if self.may_wait(events) {
                     return Ok(());
                 }
                 match self.flush(out) {
@@ -109,70 +109,29 @@ impl Output {
     }
 
     /// Whether what is held may wait for more: there is nothing, or it is not a piece and the next
-    /// line, which is not empty, is at hand.
-    fn may_wait(&self, lines: &mut Lines) -> bool
-        ensures lines { lines.new ≡ lines.old }
-        ensures waits { result ≡ true → MayWait self.now.buffer lines.old.pending }
+    /// event is at hand.
+    fn may_wait<E: Events>(&self, events: &mut E) -> bool
+        ensures events { events.new ≡ events.old }
+        ensures waits { result ≡ true → MayWait self.now.buffer (E.asks_nothing events.old) }
     {
         if self.buffer.is_empty() {
             return true;
         }
-        if self.buffer.len() >= PIECE || lines.begins_with_end() {
+        if self.buffer.len() >= PIECE {
             return false;
         }
-        lines.has_line()
+        events.is_at_hand()
     }
 
-    /// The answers of all queries at the engine's last position, where no line need be written yet
-    /// because the reader is not asked for its next line before `settle`. In walk order each line is
-    /// written before the next answer is pulled. In sorted order lines wait until they fill a piece.
-    pub fn add<K: Sink, L: Ledger>(
+    /// Writes what is held, unless it may wait: then the next event is at hand, so none waits while
+    /// the source is asked.
+    pub fn settle<E: Events, K: Sink>(
         &mut self,
-        engine: &Engine,
+        events: &mut E,
         out: &mut K,
-        steps: &mut Steps<L>,
-    ) -> Result<(), OrMemory<WriteFault>>
-        requires seen { 0 < count_of engine.now }
-        ensures order { self.new.order ≡ self.old.order }
-        ensures passed { (events : List Event) → StandsFor engine.now events → (bytes : List ℕ)
-            × AreBlocks self.old.order engine.now.schema 1 engine.now.queries events
-            (length events - 1) bytes
-            × Passed (K.taken out.old)
-            (K.taken out.new) self.old.buffer bytes self.new.buffer result }
-        ensures rows { HasRowsAt self.old.order engine.now engine.now.queries (λ rows.
-            Passed (K.taken out.old) (K.taken out.new) self.old.buffer (lines_of rows)
-            self.new.buffer result
-            × StepsPut self.old.order (K.taken out.old) (K.taken out.new) rows
-            (steps.old + cursor_bounds engine.now) steps.new result) }
-        ensures walk { self.old.order ≡ Walk → self.new.buffer ≡ [] }
-        ensures cause { HasCauseOrMemory (K.faults out.old) (K.faults out.new) result }
-    {
-        match self.order {
-            Order::Walk => {
-                let line = &mut self.line;
-                write_blocks(engine, out, line, steps)
-            }
-            Order::Sorted => {
-                match push_blocks(self.alloc, engine, &mut self.buffer, steps) {
-                    Ok(()) => {}
-                    Err(Memory) => return Err(OrMemory::Memory),
-                }
-                if self.buffer.len() < PIECE {
-                    return Ok(());
-                }
-                match self.flush(out) {
-                    Ok(()) => Ok(()),
-                    Err(WriteFault) => Err(OrMemory::Fault(WriteFault)),
-                }
-            }
-        }
-    }
-
-    /// Writes what is held, unless it may wait: then the reader has its next line at hand, so none
-    /// waits while the source is asked.
-    pub fn settle<K: Sink>(&mut self, lines: &mut Lines, out: &mut K) -> Result<(), WriteFault>
-        ensures lines { lines.new ≡ lines.old }
-        ensures waits { OnOk result (MayWait self.new.buffer lines.old.pending) }
+    ) -> Result<(), WriteFault>
+        ensures events { events.new ≡ events.old }
+        ensures waits { OnOk result (MayWait self.new.buffer (E.asks_nothing events.old)) }
         ensures order { self.new.order ≡ self.old.order }
         ensures kept { OnOk result (PassesOn (K.taken out.old)
             (K.taken out.new) self.old.buffer [] self.new.buffer []) }
@@ -180,7 +139,7 @@ impl Output {
         ensures none { self.old.buffer ≡ [] → IsOk result }
         ensures cause { HasCause (K.faults out.old) (K.faults out.new) result }
     {
-        if self.may_wait(lines) {
+        if self.may_wait(events) {
             return Ok(());
         }
         self.flush(out)

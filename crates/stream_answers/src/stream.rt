@@ -1,10 +1,9 @@
-//! The loop over the events of a source.
+//! The one loop over events.
 
-ghost use Rattle.std.specs.Prelude.{◌≡◌, ◌+◌, ◌-◌, ◌^◌, ◌<◌, ◌≤◌, ℕ, List, [], length, false, Some, OnOk};
+ghost use Rattle.std.specs.Prelude.{◌≡◌, ◌+◌, ◌-◌, ◌^◌, ◌<◌, ℕ, List, [], length, Some, OnOk};
 ghost use Rattle.stream_schema.specs.declared.Event.{Event};
-ghost use Rattle.event_reader.specs.LineReaders.{HasGiven};
-ghost use Rattle.query_engine.specs.Engine.{StandsFor, SameQueries, count_of, len_of, peak_of};
-ghost use Rattle.query_engine.specs.Counts.{MeetMost, HasFewNodes};
+ghost use Rattle.query_engine.specs.Engine.{StandsFor, SameQueries, count_of, peak_of};
+ghost use Rattle.stream_answers.specs.Events.{Begins};
 ghost use Rattle.stream_answers.specs.Gathering.{Finished, stream_fault};
 ghost use Rattle.stream_answers.specs.Counting.{HasBegun, RunEnded};
 ghost use Rattle.stream_answers.specs.Schedules.{saved};
@@ -13,14 +12,14 @@ ghost use Rattle.stream_answers.specs.Windows.{FollowsEvents};
 ghost use Rattle.stream_answers.specs.RunEnds.{HasReadCause, HasWriteCause};
 ghost use Rattle.stream_answers.specs.Streams.{asked_by, WroteStream, WroteStreamAfter, StandsForAll, StandsForAllAfter};
 
+use crate::events::{Events, LineEvents, Step};
 use crate::output::Output;
 use crate::schedule::Schedule;
 use crate::{RunOptions, StreamFault};
 use cer_base::steps::Steps;
 use cer_base::{Memory, OrMemory};
 use cer_outside::{Sink, Source, WriteFault};
-use event_reader::{EventBuffer, Lines};
-use event_run::{NextEvent, RunFault, take_event};
+use event_run::RunFault;
 use query_engine::Engine;
 use std::alloc::Global;
 use std::sync::ledger::Ledger;
@@ -107,20 +106,50 @@ pub fn write_answers_after<Q: Source, K: Sink, L: Ledger>(
     ensures read_cause { HasReadCause (Q.faults source.old) (Q.faults source.new) result }
     ensures write_cause { HasWriteCause (K.faults out.old) (K.faults out.new) result }
 {
-    let mut lines = match Lines::new(alloc, options.most_bytes) {
-        Ok(lines) => lines,
+    let mut events = match LineEvents::new(alloc, options.most_bytes) {
+        Ok(events) => events,
         Err(Memory) => return Err(OrMemory::Memory),
     };
-    let mut row = EventBuffer::new(alloc);
+    write_events(alloc, options, &mut events, engine, source, out, steps)
+}
+
+/// Gives an engine, which may have taken events before, the events of a source of events that is at
+/// its beginning, and writes the answers at each of these, as `write_answers_after` does with those of
+/// a file: so many as there is room for.
+pub fn write_events<E: Events, Q: Source, K: Sink, L: Ledger>(
+    alloc: Global,
+    options: RunOptions,
+    events: &mut E,
+    engine: &mut Engine,
+    source: &mut Q,
+    out: &mut K,
+    steps: &mut Steps<L>,
+) -> Result<(), OrMemory<StreamFault>>
+    requires goes_on { E.goes_on events.old engine.old.schema }
+    requires room { count_of engine.old + E.room events.old < 2 ^ 64 }
+    requires given { (earlier : List Event) (bytes : List ℕ) → E.gives events.old engine.old.schema
+        engine.old.queries earlier (Some bytes) bytes earlier }
+    requires begins { (earlier : List Event) (bytes : List ℕ) → Begins (E.takes events.old
+        engine.old.schema engine.old.queries earlier) bytes earlier }
+    ensures ended { (peaks : ℕ → ℕ) (earlier : List Event) (begun : ℕ)
+        → FollowsEvents peaks engine.old earlier
+        → AreOfEvents engine.old.schema engine.old.queries earlier begun steps.old
+        → RunEnded (E.takes events.old engine.old.schema engine.old.queries earlier)
+        (E.reads events.old engine.old.schema engine.old.queries earlier)
+        (record { every = options.compact_every; first = length earlier }) peaks earlier
+        (asked_by options engine.old) (Q.left source.old) (Q.left source.new)
+        (K.taken out.old) (K.taken out.new) engine.new begun steps.new result }
+    ensures same { SameQueries engine.old engine.new }
+    ensures read_cause { HasReadCause (Q.faults source.old) (Q.faults source.new) result }
+    ensures write_cause { HasWriteCause (K.faults out.old) (K.faults out.new) result }
+{
     let mut output = Output::new(alloc, options.order);
     let mut schedule = match Schedule::new(alloc, options.compact_every, engine, steps) {
         Ok(schedule) => schedule,
         Err(Memory) => return Err(OrMemory::Memory),
     };
     answer_events(
-        alloc,
-        &mut lines,
-        &mut row,
+        events,
         &mut output,
         &mut schedule,
         engine,
@@ -131,10 +160,8 @@ pub fn write_answers_after<Q: Source, K: Sink, L: Ledger>(
 }
 
 /// Gives the engine all further events, and writes the answers at each.
-fn answer_events<Q: Source, K: Sink, L: Ledger>(
-    alloc: Global,
-    lines: &mut Lines,
-    row: &mut EventBuffer,
+fn answer_events<E: Events, Q: Source, K: Sink, L: Ledger>(
+    events: &mut E,
     output: &mut Output,
     schedule: &mut Schedule,
     engine: &mut Engine,
@@ -142,20 +169,25 @@ fn answer_events<Q: Source, K: Sink, L: Ledger>(
     out: &mut K,
     steps: &mut Steps<L>,
 ) -> Result<(), OrMemory<StreamFault>>
-    requires open { lines.old.closed ≡ false }
-    requires room { count_of engine.old + lines.old.budget < 2 ^ 64 }
-    requires given { (bytes : List ℕ) → HasGiven lines.old bytes (Some bytes) [] }
+    requires goes_on { E.goes_on events.old engine.old.schema }
+    requires room { count_of engine.old + E.room events.old < 2 ^ 64 }
+    requires given { (earlier : List Event) (bytes : List ℕ) → E.gives events.old engine.old.schema
+        engine.old.queries earlier (Some bytes) bytes earlier }
+    requires begins { (earlier : List Event) (bytes : List ℕ) → Begins (E.takes events.old
+        engine.old.schema engine.old.queries earlier) bytes earlier }
     requires empty { output.old.buffer ≡ [] }
     requires bases { length schedule.old.bases ≡ length engine.old.queries }
-    ensures ended { (peaks : ℕ → ℕ) (earlier : List Event) (begun : ℕ)
+    ensures ended { (peaks : ℕ → ℕ) (earlier : List Event) (begun most_bytes : ℕ)
         → HasBegun schedule.old peaks earlier engine.old
         → AreBoundedBy schedule.old.timing engine.old.schema engine.old.queries earlier [] begun
         (steps.old + saved schedule.old engine.old)
-        → RunEnded schedule.old.timing peaks earlier (record {
+        → RunEnded (E.takes events.old engine.old.schema engine.old.queries earlier)
+        (E.reads events.old engine.old.schema engine.old.queries earlier)
+        schedule.old.timing peaks earlier (record {
           order = output.old.order;
           schema = engine.old.schema;
           queries = engine.old.queries;
-          most_bytes = lines.old.budget;
+          most_bytes = most_bytes;
         })
         (Q.left source.old) (Q.left source.new) (K.taken out.old) (K.taken out.new) engine.new
         begun steps.new result }
@@ -164,12 +196,16 @@ fn answer_events<Q: Source, K: Sink, L: Ledger>(
     ensures write_cause { HasWriteCause (K.faults out.old) (K.faults out.new) result }
 {
     loop {
-        match take_event(alloc, lines, row, source, engine, steps) {
-            Ok(NextEvent::Event) => {}
-            Ok(NextEvent::End) => return finish(output, out, Ok(())),
+        match events.step(source, engine, steps) {
+            Ok(Step::Event) => {}
+            Ok(Step::Line) => match output.settle(events, out) {
+                Ok(()) => continue,
+                Err(WriteFault) => return Err(OrMemory::Fault(StreamFault::WriteFault)),
+            },
+            Ok(Step::End) => return finish(output, out, Ok(())),
             Err(stop) => return finish(output, out, Err(stream_fault(stop))),
         }
-        match output.put(engine, lines, out, steps) {
+        match output.put(engine, events, out, steps) {
             Ok(()) => {}
             Err(OrMemory::Memory) => return finish(output, out, Err(OrMemory::Memory)),
             Err(OrMemory::Fault(WriteFault)) => {
@@ -200,7 +236,7 @@ pub fn stream_fault(stop: OrMemory<RunFault>) -> OrMemory<StreamFault>
 }
 
 /// Writes what is held, and then gives the answer that was to come.
-pub fn finish<K: Sink>(
+fn finish<K: Sink>(
     output: &mut Output,
     out: &mut K,
     end: Result<(), OrMemory<StreamFault>>,

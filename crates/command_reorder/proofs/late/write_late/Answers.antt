@@ -1,73 +1,63 @@
-use Rattle.std.proofs.Common.{ℕ, refl, ◌∙◌, ap, arith}
+use Rattle.std.proofs.Common.{◌≡◌, ℕ, List, [], Option, Result, ap, subst, arith}
+use Rattle.cer_base.specs.declared.OrMemory.{OrMemory}
 use Rattle.stream_schema.specs.declared.Event.{Event}
-use Rattle.query_engine.specs.Engine.{peak_of}
-use Rattle.command_reorder.specs.LateOutput.{feed_by}
-use Rattle.command_reorder.proofs.Plans.{timed_first, bases_first, compacted_first, fresh}
-use Rattle.command_reorder.proofs.Ends.{closed_none}
+use Rattle.cel_terms.specs.declared.Query.{Query}
+use Rattle.query_engine.specs.Engine.{EngineState, peak_of}
+use Rattle.stream_answers.specs.declared.StreamFault.{StreamFault}
+use Rattle.stream_answers.specs.Counting.{RunEnded}
+use Rattle.stream_answers.specs.Schedules.{Timing}
+use Rattle.stream_answers.specs.Streams.{RunRequest, asked_by}
+use Rattle.stream_answers.proofs.Wholes.{wrote_none_of}
+use Rattle.stream_answers.proofs.Totals.{bounded_none, counts_none_of}
+use Rattle.stream_answers.proofs.Windows.{follows_none}
+use Rattle.command_reorder.specs.Late.{LateRequest, Feed, feed_for, TakesFed, RunsLate}
+use Rattle.command_reorder.specs.LateOutput.{asked, feed_by, ReadsFed}
+use Rattle.command_reorder.proofs.Gating.{same_feed, begins_none, may_begin, lets_none_go}
 use Rattle.command_reorder.proofs.late.write_late.Goals as goal
+
+-- how the run ended, in the words of what was asked
+late_ended : {T : Type 0} (f asked_feed : Feed) (queries : List Query) (timing : Timing) (peaks : ℕ → ℕ) (a : RunRequest) (source left before after : Option (List ℕ)) (last : EngineState) (first now : ℕ) (result : Result T (OrMemory StreamFault)) → f ≡ asked_feed →
+    RunEnded (TakesFed f queries []) (ReadsFed f queries []) timing peaks [] a source left before after last first now result → RunEnded (TakesFed asked_feed queries []) (ReadsFed asked_feed queries []) timing peaks [] a source left before after last first now result
+late_ended f asked_feed queries timing peaks a source left before after last first now result same ended =
+    subst (λ (d : Feed). RunEnded (TakesFed d queries []) (ReadsFed d queries []) timing peaks [] a source left before after last first now result) same ended
 
 pub returns-in-Err-clause-wrote : goal.returns-in-Err-clause-wrote
 returns-in-Err-clause-wrote g c =
-    (closed_none c.args.options.compact_every (peak_of c.args.engine.now) _ (g.Q.Source.left c.args.source.now) (g.Q.Source.left c.args.source.now) (g.K.Sink.taken c.args.out.now) c.args.engine.now c.args.steps.now c.args.steps.now (λ most meet. omega arith)).wrote
+    let a : LateRequest = feed_by c.args.options c.args.clock.now c.args.late c.args.engine.now in
+    wrote_none_of (RunsLate a) [] (asked a) _ _ (λ lines. begins_none (feed_for a) a.queries [] lines)
 
 pub returns-in-Err-clause-steps : goal.returns-in-Err-clause-steps
-returns-in-Err-clause-steps g c =
-    (closed_none c.args.options.compact_every (peak_of c.args.engine.now) _ (g.Q.Source.left c.args.source.now) (g.Q.Source.left c.args.source.now) (g.K.Sink.taken c.args.out.now) c.args.engine.now c.args.steps.now c.args.steps.now (λ most meet. omega arith)).steps
+returns-in-Err-clause-steps g c = λ bytes told.
+    let a : LateRequest = feed_by c.args.options c.args.clock.now c.args.late c.args.engine.now in
+    let t : Timing = record { every = c.args.options.compact_every; first = 0 } in
+    counts_none_of t (RunsLate a) [] (asked a) bytes c.args.steps.now c.args.steps.now (begins_none (feed_for a) a.queries [] bytes) (bounded_none t a.schema a.queries [] [] c.args.steps.now)
 
-pub returns-in-Err-new-clause-wrote : goal.returns-in-Err-new-clause-wrote
-returns-in-Err-new-clause-wrote g c =
-    (closed_none c.args.options.compact_every (peak_of c.args.engine.now) _ (g.Q.Source.left c.args.source.now) (g.Q.Source.left c.args.source.now) (g.K.Sink.taken c.args.out.now) c.args.engine.now c.args.steps.now c.args.steps.now (λ most meet. omega arith)).wrote
+pub write_events-requires-clause-goes_on : goal.write_events-requires-clause-goes_on
+write_events-requires-clause-goes_on g c = may_begin c.args.engine.now.schema c.in-Ok.events c.in-Ok.ensures.open c.in-Ok.ensures.none
 
-pub returns-in-Err-new-clause-steps : goal.returns-in-Err-new-clause-steps
-returns-in-Err-new-clause-steps g c =
-    (closed_none c.args.options.compact_every (peak_of c.args.engine.now) _ (g.Q.Source.left c.args.source.now) (g.Q.Source.left c.args.source.now) (g.K.Sink.taken c.args.out.now) c.args.engine.now c.args.steps.now c.args.steps.now (λ most meet. omega arith)).steps
+pub write_events-requires-clause-room : goal.write_events-requires-clause-room
+write_events-requires-clause-room g c = let none = c.requires.none in let room = c.in-Ok.ensures.room in omega (arith, none, room)
 
-pub returns-in-Err-new-2-clause-wrote : goal.returns-in-Err-new-2-clause-wrote
-returns-in-Err-new-2-clause-wrote g c =
-    (closed_none c.args.options.compact_every (peak_of c.args.engine.now) (feed_by c.args.options c.args.clock.now c.args.late c.args.engine.now) (g.Q.Source.left c.args.source.now) (g.Q.Source.left c.args.source.now) (g.K.Sink.taken c.args.out.now) c.new-3.new.engine c.args.steps.now c.new-3.new.steps
-    (compacted_first c.args.options.compact_every c.args.engine.now c.args.steps.now c.new-3.new.steps c.requires.fresh c.in-Err-new-2.ensures.wanting_steps)).wrote
+pub write_events-requires-clause-given : goal.write_events-requires-clause-given
+write_events-requires-clause-given g c = λ earlier bytes. lets_none_go c.args.engine.now.schema c.args.engine.now.queries earlier c.in-Ok.events bytes c.in-Ok.ensures.going c.in-Ok.ensures.stands (c.in-Ok.ensures.given bytes)
 
-pub returns-in-Err-new-2-clause-steps : goal.returns-in-Err-new-2-clause-steps
-returns-in-Err-new-2-clause-steps g c =
-    (closed_none c.args.options.compact_every (peak_of c.args.engine.now) (feed_by c.args.options c.args.clock.now c.args.late c.args.engine.now) (g.Q.Source.left c.args.source.now) (g.Q.Source.left c.args.source.now) (g.K.Sink.taken c.args.out.now) c.new-3.new.engine c.args.steps.now c.new-3.new.steps
-    (compacted_first c.args.options.compact_every c.args.engine.now c.args.steps.now c.new-3.new.steps c.requires.fresh c.in-Err-new-2.ensures.wanting_steps)).steps
-
-pub answer_lines-requires-clause-none : goal.answer_lines-requires-clause-none
-answer_lines-requires-clause-none g c = c.new-3.ensures.count ∙ c.requires.none
-
-pub answer_lines-requires-clause-bases : goal.answer_lines-requires-clause-bases
-answer_lines-requires-clause-bases g c =
-    bases_first c.in-Ok-new-2.schedule c.args.engine.now c.new-3.new.engine c.in-Ok-new-2.ensures.bases c.new-3.ensures.same
+pub write_events-requires-clause-begins : goal.write_events-requires-clause-begins
+write_events-requires-clause-begins g c = λ earlier bytes. begins_none _ _ earlier bytes
 
 pub returns-clause-wrote : goal.returns-clause-wrote
 returns-clause-wrote g c =
-    let gate = c.in-Ok-new.ensures in
-    let seen = c.schema.ensures in
-    let made = c.in-Ok-new-2.ensures in
-    let timed = timed_first c.args.options.compact_every c.in-Ok-new-2.schedule _ made.timing c.requires.none in
-    (c.answer_lines.ensures.closed c.args.options.compact_every (peak_of c.args.engine.now) (feed_by c.args.options c.args.clock.now c.args.late c.args.engine.now) c.args.steps.now (
-    fresh c.args.options.compact_every c.in-Ok-new-2.schedule (feed_by c.args.options c.args.clock.now c.args.late c.args.engine.now) c.in-Ok.lines c.in-Ok-new.gate c.new-output.result c.args.engine.now c.new-3.new.engine c.args.steps.now c.new-3.new.steps timed c.requires.fresh c.new-3.ensures.same
-    c.new-3.ensures.follows made.on_time made.steps refl refl c.new-output.ensures c.in-Ok.ensures.budget (record { clock = ap (λ k (e : ℕ × Event). k e.1) (rw seen at gate.clock).clock; late = gate.blank.0 }) gate.blank.2 gate.history gate.blank.3 c.in-Ok.ensures.given)).wrote
+    (late_ended _ (feed_for (feed_by c.args.options c.args.clock.now c.args.late c.args.engine.now)) c.args.engine.now.queries _ (peak_of c.args.engine.now) (asked_by c.args.options c.args.engine.now) _ _ _ _ _ _ _ c.write_events.result
+    (same_feed (feed_for (feed_by c.args.options c.args.clock.now c.args.late c.args.engine.now)) c.in-Ok.events.lines c.in-Ok.events.gate (record { clock = ap (λ k (e : ℕ × Event). k e.1) (rw c.schema.ensures at c.in-Ok.ensures.clock).clock; late = c.in-Ok.ensures.late }) c.in-Ok.ensures.budget)
+    (c.write_events.ensures.ended (peak_of c.args.engine.now) [] c.args.steps.now (follows_none c.args.engine.now c.requires.fresh) (λ most meet. omega arith))).wrote
 
 pub returns-clause-steps : goal.returns-clause-steps
 returns-clause-steps g c =
-    let gate = c.in-Ok-new.ensures in
-    let seen = c.schema.ensures in
-    let made = c.in-Ok-new-2.ensures in
-    let timed = timed_first c.args.options.compact_every c.in-Ok-new-2.schedule _ made.timing c.requires.none in
-    (c.answer_lines.ensures.closed c.args.options.compact_every (peak_of c.args.engine.now) (feed_by c.args.options c.args.clock.now c.args.late c.args.engine.now) c.args.steps.now (
-    fresh c.args.options.compact_every c.in-Ok-new-2.schedule (feed_by c.args.options c.args.clock.now c.args.late c.args.engine.now) c.in-Ok.lines c.in-Ok-new.gate c.new-output.result c.args.engine.now c.new-3.new.engine c.args.steps.now c.new-3.new.steps timed c.requires.fresh c.new-3.ensures.same
-    c.new-3.ensures.follows made.on_time made.steps refl refl c.new-output.ensures c.in-Ok.ensures.budget (record { clock = ap (λ k (e : ℕ × Event). k e.1) (rw seen at gate.clock).clock; late = gate.blank.0 }) gate.blank.2 gate.history gate.blank.3 c.in-Ok.ensures.given)).steps
+    (late_ended _ (feed_for (feed_by c.args.options c.args.clock.now c.args.late c.args.engine.now)) c.args.engine.now.queries _ (peak_of c.args.engine.now) (asked_by c.args.options c.args.engine.now) _ _ _ _ _ _ _ c.write_events.result
+    (same_feed (feed_for (feed_by c.args.options c.args.clock.now c.args.late c.args.engine.now)) c.in-Ok.events.lines c.in-Ok.events.gate (record { clock = ap (λ k (e : ℕ × Event). k e.1) (rw c.schema.ensures at c.in-Ok.ensures.clock).clock; late = c.in-Ok.ensures.late }) c.in-Ok.ensures.budget)
+    (c.write_events.ensures.ended (peak_of c.args.engine.now) [] c.args.steps.now (follows_none c.args.engine.now c.requires.fresh) (λ most meet. omega arith))).steps
 
 pub returns-clause-stands : goal.returns-clause-stands
 returns-clause-stands g c =
-    let gate = c.in-Ok-new.ensures in
-    let seen = c.schema.ensures in
-    let made = c.in-Ok-new-2.ensures in
-    let timed = timed_first c.args.options.compact_every c.in-Ok-new-2.schedule _ made.timing c.requires.none in
-    (c.answer_lines.ensures.closed c.args.options.compact_every (peak_of c.args.engine.now) (feed_by c.args.options c.args.clock.now c.args.late c.args.engine.now) c.args.steps.now (
-    fresh c.args.options.compact_every c.in-Ok-new-2.schedule (feed_by c.args.options c.args.clock.now c.args.late c.args.engine.now) c.in-Ok.lines c.in-Ok-new.gate c.new-output.result c.args.engine.now c.new-3.new.engine c.args.steps.now c.new-3.new.steps timed c.requires.fresh c.new-3.ensures.same
-    c.new-3.ensures.follows made.on_time made.steps refl refl c.new-output.ensures c.in-Ok.ensures.budget (record { clock = ap (λ k (e : ℕ × Event). k e.1) (rw seen at gate.clock).clock; late = gate.blank.0 }) gate.blank.2 gate.history gate.blank.3 c.in-Ok.ensures.given)).stands
-
-pub returns-clause-same : goal.returns-clause-same
-returns-clause-same g c = (c.answer_lines.ensures.same.0 ∙ c.new-3.ensures.same.0, c.answer_lines.ensures.same.1 ∙ c.new-3.ensures.same.1)
+    (late_ended _ (feed_for (feed_by c.args.options c.args.clock.now c.args.late c.args.engine.now)) c.args.engine.now.queries _ (peak_of c.args.engine.now) (asked_by c.args.options c.args.engine.now) _ _ _ _ _ _ _ c.write_events.result
+    (same_feed (feed_for (feed_by c.args.options c.args.clock.now c.args.late c.args.engine.now)) c.in-Ok.events.lines c.in-Ok.events.gate (record { clock = ap (λ k (e : ℕ × Event). k e.1) (rw c.schema.ensures at c.in-Ok.ensures.clock).clock; late = c.in-Ok.ensures.late }) c.in-Ok.ensures.budget)
+    (c.write_events.ensures.ended (peak_of c.args.engine.now) [] c.args.steps.now (follows_none c.args.engine.now c.requires.fresh) (λ most meet. omega arith))).stands

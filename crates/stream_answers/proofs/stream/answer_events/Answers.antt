@@ -95,23 +95,22 @@ loop-output-preserved g c =
           let took = took_as (g.E.Events.gives c.step.new.self) (g.E.Events.gives c.loop-output.events) (g.E.Events.takes c.loop-output.events) (g.E.Events.reads c.loop-output.events) _ a.schema _ a.queries inv.same.0 inv.same.1 earlier (g.Q.Source.left c.loop-output.source) (g.Q.Source.left c.step.new.source) c.loop-output.engine c.step.new.engine (Ok step.Event) ((rw c.in-Ok-Event.field-0-is at c.in-Ok-Event.ensures.took) earlier) so_far.counting.running.events so_far.counting.running.stands in
           let same = c.step.ensures.same in
           let owing = owes First Takes Had Has Reads earlier a (g.Q.Source.left c.args.source.now) (g.K.Sink.taken c.args.out.now) (g.K.Sink.taken c.loop-output.out) c.loop-output.output.buffer c.loop-output.engine c.step.new.engine (inv.lasts earlier) so_far.counting.running took in
-          let all : List Event = owing.events ++ owing.next ∷ [] in
           let had : ℕ = saved_by t.every c.loop-output.engine c.loop-output.schedule.bases in
           let mid : ℕ = saved_by t.every c.step.new.engine c.loop-output.schedule.bases in
           let pays = pays_for t.every a c.loop-output.engine c.step.new.engine owing.events owing.next c.loop-output.schedule.bases (same.0 ∙ inv.same.0) (same.1 ∙ inv.same.1) same owing.stands took.3 took.4 in
-          let put = c.in-Ok-put.ensures.rows.rows_are all owing.stands in
+          let put = c.in-Ok-put.ensures.rows.rows_are _ owing.stands in
           let now : ℕ = c.keep_up.new.steps + saved_by t.every c.keep_up.new.engine c.keep_up.new.self.bases in
           let compacted_is = compacted t a c.loop-output.engine c.step.new.engine c.keep_up.new.engine owing.events owing.next (c.put.new.steps + mid) now (same.0 ∙ inv.same.0) (same.1 ∙ inv.same.1) same c.keep_up.ensures.same
-          owing.stands (c.keep_up.ensures.stands all owing.stands) so_far.counting.few (c.in-Ok-Event.ensures.growth (ap Ok c.in-Ok-Event.field-0-is)) c.keep_up.ensures.fewer (paid_in_time c.loop-output.schedule c.keep_up.new.self t c.step.new.engine c.keep_up.new.engine inv.timing c.put.new.steps c.keep_up.new.steps c.keep_up.ensures.timing c.keep_up.ensures.steps all owing.stands)
+          owing.stands (c.keep_up.ensures.stands _ owing.stands) so_far.counting.few (c.in-Ok-Event.ensures.growth (ap Ok c.in-Ok-Event.field-0-is)) c.keep_up.ensures.fewer (paid_in_time c.loop-output.schedule c.keep_up.new.self t c.step.new.engine c.keep_up.new.engine inv.timing c.put.new.steps c.keep_up.new.steps c.keep_up.ensures.timing c.keep_up.ensures.steps (owing.events ++ owing.next ∷ []) owing.stands)
           (λ most meet. first_meet_fewer _ _ _ _ most meet) in
           let counting = counts_on t First Has earlier a (g.Q.Source.left c.args.source.now) (g.K.Sink.taken c.args.out.now) (g.K.Sink.taken c.loop-output.out) (g.K.Sink.taken c.put.new.out) c.loop-output.output.buffer c.put.new.self.buffer c.step.new.engine c.keep_up.new.engine owing
           so_far.counting.rows put.0 begun c.loop-output.steps had mid c.step.new.steps c.put.new.steps now (same.0 ∙ inv.same.0) (same.1 ∙ inv.same.1)
-          (rows_as t c.loop-output.output.order a.order c.step.new.engine.schema a.schema c.step.new.engine.queries a.queries all put.0 inv.order (same.0 ∙ inv.same.0) (same.1 ∙ inv.same.1) put.1) put.2.0 so_far.counting.are_rows so_far.counting.lines so_far.counting.bounded (rw c.in-Ok-Event.field-0-is at c.in-Ok-Event.ensures.steps) put.2.1 pays compacted_is in
+          (rows_as t _ _ _ _ _ _ _ put.0 inv.order (same.0 ∙ inv.same.0) (same.1 ∙ inv.same.1) put.1) put.2.0 so_far.counting.are_rows so_far.counting.lines so_far.counting.bounded (rw c.in-Ok-Event.field-0-is at c.in-Ok-Event.ensures.steps) put.2.1 pays compacted_is in
           let due_here = windows_due (due_by t) peaks c.loop-output.engine c.step.new.engine owing.events owing.next same owing.stands took.3 took.4 so_far.windows in
           record {
             counting = counting;
-            windows = windows_in_time c.loop-output.schedule c.keep_up.new.self t c.step.new.engine c.keep_up.new.engine inv.timing c.in-Ok-keep_up.ensures.windows peaks all owing.stands due_here;
-            on_time = on_in_time c.loop-output.schedule c.keep_up.new.self t c.step.new.engine c.keep_up.new.engine inv.timing c.loop-output.engine owing.events owing.next same took.3 took.4 (c.in-Ok-keep_up.ensures.on_time all owing.stands due_here.dense) so_far.on_time;
+            windows = windows_in_time c.loop-output.schedule c.keep_up.new.self t c.step.new.engine c.keep_up.new.engine inv.timing c.in-Ok-keep_up.ensures.windows peaks _ owing.stands due_here;
+            on_time = on_in_time c.loop-output.schedule c.keep_up.new.self t c.step.new.engine c.keep_up.new.engine inv.timing c.loop-output.engine owing.events owing.next same took.3 took.4 (c.in-Ok-keep_up.ensures.on_time _ owing.stands due_here.dense) so_far.on_time;
           };
       timing = c.keep_up.ensures.timing ∙ inv.timing;
       noted = c.keep_up.ensures.bases ∙ inv.noted;
@@ -224,19 +223,18 @@ returns-in-Err-Memory-clause-ended g c = λ peaks earlier begun most_bytes f pai
     let took = took_as (g.E.Events.gives c.step.new.self) (g.E.Events.gives c.loop-output.events) (g.E.Events.takes c.loop-output.events) (g.E.Events.reads c.loop-output.events) _ a.schema _ a.queries inv.same.0 inv.same.1 earlier (g.Q.Source.left c.loop-output.source) (g.Q.Source.left c.step.new.source) c.loop-output.engine c.step.new.engine (Ok step.Event) ((rw c.in-Ok-Event.field-0-is at c.in-Ok-Event.ensures.took) earlier) so_far.counting.running.events so_far.counting.running.stands in
     let same = c.step.ensures.same in
     let owing = owes First Takes Had Has Reads earlier a (g.Q.Source.left c.args.source.now) (g.K.Sink.taken c.args.out.now) (g.K.Sink.taken c.loop-output.out) c.loop-output.output.buffer c.loop-output.engine c.step.new.engine (inv.lasts earlier) so_far.counting.running took in
-    let all : List Event = owing.events ++ owing.next ∷ [] in
     let had : ℕ = saved_by t.every c.loop-output.engine c.loop-output.schedule.bases in
     let mid : ℕ = saved_by t.every c.step.new.engine c.loop-output.schedule.bases in
     let pays = pays_for t.every a c.loop-output.engine c.step.new.engine owing.events owing.next c.loop-output.schedule.bases (same.0 ∙ inv.same.0) (same.1 ∙ inv.same.1) same owing.stands took.3 took.4 in
-    let put = (rw c.in-Err-Memory.field-0-is at c.in-Err-Memory.ensures.rows).rows_are all owing.stands in
-    let blocks = (rw c.in-Err-Memory.field-0-is at c.in-Err-Memory.ensures.passed) all owing.stands in record {
+    let put = (rw c.in-Err-Memory.field-0-is at c.in-Err-Memory.ensures.rows).rows_are _ owing.stands in
+    let blocks = (rw c.in-Err-Memory.field-0-is at c.in-Err-Memory.ensures.passed) _ owing.stands in record {
       wrote =
           ends_for_memory First Read Has earlier a _ (g.Q.Source.left c.step.new.source) (g.K.Sink.taken c.args.out.now) (g.K.Sink.taken c.loop-output.out) (g.K.Sink.taken c.put.new.out) (g.K.Sink.taken c.finish-in-Err-Memory.new.out) c.loop-output.output.buffer blocks.0 c.put.new.self.buffer _ _ c.step.new.engine c.finish-in-Err-Memory.result owing
-          (came_as a c.loop-output.output.order c.step.new.engine.schema c.step.new.engine.queries all blocks.0 inv.order (same.0 ∙ inv.same.0) (same.1 ∙ inv.same.1) blocks.1) blocks.2 c.finish-in-Err-Memory.ensures.finished;
+          (came_as _ _ _ _ _ blocks.0 inv.order (same.0 ∙ inv.same.0) (same.1 ∙ inv.same.1) blocks.1) blocks.2 c.finish-in-Err-Memory.ensures.finished;
       steps = λ bytes told.
           steps_for_memory t First Has earlier a _ bytes (g.K.Sink.taken c.args.out.now) (g.K.Sink.taken c.loop-output.out) (g.K.Sink.taken c.put.new.out) (g.K.Sink.taken c.finish-in-Err-Memory.new.out) c.loop-output.output.buffer c.put.new.self.buffer _ _ c.step.new.engine owing
           so_far.counting.rows put.0 begun c.loop-output.steps had mid c.step.new.steps c.put.new.steps c.finish-in-Err-Memory.result told (same.0 ∙ inv.same.0) (same.1 ∙ inv.same.1)
-          (rows_as t c.loop-output.output.order a.order c.step.new.engine.schema a.schema c.step.new.engine.queries a.queries all put.0 inv.order (same.0 ∙ inv.same.0) (same.1 ∙ inv.same.1) put.1) so_far.counting.are_rows so_far.counting.lines so_far.counting.bounded (rw c.in-Ok-Event.field-0-is at c.in-Ok-Event.ensures.steps) put.2.1 pays c.finish-in-Err-Memory.ensures.finished
+          (rows_as t _ _ _ _ _ _ _ put.0 inv.order (same.0 ∙ inv.same.0) (same.1 ∙ inv.same.1) put.1) so_far.counting.are_rows so_far.counting.lines so_far.counting.bounded (rw c.in-Ok-Event.field-0-is at c.in-Ok-Event.ensures.steps) put.2.1 pays c.finish-in-Err-Memory.ensures.finished
           (λ walk. let none = c.put.ensures.walk (inv.order ∙ walk) in (none, c.finish-in-Err-Memory.ensures.none none));
       stands = none_ok _ _ _ _ _ _ c.finish-in-Err-Memory.result _ c.finish-in-Err-Memory.ensures.finished;
     }
@@ -256,19 +254,18 @@ returns-in-Err-Fault-clause-ended g c = λ peaks earlier begun most_bytes f paid
     let took = took_as (g.E.Events.gives c.step.new.self) (g.E.Events.gives c.loop-output.events) (g.E.Events.takes c.loop-output.events) (g.E.Events.reads c.loop-output.events) _ a.schema _ a.queries inv.same.0 inv.same.1 earlier (g.Q.Source.left c.loop-output.source) (g.Q.Source.left c.step.new.source) c.loop-output.engine c.step.new.engine (Ok step.Event) ((rw c.in-Ok-Event.field-0-is at c.in-Ok-Event.ensures.took) earlier) so_far.counting.running.events so_far.counting.running.stands in
     let same = c.step.ensures.same in
     let owing = owes First Takes Had Has Reads earlier a (g.Q.Source.left c.args.source.now) (g.K.Sink.taken c.args.out.now) (g.K.Sink.taken c.loop-output.out) c.loop-output.output.buffer c.loop-output.engine c.step.new.engine (inv.lasts earlier) so_far.counting.running took in
-    let all : List Event = owing.events ++ owing.next ∷ [] in
     let had : ℕ = saved_by t.every c.loop-output.engine c.loop-output.schedule.bases in
     let mid : ℕ = saved_by t.every c.step.new.engine c.loop-output.schedule.bases in
     let pays = pays_for t.every a c.loop-output.engine c.step.new.engine owing.events owing.next c.loop-output.schedule.bases (same.0 ∙ inv.same.0) (same.1 ∙ inv.same.1) same owing.stands took.3 took.4 in
-    let put = (rw c.in-Err-Fault.field-0-is at c.in-Err-Fault.ensures.rows).rows_are all owing.stands in
-    let blocks = (rw c.in-Err-Fault.field-0-is at c.in-Err-Fault.ensures.passed) all owing.stands in record {
+    let put = (rw c.in-Err-Fault.field-0-is at c.in-Err-Fault.ensures.rows).rows_are _ owing.stands in
+    let blocks = (rw c.in-Err-Fault.field-0-is at c.in-Err-Fault.ensures.passed) _ owing.stands in record {
       wrote =
           ends_for_fault First Has earlier a _ (g.K.Sink.taken c.args.out.now) (g.K.Sink.taken c.loop-output.out) (g.K.Sink.taken c.put.new.out) c.loop-output.output.buffer blocks.0 c.step.new.engine owing
-          (came_as a c.loop-output.output.order c.step.new.engine.schema c.step.new.engine.queries all blocks.0 inv.order (same.0 ∙ inv.same.0) (same.1 ∙ inv.same.1) blocks.1) blocks.2;
+          (came_as _ _ _ _ _ blocks.0 inv.order (same.0 ∙ inv.same.0) (same.1 ∙ inv.same.1) blocks.1) blocks.2;
       steps = λ bytes told.
           steps_for_fault t First Has earlier a _ bytes (g.K.Sink.taken c.args.out.now) (g.K.Sink.taken c.loop-output.out) (g.K.Sink.taken c.put.new.out) c.loop-output.output.buffer c.step.new.engine owing
           so_far.counting.rows put.0 begun c.loop-output.steps had mid c.step.new.steps c.put.new.steps _ told (same.0 ∙ inv.same.0) (same.1 ∙ inv.same.1) inv.order
-          (rows_as t c.loop-output.output.order a.order c.step.new.engine.schema a.schema c.step.new.engine.queries a.queries all put.0 inv.order (same.0 ∙ inv.same.0) (same.1 ∙ inv.same.1) put.1) so_far.counting.are_rows so_far.counting.lines so_far.counting.bounded (rw c.in-Ok-Event.field-0-is at c.in-Ok-Event.ensures.steps) pays put.2.1 inv.none_waits;
+          (rows_as t _ _ _ _ _ _ _ put.0 inv.order (same.0 ∙ inv.same.0) (same.1 ∙ inv.same.1) put.1) so_far.counting.are_rows so_far.counting.lines so_far.counting.bounded (rw c.in-Ok-Event.field-0-is at c.in-Ok-Event.ensures.steps) pays put.2.1 inv.none_waits;
       stands = tt;
     }
 
@@ -287,18 +284,17 @@ returns-in-Err-keep_up-clause-ended g c = λ peaks earlier begun most_bytes f pa
     let took = took_as (g.E.Events.gives c.step.new.self) (g.E.Events.gives c.loop-output.events) (g.E.Events.takes c.loop-output.events) (g.E.Events.reads c.loop-output.events) _ a.schema _ a.queries inv.same.0 inv.same.1 earlier (g.Q.Source.left c.loop-output.source) (g.Q.Source.left c.step.new.source) c.loop-output.engine c.step.new.engine (Ok step.Event) ((rw c.in-Ok-Event.field-0-is at c.in-Ok-Event.ensures.took) earlier) so_far.counting.running.events so_far.counting.running.stands in
     let same = c.step.ensures.same in
     let owing = owes First Takes Had Has Reads earlier a (g.Q.Source.left c.args.source.now) (g.K.Sink.taken c.args.out.now) (g.K.Sink.taken c.loop-output.out) c.loop-output.output.buffer c.loop-output.engine c.step.new.engine (inv.lasts earlier) so_far.counting.running took in
-    let all : List Event = owing.events ++ owing.next ∷ [] in
     let had : ℕ = saved_by t.every c.loop-output.engine c.loop-output.schedule.bases in
     let mid : ℕ = saved_by t.every c.step.new.engine c.loop-output.schedule.bases in
     let pays = pays_for t.every a c.loop-output.engine c.step.new.engine owing.events owing.next c.loop-output.schedule.bases (same.0 ∙ inv.same.0) (same.1 ∙ inv.same.1) same owing.stands took.3 took.4 in
-    let put = c.in-Ok-put.ensures.rows.rows_are all owing.stands in
+    let put = c.in-Ok-put.ensures.rows.rows_are _ owing.stands in
     let now : ℕ = c.keep_up.new.steps + saved_by t.every c.keep_up.new.engine c.keep_up.new.self.bases in
     let compacted_is = compacted t a c.loop-output.engine c.step.new.engine c.keep_up.new.engine owing.events owing.next (c.put.new.steps + mid) now (same.0 ∙ inv.same.0) (same.1 ∙ inv.same.1) same c.keep_up.ensures.same
-    owing.stands (c.keep_up.ensures.stands all owing.stands) so_far.counting.few (c.in-Ok-Event.ensures.growth (ap Ok c.in-Ok-Event.field-0-is)) c.keep_up.ensures.fewer (paid_in_time c.loop-output.schedule c.keep_up.new.self t c.step.new.engine c.keep_up.new.engine inv.timing c.put.new.steps c.keep_up.new.steps c.keep_up.ensures.timing c.keep_up.ensures.steps all owing.stands)
+    owing.stands (c.keep_up.ensures.stands _ owing.stands) so_far.counting.few (c.in-Ok-Event.ensures.growth (ap Ok c.in-Ok-Event.field-0-is)) c.keep_up.ensures.fewer (paid_in_time c.loop-output.schedule c.keep_up.new.self t c.step.new.engine c.keep_up.new.engine inv.timing c.put.new.steps c.keep_up.new.steps c.keep_up.ensures.timing c.keep_up.ensures.steps (owing.events ++ owing.next ∷ []) owing.stands)
     (λ most meet. first_meet_fewer _ _ _ _ most meet) in
     let counting = counts_on t First Has earlier a (g.Q.Source.left c.args.source.now) (g.K.Sink.taken c.args.out.now) (g.K.Sink.taken c.loop-output.out) (g.K.Sink.taken c.put.new.out) c.loop-output.output.buffer c.put.new.self.buffer c.step.new.engine c.keep_up.new.engine owing
     so_far.counting.rows put.0 begun c.loop-output.steps had mid c.step.new.steps c.put.new.steps now (same.0 ∙ inv.same.0) (same.1 ∙ inv.same.1)
-    (rows_as t c.loop-output.output.order a.order c.step.new.engine.schema a.schema c.step.new.engine.queries a.queries all put.0 inv.order (same.0 ∙ inv.same.0) (same.1 ∙ inv.same.1) put.1) put.2.0 so_far.counting.are_rows so_far.counting.lines so_far.counting.bounded (rw c.in-Ok-Event.field-0-is at c.in-Ok-Event.ensures.steps) put.2.1 pays compacted_is in record {
+    (rows_as t _ _ _ _ _ _ _ put.0 inv.order (same.0 ∙ inv.same.0) (same.1 ∙ inv.same.1) put.1) put.2.0 so_far.counting.are_rows so_far.counting.lines so_far.counting.bounded (rw c.in-Ok-Event.field-0-is at c.in-Ok-Event.ensures.steps) put.2.1 pays compacted_is in record {
       wrote =
           ends_wanting First Read Has earlier a (g.Q.Source.left c.args.source.now) (g.Q.Source.left c.step.new.source) (g.K.Sink.taken c.args.out.now) (g.K.Sink.taken c.put.new.out) (g.K.Sink.taken c.finish-in-Err-keep_up.new.out) c.put.new.self.buffer _ _ c.keep_up.new.engine c.finish-in-Err-keep_up.result counting.running c.finish-in-Err-keep_up.ensures.finished;
       steps = λ bytes told.

@@ -7,7 +7,7 @@ use cel_terms::{Formula, Name, Query, Window};
 use cer_base::{Listed, Location, Memory, OrMemory, Text};
 use cer_outside::sinks::MemSink;
 use cer_outside::sources::MemSource;
-use checkpoint_text::{History, Keep, MOST_POSITIONS, read_checkpoint};
+use checkpoint_text::{History, HistoryFault, Keep, MOST_POSITIONS, read_checkpoint};
 use event_reader::{EventFault, read_event};
 use std::alloc::{AllocError, Global};
 use std::test::Fail;
@@ -91,7 +91,10 @@ fn words_of(
     match read_checkpoint(alloc, schema, queries, &mut source) {
         Ok(history) => history_words(alloc, &history),
         Err(OrMemory::Memory) => "memory".to_string(alloc),
-        Err(OrMemory::Fault(fault)) => format!(in alloc; "{fault}"),
+        Err(OrMemory::Fault(HistoryFault::ReadFault)) => "cannot read".to_string(alloc),
+        Err(OrMemory::Fault(HistoryFault::Bad { line, fault })) => {
+            format!(in alloc; "line {line}: {}", fault.words())
+        }
     }
 }
 

@@ -80,7 +80,7 @@ const COMMANDS: &str = "event A,1|event of 0 with 1\n\
 event A,1\r|event of 0 with 1\n\
 event A,1\r\r|event of 0 with 1\n\
 event A,1\r\r\r|carriage return or byte order mark in the line\n\
-event A,x|field 1 is of another kind\n\
+event A,x|field 1 is no INT\n\
 event A,1,2|2 fields where 1 is wanted\n\
 event B,1|unknown type\n\
 event  A,1|unknown type\n\

@@ -154,7 +154,7 @@ const STOPS: &[(&str, &str, u64, &str)] = &[
         BY_POSITION,
         "A,1\n\nA,x\n",
         AMPLE,
-        "1, line 3: field 1 is of another kind",
+        "1, line 3: field 1 is no INT",
     ),
     (
         BY_POSITION,
@@ -167,7 +167,7 @@ const STOPS: &[(&str, &str, u64, &str)] = &[
         BY_POSITION,
         "A,1\nA,x\n",
         8,
-        "1, line 2: field 1 is of another kind",
+        "1, line 2: field 1 is no INT",
     ),
     (BY_POSITION, "A,1\n", 5, "1, end"),
     (
@@ -324,7 +324,7 @@ const LISTED: &[(&str, &str, u64, u64, &str)] = &[
         "A,1\n\nA,x\n",
         AMPLE,
         0,
-        "0, line 3: field 1 is of another kind",
+        "0, line 3: field 1 is no INT",
     ),
     (
         BY_TIME,

@@ -122,7 +122,7 @@ const SAVED: &[(&str, &str, u64, u64, u64, &str)] = &[
         AMPLE,
         0,
         0,
-        "|line 2: field 1 is of another kind",
+        "|line 2: field 1 is no INT",
     ),
     (
         TWO,

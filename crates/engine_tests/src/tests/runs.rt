@@ -163,12 +163,7 @@ const STOPS: &[(&str, &str, u64, &str)] = &[
         "1, line 2: unknown type",
     ),
     (BY_POSITION, "A,1\n", 4, "1, 4 bytes are too many"),
-    (
-        BY_POSITION,
-        "A,1\nA,x\n",
-        8,
-        "1, line 2: field 1 is no INT",
-    ),
+    (BY_POSITION, "A,1\nA,x\n", 8, "1, line 2: field 1 is no INT"),
     (BY_POSITION, "A,1\n", 5, "1, end"),
     (
         BY_TIME,

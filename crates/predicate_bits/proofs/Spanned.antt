@@ -22,7 +22,8 @@ use Rattle.query_leaves.specs.declared.Test.{Test}
 use Rattle.query_leaves.specs.Shapes.{test_holds}
 use Rattle.predicate_bits.specs.declared.spans.Outcome.{Outcome}
 use Rattle.predicate_bits.specs.declared.spans.Span.{Span}
-use Rattle.predicate_bits.specs.Spans.{digest, allows, IsNumber, IsNumbered, IsOf, IsAtMost, IsBetween}
+use Rattle.query_leaves.specs.Digests.{digest}
+use Rattle.predicate_bits.specs.Spans.{allows, IsNumber, IsNumbered, IsOf, IsAtMost, IsBetween}
 
 pos_le : (m n : ℕ) → m ≤ n → pos m ≤ℤ pos n
 pos_le m n le = omega (arith, ints)

@@ -1,6 +1,5 @@
 -- The values of an attribute as numbers, and what a test may come to over some of them.
-use Rattle.std.specs.Prelude.{◌≡◌, ℕ, ◌+◌, ◌*◌, ◌%◌, ℤ, pos, ◌≤ℤ◌, Bool, true, false, List, Some, slice_get, ⊤}
-use Rattle.std.specs.List.{fold}
+use Rattle.std.specs.Prelude.{◌≡◌, ℕ, ℤ, pos, ◌≤ℤ◌, Bool, true, false, List, Some, slice_get, ⊤}
 use Rattle.stream_schema.specs.declared.Event.{Event}
 use Rattle.stream_schema.specs.declared.Kind.{Kind}
 use Rattle.stream_schema.specs.declared.Kind.TheVariants as kind
@@ -8,11 +7,7 @@ use Rattle.stream_schema.specs.declared.Value.{Value}
 use Rattle.stream_schema.specs.declared.Value.TheVariants as value
 use Rattle.predicate_bits.specs.declared.spans.Span.{Span}
 use Rattle.predicate_bits.specs.declared.spans.Outcome.{Outcome}
-use Rattle.predicate_bits.specs.declared.spans.TheConstants.{SPREAD}
-
--- a number for each text, below 2 to the power of 32
-abbrev pub digest : List ℕ → ℕ
-digest text = fold (λ sum byte. (((sum + byte) % 4294967296) * SPREAD) % 4294967296) 0 text
+use Rattle.query_leaves.specs.Digests.{digest}
 
 abbrev pub flag_number : Bool → ℤ
 flag_number true = pos 1

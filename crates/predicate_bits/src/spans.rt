@@ -5,13 +5,12 @@ ghost use Rattle.stream_schema.specs.declared.Kind.TheVariants as kind;
 ghost use Rattle.stream_schema.specs.declared.Value.{Value as ValueData};
 ghost use Rattle.stream_schema.specs.declared.Op.TheVariants as ops;
 ghost use Rattle.stream_schema.specs.Comparing.{value_meets};
-ghost use Rattle.predicate_bits.specs.Spans.{digest, flag_number, allows, IsNumber, IsNumbered, IsBetween, IsOf};
+ghost use Rattle.query_leaves.specs.Digests.{digest};
+ghost use Rattle.predicate_bits.specs.Spans.{flag_number, allows, IsNumber, IsNumbered, IsBetween, IsOf};
 
 use crate::holding::{compares, compares_in_place};
+use query_leaves::digest::digest;
 use stream_schema::{Kind, Op, Value};
-
-/// What a byte of a text is multiplied by, so that texts which differ have digests far apart.
-const SPREAD: u32 = 2654435769;
 
 /// The values of a kind whose numbers are from `low` to `high`. The number of a whole number is its own,
 /// that of a decimal one is it times ten to the power of its places, that of a truth value is 0 or 1,
@@ -30,26 +29,6 @@ pub struct Outcome {
     pub may_hold: bool,
     /// Whether it may not.
     pub may_fail: bool,
-}
-
-/// The digest of a text with these bytes.
-#[inline(always)]
-fn digest_of(bytes: &[u8]) -> u32
-    ensures { result ≡ digest bytes.now }
-{
-    let mut sum: u32 = 0;
-    for byte in bytes {
-        sum = sum.wrapping_add(u32::from(*byte)).wrapping_mul(SPREAD);
-    }
-    sum
-}
-
-/// A number for the text. Few texts share one.
-#[inline(always)]
-pub fn digest(text: &str) -> u32
-    ensures { result ≡ digest text.now }
-{
-    digest_of(text.as_bytes())
 }
 
 /// The number of the truth value.

@@ -11,12 +11,12 @@ use Rattle.query_leaves.specs.LeafTree as tree
 use Rattle.query_leaves.specs.LeafTree.{LeafTree, leaf, none, sequence, either, plus}
 use Rattle.query_leaves.specs.Expand.{Occurrence, at_leaves, one_or_more}
 use Rattle.query_leaves.specs.Leaves.{occurrences, numbered}
-use Rattle.query_leaves.specs.Drafts.{change_leaf, change_all}
+use Rattle.query_leaves.specs.Changes.{change_leaf, change_all}
 use Rattle.query_leaves.specs.Tests.{IsMadeOf, AreMadeOf}
 use Rattle.query_leaves.specs.Numbering.{occurrence_under, AreMadeUnder, HasNumbered}
 
 -- the first ones, and then the others
-all_changes : (cs ds : List Change) (o : Occurrence) → change_all (cs ++ ds) o ≡ change_all ds (change_all cs o)
+pub all_changes : (cs ds : List Change) (o : Occurrence) → change_all (cs ++ ds) o ≡ change_all ds (change_all cs o)
 all_changes [] ds o = refl
 all_changes (c ∷ cs) ds o = all_changes cs ds (change_leaf c o)
 

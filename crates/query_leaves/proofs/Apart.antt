@@ -1,21 +1,19 @@
--- A leaf with a name of its own that nothing above it reads.
-use Rattle.std.proofs.Common.{◌≡◌, refl, sym, ap, subst, ◌∙◌, ℕ, not, ◌&&◌, ◌||◌, cond, Bool, true, false, List, [], ◌∷◌, ◌++◌, length, map, get_or, arith, bytes_eq}
+-- An occurrence with a name of its own that nothing above it reads.
+use Rattle.std.proofs.Common.{◌≡◌, refl, sym, ap, subst, ◌∙◌, ℕ, not, ◌&&◌, ◌||◌, cond, Bool, true, false, List, [], ◌∷◌, map, bytes_eq}
+use Rattle.std.specs.Prelude.{Result, Ok, Err, IfOk}
 use Rattle.std.specs.List.{list_all}
 use Rattle.stream_schema.specs.Types.{Declared}
 use Rattle.cel_terms.specs.declared.Pred.{Pred}
 use Rattle.cel_terms.specs.Meaning.{lists_name, only_names}
 use Rattle.cel_terms.specs.Answers.{is_bound}
 use Rattle.query_leaves.specs.declared.Leaf.{Leaf}
-use Rattle.query_leaves.specs.declared.draft.Draft.{Draft}
 use Rattle.query_leaves.specs.declared.occurrence.Change.{Change}
 use Rattle.query_leaves.specs.declared.occurrence.Change.TheVariants as change
-use Rattle.query_leaves.specs.declared.leaf_under.LeafOfType.{LeafOfType}
-use Rattle.query_leaves.specs.LeafTree.{leaf}
-use Rattle.query_leaves.specs.Expand.{Occurrence, at_leaves}
-use Rattle.query_leaves.specs.Leaves.{occurrences, occurrence_reads}
-use Rattle.query_leaves.specs.Drafts.{tree_of_draft, change_all, occurrence_of}
-use Rattle.query_leaves.specs.Tests.{IsMadeOf, AreMadeOf, OccurrenceHasFewPlaces}
-use Rattle.query_leaves.specs.Numbering.{HasNumbered, named_occurrence, passes_by, AreAlike, IsApart}
+use Rattle.query_leaves.specs.Expand.{Occurrence}
+use Rattle.query_leaves.specs.Leaves.{occurrence_reads}
+use Rattle.query_leaves.specs.Changes.{change_all, occurrence_of, named_occurrence, passes_by}
+use Rattle.query_leaves.specs.Tests.{IsMadeOf, OccurrenceHasFewPlaces}
+use Rattle.query_leaves.specs.Numbering.{occurrence_under, AreAlike, IsLike}
 
 -- an occurrence, and it with one name more in front
 abbrev plain : List ℕ → List Pred → List (List ℕ) → Occurrence
@@ -62,28 +60,14 @@ alike_made schema a b l alike is = record {
   places = λ few. is.places (subst (λ ts. OccurrenceHasFewPlaces (plain a.type ts a.names)) (sym alike.tests) few);
 }
 
-last_made : (schema : Declared) (a b : Occurrence) → AreAlike a b → (earlier : List Occurrence) (ls : List Leaf) → AreMadeOf schema (earlier ++ a ∷ []) ls → AreMadeOf schema (earlier ++ b ∷ []) ls
-last_made schema a b alike [] [] h = absurd h
-last_made schema a b alike [] (l ∷ ls) h = (alike_made schema a b l alike h.0, h.1)
-last_made schema a b alike (o ∷ os) [] h = absurd h
-last_made schema a b alike (o ∷ os) (l ∷ ls) h = (h.0, last_made schema a b alike os ls h.1)
+-- what holds of an occurrence with one name more that nothing above it reads
+pub is_like : (above : List Change) (o : Occurrence) (own : List ℕ) → o ≡ named_occurrence own o.type → list_all (λ c. passes_by own c) above ≡ true → IsLike above o
+is_like above o own is pass = subst (λ p. AreAlike (change_all above (occurrence_of o.type)) (change_all above p)) (sym is) (passed_by own above o.type [] (o.type ∷ []) refl pass)
 
-pub is_apart : (part : Draft) (changes above : List Change) (name own : List ℕ) → tree_of_draft part ≡ leaf (occurrence_of name) → ((ty : List ℕ) → change_all changes (occurrence_of ty) ≡ named_occurrence own ty) → list_all (λ c. passes_by own c) above ≡ true → IsApart part changes above name
-is_apart part changes above name own tree gives pass = record {
-  tree = tree;
-  alike = subst (λ o. AreAlike (change_all above (occurrence_of name)) (change_all above o)) (sym (gives name)) (passed_by own above name [] (name ∷ []) refl pass);
-}
+pub plain_is_like : (above : List Change) (o : Occurrence) → o ≡ occurrence_of o.type → IsLike above o
+plain_is_like above o is = same_alike above (occurrence_of o.type) o (sym is)
 
-pub apart_numbered : (schema : Declared) (part : Draft) (changes above : List Change) (name : List ℕ) (before after : List Leaf) (old new : List LeafOfType) → IsApart part changes above name → HasNumbered schema above (occurrence_of name ∷ []) before after old new → HasNumbered schema above (occurrences (at_leaves (change_all changes) (tree_of_draft part))) before after old new
-apart_numbered schema part changes above name before after old new apart has =
-    subst (λ t. HasNumbered schema above (occurrences (at_leaves (change_all changes) t)) before after old new) (sym apart.tree)
-    (record {
-      count = has.count;
-      list = λ are earlier h. last_made schema (change_all above (occurrence_of name)) (change_all above (change_all changes (occurrence_of name))) apart.alike earlier after (has.list are earlier h);
-      kept = has.kept;
-    })
-
-pub one_alone : {A : Type 0} (xs : List A) (d : A) → length xs ≡ 1 → xs ≡ get_or xs 0 d ∷ []
-one_alone [] d one = absurd (omega (arith, one))
-one_alone (x ∷ []) d one = refl
-one_alone (x ∷ y ∷ ys) d one = absurd (omega (arith, one))
+-- the leaf of the type is the occurrence's
+pub like_made : {E : Type 0} (schema : Declared) (above : List Change) (o : Occurrence) (ty : List ℕ) (r : Result Leaf E) → IsLike above o → ty ≡ o.type → IfOk r (IsMadeOf schema (occurrence_under above ty)) → IfOk r (IsMadeOf schema (change_all above o))
+like_made schema above o ty (Ok l) like named is = alike_made schema (change_all above (occurrence_of o.type)) (change_all above o) l like (subst (λ n. IsMadeOf schema (occurrence_under above n) l) named is)
+like_made schema above o ty (Err e) like named is = is

@@ -6,7 +6,9 @@ pub mod Changes
 pub mod Drafted
 -- changes that stand above a tree
 pub mod Above
--- a leaf with a name of its own that nothing above it reads
+-- changes that are passed over by their keys
+pub mod Keyed
+-- an occurrence with a name of its own that nothing above it reads
 pub mod Apart
 -- the tree of a shape, by the lists in it
 pub mod Shaped

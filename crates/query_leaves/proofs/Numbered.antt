@@ -13,7 +13,8 @@ use Rattle.query_leaves.specs.LeafTree.{LeafTree, sequence, linked_to, chain_of,
 use Rattle.query_leaves.specs.Expand.{Occurrence}
 use Rattle.query_leaves.specs.Leaves.{occurrences, numbered}
 use Rattle.query_leaves.specs.Shapes.{tree_of_shape}
-use Rattle.query_leaves.specs.Drafts.{tree_of_draft, draft_part, change_all}
+use Rattle.query_leaves.specs.Changes.{change_all}
+use Rattle.query_leaves.specs.Drafts.{tree_of_draft, draft_part}
 use Rattle.query_leaves.specs.declared.occurrence.Change.{Change}
 use Rattle.query_leaves.specs.declared.leaf_under.LeafOfType.{LeafOfType}
 use Rattle.query_leaves.specs.Tests.{IsMadeOf, AreMadeOf}

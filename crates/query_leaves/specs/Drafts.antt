@@ -1,46 +1,23 @@
 -- What is done to the leaves of a tree while a formula is expanded, as computed lists and trees.
 -- Nobody needs to believe these; the public contracts speak of the tree of leaves alone.
-use Rattle.std.specs.Prelude.{ℕ, Bool, cond, false, List, [], ◌∷◌, fold}
-use Rattle.cel_terms.specs.declared.Pred.{Pred}
+use Rattle.std.specs.Prelude.{Bool, false}
 use Rattle.cel_terms.specs.declared.Formula.{Formula}
 use Rattle.cel_terms.specs.declared.Link.{Link, out-Link}
-use Rattle.query_leaves.specs.declared.occurrence.Change.{Change}
-use Rattle.query_leaves.specs.declared.occurrence.Change.TheVariants as change
 use Rattle.query_leaves.specs.declared.draft.Draft.{Draft, Chain', Either', Plus', Changed', Row_of-Draft, end_of-Draft, more_of-Draft, Row_of-DraftPart, end_of-DraftPart, more_of-DraftPart}
 use Rattle.query_leaves.specs.declared.draft.DraftPart.{DraftPart, out-DraftPart}
 use Rattle.query_leaves.specs.declared.draft.Draft as draft
-use Rattle.cel_terms.specs.Meaning.{lists_name, with_name, only_names}
 use Rattle.query_leaves.specs.LeafTree.{LeafTree, leaf, none, sequence, either, plus}
 use Rattle.query_leaves.specs.Expand.{Occurrence, at_leaves, expand}
-
-abbrev pub change_names : Change → List (List ℕ) → List (List ℕ)
-change_names (change.Named name) names = with_name name.now.text names
-change_names (change.Keep listed) names = only_names listed.now names
-change_names (change.Test name pred) names = names
-
-abbrev pub change_tests : Change → List (List ℕ) → List Pred → List Pred
-change_tests (change.Test name pred) names tests = cond (lists_name names name.now.text) (pred.now ∷ tests) tests
-change_tests _ names tests = tests
-
-abbrev pub change_leaf : Change → Occurrence → Occurrence
-change_leaf c o = record { type = o.type; tests = change_tests c o.names o.tests; names = change_names c o.names }
-
--- all of them, one after another
-abbrev pub change_all : List Change → Occurrence → Occurrence
-change_all cs o = fold (λ o c. change_leaf c o) o cs
-
--- the occurrence of a type as it stands in a formula
-abbrev pub occurrence_of : List ℕ → Occurrence
-occurrence_of name = record { type = name; tests = []; names = name ∷ [] }
+use Rattle.query_leaves.specs.Changes.{change_all}
 
 -- the tree that a draft is
 abbrev mutual
   pub tree_of_draft : Draft → LeafTree Occurrence
-  tree_of_draft (draft.Leaf name) = leaf (occurrence_of name.now)
+  tree_of_draft (draft.Leaf occurrence) = leaf occurrence
   tree_of_draft (Chain' s parts) = chain_of_drafts parts
   tree_of_draft (Either' s choices) = choice_of_drafts choices
   tree_of_draft (Plus' tight p part) = plus tight (tree_of_draft part)
-  tree_of_draft (Changed' p part changes) = at_leaves (change_all changes.items) (tree_of_draft part)
+  tree_of_draft (Changed' p part changes) = at_leaves (change_all changes) (tree_of_draft part)
 
   pub chain_of_drafts : {m : _} → Row_of-DraftPart m → LeafTree Occurrence
   chain_of_drafts end_of-DraftPart = none

@@ -7,3 +7,5 @@ pub mod Lawful
 pub mod Drafts
 pub mod Tests
 pub mod Numbering
+pub mod Digests
+pub mod Changes

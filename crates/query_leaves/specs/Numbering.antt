@@ -1,20 +1,17 @@
 -- How the leaves of a draft are numbered, part by part.
 -- Nobody needs to believe these; the public contracts speak of the tree of leaves alone.
-use Rattle.std.specs.Prelude.{◌≡◌, ℕ, ◌+◌, Bool, false, not, List, [], ◌∷◌, ◌++◌, length, map, bytes_eq}
+use Rattle.std.specs.Prelude.{◌≡◌, ℕ, ◌+◌, Bool, List, [], ◌∷◌, ◌++◌, length, map}
 use Rattle.std.specs.List.{AllByRecursion}
 use Rattle.stream_schema.specs.Types.{Declared}
 use Rattle.query_leaves.specs.declared.Leaf.{Leaf}
 use Rattle.query_leaves.specs.declared.ShapePart.{ShapePart, out-ShapePart}
-use Rattle.query_leaves.specs.LeafTree.{LeafTree, leaf}
-use Rattle.query_leaves.specs.declared.draft.Draft.{Draft}
-use Rattle.query_leaves.specs.declared.occurrence.Change.TheVariants as change
-use Rattle.cel_terms.specs.Meaning.{lists_name}
+use Rattle.query_leaves.specs.LeafTree.{LeafTree}
 use Rattle.cel_terms.specs.Answers.{is_bound}
 use Rattle.query_leaves.specs.Expand.{Occurrence}
 use Rattle.query_leaves.specs.Leaves.{occurrences, numbered}
 use Rattle.query_leaves.specs.Shapes.{tree_of_shape}
 use Rattle.query_leaves.specs.Tests.{IsMadeOf, AreMadeOf}
-use Rattle.query_leaves.specs.Drafts.{tree_of_draft, change_all, occurrence_of}
+use Rattle.query_leaves.specs.Changes.{change_all, occurrence_of}
 use Rattle.query_leaves.specs.declared.occurrence.Change.{Change}
 use Rattle.query_leaves.specs.declared.leaf_under.LeafOfType.{LeafOfType}
 
@@ -48,23 +45,12 @@ abbrev pub number_each : ℕ → List (LeafTree Occurrence) → List (LeafTree �
 number_each base [] = []
 number_each base (t ∷ ts) = numbered base t ∷ number_each (base + length (occurrences t)) ts
 
--- the occurrence of a type with a name of its own
-abbrev pub named_occurrence : List ℕ → List ℕ → Occurrence
-named_occurrence own name = record { type = name; tests = []; names = own ∷ name ∷ [] }
-
--- the change does the same to an occurrence without this one of its names
-abbrev pub passes_by : List ℕ → Change → Bool
-passes_by own (change.Named name) = false
-passes_by own (change.Keep listed) = not (lists_name (map (λ n. n.text) listed.now) own)
-passes_by own (change.Test name pred) = not (bytes_eq own name.now.text)
-
 -- They ask the same of an event of the same type, and the position of both is in the set of some name or of neither.
 pub record AreAlike (a b : Occurrence) : Type 0 where
   pub type : a.type ≡ b.type
   pub tests : a.tests ≡ b.tests
   pub bound : is_bound a.names ≡ is_bound b.names
 
--- The part is a leaf of the type of this name, which the changes make no other than it is without them.
-pub record IsApart (part : Draft) (changes above : List Change) (name : List ℕ) : Type 0 where
-  pub tree : tree_of_draft part ≡ leaf (occurrence_of name)
-  pub alike : AreAlike (change_all above (occurrence_of name)) (change_all above (change_all changes (occurrence_of name)))
+-- Under the changes the occurrence is no other than that of the type.
+abbrev pub IsLike : List Change → Occurrence → Type 0
+IsLike above o = AreAlike (change_all above (occurrence_of o.type)) (change_all above o)

@@ -3,9 +3,11 @@
 ghost use Rattle.std.specs.Prelude.{◌≡◌, IfOk, OnOk, map, ◌++◌, ◌∷◌, []};
 ghost use Rattle.query_leaves.specs.LeafTree.{plus, chain_of};
 ghost use Rattle.query_leaves.specs.Expand.{at_leaves, one_or_more};
-ghost use Rattle.query_leaves.specs.Drafts.{tree_of_draft, draft_part, change_leaf, change_all};
+ghost use Rattle.query_leaves.specs.Changes.{change_leaf, change_all};
+ghost use Rattle.query_leaves.specs.Drafts.{tree_of_draft, draft_part};
 
-use crate::occurrence::Change;
+use crate::context::Context;
+use crate::occurrence::{Change, Occurrence};
 use cer_base::Memory;
 use std::alloc::Global;
 use std::mem;
@@ -15,8 +17,7 @@ use std::mem;
 #[derive(Drop, Debug)]
 #[cycle(draft)]
 pub enum Draft<'q> {
-    /// The type of this name.
-    Leaf(&'q str),
+    Leaf(Occurrence<'q>),
     /// One part after another; where there is none it reads nothing.
     Chain(Vec<DraftPart<'q>>),
     /// One of them; where there is none it reads nothing.
@@ -28,7 +29,7 @@ pub enum Draft<'q> {
     /// The part with the changes made at each of its leaves, one after another.
     Changed {
         part: Box<Draft<'q>>,
-        changes: Vec<Change<'q>>,
+        changes: Context<'q>,
     },
 }
 
@@ -54,10 +55,10 @@ fn plus<'q>(alloc: Global, tight: bool, part: Draft<'q>) -> Result<Draft<'q>, Me
 fn with_changes<'q>(
     alloc: Global,
     part: Draft<'q>,
-    changes: Vec<Change<'q>>,
+    changes: Context<'q>,
 ) -> Result<Draft<'q>, Memory>
     ensures { IfOk result (λ after. tree_of_draft after
-        ≡ at_leaves (change_all changes.entry.items) (tree_of_draft part.entry)) }
+        ≡ at_leaves (change_all changes.entry) (tree_of_draft part.entry)) }
 {
     Ok(Draft::Changed {
         part: Box::new(alloc, part)?,
@@ -99,7 +100,7 @@ pub fn one_or_more<'q>(alloc: Global, tight: bool, part: Draft<'q>) -> Result<Dr
         }),
         Draft::Chain(parts) => one_or_more_in_turn(alloc, tight, parts),
         Draft::Either(choices) => plus(alloc, tight, Draft::Either(choices)),
-        Draft::Leaf(name) => plus(alloc, tight, Draft::Leaf(name)),
+        Draft::Leaf(occurrence) => plus(alloc, tight, Draft::Leaf(occurrence)),
         Draft::Changed { part, changes } => {
             let some = one_or_more(alloc, tight, Box::into_inner(part))?;
             with_changes(alloc, some, changes)
@@ -107,27 +108,17 @@ pub fn one_or_more<'q>(alloc: Global, tight: bool, part: Draft<'q>) -> Result<Dr
     }
 }
 
-/// The changes, with one more behind them.
-fn with_change<'q>(changes: Vec<Change<'q>>, change: Change<'q>) -> Result<Vec<Change<'q>>, Memory>
-    ensures { IfOk result (λ all. all.items ≡ changes.entry.items ++ change.entry ∷ []) }
-{
-    let mut all = changes;
-    all.push(change)?;
-    Ok(all)
-}
-
 /// The tree under the change.
 fn under_one<'q>(alloc: Global, part: Draft<'q>, change: Change<'q>) -> Result<Draft<'q>, Memory>
     ensures { IfOk result (λ after. tree_of_draft after
         ≡ at_leaves (change_leaf change.entry) (tree_of_draft part.entry)) }
 {
-    let mut changes = Vec::new(alloc);
-    changes.push(change)?;
-    with_changes(alloc, part, changes)
+    let none = Context::empty(alloc);
+    with_changes(alloc, part, none.with(change)?)
 }
 
-/// The tree with the change made at each leaf. It stands above the tree, behind the changes that do so
-/// already.
+/// The tree with the change made at each leaf. Where it is not a leaf the change stands above it, behind
+/// those that do so already.
 pub fn changed<'q>(alloc: Global, draft: Draft<'q>, change: Change<'q>) -> Result<Draft<'q>, Memory>
     ensures { IfOk result (λ after. tree_of_draft after
         ≡ at_leaves (change_leaf change.entry) (tree_of_draft draft.entry)) }
@@ -135,9 +126,9 @@ pub fn changed<'q>(alloc: Global, draft: Draft<'q>, change: Change<'q>) -> Resul
     match draft {
         Draft::Changed { part, changes } => Ok(Draft::Changed {
             part,
-            changes: with_change(changes, change)?,
+            changes: changes.with(change)?,
         }),
-        Draft::Leaf(name) => under_one(alloc, Draft::Leaf(name), change),
+        Draft::Leaf(occurrence) => Ok(Draft::Leaf(occurrence.changed(&change)?)),
         Draft::Chain(parts) => under_one(alloc, Draft::Chain(parts), change),
         Draft::Either(choices) => under_one(alloc, Draft::Either(choices), change),
         Draft::Plus { tight, part } => under_one(alloc, Draft::Plus { tight, part }, change),
@@ -194,13 +185,13 @@ pub fn copied<'q>(alloc: Global, draft: &Draft<'q>) -> Result<Draft<'q>, Memory>
     ensures { IfOk result (λ copy. tree_of_draft copy ≡ tree_of_draft draft.now) }
 {
     match draft {
-        Draft::Leaf(name) => Ok(Draft::Leaf(*name)),
+        Draft::Leaf(occurrence) => Ok(Draft::Leaf(occurrence.copy(alloc)?)),
         Draft::Chain(parts) => Ok(Draft::Chain(copied_parts(alloc, parts)?)),
         Draft::Either(choices) => Ok(Draft::Either(copied_each(alloc, choices)?)),
         Draft::Plus { tight, part } => plus(alloc, *tight, copied(alloc, part)?),
         Draft::Changed { part, changes } => {
             let part = copied(alloc, part)?;
-            with_changes(alloc, part, Vec::from_slice(alloc, changes.as_slice())?)
+            with_changes(alloc, part, changes.copy(alloc)?)
         }
     }
 }

@@ -6,7 +6,7 @@ ghost use Rattle.query_leaves.specs.Expand.{Occurrence as Occurs, filtered, post
 ghost use Rattle.query_leaves.specs.Drafts.{tree_of_draft, draft_part, part_of, link_of};
 
 use crate::draft::{Draft, DraftPart, change_leaves, changed, copied, one_or_more};
-use crate::occurrence::Change;
+use crate::occurrence::{Change, Occurrence};
 use cel_terms::{Filter, Formula, Link, Postfix, Query};
 use cer_base::Memory;
 use std::alloc::Global;
@@ -257,7 +257,7 @@ fn expand<'q>(alloc: Global, formula: &'q Formula) -> Result<Draft<'q>, Memory>
     ensures { IfOk result (λ draft. tree_of_draft draft ≡ expand formula.now) }
 {
     match formula {
-        Formula::Of(name) => Ok(Draft::Leaf(name.text.as_str())),
+        Formula::Of(name) => Ok(Draft::Leaf(Occurrence::of(alloc, name.text.as_str())?)),
         Formula::Chain(parts) => chain(alloc, parts),
         Formula::Linked(first, links) => linked_chain(alloc, links, expand(alloc, first)),
         Formula::Either(choices) => choice(alloc, choices),

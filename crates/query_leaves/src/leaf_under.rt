@@ -4,11 +4,13 @@ ghost use Rattle.std.specs.Prelude.{◌≡◌, List, IfOk, IfSome, OnOk};
 ghost use Rattle.stream_schema.specs.Types.{Declared};
 ghost use Rattle.query_leaves.specs.declared.occurrence.Change.{Change as ChangeData};
 ghost use Rattle.query_leaves.specs.Tests.{IsMadeOf};
+ghost use Rattle.query_leaves.specs.Changes.{change_all};
 ghost use Rattle.query_leaves.specs.Numbering.{occurrence_under, AreMadeUnder};
 
 use crate::Leaf;
+use crate::context::Context;
 use crate::leaf_of::leaf_of;
-use crate::occurrence::{Change, Occurrence};
+use crate::occurrence::Occurrence;
 use cer_base::Memory;
 use std::alloc::Global;
 use stream_schema::Schema;
@@ -45,20 +47,18 @@ fn copy_of(leaf: &Leaf) -> Result<Leaf, Memory>
     })
 }
 
-/// The leaf of the type under the changes, which comes after these leaves.
-fn leaf_under<'q>(
+/// The leaf of the occurrence under the changes, which comes after these leaves.
+pub fn leaf_under<'q>(
     alloc: Global,
     schema: &Schema,
-    name: &'q str,
-    above: &[Change<'q>],
+    own: &Occurrence<'q>,
+    above: &Context<'q>,
     leaves: &[Leaf],
 ) -> Result<Leaf, Memory>
-    ensures { IfOk result (IsMadeOf schema.now (occurrence_under above.now name.now)) }
+    ensures { IfOk result (IsMadeOf schema.now (change_all above.now own.now)) }
 {
-    let mut occurrence = Occurrence::of(alloc, name)?;
-    for change in above {
-        occurrence.change(change)?;
-    }
+    let mut occurrence = own.copy(alloc)?;
+    above.change(&mut occurrence)?;
     leaf_of(alloc, schema, &occurrence, leaves)
 }
 
@@ -67,7 +67,7 @@ fn make<'q>(
     alloc: Global,
     schema: &Schema,
     name: &'q str,
-    above: &[Change<'q>],
+    above: &Context<'q>,
     leaves: &[Leaf],
     made: &mut Vec<LeafOfType<'q>>,
 ) -> Result<Leaf, Memory>
@@ -75,7 +75,8 @@ fn make<'q>(
     ensures kept { OnOk result (AreMadeUnder schema.now above.now made.old.items
         → AreMadeUnder schema.now above.now made.new.items) }
 {
-    let leaf = leaf_under(alloc, schema, name, above, leaves)?;
+    let own = Occurrence::of(alloc, name)?;
+    let leaf = leaf_under(alloc, schema, &own, above, leaves)?;
     let copy = copy_of(&leaf)?;
     made.push(LeafOfType { name, leaf: copy })?;
     Ok(leaf)
@@ -87,7 +88,7 @@ pub fn leaf_for<'q>(
     alloc: Global,
     schema: &Schema,
     name: &'q str,
-    above: &[Change<'q>],
+    above: &Context<'q>,
     leaves: &[Leaf],
     made: &mut Vec<LeafOfType<'q>>,
 ) -> Result<Leaf, Memory>

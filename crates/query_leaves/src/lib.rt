@@ -11,6 +11,8 @@ use cel_terms::Op;
 use cer_base::Listed;
 use stream_schema::{TypeId, Value};
 
+mod context;
+pub mod digest;
 mod draft;
 mod expand;
 mod leaf_of;

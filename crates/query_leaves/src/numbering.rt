@@ -4,13 +4,16 @@ ghost use Rattle.std.specs.Prelude.{◌≡◌, [], ◌∷◌, ◌++◌, length, 
 ghost use Rattle.std.specs.List.{flat_map};
 ghost use Rattle.query_leaves.specs.Leaves.{occurrences, numbered};
 ghost use Rattle.query_leaves.specs.Shapes.{tree_of_shape};
-ghost use Rattle.query_leaves.specs.Drafts.{tree_of_draft, draft_part, occurrence_of};
-ghost use Rattle.query_leaves.specs.Numbering.{HasNumbered, shape_part, occurrences_of_part, number_parts, number_each};
+ghost use Rattle.query_leaves.specs.Changes.{change_all};
+ghost use Rattle.query_leaves.specs.Drafts.{tree_of_draft, draft_part};
+ghost use Rattle.query_leaves.specs.Tests.{IsMadeOf};
+ghost use Rattle.query_leaves.specs.Numbering.{AreMadeUnder, HasNumbered, shape_part, occurrences_of_part, number_parts, number_each};
 
+use crate::context::Context;
 use crate::draft::{Draft, DraftPart};
-use crate::leaf_under::{LeafOfType, leaf_for};
-use crate::occurrence::Change;
-use crate::own_name::type_apart;
+use crate::leaf_under::{LeafOfType, leaf_for, leaf_under};
+use crate::occurrence::Occurrence;
+use crate::own_name::is_like_its_type;
 use crate::{Leaf, Shape, ShapePart};
 use cer_base::Memory;
 use std::alloc::Global;
@@ -22,7 +25,7 @@ fn numbered_parts<'q>(
     alloc: Global,
     schema: &Schema,
     parts: &[DraftPart<'q>],
-    above: &[Change<'q>],
+    above: &Context<'q>,
     list: &mut Vec<Leaf>,
     made: &mut Vec<LeafOfType<'q>>,
 ) -> Result<Vec<ShapePart>, Memory>
@@ -49,7 +52,7 @@ fn numbered_each<'q>(
     alloc: Global,
     schema: &Schema,
     drafts: &[Draft<'q>],
-    above: &[Change<'q>],
+    above: &Context<'q>,
     list: &mut Vec<Leaf>,
     made: &mut Vec<LeafOfType<'q>>,
 ) -> Result<Vec<Shape>, Memory>
@@ -66,38 +69,46 @@ fn numbered_each<'q>(
     Ok(shapes)
 }
 
-/// Puts the leaf of the type under the changes at the end of the list, and answers its number there, in a
-/// call of its own so that trees take no stack for it.
+/// The leaf of the occurrence under the changes, which comes after these leaves.
+fn leaf_here<'q>(
+    alloc: Global,
+    schema: &Schema,
+    occurrence: &Occurrence<'q>,
+    above: &Context<'q>,
+    leaves: &[Leaf],
+    made: &mut Vec<LeafOfType<'q>>,
+) -> Result<Leaf, Memory>
+    ensures leaf { AreMadeUnder schema.now above.now made.old.items
+        → IfOk result (IsMadeOf schema.now (change_all above.now occurrence.now)) }
+    ensures kept { OnOk result (AreMadeUnder schema.now above.now made.old.items
+        → AreMadeUnder schema.now above.now made.new.items) }
+{
+    if is_like_its_type(occurrence, above) {
+        leaf_for(alloc, schema, occurrence.ty(), above, leaves, made)
+    } else {
+        leaf_under(alloc, schema, occurrence, above, leaves)
+    }
+}
+
+/// Puts the leaf of the occurrence under the changes at the end of the list, and answers its number
+/// there, in a call of its own so that trees take no stack for it.
 #[inline(never)]
 fn numbered_leaf<'q>(
     alloc: Global,
     schema: &Schema,
-    name: &'q str,
-    above: &[Change<'q>],
+    occurrence: &Occurrence<'q>,
+    above: &Context<'q>,
     list: &mut Vec<Leaf>,
     made: &mut Vec<LeafOfType<'q>>,
 ) -> Result<u64, Memory>
     ensures number { IfOk result (λ n. n ≡ length list.old.items) }
-    ensures leaves { OnOk result (HasNumbered schema.now above.now (occurrence_of name.now ∷ [])
+    ensures leaves { OnOk result (HasNumbered schema.now above.now (occurrence.now ∷ [])
         list.old.items list.new.items made.old.items made.new.items) }
 {
     let number = list.len() as u64;
-    let leaf = leaf_for(alloc, schema, name, above, list.as_slice(), made)?;
+    let leaf = leaf_here(alloc, schema, occurrence, above, list.as_slice(), made)?;
     list.push(leaf)?;
     Ok(number)
-}
-
-/// The changes, and behind them those above.
-fn all_above<'q>(
-    alloc: Global,
-    changes: &[Change<'q>],
-    above: &[Change<'q>],
-) -> Result<Vec<Change<'q>>, Memory>
-    ensures { IfOk result (λ all. all.items ≡ changes.now ++ above.now) }
-{
-    let mut all = Vec::from_slice(alloc, changes)?;
-    all.extend_from_slice(above)?;
-    Ok(all)
 }
 
 /// Numbers the leaves of a part under changes, which come before those above: a context of its own.
@@ -107,8 +118,8 @@ fn numbered_under<'q>(
     alloc: Global,
     schema: &Schema,
     part: &Draft<'q>,
-    changes: &[Change<'q>],
-    above: &[Change<'q>],
+    changes: &Context<'q>,
+    above: &Context<'q>,
     list: &mut Vec<Leaf>,
 ) -> Result<Shape, Memory>
     ensures shape { IfOk result (λ s. tree_of_shape s
@@ -116,9 +127,9 @@ fn numbered_under<'q>(
     ensures leaves { OnOk result (HasNumbered schema.now (changes.now ++ above.now)
         (occurrences (tree_of_draft part.now)) list.old.items list.new.items [] []) }
 {
-    let all = all_above(alloc, changes, above)?;
+    let all = changes.under(alloc, above)?;
     let mut made = Vec::new(alloc);
-    numbered(alloc, schema, part, all.as_slice(), list, &mut made)
+    numbered(alloc, schema, part, &all, list, &mut made)
 }
 
 /// Puts the leaves of the tree under the changes at the end of the list, from left to right, and answers
@@ -128,7 +139,7 @@ pub fn numbered<'q>(
     alloc: Global,
     schema: &Schema,
     draft: &Draft<'q>,
-    above: &[Change<'q>],
+    above: &Context<'q>,
     list: &mut Vec<Leaf>,
     made: &mut Vec<LeafOfType<'q>>,
 ) -> Result<Shape, Memory>
@@ -139,8 +150,8 @@ pub fn numbered<'q>(
         made.old.items made.new.items) }
 {
     match draft {
-        Draft::Leaf(name) => {
-            let number = numbered_leaf(alloc, schema, *name, above, list, made)?;
+        Draft::Leaf(occurrence) => {
+            let number = numbered_leaf(alloc, schema, occurrence, above, list, made)?;
             Ok(Shape::Leaf(number))
         }
         Draft::Chain(parts) => {
@@ -158,12 +169,8 @@ pub fn numbered<'q>(
                 part: Box::new(alloc, part)?,
             })
         }
-        Draft::Changed { part, changes } => match type_apart(part, changes.as_slice(), above) {
-            Some(name) => {
-                let number = numbered_leaf(alloc, schema, name, above, list, made)?;
-                Ok(Shape::Leaf(number))
-            }
-            None => numbered_under(alloc, schema, part, changes.as_slice(), above, list),
-        },
+        Draft::Changed { part, changes } => {
+            numbered_under(alloc, schema, part, changes, above, list)
+        }
     }
 }

@@ -8,6 +8,7 @@ ghost use Rattle.query_leaves.specs.Shapes.{tree_of_shape, AreLeavesOf};
 ghost use Rattle.query_leaves.specs.Lawful.{AreNumbered, IsLawful};
 
 use crate::Leaves;
+use crate::context::Context;
 use crate::expand::tree_of;
 use crate::numbering::numbered;
 use cel_terms::Query;
@@ -29,7 +30,8 @@ pub fn leaves_of(alloc: Global, schema: &Schema, query: &Query) -> Result<Leaves
     let draft = tree_of(alloc, query)?;
     let mut list = Vec::new(alloc);
     let mut made = Vec::new(alloc);
-    let shape = numbered(alloc, schema, &draft, &[], &mut list, &mut made)?;
+    let above = Context::empty(alloc);
+    let shape = numbered(alloc, schema, &draft, &above, &mut list, &mut made)?;
     Ok(Leaves {
         list: Listed::of(list),
         shape,

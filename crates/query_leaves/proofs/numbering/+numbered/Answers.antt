@@ -5,10 +5,10 @@ use Rattle.query_leaves.specs.LeafTree.{LeafTree, chain_of, choice_of}
 use Rattle.query_leaves.specs.Expand.{Occurrence}
 use Rattle.query_leaves.specs.Leaves.{occurrences, numbered}
 use Rattle.query_leaves.specs.Shapes.{tree_of_shape}
-use Rattle.query_leaves.specs.Drafts.{tree_of_draft, draft_part, change_all}
-use Rattle.query_leaves.specs.Numbering.{IsApart, HasNumbered, shape_part, occurrences_of_part, number_parts, number_each}
+use Rattle.query_leaves.specs.Changes.{change_all}
+use Rattle.query_leaves.specs.Drafts.{tree_of_draft, draft_part}
+use Rattle.query_leaves.specs.Numbering.{HasNumbered, shape_part, occurrences_of_part, number_parts, number_each}
 use Rattle.query_leaves.proofs.Above.{changed_shape, under_numbered, alone_numbered, on_ok}
-use Rattle.query_leaves.proofs.Apart.{apart_numbered}
 use Rattle.query_leaves.proofs.Drafted as drafted
 use Rattle.query_leaves.proofs.Shaped.{chain_is, choices_are}
 use Rattle.query_leaves.proofs.Numbered.{chain_numbered, choice_numbered, chain_occurrences, choice_occurrences, part_shaped, part_numbered, choice_shaped, each_numbered}
@@ -68,37 +68,20 @@ numbered-returns-in_ok-choices-in-Either-clause-leaves t c =
     ∙ sym (ap occurrences (ap tree_of_draft c.in-Either.is ∙ drafted.choices_are choices) ∙ choice_occurrences (map tree_of_draft choices.items)))
     c.in_ok-choices-in-Either.ensures.leaves
 
-pub numbered-returns-in_ok-number-in-Some-clause-leaves : goal.numbered-returns-in_ok-number-in-Some-clause-leaves
-numbered-returns-in_ok-number-in-Some-clause-leaves t c =
-    let schema = c.args.schema.now in
-    let above = c.args.above.now in
-    let changes = c.in-Changed.changes.items in
-    let part = c.in-Changed.part.value in
-    let name = c.in-Some.name.now in
-    let before = c.args.list.now.items in
-    let after = c.numbered_leaf-in-Some.new.list.items in
-    let made = c.args.made.now.items in
-    let new = c.numbered_leaf-in-Some.new.made.items in
-    subst (λ d. HasNumbered schema above (occurrences (tree_of_draft d)) before after made new) (sym c.in-Changed.is)
-    (apart_numbered schema part changes above name before after made new
-    (subst (λ d. IsApart d changes above name) c.deref-in-Changed.ensures
-    (subst (λ cs. IsApart c.deref-in-Changed.result.now cs above name) c.as_slice.ensures.value c.in-Some.ensures))
-    c.in_ok-number-in-Some.ensures.leaves)
-
-pub numbered-returns-in-None-clause-shape : goal.numbered-returns-in-None-clause-shape
-numbered-returns-in-None-clause-shape t c =
+pub numbered-returns-in-Changed-clause-shape : goal.numbered-returns-in-Changed-clause-shape
+numbered-returns-in-Changed-clause-shape t c =
     let base = length c.args.list.now.items in
-    let change = change_all c.in-Changed.changes.items in
+    let change = change_all c.in-Changed.changes in
     subst (λ (u : LeafTree ℕ). IfOk c.numbered_under.result (λ s. tree_of_shape s ≡ u))
-    (ap (λ d. numbered base (tree_of_draft d)) c.deref-in-None.ensures
+    (ap (λ d. numbered base (tree_of_draft d)) c.deref-in-Changed.ensures
     ∙ sym (ap (λ d. numbered base (tree_of_draft d)) c.in-Changed.is ∙ changed_shape change base (tree_of_draft c.in-Changed.part.value)))
     c.numbered_under.ensures.shape
 
-pub numbered-returns-in-None-clause-leaves : goal.numbered-returns-in-None-clause-leaves
-numbered-returns-in-None-clause-leaves t c =
+pub numbered-returns-in-Changed-clause-leaves : goal.numbered-returns-in-Changed-clause-leaves
+numbered-returns-in-Changed-clause-leaves t c =
     let schema = c.args.schema.now in
     let above = c.args.above.now in
-    let changes = c.in-Changed.changes.items in
+    let changes = c.in-Changed.changes in
     let part = c.in-Changed.part.value in
     let before = c.args.list.now.items in
     let after = c.numbered_under.new.list.items in
@@ -107,8 +90,7 @@ numbered-returns-in-None-clause-leaves t c =
     (λ has.
     subst (λ d. HasNumbered schema above (occurrences (tree_of_draft d)) before after made made) (sym c.in-Changed.is)
     (under_numbered schema changes above (tree_of_draft part) before after made
-    (subst (λ d. HasNumbered schema (changes ++ above) (occurrences (tree_of_draft d)) before after [] []) c.deref-in-None.ensures
-    (subst (λ cs. HasNumbered schema (cs ++ above) (occurrences (tree_of_draft c.deref-in-None.result.now)) before after [] []) c.as_slice-in-None.ensures.value has))))
+    (subst (λ d. HasNumbered schema (changes ++ above) (occurrences (tree_of_draft d)) before after [] []) c.deref-in-Changed.ensures has)))
     c.numbered_under.ensures.leaves
 
 pub numbered_under-returns-clause-leaves : goal.numbered_under-returns-clause-leaves
@@ -120,5 +102,5 @@ numbered_under-returns-clause-leaves t c =
     on_ok c.numbered.result _ _
     (λ has.
     alone_numbered schema (c.args.changes.now ++ c.args.above.now) os before after c.new-made.result.items c.numbered.new.made.items c.new-made.ensures.items
-    (subst (λ a. HasNumbered schema a os before after c.new-made.result.items c.numbered.new.made.items) (c.as_slice.ensures.value ∙ c.in_ok-all.ensures) has))
+    (subst (λ a. HasNumbered schema a os before after c.new-made.result.items c.numbered.new.made.items) c.in_ok-all.ensures has))
     c.numbered.ensures.leaves
